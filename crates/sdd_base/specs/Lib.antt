@@ -1,7 +1,10 @@
 pub mod Clock
 pub mod Exactly
 pub mod Kept
+pub mod Memory
 pub mod Name
+pub mod Order
+pub mod Outside
 pub mod Sites
 pub mod Text
 pub mod Words

@@ -1,0 +1,74 @@
+-- What the opened files of a shelf in memory have unread, after one more is opened and after a read.
+use Rattle.std.proofs.Common.{◌≡◌, ◌≢◌, ℕ, zero, suc, ◌+◌, ◌<◌, ◌≤◌, min, List, [], ◌∷◌, ◌++◌, length, take, drop, map, set, slice_get, Option, Some, None, refl, sym, ap, ◌∙◌, subst, arith, length-append, length-set}
+use Rattle.std.specs.Prelude.{IfSome}
+use Rattle.std.specs.Option.{option_map}
+use Rattle.std.proofs.lemmas.List.{map-append, map-set, length-map}
+use Rattle.std.proofs.lemmas.Option.{slice_get-map, slice_get_within}
+use Rattle.sdd_base.specs.declared.files.ShelfFile.{ShelfFile}
+use Rattle.sdd_base.specs.declared.places.Place.{Place}
+use Rattle.sdd_base.specs.Memory.{rest_at, file_at, ShelfState}
+use Rattle.sdd_base.specs.Outside.{GivesBytes}
+use Rattle.sdd_base.proofs.Taken.{gives_part}
+
+-- an element of the front list is one of the whole
+pub slice_get-append : {A : Type 0} (xs ys : List A) (g : ℕ) → g < length xs → slice_get (xs ++ ys) g ≡ slice_get xs g
+slice_get-append [] ys g within = absurd (omega arith)
+slice_get-append (x ∷ xs) ys zero within = refl
+slice_get-append (x ∷ xs) ys (suc g) within = slice_get-append xs ys g (omega arith)
+
+-- a written element is read back
+pub slice_get-set_same : {A : Type 0} (xs : List A) (f : ℕ) (y : A) → f < length xs → slice_get (set xs f y) f ≡ Some y
+slice_get-set_same [] f y within = absurd (omega arith)
+slice_get-set_same (x ∷ xs) zero y within = refl
+slice_get-set_same (x ∷ xs) (suc f) y within = slice_get-set_same xs f y (omega arith)
+
+-- a write leaves the other elements
+pub slice_get-set_other : {A : Type 0} (xs : List A) (f g : ℕ) (y : A) → (g ≡ f → ⊥) → slice_get (set xs f y) g ≡ slice_get xs g
+slice_get-set_other [] f g y other = refl
+slice_get-set_other (x ∷ xs) zero zero y other = absurd (other refl)
+slice_get-set_other (x ∷ xs) zero (suc g) y other = refl
+slice_get-set_other (x ∷ xs) (suc f) zero y other = refl
+slice_get-set_other (x ∷ xs) (suc f) (suc g) y other = slice_get-set_other xs f g y (λ e. other (ap suc e))
+
+pub length-opened : (files : List ShelfFile) (places : List Place) (old : ShelfState) (faults : ℕ)
+    → record { files = files; opened = map (rest_at files) places; faults = faults } ≡ old → length places ≡ length old.opened
+length-opened files places old faults is = sym (length-map places (rest_at files)) ∙ ap (λ (s : ShelfState). length s.opened) is
+
+-- the files that were open stay so when one more is
+pub stay_open : (files : List ShelfFile) (places after : List Place) (place : Place) (old : ShelfState) (faults g : ℕ)
+    → record { files = files; opened = map (rest_at files) places; faults = faults } ≡ old → after ≡ places ++ place ∷ []
+    → g < length old.opened → (g < length (map (rest_at files) after)) × (slice_get (map (rest_at files) after) g ≡ slice_get old.opened g)
+stay_open files places after place old faults g is pushed within =
+    let e : map (rest_at files) after ≡ map (rest_at files) places ++ rest_at files place ∷ [] = ap (map (rest_at files)) pushed ∙ map-append (rest_at files) places (place ∷ []) in
+    let was : map (rest_at files) places ≡ old.opened = ap (λ (s : ShelfState). s.opened) is in
+    let below : g < length (map (rest_at files) places) = rw was within in
+    (rw e (omega (arith, length-append (map (rest_at files) places) (rest_at files place ∷ []))), rw e (slice_get-append (map (rest_at files) places) (rest_at files place ∷ []) g below ∙ ap (λ (xs : List (List ℕ)). slice_get xs g) was))
+
+-- what a read of one opened file leaves
+pub record Reads (old : List (List ℕ)) (now : List (List ℕ)) (f n : ℕ) (buf : List ℕ) : Type 0 where
+  pub gives : GivesBytes (slice_get old f) (slice_get now f) buf n
+  pub others : (g : ℕ) → (g ≡ f → ⊥) → g < length old → (g < length now) × (slice_get now g ≡ slice_get old g)
+  pub stays : f < length now
+  pub count : IfSome (slice_get old f) (λ rest. n ≡ min (length buf) (length rest))
+
+none_left : (n : ℕ) (buf rest : List ℕ) → n ≡ min (length buf) (length rest) → n ≡ 0 → 0 < length buf → rest ≡ []
+none_left n buf [] count none room = refl
+none_left n buf (x ∷ rest) count none room = absurd (omega arith)
+
+pub reads : (files : List ShelfFile) (places after : List Place) (place next : Place) (old : ShelfState) (faults f n : ℕ) (buf : List ℕ)
+    → record { files = files; opened = map (rest_at files) places; faults = faults } ≡ old → slice_get places f ≡ Some place → after ≡ set places f next
+    → next ≡ record place { at = place.at + n } → take n buf ≡ take n (rest_at files place) → n ≡ min (length buf) (length (rest_at files place))
+    → Reads old.opened (map (rest_at files) after) f n buf
+reads files places after place next old faults f n buf is there put moved front count =
+    let was : old.opened ≡ map (rest_at files) places = sym (ap (λ (s : ShelfState). s.opened) is) in
+    let now : map (rest_at files) after ≡ set (map (rest_at files) places) f (rest_at files next) = ap (map (rest_at files)) put ∙ map-set (rest_at files) places f next in
+    let before : slice_get (map (rest_at files) places) f ≡ Some (rest_at files place) = slice_get-map (rest_at files) places f ∙ ap (option_map (rest_at files)) there in
+    let within : f < length (map (rest_at files) places) = slice_get_within (map (rest_at files) places) f (rest_at files place) before in
+    let written : slice_get (set (map (rest_at files) places) f (rest_at files next)) f ≡ Some (rest_at files next) = slice_get-set_same (map (rest_at files) places) f (rest_at files next) within in
+    let left : rest_at files next ≡ drop (place.at + n) (file_at files place.file) = ap (rest_at files) moved in
+    rw (was, now) (record {
+      gives = rw (before, written, left) (gives_part (file_at files place.file) buf place.at n front (none_left n buf (rest_at files place) count));
+      others = λ g other below. (omega (arith, length-set (map (rest_at files) places) f (rest_at files next)), slice_get-set_other (map (rest_at files) places) f g (rest_at files next) other);
+      stays = omega (arith, length-set (map (rest_at files) places) f (rest_at files next));
+      count = rw before count;
+    })
