@@ -7,4 +7,5 @@ pub mod Order
 pub mod Outside
 pub mod Sites
 pub mod Text
+pub mod ValueOrder
 pub mod Words

@@ -1,5 +1,5 @@
 -- The order of values and rows, and what a restriction says of a row.
-use Rattle.std.specs.Prelude.{ℕ, ◌-◌, pos, ◌≡◌, Bool, true, false, not, List, [], ◌∷◌, slice_get, unwrap_or, refl}
+use Rattle.std.specs.Prelude.{ℕ, ◌-◌, pos, ◌≡◌, Bool, true, false, not, List, [], ◌∷◌, slice_index_or, refl}
 use Rattle.std.specs.declared.cmp.Ordering.{Ordering}
 use Rattle.std.specs.declared.cmp.Ordering.TheVariants.{Less, Equal, Greater}
 use Rattle.std.specs.Ordering.{nat_cmp, int_cmp, is_eq, is_lt, is_gt}
@@ -32,7 +32,7 @@ admits Ge o = not (is_lt o)
 
 -- the value of a column, counted from 1
 abbrev pub column : List Value → ℕ → Value
-column row n = unwrap_or (slice_get row (n - 1)) (Int (pos 0))
+column row n = slice_index_or row (n - 1) (Int (pos 0))
 
 -- whether a row meets a restriction
 abbrev pub meets : List Value → Restriction → Bool
