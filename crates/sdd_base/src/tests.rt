@@ -33,26 +33,14 @@ fn numbers(alloc: Global, fails: &[u64]) -> Result<CallNos, Fail> {
 #[test]
 fn names_are_told_from_other_words(rt: HostRuntime) -> Result<(), Fail> {
     let alloc = rt.alloc();
-    for (text, is_name) in [
-        ("acct", true),
-        ("A_9", true),
-        ("from", false),
-        ("where", false),
-        ("and", false),
-        ("set", false),
-        ("sets", true),
-        ("9a", false),
-        ("_a", false),
-        ("a b", false),
-        ("", false),
-        ("caf\u{e9}", false),
-    ] {
-        let name = Name::new(alloc, text)?;
-        assert_eq!(rt; name.is_some(), is_name, "at {text}");
-        if let Some(name) = name {
-            assert!(rt; name.as_str() == text, "at {text}");
-        }
+    for text in ["acct", "A_9", "sets"] {
+        let name = Name::new(alloc, text)?.ok_or("no name")?;
+        assert!(rt; name.as_str() == text, "at {text}");
     }
+    for text in ["from", "where", "and", "set", "9a", "_a", "a b", ""] {
+        assert!(rt; Name::new(alloc, text)?.is_none(), "at {text}");
+    }
+    assert!(rt; Name::new(alloc, "caf\u{e9}")?.is_none());
     for (count, is_name) in [(32, true), (33, false)] {
         let text = letters(alloc, count)?;
         assert_eq!(rt;
