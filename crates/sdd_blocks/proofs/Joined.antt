@@ -1,0 +1,38 @@
+-- Nodes joined by walks that do not meet one node.
+use Rattle.std.proofs.Common.{ℕ, ◌≢◌, List, [], ◌∷◌, ◌++◌, refl, inl, inr}
+use Rattle.sdd_blocks.specs.Graph.{Joins, nodes_of, Has, JoinedWithout}
+use Rattle.sdd_blocks.proofs.Members.{has_append_cases}
+use Rattle.sdd_blocks.proofs.Walks.{walk_append, nodes_of-append, walk_back}
+
+-- a node other than the one without is joined to itself
+pub joined_self : (edges : List (ℕ × ℕ)) (w a : ℕ) → a ≢ w → JoinedWithout edges w a a
+joined_self edges w a n = record { steps = []; walk = refl; avoids = λ m. elim m [ inl e ↦ n e | inr h ↦ h ] }
+
+-- an edge joins its ends
+pub joined_edge : (edges : List (ℕ × ℕ)) (w k a b : ℕ) → Joins edges k a b → a ≢ w → b ≢ w → JoinedWithout edges w a b
+joined_edge edges w k a b j n m =
+    record {
+      steps = record { edge = k; to = b } ∷ [];
+      walk = (j, refl);
+      avoids = λ h. elim h [ inl e ↦ n e | inr p ↦ elim p [ inl e ↦ m e | inr x ↦ x ] ];
+    }
+
+-- walks without a node follow one another
+pub joined_on : (edges : List (ℕ × ℕ)) (w a b c : ℕ) → JoinedWithout edges w a b → JoinedWithout edges w b c → JoinedWithout edges w a c
+joined_on edges w a b c p q =
+    record {
+      steps = p.steps ++ q.steps;
+      walk = walk_append edges a p.steps b q.steps c p.walk q.walk;
+      avoids = λ h. elim h [
+        | inl e ↦ p.avoids (inl e)
+        | inr m ↦
+            let m' : Has (nodes_of p.steps ++ nodes_of q.steps) w = rw (nodes_of-append p.steps q.steps) at m in
+            elim (has_append_cases (nodes_of p.steps) (nodes_of q.steps) w m') [ inl x ↦ p.avoids (inr x) | inr x ↦ q.avoids (inr x) ]
+      ];
+    }
+
+-- a walk without a node turned round is one without it
+pub joined_back : (edges : List (ℕ × ℕ)) (w a b : ℕ) → JoinedWithout edges w a b → JoinedWithout edges w b a
+joined_back edges w a b p =
+    let r = walk_back edges a p.steps b p.walk in
+    record { steps = r.0; walk = r.1; avoids = λ h. p.avoids (r.2 w h) }

@@ -1,0 +1,176 @@
+-- The labels of the roots become those of the components, one edge after the other.
+use Rattle.std.proofs.Common.{ℕ, ◌+◌, ◌<◌, ◌≤◌, ◌≢◌, List, [], ◌∷◌, length, ◌≡◌, sym, ap, ◌∙◌, arith, subst, ◌⊎◌, inl, inr, Some}
+use Rattle.std.specs.Prelude.{slice_index, slice_get, All}
+use Rattle.std.specs.List.{range_with_len}
+use Rattle.std.proofs.lemmas.Bool.{cases_eq, cases_lt}
+use Rattle.std.proofs.lemmas.Option.{slice_get_within, get_or_from_slice_get, some_pair_parts}
+use Rattle.std.proofs.lemmas.List.FromFn.{get_or-range_with_len}
+use Rattle.sdd_blocks.specs.Graph.{Step, Joins, IsWalk, nodes_of, Has, JoinedWithout}
+use Rattle.sdd_blocks.specs.Forest.{IsForest, AreRoots, replaced, AreJoined}
+use Rattle.sdd_blocks.specs.Components.{AreComponents}
+use Rattle.sdd_blocks.proofs.Walks.{joins_back}
+use Rattle.sdd_blocks.proofs.Joined.{joined_self, joined_edge, joined_on}
+use Rattle.sdd_blocks.proofs.Trees.{replaced-same, replaced-new, replaced-other}
+
+-- the ends of an edge of the list are nodes, where those of all edges are
+pub ends_within : (edges : List (ℕ × ℕ)) (nodes : ℕ) → All (λ e. (e.0 < nodes) × (e.1 < nodes)) edges → (k a b : ℕ) → slice_get edges k ≡ Some (a, b) → (a < nodes) × (b < nodes)
+ends_within edges nodes ends k a b e =
+    let h = slice_get_within edges k (a, b) e in
+    subst (λ z. (z.0 < nodes) × (z.1 < nodes)) (get_or_from_slice_get edges k (a, b) (a, b) e) (ends k (a, b) h)
+
+-- the labels after the first edges: equal labels are joined, and the ends of these edges have equal labels
+pub record AreLabelsSoFar (edges : List (ℕ × ℕ)) (without nodes : ℕ) (parents : List ℕ) (count : ℕ) : Type 0 where
+  pub one_each : length parents ≡ nodes
+  pub forest : IsForest parents
+  pub labels : List ℕ
+  pub roots : AreRoots parents labels
+  pub sound : (a b : ℕ) → a < nodes → b < nodes → a ≢ without → b ≢ without → slice_index labels a ≡ slice_index labels b → JoinedWithout edges without a b
+  pub whole : (k a b : ℕ) → k < count → slice_get edges k ≡ Some (a, b) → a ≢ without → b ≢ without → slice_index labels a ≡ slice_index labels b
+
+-- without edges each node is alone
+pub no_edges_yet : (edges : List (ℕ × ℕ)) (without nodes : ℕ) (parents : List ℕ) → length parents ≡ nodes → IsForest parents → AreRoots parents (range_with_len 0 nodes) → AreLabelsSoFar edges without nodes parents 0
+no_edges_yet edges without nodes parents n f r =
+    record {
+      one_each = n;
+      forest = f;
+      labels = range_with_len 0 nodes;
+      roots = r;
+      sound = λ a b h k p q e.
+          let same : a ≡ b = omega (arith, get_or-range_with_len 0 nodes a 0 h, get_or-range_with_len 0 nodes b 0 k, e) in
+          subst (λ z. JoinedWithout edges without a z) same (joined_self edges without a p);
+      whole = λ k a b h. absurd (omega arith);
+    }
+
+-- an edge at the node without changes nothing
+pub edge_left_out : (edges : List (ℕ × ℕ)) (without nodes : ℕ) (parents : List ℕ) (count a b : ℕ) → AreLabelsSoFar edges without nodes parents count → slice_get edges count ≡ Some (a, b) → (a ≡ without) ⊎ (b ≡ without) → AreLabelsSoFar edges without nodes parents (count + 1)
+edge_left_out edges without nodes parents count a b s e o =
+    record {
+      one_each = s.one_each;
+      forest = s.forest;
+      labels = s.labels;
+      roots = s.roots;
+      sound = s.sound;
+      whole = λ k x y h g p q. elim (cases_lt k count) [
+        | inl l ↦ s.whole k x y l g p q
+        | inr l ↦
+            let at : k ≡ count = omega arith in
+            let same = some_pair_parts x a y b (sym g ∙ ap (λ z. slice_get edges z) at ∙ e) in
+            elim o [ inl d ↦ absurd (p (same.0 ∙ d)) | inr d ↦ absurd (q (same.1 ∙ d)) ]
+      ];
+    }
+
+module _ (edges : List (ℕ × ℕ)) (without nodes x y k : ℕ) (j : Joins edges k x y) (x_other : x ≢ without) (y_other : y ≢ without) (x_within : x < nodes) (y_within : y < nodes) (before after : List ℕ) (n : length before ≡ nodes) (joined : AreJoined x y before after)
+    (sound : (a b : ℕ) → a < nodes → b < nodes → a ≢ without → b ≢ without → slice_index before a ≡ slice_index before b → JoinedWithout edges without a b) where
+  -- nodes with the two labels that became one are joined by way of the edge
+  by_the_edge : (a b : ℕ) → a < nodes → b < nodes → a ≢ without → b ≢ without → slice_index before a ≡ joined.old → slice_index before b ≡ joined.new → JoinedWithout edges without a b × JoinedWithout edges without b a
+  by_the_edge a b h g p q d e =
+      elim joined.of_both [
+        | inl o ↦ (
+          joined_on edges without a x b (sound a x h x_within p x_other (d ∙ o.0))
+              (joined_on edges without x y b (joined_edge edges without k x y j x_other y_other) (sound y b y_within g y_other q (sym o.1 ∙ sym e))),
+          joined_on edges without b y a (sound b y g y_within q y_other (e ∙ o.1))
+              (joined_on edges without y x a (joined_edge edges without k y x (joins_back edges k x y j) y_other x_other) (sound x a x_within h x_other p (sym o.0 ∙ sym d))),
+        )
+        | inr o ↦ (
+          joined_on edges without a y b (sound a y h y_within p y_other (d ∙ o.0))
+              (joined_on edges without y x b (joined_edge edges without k y x (joins_back edges k x y j) y_other x_other) (sound x b x_within g x_other q (sym o.1 ∙ sym e))),
+          joined_on edges without b x a (sound b x g x_within q x_other (e ∙ o.1))
+              (joined_on edges without x y a (joined_edge edges without k x y j x_other y_other) (sound y a y_within h y_other p (sym o.0 ∙ sym d))),
+        )
+      ]
+
+  -- a label after the edge: the new one in place of the old one, or what it was
+  label_cases : (a : ℕ) → a < nodes → ((slice_index before a ≡ joined.old) × (slice_index after a ≡ joined.new)) ⊎ ((slice_index before a ≢ joined.old) × (slice_index after a ≡ slice_index before a))
+  label_cases a h =
+      let r = joined.replaced_at a (omega arith) in
+      elim (cases_eq (slice_index before a) joined.old) [
+        | inl e ↦ inl (e, r ∙ ap (λ z. replaced joined.old joined.new z) e ∙ replaced-same joined.old joined.new)
+        | inr d ↦ inr (d, r ∙ replaced-other joined.old joined.new (slice_index before a) d)
+      ]
+
+  -- equal labels after the edge are those of joined nodes
+  sound_after : (a b : ℕ) → a < nodes → b < nodes → a ≢ without → b ≢ without → slice_index after a ≡ slice_index after b → JoinedWithout edges without a b
+  sound_after a b h g p q e =
+      elim (label_cases a h) [
+        | inl c ↦ elim (label_cases b g) [
+          | inl d ↦ sound a b h g p q (c.0 ∙ sym d.0)
+          | inr d ↦ (by_the_edge a b h g p q c.0 (sym d.1 ∙ sym e ∙ c.1)).0
+        ]
+        | inr c ↦ elim (label_cases b g) [
+          | inl d ↦ (by_the_edge b a g h q p d.0 (sym c.1 ∙ e ∙ d.1)).1
+          | inr d ↦ sound a b h g p q (sym c.1 ∙ e ∙ d.1)
+        ]
+      ]
+
+  -- nodes with one label keep one
+  kept_after : (a b : ℕ) → a < nodes → b < nodes → slice_index before a ≡ slice_index before b → slice_index after a ≡ slice_index after b
+  kept_after a b h g e =
+      joined.replaced_at a (omega arith) ∙ ap (λ z. replaced joined.old joined.new z) e ∙ sym (joined.replaced_at b (omega arith))
+
+  -- the two nodes have one label
+  ends_after : slice_index after x ≡ slice_index after y
+  ends_after =
+      let at_x = joined.replaced_at x (omega arith) in
+      let at_y = joined.replaced_at y (omega arith) in
+      elim joined.of_both [
+        | inl o ↦
+            at_x ∙ ap (λ z. replaced joined.old joined.new z) (sym o.0) ∙ replaced-same joined.old joined.new
+            ∙ sym (at_y ∙ ap (λ z. replaced joined.old joined.new z) (sym o.1) ∙ replaced-new joined.old joined.new)
+        | inr o ↦
+            at_x ∙ ap (λ z. replaced joined.old joined.new z) (sym o.1) ∙ replaced-new joined.old joined.new
+            ∙ sym (at_y ∙ ap (λ z. replaced joined.old joined.new z) (sym o.0) ∙ replaced-same joined.old joined.new)
+      ]
+
+-- the labels after one edge more, whose ends are joined
+pub edge_joined : (edges : List (ℕ × ℕ)) (without nodes : ℕ) (parents next : List ℕ) (count x y : ℕ) → AreLabelsSoFar edges without nodes parents count
+    → All (λ e. (e.0 < nodes) × (e.1 < nodes)) edges → slice_get edges count ≡ Some (x, y) → x ≢ without → y ≢ without → length next ≡ length parents → IsForest next
+    → ((before : List ℕ) → AreRoots parents before → (after : List ℕ) × AreRoots next after × AreJoined x y before after) → AreLabelsSoFar edges without nodes next (count + 1)
+edge_joined edges without nodes parents next count x y s ends e p q n f joins =
+    let j = joins s.labels s.roots in
+    let many : length s.labels ≡ nodes = s.roots.one_each ∙ s.one_each in
+    let within : (k a b : ℕ) → slice_get edges k ≡ Some (a, b) → (a < nodes) × (b < nodes) = ends_within edges nodes ends in
+    let here = within count x y e in
+    record {
+      one_each = n ∙ s.one_each;
+      forest = f;
+      labels = j.0;
+      roots = j.1;
+      sound = sound_after edges without nodes x y count (inl e) p q here.0 here.1 s.labels j.0 many j.2 s.sound;
+      whole = λ k a b h g u v. elim (cases_lt k count) [
+        | inl l ↦
+            let there = within k a b g in
+            kept_after edges without nodes x y count (inl e) p q here.0 here.1 s.labels j.0 many j.2 s.sound a b there.0 there.1 (s.whole k a b l g u v)
+        | inr l ↦
+            let at : k ≡ count = omega arith in
+            let same = some_pair_parts a x b y (sym g ∙ ap (λ z. slice_get edges z) at ∙ e) in
+            let ends' = ends_after edges without nodes x y count (inl e) p q here.0 here.1 s.labels j.0 many j.2 s.sound in
+            ap (λ z. slice_index j.0 z) same.0 ∙ ends' ∙ ap (λ z. slice_index j.0 z) (sym same.1)
+      ];
+    }
+
+-- an edge gives its ends one label, and so does a walk
+walk_label : (edges : List (ℕ × ℕ)) (without : ℕ) (labels : List ℕ) → ((k a b : ℕ) → slice_get edges k ≡ Some (a, b) → a ≢ without → b ≢ without → slice_index labels a ≡ slice_index labels b)
+    → (a : ℕ) (steps : List Step) (b : ℕ) → IsWalk edges a steps b → (¬ Has (a ∷ nodes_of steps) without) → slice_index labels a ≡ slice_index labels b
+walk_label edges without labels whole a [] b w away = ap (λ z. slice_index labels z) w
+walk_label edges without labels whole a (s ∷ steps) b w away =
+    let from : a ≢ without = λ e. away (inl e) in
+    let to : s.to ≢ without = λ e. away (inr (inl e)) in
+    let one : slice_index labels a ≡ slice_index labels s.to =
+    elim w.0 [ inl e ↦ whole s.edge a s.to e from to | inr e ↦ sym (whole s.edge s.to a e to from) ] in
+    one ∙ walk_label edges without labels whole s.to steps b w.1 (λ h. away (inr h))
+
+-- after all edges the labels are those of the components
+pub components_done : (edges : List (ℕ × ℕ)) (without nodes : ℕ) (parents : List ℕ) (count : ℕ) (found : List ℕ) → AreLabelsSoFar edges without nodes parents count → length edges ≤ count
+    → All (λ label. label < length parents) found → ((labels : List ℕ) → AreRoots parents labels → found ≡ labels) → (length found ≡ nodes) × AreComponents edges without found
+components_done edges without nodes parents count found s done below is_labels =
+    let e : found ≡ s.labels = is_labels s.labels s.roots in
+    let n : length found ≡ nodes = ap length e ∙ s.roots.one_each ∙ s.one_each in (
+      n,
+      record {
+        below = λ k d h. let l = below k d h in omega (arith, n, s.one_each);
+        sound = λ a b h g p q i. s.sound a b (omega arith) (omega arith) p q (subst (λ z. slice_index z a ≡ slice_index z b) e i);
+        whole = λ a b j.
+            subst (λ z. slice_index z a ≡ slice_index z b) (sym e)
+            (walk_label edges without s.labels (λ k x y g p q. s.whole k x y (let h = slice_get_within edges k (x, y) g in omega arith) g p q) a j.steps b j.walk j.avoids);
+      },
+    )

@@ -1,0 +1,17 @@
+pub mod Around
+pub mod Beside
+pub mod Bridges
+pub mod Classes
+pub mod Cycles
+pub mod Joined
+pub mod Labels
+pub mod Linked
+pub mod Marking
+pub mod Members
+pub mod Numbering
+pub mod OneNumbering
+pub mod Places
+pub mod Results
+pub mod Ties
+pub mod Trees
+pub mod Walks

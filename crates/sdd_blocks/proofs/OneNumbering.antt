@@ -1,0 +1,60 @@
+-- There is one list of block numbers.
+use Rattle.std.proofs.Common.{ℕ, zero, suc, ◌+◌, ◌<◌, ◌≤◌, ◌≢◌, List, length, get_or, ◌≡◌, refl, sym, ap, ◌∙◌, arith, ◌⊎◌, inl, inr, Some}
+use Rattle.std.specs.Prelude.{slice_get}
+use Rattle.std.proofs.lemmas.Bool.{cases_lt}
+use Rattle.std.proofs.lemmas.List.{ext_get_or}
+use Rattle.std.proofs.lemmas.Option.{slice_get-get_or}
+use Rattle.sdd_blocks.specs.Blocks.{AreBlocks}
+
+-- before a number each lower one stands
+lower_before : (edges : List (ℕ × ℕ)) (blocks : List ℕ) → AreBlocks edges blocks → (b k a : ℕ) → slice_get blocks k ≡ Some (suc b) → a < b → (j : ℕ) × (j < k) × (slice_get blocks j ≡ Some (suc a))
+lower_before edges blocks h zero k a e l = absurd (omega arith)
+lower_before edges blocks h (suc b) k a e l =
+    let r = h.in_order k b e in
+    elim (cases_lt a b) [
+      | inl m ↦ let q = lower_before edges blocks h b r.0 a r.2 m in (q.0, let x = q.1 in let y = r.1 in omega arith, q.2)
+      | inr m ↦ let same : b ≡ a = omega arith in (r.0, r.1, r.2 ∙ ap (λ z. Some (suc z)) same)
+    ]
+
+-- where the numbers before an edge are the same, no number is lower in the one list than in the other
+not_lower : (edges : List (ℕ × ℕ)) (xs ys : List ℕ) → AreBlocks edges xs → AreBlocks edges ys → (k a b : ℕ) → slice_get xs k ≡ Some (suc a) → slice_get ys k ≡ Some (suc b)
+    → ((j c : ℕ) → j < k → slice_get ys j ≡ Some c → slice_get xs j ≡ Some c) → b ≤ a
+not_lower edges xs ys p q k a b e f before =
+    elim (cases_lt a b) [
+      | inl l ↦
+          let r = lower_before edges ys q b k a f l in
+          let linked = (p.same r.0 k (suc a) (suc a) (before r.0 (suc a) r.1 r.2) e (λ z. absurd (omega arith))).0 refl in
+          let same = (q.same r.0 k (suc a) (suc b) r.2 f (λ z. absurd (omega arith))).1 linked in
+          absurd (omega arith)
+      | inr l ↦ l
+    ]
+
+-- numbers of one edge are the same
+same_number : (edges : List (ℕ × ℕ)) (xs ys : List ℕ) → AreBlocks edges xs → AreBlocks edges ys → (k a b : ℕ) → slice_get xs k ≡ Some a → slice_get ys k ≡ Some b
+    → ((j c : ℕ) → j < k → slice_get ys j ≡ Some c → slice_get xs j ≡ Some c) → ((j c : ℕ) → j < k → slice_get xs j ≡ Some c → slice_get ys j ≡ Some c) → a ≡ b
+same_number edges xs ys p q k zero zero e f one other = refl
+same_number edges xs ys p q k zero (suc b) e f one other = absurd (p.none k e (q.some k b f))
+same_number edges xs ys p q k (suc a) zero e f one other = absurd (q.none k f (p.some k a e))
+same_number edges xs ys p q k (suc a) (suc b) e f one other =
+    let low = not_lower edges xs ys p q k a b e f one in
+    let high = not_lower edges ys xs q p k b a f e other in
+    omega arith
+
+module _ (edges : List (ℕ × ℕ)) (xs ys : List ℕ) (p : AreBlocks edges xs) (q : AreBlocks edges ys) where
+  -- the numbers of the first edges are the same
+  same_below : (n k : ℕ) → k < n → k < length edges → get_or xs k 0 ≡ get_or ys k 0
+  same_below zero k l h = absurd (omega arith)
+  same_below (suc n) k l h =
+      let x = slice_get-get_or xs k 0 (omega (arith, p.one_each)) in
+      let y = slice_get-get_or ys k 0 (omega (arith, q.one_each)) in
+      same_number edges xs ys p q k (get_or xs k 0) (get_or ys k 0) x y
+      (λ j c m e.
+      let s = same_below n j (omega arith) (omega arith) in
+      slice_get-get_or xs j 0 (omega (arith, p.one_each)) ∙ ap (λ z. Some z) s ∙ sym (slice_get-get_or ys j 0 (omega (arith, q.one_each))) ∙ e)
+      (λ j c m e.
+      let s = same_below n j (omega arith) (omega arith) in
+      slice_get-get_or ys j 0 (omega (arith, q.one_each)) ∙ ap (λ z. Some z) (sym s) ∙ sym (slice_get-get_or xs j 0 (omega (arith, p.one_each))) ∙ e)
+
+  -- two lists of block numbers of one graph are equal
+  pub one_numbering : xs ≡ ys
+  one_numbering = ext_get_or 0 xs ys (p.one_each ∙ sym q.one_each) (λ k h. same_below (suc k) k (omega arith) (omega (arith, p.one_each)))

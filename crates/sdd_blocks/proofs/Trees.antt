@@ -1,0 +1,243 @@
+-- What a change of the forest does to the labels that it gives.
+use Rattle.std.proofs.Common.{ℕ, ◌+◌, ◌<◌, ◌≤◌, ◌≢◌, List, [], ◌∷◌, ◌++◌, length, map, set, get_or, ◌≡◌, refl, sym, ap, ◌∙◌, arith, inl, inr, length-set}
+use Rattle.std.specs.Prelude.{All}
+use Rattle.std.proofs.lemmas.List.{length_push, ext_get_or, map-id}
+use Rattle.std.proofs.lemmas.List.Elements.{All-nil, All-push}
+use Rattle.std.specs.Prelude.{slice_index}
+use Rattle.std.specs.List.{range_with_len}
+use Rattle.std.proofs.lemmas.Bool.Decides.{nat_tests}
+use Rattle.std.proofs.lemmas.List.{get_or-map, length-map}
+use Rattle.std.proofs.lemmas.List.FromFn.{get_or-range_with_len, length-range_with_len, map-range_with_len_more}
+use Rattle.sdd_blocks.specs.Forest.{IsForest, AreRoots, replaced, AreJoined}
+use Rattle.sdd_blocks.proofs.Places.{read_set, read_push}
+
+-- as many roots as nodes
+pub length-singles : (nodes : ℕ) → length (range_with_len 0 nodes) ≡ nodes
+length-singles nodes = length-range_with_len 0 nodes
+
+-- one node more
+pub singles-push : (nodes : ℕ) → range_with_len 0 (nodes + 1) ≡ range_with_len 0 nodes ++ nodes ∷ []
+singles-push nodes =
+    sym (map-id (range_with_len 0 (nodes + 1))) ∙ map-range_with_len_more {X = ℕ} (λ x. x) 0 nodes nodes (omega arith)
+    ∙ ap (λ z. z ++ nodes ∷ []) (map-id (range_with_len 0 nodes))
+
+-- where each node is its own parent, each is a root
+pub forest-singles : (nodes : ℕ) → IsForest (range_with_len 0 nodes)
+forest-singles nodes v h =
+    let l : v < nodes = omega (arith, length-range_with_len 0 nodes) in
+    omega (arith, get_or-range_with_len 0 nodes v 0 l)
+
+-- and its own label
+pub roots-singles : (nodes : ℕ) → AreRoots (range_with_len 0 nodes) (range_with_len 0 nodes)
+roots-singles nodes =
+    let at : (v : ℕ) → v < length (range_with_len 0 nodes) → get_or (range_with_len 0 nodes) v 0 ≡ v =
+    λ v h. let l : v < nodes = omega (arith, length-range_with_len 0 nodes) in omega (arith, get_or-range_with_len 0 nodes v 0 l) in
+    record { one_each = refl; same = λ v h. ap (λ z. get_or (range_with_len 0 nodes) z 0) (at v h); root = λ v h e. e }
+
+module _ (parents : List ℕ) (forest : IsForest parents) (at : ℕ) (within : at < length parents) where
+  -- where a node is no root, its parent's parent is below it
+  pub next_below : (next : ℕ) → slice_index parents at ≢ at → next ≡ slice_index parents (slice_index parents at) → next < at
+  next_below next n e =
+      let p = forest at within in
+      let q = forest (slice_index parents at) (omega arith) in
+      omega arith
+
+  -- a node may have any node that is not above it as its parent
+  pub forest-set : (to : ℕ) → to ≤ at → IsForest (set parents at to)
+  forest-set to h v k =
+      elim (read_set parents at to v 0 within) [
+        | inl e ↦ omega (arith, e.0, e.1)
+        | inr e ↦ let p = forest v (omega (arith, length-set parents at to)) in omega (arith, e.1)
+      ]
+
+  -- a node that is no root may have its parent's parent as its parent
+  pub roots-halved : (next : ℕ) → slice_index parents at ≢ at → next ≡ slice_index parents (slice_index parents at) → (labels : List ℕ) → AreRoots parents labels → AreRoots (set parents at next) labels × (slice_index labels next ≡ slice_index labels at)
+  roots-halved next n e labels r =
+      let p = forest at within in
+      let low : next < at = next_below next n e in
+      let label : slice_index labels next ≡ slice_index labels at =
+      ap (λ z. slice_index labels z) e ∙ r.same (slice_index parents at) (omega arith) ∙ r.same at within in (
+        record {
+          one_each = r.one_each ∙ sym (length-set parents at next);
+          same = λ v h. elim (read_set parents at next v 0 within) [
+            | inl d ↦ ap (λ z. slice_index labels z) d.1 ∙ label ∙ ap (λ z. slice_index labels z) (sym d.0)
+            | inr d ↦ ap (λ z. slice_index labels z) d.1 ∙ r.same v (omega (arith, length-set parents at next))
+          ];
+          root = λ v h s. elim (read_set parents at next v 0 within) [
+            | inl d ↦ absurd (omega (arith, d.0, d.1))
+            | inr d ↦ r.root v (omega (arith, length-set parents at next)) (sym d.1 ∙ s)
+          ];
+        },
+        label,
+      )
+
+  -- a root stays one where another node changes its parent
+  pub root-kept : (next v : ℕ) → slice_index parents at ≢ at → slice_index parents v ≡ v → slice_index (set parents at next) v ≡ v
+  root-kept next v n e =
+      elim (read_set parents at next v 0 within) [
+        | inl d ↦ absurd (n (ap (λ z. slice_index parents z) (sym d.0) ∙ e ∙ d.0))
+        | inr d ↦ d.1 ∙ e
+      ]
+
+-- the label that is replaced becomes the new one
+pub replaced-same : (old new : ℕ) → replaced old new old ≡ new
+replaced-same old new = grind (arith, nat_tests)
+
+-- the new label stays
+pub replaced-new : (old new : ℕ) → replaced old new new ≡ new
+replaced-new old new = grind (arith, nat_tests)
+
+-- so does each other label
+pub replaced-other : (old new label : ℕ) → label ≢ old → replaced old new label ≡ label
+replaced-other old new label n = grind (arith, nat_tests)
+
+-- all labels, with one replaced by another
+relabelled : ℕ → ℕ → List ℕ → List ℕ
+relabelled old new labels = map (replaced old new) labels
+
+module _ (parents : List ℕ) (low high : ℕ) (forest : IsForest parents) (low_within : low < length parents) (high_within : high < length parents) (low_top : slice_index parents low ≡ low) (high_top : slice_index parents high ≡ high) (labels : List ℕ) (r : AreRoots parents labels) where
+  -- they stay as many
+  length-relabelled : length (relabelled high low labels) ≡ length labels
+  unfolding relabelled
+  length-relabelled = length-map labels (replaced high low)
+
+  -- each is replaced where it stands
+  relabelled-at : (v : ℕ) → v < length labels → slice_index (relabelled high low labels) v ≡ replaced high low (slice_index labels v)
+  unfolding relabelled
+  relabelled-at v h = get_or-map (replaced high low) labels v 0 0 h
+
+  -- the lower root keeps its label
+  low_label : slice_index (relabelled high low labels) low ≡ low
+  low_label = relabelled-at low (omega (arith, r.one_each)) ∙ ap (replaced high low) (r.root low low_within low_top) ∙ replaced-new high low
+
+  -- the higher root gets the label of the lower
+  high_label : slice_index (relabelled high low labels) high ≡ low
+  high_label = relabelled-at high (omega (arith, r.one_each)) ∙ ap (replaced high low) (r.root high high_within high_top) ∙ replaced-same high low
+
+  -- one root below another
+  roots-linked : AreRoots (set parents high low) (relabelled high low labels)
+  roots-linked =
+      let within : (v : ℕ) → v < length (set parents high low) → v < length parents = λ v h. omega (arith, length-set parents high low) in
+      let after : (v : ℕ) → v < length parents → slice_index (relabelled high low labels) v ≡ replaced high low (slice_index labels v) =
+      λ v h. relabelled-at v (omega (arith, r.one_each)) in
+      record {
+        one_each = length-relabelled ∙ r.one_each ∙ sym (length-set parents high low);
+        same = λ v h. elim (read_set parents high low v 0 high_within) [
+          | inl d ↦ ap (λ z. slice_index (relabelled high low labels) z) d.1 ∙ low_label ∙ sym high_label ∙ ap (λ z. slice_index (relabelled high low labels) z) (sym d.0)
+          | inr d ↦
+              let p = forest v (within v h) in
+              ap (λ z. slice_index (relabelled high low labels) z) d.1 ∙ after (slice_index parents v) (let q = within v h in omega arith)
+              ∙ ap (replaced high low) (r.same v (within v h)) ∙ sym (after v (within v h))
+        ];
+        root = λ v h s. elim (read_set parents high low v 0 high_within) [
+          | inl d ↦ ap (λ z. slice_index (relabelled high low labels) z) d.0 ∙ high_label ∙ sym d.1 ∙ s
+          | inr d ↦
+              let own : slice_index labels v ≡ v = r.root v (within v h) (sym d.1 ∙ s) in
+              after v (within v h) ∙ ap (replaced high low) own ∙ replaced-other high low v d.0
+        ];
+      }
+
+  -- the labels of two nodes whose roots are these have become one
+  pub linked_down : (a b : ℕ) → high ≡ slice_index labels a → low ≡ slice_index labels b → (after : List ℕ) × AreRoots (set parents high low) after × AreJoined a b labels after
+  linked_down a b p q = (
+    relabelled high low labels,
+    roots-linked,
+    record { old = high; new = low; of_both = inl (p, q); one_each = length-relabelled; replaced_at = relabelled-at },
+  )
+
+  -- the same with the nodes in the other order
+  pub linked_up : (a b : ℕ) → low ≡ slice_index labels a → high ≡ slice_index labels b → (after : List ℕ) × AreRoots (set parents high low) after × AreJoined a b labels after
+  linked_up a b p q = (
+    relabelled high low labels,
+    roots-linked,
+    record { old = high; new = low; of_both = inr (q, p); one_each = length-relabelled; replaced_at = relabelled-at },
+  )
+
+-- on the way up from a node: the forest has been halved, and gives the labels that it gave
+pub record IsOnTheWayUp (old new : List ℕ) (node at : ℕ) : Type 0 where
+  pub one_each : length new ≡ length old
+  pub forest : IsForest new
+  pub within : at < length old
+  pub kept : (v : ℕ) → slice_index old v ≡ v → slice_index new v ≡ v
+  pub labels : (labels : List ℕ) → AreRoots old labels → AreRoots new labels × (slice_index labels at ≡ slice_index labels node)
+
+-- at the node itself
+pub starts_up : (old : List ℕ) (node : ℕ) → IsForest old → node < length old → IsOnTheWayUp old old node node
+starts_up old node f h = record { one_each = refl; forest = f; within = h; kept = λ v e. e; labels = λ labels r. (r, refl) }
+
+-- one step up
+pub climbs : (old new : List ℕ) (node at next : ℕ) → IsOnTheWayUp old new node at → slice_index new at ≢ at → next ≡ slice_index new (slice_index new at) → IsOnTheWayUp old (set new at next) node next
+climbs old new node at next w n e =
+    let inside : at < length new = let h = w.within in omega (arith, w.one_each) in
+    let low : next < at = next_below new w.forest at inside next n e in
+    record {
+      one_each = length-set new at next ∙ w.one_each;
+      forest = forest-set new w.forest at inside next (omega arith);
+      within = let h = w.within in omega arith;
+      kept = λ v s. root-kept new w.forest at inside next v n (w.kept v s);
+      labels = λ labels r.
+          let before = w.labels labels r in
+          let now = roots-halved new w.forest at inside next n e labels before.0 in
+          (now.0, now.1 ∙ before.1);
+    }
+
+-- at the top the node is its label
+pub arrives : (old new : List ℕ) (node at : ℕ) → IsOnTheWayUp old new node at → slice_index new at ≡ at → (labels : List ℕ) → AreRoots old labels → AreRoots new labels × (at ≡ slice_index labels node)
+arrives old new node at w top labels r =
+    let now = w.labels labels r in
+    (now.0, sym (now.0.root at (let h = w.within in omega (arith, w.one_each)) top) ∙ now.1)
+
+-- joined where the first root is not above the second
+pub joined_down : (old mid : List ℕ) (new : List ℕ) (a b one other : ℕ) → IsForest new → one < length new → other < length new → slice_index new one ≡ one → slice_index new other ≡ other
+    → ((labels : List ℕ) → AreRoots old labels → AreRoots mid labels × (one ≡ slice_index labels a)) → ((labels : List ℕ) → AreRoots mid labels → AreRoots new labels × (other ≡ slice_index labels b))
+    → (before : List ℕ) → AreRoots old before → (after : List ℕ) × AreRoots (set new other one) after × AreJoined a b before after
+joined_down old mid new a b one other f h k s t p q before r =
+    let x = p before r in
+    let y = q before x.0 in
+    linked_up new one other f h k s t before y.0 a b x.1 y.1
+
+-- the same where the second root is not above the first
+pub joined_up : (old mid : List ℕ) (new : List ℕ) (a b one other : ℕ) → IsForest new → one < length new → other < length new → slice_index new one ≡ one → slice_index new other ≡ other
+    → ((labels : List ℕ) → AreRoots old labels → AreRoots mid labels × (one ≡ slice_index labels a)) → ((labels : List ℕ) → AreRoots mid labels → AreRoots new labels × (other ≡ slice_index labels b))
+    → (before : List ℕ) → AreRoots old before → (after : List ℕ) × AreRoots (set new one other) after × AreJoined a b before after
+joined_up old mid new a b one other f h k s t p q before r =
+    let x = p before r in
+    let y = q before x.0 in
+    linked_down new other one f k h t s before y.0 a b x.1 y.1
+
+-- the roots of the nodes so far
+pub record AreRootsSoFar (old now found : List ℕ) (node : ℕ) : Type 0 where
+  pub one_each : length now ≡ length old
+  pub forest : IsForest now
+  pub count : length found ≡ node
+  pub below : All (λ label. label < length old) found
+  pub labels : (labels : List ℕ) → AreRoots old labels → AreRoots now labels × ((v : ℕ) → v < node → get_or found v 0 ≡ get_or labels v 0)
+
+-- before the first node
+pub none_so_far : (old : List ℕ) → IsForest old → AreRootsSoFar old old [] 0
+none_so_far old f = record { one_each = refl; forest = f; count = refl; below = All-nil (λ label. label < length old); labels = λ labels r. (r, λ v h. absurd (omega arith)) }
+
+-- one node more, with its root
+pub one_more_root : (old now next found : List ℕ) (node root : ℕ) → AreRootsSoFar old now found node → length next ≡ length now → IsForest next → root < length now
+    → ((labels : List ℕ) → AreRoots now labels → AreRoots next labels × (root ≡ slice_index labels node)) → AreRootsSoFar old next (found ++ root ∷ []) (node + 1)
+one_more_root old now next found node root s n f h p =
+    record {
+      one_each = n ∙ s.one_each;
+      forest = f;
+      count = length_push found root ∙ ap (λ z. z + 1) s.count;
+      below = All-push (λ label. label < length old) found root s.below (omega (arith, s.one_each));
+      labels = λ labels r.
+          let before = s.labels labels r in
+          let now' = p labels before.0 in (
+            now'.0,
+            λ v k. elim (read_push found root v 0 (omega (arith, s.count))) [
+              | inl d ↦ let h : v < node = omega (arith, s.count, d.0) in d.1 ∙ before.1 v h
+              | inr d ↦ let e : v ≡ node = d.0 ∙ s.count in d.1 ∙ now'.1 ∙ ap (λ z. get_or labels z 0) (sym e)
+            ],
+          );
+    }
+
+-- after all nodes these are the labels
+pub all_roots : (old now found : List ℕ) (node : ℕ) → AreRootsSoFar old now found node → length old ≡ node → (labels : List ℕ) → AreRoots old labels → found ≡ labels
+all_roots old now found node s n labels r =
+    ext_get_or 0 found labels (s.count ∙ sym n ∙ sym r.one_each) (λ v h. (s.labels labels r).1 v (omega (arith, s.count)))

@@ -1,0 +1,26 @@
+use Rattle.std.proofs.Common.{ℕ, List, [], ◌∷◌, ◌++◌, length, ◌≡◌, sym, subst, arith, ap, ◌∙◌}
+use Rattle.std.specs.List.{range_with_len}
+use Rattle.sdd_blocks.specs.Forest.{IsForest, AreRoots}
+use Rattle.sdd_blocks.proofs.Trees.{forest-singles, roots-singles, length-singles, singles-push}
+use Rattle.sdd_blocks.proofs.forest.Forest.new.Goals as goal
+
+singles : (node nodes : ℕ) (parents : List ℕ) → node ≡ nodes → parents ≡ range_with_len 0 node → parents ≡ range_with_len 0 nodes
+singles node nodes parents n e = e ∙ ap (λ z. range_with_len 0 z) n
+
+pub loop-node-preserved : goal.loop-node-preserved
+loop-node-preserved c = c.in_ok-push.ensures.items ∙ ap (λ z. z ++ c.loop-node.node ∷ []) c.loop-node.invariant ∙ sym (singles-push c.loop-node.node)
+
+pub returns-clause-length : goal.returns-clause-length
+returns-clause-length c =
+    let e = singles c.loop-node.node c.args.nodes c.loop-node.parents.items (omega arith) c.loop-node.invariant in
+    subst (λ z. length z ≡ c.args.nodes) (sym e) (length-singles c.args.nodes)
+
+pub returns-clause-forest : goal.returns-clause-forest
+returns-clause-forest c =
+    let e = singles c.loop-node.node c.args.nodes c.loop-node.parents.items (omega arith) c.loop-node.invariant in
+    subst (λ z. IsForest z) (sym e) (forest-singles c.args.nodes)
+
+pub returns-clause-roots : goal.returns-clause-roots
+returns-clause-roots c =
+    let e = singles c.loop-node.node c.args.nodes c.loop-node.parents.items (omega arith) c.loop-node.invariant in
+    subst (λ z. AreRoots z (range_with_len 0 c.args.nodes)) (sym e) (roots-singles c.args.nodes)

@@ -1,0 +1,43 @@
+//! The blocks of a multigraph: which edges simple cycles link.
+#![tactic(auto)]
+
+ghost use Rattle.std.specs.Prelude.{◌≡◌, ◌<◌, ◌≤◌, ◌^◌, IfOk, All, length};
+ghost use Rattle.sdd_blocks.specs.Blocks.{AreBlocks};
+
+mod components;
+mod forest;
+mod marks;
+mod neighbours;
+mod numbers;
+#[cfg(test)]
+mod tests;
+
+use crate::components::components;
+use crate::marks::marks;
+use crate::neighbours::neighbour_pairs;
+use crate::numbers::numbers;
+use sdd_base::NoMemory;
+use std::alloc::Global;
+
+/// The block number of each edge of a multigraph, in the order of the edges.
+///
+/// A simple cycle is a closed walk of at least two different edges that meets no node twice: two
+/// parallel edges form one, and a loop lies on none. Two edges have one number where a chain of simple
+/// cycles, each sharing an edge with the next, leads from one to the other; an edge on no simple cycle
+/// has the number 0. The blocks are numbered from 1, by their first edge. Nodes are numbers below
+/// `nodes`.
+///
+/// The cost is `2 * nodes` passes over the edges, of a few steps for each edge (at worst the logarithm
+/// of the number of nodes, on average over a pass), and memory for a few numbers for each edge and node.
+pub fn blocks(alloc: Global, edges: &[(u32, u32)], nodes: u32) -> Result<Vec<u32>, NoMemory>
+    requires ends { All (λ e. (e.0 < nodes) × (e.1 < nodes)) edges.now }
+    requires few_edges { length edges.now ≤ 2 ^ 20 }
+    requires few_nodes { nodes ≤ 4096 }
+    ensures { IfOk result (λ blocks. AreBlocks edges.now blocks.items) }
+{
+    let count = edges.len() as u32;
+    let pairs = neighbour_pairs(alloc, edges, nodes)?;
+    let labels = components(alloc, &pairs, count, count)?;
+    let marks = marks(alloc, &pairs, &labels)?;
+    numbers(alloc, &marks, count + 1)
+}
