@@ -1,6 +1,6 @@
 ghost use Rattle.std.specs.Prelude.{◌≡◌, ℕ, ◌≤◌, ◌+◌, ◌<◌, ◌^◌, List, [], length, take, IfOk, IfSome, IsOk, IsErrOf, IsSome, Some};
 ghost use Rattle.sdd_base.specs.declared.files.ShelfFile.{ShelfFile};
-ghost use Rattle.sdd_base.specs.Outside.{Rose, ReadsTo, find_file};
+ghost use Rattle.sdd_base.specs.Outside.{Rose, ReadsTo, KeepsOpen, find_file};
 ghost use Rattle.sdd_base.specs.declared.reading.ReadError.TheVariants.{NoMemory};
 
 use crate::shelf::{Failed, Shelf};
@@ -31,6 +31,7 @@ pub fn read_file<S: Shelf>(
 
     // The file was opened here, and where it fits the limit nothing of it is unread.
     ensures ended { IfOk result (λ v. (f : ℕ) × (S.is_open shelf.old f → ⊥) × S.is_open shelf.new f × (length v.items ≤ limit → IfSome (S.unread shelf.new f) (λ left. left ≡ []))) }
+    ensures others { KeepsOpen (λ _. Unit {0}) (S.is_open shelf.old) (S.is_open shelf.new) (S.unread shelf.old) (S.unread shelf.new) }
     ensures files { S.files shelf.new ≡ S.files shelf.old }
     ensures later { S.faults shelf.old ≤ S.faults shelf.new }
     ensures fault { IsErrOf result ReadError.Fault → Rose (S.faults shelf.old) (S.faults shelf.new) }

@@ -1,5 +1,5 @@
 use Rattle.std.proofs.Common.{◌≡◌, ℕ, ◌≤◌, ◌+◌, ◌-◌, vec_len}
-use Rattle.sdd_base.specs.Outside.{with_front}
+use Rattle.sdd_base.specs.Outside.{KeepsOpen, with_front}
 use Rattle.sdd_base.proofs.reading.read_file.Given as goal
 
 abbrev pub invariant-fill : goal.invariant-fill
@@ -8,6 +8,7 @@ invariant-fill g l = record {
   unread : g.S.Shelf.unread l.initial.shelf l.file.0 ≡ with_front l.bytes.items (g.S.Shelf.unread l.shelf l.file.0);
   is_open : g.S.Shelf.is_open l.shelf l.file.0;
   fresh : g.S.Shelf.is_open l.fn.shelf l.file.0 → ⊥;
+  others : KeepsOpen (λ _. Unit {0}) (g.S.Shelf.is_open l.fn.shelf) (g.S.Shelf.is_open l.shelf) (g.S.Shelf.unread l.fn.shelf) (g.S.Shelf.unread l.shelf);
   files : g.S.Shelf.files l.shelf ≡ g.S.Shelf.files l.fn.shelf;
   later : g.S.Shelf.faults l.fn.shelf ≤ g.S.Shelf.faults l.shelf;
   surely : (free : ℕ) → g.S.Shelf.sure l.initial.shelf free → g.S.Shelf.sure l.shelf free × (g.S.Shelf.faults l.shelf ≡ g.S.Shelf.faults l.initial.shelf);
