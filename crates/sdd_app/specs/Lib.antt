@@ -1,0 +1,10 @@
+pub mod Accounts
+pub mod Answer
+pub mod Command
+pub mod First
+pub mod Lines
+pub mod Number
+pub mod Reading
+pub mod Report
+pub mod Run
+pub mod Status

@@ -1,0 +1,24 @@
+//! The top call: all that the program does, over a shelf of files and two sinks that are handed in.
+//!
+//! `run_sdd1` is the one contract to the layer above. What a run answers is defined in
+//! `specs/Answer.antt`: the files that the words name, the workload that the second spells
+//! (`specs/First.antt`), and the text that is printed for it (`specs/Run.antt`), with the replies
+//! that serial execution on one database gives (`sdd_lang`).
+#![tactic(auto)]
+
+mod accounts;
+mod command;
+mod first;
+mod line;
+mod number;
+mod reading;
+mod report;
+mod run;
+mod serial;
+mod status;
+
+pub use run::run_sdd1;
+pub use status::Status;
+
+#[cfg(test)]
+mod tests;

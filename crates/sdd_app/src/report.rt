@@ -1,0 +1,129 @@
+//! The text of a report, piece by piece.
+ghost use Rattle.std.specs.Prelude.{◌≡◌, ◌+◌, ◌^◌, ◌<◌, ◌∷◌, ◌++◌, [], List, length, OnOk, flat_map};
+ghost use Rattle.sdd_app.specs.Report.{escaped_byte, value_bytes, row_line, query_lines, queries_from, outcome_lines, reply_lines};
+ghost use Rattle.std.specs.Fmt.{decimal, signed_decimal};
+
+use itoa::Buffer;
+use sdd_base::{Answers, Name, NoMemory, Reply, Row, RowList, Value};
+
+/// Adds bytes at the text's end.
+pub fn put(text: &mut Vec<u8>, piece: &[u8]) -> Result<(), NoMemory>
+    ensures { OnOk result (text.new.items ≡ text.old.items ++ piece.now) }
+{
+    text.extend_from_slice(piece)?;
+    Ok(())
+}
+
+fn put_value(text: &mut Vec<u8>, value: &Value) -> Result<(), NoMemory>
+    ensures { OnOk result (text.new.items ≡ text.old.items ++ value_bytes value.now) }
+{
+    match value {
+        Value::Int(number) => {
+            let mut buffer = Buffer::new();
+            put(text, buffer.format(*number).as_bytes())
+        }
+        Value::Text(content) => {
+            put(text, b"\"")?;
+            put_escaped(text, content.as_str().as_bytes())?;
+            put(text, b"\"")
+        }
+    }
+}
+
+fn put_escaped(text: &mut Vec<u8>, content: &[u8]) -> Result<(), NoMemory>
+    ensures { OnOk result (text.new.items ≡ text.old.items ++ flat_map escaped_byte content.now) }
+{
+    'bytes: for byte in content {
+        if *byte == b'"' || *byte == b'\\' {
+            put(text, b"\\")?;
+        }
+        put(text, &[*byte])?;
+    }
+    Ok(())
+}
+
+fn put_row(text: &mut Vec<u8>, row: &Row) -> Result<(), NoMemory>
+    ensures { OnOk result (text.new.items ≡ text.old.items ++ row_line row.now) }
+{
+    put(text, b"row")?;
+    put_values(text, row.as_slice())?;
+    put(text, b"\n")
+}
+
+fn put_values(text: &mut Vec<u8>, values: &[Value]) -> Result<(), NoMemory>
+    ensures { OnOk result (text.new.items ≡ text.old.items ++ flat_map (λ v. 32 ∷ value_bytes v) values.now) }
+{
+    'values: for value in values {
+        put(text, b" ")?;
+        put_value(text, value)?;
+    }
+    Ok(())
+}
+
+fn put_count(text: &mut Vec<u8>, count: usize) -> Result<(), NoMemory>
+    ensures { OnOk result (text.new.items ≡ text.old.items ++ decimal count) }
+{
+    let mut buffer = Buffer::new();
+    put(text, buffer.format(count).as_bytes())
+}
+
+fn put_rows(text: &mut Vec<u8>, rows: &[Row]) -> Result<(), NoMemory>
+    ensures { OnOk result (text.new.items ≡ text.old.items ++ flat_map row_line rows.now) }
+{
+    'rows: for row in rows {
+        put_row(text, row)?;
+    }
+    Ok(())
+}
+
+/// The answer of the query with this number.
+fn put_query(text: &mut Vec<u8>, number: usize, rows: &RowList) -> Result<(), NoMemory>
+    ensures { OnOk result (text.new.items ≡ text.old.items ++ query_lines number rows.now) }
+{
+    put(text, b"query ")?;
+    put_count(text, number)?;
+    put(text, b" ")?;
+    put_count(text, rows.as_slice().len())?;
+    put(text, b"\n")?;
+    put_rows(text, rows.as_slice())
+}
+
+#[tactic(auto, using(crate::proofs::Queries::queries_go_on, crate::proofs::Queries::queries_end))]
+fn put_queries(text: &mut Vec<u8>, answers: &[RowList]) -> Result<(), NoMemory>
+    ensures { OnOk result (text.new.items ≡ text.old.items ++ queries_from 1 answers.now) }
+{
+    'queries: for (i, rows) in answers.iter().enumerate() {
+        put_query(text, i + 1, rows)?;
+    }
+    Ok(())
+}
+
+fn put_outcome(text: &mut Vec<u8>, reply: &Reply) -> Result<(), NoMemory>
+    ensures { OnOk result (text.new.items ≡ text.old.items ++ outcome_lines reply.now) }
+{
+    match reply {
+        Reply::Rows(answers) => {
+            put(text, b" ok\n")?;
+            put_queries(text, answers.as_slice())
+        }
+        Reply::Overflow => put(text, b" overflow\n"),
+        Reply::TooMany => put(text, b" toomany\n"),
+    }
+}
+
+/// The lines of a transaction's reply.
+pub fn put_reply(text: &mut Vec<u8>, name: &[u8], reply: &Reply) -> Result<(), NoMemory>
+    ensures { OnOk result (text.new.items ≡ text.old.items ++ reply_lines name.now reply.now) }
+{
+    put(text, b"reply ")?;
+    put(text, name)?;
+    put_outcome(text, reply)
+}
+
+/// A name, behind a space.
+pub fn put_name(text: &mut Vec<u8>, name: &Name) -> Result<(), NoMemory>
+    ensures { OnOk result (text.new.items ≡ text.old.items ++ 32 ∷ name.now) }
+{
+    put(text, b" ")?;
+    put(text, name.as_str().as_bytes())
+}

@@ -1,0 +1,5 @@
+use Rattle.std.proofs.Common.{length}
+use Rattle.sdd_catalog.proofs.named.+repeats.Given as goal
+
+abbrev pub decreases-repeats : goal.decreases-repeats
+decreases-repeats g l = length l.items.now

@@ -1,0 +1,7 @@
+use Rattle.std.proofs.Common.{subst, sym, length}
+use Rattle.sdd_catalog.specs.Numbers.{NamesFragments}
+use Rattle.sdd_catalog.proofs.naming.name_classes.Goals as goal
+
+pub name_class-requires : goal.name_class-requires
+name_class-requires c =
+    subst (NamesFragments (length c.args.fragments.now)) (sym c.class-item.is) (c.requires c.loop-class.class-index c.class-item.result c.loop-class-test.true)

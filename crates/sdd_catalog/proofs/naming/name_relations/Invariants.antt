@@ -1,0 +1,8 @@
+use Rattle.std.proofs.Common.{◌≡◌, map, take}
+use Rattle.sdd_catalog.specs.Names.{name_at}
+use Rattle.sdd_catalog.specs.Catalogue.{column_part, relation_part, fragment_part, read_part, class_part}
+use Rattle.sdd_catalog.proofs.naming.name_relations.Given as goal
+
+-- the parts so far are the items so far, named
+abbrev pub invariant-loop-relation : goal.invariant-loop-relation
+invariant-loop-relation l = l.parts.items ≡ map (relation_part) (take l.relation-index l.relations)

@@ -1,0 +1,8 @@
+use Rattle.std.proofs.Common.{◌≡◌, map, take}
+use Rattle.sdd_catalog.specs.Names.{name_at}
+use Rattle.sdd_catalog.specs.Catalogue.{column_part, relation_part, fragment_part, read_part, class_part}
+use Rattle.sdd_catalog.proofs.naming.name_writes.Given as goal
+
+-- the parts so far are the items so far, named
+abbrev pub invariant-loop-frag : goal.invariant-loop-frag
+invariant-loop-frag l = l.names.items ≡ map (name_at (map (λ f. f.name) l.fragments)) (take l.frag-index l.writes)

@@ -1,0 +1,10 @@
+pub mod Classes
+pub mod Condition
+pub mod Database
+pub mod Effect
+pub mod Examples
+pub mod Fits
+pub mod Query
+pub mod Serial
+pub mod Update
+pub mod Uses

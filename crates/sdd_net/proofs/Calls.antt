@@ -1,0 +1,145 @@
+-- What each call of the network does to what it stands for.
+use Rattle.std.proofs.Common.{ℕ, suc, zero, ◌*◌, ◌-◌, ◌<◌, ◌≤◌, Bool, true, false, List, [], ◌∷◌, ◌++◌, length, ◌≡◌, refl, ap, ◌∙◌, arith, sym, subst}
+use Rattle.std.specs.Prelude.{IsTrue, is_some, replicate, slice_get, Option, Some, None, Result, Ok}
+use Rattle.std.proofs.lemmas.Nat.{mul-add-lt}
+use Rattle.sdd_base.specs.Kept.{Kept}
+use Rattle.sdd_base.specs.declared.site.Site.{Site}
+use Rattle.sdd_net.specs.declared.packet.Packet.{Packet}
+use Rattle.sdd_net.specs.declared.channel.Channel.{Channel}
+use Rattle.sdd_net.specs.Links.{Call, Delivers, Loses, Repeats, Way, Link, link, unused, after_call, on_link, deliver, lose, repeat, packet_at, with_packet, without_at, with_flight}
+use Rattle.sdd_net.specs.Sound.{IsSound}
+use Rattle.sdd_net.specs.Nets.{Directions, is_link, site_count, index_of, unused_channel, Matches, Fits, Stands, StandsFor, Changes, ArePair, ChangesPair, IsNet, Does, HasLink}
+use Rattle.sdd_net.proofs.Lists.{without-past, get-within}
+use Rattle.sdd_net.proofs.Directions.{link_parts, link_back, place_below, index_apart, back_is, step, one_way}
+use Rattle.sdd_net.proofs.Sound.{sound}
+
+past : {A : Type 0} (xs : List A) (k : ℕ) → k < length xs → slice_get xs k ≡ None → ⊥
+past [] k l e = omega arith
+past (x ∷ xs) zero l e = cc
+past (x ∷ xs) (suc k) l e = past xs k (omega arith) e
+
+get-replicate : {A : Type 0} (n k : ℕ) (x : A) → k < n → slice_get (replicate n x) k ≡ Some x
+get-replicate zero k x l = absurd (omega arith)
+get-replicate (suc n) zero x l = refl
+get-replicate (suc n) (suc k) x l = get-replicate n k x (omega arith)
+
+module _ {M : Type 0} where
+  -- the value of a network with these fields
+  abbrev pub net_of : Bool → ℕ → ℕ → List (Channel M) → Kept (Directions M)
+  net_of live tms dms channels = record { live = live; value = record { tms = tms; dms = dms; channels = channels } }
+
+  pub live_is : (net : Kept (Directions M)) (live : Bool) (tms dms : ℕ) (channels : List (Channel M)) → net_of live tms dms channels ≡ net → IsTrue net.live → live ≡ true
+  live_is net live tms dms channels e h = ap (λ n. n.live) e ∙ h
+
+  pub stands_of : (net : Kept (Directions M)) (live : Bool) (tms dms : ℕ) (channels : List (Channel M)) (calls : List (Call M)) → net_of live tms dms channels ≡ net → StandsFor net calls → Stands tms dms channels calls
+  stands_of net live tms dms channels calls e h = subst (λ n. StandsFor n calls) (sym e) h
+
+  pub exists_of : (net : Kept (Directions M)) (live : Bool) (tms dms : ℕ) (channels : List (Channel M)) (a b : Site) → net_of live tms dms channels ≡ net → HasLink net a b → IsTrue (is_link tms dms a b)
+  exists_of net live tms dms channels a b e h = subst (λ n. HasLink n a b) (sym e) h
+
+  pub does : (net : Kept (Directions M)) (live after : Bool) (tms dms : ℕ) (old new : List (Channel M)) (call : Call M) → net_of live tms dms old ≡ net → after ≡ true
+      → ((calls : List (Call M)) → Stands tms dms old calls → Stands tms dms new (call ∷ calls)) → Does net (net_of after tms dms new) call
+  does net live after tms dms old new call e l h = record {
+    live = l;
+    tms = ap (λ n. n.value.tms) e;
+    dms = ap (λ n. n.value.dms) e;
+    calls = λ calls s. h calls (stands_of net live tms dms old calls e s);
+  }
+
+  -- the fields still make a network
+  pub still : (tms dms : ℕ) (all : List (Site × Site)) (live after : Bool) (old new : List (Channel M)) (call : Call M) → IsNet tms dms all live old → live ≡ true
+      → ((calls : List (Call M)) → Stands tms dms old calls → Stands tms dms new (call ∷ calls)) → IsNet tms dms all after new
+  still tms dms all live after old new call n l h = record {
+    few_tms = n.few_tms;
+    few_dms = n.few_dms;
+    all_links = n.all_links;
+    stands = λ _. (let before = n.stands l in (call ∷ before.0, h before.0 before.1));
+  }
+
+  -- a call that changes one direction
+  pub way_does : (tms dms : ℕ) (old new : List (Channel M)) (at : ℕ) (from to : Site) (call : Call M) (f : Link M → Link M)
+      → ((a b : Site) (l : Link M) → after_call a b call l ≡ on_link a b from to f l) → ((l : Link M) → (f l).back ≡ l.back)
+      → at ≡ index_of tms dms from to → IsTrue (is_link tms dms from to)
+      → ((l : Link M) → IsSound l → Fits (slice_get old at) l.there → Changes old new at (f l).there)
+      → (calls : List (Call M)) → Stands tms dms old calls → Stands tms dms new (call ∷ calls)
+  way_does tms dms old new at from to call f is same e exists change calls stands =
+      let l : Link M = link from to calls in
+      let c : Changes old new at (f l).there = change l (sound from to calls) (subst (λ k. Fits (slice_get old k) l.there) (sym e) (stands from to exists)) in
+      one_way tms dms old new calls call from to f is same exists stands
+      (subst (λ k. Fits (slice_get new k) (f l).there) e c.fits)
+      (λ k ne. c.others k (λ x. ne (x ∙ e)))
+
+  back_kept : (o : Option (Packet M)) (f : Packet M → Way M) (l : Link M) → (with_packet o (λ p. record l { there = f p }) l).back ≡ l.back
+  back_kept None f l = refl
+  back_kept (Some p) f l = refl
+
+  lost : (o : Option (Packet M)) (k : ℕ) (l : Link M) → slice_get l.there.flight k ≡ o → (with_packet o (λ p. record l { there = with_flight (without_at l.there.flight k) l.there }) l).there ≡ with_flight (without_at l.there.flight k) l.there
+  lost None k l e = ap (λ f. with_flight f l.there) (sym (without-past l.there.flight k e))
+  lost (Some p) k l e = refl
+
+  pub lose_does : (tms dms : ℕ) (old new : List (Channel M)) (at place : ℕ) (from to : Site) → at ≡ index_of tms dms from to → IsTrue (is_link tms dms from to)
+      → ((w : Way M) → Fits (slice_get old at) w → Changes old new at (with_flight (without_at w.flight (place - 1)) w))
+      → (calls : List (Call M)) → Stands tms dms old calls → Stands tms dms new (Loses from to place ∷ calls)
+  lose_does tms dms old new at place from to e exists change =
+      way_does tms dms old new at from to (Loses from to place) (lose place) (λ a b l. refl)
+      (λ l. back_kept (packet_at place l) (λ p. with_flight (without_at l.there.flight (place - 1)) l.there) l) e exists
+      (λ l s h. subst (Changes old new at) (sym (lost (packet_at place l) (place - 1) l refl)) (change l.there h))
+
+  -- a packet is there where its place is not past the end
+  pub repeated_way : {E : Type 0} (old new : List (Channel M)) (at place : ℕ) (there : Bool) (l : Link M) (o : Option (Packet M)) → 1 ≤ place → packet_at place l ≡ o
+      → (◌≡◌ {A = Result Bool E} (Ok there) (Ok true) → (w : Way M) (p : Packet M) → Fits (slice_get old at) w → slice_get w.flight (place - 1) ≡ Some p → Changes old new at (with_flight (w.flight ++ p ∷ []) w))
+      → (◌≡◌ {A = Result Bool E} (Ok there) (Ok true) → (w : Way M) → Fits (slice_get old at) w → place ≤ length w.flight)
+      → (◌≡◌ {A = Result Bool E} (Ok there) (Ok false) → (w : Way M) → Fits (slice_get old at) w → Changes old new at w × (length w.flight < place))
+      → Fits (slice_get old at) l.there
+      → Changes old new at (with_packet o (λ p. record l { there = with_flight (l.there.flight ++ p ∷ []) l.there }) l).there × (there ≡ is_some o)
+  repeated_way old new at place true l (Some p) one e some inside none fits = (some refl l.there p fits e, refl)
+  repeated_way old new at place false l (Some p) one e some inside none fits =
+      let b = (none refl l.there fits).1 in let w = get-within l.there.flight (place - 1) p e in absurd (omega (arith, b, w))
+  repeated_way old new at place true l None one e some inside none fits =
+      absurd (past l.there.flight (place - 1) (omega (arith, inside refl l.there fits)) e)
+  repeated_way old new at place false l None one e some inside none fits = ((none refl l.there fits).0, refl)
+
+  pub repeat_does : (tms dms : ℕ) (old new : List (Channel M)) (at place : ℕ) (from to : Site) → at ≡ index_of tms dms from to → IsTrue (is_link tms dms from to)
+      → ((l : Link M) → Fits (slice_get old at) l.there → Changes old new at (repeat place l).there)
+      → (calls : List (Call M)) → Stands tms dms old calls → Stands tms dms new (Repeats from to place ∷ calls)
+  repeat_does tms dms old new at place from to e exists change =
+      way_does tms dms old new at from to (Repeats from to place) (repeat place) (λ a b l. refl)
+      (λ l. back_kept (packet_at place l) (λ p. with_flight (l.there.flight ++ p ∷ []) l.there) l) e exists (λ l s h. change l h)
+
+  -- the two directions of a link
+  pub pair_of : (tms dms : ℕ) (channels : List (Channel M)) (there back : ℕ) (from to : Site) (calls : List (Call M)) → there ≡ index_of tms dms from to → back ≡ index_of tms dms to from → IsTrue (is_link tms dms from to)
+      → Stands tms dms channels calls → ArePair channels there back (link from to calls)
+  pair_of tms dms channels there back from to calls e f exists stands = record {
+    apart = λ x. index_apart tms dms from to exists (sym e ∙ x ∙ f);
+    fits_there = subst (λ k. Fits (slice_get channels k) (link from to calls).there) (sym e) (stands from to exists);
+    fits_back = subst (λ k. Fits (slice_get channels k) (link from to calls).back) (sym f)
+        (subst (λ w. Fits (slice_get channels (index_of tms dms to from)) w) (back_is tms dms from to calls exists) (stands to from (link_back tms dms from to exists)));
+  }
+
+  pub deliver_does : (tms dms : ℕ) (old new : List (Channel M)) (there back place : ℕ) (from to : Site) → there ≡ index_of tms dms from to → back ≡ index_of tms dms to from → IsTrue (is_link tms dms from to)
+      → ((l : Link M) → ArePair old there back l → IsSound l → ChangesPair old new there back (deliver place l))
+      → (calls : List (Call M)) → Stands tms dms old calls → Stands tms dms new (Delivers from to place ∷ calls)
+  deliver_does tms dms old new there back place from to e f exists change calls stands =
+      let l : Link M = link from to calls in
+      let c : ChangesPair old new there back (deliver place l) = change l (pair_of tms dms old there back from to calls e f exists stands) (sound from to calls) in
+      step tms dms old new calls (Delivers from to place) from to (deliver place) (λ a b l. refl) exists stands
+      (subst (λ k. Fits (slice_get new k) (deliver place l).there) e c.fits_there)
+      (subst (λ k. Fits (slice_get new k) (deliver place l).back) f c.fits_back)
+      (λ k x y. c.others k (λ z. x (z ∙ e)) (λ z. y (z ∙ f)))
+
+-- a new network
+unused_matches : (M : Type 0) → Matches {M = M} unused_channel unused
+unused_matches M = record {
+  sender = refl;
+  flight = refl;
+  receiver_live = refl;
+  received = record { count = refl; early = record { ascends = tt; are_sent = tt; same = λ n l. refl } };
+}
+
+pub unused_stands : (M : Type 0) (tms dms : ℕ) (channels : List (Channel M)) → channels ≡ replicate (site_count tms dms * site_count tms dms) unused_channel → Stands tms dms channels []
+unused_stands M tms dms channels e a b exists =
+    let p = link_parts tms dms a b exists in
+    let below : index_of tms dms a b < site_count tms dms * site_count tms dms = mul-add-lt _ _ _ _ (place_below tms dms a p.from) (place_below tms dms b p.to) in
+    let at : slice_get channels (index_of tms dms a b) ≡ Some unused_channel =
+    ap (λ cs. slice_get cs (index_of tms dms a b)) e ∙ get-replicate (site_count tms dms * site_count tms dms) (index_of tms dms a b) unused_channel below in
+    subst (λ o. Fits {M = M} o unused) (sym at) (unused_matches M)

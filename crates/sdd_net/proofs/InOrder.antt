@@ -1,0 +1,88 @@
+-- What a link hands on is what was put on it, from 1 to `delivered`, in order.
+use Rattle.std.proofs.Common.{ℕ, suc, zero, ◌≤◌, Bool, true, false, List, [], ◌∷◌, ◌++◌, length, take, drop, ◌≡◌, refl, ap, ◌∙◌, arith, sym, append-nil}
+use Rattle.std.specs.Bool.{if◌then◌else◌}
+use Rattle.std.specs.Prelude.{◌&&◌, nat_le, IsTrue, Option, Some, None}
+use Rattle.std.proofs.lemmas.Bool.{and_parts, leb-true}
+use Rattle.std.proofs.lemmas.List.{take-append-le, take-append-drop, take_all}
+use Rattle.sdd_base.specs.Sites.{same_site}
+use Rattle.sdd_base.specs.Words.{is_empty}
+use Rattle.sdd_base.specs.declared.site.Site.{Site}
+use Rattle.sdd_net.specs.declared.packet.Packet.{Packet}
+use Rattle.sdd_net.specs.declared.packet.Packet.TheVariants.{Message, Ack}
+use Rattle.sdd_net.specs.Links.{Call, Puts, Delivers, Loses, Repeats, Resends, Link, link, turned, put, deliver, lose, repeat, resend, arrives, packet_at, with_packet, without_packet, with_flight, delivered, given_by, newly_delivered, delivery, messages_of, handed, due, is_quiet_link, top}
+use Rattle.sdd_net.proofs.Tops.{top_rises}
+use Rattle.sdd_net.proofs.Sound.{sound, delivered_le}
+
+take-less : {A : Type 0} (j k : ℕ) (xs : List A) → j ≤ k → take j (take k xs) ≡ take j xs
+take-less zero k xs l = refl
+take-less (suc j) zero xs l = absurd (omega arith)
+take-less (suc j) (suc k) [] l = refl
+take-less (suc j) (suc k) (x ∷ xs) l = ap (λ ys. x ∷ ys) (take-less j k xs (omega arith))
+
+take-on : {A : Type 0} (j k : ℕ) (xs : List A) → j ≤ k → take j xs ++ drop j (take k xs) ≡ take k xs
+take-on j k xs l = ap (λ ys. ys ++ drop j (take k xs)) (sym (take-less j k xs l)) ∙ take-append-drop j (take k xs)
+
+module _ {M : Type 0} where
+  puts : (c d : Bool) (m : M) (l : Link M) (ms : List M) → delivered l.there ≤ length l.there.sent → ms ≡ due l.there
+      → ms ≡ due (if c then put m l else if d then turned (put m (turned l)) else l).there
+  puts true d m l ms le e = e ∙ sym (take-append-le (delivered l.there) l.there.sent (m ∷ []) le)
+  puts false true m l ms le e = e
+  puts false false m l ms le e = e
+
+  hands : (o : Option (Packet M)) (place : ℕ) (l : Link M) (ms : List M) → ms ≡ due l.there
+      → ms ++ messages_of (given_by o (newly_delivered l.there (with_packet o (λ p. arrives p (without_packet place l)) l).there)) ≡ due (with_packet o (λ p. arrives p (without_packet place l)) l).there
+  hands None place l ms e = append-nil ms ∙ e
+  hands (Some (Ack k)) place l ms e = append-nil ms ∙ e
+  hands (Some (Message n m)) place l ms e = ap (λ xs. xs ++ drop (top l.there.arrived) (take (top (n ∷ l.there.arrived)) l.there.sent)) e ∙ take-on (top l.there.arrived) (top (n ∷ l.there.arrived)) l.there.sent (top_rises n l.there.arrived)
+
+  -- a delivery on the link back hands nothing on here
+  back_hands : (o : Option (Packet M)) (place : ℕ) (l : Link M) (ms : List M) → ms ≡ due l.back → ms ≡ due (with_packet o (λ p. arrives p (without_packet place l)) l).back
+  back_hands None place l ms e = e
+  back_hands (Some (Ack k)) place l ms e = e
+  back_hands (Some (Message n m)) place l ms e = e
+
+  delivers : (c d : Bool) (place : ℕ) (l : Link M) (ms : List M) → ms ≡ due l.there
+      → ms ++ (if c then messages_of (delivery place l) else []) ≡ due (if c then deliver place l else if d then turned (deliver place (turned l)) else l).there
+  delivers true d place l ms e = hands (packet_at place l) place l ms e
+  delivers false true place l ms e = append-nil ms ∙ back_hands (packet_at place (turned l)) place (turned l) ms e
+  delivers false false place l ms e = append-nil ms ∙ e
+
+  -- a change of the flight alone
+  flies : (o : Option (Packet M)) (f : Packet M → List (Packet M)) (l : Link M) (ms : List M) → ms ≡ due l.there → ms ≡ due (with_packet o (λ p. record l { there = with_flight (f p) l.there }) l).there
+  flies None f l ms e = e
+  flies (Some p) f l ms e = e
+
+  flies_back : (o : Option (Packet M)) (f : Packet M → List (Packet M)) (l : Link M) (ms : List M) → ms ≡ due l.back → ms ≡ due (with_packet o (λ p. record l { there = with_flight (f p) l.there }) l).back
+  flies_back None f l ms e = e
+  flies_back (Some p) f l ms e = e
+
+  loses : (c d : Bool) (place : ℕ) (l : Link M) (ms : List M) → ms ≡ due l.there → ms ≡ due (if c then lose place l else if d then turned (lose place (turned l)) else l).there
+  loses true d place l ms e = flies (packet_at place l) _ l ms e
+  loses false true place l ms e = flies_back (packet_at place (turned l)) _ (turned l) ms e
+  loses false false place l ms e = e
+
+  repeats : (c d : Bool) (place : ℕ) (l : Link M) (ms : List M) → ms ≡ due l.there → ms ≡ due (if c then repeat place l else if d then turned (repeat place (turned l)) else l).there
+  repeats true d place l ms e = flies (packet_at place l) (λ p. l.there.flight ++ p ∷ []) l ms e
+  repeats false true place l ms e = flies_back (packet_at place (turned l)) (λ p. l.back.flight ++ p ∷ []) (turned l) ms e
+  repeats false false place l ms e = e
+
+  resends : (c d : Bool) (l : Link M) (ms : List M) → ms ≡ due l.there → ms ≡ due (if c then resend l else if d then turned (resend (turned l)) else l).there
+  resends true d l ms e = e
+  resends false true l ms e = e
+  resends false false l ms e = e
+
+pub in_order : {M : Type 0} (a b : Site) (calls : List (Call M)) → handed a b calls ≡ due (link a b calls).there
+in_order a b [] = refl
+in_order a b (Puts from to m ∷ calls) =
+    puts (same_site a from && same_site b to) (same_site a to && same_site b from) m (link a b calls) (handed a b calls) (delivered_le (link a b calls).there (delivered (link a b calls).back) (sound a b calls).there) (in_order a b calls)
+in_order a b (Delivers from to place ∷ calls) = delivers (same_site a from && same_site b to) (same_site a to && same_site b from) place (link a b calls) (handed a b calls) (in_order a b calls)
+in_order a b (Loses from to place ∷ calls) = loses (same_site a from && same_site b to) (same_site a to && same_site b from) place (link a b calls) (handed a b calls) (in_order a b calls)
+in_order a b (Repeats from to place ∷ calls) = repeats (same_site a from && same_site b to) (same_site a to && same_site b from) place (link a b calls) (handed a b calls) (in_order a b calls)
+in_order a b (Resends from to ∷ calls) = resends (same_site a from && same_site b to) (same_site a to && same_site b from) (link a b calls) (handed a b calls) (in_order a b calls)
+
+pub whole : {M : Type 0} (a b : Site) (calls : List (Call M)) → IsTrue (is_quiet_link (link a b calls)) → handed a b calls ≡ (link a b calls).there.sent
+whole a b calls h =
+    let w = (link a b calls).there in
+    let s = (sound a b calls).there in
+    let all : length w.sent ≤ w.acked = leb-true (length w.sent) w.acked (and_parts (is_empty w.flight) (nat_le (length w.sent) w.acked) h).1 in
+    in_order a b calls ∙ take_all (delivered w) w.sent (omega (arith, s.acked))

@@ -1,0 +1,14 @@
+pub mod Calls
+pub mod Deliveries
+pub mod Directions
+pub mod InOrder
+pub mod Lists
+pub mod Matching
+pub mod Places
+pub mod Receives
+pub mod Rises
+pub mod Rounds
+pub mod SiteLists
+pub mod Sound
+pub mod Tops
+pub mod Turns

@@ -1,0 +1,118 @@
+-- Each step of a channel is the step of the way for which it stands.
+use Rattle.std.proofs.Common.{ℕ, zero, suc, ◌+◌, ◌-◌, ◌≤◌, Bool, true, List, [], ◌∷◌, ◌++◌, length, drop, ◌≡◌, refl, ap, ◌∙◌, arith, sym, subst, length-drop, add-zero}
+use Rattle.std.specs.Prelude.{max, nat_lt, not, slice_get, IsTrue, OnSome, OnOk, IfOk, Option, Some, None, Result, Ok, Err}
+use Rattle.sdd_base.specs.Kept.{Kept}
+use Rattle.std.proofs.lemmas.Bool.{lt-ltb, le-ltb}
+use Rattle.std.proofs.lemmas.List.{drop-append-le, drop-drop}
+use Rattle.sdd_base.specs.Words.{is_empty}
+use Rattle.sdd_net.specs.declared.packet.Packet.{Packet}
+use Rattle.sdd_net.specs.declared.packet.Packet.TheVariants.{Message}
+use Rattle.sdd_net.specs.declared.channel.Channel.{Channel}
+use Rattle.sdd_net.specs.Links.{Way, numbered, unacked, without_at}
+use Rattle.sdd_net.specs.Parts.{AreSent, HasReceived, last_number, acknowledged, received}
+use Rattle.sdd_net.specs.Nets.{Matches}
+use Rattle.sdd_net.proofs.Lists.{get-append, without-past}
+use Rattle.sdd_net.proofs.Receives.{Receives, receives}
+
+module _ {M : Type 0} where
+  -- what a sender keeps is what was sent and is not acknowledged
+  pub acked_is : (c : Channel M) (w : Way M) → Matches c w → c.sender.value.acked ≡ w.acked
+  acked_is c w h = ap (λ s. s.value.acked) h.sender
+
+  pub unacked_is : (c : Channel M) (w : Way M) → Matches c w → c.sender.value.unacked ≡ drop w.acked w.sent
+  unacked_is c w h = ap (λ s. s.value.unacked) h.sender
+
+  pub flight_is : (c : Channel M) (w : Way M) → Matches c w → c.flight.value ≡ w.flight
+  flight_is c w h = ap (λ f. f.value) h.flight
+
+  pub unacked_count : (c : Channel M) (w : Way M) → Matches c w → length c.sender.value.unacked ≡ length w.sent - w.acked
+  unacked_count c w h = ap length (unacked_is c w h) ∙ length-drop w.acked w.sent
+
+  pub last_number_is : (c : Channel M) (w : Way M) → w.acked ≤ length w.sent → Matches c w → last_number c.sender.value ≡ length w.sent
+  last_number_is c w l h = omega (arith, acked_is c w h, unacked_count c w h)
+
+  are_sent_more : (sent more : List M) (early : List (ℕ × M)) → AreSent sent early → AreSent (sent ++ more) early
+  are_sent_more sent more [] h = tt
+  are_sent_more sent more ((n, m) ∷ rest) h = (get-append sent more (n - 1) m h.0, are_sent_more sent more rest h.1)
+
+  pub put_matches : (c d : Channel M) (w : Way M) (m : M) → w.acked ≤ length w.sent → Matches c w
+      → d.sender ≡ record { live = true; value = record c.sender.value { unacked = c.sender.value.unacked ++ m ∷ [] } }
+      → d.flight ≡ record { live = true; value = c.flight.value ++ Message (last_number c.sender.value + 1) m ∷ [] }
+      → d.receiver ≡ c.receiver
+      → Matches d (record w { sent = w.sent ++ m ∷ []; flight = w.flight ++ Message (length w.sent + 1) m ∷ [] })
+  put_matches c d w m l h s f r = record {
+    sender = s ∙ rw (acked_is c w h, unacked_is c w h, drop-append-le w.acked w.sent (m ∷ []) l) refl;
+    flight = f ∙ rw (flight_is c w h, last_number_is c w l h) refl;
+    receiver_live = ap (λ x. x.live) r ∙ h.receiver_live;
+    received = subst (λ x. HasReceived x.value w.arrived (w.sent ++ m ∷ [])) (sym r)
+        (record { count = h.received.count; early = record { ascends = h.received.early.ascends; are_sent = are_sent_more w.sent (m ∷ []) c.receiver.value.early h.received.early.are_sent; same = h.received.early.same } });
+  }
+
+  -- where only the flight changes
+  pub flight_matches : (c d : Channel M) (w : Way M) (flight : List (Packet M)) → Matches c w → d.sender ≡ c.sender → d.flight ≡ record { live = true; value = flight } → d.receiver ≡ c.receiver → Matches d (record w { flight = flight })
+  flight_matches c d w flight h s f r = record {
+    sender = s ∙ h.sender;
+    flight = f;
+    receiver_live = ap (λ x. x.live) r ∙ h.receiver_live;
+    received = subst (λ x. HasReceived x.value w.arrived w.sent) (sym r) h.received;
+  }
+
+  numbered-drop : (n k : ℕ) (ms : List M) → drop n (numbered k ms) ≡ numbered (k + n) (drop n ms)
+  numbered-drop zero k ms = rw add-zero refl
+  numbered-drop (suc n) k [] = refl
+  numbered-drop (suc n) k (m ∷ ms) = numbered-drop n (k + 1) ms ∙ ap (λ j. numbered j (drop n ms)) (omega arith)
+
+  -- the packets of a resend are those of what the sender keeps
+  pub resent_is : (c : Channel M) (w : Way M) → Matches c w → numbered c.sender.value.acked c.sender.value.unacked ≡ unacked w
+  resent_is c w h = rw (acked_is c w h, unacked_is c w h) (sym (numbered-drop w.acked 0 w.sent ∙ ap (λ j. numbered j (drop w.acked w.sent)) (omega arith)))
+
+  pub not_empty : (xs : List M) (a n : ℕ) → length xs ≡ n - a → not (is_empty xs) ≡ nat_lt a n
+  not_empty [] a n e = sym (le-ltb a n (omega (arith, e)))
+  not_empty (x ∷ xs) a n e = sym (lt-ltb a n (omega (arith, e)))
+
+  pub acked_matches : (c d : Channel M) (w : Way M) (k : ℕ) → Matches c w → d.sender ≡ record { live = true; value = acknowledged k c.sender.value } → d.flight ≡ c.flight → d.receiver ≡ c.receiver → Matches d (record w { acked = max w.acked k })
+  acked_matches c d w k h s f r = record {
+    sender = s ∙ rw (acked_is c w h, unacked_is c w h) (ap (λ xs. record { live = true; value = record { acked = max w.acked k; unacked = xs } }) (drop-drop (k - w.acked) w.acked w.sent ∙ ap (λ j. drop j w.sent) (omega arith)));
+    flight = f ∙ h.flight;
+    receiver_live = ap (λ x. x.live) r ∙ h.receiver_live;
+    received = subst (λ x. HasReceived x.value w.arrived w.sent) (sym r) h.received;
+  }
+
+  pub message_received : (c : Channel M) (w : Way M) (n : ℕ) (m : M) → 1 ≤ n → slice_get w.sent (n - 1) ≡ Some m → Matches c w → Receives n m w.arrived w.sent c.receiver.value
+  message_received c w n m one is h = receives n m w.arrived w.sent c.receiver.value one is h.received
+
+  pub received_matches : (c d : Channel M) (w : Way M) (n : ℕ) (m : M) → 1 ≤ n → slice_get w.sent (n - 1) ≡ Some m → Matches c w
+      → d.sender ≡ c.sender → d.flight ≡ c.flight → d.receiver ≡ record { live = true; value = received n m c.receiver.value }
+      → Matches d (record w { arrived = n ∷ w.arrived })
+  received_matches c d w n m one is h s f r =
+      let got : Receives n m w.arrived w.sent c.receiver.value = message_received c w n m one is h in
+      record {
+        sender = s ∙ h.sender;
+        flight = f ∙ h.flight;
+        receiver_live = ap (λ x. x.live) r;
+        received = subst (λ x. HasReceived x.value (n ∷ w.arrived) w.sent) (sym r) got.stands;
+      }
+
+  -- something is unacknowledged
+  pub some_unacked : (c : Channel M) (w : Way M) (some : Bool) → Matches c w → some ≡ not (is_empty c.sender.value.unacked) → some ≡ nat_lt w.acked (length w.sent)
+  some_unacked c w some h e = e ∙ not_empty c.sender.value.unacked w.acked (length w.sent) (unacked_count c w h)
+
+  -- what is left of a flight, whether or not there was a packet at the place
+  pub left_is : (result : Option (Packet M)) (old new : Kept (List (Packet M))) (k : ℕ)
+      → result ≡ slice_get old.value k → OnSome result (new ≡ record { live = true; value = without_at old.value k }) → (result ≡ None → new ≡ old) → IsTrue old.live
+      → new ≡ record { live = true; value = without_at old.value k }
+  left_is None old new k e some none live = none refl ∙ rw (without-past old.value k (sym e)) (ap (λ b. record { live = b; value = old.value }) live)
+  left_is (Some p) old new k e some none live = some
+
+-- what two facts about a result that is Ok lead to
+pub on_both : {T E : Type 0} (r : Result T E) (A B C : Type 0) → OnOk r A → OnOk r B → (A → B → C) → OnOk r C
+on_both (Ok x) A B C a b f = f a b
+on_both (Err e) A B C a b f = tt
+
+pub if_on : {T E : Type 0} (r : Result T E) (A : T → Type 0) (B : T → Type 0) → IfOk r A → ((x : T) → A x → B x) → IfOk r B
+if_on (Ok x) A B a f = f x a
+if_on (Err e) A B a f = tt
+
+pub if_both : {T E : Type 0} (r : Result T E) (A : T → Type 0) (B : Type 0) (C : T → Type 0) → IfOk r A → OnOk r B → ((x : T) → A x → B → C x) → IfOk r C
+if_both (Ok x) A B C a b f = f x a b
+if_both (Err e) A B C a b f = tt

@@ -1,0 +1,16 @@
+use Rattle.std.proofs.Common.{[], ap, ◌∙◌}
+use Rattle.std.specs.Prelude.{replicate}
+use Rattle.sdd_net.specs.Nets.{unused_channel}
+use Rattle.sdd_net.proofs.Calls.{unused_stands}
+use Rattle.sdd_net.proofs.net.Net.new.Goals as goal
+
+pub invariant_of-result : goal.invariant_of-result
+invariant_of-result g c = record {
+  few_tms = c.requires.tms;
+  few_dms = c.requires.dms;
+  all_links = c.in_ok-links.ensures;
+  stands = λ _. ([], unused_stands _ c.args.tms c.args.dms c.in_ok-channels.channels.items (c.in_ok-channels.ensures ∙ ap (λ n. replicate n unused_channel) c.pair_count.ensures));
+}
+
+pub returns-clause-unused : goal.returns-clause-unused
+returns-clause-unused g c = unused_stands _ c.args.tms c.args.dms c.in_ok-channels.channels.items (c.in_ok-channels.ensures ∙ ap (λ n. replicate n unused_channel) c.pair_count.ensures)

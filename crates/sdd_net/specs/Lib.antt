@@ -1,0 +1,4 @@
+pub mod Links
+pub mod Nets
+pub mod Parts
+pub mod Sound

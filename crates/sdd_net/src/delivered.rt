@@ -1,0 +1,12 @@
+use crate::packet::Parcels;
+
+/// What a delivery did.
+#[derive(Drop, Debug, PartialEq, Eq)]
+pub enum Delivered<M> {
+    /// The place is past the flight's end, and nothing changed.
+    Nothing,
+    /// An acknowledgement arrived.
+    Acked,
+    /// A message packet arrived, and these messages are handed to the site, in order.
+    Messages(Parcels<M>),
+}

@@ -1,0 +1,24 @@
+//! Links on which each message is numbered, acknowledged and delivered in order, whatever packets
+//! are lost, repeated and reordered.
+#![tactic(auto)]
+
+mod channel;
+mod channels;
+mod delivered;
+mod flight;
+mod law;
+mod net;
+mod packet;
+mod receiver;
+mod sender;
+mod sites;
+#[cfg(test)]
+mod tests;
+
+pub use delivered::Delivered;
+pub use flight::Flight;
+pub use law::law_in_order;
+pub use net::Net;
+pub use packet::{Packet, Packets, Parcels};
+pub use receiver::Receiver;
+pub use sender::Sender;

@@ -1,0 +1,283 @@
+ghost use Rattle.std.specs.Prelude.{◌≡◌, ◌↔◌, ◌+◌, ◌-◌, ◌^◌, ◌≤◌, ◌<◌, [], ◌∷◌, ◌++◌, List, nat_lt, length, is_some, replicate, true, false, IsTrue, IfOk, OnOk, OnErr, slice_get, Some};
+ghost use Rattle.sdd_base.specs.Sites.{links};
+ghost use Rattle.sdd_net.specs.Links.{Call, Puts, Delivers, Loses, Repeats, Resends, link, packet_at, delivery, quiet, round};
+ghost use Rattle.sdd_net.specs.Nets.{StandsFor, HasLink, Does, sent_on, unused_channel, channel_on, quiet_at, resends_on, in_flight_on};
+
+use crate::channel::Channel;
+use crate::channels::{deliver_at, put_at, repeat_at, resend_at, take_at};
+use crate::delivered::Delivered;
+use crate::sites::{all_links, index_of, is_link, pair_count};
+use sdd_base::{Event, NoMemory, Parcel, Site};
+use std::alloc::Global;
+use std::marker::Model;
+
+/// The links between the sites of a network.
+///
+/// Contracts see whether it is live, and say for which calls it stands: whatever list of calls,
+/// newest first, it stood for before a call, it stands for that list with the call put before it.
+/// What a list of calls makes of a link is defined on all that was ever sent and arrived, while the
+/// net keeps only what is unacknowledged, in flight or early. Places in a flight count from 1.
+///
+/// To find a link takes constant time. The links that are unused take memory too, some hundred
+/// bytes for each pair of sites.
+#[derive(Drop, Debug)]
+pub struct Net<M> {
+    tms: u32,
+    dms: u32,
+    links: Vec<(Site, Site)>,
+    channels: Vec<Channel<M>>,
+    live: bool,
+    alloc: Global,
+}
+
+impl<M> Model for Net<M> {
+    ghost use Rattle.sdd_base.specs.Kept.{Kept};
+    ghost use Rattle.sdd_net.specs.Nets.{Directions, IsNet};
+
+    ghost Value = { Kept (Directions M) };
+
+    ghost view = { λ n. record { live = n.live; value = record { tms = n.tms; dms = n.dms; channels = n.channels.items } } };
+
+    ghost invariant = { λ n. IsNet n.tms n.dms n.links.items n.live n.channels.items };
+}
+
+impl<M: Parcel> Net<M> {
+    /// The links between U, so many transaction modules and so many data modules, all unused.
+    pub fn new(alloc: Global, tms: u32, dms: u32) -> Result<Net<M>, NoMemory>
+        requires tms { tms ≤ 16 }
+        requires dms { dms ≤ 16 }
+        ensures live { IfOk result (λ net. IsTrue net.live) }
+        ensures tms { IfOk result (λ net. net.value.tms ≡ tms) }
+        ensures dms { IfOk result (λ net. net.value.dms ≡ dms) }
+        ensures unused { IfOk result (λ net. StandsFor net []) }
+    {
+        let links = all_links(alloc, tms, dms)?;
+        let channels = unused_channels(alloc, pair_count(tms, dms))?;
+        Ok(Net {
+            tms,
+            dms,
+            links,
+            channels,
+            live: true,
+            alloc,
+        })
+    }
+
+    /// Whether no call has answered want of memory. Where one has, the net is only dropped.
+    pub fn live(&self) -> bool
+        ensures { result ≡ self.now.live }
+    {
+        self.live
+    }
+
+    /// Whether there is a link from one site to another. Takes no memory, and constant time.
+    pub fn has_link(&self, from: Site, to: Site) -> bool
+        ensures { IsTrue result ↔ HasLink self.now from to }
+    {
+        is_link(self.tms, self.dms, from, to)
+    }
+
+    /// How many messages were put on the link. Takes no memory, and constant time.
+    pub fn sent(&self, from: Site, to: Site) -> u32
+        requires live { IsTrue self.now.live }
+        requires exists { HasLink self.now from to }
+        ensures count { result ≡ sent_on self.now.value from to }
+        ensures calls { (calls : List (Call M)) → StandsFor self.now calls → result ≡ length (link from to calls).there.sent }
+    {
+        let channel = &self.channels[index_of(self.tms, self.dms, from, to)];
+        channel.sender.count()
+    }
+
+    /// Puts a message on the link, and its packet in flight.
+    ///
+    /// Takes constant time, but for one copy of the message and for growth.
+    pub fn send(&mut self, from: Site, to: Site, msg: M) -> Result<(), NoMemory>
+        requires live { IsTrue self.old.live }
+        requires exists { HasLink self.old from to }
+        requires room { sent_on self.old.value from to < 2 ^ 32 - 1 }
+        ensures ok { OnOk result (Does self.old self.new (Puts from to msg)) }
+        ensures err { OnErr result (self.new.live ≡ false) }
+    {
+        self.live = false;
+        let at = index_of(self.tms, self.dms, from, to);
+        put_at(&mut self.channels, at, msg)?;
+        self.live = true;
+        Ok(())
+    }
+
+    /// Delivers the packet at a place of the flight. A message packet is acknowledged first of all.
+    /// The answer is `Nothing` exactly where the place is past the flight's end.
+    ///
+    /// To take place k of n packets costs O(min(k, n - k)), and a message O(log w) where w messages
+    /// came early, and as much for each message that is handed on.
+    pub fn deliver(&mut self, from: Site, to: Site, place: u32) -> Result<Delivered<M>, NoMemory>
+        requires live { IsTrue self.old.live }
+        requires exists { HasLink self.old from to }
+        requires place { 1 ≤ place }
+        ensures given { IfOk result (λ given. (calls : List (Call M)) → StandsFor self.old calls → given ≡ delivery place (link from to calls)) }
+        ensures ok { OnOk result (Does self.old self.new (Delivers from to place)) }
+        ensures err { OnErr result (self.new.live ≡ false) }
+    {
+        self.live = false;
+        let there = index_of(self.tms, self.dms, from, to);
+        let back = index_of(self.tms, self.dms, to, from);
+        let delivered = deliver_at(&mut self.channels, there, back, place)?;
+        self.live = true;
+        Ok(delivered)
+    }
+
+    /// Takes the packet at a place of the flight away. The answer is false exactly where the place
+    /// is past the flight's end, and then nothing changes.
+    ///
+    /// Takes no memory. Place k of n packets costs O(min(k, n - k)).
+    pub fn lose(&mut self, from: Site, to: Site, place: u32) -> bool
+        requires live { IsTrue self.old.live }
+        requires exists { HasLink self.old from to }
+        requires place { 1 ≤ place }
+        ensures there { (calls : List (Call M)) → StandsFor self.old calls → result ≡ is_some (packet_at place (link from to calls)) }
+        ensures ok { Does self.old self.new (Loses from to place) }
+    {
+        let at = index_of(self.tms, self.dms, from, to);
+        take_at(&mut self.channels, at, place).is_some()
+    }
+
+    /// Puts a copy of the packet at a place of the flight at its end. The answer is false exactly
+    /// where the place is past the flight's end, and then nothing changes.
+    pub fn repeat(&mut self, from: Site, to: Site, place: u32) -> Result<bool, NoMemory>
+        requires live { IsTrue self.old.live }
+        requires exists { HasLink self.old from to }
+        requires place { 1 ≤ place }
+        ensures there { IfOk result (λ there. (calls : List (Call M)) → StandsFor self.old calls → there ≡ is_some (packet_at place (link from to calls))) }
+        ensures ok { OnOk result (Does self.old self.new (Repeats from to place)) }
+        ensures err { OnErr result (self.new.live ≡ false) }
+    {
+        self.live = false;
+        let at = index_of(self.tms, self.dms, from, to);
+        let there = repeat_at(&mut self.channels, at, place)?;
+        self.live = true;
+        Ok(there)
+    }
+
+    /// Puts a packet for each unacknowledged message at the flight's end, in order. The answer is
+    /// false exactly where nothing is unacknowledged, and then nothing changes.
+    pub fn resend(&mut self, from: Site, to: Site) -> Result<bool, NoMemory>
+        requires live { IsTrue self.old.live }
+        requires exists { HasLink self.old from to }
+        ensures some { IfOk result (λ some. (calls : List (Call M)) → StandsFor self.old calls → some ≡ nat_lt (link from to calls).there.acked (length (link from to calls).there.sent)) }
+        ensures ok { OnOk result (Does self.old self.new (Resends from to)) }
+        ensures err { OnErr result (self.new.live ≡ false) }
+    {
+        self.live = false;
+        let at = index_of(self.tms, self.dms, from, to);
+        let some = resend_at(&mut self.channels, at)?;
+        self.live = true;
+        Ok(some)
+    }
+
+    /// Whether no packet is in flight and nothing is unacknowledged.
+    ///
+    /// Takes no memory, and constant time for each link.
+    pub fn quiet(&self) -> bool
+        requires { IsTrue self.now.live }
+        ensures { (calls : List (Call M)) → StandsFor self.now calls → result ≡ quiet (links self.now.value.tms self.now.value.dms) calls }
+    {
+        for (from, to) in &self.links {
+            if !self.is_quiet_link(*from, *to) {
+                return false;
+            }
+        }
+        true
+    }
+
+    /// The events of a round: first a `Resend` for each link on which something is unacknowledged
+    /// while its flight and the flight of the link back are empty; then for each link as many
+    /// `Deliver` at place 1 as its flight holds after those resends. Both go by the site that a link
+    /// comes from and then the site that it goes to, in the order of sites.
+    ///
+    /// Costs constant time for each link and for each event.
+    pub fn round(&self) -> Result<Vec<Event>, NoMemory>
+        requires { IsTrue self.now.live }
+        ensures { IfOk result (λ events. (calls : List (Call M)) → StandsFor self.now calls → events.items ≡ round (links self.now.value.tms self.now.value.dms) calls) }
+    {
+        let mut events = Vec::new(self.alloc);
+        for (from, to) in &self.links {
+            if self.resends_now(*from, *to) {
+                events.push(Event::Resend {
+                    from: *from,
+                    to: *to,
+                })?;
+            }
+        }
+        for (from, to) in &self.links {
+            add_deliveries(&mut events, *from, *to, self.in_flight(*from, *to))?;
+        }
+        Ok(events)
+    }
+
+    fn channel(&self, from: Site, to: Site) -> &Channel<M>
+        requires live { IsTrue self.now.live }
+        requires exists { HasLink self.now from to }
+        ensures { channel_on self.now.value from to ≡ Some result.now }
+    {
+        &self.channels[index_of(self.tms, self.dms, from, to)]
+    }
+
+    fn is_quiet_link(&self, from: Site, to: Site) -> bool
+        requires live { IsTrue self.now.live }
+        requires exists { HasLink self.now from to }
+        ensures { result ≡ quiet_at (channel_on self.now.value from to) }
+    {
+        let channel = self.channel(from, to);
+        channel.flight.is_empty() && channel.sender.is_done()
+    }
+
+    fn resends_now(&self, from: Site, to: Site) -> bool
+        requires live { IsTrue self.now.live }
+        requires exists { HasLink self.now from to }
+        ensures { result ≡ resends_on self.now.value from to }
+    {
+        let there = self.channel(from, to);
+        let back = self.channel(to, from);
+        !there.sender.is_done() && there.flight.is_empty() && back.flight.is_empty()
+    }
+
+    /// How many packets are in flight once the resends of a round are done.
+    fn in_flight(&self, from: Site, to: Site) -> usize
+        requires live { IsTrue self.now.live }
+        requires exists { HasLink self.now from to }
+        ensures { result ≡ in_flight_on self.now.value from to }
+    {
+        let there = self.channel(from, to);
+        if self.resends_now(from, to) {
+            there.sender.unacked() as usize
+        } else {
+            there.flight.len()
+        }
+    }
+}
+
+/// Adds so many deliveries of the first packet.
+fn add_deliveries(
+    events: &mut Vec<Event>,
+    from: Site,
+    to: Site,
+    count: usize,
+) -> Result<(), NoMemory>
+    ensures { OnOk result (events.new.items ≡ events.old.items ++ replicate count (Event.Deliver from to 1)) }
+{
+    for _ in 0..count {
+        events.push(Event::Deliver { from, to, place: 1 })?;
+    }
+    Ok(())
+}
+
+/// So many channels on which nothing was done.
+fn unused_channels<M: Parcel>(alloc: Global, count: usize) -> Result<Vec<Channel<M>>, NoMemory>
+    ensures { IfOk result (λ channels. channels.items ≡ replicate count unused_channel) }
+{
+    let mut channels = Vec::new(alloc);
+    for _ in 0..count {
+        channels.push(Channel::new(alloc))?;
+    }
+    Ok(channels)
+}
