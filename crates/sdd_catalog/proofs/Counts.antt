@@ -1,5 +1,5 @@
 -- An item that breaks no rule has fewer before it than the limit.
-use Rattle.std.proofs.Common.{ℕ, ◌≡◌, ◌<◌, ◌≤◌, List, length, take, Option, Some, None, arith}
+use Rattle.std.proofs.Common.{ℕ, ◌≡◌, ◌<◌, ◌≤◌, List, length, take, None, arith}
 use Rattle.std.proofs.lemmas.List.{length-take-le}
 use Rattle.sdd_base.specs.Words.{head_of}
 use Rattle.sdd_catalog.specs.Rules.{faults_of_relation, faults_of_fragment, faults_of_class}

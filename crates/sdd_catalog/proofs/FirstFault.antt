@@ -1,5 +1,5 @@
 -- The first of all faults.
-use Rattle.std.proofs.Common.{ℕ, ◌≡◌, ◌≤◌, List, length, ◌++◌, Option, Some, None, refl, ap, sym, ◌∙◌}
+use Rattle.std.proofs.Common.{◌≡◌, ◌≤◌, List, length, ◌++◌, Option, None, ap, sym, ◌∙◌}
 use Rattle.sdd_base.specs.Words.{head_of, or_else}
 use Rattle.sdd_catalog.specs.Rules.{count_faults, relation_faults, fragment_faults, range_faults, class_faults, faults_of, faults_of_relation, faults_of_fragment, found_in, IsValid}
 use Rattle.sdd_catalog.specs.declared.parts.Parts.{Parts}

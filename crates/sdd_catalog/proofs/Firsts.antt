@@ -1,12 +1,10 @@
 -- The first finding of a list.
-use Rattle.std.proofs.Common.{ℕ, ◌≡◌, ◌+◌, ◌≤◌, ◌<◌, Bool, true, false, cond, List, [], ◌∷◌, ◌++◌, map, length, get_or, take, drop, Option, Some, None, refl, ap, sym, ◌∙◌, subst, arith}
+use Rattle.std.proofs.Common.{ℕ, ◌≡◌, ◌+◌, ◌≤◌, ◌<◌, Bool, true, false, cond, List, [], ◌∷◌, ◌++◌, map, length, get_or, take, drop, Option, Some, None, refl, ap, sym, ◌∙◌}
 use Rattle.std.specs.Option.{option_map}
 use Rattle.std.proofs.lemmas.List.{drop_more, take_more, drop_all}
 use Rattle.sdd_base.specs.Words.{head_of, or_else}
-use Rattle.sdd_catalog.specs.Rules.{found_from, found_in, when, faults_at}
-use Rattle.sdd_catalog.specs.declared.fault.CatFault.{CatFault}
+use Rattle.sdd_catalog.specs.Rules.{found_from, found_in, when}
 use Rattle.sdd_catalog.specs.declared.fault.CatRule.{CatRule}
-use Rattle.sdd_catalog.specs.declared.fault.Part.{Part}
 
 -- the first of two lists joined
 pub head_of-append : {A : Type 0} (xs ys : List A) → head_of (xs ++ ys) ≡ or_else (head_of xs) (head_of ys)

@@ -1,5 +1,5 @@
 -- Items by their numbers, which are counted from 1.
-use Rattle.std.proofs.Common.{ℕ, ◌≡◌, ◌≤◌, ◌<◌, ◌-◌, List, length, get_or, sym, ◌∙◌, arith}
+use Rattle.std.proofs.Common.{ℕ, ◌≡◌, ◌<◌, List, length, get_or, ◌∙◌}
 use Rattle.std.proofs.lemmas.List.{get_or_default}
 
 -- the item that is read is the one with the number, whatever would stand past the end

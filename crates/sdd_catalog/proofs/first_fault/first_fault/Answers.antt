@@ -1,4 +1,4 @@
-use Rattle.std.proofs.Common.{◌≡◌, List, Some, None, refl, ap, sym, ◌∙◌}
+use Rattle.std.proofs.Common.{List, Some, None, refl, ap, sym, ◌∙◌}
 use Rattle.sdd_base.specs.Words.{head_of}
 use Rattle.sdd_catalog.specs.Rules.{faults_of_relation, faults_of_fragment, faults_of_ranges, faults_of_class, found_in}
 use Rattle.sdd_catalog.specs.declared.parts.RelationPart.{RelationPart}

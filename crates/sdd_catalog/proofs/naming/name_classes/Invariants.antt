@@ -1,6 +1,5 @@
 use Rattle.std.proofs.Common.{◌≡◌, map, take}
-use Rattle.sdd_catalog.specs.Names.{name_at}
-use Rattle.sdd_catalog.specs.Catalogue.{column_part, relation_part, fragment_part, read_part, class_part}
+use Rattle.sdd_catalog.specs.Catalogue.{class_part}
 use Rattle.sdd_catalog.proofs.naming.name_classes.Given as goal
 
 -- the parts so far are the items so far, named

@@ -1,4 +1,3 @@
-use Rattle.std.proofs.Common.{◌≡◌, ◌∙◌, subst, sym, length}
 use Rattle.sdd_catalog.proofs.Sound.{nameable}
 use Rattle.sdd_catalog.proofs.catalogue.Catalogue.parts.Goals as goal
 

@@ -1,8 +1,8 @@
-use Rattle.std.proofs.Common.{◌≡◌, ◌≤◌, ◌<◌, ◌-◌, List, length, get_or, ap, sym, ◌∙◌, subst, arith, rules}
+use Rattle.std.proofs.Common.{◌≡◌, ◌<◌, ◌-◌, List, length, get_or, ap, sym, ◌∙◌, subst, arith}
 use Rattle.sdd_catalog.specs.Catalogue.{Catalogue, parts_of}
 use Rattle.sdd_catalog.specs.Cover.{Cover, ranges_for}
 use Rattle.sdd_catalog.specs.declared.ranges.KeyRange.{KeyRange}
-use Rattle.sdd_catalog.proofs.FragmentOf.{table_at, table_cover, table_long}
+use Rattle.sdd_catalog.proofs.FragmentOf.{table_at, table_cover}
 use Rattle.sdd_catalog.proofs.catalogue.Catalogue.ranges_of.Goals as goal
 
 pub returns : goal.returns
