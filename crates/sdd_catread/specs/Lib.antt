@@ -1,0 +1,5 @@
+pub mod Examples
+pub mod Faults
+pub mod Form
+pub mod Reading
+pub mod Values

@@ -1,0 +1,14 @@
+//! Reading a catalogue: a TOML file, judged from its length to the rules over all its parts.
+#![tactic(auto)]
+
+mod fields;
+mod lists;
+mod place;
+mod reading;
+mod spelled;
+mod tables;
+
+pub use reading::read_catalogue;
+
+#[cfg(test)]
+mod tests;
