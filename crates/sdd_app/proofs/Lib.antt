@@ -15,4 +15,6 @@ pub mod Meaning
 pub mod Outcomes
 pub mod Submitted
 pub mod Told
+pub mod FirstCatalogue
+pub mod CatalogueReads
 pub mod Runs

@@ -1,16 +1,53 @@
 -- What is told of a sink and of files, by cases.
-use Rattle.std.proofs.Common.{◌≡◌, ℕ, ◌+◌, ◌<◌, ◌≤◌, List, length, take, Option, Some, Result, Ok, Err, sym, ◌∙◌, arith, subst, inl, inr}
+use Rattle.std.proofs.Common.{◌≡◌, ℕ, zero, suc, flat_map, slice_index_or, ◌∷◌, [], ◌++◌, drop, None, refl, ap, append_assoc, append-nil, ◌+◌, ◌<◌, ◌≤◌, List, length, take, Option, Some, Result, Ok, Err, sym, ◌∙◌, arith, subst, inl, inr}
 use Rattle.std.proofs.lemmas.Bool.{cases_lt}
 use Rattle.std.specs.Prelude.{IfSome, OnOk, OnErr}
-use Rattle.std.proofs.lemmas.List.{take_all}
-use Rattle.sdd_base.specs.Outside.{HasCause, ReadsTo, with_end}
+use Rattle.std.proofs.lemmas.List.{take_all, take-append-drop}
+use Rattle.std.proofs.Math.Seq.{take-append_seam}
+use Rattle.sdd_base.specs.Outside.{HasCause, ReadsTo, Rose, with_end}
 use Rattle.sdd_app.specs.Answer.{TakesOrFaults}
 
--- a text was taken whole, or a front of it where the sink failed
-pub took : {T E : Type 0} (r : Result T E) (before now : Option (List ℕ)) (f g : ℕ) (text : List ℕ)
-    → OnOk r (now ≡ with_end before text) → OnErr r ((n : ℕ) × (now ≡ with_end before (take n text))) → HasCause f g r → TakesOrFaults before now f g text
-took (Ok x) before now f g text done front cause = record { later = cause.later; front = (length text, rw (take_all (length text) text (omega arith)) done, λ lt. absurd (omega arith)) }
-took (Err e) before now f g text done front cause = record { later = cause.later; front = (front.0, front.1, λ lt. cause.failed) }
+-- what a sink took grows by nothing, and by one text after another
+pub end_nothing : (told : Option (List ℕ)) → told ≡ with_end told []
+end_nothing None = refl
+end_nothing (Some xs) = ap (λ (l : List ℕ). Some l) (sym (append-nil xs))
+
+pub end_more : (told : Option (List ℕ)) (a b : List ℕ) → with_end (with_end told a) b ≡ with_end told (a ++ b)
+end_more None a b = refl
+end_more (Some xs) a b = ap (λ (l : List ℕ). Some l) (append_assoc xs a b)
+
+-- all of it was taken
+pub took_all : (before now : Option (List ℕ)) (f g : ℕ) (text : List ℕ) → now ≡ with_end before text → f ≤ g → TakesOrFaults before now f g text
+took_all before now f g text done later = record { later = later; front = (length text, rw (take_all (length text) text (omega arith)) done, λ lt. absurd (omega arith)) }
+
+rose_since : (f g h : ℕ) → f ≤ g → Rose g h → Rose f h
+rose_since f g h a b = omega arith
+
+seam : (text front piece rest : List ℕ) (n : ℕ) → text ≡ (front ++ piece) ++ rest → take (length (front ++ take n piece)) text ≡ front ++ take n piece
+seam text front piece rest n e =
+    let parts : text ≡ (front ++ take n piece) ++ (drop n piece ++ rest) =
+        e ∙ ap (λ (p : List ℕ). (front ++ p) ++ rest) (sym (take-append-drop n piece))
+        ∙ ap (λ (l : List ℕ). l ++ rest) (sym (append_assoc front (take n piece) (drop n piece)))
+        ∙ append_assoc (front ++ take n piece) (drop n piece) rest in
+    rw parts (take-append_seam (front ++ take n piece) (drop n piece ++ rest))
+
+-- a front of it was taken, up to a part of a piece at which the sink failed
+pub took_front : (before middle now : Option (List ℕ)) (f g h : ℕ) (text front piece rest : List ℕ) (n : ℕ) → text ≡ (front ++ piece) ++ rest
+    → middle ≡ with_end before front → f ≤ g → now ≡ with_end middle (take n piece) → g ≤ h → Rose g h → TakesOrFaults before now f h text
+took_front before middle now f g h text front piece rest n e taken later more last rose = record {
+  later = omega arith;
+  front = (length (front ++ take n piece), rw (seam text front piece rest n e, sym (end_more before front (take n piece))) (more ∙ ap (λ (t : Option (List ℕ)). with_end t (take n piece)) taken), λ lt. rose_since f g h later rose);
+}
+
+-- what stands for the items is that for those before one, for it, and for the rest
+pub flat_map_at : {X : Type 0} (f : X → List ℕ) (xs : List X) (i : ℕ) (d : X) → i < length xs
+    → (rest : List ℕ) × (flat_map f xs ≡ (flat_map f (take i xs) ++ f (slice_index_or xs i d)) ++ rest)
+flat_map_at f [] i d lt = absurd (omega arith)
+flat_map_at f (x ∷ xs) zero d lt = (flat_map f xs, refl)
+flat_map_at f (x ∷ xs) (suc i) d lt =
+    let k = flat_map_at f xs i d (omega arith) in
+    (k.0, ap (λ (l : List ℕ). f x ++ l) k.1 ∙ sym (append_assoc (f x) (flat_map f (take i xs) ++ f (slice_index_or xs i d)) k.0)
+        ∙ ap (λ (l : List ℕ). l ++ k.0) (sym (append_assoc (f x) (flat_map f (take i xs)) (f (slice_index_or xs i d)))))
 
 abbrev told_bytes : List ℕ → Option (List ℕ)
 told_bytes bytes = Some bytes

@@ -1,4 +1,4 @@
--- The one catalogue that is read today, and the workloads of the first form: puts and whole queries at one module.
+-- The one catalogue that is run today, and the workloads of the first form: puts and whole queries at one module.
 use Rattle.std.specs.Prelude.{ℕ, ◌^◌, nat_le, nat_lt, ◌-◌, pos, negsuc, Bool, true, false, not, ◌&&◌, ◌||◌, List, [], ◌∷◌, ◌++◌, map, length, count_by, codes, Option, find, filter_map, flat_map, refl, ◌≡◌}
 use Rattle.std.specs.List.{list_all, list_any, join_with_byte}
 use Rattle.std.specs.Str.{bytes_eq}
@@ -7,8 +7,12 @@ use Rattle.sdd_base.specs.Name.{is_name}
 use Rattle.sdd_base.specs.Words.{is_empty}
 use Rattle.sdd_base.specs.declared.number.RelNo.{RelNo}
 use Rattle.sdd_base.specs.declared.value.Value.TheVariants as values
-use Rattle.sdd_catalog.specs.Catalogue.{Catalogue}
+use Rattle.sdd_catalog.specs.Catalogue.{Catalogue, relation_at, fragment_at, class_at}
 use Rattle.sdd_catalog.specs.declared.parts.Kind.TheVariants as kinds
+use Rattle.sdd_catalog.specs.declared.resolved.Column.{Column as ColumnOf}
+use Rattle.sdd_catalog.specs.declared.resolved.Relation.{Relation}
+use Rattle.sdd_catalog.specs.declared.resolved.Fragment.{Fragment}
+use Rattle.sdd_catalog.specs.declared.resolved.Class.{Class}
 use Rattle.sdd_lang.specs.declared.condition.Ref.{Ref}
 use Rattle.sdd_lang.specs.declared.statement.Stmt.{Stmt}
 use Rattle.sdd_lang.specs.declared.statement.Stmt.TheVariants as statements
@@ -24,35 +28,45 @@ use Rattle.sdd_app.specs.declared.first.FirstWork.{FirstWork}
 abbrev pub Word : Type 0
 Word = List ℕ
 
--- the catalogue's file, byte for byte
-abbrev pub catalogue_text : List ℕ
-catalogue_text =
-    codes "tms = 1\n"
-    ++ codes "dms = 1\n"
-    ++ codes "[[relation]]\n"
-    ++ codes "name = \"acct\"\n"
-    ++ codes "columns = [{name = \"id\", kind = \"int\"}, {name = \"bal\", kind = \"int\"}]\n"
-    ++ codes "key = \"id\"\n"
-    ++ codes "[[fragment]]\n"
-    ++ codes "name = \"all\"\n"
-    ++ codes "relation = \"acct\"\n"
-    ++ codes "copies = [1]\n"
-    ++ codes "[[class]]\n"
-    ++ codes "name = \"own\"\n"
-    ++ codes "tm = 1\n"
-    ++ codes "reads = [{fragment = \"all\", at = 1}]\n"
-    ++ codes "writes = [\"all\"]\n"
+-- the catalogue's parts: one relation acct (id, bal) in one fragment, all of it at one data module, and one class that reads and writes it
 
--- and what it says: one relation acct (id, bal) in one fragment, all of it at one data module, and one class that reads and writes it
+abbrev pub named_column : List ℕ → ColumnOf
+named_column name = record { name = name; kind = kinds.Int }
+
+abbrev pub first_columns : List ColumnOf
+first_columns = named_column (codes "id") ∷ named_column (codes "bal") ∷ []
+
+abbrev pub first_relation : Relation
+first_relation = record { name = codes "acct"; columns = first_columns; key = 1 }
+
+abbrev pub first_fragment : Fragment
+first_fragment = record { name = codes "all"; rel = 1; least = negsuc (2 ^ 63 - 1); greatest = pos (2 ^ 63 - 1); copies = 1 ∷ [] }
+
+abbrev pub first_class : Class
+first_class = record { name = codes "own"; tm = 1; reads = (1, 1) ∷ []; writes = 1 ∷ [] }
+
 abbrev pub first_catalogue : Catalogue
 first_catalogue =
     record {
       tms = 1;
       dms = 1;
-      relations = record { name = codes "acct"; columns = record { name = codes "id"; kind = kinds.Int } ∷ record { name = codes "bal"; kind = kinds.Int } ∷ []; key = 1 } ∷ [];
-      fragments = record { name = codes "all"; rel = 1; least = negsuc (2 ^ 63 - 1); greatest = pos (2 ^ 63 - 1); copies = 1 ∷ [] } ∷ [];
-      classes = record { name = codes "own"; tm = 1; reads = (1, 1) ∷ []; writes = 1 ∷ [] } ∷ [];
+      relations = first_relation ∷ [];
+      fragments = first_fragment ∷ [];
+      classes = first_class ∷ [];
     }
+
+-- there is one of each
+pub record HasOneOfEach (cat : Catalogue) : Type 0 where
+  pub tms : cat.tms ≡ 1
+  pub dms : cat.dms ≡ 1
+  pub relations : length cat.relations ≡ 1
+  pub fragments : length cat.fragments ≡ 1
+  pub classes : length cat.classes ≡ 1
+
+pub record HasFirstParts (cat : Catalogue) : Type 0 where
+  pub relation : relation_at cat 1 ≡ first_relation
+  pub fragment : fragment_at cat 1 ≡ first_fragment
+  pub class : class_at cat 1 ≡ first_class
 
 abbrev pub acct : RelNo
 acct = record { 0 = 1 }

@@ -1,5 +1,6 @@
 pub mod Accounts
 pub mod Answer
+pub mod Check
 pub mod Command
 pub mod First
 pub mod Lines

@@ -1,22 +1,87 @@
 -- What each status says.
-use Rattle.std.specs.Prelude.{ℕ, List, [], codes}
+use Rattle.std.specs.Prelude.{ℕ, List, [], ◌++◌, codes, ◌≡◌, refl}
+use Rattle.std.specs.Fmt.{decimal}
+use Rattle.sdd_catalog.specs.declared.fault.CatFault.{CatFault}
+use Rattle.sdd_catalog.specs.declared.fault.CatRule.{CatRule}
+use Rattle.sdd_catalog.specs.declared.fault.CatRule.TheVariants as rules_of
+use Rattle.sdd_catalog.specs.declared.fault.Counted.{Counted}
+use Rattle.sdd_catalog.specs.declared.fault.Counted.TheVariants as counted
+use Rattle.sdd_catalog.specs.declared.fault.Part.{Part}
+use Rattle.sdd_catalog.specs.declared.fault.Part.TheVariants as parts
 use Rattle.sdd_app.specs.declared.status.Status.{Status}
-use Rattle.sdd_app.specs.declared.status.Status.TheVariants.{Done, Usage, ReadFault, WriteFault, NoMemory, Unbuilt}
+use Rattle.sdd_app.specs.declared.status.Status.TheVariants.{Done, Usage, BadCatalogue, ReadFault, WriteFault, NoMemory, Unbuilt}
+
+-- the place of a fault: the top, or a part with its number
+abbrev pub part_word : Part → List ℕ
+part_word parts.Top = codes "top"
+part_word parts.Relation = codes "relation "
+part_word parts.Fragment = codes "fragment "
+part_word parts.Class = codes "class "
+
+abbrev pub number_word : Part → ℕ → List ℕ
+number_word parts.Top number = []
+number_word parts.Relation number = decimal number
+number_word parts.Fragment number = decimal number
+number_word parts.Class number = decimal number
+
+-- the rule's name
+abbrev pub rule_word : CatRule → List ℕ
+rule_word (rules_of.TooMany what) = codes "TooMany"
+rule_word rules_of.DuplicateName = codes "DuplicateName"
+rule_word rules_of.UnknownName = codes "UnknownName"
+rule_word rules_of.BadKey = codes "BadKey"
+rule_word rules_of.RangeGap = codes "RangeGap"
+rule_word rules_of.RangeOverlap = codes "RangeOverlap"
+rule_word rules_of.NoCopy = codes "NoCopy"
+rule_word rules_of.ReadsWhereNoCopy = codes "ReadsWhereNoCopy"
+rule_word rules_of.NotToml = codes "NotToml"
+rule_word rules_of.MissingField = codes "MissingField"
+rule_word rules_of.WrongKind = codes "WrongKind"
+rule_word rules_of.UnknownField = codes "UnknownField"
+rule_word rules_of.TooLong = codes "TooLong"
+rule_word (rules_of.TooFew what) = codes "TooFew"
+
+abbrev pub counted_word : Counted → List ℕ
+counted_word counted.Tm = codes " tm"
+counted_word counted.Dm = codes " dm"
+counted_word counted.Relation = codes " relation"
+counted_word counted.Column = codes " column"
+counted_word counted.Fragment = codes " fragment"
+counted_word counted.Class = codes " class"
+counted_word counted.Read = codes " read"
+
+-- what was counted, behind a space, where something was
+abbrev pub counted_words : CatRule → List ℕ
+counted_words (rules_of.TooMany what) = counted_word what
+counted_words (rules_of.TooFew what) = counted_word what
+counted_words rule = []
+
+abbrev pub fault_line : CatFault → List ℕ
+fault_line fault = codes "catalogue: " ++ (part_word fault.part ++ (number_word fault.part fault.no ++ (codes ": " ++ (rule_word fault.rule ++ (counted_words fault.rule ++ codes "\n")))))
 
 -- the line on standard error
 abbrev pub line_of : Status → List ℕ
 line_of Done = []
 line_of Usage = codes "usage: sdd1 check CAT | graph CAT | table CAT | run CAT WORK | plain CAT WORK | make SEED N\n"
+line_of (BadCatalogue fault) = fault_line fault
 line_of ReadFault = codes "read fault\n"
 line_of WriteFault = codes "write fault\n"
 line_of NoMemory = codes "no memory\n"
 line_of Unbuilt = codes "unbuilt\n"
 
--- the number that the process ends with; 3, 4 and 5 are kept for faults of the files and for the limits of a run
+-- the number that the process ends with; 4 and 5 are kept for faults of workloads and for the limits of a run
 abbrev pub number_of_status : Status → ℕ
 number_of_status Done = 0
 number_of_status Usage = 2
+number_of_status (BadCatalogue fault) = 3
 number_of_status ReadFault = 6
 number_of_status WriteFault = 7
 number_of_status NoMemory = 8
 number_of_status Unbuilt = 9
+
+-- worked: a gap before the second fragment, and too many classes
+pub gap_line : line_of (BadCatalogue (record { rule = rules_of.RangeGap; part = parts.Fragment; no = 2 })) ≡ codes "catalogue: fragment " ++ (decimal 2 ++ codes ": RangeGap\n")
+gap_line = refl
+
+pub many_line : line_of (BadCatalogue (record { rule = rules_of.TooMany counted.Class; part = parts.Top; no = 0 })) ≡ codes "catalogue: top: TooMany class\n"
+many_line = refl

@@ -7,8 +7,11 @@
 #![tactic(auto)]
 
 mod accounts;
+mod catalogue_file;
+mod check;
 mod command;
 mod first;
+mod first_catalogue;
 mod line;
 mod number;
 mod reading;
@@ -16,6 +19,7 @@ mod report;
 mod run;
 mod serial;
 mod status;
+mod tell;
 
 pub use run::run_sdd1;
 pub use status::Status;

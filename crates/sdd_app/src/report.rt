@@ -60,7 +60,8 @@ fn put_values(text: &mut Vec<u8>, values: &[Value]) -> Result<(), NoMemory>
     Ok(())
 }
 
-fn put_count(text: &mut Vec<u8>, count: usize) -> Result<(), NoMemory>
+/// Adds a number in decimal.
+pub fn put_count(text: &mut Vec<u8>, count: usize) -> Result<(), NoMemory>
     ensures { OnOk result (text.new.items ≡ text.old.items ++ decimal count) }
 {
     let mut buffer = Buffer::new();

@@ -1,5 +1,7 @@
 ghost use Rattle.std.specs.Prelude.{◌≡◌};
-ghost use Rattle.sdd_app.specs.Status.{line_of, number_of_status};
+ghost use Rattle.sdd_app.specs.Status.{number_of_status};
+
+use sdd_catalog::CatFault;
 
 /// How a call ended.
 #[derive(Clone, Copy, Debug, PartialEq, Eq)]
@@ -8,6 +10,8 @@ pub enum Status {
     Done,
     /// The words are none of the forms.
     Usage,
+    /// The catalogue has a fault, which is the first one.
+    BadCatalogue(CatFault),
     /// A call of the shelf failed.
     ReadFault,
     /// A call of the sink for the text failed, which took a front of it.
@@ -18,22 +22,6 @@ pub enum Status {
 }
 
 impl Status {
-    /// The line that is written to standard error, empty where all went well.
-    pub fn line(&self) -> &'static [u8]
-        ensures { result.now ≡ line_of self.now }
-    {
-        match self {
-            Status::Done => b"",
-            Status::Usage => {
-                b"usage: sdd1 check CAT | graph CAT | table CAT | run CAT WORK | plain CAT WORK | make SEED N\n"
-            }
-            Status::ReadFault => b"read fault\n",
-            Status::WriteFault => b"write fault\n",
-            Status::NoMemory => b"no memory\n",
-            Status::Unbuilt => b"unbuilt\n",
-        }
-    }
-
     /// The number that the process ends with.
     pub fn number(&self) -> u8
         ensures { result ≡ number_of_status self.now }
@@ -41,6 +29,7 @@ impl Status {
         match self {
             Status::Done => 0,
             Status::Usage => 2,
+            Status::BadCatalogue(_) => 3,
             Status::ReadFault => 6,
             Status::WriteFault => 7,
             Status::NoMemory => 8,

@@ -6,6 +6,18 @@ use std::test::Fail;
 const CATALOGUE: &str =
     "tms = 1\ndms = 1\n[[relation]]\nname = \"acct\"\ncolumns = [{name = \"id\", kind = \"int\"}, {name = \"bal\", kind = \"int\"}]\nkey = \"id\"\n[[fragment]]\nname = \"all\"\nrelation = \"acct\"\ncopies = [1]\n[[class]]\nname = \"own\"\ntm = 1\nreads = [{fragment = \"all\", at = 1}]\nwrites = [\"all\"]\n";
 
+/// The same catalogue with its fields in another order, comments and blank lines.
+const LAID_OTHERWISE: &str =
+    "# accounts\ndms = 1 # one data module\ntms = 1\n\n[[class]]\nwrites = [\"all\"]\nreads = [{at = 1, fragment = \"all\"}]\nname = \"own\"\ntm = 1\n\n[[fragment]]\ncopies = [1]\nrelation = \"acct\"\nname = \"all\"\n\n[[relation]]\nkey = \"id\"\nname = \"acct\"\ncolumns = [{kind = \"int\", name = \"id\"}, {name = \"bal\", kind = \"int\"}]\n";
+
+const TWO_FRAGMENTS: &str =
+    "tms = 1\ndms = 1\n[[relation]]\nname = \"acct\"\ncolumns = [{name = \"id\", kind = \"int\"}]\nkey = \"id\"\n[[fragment]]\nname = \"low\"\nrelation = \"acct\"\nto = 9\ncopies = [1]\n[[fragment]]\nname = \"high\"\nrelation = \"acct\"\nfrom = 10\ncopies = [1]\n";
+
+const GAP: &str =
+    "tms = 1\ndms = 1\n[[relation]]\nname = \"acct\"\ncolumns = [{name = \"id\", kind = \"int\"}]\nkey = \"id\"\n[[fragment]]\nname = \"low\"\nrelation = \"acct\"\nto = 9\ncopies = [1]\n[[fragment]]\nname = \"high\"\nrelation = \"acct\"\nfrom = 11\ncopies = [1]\n";
+
+const ONE_OF_EACH: &str = "ok tms 1 dms 1 relations 1 fragments 1 classes 1\n";
+
 const USAGE: &str =
     "usage: sdd1 check CAT | graph CAT | table CAT | run CAT WORK | plain CAT WORK | make SEED N\n";
 
@@ -25,7 +37,8 @@ fn files(alloc: Global, work: &str) -> Result<Files, Fail> {
     let mut files = Vec::new(alloc);
     files.push(file(alloc, "cat", CATALOGUE)?)?;
     files.push(file(alloc, "work", work)?)?;
-    files.push(file(alloc, "other", "tms = 2\ndms = 2\n")?)?;
+    files.push(file(alloc, "two", TWO_FRAGMENTS)?)?;
+    files.push(file(alloc, "laid", LAID_OTHERWISE)?)?;
     Ok(Files::from_vec(files))
 }
 
@@ -43,7 +56,9 @@ fn statuses_and_what_is_written(rt: HostRuntime) -> Result<(), Fail> {
     // Each row: the words, the call of `out` that fails, the status, and what `out` and `err` take.
     for (line, fails, want, text, told) in [
         ("run cat work", 99, Status::Done, ANSWERED, ""),
-        ("run other work", 99, Status::Unbuilt, "", "unbuilt\n"),
+        ("run two work", 99, Status::Unbuilt, "", "unbuilt\n"),
+        ("run laid work", 99, Status::Done, ANSWERED, ""),
+        ("check cat", 99, Status::Done, ONE_OF_EACH, ""),
         ("run cat cat", 99, Status::Unbuilt, "", "unbuilt\n"),
         ("run nofile work", 99, Status::ReadFault, "", "read fault\n"),
         ("run cat nofile", 99, Status::ReadFault, "", "read fault\n"),
@@ -55,7 +70,8 @@ fn statuses_and_what_is_written(rt: HostRuntime) -> Result<(), Fail> {
             "orde",
             "write fault\n",
         ),
-        ("check cat", 99, Status::Unbuilt, "", "unbuilt\n"),
+        ("check nofile", 99, Status::ReadFault, "", "read fault\n"),
+        ("graph cat", 99, Status::Unbuilt, "", "unbuilt\n"),
         ("make 1 2048", 99, Status::Unbuilt, "", "unbuilt\n"),
     ] {
         let mut shelf = MemShelf::new(
@@ -69,6 +85,34 @@ fn statuses_and_what_is_written(rt: HostRuntime) -> Result<(), Fail> {
         let status = run_sdd1(alloc, words.as_slice(), &mut shelf, &mut out, &mut err);
         assert_eq!(rt; status, want, "at {line}");
         assert_eq!(rt; out.taken(), text.as_bytes(), "at {line}");
+        assert_eq!(rt; err.taken(), told.as_bytes(), "at {line}");
+    }
+    Ok(())
+}
+
+#[test]
+fn faults_of_catalogues_are_told(rt: HostRuntime) -> Result<(), Fail> {
+    let alloc = rt.alloc();
+    for (line, catalogue, told) in [
+        ("check bad", GAP, "catalogue: fragment 2: RangeGap\n"),
+        ("run bad work", GAP, "catalogue: fragment 2: RangeGap\n"),
+        ("check bad", "tms = ", "catalogue: top: NotToml\n"),
+        ("check bad", "", "catalogue: top: MissingField\n"),
+        (
+            "run bad nofile",
+            "tms = 17\ndms = 1\n",
+            "catalogue: top: TooMany tm\n",
+        ),
+    ] {
+        let mut all = Vec::new(alloc);
+        all.push(file(alloc, "bad", catalogue)?)?;
+        all.push(file(alloc, "work", PUT_AND_QUERY)?)?;
+        let mut shelf = SureShelf::new(Files::from_vec(all));
+        let mut out = SureSink::new(alloc, 0)?;
+        let mut err = SureSink::new(alloc, 100)?;
+        let words = words(alloc, line)?;
+        let status = run_sdd1(alloc, words.as_slice(), &mut shelf, &mut out, &mut err);
+        assert_eq!(rt; status.number(), 3, "at {line}");
         assert_eq!(rt; err.taken(), told.as_bytes(), "at {line}");
     }
     Ok(())

@@ -1,0 +1,125 @@
+//! The line on standard error. Writing it takes no memory.
+ghost use Rattle.std.specs.Prelude.{◌≡◌, ◌++◌, flat_map};
+ghost use Rattle.sdd_app.specs.Answer.{TakesOrFaults};
+ghost use Rattle.sdd_app.specs.Status.{part_word, number_word, rule_word, counted_word, counted_words, line_of, fault_line};
+
+use crate::status::Status;
+use itoa::Buffer;
+use sdd_base::{Sink, write_text};
+use sdd_catalog::{CatFault, CatRule, Counted, Part};
+
+const USAGE: &[u8] =
+    b"usage: sdd1 check CAT | graph CAT | table CAT | run CAT WORK | plain CAT WORK | make SEED N\n";
+
+/// Writes pieces one after the other, until a call fails.
+fn tell_pieces<E: Sink>(err: &mut E, pieces: &[&[u8]])
+    ensures { TakesOrFaults (E.taken err.old) (E.taken err.new) (E.faults err.old) (E.faults err.new) (flat_map (λ p. p.now) pieces.now) }
+{
+    'pieces: for piece in pieces {
+        match write_text(err, piece) {
+            Ok(()) => {}
+            Err(_) => return,
+        }
+    }
+}
+
+/// The word for the part, before its number where it has one.
+fn word_for_part(part: Part) -> &'static [u8]
+    ensures { result.now ≡ part_word part }
+{
+    match part {
+        Part::Top => b"top",
+        Part::Relation => b"relation ",
+        Part::Fragment => b"fragment ",
+        Part::Class => b"class ",
+    }
+}
+
+fn word_for_rule(rule: CatRule) -> &'static [u8]
+    ensures { result.now ≡ rule_word rule }
+{
+    match rule {
+        CatRule::TooMany(_) => b"TooMany",
+        CatRule::DuplicateName => b"DuplicateName",
+        CatRule::UnknownName => b"UnknownName",
+        CatRule::BadKey => b"BadKey",
+        CatRule::RangeGap => b"RangeGap",
+        CatRule::RangeOverlap => b"RangeOverlap",
+        CatRule::NoCopy => b"NoCopy",
+        CatRule::ReadsWhereNoCopy => b"ReadsWhereNoCopy",
+        CatRule::NotToml => b"NotToml",
+        CatRule::MissingField => b"MissingField",
+        CatRule::WrongKind => b"WrongKind",
+        CatRule::UnknownField => b"UnknownField",
+        CatRule::TooLong => b"TooLong",
+        CatRule::TooFew(_) => b"TooFew",
+    }
+}
+
+fn word_for_counted(counted: Counted) -> &'static [u8]
+    ensures { result.now ≡ counted_word counted }
+{
+    match counted {
+        Counted::Tm => b" tm",
+        Counted::Dm => b" dm",
+        Counted::Relation => b" relation",
+        Counted::Column => b" column",
+        Counted::Fragment => b" fragment",
+        Counted::Class => b" class",
+        Counted::Read => b" read",
+    }
+}
+
+/// What was counted, where something was.
+fn word_for_count(rule: CatRule) -> &'static [u8]
+    ensures { result.now ≡ counted_words rule }
+{
+    match rule {
+        CatRule::TooMany(counted) => word_for_counted(counted),
+        CatRule::TooFew(counted) => word_for_counted(counted),
+        _ => b"",
+    }
+}
+
+/// The number of the part, where it has one.
+fn number_piece<'a>(buffer: &'a mut Buffer, fault: CatFault) -> &'a [u8]
+    ensures { result.now ≡ number_word fault.part fault.no }
+{
+    match fault.part {
+        Part::Top => b"",
+        _ => buffer.format(fault.no).as_bytes(),
+    }
+}
+
+fn tell_fault<E: Sink>(err: &mut E, fault: CatFault)
+    ensures { TakesOrFaults (E.taken err.old) (E.taken err.new) (E.faults err.old) (E.faults err.new) (fault_line fault) }
+{
+    let mut buffer = Buffer::new();
+    tell_pieces(
+        err,
+        &[
+            b"catalogue: ",
+            word_for_part(fault.part),
+            number_piece(&mut buffer, fault),
+            b": ",
+            word_for_rule(fault.rule),
+            word_for_count(fault.rule),
+            b"\n",
+        ],
+    );
+}
+
+/// Writes the status's line.
+pub fn tell<E: Sink>(err: &mut E, status: Status)
+    ensures { TakesOrFaults (E.taken err.old) (E.taken err.new) (E.faults err.old) (E.faults err.new) (line_of status) }
+{
+    match status {
+        Status::Done => tell_pieces(err, &[]),
+        Status::Usage => tell_pieces(err, &[USAGE]),
+        Status::BadCatalogue(fault) => tell_fault(err, fault),
+        Status::ReadFault => tell_pieces(err, &[b"read fault\n"]),
+        Status::WriteFault => tell_pieces(err, &[b"write fault\n"]),
+        Status::NoMemory => tell_pieces(err, &[b"no memory\n"]),
+        Status::Unbuilt => tell_pieces(err, &[b"unbuilt\n"]),
+    }
+}
