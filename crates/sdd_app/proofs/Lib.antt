@@ -15,6 +15,7 @@ pub mod Meaning
 pub mod Outcomes
 pub mod Submitted
 pub mod Told
+pub mod TextPieces
 pub mod FirstCatalogue
 pub mod CatalogueReads
 pub mod Runs

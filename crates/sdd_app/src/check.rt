@@ -14,30 +14,30 @@ use sdd_catalog::Catalogue;
 use std::alloc::Global;
 
 /// Adds how many modules there are of each sort.
-fn put_modules(text: &mut Vec<u8>, catalogue: &Catalogue) -> Result<(), NoMemory>
-    ensures { OnOk result (text.new.items ≡ text.old.items ++ module_counts catalogue.now) }
+fn put_modules(text: &mut Vec<u8>, tms: u32, dms: u32) -> Result<(), NoMemory>
+    ensures { OnOk result (text.new.items ≡ text.old.items ++ module_counts tms dms) }
 {
     put(text, b"ok tms ")?;
-    put_count(text, catalogue.tms() as usize)?;
+    put_count(text, tms as usize)?;
     put(text, b" dms ")?;
-    put_count(text, catalogue.dms() as usize)
+    put_count(text, dms as usize)
 }
 
 /// Adds how many relations and fragments there are.
-fn put_parts(text: &mut Vec<u8>, catalogue: &Catalogue) -> Result<(), NoMemory>
-    ensures { OnOk result (text.new.items ≡ text.old.items ++ part_counts catalogue.now) }
+fn put_parts(text: &mut Vec<u8>, relations: u32, fragments: u32) -> Result<(), NoMemory>
+    ensures { OnOk result (text.new.items ≡ text.old.items ++ part_counts relations fragments) }
 {
     put(text, b" relations ")?;
-    put_count(text, catalogue.relations() as usize)?;
+    put_count(text, relations as usize)?;
     put(text, b" fragments ")?;
-    put_count(text, catalogue.fragments() as usize)
+    put_count(text, fragments as usize)
 }
 
-fn put_classes(text: &mut Vec<u8>, catalogue: &Catalogue) -> Result<(), NoMemory>
-    ensures { OnOk result (text.new.items ≡ text.old.items ++ class_count catalogue.now) }
+fn put_classes(text: &mut Vec<u8>, classes: u32) -> Result<(), NoMemory>
+    ensures { OnOk result (text.new.items ≡ text.old.items ++ class_count classes) }
 {
     put(text, b" classes ")?;
-    put_count(text, catalogue.classes() as usize)?;
+    put_count(text, classes as usize)?;
     put(text, b"\n")
 }
 
@@ -46,9 +46,9 @@ fn counts(alloc: Global, catalogue: &Catalogue) -> Result<Vec<u8>, NoMemory>
     ensures { IfOk result (λ v. v.items ≡ check_line catalogue.now) }
 {
     let mut text = Vec::new(alloc);
-    put_modules(&mut text, catalogue)?;
-    put_parts(&mut text, catalogue)?;
-    put_classes(&mut text, catalogue)?;
+    put_modules(&mut text, catalogue.tms(), catalogue.dms())?;
+    put_parts(&mut text, catalogue.relations(), catalogue.fragments())?;
+    put_classes(&mut text, catalogue.classes())?;
     Ok(text)
 }
 
