@@ -1,8 +1,8 @@
 -- Worked: which fault comes first, and what absence means.
-use Rattle.std.specs.Prelude.{ℕ, ℤ, pos, ◌≡◌, List, [], ◌∷◌, codes, Result, Ok, Err, refl}
+use Rattle.std.specs.Prelude.{pos, ◌≡◌, [], ◌∷◌, codes, Ok, Err, refl}
 use Rattle.std.specs.Str.{is_utf8, chars}
 use Rattle.toml.proofs.OnLiterals.{toml_on_literals}
-use Rattle.toml.specs.Data.{Data, string, integer, array, table, Items, no_items, item, Members, no_members, member}
+use Rattle.toml.specs.Data.{Data, string, integer, array, table, no_items, item, Members, no_members, member}
 use Rattle.sdd_catalog.specs.Rules.{faults_of, least_key, greatest_key}
 use Rattle.sdd_catalog.specs.declared.fault.CatRule.TheVariants.{NotToml, MissingField, WrongKind, UnknownField}
 use Rattle.sdd_catalog.specs.declared.fault.Part.TheVariants.{Relation, Fragment}

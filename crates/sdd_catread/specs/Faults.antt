@@ -1,6 +1,5 @@
 -- Readings that end at their first fault.
 use Rattle.std.specs.Prelude.{ℕ, ◌+◌, ◌≡◌, List, [], ◌∷◌, Result, Ok, Err}
-use Rattle.toml.specs.Data.{Data}
 use Rattle.sdd_catalog.specs.declared.fault.CatFault.{CatFault}
 use Rattle.sdd_catalog.specs.declared.fault.CatRule.{CatRule}
 use Rattle.sdd_catalog.specs.declared.fault.Part.{Part}

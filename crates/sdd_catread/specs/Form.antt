@@ -1,5 +1,5 @@
 -- The form of a catalogue's tables. In a table first comes whether it has a field that isn't listed, then its fields in the listed order.
-use Rattle.std.specs.Prelude.{ℕ, ℤ, List, [], ◌∷◌, codes, Option, Some, None, Result, Ok, Err}
+use Rattle.std.specs.Prelude.{List, [], ◌∷◌, codes, Option, Some, None, Result, Ok}
 use Rattle.toml.specs.Data.{Data, Members, get_member}
 use Rattle.sdd_catalog.specs.Rules.{least_key, greatest_key}
 use Rattle.sdd_catalog.specs.declared.fault.CatFault.{CatFault}

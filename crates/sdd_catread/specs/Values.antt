@@ -1,8 +1,8 @@
 -- What the values and fields of a catalogue's tables are. A reading is told the place at which its fault is.
-use Rattle.std.specs.Prelude.{ℕ, ℤ, pos, negsuc, ◌^◌, nat_lt, Bool, true, false, ◌&&◌, if◌then◌else◌, List, [], ◌∷◌, codes, Option, Some, None, is_some, Result, Ok, Err}
+use Rattle.std.specs.Prelude.{ℕ, ℤ, pos, ◌^◌, nat_lt, Bool, true, ◌&&◌, if◌then◌else◌, List, [], ◌∷◌, codes, Option, Some, None, is_some, Result, Ok, Err}
 use Rattle.std.specs.List.{list_any, list_all}
 use Rattle.std.specs.Str.{bytes_eq}
-use Rattle.toml.specs.Data.{Data, string, integer, float, boolean, datetime, array, table, Items, no_items, item, Members, no_members, member, as_table}
+use Rattle.toml.specs.Data.{Data, string, integer, array, table, Items, no_items, item, Members, no_members, member, as_table}
 use Rattle.sdd_base.specs.Name.{is_name}
 use Rattle.sdd_catalog.specs.declared.fault.CatFault.{CatFault}
 use Rattle.sdd_catalog.specs.declared.fault.CatRule.TheVariants.{WrongKind, MissingField, UnknownField}

@@ -1,6 +1,5 @@
 use super::*;
-use sdd_base::{ClassNo, FragNo, RelNo};
-use sdd_catalog::{CatError, CatFault, CatRule, Counted, Kind, Part};
+use sdd_catalog::{CatError, CatFault, CatRule, ClassPart, Counted, Kind, Part};
 use std::alloc::Global;
 use std::test::Fail;
 
@@ -32,20 +31,27 @@ fn a_catalogue_is_read(rt: HostRuntime) -> Result<(), Fail> {
     let single = read_catalogue(rt.alloc(), SINGLE.as_bytes())?;
     assert_eq!(rt; (single.tms(), single.dms(), single.relations()), (1, 1, 1));
     assert_eq!(rt; (single.fragments(), single.classes()), (1, 1));
-    let split = read_catalogue(rt.alloc(), SPLIT.as_bytes())?;
-    let item = split.relation(RelNo(1));
-    assert_eq!(rt; (item.name.as_str(), item.key), ("item", 2));
-    assert_eq!(rt; item.columns.as_slice()[0].kind, Kind::Text);
-    let (a, b) = (split.fragment(FragNo(1)), split.fragment(FragNo(2)));
-    assert_eq!(rt; (a.least, a.greatest), (i64::MIN, 9));
-    assert_eq!(rt; (b.least, b.greatest), (10, i64::MAX));
-    let (wr, rd) = (split.class(ClassNo(1)), split.class(ClassNo(2)));
-    assert_eq!(rt; (wr.tm, wr.reads.as_slice().len()), (1, 0));
-    assert_eq!(rt;
-        (rd.reads.as_slice()[0], rd.writes.as_slice().len()),
-        ((1, 1), 0)
-    );
+    let parts = read_catalogue(rt.alloc(), SPLIT.as_bytes())?.parts()?;
+    for item in parts.relations.as_slice() {
+        assert_eq!(rt; (item.name.as_str(), item.key.as_str()), ("item", "id"));
+        let kinds = item.columns.as_slice().iter().map(|column| column.kind);
+        assert!(rt; kinds.eq([Kind::Text, Kind::Int]));
+    }
+    let bounds = parts
+        .fragments
+        .as_slice()
+        .iter()
+        .map(|part| (part.from, part.to));
+    assert!(rt; bounds.eq([(i64::MIN, 9), (10, i64::MAX)]));
+    let lists = parts.classes.as_slice().iter().map(lengths);
+    assert!(rt; lists.eq([(1, 0, 1), (2, 1, 0)]));
     Ok(())
+}
+
+/// The module of a class, and how much it reads and writes.
+fn lengths(class: &ClassPart) -> (u32, usize, usize) {
+    let reads = class.reads.as_slice().len();
+    (class.tm, reads, class.writes.as_slice().len())
 }
 
 #[test]
@@ -222,7 +228,7 @@ fn each_table_is_judged_in_order(rt: HostRuntime) -> Result<(), Fail> {
 /// The bytes, and one comment that makes them so long.
 fn padded(alloc: Global, bytes: &[u8], length: usize) -> Result<Vec<u8>, Fail> {
     let mut all = Vec::from_slice(alloc, bytes)?;
-    while all.len() < length {
+    for _ in bytes.len()..length {
         all.push(b'#')?;
     }
     Ok(all)
