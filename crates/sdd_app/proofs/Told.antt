@@ -1,10 +1,10 @@
 -- What is told of a sink and of files, by cases.
-use Rattle.std.proofs.Common.{◌≡◌, ℕ, zero, suc, flat_map, slice_index_or, ◌∷◌, [], ◌++◌, drop, None, refl, ap, append_assoc, append-nil, ◌+◌, ◌<◌, ◌≤◌, List, length, take, Option, Some, Result, Ok, Err, sym, ◌∙◌, arith, subst, inl, inr}
+use Rattle.std.proofs.Common.{◌≡◌, ℕ, zero, suc, flat_map, slice_index_or, ◌∷◌, [], ◌++◌, drop, None, refl, ap, append_assoc, append-nil, ◌+◌, ◌<◌, ◌≤◌, List, length, take, Option, Some, sym, ◌∙◌, arith, subst, inl, inr}
 use Rattle.std.proofs.lemmas.Bool.{cases_lt}
-use Rattle.std.specs.Prelude.{IfSome, OnOk, OnErr}
+use Rattle.std.specs.Prelude.{IfSome}
 use Rattle.std.proofs.lemmas.List.{take_all, take-append-drop}
 use Rattle.std.proofs.Math.Seq.{take-append_seam}
-use Rattle.sdd_base.specs.Outside.{HasCause, ReadsTo, Rose, with_end}
+use Rattle.sdd_base.specs.Outside.{ReadsTo, Rose, with_end}
 use Rattle.sdd_app.specs.Answer.{TakesOrFaults}
 
 -- what a sink took grows by nothing, and by one text after another
@@ -26,9 +26,9 @@ rose_since f g h a b = omega arith
 seam : (text front piece rest : List ℕ) (n : ℕ) → text ≡ (front ++ piece) ++ rest → take (length (front ++ take n piece)) text ≡ front ++ take n piece
 seam text front piece rest n e =
     let parts : text ≡ (front ++ take n piece) ++ (drop n piece ++ rest) =
-        e ∙ ap (λ (p : List ℕ). (front ++ p) ++ rest) (sym (take-append-drop n piece))
-        ∙ ap (λ (l : List ℕ). l ++ rest) (sym (append_assoc front (take n piece) (drop n piece)))
-        ∙ append_assoc (front ++ take n piece) (drop n piece) rest in
+    e ∙ ap (λ (p : List ℕ). (front ++ p) ++ rest) (sym (take-append-drop n piece))
+    ∙ ap (λ (l : List ℕ). l ++ rest) (sym (append_assoc front (take n piece) (drop n piece)))
+    ∙ append_assoc (front ++ take n piece) (drop n piece) rest in
     rw parts (take-append_seam (front ++ take n piece) (drop n piece ++ rest))
 
 -- a front of it was taken, up to a part of a piece at which the sink failed
@@ -45,9 +45,11 @@ pub flat_map_at : {X : Type 0} (f : X → List ℕ) (xs : List X) (i : ℕ) (d :
 flat_map_at f [] i d lt = absurd (omega arith)
 flat_map_at f (x ∷ xs) zero d lt = (flat_map f xs, refl)
 flat_map_at f (x ∷ xs) (suc i) d lt =
-    let k = flat_map_at f xs i d (omega arith) in
-    (k.0, ap (λ (l : List ℕ). f x ++ l) k.1 ∙ sym (append_assoc (f x) (flat_map f (take i xs) ++ f (slice_index_or xs i d)) k.0)
-        ∙ ap (λ (l : List ℕ). l ++ k.0) (sym (append_assoc (f x) (flat_map f (take i xs)) (f (slice_index_or xs i d)))))
+    let k = flat_map_at f xs i d (omega arith) in (
+      k.0,
+      ap (λ (l : List ℕ). f x ++ l) k.1 ∙ sym (append_assoc (f x) (flat_map f (take i xs) ++ f (slice_index_or xs i d)) k.0)
+          ∙ ap (λ (l : List ℕ). l ++ k.0) (sym (append_assoc (f x) (flat_map f (take i xs)) (f (slice_index_or xs i d)))),
+    )
 
 abbrev told_bytes : List ℕ → Option (List ℕ)
 told_bytes bytes = Some bytes

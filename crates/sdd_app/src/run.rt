@@ -97,8 +97,9 @@ fn answer<S: Shelf>(alloc: Global, words: &[String], shelf: &mut S) -> Result<Ve
 /// Does all that the program does: takes the words behind the program's name, reads the files that
 /// they name from the shelf, writes the whole text to `out` or else the status's line to `err`.
 ///
-/// At most two of the shelf's places are taken. Nothing is written before the text is whole. Time is
-/// linear in the files but for one look-up in the rows for each put.
+/// The words are judged first, then the catalogue is read and judged, then the workload. At most two
+/// of the shelf's places are taken. Nothing is written before the text is whole. Time is linear in
+/// the files but for the square of the catalogue's parts and one look-up in the rows for each put.
 pub fn run_sdd1<S: Shelf, O: Sink, E: Sink>(
     alloc: Global,
     words: &[String],

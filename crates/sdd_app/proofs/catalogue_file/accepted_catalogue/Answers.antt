@@ -1,4 +1,4 @@
-use Rattle.std.proofs.Common.{◌≡◌, ◌∙◌, ℕ, List, Some, Ok, Err, Result, ap, length}
+use Rattle.std.proofs.Common.{◌≡◌, ◌∙◌, Some, Ok, Result, ap}
 use Rattle.sdd_base.specs.Outside.{find_file}
 use Rattle.sdd_catalog.specs.Catalogue.{Catalogue}
 use Rattle.sdd_catalog.specs.declared.fault.CatFault.{CatFault}
@@ -24,4 +24,4 @@ pub returns-clause-ended : goal.returns-clause-ended
 returns-clause-ended g c =
     let e = c.in-Ok.ensures.ended in
     on_ok_by c.judged.result (λ cat. catalogue_in c.as_slice.result.now ≡ Ok cat) _ c.judged.ensures.accepted
-        (λ cat ok. record { file = e.0; fresh = e.1; opened = e.2; ended = e.3 (rw (← c.as_slice.ensures.value) (accepted_small c.as_slice.result.now cat ok)) })
+    (λ cat ok. record { file = e.0; fresh = e.1; opened = e.2; ended = e.3 (rw (← c.as_slice.ensures.value) (accepted_small c.as_slice.result.now cat ok)) })

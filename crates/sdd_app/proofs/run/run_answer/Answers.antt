@@ -20,6 +20,6 @@ returns-clause-ended g c =
     let e = c.in-Ok.ensures.ended in
     let k = c.in-Ok-read_named.ensures.ended in
     on_ok_by c.text_for.result _ _ c.text_for.ensures.text (λ v p. two_ended
-        (g.S.Shelf.is_open c.args.shelf.now) (g.S.Shelf.is_open c.accepted_catalogue.new.shelf) (g.S.Shelf.is_open c.read_named.new.shelf)
-        (g.S.Shelf.unread c.accepted_catalogue.new.shelf) (g.S.Shelf.unread c.read_named.new.shelf) (g.S.Shelf.unread c.args.shelf.now) e.file k.0
-        e.fresh e.opened e.ended c.in-Ok.ensures.others k.1 k.2 (k.3 (rw (← c.as_slice.ensures.value) p.1)) c.in-Ok-read_named.ensures.others)
+    (g.S.Shelf.is_open c.args.shelf.now) (g.S.Shelf.is_open c.accepted_catalogue.new.shelf) (g.S.Shelf.is_open c.read_named.new.shelf)
+    (g.S.Shelf.unread c.accepted_catalogue.new.shelf) (g.S.Shelf.unread c.read_named.new.shelf) (g.S.Shelf.unread c.args.shelf.now) e.file k.0
+    e.fresh e.opened e.ended c.in-Ok.ensures.others k.1 k.2 (k.3 (rw (← c.as_slice.ensures.value) p.1)) c.in-Ok-read_named.ensures.others)

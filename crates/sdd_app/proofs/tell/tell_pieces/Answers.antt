@@ -8,11 +8,11 @@ returns-in-Err g c =
     let e = c.in-Err.ensures in
     let k = flat_map_at (λ p. p.now) c.args.pieces.now c.pieces.piece-index _ c.pieces-test.true in
     took_front (g.E.Sink.taken c.args.err.now) (g.E.Sink.taken c.pieces.err) (g.E.Sink.taken c.write_text.new.out) (g.E.Sink.faults c.args.err.now) (g.E.Sink.faults c.pieces.err) (g.E.Sink.faults c.write_text.new.out)
-        (flat_map (λ p. p.now) c.args.pieces.now) (flat_map (λ p. p.now) (take c.pieces.piece-index c.args.pieces.now)) _ k.0 e.front.0 k.1
-        c.pieces.invariant.taken c.pieces.invariant.later e.front.1 e.cause.later e.cause.failed
+    (flat_map (λ p. p.now) c.args.pieces.now) (flat_map (λ p. p.now) (take c.pieces.piece-index c.args.pieces.now)) _ k.0 e.front.0 k.1
+    c.pieces.invariant.taken c.pieces.invariant.later e.front.1 e.cause.later e.cause.failed
 
 pub returns : goal.returns
 returns g c =
     let whole : take c.pieces.piece-index c.args.pieces.now ≡ c.args.pieces.now = take_all c.pieces.piece-index c.args.pieces.now (omega (arith, c.pieces-test.false)) in
     took_all (g.E.Sink.taken c.args.err.now) (g.E.Sink.taken c.pieces.err) (g.E.Sink.faults c.args.err.now) (g.E.Sink.faults c.pieces.err) (flat_map (λ p. p.now) c.args.pieces.now)
-        (rw whole at c.pieces.invariant.taken) c.pieces.invariant.later
+    (rw whole at c.pieces.invariant.taken) c.pieces.invariant.later
