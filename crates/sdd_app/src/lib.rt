@@ -1,6 +1,6 @@
 //! The top call: all that the program does, over a shelf of files and two sinks that are handed in.
 //!
-//! `run_sdd1` is the one contract to the layer above. What a call answers is defined in
+//! `run_sdd1` is the one contract to the layer above. What a run answers is defined in
 //! `specs/Answer.antt`: the files that the words name, the catalogue that the first gives
 //! (`sdd_catread`) or its fault, what a check prints of it (`specs/Check.antt`), the workload that
 //! the second spells (`specs/First.antt`), and the text that is printed for it (`specs/Run.antt`),

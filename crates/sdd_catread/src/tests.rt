@@ -3,6 +3,8 @@ use sdd_catalog::{CatError, CatFault, CatRule, ClassPart, Counted, Kind, Part};
 use std::alloc::Global;
 use std::test::Fail;
 
+mod rules;
+
 /// One module of each kind, one relation, one fragment and one class.
 const SINGLE: &str =
     "tms = 1\ndms = 1\n[[relation]]\nname = \"acct\"\ncolumns = [{name = \"id\", kind = \"int\"}, {name = \"bal\", kind = \"int\"}]\nkey = \"id\"\n[[fragment]]\nname = \"all\"\nrelation = \"acct\"\ncopies = [1]\n[[class]]\nname = \"own\"\ntm = 1\nreads = [{fragment = \"all\", at = 1}]\nwrites = [\"all\"]\n";
@@ -11,7 +13,7 @@ const SINGLE: &str =
 const SPLIT: &str =
     "tms = 2\ndms = 1\n[[relation]]\nname = \"item\"\ncolumns = [{name = \"val\", kind = \"text\"}, {name = \"id\", kind = \"int\"}]\nkey = \"id\"\n[[fragment]]\nname = \"a\"\nrelation = \"item\"\nto = 9\ncopies = [1]\n[[fragment]]\nname = \"b\"\nrelation = \"item\"\nfrom = 10\ncopies = [1]\n[[class]]\nname = \"wr\"\ntm = 1\nwrites = [\"a\"]\n[[class]]\nname = \"rd\"\ntm = 2\nreads = [{fragment = \"a\", at = 1}]\n";
 
-fn reading(alloc: Global, bytes: &[u8]) -> Option<CatFault> {
+fn fault_of(alloc: Global, bytes: &[u8]) -> Option<CatFault> {
     match read_catalogue(alloc, bytes) {
         Err(CatError::Fault(fault)) => Some(fault),
         _ => None,
@@ -76,7 +78,7 @@ fn the_top_table_is_judged_by_itself_first(rt: HostRuntime) {
         ("tms = 0\ndms = 1", CatRule::TooFew(Counted::Tm)),
     ] {
         assert_eq!(rt;
-            reading(rt.alloc(), text.as_bytes()),
+            fault_of(rt.alloc(), text.as_bytes()),
             at_top(rule),
             "{text}"
         );
@@ -217,7 +219,7 @@ fn each_table_is_judged_in_order(rt: HostRuntime) -> Result<(), Fail> {
     ] {
         let text = format!(in rt.alloc(); "tms = 1\ndms = 1\n{tables}\n")?;
         assert_eq!(rt;
-            reading(rt.alloc(), text.as_bytes()),
+            fault_of(rt.alloc(), text.as_bytes()),
             at(part, no, rule),
             "{tables}"
         );
@@ -243,7 +245,7 @@ fn a_file_has_at_most_a_mebibyte(rt: HostRuntime) -> Result<(), Fail> {
         ("tms = ", 1048576, at_top(CatRule::NotToml)),
     ] {
         let bytes = padded(rt.alloc(), start.as_bytes(), length)?;
-        assert_eq!(rt; reading(rt.alloc(), bytes.as_slice()), fault, "{length}");
+        assert_eq!(rt; fault_of(rt.alloc(), bytes.as_slice()), fault, "{length}");
     }
     Ok(())
 }
@@ -277,7 +279,7 @@ fn the_edges_of_toml(rt: HostRuntime) -> Result<(), Fail> {
             CatRule::UnknownField,
         ),
     ] {
-        let found = reading(rt.alloc(), text.as_bytes()).map(|fault| fault.rule);
+        let found = fault_of(rt.alloc(), text.as_bytes()).map(|fault| fault.rule);
         assert_eq!(rt; found, Some(rule), "{text}");
     }
     for bytes in [
@@ -285,7 +287,7 @@ fn the_edges_of_toml(rt: HostRuntime) -> Result<(), Fail> {
         b"# \xed\xa0\x80".as_slice(),
         b"# \xc3".as_slice(),
     ] {
-        assert_eq!(rt; reading(rt.alloc(), bytes), at_top(CatRule::NotToml));
+        assert_eq!(rt; fault_of(rt.alloc(), bytes), at_top(CatRule::NotToml));
     }
     Ok(())
 }
@@ -306,14 +308,14 @@ fn values_and_keys_nest_eighty_deep(rt: HostRuntime) -> Result<(), Fail> {
         let closed = repeated(rt.alloc(), "]", deep)?;
         let arrays = format!(in rt.alloc(); "x = {open}{closed}")?;
         assert_eq!(rt;
-            reading(rt.alloc(), arrays.as_bytes()),
+            fault_of(rt.alloc(), arrays.as_bytes()),
             at_top(rule),
             "{deep} arrays"
         );
         let keys = repeated(rt.alloc(), "x.", deep - 1)?;
         let dotted = format!(in rt.alloc(); "{keys}x = 1")?;
         assert_eq!(rt;
-            reading(rt.alloc(), dotted.as_bytes()),
+            fault_of(rt.alloc(), dotted.as_bytes()),
             at_top(rule),
             "{deep} keys"
         );
