@@ -1,0 +1,12 @@
+use sdd_base::{ClassNo, FragNo};
+
+/// An edge of the conflict graph. Class i has the nodes r_i, its read set, and w_i, its write set.
+#[derive(Clone, Copy, Debug, PartialEq, Eq)]
+pub enum Edge {
+    /// Between the two nodes of a class.
+    Vertical(ClassNo),
+    /// Between w_i and w_j, i < j: both classes write some fragment.
+    Horizontal(ClassNo, ClassNo),
+    /// Between r_i and w_j: class i reads the fragment and class j writes it.
+    Diagonal(ClassNo, ClassNo, FragNo),
+}

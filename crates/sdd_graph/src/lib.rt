@@ -1,0 +1,9 @@
+//! The conflict graph of a catalogue: which classes touch which fragments of which others.
+//!
+//! The one contract to the layer above is the list of edges in their order, as `specs/Graph.antt`
+//! defines it, and the numbers of the nodes that each edge joins.
+#![tactic(auto)]
+
+mod edge;
+
+pub use edge::Edge;

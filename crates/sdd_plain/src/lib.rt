@@ -1,0 +1,2 @@
+//! One database without copies, on which transactions run one after the other.
+#![tactic(auto)]

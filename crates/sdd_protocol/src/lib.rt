@@ -1,0 +1,11 @@
+//! The protocol table: which reads have to wait for which classes, and up to which time.
+//!
+//! The one contract to the layer above is the table of a catalogue, as `specs/Protocols.antt` defines it,
+//! and the read conditions of an attempt, as `specs/Conditions.antt` defines them.
+#![tactic(auto)]
+
+mod entry;
+mod protocol;
+
+pub use entry::Entry;
+pub use protocol::Protocol;

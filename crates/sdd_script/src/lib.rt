@@ -1,0 +1,2 @@
+//! The workload file: its reader, which tells the first fault, and its writer.
+#![tactic(auto)]
