@@ -2,6 +2,7 @@
 use Rattle.std.proofs.Common.{◌≡◌, ◌≢◌, ◌∷◌, ℕ, ◌^◌, ◌≤◌, List, [], length, Option, Some, Result, Ok, Err, refl, ap, sym, ◌∙◌, subst, arith, ◌⊎◌, inl, inr}
 use Rattle.std.specs.Prelude.{IsSome, IsErrOf, IsTrue, IfSome}
 use Rattle.sdd_app.specs.declared.first.FirstWork.{FirstWork}
+use Rattle.sdd_app.specs.declared.listing.Listing.TheVariants as listings
 use Rattle.sdd_app.specs.declared.status.Status.{Status}
 use Rattle.sdd_app.specs.declared.status.Status.TheVariants.{Done, Usage, BadCatalogue, ReadFault, WriteFault, NoMemory, Unbuilt}
 use Rattle.sdd_base.specs.declared.files.ShelfFile.{ShelfFile}
@@ -9,7 +10,7 @@ use Rattle.sdd_base.specs.Outside.{ReadsTo, KeepsOpen, find_file}
 use Rattle.sdd_catalog.specs.Catalogue.{Catalogue}
 use Rattle.sdd_catalog.specs.declared.fault.CatFault.{CatFault}
 use Rattle.sdd_app.specs.Command.{Form, Check, Graph, Table, Run, Plain, Make, IsNoForm, IsForm, words_of}
-use Rattle.sdd_app.specs.Answer.{Answers, AnswersCheck, AnswersRun, AnswersForm, HasFault, FaultOf, IsUnbuilt, IsUnbuiltRun, TwoAtTheirEnds, catalogue_named}
+use Rattle.sdd_app.specs.Answer.{Answers, AnswersListing, AnswersRun, AnswersForm, HasFault, FaultOf, IsUnbuilt, IsUnbuiltRun, TwoAtTheirEnds, catalogue_named}
 use Rattle.sdd_app.specs.First.{first_catalogue, is_first_work, spelling}
 use Rattle.sdd_app.specs.Run.{report_of}
 use Rattle.sdd_app.proofs.Told.{reads_back}
@@ -72,6 +73,22 @@ third_word [] = []
 other_code : {A : Type 0} (a b : ℕ) → a ≡ b → a ≢ b → A
 other_code a b e differ = absurd (differ e)
 
+graph_form : (cat : List ℕ) (g : Form) → words_of (Graph cat) ≡ words_of g → g ≡ Graph cat
+graph_form cat (Check c) e = other_code 103 99 (ap first_code e) (omega arith)
+graph_form cat (Graph c) e = ap (λ (x : List ℕ). Graph x) (sym (ap second_word e))
+graph_form cat (Table c) e = other_code 103 116 (ap first_code e) (omega arith)
+graph_form cat (Run c w) e = other_code 103 114 (ap first_code e) (omega arith)
+graph_form cat (Plain c w) e = other_code 103 112 (ap first_code e) (omega arith)
+graph_form cat (Make s n) e = other_code 103 109 (ap first_code e) (omega arith)
+
+table_form : (cat : List ℕ) (g : Form) → words_of (Table cat) ≡ words_of g → g ≡ Table cat
+table_form cat (Check c) e = other_code 116 99 (ap first_code e) (omega arith)
+table_form cat (Graph c) e = other_code 116 103 (ap first_code e) (omega arith)
+table_form cat (Table c) e = ap (λ (x : List ℕ). Table x) (sym (ap second_word e))
+table_form cat (Run c w) e = other_code 116 114 (ap first_code e) (omega arith)
+table_form cat (Plain c w) e = other_code 116 112 (ap first_code e) (omega arith)
+table_form cat (Make s n) e = other_code 116 109 (ap first_code e) (omega arith)
+
 check_form : (cat : List ℕ) (g : Form) → words_of (Check cat) ≡ words_of g → g ≡ Check cat
 check_form cat (Check c) e = ap (λ (x : List ℕ). Check x) (sym (ap second_word e))
 check_form cat (Graph c) e = other_code 99 103 (ap first_code e) (omega arith)
@@ -88,15 +105,27 @@ run_form cat work (Run c w) e = ap (λ (x : List ℕ). Run x w) (sym (ap second_
 run_form cat work (Plain c w) e = other_code 114 112 (ap first_code e) (omega arith)
 run_form cat work (Make s n) e = other_code 114 109 (ap first_code e) (omega arith)
 
--- what is answered to the words of a check and of a run
-pub answers_check : (fs : List ShelfFile) (ws : List (List ℕ)) (cat text : List ℕ) → ws ≡ words_of (Check cat) → Answers fs ws text → AnswersCheck fs cat text
+-- what is answered to the words of a command that reads a catalogue alone, and of a run
+pub answers_check : (fs : List ShelfFile) (ws : List (List ℕ)) (cat text : List ℕ) → ws ≡ words_of (Check cat) → Answers fs ws text → AnswersListing fs listings.Counts cat text
 answers_check fs ws cat text words a = subst (λ g. AnswersForm fs g text) (check_form cat a.form (sym words ∙ a.words)) a.answers
+
+pub answers_graph : (fs : List ShelfFile) (ws : List (List ℕ)) (cat text : List ℕ) → ws ≡ words_of (Graph cat) → Answers fs ws text → AnswersListing fs listings.Graph cat text
+answers_graph fs ws cat text words a = subst (λ g. AnswersForm fs g text) (graph_form cat a.form (sym words ∙ a.words)) a.answers
+
+pub answers_table : (fs : List ShelfFile) (ws : List (List ℕ)) (cat text : List ℕ) → ws ≡ words_of (Table cat) → Answers fs ws text → AnswersListing fs listings.Table cat text
+answers_table fs ws cat text words a = subst (λ g. AnswersForm fs g text) (table_form cat a.form (sym words ∙ a.words)) a.answers
 
 pub answers_run : (fs : List ShelfFile) (ws : List (List ℕ)) (cat work text : List ℕ) → ws ≡ words_of (Run cat work) → Answers fs ws text → AnswersRun fs cat work text
 answers_run fs ws cat work text words a = subst (λ g. AnswersForm fs g text) (run_form cat work a.form (sym words ∙ a.words)) a.answers
 
 pub fault_of_check : (fs : List ShelfFile) (ws : List (List ℕ)) (cat : List ℕ) (f : CatFault) → ws ≡ words_of (Check cat) → HasFault fs ws f → catalogue_named fs cat ≡ Some (Err f)
 fault_of_check fs ws cat f words h = subst (λ g. FaultOf fs g f) (check_form cat h.form (sym words ∙ h.words)) h.has
+
+pub fault_of_graph : (fs : List ShelfFile) (ws : List (List ℕ)) (cat : List ℕ) (f : CatFault) → ws ≡ words_of (Graph cat) → HasFault fs ws f → catalogue_named fs cat ≡ Some (Err f)
+fault_of_graph fs ws cat f words h = subst (λ g. FaultOf fs g f) (graph_form cat h.form (sym words ∙ h.words)) h.has
+
+pub fault_of_table : (fs : List ShelfFile) (ws : List (List ℕ)) (cat : List ℕ) (f : CatFault) → ws ≡ words_of (Table cat) → HasFault fs ws f → catalogue_named fs cat ≡ Some (Err f)
+fault_of_table fs ws cat f words h = subst (λ g. FaultOf fs g f) (table_form cat h.form (sym words ∙ h.words)) h.has
 
 pub fault_of_run : (fs : List ShelfFile) (ws : List (List ℕ)) (cat work : List ℕ) (f : CatFault) → ws ≡ words_of (Run cat work) → HasFault fs ws f → catalogue_named fs cat ≡ Some (Err f)
 fault_of_run fs ws cat work f words h = subst (λ g. FaultOf fs g f) (run_form cat work h.form (sym words ∙ h.words)) h.has
@@ -105,8 +134,8 @@ fault_of_run fs ws cat work f words h = subst (λ g. FaultOf fs g f) (run_form c
 fault_and_answer : (fs : List ShelfFile) (ws : List (List ℕ)) (text : List ℕ) (f : CatFault) (form : Form) → ws ≡ words_of form → AnswersForm fs form text → HasFault fs ws f → ⊥
 fault_and_answer fs ws text f (Check cat) words a h = no_fault fs cat a.says f a.accepted (fault_of_check fs ws cat f words h)
 fault_and_answer fs ws text f (Run cat work) words a h = no_fault fs cat first_catalogue f a.accepted (fault_of_run fs ws cat work f words h)
-fault_and_answer fs ws text f (Graph cat) words a h = absurd a
-fault_and_answer fs ws text f (Table cat) words a h = absurd a
+fault_and_answer fs ws text f (Graph cat) words a h = no_fault fs cat a.says f a.accepted (fault_of_graph fs ws cat f words h)
+fault_and_answer fs ws text f (Table cat) words a h = no_fault fs cat a.says f a.accepted (fault_of_table fs ws cat f words h)
 fault_and_answer fs ws text f (Plain cat work) words a h = absurd a
 fault_and_answer fs ws text f (Make s n) words a h = absurd a
 
@@ -117,8 +146,8 @@ answered_without_fault fs ws text f a h = fault_and_answer fs ws text f a.form a
 one_fault_at : (fs : List ShelfFile) (ws : List (List ℕ)) (f g : CatFault) (form : Form) → ws ≡ words_of form → FaultOf fs form f → HasFault fs ws g → f ≡ g
 one_fault_at fs ws f g (Check cat) words a h = one_faulty f g (catalogue_named fs cat) a (fault_of_check fs ws cat g words h)
 one_fault_at fs ws f g (Run cat work) words a h = one_faulty f g (catalogue_named fs cat) a (fault_of_run fs ws cat work g words h)
-one_fault_at fs ws f g (Graph cat) words a h = absurd a
-one_fault_at fs ws f g (Table cat) words a h = absurd a
+one_fault_at fs ws f g (Graph cat) words a h = one_faulty f g (catalogue_named fs cat) a (fault_of_graph fs ws cat g words h)
+one_fault_at fs ws f g (Table cat) words a h = one_faulty f g (catalogue_named fs cat) a (fault_of_table fs ws cat g words h)
 one_fault_at fs ws f g (Plain cat work) words a h = absurd a
 one_fault_at fs ws f g (Make s n) words a h = absurd a
 
@@ -129,47 +158,84 @@ one_fault fs ws f g a h = one_fault_at fs ws f g a.form a.words a.has h
 answered_form : (fs : List ShelfFile) (text : List ℕ) (form : Form) → AnswersForm fs form text → IsForm form
 answered_form fs text (Check cat) a = tt
 answered_form fs text (Run cat work) a = tt
-answered_form fs text (Graph cat) a = absurd a
-answered_form fs text (Table cat) a = absurd a
+answered_form fs text (Graph cat) a = tt
+answered_form fs text (Table cat) a = tt
 answered_form fs text (Plain cat work) a = absurd a
 answered_form fs text (Make s n) a = absurd a
 
 faulty_form : (fs : List ShelfFile) (f : CatFault) (form : Form) → FaultOf fs form f → IsForm form
 faulty_form fs f (Check cat) a = tt
 faulty_form fs f (Run cat work) a = tt
-faulty_form fs f (Graph cat) a = absurd a
-faulty_form fs f (Table cat) a = absurd a
+faulty_form fs f (Graph cat) a = tt
+faulty_form fs f (Table cat) a = tt
 faulty_form fs f (Plain cat work) a = absurd a
 faulty_form fs f (Make s n) a = absurd a
 
-no_answer : (fs : List ShelfFile) (text : List ℕ) (form g : Form) → ((cat : List ℕ) → words_of form ≡ words_of (Check cat) → ⊥) → ((cat work : List ℕ) → words_of form ≡ words_of (Run cat work) → ⊥)
-    → words_of form ≡ words_of g → AnswersForm fs g text → ⊥
-no_answer fs text form (Check cat) no_check no_run e a = no_check cat e
-no_answer fs text form (Run cat work) no_check no_run e a = no_run cat work e
-no_answer fs text form (Graph cat) no_check no_run e a = a
-no_answer fs text form (Table cat) no_check no_run e a = a
-no_answer fs text form (Plain cat work) no_check no_run e a = a
-no_answer fs text form (Make s n) no_check no_run e a = a
+-- whether a command of this form is built
+abbrev IsBuilt : Form → Type 0
+IsBuilt (Check cat) = Unit {0}
+IsBuilt (Graph cat) = Unit {0}
+IsBuilt (Table cat) = Unit {0}
+IsBuilt (Run cat work) = Unit {0}
+IsBuilt (Plain cat work) = ⊥
+IsBuilt (Make seed count) = ⊥
 
-no_fault_of : (fs : List ShelfFile) (f : CatFault) (form g : Form) → ((cat : List ℕ) → words_of form ≡ words_of (Check cat) → ⊥) → ((cat work : List ℕ) → words_of form ≡ words_of (Run cat work) → ⊥)
-    → words_of form ≡ words_of g → FaultOf fs g f → ⊥
-no_fault_of fs f form (Check cat) no_check no_run e a = no_check cat e
-no_fault_of fs f form (Run cat work) no_check no_run e a = no_run cat work e
-no_fault_of fs f form (Graph cat) no_check no_run e a = a
-no_fault_of fs f form (Table cat) no_check no_run e a = a
-no_fault_of fs f form (Plain cat work) no_check no_run e a = a
-no_fault_of fs f form (Make s n) no_check no_run e a = a
+answers_built : (fs : List ShelfFile) (text : List ℕ) (g : Form) → AnswersForm fs g text → IsBuilt g
+answers_built fs text (Check cat) a = tt
+answers_built fs text (Graph cat) a = tt
+answers_built fs text (Table cat) a = tt
+answers_built fs text (Run cat work) a = tt
+answers_built fs text (Plain cat work) a = a
+answers_built fs text (Make s n) a = a
 
--- words of another form are unbuilt
-pub other_form : (fs : List ShelfFile) (ws : List (List ℕ)) (form : Form) → IsForm form → ws ≡ words_of form
-    → ((cat : List ℕ) → words_of form ≡ words_of (Check cat) → ⊥) → ((cat work : List ℕ) → words_of form ≡ words_of (Run cat work) → ⊥) → IsUnbuilt fs ws
-other_form fs ws form is words no_check no_run = record {
+fault_built : (fs : List ShelfFile) (f : CatFault) (g : Form) → FaultOf fs g f → IsBuilt g
+fault_built fs f (Check cat) a = tt
+fault_built fs f (Graph cat) a = tt
+fault_built fs f (Table cat) a = tt
+fault_built fs f (Run cat work) a = tt
+fault_built fs f (Plain cat work) a = a
+fault_built fs f (Make s n) a = a
+
+-- the words of the two commands that are not built are those of no other
+plain_form : (cat work : List ℕ) (g : Form) → words_of (Plain cat work) ≡ words_of g → IsBuilt g → ⊥
+plain_form cat work (Check c) e b = other_code 112 99 (ap first_code e) (omega arith)
+plain_form cat work (Graph c) e b = other_code 112 103 (ap first_code e) (omega arith)
+plain_form cat work (Table c) e b = other_code 112 116 (ap first_code e) (omega arith)
+plain_form cat work (Run c w) e b = other_code 112 114 (ap first_code e) (omega arith)
+plain_form cat work (Plain c w) e b = b
+plain_form cat work (Make s n) e b = b
+
+make_form : (seed count : ℕ) (g : Form) → words_of (Make seed count) ≡ words_of g → IsBuilt g → ⊥
+make_form seed count (Check c) e b = other_code 109 99 (ap first_code e) (omega arith)
+make_form seed count (Graph c) e b = other_code 109 103 (ap first_code e) (omega arith)
+make_form seed count (Table c) e b = other_code 109 116 (ap first_code e) (omega arith)
+make_form seed count (Run c w) e b = other_code 109 114 (ap first_code e) (omega arith)
+make_form seed count (Plain c w) e b = b
+make_form seed count (Make s n) e b = b
+
+unbuilt_form : (form g : Form) → (IsBuilt form → ⊥) → words_of form ≡ words_of g → IsBuilt g → ⊥
+unbuilt_form (Check cat) g not_built e b = not_built tt
+unbuilt_form (Graph cat) g not_built e b = not_built tt
+unbuilt_form (Table cat) g not_built e b = not_built tt
+unbuilt_form (Run cat work) g not_built e b = not_built tt
+unbuilt_form (Plain cat work) g not_built e b = plain_form cat work g e b
+unbuilt_form (Make s n) g not_built e b = make_form s n g e b
+
+-- words of a form that is not built are unbuilt
+other_form : (fs : List ShelfFile) (ws : List (List ℕ)) (form : Form) → IsForm form → ws ≡ words_of form → (IsBuilt form → ⊥) → IsUnbuilt fs ws
+other_form fs ws form is words not_built = record {
   form = form;
   is_form = is;
   words = words;
-  none = λ text a. no_answer fs text form a.form no_check no_run (sym words ∙ a.words) a.answers;
-  fault = λ f h. no_fault_of fs f form h.form no_check no_run (sym words ∙ h.words) h.has;
+  none = λ text a. unbuilt_form form a.form not_built (sym words ∙ a.words) (answers_built fs text a.form a.answers);
+  fault = λ f h. unbuilt_form form h.form not_built (sym words ∙ h.words) (fault_built fs f h.form h.has);
 }
+
+pub plain_unbuilt : (fs : List ShelfFile) (ws : List (List ℕ)) (cat work : List ℕ) → ws ≡ words_of (Plain cat work) → IsUnbuilt fs ws
+plain_unbuilt fs ws cat work words = other_form fs ws (Plain cat work) tt words (λ b. b)
+
+pub make_unbuilt : (fs : List ShelfFile) (ws : List (List ℕ)) (seed count : ℕ) → IsForm (Make seed count) → ws ≡ words_of (Make seed count) → IsUnbuilt fs ws
+make_unbuilt fs ws seed count is words = other_form fs ws (Make seed count) is words (λ b. b)
 
 -- the words of a run that is unbuilt
 pub unbuilt_run : (fs : List ShelfFile) (ws : List (List ℕ)) (cat work : List ℕ) → ws ≡ words_of (Run cat work) → IsUnbuiltRun fs cat work → IsUnbuilt fs ws

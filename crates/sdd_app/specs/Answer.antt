@@ -9,20 +9,22 @@ use Rattle.sdd_catread.specs.Reading.{catalogue_in}
 use Rattle.sdd_app.specs.declared.first.FirstWork.{FirstWork}
 use Rattle.sdd_app.specs.declared.status.Status.{Status}
 use Rattle.sdd_app.specs.declared.status.Status.TheVariants.{ReadFault, NoMemory, Unbuilt, BadCatalogue}
-use Rattle.sdd_app.specs.Check.{check_line}
-use Rattle.sdd_app.specs.Command.{Form, Check, Run, IsForm, words_of}
+use Rattle.sdd_app.specs.declared.listing.Listing.{Listing}
+use Rattle.sdd_app.specs.declared.listing.Listing.TheVariants as listings
+use Rattle.sdd_app.specs.Command.{Form, Check, Graph, Table, Run, IsForm, words_of}
 use Rattle.sdd_app.specs.First.{first_catalogue, is_first_work, spelling}
+use Rattle.sdd_app.specs.Listing.{Tells}
 use Rattle.sdd_app.specs.Run.{report_of}
 
 -- the catalogue that the file of this name gives, or its first fault
 abbrev pub catalogue_named : List ShelfFile → List ℕ → Option (Result Catalogue CatFault)
 catalogue_named files name = option_map catalogue_in (find_file files name)
 
--- The file gives a catalogue, and this tells what is in it.
-pub record AnswersCheck (files : List ShelfFile) (catalogue : List ℕ) (text : List ℕ) : Type 0 where
+-- The file gives a catalogue, and this tells of it what is listed.
+pub record AnswersListing (files : List ShelfFile) (listing : Listing) (catalogue : List ℕ) (text : List ℕ) : Type 0 where
   pub says : Catalogue
   pub accepted : catalogue_named files catalogue ≡ Some (Ok says)
-  pub text_is : text ≡ check_line says
+  pub tells : Tells listing says text
 
 -- The first file gives the one catalogue that is run today, the second is at most 64 MiB long and the
 -- spelling of a workload of the first form, and this is the workload's report.
@@ -36,7 +38,9 @@ pub record AnswersRun (files : List ShelfFile) (catalogue workload : List ℕ) (
 
 -- the text is what a command of this form answers
 abbrev pub AnswersForm : List ShelfFile → Form → List ℕ → Type 0
-AnswersForm files (Check catalogue) text = AnswersCheck files catalogue text
+AnswersForm files (Check catalogue) text = AnswersListing files listings.Counts catalogue text
+AnswersForm files (Graph catalogue) text = AnswersListing files listings.Graph catalogue text
+AnswersForm files (Table catalogue) text = AnswersListing files listings.Table catalogue text
 AnswersForm files (Run catalogue workload) text = AnswersRun files catalogue workload text
 AnswersForm files _ text = ⊥
 
@@ -48,6 +52,8 @@ pub record Answers (files : List ShelfFile) (ws : List (List ℕ)) (text : List 
 -- the catalogue that a command of this form reads has the fault
 abbrev pub FaultOf : List ShelfFile → Form → CatFault → Type 0
 FaultOf files (Check catalogue) fault = catalogue_named files catalogue ≡ Some (Err fault)
+FaultOf files (Graph catalogue) fault = catalogue_named files catalogue ≡ Some (Err fault)
+FaultOf files (Table catalogue) fault = catalogue_named files catalogue ≡ Some (Err fault)
 FaultOf files (Run catalogue workload) fault = catalogue_named files catalogue ≡ Some (Err fault)
 FaultOf files _ fault = ⊥
 
@@ -56,8 +62,8 @@ pub record HasFault (files : List ShelfFile) (ws : List (List ℕ)) (fault : Cat
   pub words : ws ≡ words_of form
   pub has : FaultOf files form fault
 
--- The words are of a form, they have no answer, and no fault of a catalogue is the cause: another command
--- than `check` and `run`, or files of another form.
+-- The words are of a form, they have no answer, and no fault of a catalogue is the cause: the command is
+-- `plain` or `make`, or the files of a run are of another form.
 pub record IsUnbuilt (files : List ShelfFile) (ws : List (List ℕ)) : Type 0 where
   pub form : Form
   pub is_form : IsForm form
@@ -92,6 +98,8 @@ pub record TwoAtTheirEnds (was stands : ℕ → Type 0) (unread : ℕ → Option
 -- each file that a command of this form reads was read to its end
 abbrev pub EndsForm : Form → (ℕ → Type 0) → (ℕ → Type 0) → (ℕ → Option (List ℕ)) → Type 0
 EndsForm (Check catalogue) was stands unread = OneAtItsEnd was stands unread
+EndsForm (Graph catalogue) was stands unread = OneAtItsEnd was stands unread
+EndsForm (Table catalogue) was stands unread = OneAtItsEnd was stands unread
 EndsForm (Run catalogue workload) was stands unread = TwoAtTheirEnds was stands unread
 EndsForm _ was stands unread = ⊥
 

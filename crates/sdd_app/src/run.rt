@@ -10,9 +10,9 @@ ghost use Rattle.sdd_app.specs.Run.{report_of};
 ghost use Rattle.sdd_app.specs.Status.{line_of};
 
 use crate::catalogue_file::{accepted_catalogue, read_named};
-use crate::check::check_answer;
 use crate::command::{Command, parse_words};
 use crate::first_catalogue::is_first;
+use crate::listing::{Listing, listing_answer};
 use crate::reading::read_work;
 use crate::serial::report_of;
 use crate::status::Status;
@@ -88,7 +88,11 @@ fn answer<S: Shelf>(alloc: Global, words: &[String], shelf: &mut S) -> Result<Ve
 {
     match parse_words(words) {
         None => Err(Status::Usage),
-        Some(Command::Check(catalogue)) => check_answer(alloc, shelf, catalogue),
+        Some(Command::Check(catalogue)) => {
+            listing_answer(alloc, shelf, catalogue, Listing::Counts)
+        }
+        Some(Command::Graph(catalogue)) => listing_answer(alloc, shelf, catalogue, Listing::Graph),
+        Some(Command::Table(catalogue)) => listing_answer(alloc, shelf, catalogue, Listing::Table),
         Some(Command::Run(catalogue, workload)) => run_answer(alloc, shelf, catalogue, workload),
         Some(_) => Err(Status::Unbuilt),
     }

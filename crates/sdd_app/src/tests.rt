@@ -1,3 +1,5 @@
+mod listing;
+
 use super::*;
 use sdd_base::{Bytes, CallNos, Files, MemShelf, MemSink, ShelfFile, SureShelf, SureSink};
 use std::alloc::Global;

@@ -2,7 +2,7 @@ use Rattle.std.proofs.Common.{Ok}
 use Rattle.sdd_base.specs.Outside.{find_file}
 use Rattle.sdd_app.specs.declared.status.Status.TheVariants.{ReadFault}
 use Rattle.sdd_app.proofs.CatalogueReads.{named_found, err_again}
-use Rattle.sdd_app.proofs.check.check_answer.Goals as goal
+use Rattle.sdd_app.proofs.listing.listing_answer.Goals as goal
 
 pub returns-in-Err-clause-surely : goal.returns-in-Err-clause-surely
 returns-in-Err-clause-surely g c = λ free fs text sure told a is.

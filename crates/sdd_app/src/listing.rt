@@ -1,0 +1,69 @@
+//! The commands that tell what is in a catalogue.
+ghost use Rattle.std.specs.Prelude.{◌≡◌, ◌+◌, ℕ, List, IfOk, OnOk, IfErr, IsErrOf, Some, Err};
+ghost use Rattle.sdd_base.specs.declared.files.ShelfFile.{ShelfFile};
+ghost use Rattle.sdd_base.specs.Outside.{Rose};
+ghost use Rattle.sdd_catalog.specs.declared.fault.CatFault.{CatFault};
+ghost use Rattle.sdd_app.specs.Answer.{AnswersListing, OneAtItsEnd, IsCatalogueError, catalogue_named};
+ghost use Rattle.sdd_app.specs.Listing.{Tells};
+
+use crate::catalogue_file::accepted_catalogue;
+use crate::check::counts;
+use crate::edges::{graph_text, table_text};
+use crate::status::Status;
+use sdd_base::{NoMemory, Shelf};
+use sdd_catalog::Catalogue;
+use sdd_protocol::table;
+use std::alloc::Global;
+
+/// What is told of a catalogue.
+#[derive(Clone, Copy)]
+pub enum Listing {
+    /// How many modules, relations, fragments and classes there are.
+    Counts,
+    /// The edges of the conflict graph with their blocks.
+    Graph,
+    /// The diagonal edges with their protocols.
+    Table,
+}
+
+/// What is told of the catalogue.
+fn listed(alloc: Global, catalogue: &Catalogue, listing: Listing) -> Result<Vec<u8>, NoMemory>
+    ensures { IfOk result (λ v. Tells listing catalogue.now v.items) }
+{
+    match listing {
+        Listing::Counts => counts(alloc, catalogue),
+        Listing::Graph => {
+            let table = table(alloc, catalogue)?;
+            graph_text(alloc, catalogue, &table)
+        }
+        Listing::Table => {
+            let table = table(alloc, catalogue)?;
+            table_text(alloc, catalogue, &table)
+        }
+    }
+}
+
+/// What a command answers that tells of the catalogue in the file.
+pub fn listing_answer<S: Shelf>(
+    alloc: Global,
+    shelf: &mut S,
+    catalogue: &str,
+    listing: Listing,
+) -> Result<Vec<u8>, Status>
+    ensures text { IfOk result (λ v. (fs : List ShelfFile) → S.files shelf.old ≡ Some fs → AnswersListing fs listing catalogue.now v.items) }
+    ensures bad { (f : CatFault) → IsErrOf result (Status.BadCatalogue f) → (fs : List ShelfFile) → S.files shelf.old ≡ Some fs → catalogue_named fs catalogue.now ≡ Some (Err f) }
+    ensures ended { OnOk result (OneAtItsEnd (S.is_open shelf.old) (S.is_open shelf.new) (S.unread shelf.new)) }
+    ensures fault { IsErrOf result Status.ReadFault → Rose (S.faults shelf.old) (S.faults shelf.new) }
+    ensures errors { IfErr result IsCatalogueError }
+    ensures surely { (free : ℕ) (fs : List ShelfFile) (text : List ℕ) → S.sure shelf.old (free + 1) → S.files shelf.old ≡ Some fs
+        → AnswersListing fs listing catalogue.now text → IsErrOf result Status.ReadFault → ⊥ }
+{
+    let catalogue = match accepted_catalogue(alloc, shelf, catalogue) {
+        Ok(catalogue) => catalogue,
+        Err(status) => return Err(status),
+    };
+    match listed(alloc, &catalogue, listing) {
+        Ok(text) => Ok(text),
+        Err(_) => Err(Status::NoMemory),
+    }
+}

@@ -1,0 +1,102 @@
+//! What `check`, `graph` and `table` print of the catalogues that are shipped as examples.
+use super::{file, words};
+use crate::{Status, run_sdd1};
+use sdd_base::{Files, SureShelf, SureSink};
+use std::alloc::Global;
+use std::test::Fail;
+
+const BRIDGE: &str =
+    "tms = 2\ndms = 1\n[[relation]]\nname = \"item\"\ncolumns = [{name = \"id\", kind = \"int\"}, {name = \"val\", kind = \"int\"}]\nkey = \"id\"\n[[fragment]]\nname = \"a\"\nrelation = \"item\"\nto = 9\ncopies = [1]\n[[fragment]]\nname = \"b\"\nrelation = \"item\"\nfrom = 10\ncopies = [1]\n[[class]]\nname = \"wr\"\ntm = 1\nwrites = [\"a\"]\n[[class]]\nname = \"rd\"\ntm = 2\nreads = [{fragment = \"a\", at = 1}]\n";
+
+const BRIDGE_TELLS: [&str; 3] = [
+    "ok tms 2 dms 1 relations 1 fragments 2 classes 2\n",
+    "vertical wr block -\nvertical rd block -\ndiagonal rd wr a block -\n",
+    "rd reads a at D1 writer wr P1 block -\n",
+];
+
+const TWO_FRAGMENTS: &str =
+    "tms = 2\ndms = 2\n[[relation]]\nname = \"item\"\ncolumns = [{name = \"id\", kind = \"int\"}, {name = \"val\", kind = \"int\"}]\nkey = \"id\"\n[[fragment]]\nname = \"a\"\nrelation = \"item\"\nto = 9\ncopies = [1]\n[[fragment]]\nname = \"b\"\nrelation = \"item\"\nfrom = 10\ncopies = [2]\n[[class]]\nname = \"wr\"\ntm = 1\nwrites = [\"a\", \"b\"]\n[[class]]\nname = \"rd\"\ntm = 2\nreads = [{fragment = \"a\", at = 1}, {fragment = \"b\", at = 2}]\n";
+
+const TWO_FRAGMENTS_TELLS: [&str; 3] = [
+    "ok tms 2 dms 2 relations 1 fragments 2 classes 2\n",
+    "vertical wr block -\nvertical rd block -\ndiagonal rd wr a block 1\ndiagonal rd wr b block 1\n",
+    "rd reads a at D1 writer wr P2 block 1\nrd reads b at D2 writer wr P2 block 1\n",
+];
+
+const MUTUAL_READS: &str =
+    "tms = 2\ndms = 1\n[[relation]]\nname = \"item\"\ncolumns = [{name = \"id\", kind = \"int\"}, {name = \"val\", kind = \"int\"}]\nkey = \"id\"\n[[fragment]]\nname = \"a\"\nrelation = \"item\"\nto = 9\ncopies = [1]\n[[fragment]]\nname = \"b\"\nrelation = \"item\"\nfrom = 10\ncopies = [1]\n[[class]]\nname = \"p\"\ntm = 1\nreads = [{fragment = \"a\", at = 1}]\nwrites = [\"b\"]\n[[class]]\nname = \"q\"\ntm = 2\nreads = [{fragment = \"b\", at = 1}]\nwrites = [\"a\"]\n";
+
+const MUTUAL_READS_TELLS: [&str; 3] = [
+    "ok tms 2 dms 1 relations 1 fragments 2 classes 2\n",
+    "vertical p block 1\nvertical q block 1\ndiagonal p q a block 1\ndiagonal q p b block 1\n",
+    "p reads a at D1 writer q P3 block 1\nq reads b at D1 writer p P3 block 1\n",
+];
+
+const LATE_WRITE: &str =
+    "tms = 3\ndms = 1\n[[relation]]\nname = \"item\"\ncolumns = [{name = \"id\", kind = \"int\"}, {name = \"val\", kind = \"int\"}]\nkey = \"id\"\n[[fragment]]\nname = \"a\"\nrelation = \"item\"\ncopies = [1]\n[[class]]\nname = \"rd\"\ntm = 1\nreads = [{fragment = \"a\", at = 1}]\n[[class]]\nname = \"j\"\ntm = 2\nwrites = [\"a\"]\n[[class]]\nname = \"k\"\ntm = 3\nwrites = [\"a\"]\n";
+
+const LATE_WRITE_TELLS: [&str; 3] = [
+    "ok tms 3 dms 1 relations 1 fragments 1 classes 3\n",
+    "vertical rd block -\nvertical j block -\nvertical k block -\nhorizontal j k block 1\ndiagonal rd j a block 1\ndiagonal rd k a block 1\n",
+    "rd reads a at D1 writer j P2 block 1\nrd reads a at D1 writer k P2 block 1\n",
+];
+
+const REPLICATED: &str =
+    "tms = 2\ndms = 2\n[[relation]]\nname = \"item\"\ncolumns = [{name = \"id\", kind = \"int\"}, {name = \"val\", kind = \"int\"}]\nkey = \"id\"\n[[fragment]]\nname = \"a\"\nrelation = \"item\"\ncopies = [1, 2]\n[[class]]\nname = \"j\"\ntm = 1\nwrites = [\"a\"]\n[[class]]\nname = \"k\"\ntm = 2\nwrites = [\"a\"]\n";
+
+const REPLICATED_TELLS: [&str; 3] = [
+    "ok tms 2 dms 2 relations 1 fragments 1 classes 2\n",
+    "vertical j block -\nvertical k block -\nhorizontal j k block -\n",
+    "",
+];
+
+const JOIN: &str =
+    "tms = 1\ndms = 3\n[[relation]]\nname = \"r\"\ncolumns = [{name = \"id\", kind = \"int\"}, {name = \"a\", kind = \"int\"}]\nkey = \"id\"\n[[relation]]\nname = \"s\"\ncolumns = [{name = \"id\", kind = \"int\"}, {name = \"b\", kind = \"int\"}]\nkey = \"id\"\n[[relation]]\nname = \"t\"\ncolumns = [{name = \"id\", kind = \"int\"}, {name = \"c\", kind = \"int\"}]\nkey = \"id\"\n[[fragment]]\nname = \"r\"\nrelation = \"r\"\ncopies = [1]\n[[fragment]]\nname = \"s\"\nrelation = \"s\"\ncopies = [2]\n[[fragment]]\nname = \"t\"\nrelation = \"t\"\ncopies = [3]\n[[class]]\nname = \"jn\"\ntm = 1\nreads = [{fragment = \"r\", at = 1}, {fragment = \"s\", at = 2}, {fragment = \"t\", at = 3}]\n";
+
+const JOIN_TELLS: [&str; 3] = [
+    "ok tms 1 dms 3 relations 3 fragments 3 classes 1\n",
+    "vertical jn block -\n",
+    "",
+];
+
+const BANK: &str =
+    "tms = 3\ndms = 3\n[[relation]]\nname = \"account\"\ncolumns = [{name = \"id\", kind = \"int\"}, {name = \"owner\", kind = \"text\"}, {name = \"bal\", kind = \"int\"}]\nkey = \"id\"\n[[fragment]]\nname = \"east\"\nrelation = \"account\"\nto = 999\ncopies = [1, 3]\n[[fragment]]\nname = \"west\"\nrelation = \"account\"\nfrom = 1000\ncopies = [2, 3]\n[[class]]\nname = \"eastpay\"\ntm = 1\nreads = [{fragment = \"east\", at = 1}]\nwrites = [\"east\"]\n[[class]]\nname = \"westpay\"\ntm = 2\nreads = [{fragment = \"west\", at = 2}]\nwrites = [\"west\"]\n[[class]]\nname = \"book\"\ntm = 3\nreads = [{fragment = \"east\", at = 3}, {fragment = \"west\", at = 3}]\n[[class]]\nname = \"move\"\ntm = 3\nreads = [{fragment = \"east\", at = 1}, {fragment = \"west\", at = 2}]\nwrites = [\"east\", \"west\"]\n";
+
+const BANK_TELLS: [&str; 3] = [
+    "ok tms 3 dms 3 relations 1 fragments 2 classes 4\n",
+    "vertical eastpay block 1\nvertical westpay block 1\nvertical book block -\nvertical move block 1\nhorizontal eastpay move block 1\nhorizontal westpay move block 1\ndiagonal eastpay move east block 1\ndiagonal westpay move west block 1\ndiagonal book eastpay east block 1\ndiagonal book westpay west block 1\ndiagonal book move east block 1\ndiagonal book move west block 1\ndiagonal move eastpay east block 1\ndiagonal move westpay west block 1\n",
+    "eastpay reads east at D1 writer move P3 block 1\nwestpay reads west at D2 writer move P3 block 1\nbook reads east at D3 writer eastpay P2 block 1\nbook reads west at D3 writer westpay P2 block 1\nbook reads east at D3 writer move P2 block 1\nbook reads west at D3 writer move P2 block 1\nmove reads east at D1 writer eastpay P3 block 1\nmove reads west at D2 writer westpay P3 block 1\n",
+];
+
+/// What a command prints of a catalogue.
+fn told(rt: HostRuntime, command: &str, catalogue: &str, text: &str) -> Result<(), Fail> {
+    let alloc = rt.alloc();
+    let mut all = Vec::new(alloc);
+    all.push(file(alloc, "cat", catalogue)?)?;
+    let mut shelf = SureShelf::new(Files::from_vec(all));
+    let mut out = SureSink::new(alloc, 1000)?;
+    let mut err = SureSink::new(alloc, 0)?;
+    let words = words(alloc, command)?;
+    let status = run_sdd1(alloc, words.as_slice(), &mut shelf, &mut out, &mut err);
+    assert_eq!(rt; status, Status::Done, "at {command}");
+    assert_eq!(rt; out.taken(), text.as_bytes(), "at {command}");
+    Ok(())
+}
+
+#[test]
+fn graphs_and_tables_of_the_examples(rt: HostRuntime) -> Result<(), Fail> {
+    for (catalogue, tells) in [
+        (BRIDGE, BRIDGE_TELLS),
+        (TWO_FRAGMENTS, TWO_FRAGMENTS_TELLS),
+        (MUTUAL_READS, MUTUAL_READS_TELLS),
+        (LATE_WRITE, LATE_WRITE_TELLS),
+        (REPLICATED, REPLICATED_TELLS),
+        (JOIN, JOIN_TELLS),
+        (BANK, BANK_TELLS),
+    ] {
+        for (command, text) in ["check cat", "graph cat", "table cat"].iter().zip(tells.iter()) {
+            told(rt, command, catalogue, text)?;
+        }
+    }
+    Ok(())
+}
