@@ -1,12 +1,11 @@
-ghost use Rattle.std.specs.Prelude.{◌≡◌, ◌≤◌, ◌^◌, ◌++◌, length, IfOk, OnOk};
+ghost use Rattle.std.specs.Prelude.{◌≡◌, ◌≤◌, ◌^◌, ◌++◌, ◌&&◌, nat_lt, length, IfOk, OnOk};
 ghost use Rattle.std.specs.List.{All};
 ghost use Rattle.sdd_graph.specs.Edges.{IsClassOf, IsEdgeOf, NamesClasses, JoinsNodes};
 ghost use Rattle.sdd_graph.specs.Graph.{conflict_graph, vertical_edges, horizontal_edges, horizontals_from, diagonal_edges, diagonals_from, diagonals_between, write_sets_meet};
-ghost use Rattle.sdd_graph.specs.Uses.{all_uses, uses_of, reads_of, written_by};
 
 use crate::edge::Edge;
-use crate::uses::{Uses, uses_of};
-use sdd_base::{ClassNo, FragNo, Listed, NoMemory};
+use crate::uses::Uses;
+use sdd_base::{ClassNo, FragNo, NoMemory};
 use sdd_catalog::Catalogue;
 use std::alloc::Global;
 
@@ -25,118 +24,94 @@ pub fn conflict_graph(alloc: Global, cat: &Catalogue) -> Result<Vec<Edge>, NoMem
     ensures few { IfOk result (λ edges. length edges.items ≤ 2 ^ 20) }
 {
     cat.known();
-    let uses = all_uses(alloc, cat)?;
-    let mut edges = vertical_edges(alloc, cat)?;
-    push_horizontals(cat, uses.as_slice(), &mut edges)?;
-    push_diagonals(cat, uses.as_slice(), &mut edges)?;
+    let edges = edges_of(alloc, cat)?;
     Ok(edges)
 }
 
-fn all_uses(alloc: Global, cat: &Catalogue) -> Result<Vec<Uses>, NoMemory>
-    ensures { IfOk result (λ uses. uses.items ≡ all_uses cat.now) }
+fn edges_of(alloc: Global, cat: &Catalogue) -> Result<Vec<Edge>, NoMemory>
+    ensures { IfOk result (λ edges. edges.items ≡ conflict_graph cat.now) }
 {
-    cat.known();
-    let mut uses = Vec::new(alloc);
-    for i in 1..cat.classes() + 1 {
-        uses.push(uses_of(alloc, cat, ClassNo(i))?)?;
-    }
-    Ok(uses)
+    let uses = Uses::of(alloc, cat)?;
+    let mut edges = vertical_edges(alloc, &uses)?;
+    push_horizontals(&uses, &mut edges)?;
+    push_diagonals(&uses, &mut edges)?;
+    Ok(edges)
 }
 
-fn vertical_edges(alloc: Global, cat: &Catalogue) -> Result<Vec<Edge>, NoMemory>
-    ensures { IfOk result (λ edges. edges.items ≡ vertical_edges cat.now) }
+fn vertical_edges(alloc: Global, uses: &Uses) -> Result<Vec<Edge>, NoMemory>
+    ensures { IfOk result (λ edges. edges.items ≡ vertical_edges uses.now) }
 {
-    cat.known();
     Ok(
-        (1..cat.classes() + 1)
+        (1..uses.classes() + 1)
             .map(|i| Edge::Vertical(ClassNo(i)))
             .collect(alloc)?,
     )
 }
 
-fn push_horizontals(cat: &Catalogue, uses: &[Uses], edges: &mut Vec<Edge>) -> Result<(), NoMemory>
-    requires { uses.now ≡ all_uses cat.now }
-    ensures { OnOk result (edges.new.items ≡ edges.old.items ++ horizontal_edges cat.now) }
+fn push_horizontals(uses: &Uses, edges: &mut Vec<Edge>) -> Result<(), NoMemory>
+    ensures { OnOk result (edges.new.items ≡ edges.old.items ++ horizontal_edges uses.now) }
 {
-    cat.known();
-    for i in 1..cat.classes() + 1 {
-        push_horizontals_from(cat, uses, i, edges)?;
+    for i in 1..uses.classes() + 1 {
+        push_horizontals_from(uses, i, edges)?;
     }
     Ok(())
 }
 
-fn push_horizontals_from(
-    cat: &Catalogue,
-    uses: &[Uses],
-    i: u32,
-    edges: &mut Vec<Edge>,
-) -> Result<(), NoMemory>
-    requires uses { uses.now ≡ all_uses cat.now }
-    requires class { IsClassOf cat.now i }
-    ensures { OnOk result (edges.new.items ≡ edges.old.items ++ horizontals_from cat.now i) }
+fn push_horizontals_from(uses: &Uses, i: u32, edges: &mut Vec<Edge>) -> Result<(), NoMemory>
+    requires { IsClassOf uses.now i }
+    ensures { OnOk result (edges.new.items ≡ edges.old.items ++ horizontals_from uses.now i) }
 {
-    cat.known();
-    let first = &uses[i as usize - 1];
-    for j in i + 1..cat.classes() + 1 {
-        if meet(&first.written, &uses[j as usize - 1].written) {
+    for j in 1..uses.classes() + 1 {
+        if are_joined(uses, i, j) {
             edges.push(Edge::Horizontal(ClassNo(i), ClassNo(j)))?;
         }
     }
     Ok(())
 }
 
-fn meet(one: &Listed<bool>, other: &Listed<bool>) -> bool {
-    one.as_slice()
-        .iter()
-        .zip(other.as_slice())
-        .any(|(a, b)| *a && *b)
+/// Whether a horizontal edge leads from the first class to the second.
+fn are_joined(uses: &Uses, i: u32, j: u32) -> bool
+    requires first { IsClassOf uses.now i }
+    requires second { IsClassOf uses.now j }
+    ensures { result ≡ (nat_lt i j && write_sets_meet uses.now i j) }
+{
+    i < j && uses.meet(i, j)
 }
 
-fn push_diagonals(cat: &Catalogue, uses: &[Uses], edges: &mut Vec<Edge>) -> Result<(), NoMemory>
-    requires { uses.now ≡ all_uses cat.now }
-    ensures { OnOk result (edges.new.items ≡ edges.old.items ++ diagonal_edges cat.now) }
+fn push_diagonals(uses: &Uses, edges: &mut Vec<Edge>) -> Result<(), NoMemory>
+    ensures { OnOk result (edges.new.items ≡ edges.old.items ++ diagonal_edges uses.now) }
 {
-    cat.known();
-    for i in 1..cat.classes() + 1 {
-        push_diagonals_from(cat, uses, i, edges)?;
+    for i in 1..uses.classes() + 1 {
+        push_diagonals_from(uses, i, edges)?;
     }
     Ok(())
 }
 
-fn push_diagonals_from(
-    cat: &Catalogue,
-    uses: &[Uses],
-    i: u32,
-    edges: &mut Vec<Edge>,
-) -> Result<(), NoMemory>
-    requires uses { uses.now ≡ all_uses cat.now }
-    requires class { IsClassOf cat.now i }
-    ensures { OnOk result (edges.new.items ≡ edges.old.items ++ diagonals_from cat.now i) }
+fn push_diagonals_from(uses: &Uses, i: u32, edges: &mut Vec<Edge>) -> Result<(), NoMemory>
+    requires { IsClassOf uses.now i }
+    ensures { OnOk result (edges.new.items ≡ edges.old.items ++ diagonals_from uses.now i) }
 {
-    cat.known();
-    for j in 1..cat.classes() + 1 {
-        if i != j {
-            push_diagonals_between(cat, uses, i, j, edges)?;
-        }
+    for j in 1..uses.classes() + 1 {
+        push_diagonals_between(uses, i, j, edges)?;
     }
     Ok(())
 }
 
 fn push_diagonals_between(
-    cat: &Catalogue,
-    uses: &[Uses],
+    uses: &Uses,
     i: u32,
     j: u32,
     edges: &mut Vec<Edge>,
 ) -> Result<(), NoMemory>
-    requires uses { uses.now ≡ all_uses cat.now }
-    requires reader { IsClassOf cat.now i }
-    requires writer { IsClassOf cat.now j }
-    ensures { OnOk result (edges.new.items ≡ edges.old.items ++ diagonals_between cat.now i j) }
+    requires reader { IsClassOf uses.now i }
+    requires writer { IsClassOf uses.now j }
+    ensures { OnOk result (edges.new.items ≡ edges.old.items ++ diagonals_between uses.now i j) }
 {
-    let written = uses[j as usize - 1].written.as_slice();
-    for f in uses[i as usize - 1].reads.as_slice() {
-        if written[*f as usize - 1] {
+    if i == j {
+        return Ok(());
+    }
+    for f in uses.reads(i) {
+        if uses.writes(j, *f) {
             edges.push(Edge::Diagonal(ClassNo(i), ClassNo(j), FragNo(*f)))?;
         }
     }

@@ -4,6 +4,7 @@
 //! defines it, and the numbers of the nodes that each edge joins.
 #![tactic(auto)]
 
+mod class_uses;
 mod conflicts;
 mod edge;
 mod nodes;

@@ -1,53 +1,100 @@
-ghost use Rattle.std.specs.Prelude.{◌≡◌, ◌≤◌, length, map, IfOk};
+ghost use Rattle.std.specs.Prelude.{◌≡◌, ◌≤◌, ◌&&◌, length, IfOk};
+ghost use Rattle.std.specs.List.{All, list_any, zip};
 ghost use Rattle.sdd_catalog.specs.Catalogue.{writes};
 ghost use Rattle.sdd_graph.specs.Edges.{IsClassOf};
-ghost use Rattle.sdd_graph.specs.Graph.{fragments_of, write_sets_meet};
-ghost use Rattle.sdd_graph.specs.Uses.{reads_of, written_by, uses_of};
+ghost use Rattle.sdd_graph.specs.Graph.{write_sets_meet};
+ghost use Rattle.sdd_graph.specs.Uses.{reads_of, class_uses};
 
-use sdd_base::{ClassNo, FragNo, Listed, NoMemory};
+use crate::class_uses::{ClassUses, class_uses};
+use sdd_base::{ClassNo, NoMemory};
 use sdd_catalog::Catalogue;
 use std::alloc::Global;
+use std::marker::Model;
 
-/// What a class reads and writes.
+/// A catalogue, with what each class reads and writes laid out for quick answers.
 #[derive(Drop)]
-pub(crate) struct Uses {
-    /// The fragments that it reads, ascending.
-    pub(crate) reads: Listed<u32>,
-    /// For each fragment whether it writes it.
-    pub(crate) written: Listed<bool>,
+pub(crate) struct Uses<'a> {
+    cat: &'a Catalogue,
+    classes: Vec<ClassUses>,
 }
 
-/// What the class reads and writes.
-pub(crate) fn uses_of(alloc: Global, cat: &Catalogue, class: ClassNo) -> Result<Uses, NoMemory>
-    requires { IsClassOf cat.now class.0 }
-    ensures { IfOk result (λ uses. uses ≡ uses_of cat.now class.0) }
-{
-    Ok(Uses {
-        reads: reads_of(alloc, cat, class)?,
-        written: written_by(alloc, cat, class)?,
-    })
+impl<'a> Model for Uses<'a> {
+    ghost use Rattle.std.specs.Prelude.{◌≡◌};
+    ghost use Rattle.sdd_catalog.specs.Catalogue as catalogues;
+    ghost use Rattle.sdd_graph.specs.Uses.{all_uses};
+
+    ghost Value = { catalogues.Catalogue };
+
+    ghost view = { λ u. u.cat.now };
+
+    ghost invariant = { λ u. u.classes.items ≡ all_uses u.cat.now };
 }
 
-fn reads_of(alloc: Global, cat: &Catalogue, class: ClassNo) -> Result<Listed<u32>, NoMemory>
-    requires { IsClassOf cat.now class.0 }
-    ensures { IfOk result (λ reads. reads ≡ reads_of cat.now class.0) }
-{
-    cat.known();
-    let reads = (1..cat.fragments() + 1)
-        .filter(|f| cat.reads_at(class, FragNo(*f)).is_some())
-        .collect(alloc)?;
-    Ok(Listed::from_vec(reads))
-}
-
-/// Costs time in the fragments and in what the class writes.
-fn written_by(alloc: Global, cat: &Catalogue, class: ClassNo) -> Result<Listed<bool>, NoMemory>
-    requires { IsClassOf cat.now class.0 }
-    ensures { IfOk result (λ written. written ≡ written_by cat.now class.0) }
-{
-    cat.known();
-    let mut written = vec![in alloc; false; cat.fragments() as usize]?;
-    for f in cat.class(class).writes.as_slice() {
-        written[*f as usize - 1] = true;
+impl<'a> Uses<'a> {
+    /// Costs time in the fragments and in what each class reads and writes, and memory for a flag for
+    /// each class and fragment.
+    pub(crate) fn of(alloc: Global, cat: &'a Catalogue) -> Result<Uses<'a>, NoMemory>
+        ensures { IfOk result (λ uses. uses ≡ cat.now) }
+    {
+        cat.known();
+        let mut classes = Vec::new(alloc);
+        for i in 1..cat.classes() + 1 {
+            classes.push(class_uses(alloc, cat, ClassNo(i))?)?;
+        }
+        Ok(Uses { cat, classes })
     }
-    Ok(Listed::from_vec(written))
+
+    /// How many classes there are.
+    pub(crate) fn classes(&self) -> u32
+        ensures count { result ≡ length self.now.classes }
+        ensures few { result ≤ 64 }
+    {
+        self.cat.known();
+        self.cat.classes()
+    }
+
+    fn class(&self, class: u32) -> &ClassUses
+        requires { IsClassOf self.now class }
+        ensures { result.now ≡ class_uses self.now class }
+    {
+        &self.classes[class as usize - 1]
+    }
+
+    /// The fragments that the class reads, ascending.
+    pub(crate) fn reads(&self, class: u32) -> &[u32]
+        requires { IsClassOf self.now class }
+        ensures list { result.now ≡ reads_of self.now class }
+        ensures within { All (λ f. (1 ≤ f) × (f ≤ length self.now.fragments)) result.now }
+    {
+        self.class(class).reads.as_slice()
+    }
+
+    /// Whether the class writes the fragment.
+    pub(crate) fn writes(&self, class: u32, frag: u32) -> bool
+        requires class { IsClassOf self.now class }
+        requires from { 1 ≤ frag }
+        requires to { frag ≤ length self.now.fragments }
+        ensures { result ≡ writes self.now class frag }
+    {
+        self.class(class).written.as_slice()[frag as usize - 1]
+    }
+
+    /// Whether both classes write some fragment.
+    pub(crate) fn meet(&self, one: u32, other: u32) -> bool
+        requires one { IsClassOf self.now one }
+        requires other { IsClassOf self.now other }
+        ensures { result ≡ write_sets_meet self.now one other }
+    {
+        have_common(
+            self.class(one).written.as_slice(),
+            self.class(other).written.as_slice(),
+        )
+    }
+}
+
+/// Whether both lists have a true at one place.
+fn have_common(one: &[bool], other: &[bool]) -> bool
+    ensures { result ≡ list_any (λ p. p.0 && p.1) (zip one.now other.now) }
+{
+    one.iter().zip(other).any(|(a, b)| *a && *b)
 }
