@@ -1,7 +1,7 @@
 //! The text of a conflict graph and of a protocol table.
 ghost use Rattle.std.specs.Prelude.{◌≡◌, ◌≤◌, ◌++◌, ℕ, List, length, IfOk, OnOk, flat_map};
 ghost use Rattle.std.specs.List.{All};
-ghost use Rattle.sdd_graph.specs.Graph.{IsEdgeOf};
+ghost use Rattle.sdd_graph.specs.Edges.{IsEdgeOf};
 ghost use Rattle.sdd_protocol.specs.Protocols.{IsTable};
 ghost use Rattle.sdd_app.specs.Edges as shown;
 
