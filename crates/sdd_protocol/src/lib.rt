@@ -5,7 +5,9 @@
 #![tactic(auto)]
 
 mod entry;
+mod law;
 mod protocol;
 
 pub use entry::Entry;
+pub use law::{law_one_protocol, law_one_table};
 pub use protocol::Protocol;
