@@ -1,3 +1,6 @@
+pub mod Between
 pub mod Laws
+pub mod Marks
 pub mod Parallel
+pub mod Parts
 pub mod Tables

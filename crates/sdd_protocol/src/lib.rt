@@ -4,10 +4,16 @@
 //! and the read conditions of an attempt, as `specs/Conditions.antt` defines them.
 #![tactic(auto)]
 
+mod asked;
+mod condition;
+mod entries;
 mod entry;
 mod law;
+mod places;
 mod protocol;
+mod table;
 
 pub use entry::Entry;
 pub use law::{law_one_protocol, law_one_table};
 pub use protocol::Protocol;
+pub use table::Table;
