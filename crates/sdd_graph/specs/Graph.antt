@@ -43,7 +43,7 @@ horizontal_edges cat = flat_map (horizontals_from cat) (classes_of cat)
 abbrev pub diagonals_between : Catalogue → ℕ → ℕ → List Edge
 diagonals_between cat i j =
     map (λ f. Diagonal (class_no i) (class_no j) (frag_no f))
-        (filter (λ f. not (i == j) && (is_some (reads_at cat i f) && writes cat j f)) (fragments_of cat))
+    (filter (λ f. not (i == j) && (is_some (reads_at cat i f) && writes cat j f)) (fragments_of cat))
 
 abbrev pub diagonals_from : Catalogue → ℕ → List Edge
 diagonals_from cat i = flat_map (diagonals_between cat i) (classes_of cat)

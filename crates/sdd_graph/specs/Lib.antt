@@ -1,1 +1,4 @@
+pub mod Edges
 pub mod Graph
+pub mod Nodes
+pub mod Uses

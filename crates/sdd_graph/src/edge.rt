@@ -1,4 +1,6 @@
-use sdd_base::{ClassNo, FragNo};
+ghost use Rattle.std.proofs.Common.{rules};
+
+use sdd_base::{ClassNo, Exact, FragNo, NoMemory, Parcel};
 
 /// An edge of the conflict graph. Class i has the nodes r_i, its read set, and w_i, its write set.
 #[derive(Clone, Copy, Debug, PartialEq, Eq)]
@@ -9,4 +11,14 @@ pub enum Edge {
     Horizontal(ClassNo, ClassNo),
     /// Between r_i and w_j: class i reads the fragment and class j writes it.
     Diagonal(ClassNo, ClassNo, FragNo),
+}
+
+impl Exact for Edge {
+    ghost exact = { Prim.search rules };
+}
+
+impl Parcel for Edge {
+    fn copy(&self) -> Result<Self, NoMemory> {
+        Ok(*self)
+    }
 }

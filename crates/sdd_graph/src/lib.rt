@@ -4,6 +4,12 @@
 //! defines it, and the numbers of the nodes that each edge joins.
 #![tactic(auto)]
 
+mod class_uses;
+mod conflicts;
 mod edge;
+mod nodes;
+mod uses;
 
+pub use conflicts::conflict_graph;
 pub use edge::Edge;
+pub use nodes::{ends, law_nodes_differ};

@@ -1,0 +1,97 @@
+-- What is known of each edge of a conflict graph, and how many there are.
+use Rattle.std.proofs.Common.{ℕ, ◌≡◌, ◌≢◌, ◌≤◌, ◌<◌, ◌-◌, ◌+◌, ◌*◌, ◌^◌, ◌==◌, nat_lt, Bool, true, false, ◌&&◌, not, is_some, List, ◌++◌, map, filter, length, refl, ap, sym, ◌∙◌, arith}
+use Rattle.std.specs.List.{All, AllByRecursion, range_with_len}
+use Rattle.std.proofs.lemmas.Bool.{ltb-true, eqb-false}
+use Rattle.std.proofs.lemmas.List.{length-map, length-append}
+use Rattle.std.proofs.lemmas.List.Elements.{All-map, All-append, All-weaker, All-from_recursion}
+use Rattle.std.proofs.lemmas.List.FromFn.{length-range_with_len}
+use Rattle.sdd_catalog.specs.Catalogue.{Catalogue, numbers_to, reads_at, writes}
+use Rattle.sdd_catalog.specs.Numbers.{IsWhole}
+use Rattle.sdd_graph.specs.declared.edge.Edge.{Edge}
+use Rattle.sdd_graph.specs.declared.edge.Edge.TheVariants.{Vertical, Horizontal, Diagonal}
+use Rattle.sdd_graph.specs.Graph.{class_no, frag_no, classes_of, fragments_of, vertical_edges, write_sets_meet, horizontals_from, horizontal_edges, diagonals_between, diagonals_from, diagonal_edges, conflict_graph, ends}
+use Rattle.sdd_graph.specs.Edges.{IsClassOf, IsClassNo, WriteTogether, ReadsFrom, IsEdgeOf, NamesClasses, JoinsNodes}
+use Rattle.sdd_graph.proofs.Tables.{each_to}
+use Rattle.sdd_graph.proofs.Counts.{all_flat, all_kept, both_true}
+use Rattle.sdd_graph.proofs.Pairs.{diagonal}
+
+each_class : (cat : Catalogue) → All (IsClassOf cat) (classes_of cat)
+each_class cat = All-weaker (λ i. (1 ≤ i) × (i ≤ length cat.classes)) (IsClassOf cat) (λ i h. record { from = h.0; to = h.1 }) (classes_of cat) (each_to (length cat.classes))
+
+verticals_known : (cat : Catalogue) → All (IsEdgeOf cat) (vertical_edges cat)
+verticals_known cat = All-map (IsEdgeOf cat) (λ i. Vertical (class_no i)) (classes_of cat) (each_class cat)
+
+joined_known : (cat : Catalogue) (i j : ℕ) → IsClassOf cat i → IsClassOf cat j → (nat_lt i j && write_sets_meet cat i j) ≡ true → WriteTogether cat i j
+joined_known cat i j first second e =
+    let both = both_true (nat_lt i j) (write_sets_meet cat i j) e in
+    record { first = first; second = second; before = ltb-true i j both.0; meet = both.1 }
+
+horizontals_known : (cat : Catalogue) (i : ℕ) → IsClassOf cat i → All (IsEdgeOf cat) (horizontals_from cat i)
+horizontals_known cat i is =
+    all_kept (IsEdgeOf cat) (IsClassOf cat) (λ j. Horizontal (class_no i) (class_no j)) (λ j. nat_lt i j && write_sets_meet cat i j) (λ j. joined_known cat i j is) (classes_of cat) (each_class cat)
+
+not_true : (b : Bool) → not b ≡ true → b ≡ false
+not_true true e = cc
+not_true false e = refl
+
+read_known : (cat : Catalogue) (i j f : ℕ) → IsClassOf cat i → IsClassOf cat j → (1 ≤ f) × (f ≤ length cat.fragments) → (not (i == j) && (is_some (reads_at cat i f) && writes cat j f)) ≡ true → ReadsFrom cat i j f
+read_known cat i j f reader writer there e =
+    let apart = both_true (not (i == j)) (is_some (reads_at cat i f) && writes cat j f) e in
+    let both = both_true (is_some (reads_at cat i f)) (writes cat j f) apart.1 in
+    record {
+      reader = reader;
+      writer = writer;
+      others = eqb-false i j (not_true (i == j) apart.0);
+      from = there.0;
+      to = there.1;
+      read = both.0;
+      written = both.1;
+    }
+
+between_known : (cat : Catalogue) (i j : ℕ) → IsClassOf cat i → IsClassOf cat j → All (IsEdgeOf cat) (diagonals_between cat i j)
+between_known cat i j reader writer =
+    all_kept (IsEdgeOf cat) (λ f. (1 ≤ f) × (f ≤ length cat.fragments)) (diagonal i j) (λ f. not (i == j) && (is_some (reads_at cat i f) && writes cat j f)) (λ f. read_known cat i j f reader writer) (fragments_of cat) (each_to (length cat.fragments))
+
+diagonals_known : (cat : Catalogue) (i : ℕ) → IsClassOf cat i → All (IsEdgeOf cat) (diagonals_from cat i)
+diagonals_known cat i is = all_flat (IsEdgeOf cat) (IsClassOf cat) (diagonals_between cat i) (λ j. between_known cat i j is) (classes_of cat) (each_class cat)
+
+-- each edge is one of the catalogue
+pub edges_known : (cat : Catalogue) → All (IsEdgeOf cat) (conflict_graph cat)
+edges_known cat =
+    All-append (IsEdgeOf cat) (vertical_edges cat) (horizontal_edges cat ++ diagonal_edges cat) (verticals_known cat)
+    (All-append (IsEdgeOf cat) (horizontal_edges cat) (diagonal_edges cat)
+    (all_flat (IsEdgeOf cat) (IsClassOf cat) (horizontals_from cat) (horizontals_known cat) (classes_of cat) (each_class cat))
+    (all_flat (IsEdgeOf cat) (IsClassOf cat) (diagonals_from cat) (diagonals_known cat) (classes_of cat) (each_class cat)))
+
+class_number : (cat : Catalogue) (i : ℕ) → length cat.classes ≤ 64 → IsClassOf cat i → IsClassNo i
+class_number cat i few is = let to : i ≤ length cat.classes = is.to in record { from = is.from; to = omega arith }
+
+edge_named : (cat : Catalogue) → length cat.classes ≤ 64 → (e : Edge) → IsEdgeOf cat e → NamesClasses e
+edge_named cat few (Vertical i) is = class_number cat i.0 few is
+edge_named cat few (Horizontal i j) is = (class_number cat i.0 few is.first, class_number cat j.0 few is.second)
+edge_named cat few (Diagonal i j f) is = (class_number cat i.0 few is.reader, class_number cat j.0 few is.writer)
+
+-- and names classes by their numbers
+pub edges_named : (cat : Catalogue) → IsWhole cat → All NamesClasses (conflict_graph cat)
+edges_named cat whole = All-weaker (IsEdgeOf cat) NamesClasses (edge_named cat whole.few_classes) (conflict_graph cat) (edges_known cat)
+
+edge_joins : (cat : Catalogue) (e : Edge) → IsEdgeOf cat e → JoinsNodes (length cat.classes) e
+edge_joins cat (Vertical i) is =
+    let from : 1 ≤ i.0 = is.from in
+    let to : i.0 ≤ length cat.classes = is.to in
+    record { first = omega arith; second = omega arith; apart = λ e. omega arith }
+edge_joins cat (Horizontal i j) is =
+    let from : 1 ≤ i.0 = is.first.from in
+    let to : j.0 ≤ length cat.classes = is.second.to in
+    let before : i.0 < j.0 = is.before in
+    record { first = omega arith; second = omega arith; apart = λ e. omega arith }
+edge_joins cat (Diagonal i j f) is =
+    let from : 1 ≤ i.0 = is.reader.from in
+    let to : i.0 ≤ length cat.classes = is.reader.to in
+    let from_j : 1 ≤ j.0 = is.writer.from in
+    let to_j : j.0 ≤ length cat.classes = is.writer.to in
+    record { first = omega arith; second = omega arith; apart = λ e. omega arith }
+
+-- and joins two different nodes
+pub edges_join : (cat : Catalogue) → All (JoinsNodes (length cat.classes)) (conflict_graph cat)
+edges_join cat = All-weaker (IsEdgeOf cat) (JoinsNodes (length cat.classes)) (edge_joins cat) (conflict_graph cat) (edges_known cat)
