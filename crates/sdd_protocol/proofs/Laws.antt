@@ -9,20 +9,18 @@ use Rattle.sdd_graph.specs.Edges.{JoinsNodes}
 use Rattle.sdd_graph.specs.Graph.{conflict_graph, ends, read_node, write_node}
 use Rattle.sdd_graph.specs.declared.edge.Edge.{Edge}
 use Rattle.sdd_graph.specs.declared.edge.Edge.TheVariants.{Diagonal}
+use Rattle.sdd_graph.proofs.Known.{edges_join}
 use Rattle.sdd_protocol.specs.Laws.{OneBlock, OneProtocol, OneTable}
 use Rattle.sdd_protocol.specs.Protocols.{vertical_block, diagonal_protocol, protocol_in}
 use Rattle.sdd_protocol.specs.declared.entry.Entry.{Entry}
 use Rattle.sdd_protocol.proofs.Parallel.{parallel_number}
 use Rattle.sdd_protocol.proofs.Tables.{all_at, edges_of, blocks_of, same_entries}
 
-joins_nodes : (cat : Catalogue) → All (JoinsNodes (length cat.classes)) (conflict_graph cat)
-joins_nodes cat = ?
-
 -- the diagonals of one reader and one writer lie in one block
 pub one_block : (cat : Catalogue) → OneBlock cat
 one_block cat blocks h j k a b reader writer f g p q x y =
     let edges = conflict_graph cat in
-    let apart : read_node reader.0 ≢ write_node writer.0 = (all_at (JoinsNodes (length cat.classes)) edges j (Diagonal reader writer f) (joins_nodes cat) p).apart in
+    let apart : read_node reader.0 ≢ write_node writer.0 = (all_at (JoinsNodes (length cat.classes)) edges j (Diagonal reader writer f) (edges_join cat) p).apart in
     elim (cases_eq j k) [
       | inl e ↦ same_Some a b (sym x ∙ ap (λ z. slice_get blocks z) e ∙ y)
       | inr n ↦

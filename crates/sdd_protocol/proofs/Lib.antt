@@ -1,5 +1,6 @@
 pub mod Between
 pub mod Laws
+pub mod MadeTable
 pub mod Marks
 pub mod Parallel
 pub mod Parts

@@ -9,11 +9,13 @@ mod condition;
 mod entries;
 mod entry;
 mod law;
+mod making;
 mod places;
 mod protocol;
-mod table;
+mod protocol_table;
 
 pub use entry::Entry;
 pub use law::{law_one_protocol, law_one_table};
+pub use making::table;
 pub use protocol::Protocol;
-pub use table::Table;
+pub use protocol_table::Table;

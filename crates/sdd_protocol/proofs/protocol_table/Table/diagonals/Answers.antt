@@ -2,7 +2,7 @@ use Rattle.std.proofs.Common.{◌-◌, ◌∙◌, Bool, List, ap, take, drop, fi
 use Rattle.sdd_protocol.specs.Places.{part_of, is_between}
 use Rattle.sdd_protocol.specs.declared.entry.Entry.{Entry}
 use Rattle.sdd_protocol.proofs.Between.{diagonals_in_part}
-use Rattle.sdd_protocol.proofs.table.Table.diagonals.Goals as goal
+use Rattle.sdd_protocol.proofs.protocol_table.Table.diagonals.Goals as goal
 
 pub returns : goal.returns
 returns c =

@@ -5,7 +5,7 @@ use Rattle.sdd_base.specs.declared.condition.Cond.{Cond}
 use Rattle.sdd_catalog.specs.Catalogue.{numbers_to}
 use Rattle.sdd_protocol.specs.Asked.{is_marked}
 use Rattle.sdd_protocol.specs.Conditions.{is_asked, condition_on, conditions}
-use Rattle.sdd_protocol.proofs.table.Table.condition.Goals as goal
+use Rattle.sdd_protocol.proofs.protocol_table.Table.condition.Goals as goal
 
 pub returns : goal.returns
 returns c =

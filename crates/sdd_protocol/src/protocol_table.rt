@@ -2,7 +2,7 @@ ghost use Rattle.std.specs.Prelude.{◌≡◌, ◌≤◌, ◌<◌, length, filte
 ghost use Rattle.sdd_catalog.specs.Catalogue.{numbers_to};
 ghost use Rattle.sdd_protocol.specs.Asked.{is_marked};
 ghost use Rattle.sdd_protocol.specs.Conditions.{condition_on, conditions};
-ghost use Rattle.sdd_protocol.specs.Places.{is_between};
+ghost use Rattle.sdd_protocol.specs.Places.{is_between, IsIndexed};
 
 use crate::asked::Asked;
 use crate::condition::condition_on;
@@ -34,6 +34,17 @@ impl Model for Table {
 }
 
 impl Table {
+    pub(crate) fn new(alloc: Global, entries: Vec<Entry>, places: Places) -> Table
+        requires { IsIndexed entries.items places }
+        ensures { result ≡ entries.items }
+    {
+        Table {
+            alloc,
+            entries,
+            places,
+        }
+    }
+
     /// How many entries there are. Takes no memory.
     pub fn len(&self) -> u32
         ensures { result ≡ length self.now }

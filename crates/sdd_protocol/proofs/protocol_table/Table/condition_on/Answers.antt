@@ -1,7 +1,7 @@
 use Rattle.std.proofs.Common.{◌∙◌}
 use Rattle.sdd_protocol.specs.Asked.{is_marked}
 use Rattle.sdd_protocol.proofs.Between.{condition_on-between}
-use Rattle.sdd_protocol.proofs.table.Table.condition_on.Goals as goal
+use Rattle.sdd_protocol.proofs.protocol_table.Table.condition_on.Goals as goal
 
 pub returns : goal.returns
 returns c =
