@@ -1,0 +1,7 @@
+pub mod Between
+pub mod Laws
+pub mod MadeTable
+pub mod Marks
+pub mod Parallel
+pub mod Parts
+pub mod Tables

@@ -4,8 +4,18 @@
 //! and the read conditions of an attempt, as `specs/Conditions.antt` defines them.
 #![tactic(auto)]
 
+mod asked;
+mod condition;
+mod entries;
 mod entry;
+mod law;
+mod making;
+mod places;
 mod protocol;
+mod protocol_table;
 
 pub use entry::Entry;
+pub use law::{law_one_protocol, law_one_table};
+pub use making::table;
 pub use protocol::Protocol;
+pub use protocol_table::Table;

@@ -1,0 +1,89 @@
+-- The conditions on a writer rest on the diagonals between the reader and the writer alone.
+use Rattle.std.proofs.Common.{ℕ, ◌-◌, ◌+◌, ◌<◌, ◌≤◌, ◌==◌, ◌≡◌, Bool, true, false, ◌&&◌, cond, List, [], ◌∷◌, ◌++◌, length, get_or, take, drop, Some, None, refl, sym, ap, ◌∙◌, subst, arith, inl, inr}
+use Rattle.std.specs.Prelude.{All, filter}
+use Rattle.std.specs.List.{list_any}
+use Rattle.std.proofs.lemmas.Bool.{cases_Bool, cases_lt, eqb-true, and_parts, and_from}
+use Rattle.std.proofs.lemmas.List.{append-nil, take-append-drop, get_or-take, get_or-drop, get_or_past, length-take, length-drop}
+use Rattle.std.proofs.lemmas.List.Elements.{All-head, All-tail, filter-append}
+use Rattle.std.proofs.lemmas.List.Folds.{drop_split}
+use Rattle.std.proofs.lemmas.Map.Views.{any-filter_same}
+use Rattle.sdd_graph.specs.declared.edge.Edge.{Edge}
+use Rattle.sdd_graph.specs.declared.edge.Edge.TheVariants.{Vertical, Horizontal, Diagonal}
+use Rattle.sdd_protocol.specs.Conditions.{is_p2, is_p3, asks, asks_by, cond_of, condition_on}
+use Rattle.sdd_protocol.specs.Places.{Places, ArePlaces, Covers, cell, part_of, is_between}
+use Rattle.sdd_protocol.specs.declared.protocol.Protocol.{Protocol}
+use Rattle.sdd_protocol.specs.declared.entry.Entry.{Entry}
+
+-- a filter that nothing passes
+filter_none : {X : Type 0} (p : X → Bool) (xs : List X) → All (λ x. p x ≡ false) xs → filter p xs ≡ []
+filter_none p [] h = refl
+filter_none p (x ∷ xs) h = rw (All-head (λ x. p x ≡ false) x xs h) (filter_none p xs (All-tail (λ x. p x ≡ false) x xs h))
+
+-- a part that has all that pass a filter
+pub filter_part : {X : Type 0} (p : X → Bool) (xs : List X) (a b : ℕ) → a ≤ b → ((k : ℕ) (d : X) → k < length xs → p (get_or xs k d) ≡ true → (a ≤ k) × (k < b)) → filter p (take (b - a) (drop a xs)) ≡ filter p xs
+filter_part p xs a b le h =
+    let fails : (k : ℕ) (d : _) → k < length xs → ((a ≤ k) × (k < b) → ⊥) → p (get_or xs k d) ≡ false =
+    λ k d l n. elim (cases_Bool (p (get_or xs k d))) [ inl t ↦ absurd (n (h k d l t)) | inr f ↦ f ] in
+    let front : filter p (take a xs) ≡ [] =
+    filter_none p (take a xs) (λ k d l.
+      let m = length-take a xs in
+      subst (λ z. p z ≡ false) (sym (get_or-take a xs k d (omega arith))) (fails k d (omega arith) (λ w. absurd (omega arith)))) in
+    let back : filter p (drop b xs) ≡ [] =
+    filter_none p (drop b xs) (λ k d l.
+      let m = length-drop b xs in
+      subst (λ z. p z ≡ false) (sym (get_or-drop b xs k d)) (fails (b + k) d (omega arith) (λ w. absurd (omega arith)))) in
+    let part = take (b - a) (drop a xs) in
+    sym (append-nil (filter p part))
+    ∙ ap (λ z. filter p part ++ z) (sym back)
+    ∙ sym (filter-append p part (drop b xs))
+    ∙ ap (λ z. filter p z) (sym (drop_split xs a b le))
+    ∙ ap (λ z. z ++ filter p (drop a xs)) (sym front)
+    ∙ sym (filter-append p (take a xs) (drop a xs))
+    ∙ ap (λ z. filter p z) (take-append-drop a xs)
+
+-- an edge that is covered and between two classes is in their part
+covered_within : (places : Places) (i j k : ℕ) (e : Edge) → Covers places k e → is_between i j e ≡ true → ((part_of places i j).0 ≤ k) × (k < (part_of places i j).1)
+covered_within places i j k (Vertical c) h t = cc
+covered_within places i j k (Horizontal c d) h t = cc
+covered_within places i j k (Diagonal a b f) h t =
+    let both = and_parts (a.0 == i) (b.0 == j) t in
+    let reader : a.0 ≡ i = eqb-true a.0 i both.0 in
+    let writer : b.0 ≡ j = eqb-true b.0 j both.1 in
+    subst (λ z. ((part_of places i z).0 ≤ k) × (k < (part_of places i z).1)) writer (subst (λ z. ((part_of places z b.0).0 ≤ k) × (k < (part_of places z b.0).1)) reader h)
+
+-- no part ends before it begins
+part_in_order : (entries : List Entry) (count : ℕ) (places : Places) → ArePlaces entries count places → (i j : ℕ) → (part_of places i j).0 ≤ (part_of places i j).1
+part_in_order entries count places h i j =
+    elim (cases_lt (cell places i j) (length places.parts)) [
+      | inl l ↦ (h.within (cell places i j) (0, 0) l).0
+      | inr l ↦ subst (λ (z : ℕ × ℕ). z.0 ≤ z.1) (sym (get_or_past places.parts (cell places i j) (0, 0) l)) (omega arith)
+    ]
+
+-- the part for two classes has the diagonals between them
+pub diagonals_in_part : (entries : List Entry) (places : Places) → ArePlaces entries (length entries) places → (i j : ℕ)
+    → filter (λ e. is_between i j e.edge) (take ((part_of places i j).1 - (part_of places i j).0) (drop (part_of places i j).0 entries)) ≡ filter (λ e. is_between i j e.edge) entries
+diagonals_in_part entries places h i j =
+    filter_part (λ e. is_between i j e.edge) entries (part_of places i j).0 (part_of places i j).1 (part_in_order entries (length entries) places h i j)
+    (λ k d l t. covered_within places i j k (get_or entries k d).edge (h.covers k d l) t)
+
+-- what asks is between
+asks_between : (test : ℕ → Bool) (i j : ℕ) (e : Edge) (b : Bool) → (asks test i j e && b) ≡ true → is_between i j e ≡ true
+asks_between test i j (Vertical c) b t = t
+asks_between test i j (Horizontal c d) b t = t
+asks_between test i j (Diagonal a c f) b t =
+    let asking = (and_parts ((a.0 == i) && ((c.0 == j) && test f.0)) b t).0 in
+    let parts = and_parts (a.0 == i) ((c.0 == j) && test f.0) asking in
+    and_from (a.0 == i) (c.0 == j) parts.0 (and_parts (c.0 == j) (test f.0) parts.1).0
+
+asks_by-between : (protocol : Protocol → Bool) (test : ℕ → Bool) (xs ys : List Entry) (i j : ℕ) → filter (λ e. is_between i j e.edge) xs ≡ filter (λ e. is_between i j e.edge) ys → asks_by protocol test xs i j ≡ asks_by protocol test ys i j
+asks_by-between protocol test xs ys i j e =
+    let asking : Entry → Bool = λ z. asks test i j z.edge && protocol z.protocol in
+    let between : Entry → Bool = λ z. is_between i j z.edge in
+    let here : (z : Entry) → asking z ≡ true → between z ≡ true = λ z t. asks_between test i j z.edge (protocol z.protocol) t in
+    sym (any-filter_same asking between true here xs) ∙ ap (λ z. list_any asking z) e ∙ any-filter_same asking between true here ys
+
+-- lists with the same diagonals between the reader and the writer set one condition
+pub condition_on-between : (test : ℕ → Bool) (xs ys : List Entry) (i own p2 j : ℕ) → filter (λ e. is_between i j e.edge) xs ≡ filter (λ e. is_between i j e.edge) ys → condition_on test xs i own p2 j ≡ condition_on test ys i own p2 j
+condition_on-between test xs ys i own p2 j e =
+    ap (λ z. cond z (Some (cond_of j own)) (cond (asks_by is_p2 test xs i j) (Some (cond_of j p2)) None)) (asks_by-between is_p3 test xs ys i j e)
+    ∙ ap (λ z. cond (asks_by is_p3 test ys i j) (Some (cond_of j own)) (cond z (Some (cond_of j p2)) None)) (asks_by-between is_p2 test xs ys i j e)

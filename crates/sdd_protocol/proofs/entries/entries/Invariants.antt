@@ -1,0 +1,5 @@
+use Rattle.sdd_protocol.specs.Entries.{AreEntries}
+use Rattle.sdd_protocol.proofs.entries.entries.Given as goal
+
+abbrev pub invariant-loop-k : goal.invariant-loop-k
+invariant-loop-k l = AreEntries l.edges l.blocks l.k l.entries.items

@@ -1,0 +1,21 @@
+ghost use Rattle.sdd_protocol.specs.Laws.{OneBlock, OneProtocol, OneTable};
+
+use sdd_catalog::Catalogue;
+
+/// A law of every catalogue: the diagonals of one reader and one writer lie in one block, and so have
+/// one protocol. Takes no memory.
+#[tactic(auto, using(crate::proofs::Laws::one_block, crate::proofs::Laws::one_protocol))]
+pub fn law_one_protocol(cat: &Catalogue)
+    ensures block { OneBlock cat.now }
+    ensures protocol { OneProtocol cat.now }
+{
+    let _ = cat;
+}
+
+/// A law of every catalogue: it has one table. Takes no memory.
+#[tactic(auto, using(crate::proofs::Laws::one_table))]
+pub fn law_one_table(cat: &Catalogue)
+    ensures { OneTable cat.now }
+{
+    let _ = cat;
+}
