@@ -2,6 +2,7 @@ pub mod Numbers
 pub mod Queries
 pub mod Shapes
 pub mod Columns
+pub mod Entries
 pub mod Among
 pub mod Walks
 pub mod PieceLaws

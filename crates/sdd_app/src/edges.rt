@@ -1,6 +1,5 @@
 //! The text of a conflict graph and of a protocol table.
-ghost use Rattle.std.specs.Prelude.{◌≡◌, ◌≤◌, ◌++◌, ℕ, List, length, IfOk, OnOk, flat_map};
-ghost use Rattle.std.specs.List.{All};
+ghost use Rattle.std.specs.Prelude.{◌≡◌, ◌≤◌, ◌++◌, length, All, IfOk, OnOk};
 ghost use Rattle.sdd_graph.specs.Edges.{IsEdgeOf};
 ghost use Rattle.sdd_protocol.specs.Protocols.{IsTable};
 ghost use Rattle.sdd_app.specs.Edges as shown;
@@ -182,7 +181,36 @@ fn put_diagonal_line(
     }
 }
 
-/// One line for each edge, in their order.
+fn put_edge_lines(
+    text: &mut Vec<u8>,
+    catalogue: &Catalogue,
+    entries: &[Entry],
+) -> Result<(), NoMemory>
+    requires { All (λ e. IsEdgeOf catalogue.now e.edge) entries.now }
+    ensures { OnOk result (text.new.items ≡ text.old.items ++ shown.graph_text catalogue.now entries.now) }
+{
+    'entries: for entry in entries {
+        put_edge_line(text, catalogue, entry)?;
+    }
+    Ok(())
+}
+
+fn put_diagonal_lines(
+    text: &mut Vec<u8>,
+    catalogue: &Catalogue,
+    entries: &[Entry],
+) -> Result<(), NoMemory>
+    requires { All (λ e. IsEdgeOf catalogue.now e.edge) entries.now }
+    ensures { OnOk result (text.new.items ≡ text.old.items ++ shown.table_text catalogue.now entries.now) }
+{
+    'entries: for entry in entries {
+        put_diagonal_line(text, catalogue, entry)?;
+    }
+    Ok(())
+}
+
+/// One line for each edge, in their order. Costs time in the length of the text.
+#[tactic(auto, using(crate::proofs::Entries::entries_known))]
 pub fn graph_text(
     alloc: Global,
     catalogue: &Catalogue,
@@ -192,13 +220,13 @@ pub fn graph_text(
     ensures { IfOk result (λ v. v.items ≡ shown.graph_text catalogue.now table.now) }
 {
     let mut text = Vec::new(alloc);
-    'entries: for entry in table.entries() {
-        put_edge_line(&mut text, catalogue, entry)?;
-    }
+    put_edge_lines(&mut text, catalogue, table.entries())?;
     Ok(text)
 }
 
-/// One line for each diagonal, in their order.
+/// One line for each diagonal, in their order. Costs time in the edges and, for each diagonal, in the
+/// reads of its class.
+#[tactic(auto, using(crate::proofs::Entries::entries_known))]
 pub fn table_text(
     alloc: Global,
     catalogue: &Catalogue,
@@ -208,8 +236,6 @@ pub fn table_text(
     ensures { IfOk result (λ v. v.items ≡ shown.table_text catalogue.now table.now) }
 {
     let mut text = Vec::new(alloc);
-    'entries: for entry in table.entries() {
-        put_diagonal_line(&mut text, catalogue, entry)?;
-    }
+    put_diagonal_lines(&mut text, catalogue, table.entries())?;
     Ok(text)
 }

@@ -12,7 +12,7 @@ use crate::edges::{graph_text, table_text};
 use crate::status::Status;
 use sdd_base::{NoMemory, Shelf};
 use sdd_catalog::Catalogue;
-use sdd_protocol::protocol_table;
+use sdd_protocol::table;
 use std::alloc::Global;
 
 /// What is told of a catalogue.
@@ -33,11 +33,11 @@ fn listed(alloc: Global, catalogue: &Catalogue, listing: Listing) -> Result<Vec<
     match listing {
         Listing::Counts => counts(alloc, catalogue),
         Listing::Graph => {
-            let table = protocol_table(alloc, catalogue)?;
+            let table = table(alloc, catalogue)?;
             graph_text(alloc, catalogue, &table)
         }
         Listing::Table => {
-            let table = protocol_table(alloc, catalogue)?;
+            let table = table(alloc, catalogue)?;
             table_text(alloc, catalogue, &table)
         }
     }

@@ -1,0 +1,17 @@
+-- The entries of a table are edges of its catalogue.
+use Rattle.std.proofs.Common.{◌≡◌, List, [], ◌∷◌, map, sym, subst}
+use Rattle.std.specs.Prelude.{All}
+use Rattle.sdd_catalog.specs.Catalogue.{Catalogue}
+use Rattle.sdd_graph.specs.Edges.{IsEdgeOf}
+use Rattle.sdd_graph.specs.declared.edge.Edge.{Edge}
+use Rattle.sdd_graph.proofs.Known.{edges_known}
+use Rattle.sdd_protocol.specs.Protocols.{IsTable}
+use Rattle.sdd_protocol.specs.declared.entry.Entry.{Entry}
+
+-- what holds of each edge of the entries holds of each entry
+all_of_edges : (P : Edge → Type 0) (entries : List Entry) → All P (map (λ (e : Entry). e.edge) entries) → All (λ (e : Entry). P e.edge) entries
+all_of_edges P [] all = all
+all_of_edges P (e ∷ entries) all = (all.0, all_of_edges P entries all.1)
+
+pub entries_known : (cat : Catalogue) (entries : List Entry) → IsTable cat entries → All (λ (e : Entry). IsEdgeOf cat e.edge) entries
+entries_known cat entries t = all_of_edges (IsEdgeOf cat) entries (subst (λ (edges : List Edge). All (IsEdgeOf cat) edges) (sym t.edges) (edges_known cat))
