@@ -1,6 +1,7 @@
 -- The entries of a table are edges of its catalogue.
-use Rattle.std.proofs.Common.{◌≡◌, List, [], ◌∷◌, map, sym, subst}
+use Rattle.std.proofs.Common.{List, [], ◌∷◌, map, sym, subst}
 use Rattle.std.specs.Prelude.{All}
+use Rattle.std.proofs.lemmas.List.Elements.{All-nil, All-cons, All-head, All-tail}
 use Rattle.sdd_catalog.specs.Catalogue.{Catalogue}
 use Rattle.sdd_graph.specs.Edges.{IsEdgeOf}
 use Rattle.sdd_graph.specs.declared.edge.Edge.{Edge}
@@ -10,8 +11,10 @@ use Rattle.sdd_protocol.specs.declared.entry.Entry.{Entry}
 
 -- what holds of each edge of the entries holds of each entry
 all_of_edges : (P : Edge → Type 0) (entries : List Entry) → All P (map (λ (e : Entry). e.edge) entries) → All (λ (e : Entry). P e.edge) entries
-all_of_edges P [] all = all
-all_of_edges P (e ∷ entries) all = (all.0, all_of_edges P entries all.1)
+all_of_edges P [] all = All-nil (λ (e : Entry). P e.edge)
+all_of_edges P (e ∷ entries) all =
+    let edges : List Edge = map (λ (d : Entry). d.edge) entries in
+    All-cons (λ (d : Entry). P d.edge) e entries (All-head P e.edge edges all) (all_of_edges P entries (All-tail P e.edge edges all))
 
 pub entries_known : (cat : Catalogue) (entries : List Entry) → IsTable cat entries → All (λ (e : Entry). IsEdgeOf cat e.edge) entries
 entries_known cat entries t = all_of_edges (IsEdgeOf cat) entries (subst (λ (edges : List Edge). All (IsEdgeOf cat) edges) (sym t.edges) (edges_known cat))

@@ -1,6 +1,6 @@
 -- A catalogue with one of each is its first parts.
-use Rattle.std.proofs.Common.{◌≡◌, ℕ, ◌-◌, List, [], ◌∷◌, length, slice_index_or, refl, ap, sym, ◌∙◌, arith}
-use Rattle.sdd_catalog.specs.Catalogue.{Catalogue, relation_at, fragment_at, class_at}
+use Rattle.std.proofs.Common.{◌≡◌, ℕ, List, [], ◌∷◌, length, slice_index_or, refl, ap, ◌∙◌, arith}
+use Rattle.sdd_catalog.specs.Catalogue.{Catalogue}
 use Rattle.sdd_catalog.specs.declared.resolved.Relation.{Relation}
 use Rattle.sdd_catalog.specs.declared.resolved.Fragment.{Fragment}
 use Rattle.sdd_catalog.specs.declared.resolved.Class.{Class}

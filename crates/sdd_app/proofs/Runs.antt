@@ -1,6 +1,6 @@
 -- From two files that were read to the answer for the words that name them.
 use Rattle.std.proofs.Common.{◌≡◌, ◌≢◌, ◌∷◌, ℕ, ◌^◌, ◌≤◌, List, [], length, Option, Some, Result, Ok, Err, refl, ap, sym, ◌∙◌, subst, arith, ◌⊎◌, inl, inr}
-use Rattle.std.specs.Prelude.{IsSome, IsErrOf, IsTrue, IfSome}
+use Rattle.std.specs.Prelude.{IsErrOf, IsTrue, IfSome}
 use Rattle.sdd_app.specs.declared.first.FirstWork.{FirstWork}
 use Rattle.sdd_app.specs.declared.listing.Listing.TheVariants as listings
 use Rattle.sdd_app.specs.declared.status.Status.{Status}

@@ -1,10 +1,10 @@
 -- What is told of a sink and of files, by cases.
-use Rattle.std.proofs.Common.{◌≡◌, ℕ, zero, suc, flat_map, slice_index_or, ◌∷◌, [], ◌++◌, drop, None, refl, ap, append_assoc, append-nil, ◌+◌, ◌<◌, ◌≤◌, List, length, take, Option, Some, Result, Ok, Err, sym, ◌∙◌, arith, subst, inl, inr}
+use Rattle.std.proofs.Common.{◌≡◌, ℕ, zero, suc, flat_map, slice_index_or, ◌∷◌, [], ◌++◌, drop, None, refl, ap, append_assoc, append-nil, ◌+◌, ◌<◌, ◌≤◌, List, length, take, Option, Some, sym, ◌∙◌, arith, subst, inl, inr}
 use Rattle.std.proofs.lemmas.Bool.{cases_lt}
-use Rattle.std.specs.Prelude.{IfSome, OnOk, OnErr}
+use Rattle.std.specs.Prelude.{IfSome}
 use Rattle.std.proofs.lemmas.List.{take_all, take-append-drop}
 use Rattle.std.proofs.Math.Seq.{take-append_seam}
-use Rattle.sdd_base.specs.Outside.{HasCause, ReadsTo, Rose, with_end}
+use Rattle.sdd_base.specs.Outside.{ReadsTo, Rose, with_end}
 use Rattle.sdd_app.specs.Answer.{TakesOrFaults}
 
 -- what a sink took grows by nothing, and by one text after another

@@ -211,11 +211,7 @@ fn put_diagonal_lines(
 
 /// One line for each edge, in their order. Costs time in the length of the text.
 #[tactic(auto, using(crate::proofs::Entries::entries_known))]
-pub fn graph_text(
-    alloc: Global,
-    catalogue: &Catalogue,
-    table: &Table,
-) -> Result<Vec<u8>, NoMemory>
+pub fn graph_text(alloc: Global, catalogue: &Catalogue, table: &Table) -> Result<Vec<u8>, NoMemory>
     requires { IsTable catalogue.now table.now }
     ensures { IfOk result (λ v. v.items ≡ shown.graph_text catalogue.now table.now) }
 {
@@ -227,11 +223,7 @@ pub fn graph_text(
 /// One line for each diagonal, in their order. Costs time in the edges and, for each diagonal, in the
 /// reads of its class.
 #[tactic(auto, using(crate::proofs::Entries::entries_known))]
-pub fn table_text(
-    alloc: Global,
-    catalogue: &Catalogue,
-    table: &Table,
-) -> Result<Vec<u8>, NoMemory>
+pub fn table_text(alloc: Global, catalogue: &Catalogue, table: &Table) -> Result<Vec<u8>, NoMemory>
     requires { IsTable catalogue.now table.now }
     ensures { IfOk result (λ v. v.items ≡ shown.table_text catalogue.now table.now) }
 {

@@ -73,7 +73,7 @@ fn statuses_and_what_is_written(rt: HostRuntime) -> Result<(), Fail> {
             "write fault\n",
         ),
         ("check nofile", 99, Status::ReadFault, "", "read fault\n"),
-        ("graph cat", 99, Status::Unbuilt, "", "unbuilt\n"),
+        ("plain cat work", 99, Status::Unbuilt, "", "unbuilt\n"),
         ("make 1 2048", 99, Status::Unbuilt, "", "unbuilt\n"),
     ] {
         let mut shelf = MemShelf::new(

@@ -1,4 +1,4 @@
-use Rattle.std.proofs.Common.{◌≡◌, ◌∙◌, ℕ, List, Some, Ok, Err, Result, ap, length}
+use Rattle.std.proofs.Common.{◌≡◌, ◌∙◌, Some, Ok, Result, ap}
 use Rattle.sdd_base.specs.Outside.{find_file}
 use Rattle.sdd_catalog.specs.Catalogue.{Catalogue}
 use Rattle.sdd_catalog.specs.declared.fault.CatFault.{CatFault}
