@@ -1,5 +1,5 @@
 -- Worked rows of conflict graphs.
-use Rattle.std.specs.Prelude.{ℕ, ℤ, pos, negsuc, ◌-◌, ◌^◌, ◌≡◌, List, [], ◌∷◌, refl}
+use Rattle.std.specs.Prelude.{ℕ, pos, negsuc, ◌-◌, ◌^◌, ◌≡◌, List, [], ◌∷◌, refl}
 use Rattle.sdd_catalog.specs.declared.parts.Kind.TheVariants as kinds
 use Rattle.sdd_catalog.specs.declared.resolved.Relation.{Relation}
 use Rattle.sdd_catalog.specs.declared.resolved.Fragment.{Fragment}
