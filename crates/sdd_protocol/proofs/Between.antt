@@ -26,12 +26,12 @@ filter_part p xs a b le h =
     λ k d l n. elim (cases_Bool (p (get_or xs k d))) [ inl t ↦ absurd (n (h k d l t)) | inr f ↦ f ] in
     let front : filter p (take a xs) ≡ [] =
     filter_none p (take a xs) (λ k d l.
-      let m = length-take a xs in
-      subst (λ z. p z ≡ false) (sym (get_or-take a xs k d (omega arith))) (fails k d (omega arith) (λ w. absurd (omega arith)))) in
+    let m = length-take a xs in
+    subst (λ z. p z ≡ false) (sym (get_or-take a xs k d (omega arith))) (fails k d (omega arith) (λ w. absurd (omega arith)))) in
     let back : filter p (drop b xs) ≡ [] =
     filter_none p (drop b xs) (λ k d l.
-      let m = length-drop b xs in
-      subst (λ z. p z ≡ false) (sym (get_or-drop b xs k d)) (fails (b + k) d (omega arith) (λ w. absurd (omega arith)))) in
+    let m = length-drop b xs in
+    subst (λ z. p z ≡ false) (sym (get_or-drop b xs k d)) (fails (b + k) d (omega arith) (λ w. absurd (omega arith)))) in
     let part = take (b - a) (drop a xs) in
     sym (append-nil (filter p part))
     ∙ ap (λ z. filter p part ++ z) (sym back)

@@ -1,20 +1,19 @@
 -- The laws of tables.
-use Rattle.std.proofs.Common.{ℕ, ◌≡◌, ◌≢◌, List, map, Some, sym, ap, ◌∙◌, subst, inl, inr}
-use Rattle.std.specs.Prelude.{All, slice_get, length, option_map}
+use Rattle.std.proofs.Common.{ℕ, ◌≡◌, ◌≢◌, map, Some, sym, ap, ◌∙◌, inl, inr}
+use Rattle.std.specs.Prelude.{slice_get, length, option_map}
 use Rattle.std.proofs.lemmas.Bool.{cases_eq}
 use Rattle.std.proofs.lemmas.Option.{slice_get-map, same_Some}
 use Rattle.sdd_blocks.proofs.OneNumbering.{one_numbering}
 use Rattle.sdd_catalog.specs.Catalogue.{Catalogue}
 use Rattle.sdd_graph.specs.Edges.{JoinsNodes}
 use Rattle.sdd_graph.specs.Graph.{conflict_graph, ends, read_node, write_node}
-use Rattle.sdd_graph.specs.declared.edge.Edge.{Edge}
 use Rattle.sdd_graph.specs.declared.edge.Edge.TheVariants.{Diagonal}
 use Rattle.sdd_graph.proofs.Known.{edges_join}
 use Rattle.sdd_protocol.specs.Laws.{OneBlock, OneProtocol, OneTable}
 use Rattle.sdd_protocol.specs.Protocols.{vertical_block, diagonal_protocol, protocol_in}
 use Rattle.sdd_protocol.specs.declared.entry.Entry.{Entry}
 use Rattle.sdd_protocol.proofs.Parallel.{parallel_number}
-use Rattle.sdd_protocol.proofs.Tables.{all_at, edges_of, blocks_of, same_entries}
+use Rattle.sdd_protocol.proofs.Tables.{all_at, blocks_of, same_entries}
 
 -- the diagonals of one reader and one writer lie in one block
 pub one_block : (cat : Catalogue) → OneBlock cat
@@ -25,7 +24,7 @@ one_block cat blocks h j k a b reader writer f g p q x y =
       | inl e ↦ same_Some a b (sym x ∙ ap (λ z. slice_get blocks z) e ∙ y)
       | inr n ↦
           (parallel_number (map ends edges) blocks h j k (read_node reader.0) (write_node writer.0) a b n apart
-            (slice_get-map ends edges j ∙ ap (λ z. option_map ends z) p) (slice_get-map ends edges k ∙ ap (λ z. option_map ends z) q) x y).0
+          (slice_get-map ends edges j ∙ ap (λ z. option_map ends z) p) (slice_get-map ends edges k ∙ ap (λ z. option_map ends z) q) x y).0
     ]
 
 -- and have one protocol
@@ -37,7 +36,7 @@ one_protocol cat entries t j k d e reader writer f g p q x y =
     λ n z h. slice_get-map (λ w. w.block) entries n ∙ ap (λ o. option_map (λ (w : Entry). w.block) o) h in
     let block : d.block ≡ e.block =
     one_block cat (blocks_of entries) t.blocks j k d.block e.block reader writer f g
-      (edge_at j d p ∙ ap (λ z. Some z) x) (edge_at k e q ∙ ap (λ z. Some z) y) (block_at j d p) (block_at k e q) in
+    (edge_at j d p ∙ ap (λ z. Some z) x) (edge_at k e q ∙ ap (λ z. Some z) y) (block_at j d p) (block_at k e q) in
     all_at (λ z. z.protocol ≡ protocol_in entries z.edge z.block) entries j d t.protocols p
     ∙ ap (λ z. protocol_in entries z d.block) x
     ∙ ap (λ z. diagonal_protocol z (vertical_block entries reader.0)) block
@@ -48,4 +47,4 @@ one_protocol cat entries t j k d e reader writer f g p q x y =
 pub one_table : (cat : Catalogue) → OneTable cat
 one_table cat a b p q =
     same_entries a b (p.edges ∙ sym q.edges)
-      (one_numbering (map ends (conflict_graph cat)) (blocks_of a) (blocks_of b) p.blocks q.blocks) p.protocols q.protocols
+    (one_numbering (map ends (conflict_graph cat)) (blocks_of a) (blocks_of b) p.blocks q.blocks) p.protocols q.protocols

@@ -1,7 +1,6 @@
 -- The steps from a catalogue's conflict graph to its table.
-use Rattle.std.proofs.Common.{ℕ, ◌+◌, ◌-◌, ◌*◌, ◌<◌, ◌≤◌, ◌≡◌, List, ◌++◌, map, length, get_or, take, refl, sym, ap, ◌∙◌, subst, arith, length-append}
+use Rattle.std.proofs.Common.{ℕ, ◌+◌, ◌-◌, ◌*◌, ◌<◌, ◌≤◌, ◌≡◌, List, ◌++◌, map, length, get_or, refl, sym, ap, ◌∙◌, subst, arith, length-append}
 use Rattle.std.specs.Prelude.{All}
-use Rattle.std.specs.List.{range_with_len}
 use Rattle.std.proofs.lemmas.List.{take_all, get_or-map, length-map}
 use Rattle.std.proofs.lemmas.List.Elements.{All-map, All-weaker}
 use Rattle.std.proofs.lemmas.List.FromFn.{length-map-range_with_len}

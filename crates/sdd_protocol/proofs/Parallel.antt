@@ -1,8 +1,7 @@
 -- Parallel edges: two edges between the same two nodes lie in one block.
 use Rattle.std.proofs.Common.{ℕ, zero, suc, ◌≡◌, ◌≢◌, List, [], ◌∷◌, Some, refl, sym, inl, inr, lit≤}
 use Rattle.std.specs.Prelude.{slice_get}
-use Rattle.sdd_blocks.specs.Graph.{Step}
-use Rattle.sdd_blocks.specs.Blocks.{AreBlocks, ShareACycle, OnACycle}
+use Rattle.sdd_blocks.specs.Blocks.{AreBlocks, ShareACycle}
 use Rattle.sdd_blocks.specs.Blocks.Linked.{last}
 use Rattle.sdd_blocks.proofs.Linked.{share_first}
 

@@ -1,7 +1,7 @@
 -- The parts of a list of entries that have its diagonals, by one entry after another.
-use Rattle.std.proofs.Common.{ℕ, ◌+◌, ◌*◌, ◌<◌, ◌≤◌, ◌==◌, ◌≡◌, ◌≢◌, Bool, true, false, cond, List, length, get_or, set, replicate, refl, sym, ap, ◌∙◌, subst, arith, inl, inr, length-set}
+use Rattle.std.proofs.Common.{ℕ, ◌+◌, ◌*◌, ◌<◌, ◌≤◌, ◌==◌, ◌≡◌, true, false, cond, List, length, get_or, set, refl, sym, ap, ◌∙◌, subst, arith, inl, inr, length-set}
 use Rattle.std.specs.Prelude.{All}
-use Rattle.std.proofs.lemmas.Bool.{cases_eq, eqb-true, eqb-false}
+use Rattle.std.proofs.lemmas.Bool.{cases_eq, eqb-true}
 use Rattle.std.proofs.lemmas.List.{get_or_default, get_or-set_same, get_or-set_other, length-replicate}
 use Rattle.std.proofs.lemmas.List.Elements.{All-replicate, All-set, All-weaker}
 use Rattle.std.proofs.lemmas.Nat.{mul-add-lt}
@@ -95,7 +95,7 @@ module _ (entries : List Entry) (count : ℕ) (places : Places) (h : ArePlaces e
         square = square_more e;
         within = within_more e c;
         covers = λ k x m. elim (cases_eq k count) [
-          | inl s ↦ 
+          | inl s ↦
               let same : (get_or entries k x).edge ≡ e = ap (λ z. (get_or entries z x).edge) s ∙ ap (λ z. z.edge) (get_or_default entries count x d l) in
               subst (λ z. Covers (with_edge places e count) k z) (sym same) (subst (λ z. Covers (with_edge places e count) z e) (sym s) (covers_new e c))
           | inr n ↦ covers_same e c k (get_or entries k x).edge (h.covers k x (omega arith)) (omega arith)

@@ -37,17 +37,13 @@ pub(crate) fn condition_on(
 fn ask_by_p2(entries: &[Entry], asked: &Asked, reader: ClassNo, writer: ClassNo) -> bool
     ensures { result ≡ asks_by is_p2 (is_marked asked.now) entries.now reader.0 writer.0 }
 {
-    entries
-        .iter()
-        .any(|entry| asks(entry.edge, asked, reader, writer) && entry.protocol.is_p2())
+    entries.iter().any(|entry| asks(entry.edge, asked, reader, writer) && entry.protocol.is_p2())
 }
 
 fn ask_by_p3(entries: &[Entry], asked: &Asked, reader: ClassNo, writer: ClassNo) -> bool
     ensures { result ≡ asks_by is_p3 (is_marked asked.now) entries.now reader.0 writer.0 }
 {
-    entries
-        .iter()
-        .any(|entry| asks(entry.edge, asked, reader, writer) && entry.protocol.is_p3())
+    entries.iter().any(|entry| asks(entry.edge, asked, reader, writer) && entry.protocol.is_p3())
 }
 
 /// Whether the edge is a diagonal from the reader to the writer for a fragment that is asked for.

@@ -9,11 +9,7 @@ use sdd_graph::Edge;
 use std::alloc::Global;
 
 /// The entries of edges with their blocks, where the vertical edges come first. One pass.
-pub(crate) fn entries(
-    alloc: Global,
-    edges: &[Edge],
-    blocks: &[u32],
-) -> Result<Vec<Entry>, NoMemory>
+pub(crate) fn entries(alloc: Global, edges: &[Edge], blocks: &[u32]) -> Result<Vec<Entry>, NoMemory>
     requires one_each { length blocks.now ≡ length edges.now }
     requires readers { All (HasVertical (length blocks.now)) edges.now }
     ensures { IfOk result (λ entries. AreEntries edges.now blocks.now (length edges.now) entries.items) }
@@ -49,11 +45,9 @@ fn protocol(edge: Edge, block: u32, blocks: &[u32]) -> Protocol
 fn diagonal_protocol(block: u32, vertical: u32) -> Protocol
     ensures { result ≡ diagonal_protocol block vertical }
 {
-    if block == 0 {
-        Protocol::P1
-    } else if block == vertical {
-        Protocol::P3
-    } else {
-        Protocol::P2
+    match block {
+        0 => Protocol::P1,
+        _ if block == vertical => Protocol::P3,
+        _ => Protocol::P2,
     }
 }

@@ -19,3 +19,6 @@ pub use law::{law_one_protocol, law_one_table};
 pub use making::table;
 pub use protocol::Protocol;
 pub use protocol_table::Table;
+
+#[cfg(test)]
+mod tests;

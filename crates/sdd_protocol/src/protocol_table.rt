@@ -105,9 +105,11 @@ impl Table {
         requires { classes ≤ 64 }
         ensures { IfOk result (λ conds. conds.items ≡ filter_map (condition_on (is_marked asked.now) self.now reader.0 own.0 p2.0) (numbers_to classes)) }
     {
-        Ok((1..classes + 1)
-            .filter_map(|writer| self.condition_on(asked, reader, ClassNo(writer), own, p2))
-            .collect(self.alloc)?)
+        Ok(
+            (1..classes + 1)
+                .filter_map(|writer| self.condition_on(asked, reader, ClassNo(writer), own, p2))
+                .collect(self.alloc)?,
+        )
     }
 
     /// The condition on a writer.
@@ -121,7 +123,14 @@ impl Table {
     ) -> Option<Cond>
         ensures { result ≡ condition_on (is_marked asked.now) self.now reader.0 own.0 p2.0 writer.0 }
     {
-        condition_on(self.diagonals(reader, writer), asked, reader, writer, own, p2)
+        condition_on(
+            self.diagonals(reader, writer),
+            asked,
+            reader,
+            writer,
+            own,
+            p2,
+        )
     }
 
     /// A part of the table that has all diagonals from the reader to the writer.

@@ -1,12 +1,10 @@
-use Rattle.std.proofs.Common.{ℕ, ◌+◌, ◌≡◌, List, map, length, All, sym, ap, ◌∙◌, subst}
+use Rattle.std.proofs.Common.{◌+◌, ◌≡◌, map, length, All, sym, ◌∙◌, subst}
 use Rattle.std.proofs.lemmas.List.{length-map}
 use Rattle.sdd_blocks.specs.Blocks.{AreBlocks}
 use Rattle.sdd_graph.specs.Graph.{ends}
-use Rattle.sdd_graph.specs.declared.edge.Edge.{Edge}
 use Rattle.sdd_protocol.specs.Entries.{HasVertical, AreEntries}
 use Rattle.sdd_protocol.specs.Places.{HasCell}
 use Rattle.sdd_protocol.specs.Protocols.{IsTable}
-use Rattle.sdd_protocol.specs.declared.entry.Entry.{Entry}
 use Rattle.sdd_protocol.proofs.MadeTable.{readers_there, cells_there, is_table}
 use Rattle.sdd_protocol.proofs.making.table.Goals as goal
 
@@ -25,7 +23,7 @@ of-requires-clause-cells c =
     let edges = c.deref-2.result.now in
     subst (λ n. All (λ e. HasCell (n + 1) e.edge) c.deref-4.result.now) (sym c.classes-2.ensures)
     (subst (λ z. All (λ e. HasCell (length cat.classes + 1) e.edge) z) (sym c.deref-4.ensures.value)
-      (cells_there cat edges c.deref-3.result.now c.in_ok-entries.entries.items (c.deref-2.ensures.value ∙ c.in_ok-edges.ensures.edges) c.in_ok-entries.ensures))
+    (cells_there cat edges c.deref-3.result.now c.in_ok-entries.entries.items (c.deref-2.ensures.value ∙ c.in_ok-edges.ensures.edges) c.in_ok-entries.ensures))
 
 pub returns : goal.returns
 returns c =

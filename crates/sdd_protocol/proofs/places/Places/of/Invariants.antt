@@ -1,6 +1,5 @@
 use Rattle.std.proofs.Common.{◌≡◌}
 use Rattle.sdd_protocol.specs.Places.{ArePlaces}
-use Rattle.sdd_protocol.proofs.Parts.{places_more}
 use Rattle.sdd_protocol.proofs.places.Places.of.Given as goal
 
 abbrev pub invariant-loop-k : goal.invariant-loop-k

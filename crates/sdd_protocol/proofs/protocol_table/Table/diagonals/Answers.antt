@@ -1,4 +1,4 @@
-use Rattle.std.proofs.Common.{◌-◌, ◌∙◌, Bool, List, ap, take, drop, filter}
+use Rattle.std.proofs.Common.{◌-◌, ◌∙◌, List, ap, take, drop, filter}
 use Rattle.sdd_protocol.specs.Places.{part_of, is_between}
 use Rattle.sdd_protocol.specs.declared.entry.Entry.{Entry}
 use Rattle.sdd_protocol.proofs.Between.{diagonals_in_part}

@@ -1,0 +1,53 @@
+-- Worked rows.
+use Rattle.std.specs.Prelude.{ℕ, pos, ◌≡◌, List, [], ◌∷◌, map, refl}
+use Rattle.sdd_catalog.specs.Catalogue.{Catalogue, catalogue_of}
+use Rattle.sdd_catalog.specs.Examples.{split}
+use Rattle.sdd_graph.specs.Graph.{class_no, frag_no, conflict_graph}
+use Rattle.sdd_graph.specs.declared.edge.Edge.TheVariants.{Vertical, Diagonal}
+use Rattle.sdd_protocol.specs.Conditions.{cond_of, conditions}
+use Rattle.sdd_protocol.specs.Protocols.{protocol_in}
+use Rattle.sdd_protocol.specs.declared.protocol.Protocol.{Protocol}
+use Rattle.sdd_protocol.specs.declared.protocol.Protocol.TheVariants.{P1, P2, P3}
+use Rattle.sdd_protocol.specs.declared.entry.Entry.{Entry}
+
+-- class 1 writes both fragments, class 2 reads them, each at its module
+abbrev two : Catalogue
+two = catalogue_of (split (pos 10) 1)
+
+abbrev vertical : ℕ → ℕ → Entry
+vertical i block = record { edge = Vertical (class_no i); block = block; protocol = P1 }
+
+abbrev diagonal : ℕ → ℕ → ℕ → ℕ → Protocol → Entry
+diagonal i j f block protocol = record { edge = Diagonal (class_no i) (class_no j) (frag_no f); block = block; protocol = protocol }
+
+-- its two diagonals form a block
+abbrev lines : List Entry
+lines = vertical 1 0 ∷ vertical 2 0 ∷ diagonal 2 1 1 1 P2 ∷ diagonal 2 1 2 1 P2 ∷ []
+
+pub edges_row : map (λ e. e.edge) lines ≡ conflict_graph two
+edges_row = refl
+
+-- the reader's vertical edge has no block
+pub other_block : protocol_in lines (Diagonal (class_no 2) (class_no 1) (frag_no 1)) 1 ≡ P2
+other_block = refl
+
+pub no_block : protocol_in lines (Diagonal (class_no 2) (class_no 1) (frag_no 1)) 0 ≡ P1
+no_block = refl
+
+pub reader_block : protocol_in (vertical 1 0 ∷ vertical 2 1 ∷ []) (Diagonal (class_no 2) (class_no 1) (frag_no 1)) 1 ≡ P3
+reader_block = refl
+
+-- at module 1 the reader of both fragments asks its one writer, up to the time of P2
+pub asks_once : conditions two lines 2 1 (frag_no 1 ∷ frag_no 2 ∷ []) 258 255 ≡ cond_of 1 255 ∷ []
+asks_once = refl
+
+-- fragment 2 is read at module 2
+pub asks_elsewhere : conditions two lines 2 1 (frag_no 2 ∷ []) 258 255 ≡ []
+asks_elsewhere = refl
+
+-- by P3 it would ask up to its own time
+pub asks_own : conditions two (diagonal 2 1 1 1 P3 ∷ []) 2 1 (frag_no 1 ∷ []) 258 255 ≡ cond_of 1 258 ∷ []
+asks_own = refl
+
+pub asks_nothing : conditions two (diagonal 2 1 1 0 P1 ∷ []) 2 1 (frag_no 1 ∷ []) 258 255 ≡ []
+asks_nothing = refl
