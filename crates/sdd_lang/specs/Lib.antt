@@ -6,5 +6,6 @@ pub mod Examples
 pub mod Fits
 pub mod Query
 pub mod Serial
+pub mod Source
 pub mod Update
 pub mod Uses
