@@ -7,5 +7,6 @@ pub mod Fits
 pub mod Query
 pub mod Serial
 pub mod Source
+pub mod Tuples
 pub mod Update
 pub mod Uses

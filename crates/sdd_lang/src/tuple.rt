@@ -1,0 +1,76 @@
+//! Tuples of rows: what their columns hold, and whether they meet conditions.
+ghost use Rattle.std.specs.Prelude.{◌≡◌, IfOk, map};
+ghost use Rattle.sdd_base.specs.Order.{column, value_cmp};
+ghost use Rattle.sdd_lang.specs.Condition.{value_at, meets, meets_all};
+ghost use Rattle.sdd_lang.specs.Tuples.{held, rows_lent};
+
+use crate::condition::{Condition, Ref};
+use sdd_base::{NoMemory, Parcel, Row, Value};
+use std::alloc::Global;
+use std::cmp::Ordering;
+
+/// The value of a row's column, or None where the column isn't there. Takes no memory.
+pub(crate) fn value_in(row: &Row, number: u32) -> Option<&Value>
+    ensures { held result ≡ column row.now number }
+{
+    row.as_slice().get((number as usize).saturating_sub(1))
+}
+
+/// The value of a column of a tuple, which has one row for each part of a statement, or None where
+/// the part or the column isn't there: then it counts as the number 0. Takes no memory.
+pub fn value_at<'a>(tuple: &[&'a Row], at: Ref) -> Option<&'a Value>
+    ensures { held result ≡ value_at (rows_lent tuple.now) at }
+{
+    match tuple.get((at.part as usize).saturating_sub(1)) {
+        Some(row) => value_in(row, at.column),
+        None => None,
+    }
+}
+
+/// Compares two values, of which one that isn't there counts as the number 0.
+fn compare(left: Option<&Value>, right: Option<&Value>) -> Ordering
+    ensures { result ≡ value_cmp (held left.entry) (held right.entry) }
+{
+    let zero = Value::Int(0);
+    left.unwrap_or(&zero).cmp(right.unwrap_or(&zero))
+}
+
+fn is_met(tuple: &[&Row], condition: &Condition) -> bool
+    ensures { result ≡ meets (rows_lent tuple.now) condition.now }
+{
+    match condition {
+        Condition::Const { left, op, value } => {
+            op.admits(compare(value_at(tuple, *left), Some(value)))
+        }
+        Condition::Same { left, right } => {
+            compare(value_at(tuple, *left), value_at(tuple, *right)).is_eq()
+        }
+    }
+}
+
+/// Whether the tuple meets all conditions. Takes no memory.
+pub fn meets_all(conds: &[Condition], tuple: &[&Row]) -> bool
+    ensures { result ≡ meets_all conds.now (rows_lent tuple.now) }
+{
+    conds.iter().all(|condition| is_met(tuple, condition))
+}
+
+fn copied(value: Option<&Value>) -> Result<Value, NoMemory>
+    ensures { IfOk result (λ copy. copy ≡ held value.entry) }
+{
+    match value {
+        Some(value) => Ok(value.copy()?),
+        None => Ok(Value::Int(0)),
+    }
+}
+
+/// The listed columns of the tuple.
+pub fn project(alloc: Global, out: &[Ref], tuple: &[&Row]) -> Result<Row, NoMemory>
+    ensures { IfOk result (λ row. row ≡ map (value_at (rows_lent tuple.now)) out.now) }
+{
+    let mut values = Vec::new(alloc);
+    'columns: for at in out {
+        values.push(copied(value_at(tuple, *at))?)?;
+    }
+    Ok(Row::from_vec(values))
+}
