@@ -4,7 +4,10 @@
 mod assign;
 mod condition;
 mod effect;
+mod effect_over;
+mod pending;
 mod replace;
+mod run;
 mod source;
 mod statement;
 mod transaction;
@@ -17,7 +20,7 @@ pub use replace::replaced;
 pub use source::{Entries, Entry, Source};
 pub use statement::{Rels, Statements, Stmt};
 pub use transaction::Txn;
-pub use tuple::{meets_all, project, value_at};
+pub use tuple::{key_of, meets_all, project, value_at};
 
 #[cfg(test)]
 mod tests;

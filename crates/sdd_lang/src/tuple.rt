@@ -2,10 +2,13 @@
 ghost use Rattle.std.specs.Prelude.{◌≡◌, IfOk, map};
 ghost use Rattle.sdd_base.specs.Order.{column, value_cmp};
 ghost use Rattle.sdd_lang.specs.Condition.{value_at, meets, meets_all};
+ghost use Rattle.sdd_lang.specs.Database.{key_in};
+ghost use Rattle.sdd_lang.specs.Fits.{IsRelation};
 ghost use Rattle.sdd_lang.specs.Tuples.{held, rows_lent};
 
 use crate::condition::{Condition, Ref};
-use sdd_base::{NoMemory, Parcel, Row, Value};
+use sdd_base::{NoMemory, Parcel, RelNo, Row, Value};
+use sdd_catalog::Catalogue;
 use std::alloc::Global;
 use std::cmp::Ordering;
 
@@ -24,6 +27,17 @@ pub fn value_at<'a>(tuple: &[&'a Row], at: Ref) -> Option<&'a Value>
     match tuple.get((at.part as usize).saturating_sub(1)) {
         Some(row) => value_in(row, at.column),
         None => None,
+    }
+}
+
+/// The key of a relation's row: the number in its key column, or 0 where there is none. Takes no memory.
+pub fn key_of(cat: &Catalogue, rel: RelNo, row: &Row) -> i64
+    requires { IsRelation cat.now rel.0 }
+    ensures { result ≡ key_in cat.now rel.0 row.now }
+{
+    match value_in(row, cat.relation(rel).key) {
+        Some(Value::Int(number)) => *number,
+        _ => 0,
     }
 }
 
