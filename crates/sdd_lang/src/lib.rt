@@ -2,16 +2,21 @@
 #![tactic(auto)]
 
 mod assign;
+mod classes;
 mod condition;
 mod effect;
+mod keys;
 mod statement;
 mod transaction;
+mod usage;
 
 pub use assign::{Assign, Sets};
+pub use classes::{class_for, read_set, write_set};
 pub use condition::{Condition, Conditions, Ref, Refs};
 pub use effect::Effect;
 pub use statement::{Rels, Statements, Stmt};
 pub use transaction::Txn;
+pub use usage::uses;
 
 #[cfg(test)]
 mod tests;
