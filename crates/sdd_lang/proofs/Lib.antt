@@ -1,2 +1,7 @@
+pub mod Firsts
+pub mod Numbering
+pub mod Pushdown
 pub mod Running
+pub mod Sets
 pub mod Sources
+pub mod UseLists
