@@ -4,4 +4,5 @@ pub mod Pushdown
 pub mod Running
 pub mod Sets
 pub mod Sources
+pub mod Standing
 pub mod UseLists

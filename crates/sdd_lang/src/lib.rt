@@ -25,7 +25,7 @@ pub use replace::replaced;
 pub use source::{Entries, Entry, Source};
 pub use statement::{Rels, Statements, Stmt};
 pub use transaction::Txn;
-pub use tuple::{key_of, meets_all, project, value_at};
+pub use tuple::{key_of, may_stand, meets_all, project, value_at};
 pub use usage::uses;
 
 #[cfg(test)]

@@ -1,10 +1,11 @@
 //! Tuples of rows: what their columns hold, and whether they meet conditions.
-ghost use Rattle.std.specs.Prelude.{◌≡◌, IfOk, map};
+ghost use Rattle.std.specs.Prelude.{◌≡◌, ◌∷◌, [], IfOk, map};
+ghost use Rattle.std.specs.List.{list_all};
 ghost use Rattle.sdd_base.specs.Order.{column, value_cmp};
 ghost use Rattle.sdd_lang.specs.Condition.{value_at, meets, meets_all};
 ghost use Rattle.sdd_lang.specs.Database.{key_in};
 ghost use Rattle.sdd_lang.specs.Fits.{IsRelation};
-ghost use Rattle.sdd_lang.specs.Tuples.{held, rows_lent};
+ghost use Rattle.sdd_lang.specs.Tuples.{held, rows_lent, may_stand};
 
 use crate::condition::{Condition, Ref};
 use sdd_base::{NoMemory, Parcel, RelNo, Row, Value};
@@ -67,6 +68,34 @@ pub fn meets_all(conds: &[Condition], tuple: &[&Row]) -> bool
     ensures { result ≡ meets_all conds.now (rows_lent tuple.now) }
 {
     conds.iter().all(|condition| is_met(tuple, condition))
+}
+
+/// Whether the row meets the condition, where this compares one of the part's columns with a constant.
+fn meets_own(condition: &Condition, part: u32, row: &Row) -> bool
+    ensures { result ≡ may_stand (condition.now ∷ []) part row.now }
+{
+    match condition {
+        Condition::Const { left, op, value } => {
+            left.part != part || op.admits(compare(value_in(row, left.column), Some(value)))
+        }
+        Condition::Same { .. } => true,
+    }
+}
+
+fn each_lets_stand(conds: &[Condition], part: u32, row: &Row) -> bool
+    ensures { result ≡ list_all (λ c. may_stand (c ∷ []) part row.now) conds.now }
+{
+    conds
+        .iter()
+        .all(|condition| meets_own(condition, part, row))
+}
+
+/// Whether the row may stand in the part of a tuple that meets the conditions, as far as they
+/// compare one of the part's columns with a constant. Takes no memory.
+pub fn may_stand(conds: &[Condition], part: u32, row: &Row) -> bool
+    ensures { result ≡ may_stand conds.now part row.now }
+{
+    each_lets_stand(conds, part, row)
 }
 
 fn copied(value: Option<&Value>) -> Result<Value, NoMemory>
