@@ -1,3 +1,5 @@
 pub mod Changing
 pub mod Chosen
+pub mod Gathering
+pub mod Products
 pub mod Ranges

@@ -1,4 +1,5 @@
 //! One database without copies, on which transactions run one after the other.
 #![tactic(auto)]
 
+mod product;
 mod rows;
