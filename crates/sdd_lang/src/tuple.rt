@@ -71,18 +71,18 @@ pub fn meets_all(conds: &[Condition], tuple: &[&Row]) -> bool
 }
 
 /// Whether the row meets the condition, where this compares one of the part's columns with a constant.
-fn meets_own(condition: &Condition, part: u32, row: &Row) -> bool
+fn meets_own(condition: &Condition, part: usize, row: &Row) -> bool
     ensures { result ≡ may_stand (condition.now ∷ []) part row.now }
 {
     match condition {
         Condition::Const { left, op, value } => {
-            left.part != part || op.admits(compare(value_in(row, left.column), Some(value)))
+            left.part as usize != part || op.admits(compare(value_in(row, left.column), Some(value)))
         }
         Condition::Same { .. } => true,
     }
 }
 
-fn each_lets_stand(conds: &[Condition], part: u32, row: &Row) -> bool
+fn each_lets_stand(conds: &[Condition], part: usize, row: &Row) -> bool
     ensures { result ≡ list_all (λ c. may_stand (c ∷ []) part row.now) conds.now }
 {
     conds
@@ -92,7 +92,7 @@ fn each_lets_stand(conds: &[Condition], part: u32, row: &Row) -> bool
 
 /// Whether the row may stand in the part of a tuple that meets the conditions, as far as they
 /// compare one of the part's columns with a constant. Takes no memory.
-pub fn may_stand(conds: &[Condition], part: u32, row: &Row) -> bool
+pub fn may_stand(conds: &[Condition], part: usize, row: &Row) -> bool
     ensures { result ≡ may_stand conds.now part row.now }
 {
     each_lets_stand(conds, part, row)

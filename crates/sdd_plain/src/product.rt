@@ -10,6 +10,7 @@ use std::alloc::Global;
 use std::collections::BTreeSet;
 
 /// What a query asks of tuples.
+#[derive(Drop)]
 pub(crate) struct Asked<'a> {
     pub(crate) out: &'a [Ref],
     pub(crate) conds: &'a [Condition],

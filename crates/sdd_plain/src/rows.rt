@@ -1,16 +1,17 @@
 //! The rows of all relations in memory.
-ghost use Rattle.std.specs.Prelude.{◌≡◌, ◌==◌, [], IfOk, OnOk, filter, fold};
+ghost use Rattle.std.specs.Prelude.{◌≡◌, ◌==◌, ◌+◌, [], All, IfOk, OnOk, filter, map};
 ghost use Rattle.sdd_catalog.specs.Catalogue.{fragment_at};
-ghost use Rattle.sdd_lang.specs.Database.{with_row, without_row, rows_of};
+ghost use Rattle.sdd_lang.specs.Database.{with_row, without_row, rows_of, database_of};
 ghost use Rattle.sdd_lang.specs.Serial.{changed_by, after_changes};
 ghost use Rattle.sdd_lang.specs.Source.{entries_of};
-ghost use Rattle.sdd_lang.specs.Tuples.{rows_lent};
+ghost use Rattle.sdd_lang.specs.Fits.{FitsStart};
+ghost use Rattle.sdd_lang.specs.Tuples.{rows_lent, may_stand};
 ghost use Rattle.sdd_lang.specs.Update.{chosen};
-ghost use Rattle.sdd_lang.proofs.Pushdown.{meets_restrictions};
+ghost use Rattle.sdd_plain.specs.Parts.{standing};
 
 use sdd_base::{Change, FragNo, NoMemory, Parcel, RelNo, Row};
 use sdd_catalog::Catalogue;
-use sdd_lang::{Condition, Entries, Entry, meets_all};
+use sdd_lang::{Condition, Entries, Entry, key_of, may_stand, meets_all};
 use std::alloc::Global;
 use std::collections::BTreeMap;
 use std::collections::btree_map::Range;
@@ -97,6 +98,68 @@ impl Rows {
             }
         }
         Ok(Entries::from_vec(entries))
+    }
+
+    /// The rows of the relation that may stand in the part.
+    fn part(
+        &self,
+        alloc: Global,
+        rel: RelNo,
+        part: usize,
+        conds: &[Condition],
+    ) -> Result<Vec<&Row>, NoMemory>
+        ensures { IfOk result (λ rows. rows_lent rows.items ≡ filter (may_stand conds.now part) (rows_of self.now rel.0)) }
+    {
+        let mut rows = Vec::new(alloc);
+        'rows: for (_, row) in self.of(rel) {
+            if may_stand(conds, part, row) {
+                rows.push(row)?;
+            }
+        }
+        Ok(rows)
+    }
+
+    /// Of each relation the rows that may stand in its part.
+    pub(crate) fn parts(
+        &self,
+        alloc: Global,
+        rels: &[RelNo],
+        conds: &[Condition],
+    ) -> Result<Vec<Vec<&Row>>, NoMemory>
+        ensures { IfOk result (λ parts. map (λ rows. rows_lent rows.items) parts.items ≡ standing self.now conds.now 1 rels.now) }
+    {
+        let mut parts = Vec::new(alloc);
+        'rels: for i in 0..rels.len() {
+            parts.push(self.part(alloc, rels[i], i + 1, conds)?)?;
+        }
+        Ok(parts)
+    }
+
+    /// Makes the changes, in order.
+    pub(crate) fn apply(&mut self, cat: &Catalogue, changes: &[Change]) -> Result<(), NoMemory>
+        ensures { OnOk result (self.new ≡ after_changes cat.now self.old changes.now) }
+    {
+        'changes: for change in changes {
+            self.change(cat, change)?;
+        }
+        Ok(())
+    }
+
+    /// The rows, of which the later of two with one key stands.
+    pub(crate) fn from_rows(
+        alloc: Global,
+        cat: &Catalogue,
+        rows: &[(RelNo, Row)],
+    ) -> Result<Self, NoMemory>
+        requires { All (FitsStart cat.now) rows.now }
+        ensures { IfOk result (λ built. built ≡ database_of cat.now rows.now) }
+    {
+        let mut built = Rows::new(alloc);
+        'rows: for (rel, row) in rows {
+            let key = key_of(cat, *rel, row);
+            built.put((rel.0, key), row.copy()?)?;
+        }
+        Ok(built)
     }
 }
 
