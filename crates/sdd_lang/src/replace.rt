@@ -23,7 +23,7 @@ fn sum(old: Option<&Value>, by: &i64) -> Result<Option<Value>, NoMemory>
 }
 
 /// Puts the value into the column, where it is there.
-fn put(mut row: Row, column: u32, value: Value) -> Row
+fn put(row: Row, column: u32, value: Value) -> Row
     ensures { result ≡ slice_set row (column - 1) value }
 {
     let place = (column as usize).saturating_sub(1);

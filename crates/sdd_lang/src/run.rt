@@ -65,8 +65,8 @@ impl Run {
         self.changes.put(cat, rel, &key, Some(row.copy()?))
     }
 
-    #[tactic(auto, using(crate::proofs::Running::room_left))]
     /// False where the answers have too many rows together.
+    #[tactic(auto, using(crate::proofs::Running::room_left))]
     fn query<S: Source>(
         &mut self,
         alloc: Global,

@@ -76,7 +76,8 @@ fn meets_own(condition: &Condition, part: usize, row: &Row) -> bool
 {
     match condition {
         Condition::Const { left, op, value } => {
-            left.part as usize != part || op.admits(compare(value_in(row, left.column), Some(value)))
+            left.part as usize != part
+                || op.admits(compare(value_in(row, left.column), Some(value)))
         }
         Condition::Same { .. } => true,
     }

@@ -59,12 +59,12 @@ impl Plain {
         self.live
     }
 
-    #[tactic(auto, using(sdd_lang::proofs::Sources::effect_over_database))]
     /// Runs the transaction on the database and answers the user. A transaction that fails changes
     /// nothing.
     ///
     /// A query costs time in the product of the rows that may stand in its parts, an update or a
     /// delete in the rows of its relation, and a change a logarithmic step.
+    #[tactic(auto, using(sdd_lang::proofs::Sources::effect_over_database))]
     pub fn run(&mut self, cat: &Catalogue, txn: &Txn) -> Result<Reply, NoMemory>
         requires live { IsTrue self.old.live }
         requires fits { Fits cat.now txn.now }
@@ -137,3 +137,6 @@ impl Source for Plain {
         self.rows.matching(alloc, rel, conds)
     }
 }
+
+#[cfg(test)]
+mod tests;
