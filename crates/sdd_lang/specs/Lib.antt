@@ -5,6 +5,9 @@ pub mod Effect
 pub mod Examples
 pub mod Fits
 pub mod Query
+pub mod Run
 pub mod Serial
+pub mod Source
+pub mod Tuples
 pub mod Update
 pub mod Uses

@@ -1,0 +1,10 @@
+use Rattle.std.proofs.Common.{◌≡◌, ◌++◌, true, drop}
+use Rattle.sdd_lang.specs.Serial.{serial}
+use Rattle.sdd_plain.proofs.plain.Plain.run_all.Given as goal
+
+-- the replies so far with those that are left are all, and what is left ends in the last database
+abbrev pub invariant-txns : goal.invariant-txns
+invariant-txns l =
+    (l.self.live ≡ true)
+    × (l.replies.items ++ (serial l.cat l.self.value (drop l.txn-index l.txns)).0 ≡ (serial l.cat l.fn.self.value l.txns).0)
+    × ((serial l.cat l.self.value (drop l.txn-index l.txns)).1 ≡ (serial l.cat l.fn.self.value l.txns).1)

@@ -1,0 +1,9 @@
+use Rattle.std.proofs.Common.{◌≡◌, map}
+use Rattle.std.specs.List.{filter}
+use Rattle.std.specs.Map.Iter.{deref_pair}
+use Rattle.sdd_lang.specs.Tuples.{rows_lent, may_stand}
+use Rattle.sdd_plain.proofs.rows.Rows.part.Given as goal
+
+-- the rows so far that may stand in the part
+abbrev pub invariant-rows : goal.invariant-rows
+invariant-rows l = rows_lent l.rows.items ≡ filter (may_stand l.conds l.fn.part) (map (λ e. e.1) (map deref_pair l.yielded))

@@ -1,0 +1,142 @@
+ghost use Rattle.std.specs.Prelude.{◌≡◌, All, IfOk, OnOk, OnErr, IsTrue, false, true};
+ghost use Rattle.sdd_lang.specs.Database.{database_of};
+ghost use Rattle.sdd_lang.specs.Effect.{effect};
+ghost use Rattle.sdd_lang.specs.Fits.{Fits, FitsStart};
+ghost use Rattle.sdd_lang.specs.Serial.{after_changes, serial};
+ghost use Rattle.sdd_lang.specs.Source.{found_in, chosen_in};
+
+use crate::product::{Asked, gather};
+use crate::rows::Rows;
+use sdd_base::{Listed, NoMemory, RelNo, Reply, Row, RowList};
+use sdd_catalog::Catalogue;
+use sdd_lang::{Condition, Effect, Entries, Ref, Source, Txn, effect_over};
+use std::alloc::Global;
+use std::collections::BTreeSet;
+use std::marker::Model;
+
+/// The replies of transactions, in their order.
+pub type Replies = Listed<Reply>;
+
+/// One database without copies, on which transactions run one after the other.
+///
+/// It is live until a call that is lent it by `&mut` answers `NoMemory`. After that it is only
+/// dropped.
+#[derive(Drop)]
+pub struct Plain {
+    alloc: Global,
+    rows: Rows,
+    live: bool,
+}
+
+impl Model for Plain {
+    ghost use Rattle.sdd_base.specs.Kept.{Kept};
+    ghost use Rattle.sdd_lang.specs.Database.{Database};
+
+    ghost Value = { Kept Database };
+
+    ghost view = { λ p. record { live = p.live; value = p.rows } };
+}
+
+impl Plain {
+    /// The database of these rows: of two with one key the later stands.
+    ///
+    /// Costs a logarithmic step for each row, and time and memory linear in the rows.
+    pub fn new(alloc: Global, cat: &Catalogue, rows: &[(RelNo, Row)]) -> Result<Self, NoMemory>
+        requires { All (FitsStart cat.now) rows.now }
+        ensures { IfOk result (λ plain. plain ≡ record { live = true; value = database_of cat.now rows.now }) }
+    {
+        Ok(Plain {
+            alloc,
+            rows: Rows::from_rows(alloc, cat, rows)?,
+            live: true,
+        })
+    }
+
+    /// Whether no call that was lent it has answered `NoMemory`. Takes no memory.
+    pub fn live(&self) -> bool
+        ensures { result ≡ self.now.live }
+    {
+        self.live
+    }
+
+    /// Runs the transaction on the database and answers the user. A transaction that fails changes
+    /// nothing.
+    ///
+    /// A query costs time in the product of the rows that may stand in its parts, an update or a
+    /// delete in the rows of its relation, and a change a logarithmic step.
+    #[tactic(auto, using(sdd_lang::proofs::Sources::effect_over_database))]
+    pub fn run(&mut self, cat: &Catalogue, txn: &Txn) -> Result<Reply, NoMemory>
+        requires live { IsTrue self.old.live }
+        requires fits { Fits cat.now txn.now }
+        ensures reply { IfOk result (λ reply. reply ≡ (effect cat.now self.old.value txn.now).reply) }
+        ensures after { OnOk result (self.new ≡ record { live = true; value = after_changes cat.now self.old.value (effect cat.now self.old.value txn.now).changes }) }
+        ensures err { OnErr result (self.new.live ≡ false) }
+    {
+        self.live = false;
+        let Effect { reply, changes } = effect_over(self.alloc, cat, txn, &*self)?;
+        self.rows.apply(cat, changes.as_slice())?;
+        self.live = true;
+        Ok(reply)
+    }
+
+    /// Runs the transactions one after the other, each on the database that the one before left.
+    pub fn run_all(&mut self, cat: &Catalogue, txns: &[Txn]) -> Result<Replies, NoMemory>
+        requires live { IsTrue self.old.live }
+        requires fit { All (Fits cat.now) txns.now }
+        ensures replies { IfOk result (λ replies. replies ≡ (serial cat.now self.old.value txns.now).0) }
+        ensures after { OnOk result (self.new ≡ record { live = true; value = (serial cat.now self.old.value txns.now).1 }) }
+        ensures err { OnErr result (self.new.live ≡ false) }
+    {
+        let mut replies = Vec::new(self.alloc);
+        'txns: for txn in txns {
+            let reply = self.run(cat, txn)?;
+            self.live = false;
+            replies.push(reply)?;
+            self.live = true;
+        }
+        Ok(Replies::from_vec(replies))
+    }
+}
+
+impl Source for Plain {
+    ghost found = { λ plain. found_in plain.value };
+
+    ghost chosen = { λ plain. chosen_in plain.value };
+
+    fn query(
+        &self,
+        alloc: Global,
+        _before: u32,
+        out: &[Ref],
+        rels: &[RelNo],
+        conds: &[Condition],
+        room: usize,
+    ) -> Result<Option<RowList>, NoMemory> {
+        let parts = self.rows.parts(alloc, rels, conds)?;
+        let asked = Asked { out, conds, room };
+        let mut found = BTreeSet::new(alloc);
+        match gather(
+            alloc,
+            &asked,
+            &mut Vec::new(alloc),
+            parts.as_slice(),
+            &mut found,
+        )? {
+            true => Ok(Some(RowList::from_vec(found.into_iter().collect(alloc)?))),
+            false => Ok(None),
+        }
+    }
+
+    fn matching(
+        &self,
+        alloc: Global,
+        _before: u32,
+        rel: RelNo,
+        conds: &[Condition],
+    ) -> Result<Entries, NoMemory> {
+        self.rows.matching(alloc, rel, conds)
+    }
+}
+
+#[cfg(test)]
+mod tests;
