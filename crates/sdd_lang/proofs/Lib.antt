@@ -1,5 +1,9 @@
 pub mod Firsts
+pub mod KeyKinds
+pub mod KeyRanges
 pub mod Numbering
 pub mod Pushdown
+pub mod ReadSetDecides
 pub mod Sets
+pub mod SortedEntries
 pub mod UseLists

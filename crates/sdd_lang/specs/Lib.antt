@@ -1,3 +1,4 @@
+pub mod Agree
 pub mod Classes
 pub mod Condition
 pub mod Database
@@ -6,5 +7,6 @@ pub mod Examples
 pub mod Fits
 pub mod Query
 pub mod Serial
+pub mod Sound
 pub mod Update
 pub mod Uses
