@@ -68,7 +68,7 @@ pub key_is_int : (cat : Catalogue) → IsSound cat → (rel : ℕ) → IsRelatio
 key_is_int cat sound rel there = at_number (λ (r : Relation). key_kind r ≡ kinds.Int) cat.relations rel (record { name = []; columns = []; key = 0 }) (sound_keys cat sound) there.0 there.1
 
 -- values of a row have the kinds of its columns
-kinds_at : (row : Row) (columns : List Column) (i : ℕ) → map kind_of row ≡ map (λ (c : Column). c.kind) columns → kind_of (slice_index_or row i (Int (pos 0))) ≡ (slice_index_or columns i (record { name = []; kind = kinds.Int })).kind
+pub kinds_at : (row : Row) (columns : List Column) (i : ℕ) → map kind_of row ≡ map (λ (c : Column). c.kind) columns → kind_of (slice_index_or row i (Int (pos 0))) ≡ (slice_index_or columns i (record { name = []; kind = kinds.Int })).kind
 kinds_at [] [] i e = refl
 kinds_at [] (c ∷ columns) i e = cc
 kinds_at (v ∷ row) [] i e = cc

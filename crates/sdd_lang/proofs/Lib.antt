@@ -5,5 +5,7 @@ pub mod Numbering
 pub mod Pushdown
 pub mod ReadSetDecides
 pub mod Sets
+pub mod SoFar
 pub mod SortedEntries
+pub mod StaysDatabase
 pub mod UseLists

@@ -28,3 +28,10 @@ pub record IsEntry (cat : Catalogue) (e : Item × Row) : Type 0 where
 pub record IsDatabase (cat : Catalogue) (db : Database) : Type 0 where
   pub ascends : IsStrictlySortedBy item_cmp (keys_of db)
   pub entries : All (IsEntry cat) db
+
+-- rows that a transaction puts hold numbers of 64 bits
+abbrev pub PutsHeld : Stmt → Type 0
+PutsHeld (Put rel row) = All IsHeld row
+PutsHeld (Query out rels conds) = Unit {0}
+PutsHeld (Update rel sets conds) = Unit {0}
+PutsHeld (Delete rel conds) = Unit {0}

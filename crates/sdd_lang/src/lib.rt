@@ -6,6 +6,7 @@ mod classes;
 mod condition;
 mod effect;
 mod keys;
+mod laws;
 mod statement;
 mod transaction;
 mod usage;
@@ -14,6 +15,9 @@ pub use assign::{Assign, Sets};
 pub use classes::{class_for, read_set, write_set};
 pub use condition::{Condition, Conditions, Ref, Refs};
 pub use effect::Effect;
+pub use laws::{
+    law_puts_held, law_read_set_decides, law_rows_held, law_rows_make_database, law_stays_database,
+};
 pub use statement::{Rels, Statements, Stmt};
 pub use transaction::Txn;
 pub use usage::uses;
