@@ -1,8 +1,6 @@
 -- What rows make is a database, and what a transaction leaves of one is.
-use Rattle.std.proofs.Common.{ℕ, zero, suc, ◌≡◌, ◌≢◌, ◌+◌, ◌-◌, ◌≤◌, ◌<◌, ◌==◌, ◌&&◌, inl, inr, ℤ, pos, ◌+ℤ◌, nat_lt, if◌then◌else◌, Bool, true, false, cond, List, [], ◌∷◌, ◌++◌, map, length, get_or, set, slice_index_or, slice_set, Option, Some, None, refl, ap, sym, ◌∙◌, subst, arith}
-use Rattle.std.specs.List.{All, AllByRecursion, filter, fold}
-use Rattle.std.specs.List.Sorted.{IsStrictlySortedBy}
-use Rattle.std.specs.Map.{keys_of}
+use Rattle.std.proofs.Common.{ℕ, zero, suc, ◌≡◌, ◌≢◌, ◌+◌, ◌-◌, ◌≤◌, ◌==◌, ◌&&◌, inl, inr, ℤ, pos, ◌+ℤ◌, nat_lt, if◌then◌else◌, true, false, cond, List, [], ◌∷◌, ◌++◌, map, length, slice_index_or, slice_set, Option, Some, None, refl, ap, sym, ◌∙◌, subst, arith}
+use Rattle.std.specs.List.{All, AllByRecursion, fold}
 use Rattle.std.specs.BTreeMap.{is_at}
 use Rattle.std.proofs.lemmas.List.{get_or-set_other, get_or_past}
 use Rattle.std.proofs.lemmas.List.Elements.{All-from_recursion, recursion_from_All, All-nil}
@@ -14,10 +12,8 @@ use Rattle.sdd_base.specs.declared.value.Value.{Value}
 use Rattle.sdd_base.specs.declared.value.Value.TheVariants.{Int, Text}
 use Rattle.sdd_base.specs.declared.reply.Reply.TheVariants.{Overflow, TooMany}
 use Rattle.sdd_base.specs.Order.{column}
-use Rattle.sdd_catalog.specs.declared.parts.Kind.{Kind}
 use Rattle.sdd_catalog.specs.declared.parts.Kind.TheVariants as kinds
 use Rattle.sdd_catalog.specs.declared.resolved.Column.{Column}
-use Rattle.sdd_catalog.specs.declared.resolved.Relation.{Relation}
 use Rattle.sdd_catalog.specs.Catalogue.{Catalogue, fragment_at, fragment_of, relation_at, key_column, kind_at}
 use Rattle.sdd_catalog.specs.Numbers.{HasKey}
 use Rattle.sdd_catalog.specs.Rules.{IsSound}
@@ -34,7 +30,7 @@ use Rattle.sdd_lang.specs.Database.{Item, Row, Database, item_cmp, with_row, wit
 use Rattle.sdd_lang.specs.Effect.{Changed, change_of, effect, effect_from, failed, rows_in, with_change, with_updates, with_deletes}
 use Rattle.sdd_lang.specs.Fits.{Fits, FitsAssign, FitsRow, FitsStart, FitsStatement, IsRelation, kind_of}
 use Rattle.sdd_lang.specs.Query.{answer}
-use Rattle.sdd_lang.specs.Serial.{after_changes, changed_by, item_of, set_to}
+use Rattle.sdd_lang.specs.Serial.{after_changes, changed_by, set_to}
 use Rattle.sdd_lang.specs.Sound.{IsDatabase, IsEntry, IsHeld, PutsHeld}
 use Rattle.sdd_lang.specs.Update.{added, assigned, assigned_all, chosen, in_range, replaced}
 use Rattle.sdd_lang.proofs.KeyKinds.{kinds_at}

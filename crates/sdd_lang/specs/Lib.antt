@@ -7,6 +7,7 @@ pub mod Examples
 pub mod Fits
 pub mod Query
 pub mod Serial
+pub mod SetExamples
 pub mod Sound
 pub mod Update
 pub mod Uses

@@ -65,8 +65,16 @@ fn puts_held(statement: &Stmt)
 {
     match statement {
         Stmt::Put { rel: _, row } => row_held(row),
-        Stmt::Query { out: _, rels: _, conds: _ } => {}
-        Stmt::Update { rel: _, sets: _, conds: _ } => {}
+        Stmt::Query {
+            out: _,
+            rels: _,
+            conds: _,
+        } => {}
+        Stmt::Update {
+            rel: _,
+            sets: _,
+            conds: _,
+        } => {}
         Stmt::Delete { rel: _, conds: _ } => {}
     }
 }
