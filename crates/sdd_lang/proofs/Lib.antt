@@ -1,4 +1,5 @@
 pub mod Firsts
+pub mod Fitting
 pub mod KeyKinds
 pub mod KeyRanges
 pub mod Numbering

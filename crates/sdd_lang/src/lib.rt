@@ -23,4 +23,6 @@ pub use transaction::Txn;
 pub use usage::uses;
 
 #[cfg(test)]
+mod set_tests;
+#[cfg(test)]
 mod tests;
