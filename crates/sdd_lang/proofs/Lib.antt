@@ -1,8 +1,15 @@
 pub mod Firsts
+pub mod Fitting
+pub mod KeyKinds
+pub mod KeyRanges
 pub mod Numbering
 pub mod Pushdown
+pub mod ReadSetDecides
 pub mod Running
 pub mod Sets
+pub mod SoFar
+pub mod SortedEntries
 pub mod Sources
 pub mod Standing
+pub mod StaysDatabase
 pub mod UseLists

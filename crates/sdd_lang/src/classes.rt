@@ -1,11 +1,11 @@
 //! What a transaction reads and writes, and the class that covers it.
-ghost use Rattle.std.specs.Prelude.{◌≡◌, ◌≤◌, ◌&&◌, ◌==◌, is_some, fold, map, length, All, IfOk, OnOk};
-ghost use Rattle.std.specs.List.{list_all, flat_map};
+ghost use Rattle.std.specs.Prelude.{◌≡◌, ◌≤◌, [], ◌∷◌, is_some, fold, map, length, All, IfOk, OnOk};
+ghost use Rattle.std.specs.List.{list_all};
 ghost use Rattle.std.specs.Ordering.{nat_cmp};
 ghost use Rattle.std.specs.BTreeSet.{insert_key};
-ghost use Rattle.sdd_catalog.specs.Catalogue.{fragment_of, class_at, reads_at, writes};
+ghost use Rattle.sdd_catalog.specs.Catalogue.{fragment_of, reads_at, writes};
 ghost use Rattle.sdd_lang.specs.Database.{key_in};
-ghost use Rattle.sdd_lang.specs.Fits.{Fits, FitsStatement, FitsRow, IsRelation};
+ghost use Rattle.sdd_lang.specs.Fits.{Fits, FitsStatement, IsRelation};
 ghost use Rattle.sdd_lang.specs.Uses.{fragments_for, restrictions_of};
 ghost use Rattle.sdd_lang.specs.Classes.{read_set, write_set, written_by, covers, class_for};
 
@@ -88,9 +88,7 @@ fn written_by(alloc: Global, cat: &Catalogue, statement: &Stmt) -> Result<Frags,
     ensures { IfOk result (λ frags. map (λ f. f.0) frags ≡ written_by cat.now statement.now) }
 {
     match statement {
-        Stmt::Put { rel, row } => Ok(Frags::from_vec(vec![in alloc;
-            fragment_of_row(cat, *rel, row),
-        ]?)),
+        Stmt::Put { rel, row } => one(alloc, fragment_of_row(cat, *rel, row)),
         Stmt::Query {
             out: _,
             rels: _,
@@ -103,6 +101,12 @@ fn written_by(alloc: Global, cat: &Catalogue, statement: &Stmt) -> Result<Frags,
         } => changed_in(alloc, cat, *rel, conds.as_slice()),
         Stmt::Delete { rel, conds } => changed_in(alloc, cat, *rel, conds.as_slice()),
     }
+}
+
+fn one(alloc: Global, frag: FragNo) -> Result<Frags, NoMemory>
+    ensures { IfOk result (λ frags. frags ≡ frag ∷ []) }
+{
+    Ok(Frags::from_vec(vec![in alloc; frag]?))
 }
 
 /// The fragments of the use of an update or a delete.

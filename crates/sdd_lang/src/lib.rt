@@ -6,6 +6,7 @@ mod classes;
 mod condition;
 mod effect;
 mod keys;
+mod laws;
 mod over;
 mod pending;
 mod replace;
@@ -23,10 +24,15 @@ pub use effect::Effect;
 pub use over::effect_over;
 pub use replace::replaced;
 pub use source::{Entries, Entry, Source};
+pub use laws::{
+    law_puts_held, law_read_set_decides, law_rows_held, law_rows_make_database, law_stays_database,
+};
 pub use statement::{Rels, Statements, Stmt};
 pub use transaction::Txn;
 pub use tuple::{key_of, may_stand, meets_all, project, value_at};
 pub use usage::uses;
 
+#[cfg(test)]
+mod set_tests;
 #[cfg(test)]
 mod tests;

@@ -1,8 +1,7 @@
 //! The uses of a transaction.
-ghost use Rattle.std.specs.Prelude.{◌≡◌, ◌≤◌, ◌+◌, ◌*◌, ◌++◌, ◌-◌, IfOk, OnOk, All, length};
-ghost use Rattle.sdd_catalog.specs.Catalogue.{numbers_to};
+ghost use Rattle.std.specs.Prelude.{◌≡◌, ◌≤◌, ◌++◌, IfOk, OnOk, All, length};
 ghost use Rattle.sdd_lang.specs.Fits.{Fits, FitsStatement, IsRelation};
-ghost use Rattle.sdd_lang.specs.Uses.{Interval, restriction_of, restrictions_of, allowed_keys, meets_keys, fragments_for, use_of, part_uses, statement_uses, uses_of};
+ghost use Rattle.sdd_lang.specs.Uses.{restriction_of, restrictions_of, meets_keys, fragments_for, use_of, part_uses, statement_uses, uses_of};
 
 use crate::condition::Condition;
 use crate::keys::{Keys, allowed_keys};

@@ -1,0 +1,217 @@
+ghost use Rattle.std.specs.Prelude.{◌≡◌, IsTrue, IfOk};
+ghost use Rattle.sdd_catalog.specs.declared.parts.Kind.TheVariants as kinds;
+ghost use Rattle.sdd_lang.specs.Fits.{Fits};
+ghost use Rattle.sdd_lang.proofs.Fitting.{IsPairs};
+
+use super::*;
+use sdd_base::{ClassNo, FragNo, Name, Op, RelNo, Row, TmNo, Value};
+use sdd_catalog::{
+    Catalogue, ClassPart, ClassParts, Column, ColumnPart, ColumnParts, CopyNos, FragmentPart,
+    FragmentParts, Kind, Names, Parts, ReadPart, ReadParts, RelationPart, RelationParts,
+};
+use std::alloc::Global;
+use std::process::Abort;
+use std::test::Fail;
+
+fn name(alloc: Global, text: &str) -> Result<Name, Fail> {
+    Ok(Name::new(alloc, text)?.ok_or("no name")?)
+}
+
+/// acct(id int key, bal int).
+fn accounts(alloc: Global) -> Result<RelationParts, Fail> {
+    let mut columns = Vec::new(alloc);
+    for column in ["id", "bal"] {
+        columns.push(ColumnPart {
+            name: name(alloc, column)?,
+            kind: Kind::Int,
+        })?;
+    }
+    Ok(RelationParts::from_vec(vec![in alloc;
+        RelationPart {
+            name: name(alloc, "acct")?,
+            columns: ColumnParts::from_vec(columns),
+            key: name(alloc, "id")?,
+        },
+    ]?))
+}
+
+fn fragment(alloc: Global, called: &str, from: i64, to: i64) -> Result<FragmentPart, Fail> {
+    Ok(FragmentPart {
+        name: name(alloc, called)?,
+        relation: name(alloc, "acct")?,
+        from,
+        to,
+        copies: CopyNos::from_vec(vec![in alloc; 1]?),
+    })
+}
+
+/// A class that reads at D1 and writes.
+fn class(alloc: Global, called: &str, reads: &[&str], writes: &[&str]) -> Result<ClassPart, Fail> {
+    let mut read = Vec::new(alloc);
+    for fragment in reads {
+        read.push(ReadPart {
+            fragment: name(alloc, *fragment)?,
+            at: 1,
+        })?;
+    }
+    let mut written = Vec::new(alloc);
+    for fragment in writes {
+        written.push(name(alloc, *fragment)?)?;
+    }
+    Ok(ClassPart {
+        name: name(alloc, called)?,
+        tm: 1,
+        reads: ReadParts::from_vec(read),
+        writes: Names::from_vec(written),
+    })
+}
+
+/// Keys to 9 in a, and from 10 on in b. The first class reads a and writes b, the second reads both
+/// and writes b.
+fn halves(alloc: Global) -> Result<Catalogue, Fail> {
+    let mut fragments = Vec::new(alloc);
+    fragments.push(fragment(alloc, "a", i64::MIN, 9)?)?;
+    fragments.push(fragment(alloc, "b", 10, i64::MAX)?)?;
+    let mut classes = Vec::new(alloc);
+    classes.push(class(alloc, "low", &["a"], &["b"])?)?;
+    classes.push(class(alloc, "all", &["a", "b"], &["b"])?)?;
+    let parts = Parts {
+        tms: 2,
+        dms: 1,
+        relations: accounts(alloc)?,
+        fragments: FragmentParts::from_vec(fragments),
+        classes: ClassParts::from_vec(classes),
+    };
+    Ok(Catalogue::build(alloc, &parts)?)
+}
+
+fn is_int(column: &Column) -> bool
+    ensures { IsTrue result → column.now.kind ≡ kinds.Int }
+{
+    match column.kind {
+        Kind::Int => true,
+        Kind::Text => false,
+    }
+}
+
+/// The catalogue has a module, and a relation of two whole numbers.
+#[tactic(auto, using(crate::proofs::Fitting::pairs_seen))]
+fn has_pairs(rt: &impl Abort, cat: &Catalogue)
+    ensures { IsPairs cat.now }
+{
+    assert!(rt; cat.tms() >= 1);
+    assert!(rt; cat.relations() >= 1);
+    let columns = cat.relation(RelNo(1)).columns.as_slice();
+    assert!(rt; columns.len() == 2);
+    let first = &columns[0];
+    let second = &columns[1];
+    assert!(rt; is_int(first));
+    assert!(rt; is_int(second));
+}
+
+/// `query 1.id from acct where` the key meets both comparisons.
+#[tactic(auto, using(crate::proofs::Fitting::query_fits))]
+fn query(alloc: Global, cat: &Catalogue, first: (Op, i64), second: (Op, i64)) -> Result<Txn, Fail>
+    requires { IsPairs cat.now }
+    ensures { IfOk result (λ txn. Fits cat.now txn) }
+{
+    Ok(Txn {
+        name: name(alloc, "q")?,
+        tm: TmNo(1),
+        statements: Statements::from_vec(vec![in alloc;
+            Stmt::Query {
+                out: Refs::from_vec(vec![in alloc; Ref { part: 1, column: 1 }]?),
+                rels: Rels::from_vec(vec![in alloc; RelNo(1)]?),
+                conds: Conditions::from_vec(vec![in alloc;
+                    Condition::Const {
+                        left: Ref { part: 1, column: 1 },
+                        op: first.0,
+                        value: Value::Int(first.1)
+                    },
+                    Condition::Const {
+                        left: Ref { part: 1, column: 1 },
+                        op: second.0,
+                        value: Value::Int(second.1)
+                    },
+                ]?),
+            },
+        ]?),
+    })
+}
+
+/// `put acct (id, 0)`.
+#[tactic(auto, using(crate::proofs::Fitting::put_fits))]
+fn put(alloc: Global, cat: &Catalogue, id: &i64) -> Result<Txn, Fail>
+    requires { IsPairs cat.now }
+    ensures { IfOk result (λ txn. Fits cat.now txn) }
+{
+    Ok(Txn {
+        name: name(alloc, "p")?,
+        tm: TmNo(1),
+        statements: Statements::from_vec(vec![in alloc;
+            Stmt::Put {
+                rel: RelNo(1),
+                row: Row::from_vec(vec![in alloc; Value::Int(*id), Value::Int(0)]?),
+            },
+        ]?),
+    })
+}
+
+/// The read set, the write set and the class are these.
+fn tells(
+    rt: &impl Abort,
+    alloc: Global,
+    cat: &Catalogue,
+    txn: &Txn,
+    reads: &[FragNo],
+    writes: &[FragNo],
+    class: u32,
+) -> Result<(), Fail>
+    requires { Fits cat.now txn.now }
+{
+    assert!(rt; read_set(alloc, cat, txn)?.as_slice() == reads);
+    assert!(rt; write_set(alloc, cat, txn)?.as_slice() == writes);
+    assert!(rt; class_for(alloc, cat, txn)? == ClassNo(class));
+    Ok(())
+}
+
+#[test]
+fn restrictions_decide_what_is_read(rt: HostRuntime) -> Result<(), Fail> {
+    let alloc = rt.alloc();
+    let cat = halves(alloc)?;
+    has_pairs(&rt, &cat);
+    let none = query(alloc, &cat, (Op::Lt, 1), (Op::Gt, 5))?;
+    assert!(rt; uses(alloc, &cat, &none)?.len() == 1);
+    tells(&rt, alloc, &cat, &none, &[], &[], 1)?;
+    let low = query(alloc, &cat, (Op::Le, 9), (Op::Ne, 3))?;
+    tells(&rt, alloc, &cat, &low, &[FragNo(1)], &[], 1)?;
+    let both = query(alloc, &cat, (Op::Ne, 3), (Op::Ne, 30))?;
+    tells(&rt, alloc, &cat, &both, &[FragNo(1), FragNo(2)], &[], 2)?;
+    Ok(())
+}
+
+#[test]
+fn puts_decide_what_is_written(rt: HostRuntime) -> Result<(), Fail> {
+    let alloc = rt.alloc();
+    let cat = halves(alloc)?;
+    has_pairs(&rt, &cat);
+    tells(
+        &rt,
+        alloc,
+        &cat,
+        &put(alloc, &cat, &12)?,
+        &[],
+        &[FragNo(2)],
+        1,
+    )?;
+    tells(
+        &rt,
+        alloc,
+        &cat,
+        &put(alloc, &cat, &9)?,
+        &[],
+        &[FragNo(1)],
+        0,
+    )?;
+    Ok(())
+}
