@@ -1,0 +1,5 @@
+pub mod Picked
+pub mod Steps
+pub mod Members
+pub mod Distinct
+pub mod Complete
