@@ -3,3 +3,4 @@ pub mod Steps
 pub mod Members
 pub mod Distinct
 pub mod Complete
+pub mod Product

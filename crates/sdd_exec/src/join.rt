@@ -226,6 +226,7 @@ fn answers(
 }
 
 /// The answer of a query over these rows of its parts, or None where it has more than `room` rows.
+#[tactic(auto, using(crate::proofs::Product::join_is_answer))]
 pub fn join(
     alloc: Global,
     parts: &[RowList],
