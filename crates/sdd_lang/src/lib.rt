@@ -2,18 +2,31 @@
 #![tactic(auto)]
 
 mod assign;
+mod classes;
 mod condition;
 mod effect;
+mod keys;
+mod over;
+mod pending;
+mod replace;
+mod run;
 mod source;
 mod statement;
 mod transaction;
+mod tuple;
+mod usage;
 
 pub use assign::{Assign, Sets};
+pub use classes::{class_for, read_set, write_set};
 pub use condition::{Condition, Conditions, Ref, Refs};
 pub use effect::Effect;
+pub use over::effect_over;
+pub use replace::replaced;
 pub use source::{Entries, Entry, Source};
 pub use statement::{Rels, Statements, Stmt};
 pub use transaction::Txn;
+pub use tuple::{key_of, may_stand, meets_all, project, value_at};
+pub use usage::uses;
 
 #[cfg(test)]
 mod tests;

@@ -1,0 +1,35 @@
+-- Numbers from one to another, one more at a time.
+use Rattle.std.proofs.Common.{ℕ, zero, suc, ◌≡◌, ◌+◌, ◌-◌, ◌≤◌, Bool, true, false, cond, List, [], ◌∷◌, ◌++◌, map, ap, sym, ◌∙◌, arith}
+use Rattle.std.specs.List.{filter, range_with_len}
+use Rattle.std.proofs.lemmas.List.{append-nil, map-append}
+use Rattle.std.proofs.lemmas.List.Elements.{filter-append}
+use Rattle.sdd_base.specs.declared.number.FragNo.{FragNo}
+use Rattle.sdd_catalog.specs.Catalogue.{numbers_to}
+use Rattle.sdd_lang.specs.Uses.{fragment_no}
+
+pub range_more : (a n : ℕ) → range_with_len a (suc n) ≡ range_with_len a n ++ (a + n) ∷ []
+range_more a zero = let e : a ≡ a + 0 = omega arith in ap (λ k. k ∷ []) e
+range_more a (suc n) =
+    let e : a + 1 + n ≡ a + suc n = omega arith in
+    ap (λ ks. a ∷ ks) (range_more (a + 1) n ∙ ap (λ k. range_with_len (a + 1) n ++ k ∷ []) e)
+
+pub numbers_more : (n : ℕ) → 1 ≤ n → numbers_to (n + 1 - 1) ≡ numbers_to (n - 1) ++ n ∷ []
+numbers_more n from =
+    let e : n + 1 - 1 ≡ suc (n - 1) = omega arith in
+    let f : 1 + (n - 1) ≡ n = omega arith in
+    ap (λ k. numbers_to k) e ∙ range_more 1 (n - 1) ∙ ap (λ k. numbers_to (n - 1) ++ k ∷ []) f
+
+kept_more : (p : ℕ → Bool) (n : ℕ) → 1 ≤ n → map fragment_no (filter p (numbers_to (n + 1 - 1))) ≡ map fragment_no (filter p (numbers_to (n - 1))) ++ map fragment_no (cond (p n) (n ∷ []) [])
+kept_more p n from =
+    ap (λ ks. map fragment_no (filter p ks)) (numbers_more n from)
+    ∙ ap (map fragment_no) (filter-append p (numbers_to (n - 1)) (n ∷ []))
+    ∙ map-append fragment_no (filter p (numbers_to (n - 1))) (cond (p n) (n ∷ []) [])
+
+-- a number that passes is kept, and one that doesn't isn't
+pub frag_kept : (p : ℕ → Bool) (n : ℕ) (xs ys : List FragNo) → 1 ≤ n → true ≡ p n → xs ≡ map fragment_no (filter p (numbers_to (n - 1))) → ys ≡ xs ++ fragment_no n ∷ [] → ys ≡ map fragment_no (filter p (numbers_to (n + 1 - 1)))
+frag_kept p n xs ys from passes so more =
+    more ∙ ap (λ zs. zs ++ fragment_no n ∷ []) so ∙ ap (λ b. map fragment_no (filter p (numbers_to (n - 1))) ++ map fragment_no (cond b (n ∷ []) [])) passes ∙ sym (kept_more p n from)
+
+pub frag_left : (p : ℕ → Bool) (n : ℕ) (xs ys : List FragNo) → 1 ≤ n → false ≡ p n → xs ≡ map fragment_no (filter p (numbers_to (n - 1))) → ys ≡ xs → ys ≡ map fragment_no (filter p (numbers_to (n + 1 - 1)))
+frag_left p n xs ys from fails so same =
+    same ∙ so ∙ sym (append-nil (map fragment_no (filter p (numbers_to (n - 1))))) ∙ ap (λ b. map fragment_no (filter p (numbers_to (n - 1))) ++ map fragment_no (cond b (n ∷ []) [])) fails ∙ sym (kept_more p n from)

@@ -1,0 +1,8 @@
+use Rattle.std.proofs.Common.{◌≡◌, ◌+◌, ◌-◌, length}
+use Rattle.sdd_lang.specs.Classes.{class_for}
+use Rattle.sdd_lang.proofs.Firsts.{first_from}
+use Rattle.sdd_lang.proofs.classes.first_covering.Given as goal
+
+-- none so far covers it
+abbrev pub invariant-loop-class : goal.invariant-loop-class
+invariant-loop-class l = class_for l.cat l.txn ≡ first_from l.cat l.txn l.class (length l.cat.classes + 1 - l.class)

@@ -1,0 +1,7 @@
+use Rattle.std.proofs.Common.{◌≡◌, map}
+use Rattle.sdd_lang.specs.Effect.{change_of}
+use Rattle.sdd_lang.proofs.pending.Pending.into_changes.Given as goal
+
+-- the changes so far
+abbrev pub invariant-changes : goal.invariant-changes
+invariant-changes l = l.changes.items ≡ map change_of l.yielded

@@ -1,0 +1,12 @@
+use Rattle.std.proofs.Common.{arith}
+use Rattle.std.proofs.lemmas.Grind.{common_steps}
+use Rattle.std.proofs.lemmas.List.Elements.{filter_map-append}
+use Rattle.sdd_lang.proofs.usage.restrictions_of.Goals as goal
+use Rattle.sdd_lang.proofs.usage.restrictions_of.Goals.{in-Some+in_ok-push-in-Some, in-None}
+
+pub loop-cond-preserved : goal.loop-cond-preserved
+loop-cond-preserved c =
+    elim c.match-branch-2.branch [
+      | in-Some+in_ok-push-in-Some w ↦ grind (arith, common_steps, filter_map-append)
+      | in-None w ↦ grind (arith, common_steps, filter_map-append)
+    ]

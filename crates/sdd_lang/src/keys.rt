@@ -1,0 +1,132 @@
+//! The keys that restrictions allow.
+ghost use Rattle.std.specs.Prelude.{◌≡◌, ◌==◌, if◌then◌else◌, FitsSigned};
+ghost use Rattle.std.specs.Int.{w64};
+ghost use Rattle.sdd_lang.specs.Uses.{larger, smaller, common, holds_some, all_keys, keys_for, allowed_keys};
+ghost use Rattle.sdd_lang.specs.Database.{number_in};
+
+use sdd_base::{Op, Restriction, Value};
+use std::marker::Model;
+
+/// The keys from one to another, both within; none where the first is greater. Its ends may lie one
+/// past the least and the greatest key.
+#[derive(Debug, Drop)]
+pub struct Keys {
+    from: i128,
+    to: i128,
+}
+
+impl Model for Keys {
+    ghost use Rattle.sdd_lang.specs.Uses.{Interval};
+
+    ghost Value = { Interval };
+
+    ghost view = { λ k. (k.from, k.to) };
+}
+
+impl Keys {
+    fn all() -> Keys
+        ensures { result ≡ all_keys }
+    {
+        Keys {
+            from: i64::MIN as i128,
+            to: i64::MAX as i128,
+        }
+    }
+
+    /// The keys that a comparison with the value allows; `!=` allows all.
+    fn compared(op: Op, value: &Value) -> Keys
+        ensures { result ≡ keys_for op (number_in value.now) }
+    {
+        let number = number_of(value);
+        match op {
+            Op::Eq => Keys {
+                from: number,
+                to: number,
+            },
+            Op::Ne => Keys::all(),
+            Op::Lt => Keys {
+                from: i64::MIN as i128,
+                to: number - 1,
+            },
+            Op::Le => Keys {
+                from: i64::MIN as i128,
+                to: number,
+            },
+            Op::Gt => Keys {
+                from: number + 1,
+                to: i64::MAX as i128,
+            },
+            Op::Ge => Keys {
+                from: number,
+                to: i64::MAX as i128,
+            },
+        }
+    }
+
+    /// The keys that are in both.
+    fn within(&self, other: &Keys) -> Keys
+        ensures { result ≡ common self.now other.now }
+    {
+        Keys {
+            from: larger(&self.from, &other.from),
+            to: smaller(&self.to, &other.to),
+        }
+    }
+
+    /// Whether one of these keys is from `least` to `greatest`.
+    pub fn meets(&self, least: &i64, greatest: &i64) -> bool
+        ensures { result ≡ holds_some (common self.now (least.now, greatest.now)) }
+    {
+        let range = Keys {
+            from: *least as i128,
+            to: *greatest as i128,
+        };
+        let both = self.within(&range);
+        both.from <= both.to
+    }
+}
+
+fn number_of(value: &Value) -> i128
+    ensures is { result ≡ number_in value.now }
+    ensures fits { FitsSigned w64 result }
+{
+    match value {
+        Value::Int(number) => *number as i128,
+        Value::Text(_) => 0,
+    }
+}
+
+fn larger(a: &i128, b: &i128) -> i128
+    ensures { result ≡ larger a.now b.now }
+{
+    if *a <= *b { *b } else { *a }
+}
+
+fn smaller(a: &i128, b: &i128) -> i128
+    ensures { result ≡ smaller a.now b.now }
+{
+    if *a <= *b { *a } else { *b }
+}
+
+/// The keys that the restrictions on the key column allow, all together. Costs time in their number.
+/// Takes no memory.
+pub fn allowed_keys(key: u32, restrictions: &[Restriction]) -> Keys
+    ensures { result ≡ allowed_keys key restrictions.now }
+{
+    let mut keys = Keys::all();
+    for restriction in restrictions {
+        keys = narrowed(key, keys, restriction);
+    }
+    keys
+}
+
+/// The keys that one more restriction leaves.
+fn narrowed(key: u32, keys: Keys, restriction: &Restriction) -> Keys
+    ensures { result ≡ (if restriction.now.column == key then common keys (keys_for restriction.now.op (number_in restriction.now.value)) else keys) }
+{
+    if restriction.column == key {
+        keys.within(&Keys::compared(restriction.op, &restriction.value))
+    } else {
+        keys
+    }
+}

@@ -1,0 +1,185 @@
+//! A transaction under way.
+ghost use Rattle.std.specs.Prelude.{◌≡◌, ◌<◌, ◌+◌, ◌^◌, nat_lt, not, [], ◌∷◌, ◌++◌, IfOk, OnOk, Some, None, cond, length, map, IsTrue};
+ghost use Rattle.sdd_base.specs.declared.reply.Reply.TheVariants.{Rows};
+ghost use Rattle.sdd_lang.specs.Database.{key_in};
+ghost use Rattle.sdd_lang.specs.Effect.{with_change, with_updates, with_deletes, rows_in, change_of};
+ghost use Rattle.sdd_lang.specs.Fits.{IsRelation, FitsStatement};
+ghost use Rattle.sdd_lang.specs.Run.{Run, Takes};
+ghost use Rattle.sdd_lang.specs.Source.{uses_in};
+
+use crate::assign::Assign;
+use crate::condition::{Condition, Ref};
+use crate::effect::Effect;
+use crate::pending::Pending;
+use crate::source::Source;
+use crate::statement::Stmt;
+use crate::tuple::key_of;
+use sdd_base::{Answers, NoMemory, Parcel, RelNo, Reply, Row, RowList};
+use sdd_catalog::Catalogue;
+use std::alloc::Global;
+use std::marker::Model;
+
+/// How many rows the answers of a transaction may have together.
+const MOST_ROWS: usize = 4096;
+
+/// What is known after some statements of a transaction.
+#[derive(Drop)]
+pub(crate) struct Run {
+    // How many uses the statements have had.
+    before: u32,
+    answers: Vec<RowList>,
+    // How many rows the answers may still get.
+    room: usize,
+    changes: Pending,
+}
+
+impl Model for Run {
+    ghost use Rattle.std.specs.Prelude.{◌≡◌, ◌+◌};
+    ghost use Rattle.sdd_lang.specs.Effect.{rows_in};
+    ghost use Rattle.sdd_lang.specs.Run.{Run};
+
+    ghost Value = { Run };
+
+    ghost view = { λ r. record { before = r.before; answers = r.answers.items; changed = r.changes } };
+
+    ghost invariant = { λ r. r.room + rows_in r.answers.items ≡ 4096 };
+}
+
+impl Run {
+    pub(crate) fn new(alloc: Global) -> Self
+        ensures { result ≡ record { before = 0; answers = []; changed = [] } }
+    {
+        Run {
+            before: 0,
+            answers: Vec::new(alloc),
+            room: MOST_ROWS,
+            changes: Pending::new(alloc),
+        }
+    }
+
+    fn put(&mut self, cat: &Catalogue, rel: RelNo, row: &Row) -> Result<(), NoMemory>
+        requires { IsRelation cat.now rel.0 }
+        ensures { OnOk result (self.new ≡ record self.old { changed = with_change cat.now self.old.changed rel.0 (key_in cat.now rel.0 row.now) (Some row.now) }) }
+    {
+        let key = key_of(cat, rel, row);
+        self.changes.put(cat, rel, &key, Some(row.copy()?))
+    }
+
+    #[tactic(auto, using(crate::proofs::Running::room_left))]
+    /// False where the answers have too many rows together.
+    fn query<S: Source>(
+        &mut self,
+        alloc: Global,
+        source: &S,
+        out: &[Ref],
+        rels: &[RelNo],
+        conds: &[Condition],
+    ) -> Result<bool, NoMemory>
+        requires { self.old.before + length rels.now < 2 ^ 32 }
+        ensures found { IfOk result (λ fits. IsTrue fits → self.new ≡ record self.old { before = self.old.before + length rels.now; answers = self.old.answers ++ S.found source.now self.old.before out.now rels.now conds.now ∷ [] }) }
+        ensures many { IfOk result (λ fits. fits ≡ not (nat_lt 4096 (rows_in self.old.answers + length (S.found source.now self.old.before out.now rels.now conds.now)))) }
+    {
+        match source.query(alloc, self.before, out, rels, conds, self.room)? {
+            Some(rows) => {
+                let count = rows.as_slice().len();
+                self.answers.push(rows)?;
+                self.room -= count;
+                self.before += rels.len() as u32;
+                Ok(true)
+            }
+            None => Ok(false),
+        }
+    }
+
+    /// False where a sum leaves the range of a whole number.
+    fn update<S: Source>(
+        &mut self,
+        alloc: Global,
+        cat: &Catalogue,
+        source: &S,
+        rel: RelNo,
+        sets: &[Assign],
+        conds: &[Condition],
+    ) -> Result<bool, NoMemory>
+        requires rel { IsRelation cat.now rel.0 }
+        requires few { self.old.before + 1 < 2 ^ 32 }
+        ensures before { IfOk result (λ _. self.new.before ≡ self.old.before + 1) }
+        ensures answers { IfOk result (λ _. self.new.answers ≡ self.old.answers) }
+        ensures changed { IfOk result (λ fits. cond fits (Some self.new.changed) None ≡ with_updates cat.now sets.now self.old.changed (S.chosen source.now self.old.before rel.0 conds.now)) }
+    {
+        let entries = source.matching(alloc, self.before, rel, conds)?;
+        self.before += 1;
+        self.changes.update(cat, rel, sets, entries.as_slice())
+    }
+
+    fn delete<S: Source>(
+        &mut self,
+        alloc: Global,
+        cat: &Catalogue,
+        source: &S,
+        rel: RelNo,
+        conds: &[Condition],
+    ) -> Result<(), NoMemory>
+        requires rel { IsRelation cat.now rel.0 }
+        requires few { self.old.before + 1 < 2 ^ 32 }
+        ensures { OnOk result (self.new ≡ record self.old { before = self.old.before + 1; changed = with_deletes cat.now self.old.changed (S.chosen source.now self.old.before rel.0 conds.now) }) }
+    {
+        let entries = source.matching(alloc, self.before, rel, conds)?;
+        self.before += 1;
+        self.changes.delete(cat, rel, entries.as_slice())
+    }
+
+    /// Takes one more statement, or answers how the transaction fails at it.
+    pub(crate) fn take<S: Source>(
+        &mut self,
+        alloc: Global,
+        cat: &Catalogue,
+        source: &S,
+        statement: &Stmt,
+    ) -> Result<Option<Reply>, NoMemory>
+        requires fits { FitsStatement cat.now statement.now }
+        requires few { self.old.before + uses_in statement.now < 2 ^ 32 }
+        ensures before { IfOk result (λ failure. failure ≡ None → self.new.before ≡ self.old.before + uses_in statement.now) }
+        ensures takes { IfOk result (Takes cat.now (S.found source.now) (S.chosen source.now) statement.now self.old self.new) }
+    {
+        match statement {
+            Stmt::Put { rel, row } => {
+                self.put(cat, *rel, row)?;
+                Ok(None)
+            }
+            Stmt::Query { out, rels, conds } => {
+                let (out, rels, conds) = (out.as_slice(), rels.as_slice(), conds.as_slice());
+                match self.query(alloc, source, out, rels, conds)? {
+                    true => Ok(None),
+                    false => Ok(Some(Reply::TooMany)),
+                }
+            }
+            Stmt::Update { rel, sets, conds } => {
+                let (sets, conds) = (sets.as_slice(), conds.as_slice());
+                match self.update(alloc, cat, source, *rel, sets, conds)? {
+                    true => Ok(None),
+                    false => Ok(Some(Reply::Overflow)),
+                }
+            }
+            Stmt::Delete { rel, conds } => {
+                self.delete(alloc, cat, source, *rel, conds.as_slice())?;
+                Ok(None)
+            }
+        }
+    }
+
+    /// The effect, where no statement is left.
+    pub(crate) fn into_effect(self, alloc: Global) -> Result<Effect, NoMemory>
+        ensures { IfOk result (λ effect. effect ≡ record { reply = Rows self.answers; changes = map change_of self.changed }) }
+    {
+        let Run {
+            answers,
+            changes,
+            ..
+        } = self;
+        Ok(Effect {
+            reply: Reply::Rows(Answers::from_vec(answers)),
+            changes: changes.into_changes(alloc)?,
+        })
+    }
+}

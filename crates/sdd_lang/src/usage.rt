@@ -1,0 +1,168 @@
+//! The uses of a transaction.
+ghost use Rattle.std.specs.Prelude.{◌≡◌, ◌≤◌, ◌+◌, ◌*◌, ◌++◌, ◌-◌, IfOk, OnOk, All, length};
+ghost use Rattle.sdd_catalog.specs.Catalogue.{numbers_to};
+ghost use Rattle.sdd_lang.specs.Fits.{Fits, FitsStatement, IsRelation};
+ghost use Rattle.sdd_lang.specs.Uses.{Interval, restriction_of, restrictions_of, allowed_keys, meets_keys, fragments_for, use_of, part_uses, statement_uses, uses_of};
+
+use crate::condition::Condition;
+use crate::keys::{Keys, allowed_keys};
+use crate::statement::Stmt;
+use crate::transaction::Txn;
+use sdd_base::{FragNo, Frags, NoMemory, Parcel, RelNo, Restriction, Restrictions, Use};
+use sdd_catalog::Catalogue;
+use std::alloc::Global;
+
+/// The uses of a transaction: one for each relation that a statement reads, numbered through all
+/// statements, with its restrictions and the fragments that may hold a row that meets them.
+///
+/// Costs, for each use, time in the conditions of its statement and the fragments of the catalogue.
+pub fn uses(alloc: Global, cat: &Catalogue, txn: &Txn) -> Result<Vec<Use>, NoMemory>
+    requires { Fits cat.now txn.now }
+    ensures { IfOk result (λ uses. uses.items ≡ uses_of cat.now txn.now) }
+{
+    let mut uses = Vec::new(alloc);
+    for statement in txn.statements.as_slice() {
+        add_uses(alloc, cat, statement, &mut uses)?;
+    }
+    Ok(uses)
+}
+
+/// Adds the uses of one more statement.
+fn add_uses(
+    alloc: Global,
+    cat: &Catalogue,
+    statement: &Stmt,
+    uses: &mut Vec<Use>,
+) -> Result<(), NoMemory>
+    requires fits { FitsStatement cat.now statement.now }
+    requires few { length uses.old.items ≤ 192 }
+    ensures { OnOk result (uses.new.items ≡ uses.old.items ++ statement_uses cat.now (length uses.old.items) statement.now) }
+{
+    match statement {
+        Stmt::Put { rel: _, row: _ } => Ok(()),
+        Stmt::Query {
+            out: _,
+            rels,
+            conds,
+        } => { add_parts(alloc, cat, rels.as_slice(), conds.as_slice(), uses) }
+        Stmt::Update {
+            rel,
+            sets: _,
+            conds,
+        } => { add_parts(alloc, cat, &[*rel], conds.as_slice(), uses) }
+        Stmt::Delete { rel, conds } => add_parts(alloc, cat, &[*rel], conds.as_slice(), uses),
+    }
+}
+
+/// Adds a use for each part of a statement.
+fn add_parts(
+    alloc: Global,
+    cat: &Catalogue,
+    rels: &[RelNo],
+    conds: &[Condition],
+    uses: &mut Vec<Use>,
+) -> Result<(), NoMemory>
+    requires there { All (λ rel. IsRelation cat.now rel.0) rels.now }
+    requires parts { length rels.now ≤ 6 }
+    requires few { length uses.old.items ≤ 192 }
+    ensures { OnOk result (uses.new.items ≡ uses.old.items ++ part_uses cat.now (length uses.old.items) conds.now 1 rels.now) }
+{
+    let before = uses.len() as u32;
+    let mut part = 1;
+    for rel in rels {
+        uses.push(use_of(alloc, cat, before + part, *rel, part, conds)?)?;
+        part += 1;
+    }
+    Ok(())
+}
+
+/// The use of a part.
+fn use_of(
+    alloc: Global,
+    cat: &Catalogue,
+    number: u32,
+    rel: RelNo,
+    part: u32,
+    conds: &[Condition],
+) -> Result<Use, NoMemory>
+    requires { IsRelation cat.now rel.0 }
+    ensures { IfOk result (λ found. found ≡ use_of cat.now number rel (restrictions_of part conds.now)) }
+{
+    let restrictions = restrictions_of(alloc, part, conds)?;
+    let frags = fragments_for(alloc, cat, rel, restrictions.as_slice())?;
+    Ok(Use {
+        number,
+        rel,
+        frags,
+        restrictions,
+    })
+}
+
+/// The fragments of the relation that hold a key which the restrictions allow, ascending.
+pub fn fragments_for(
+    alloc: Global,
+    cat: &Catalogue,
+    rel: RelNo,
+    restrictions: &[Restriction],
+) -> Result<Frags, NoMemory>
+    requires { IsRelation cat.now rel.0 }
+    ensures { IfOk result (λ frags. frags ≡ fragments_for cat.now rel.0 restrictions.now) }
+{
+    cat.known();
+    let keys = allowed_keys(cat.relation(rel).key, restrictions);
+    let mut frags = Vec::new(alloc);
+    for number in 1..cat.fragments() + 1 {
+        if meets_keys(cat, rel, &keys, FragNo(number)) {
+            frags.push(FragNo(number))?;
+        }
+    }
+    Ok(Frags::from_vec(frags))
+}
+
+/// Whether the fragment is of the relation and holds one of the keys.
+fn meets_keys(cat: &Catalogue, rel: RelNo, keys: &Keys, frag: FragNo) -> bool
+    requires from { 1 ≤ frag.0 }
+    requires to { frag.0 ≤ length cat.now.fragments }
+    ensures { result ≡ meets_keys cat.now rel.0 keys.now frag.0 }
+{
+    let fragment = cat.fragment(frag);
+    fragment.rel == rel.0 && keys.meets(&fragment.least, &fragment.greatest)
+}
+
+/// The conditions that compare a column of the part with a constant, as restrictions of the part.
+pub fn restrictions_of(
+    alloc: Global,
+    part: u32,
+    conds: &[Condition],
+) -> Result<Restrictions, NoMemory>
+    ensures { IfOk result (λ found. found ≡ restrictions_of part conds.now) }
+{
+    let mut found = Vec::new(alloc);
+    for cond in conds {
+        match restriction_of(part, cond)? {
+            Some(restriction) => found.push(restriction)?,
+            None => {}
+        }
+    }
+    Ok(Restrictions::from_vec(found))
+}
+
+/// The condition as a restriction of the part, where it is one.
+fn restriction_of(part: u32, cond: &Condition) -> Result<Option<Restriction>, NoMemory>
+    ensures { IfOk result (λ found. found ≡ restriction_of part cond.now) }
+{
+    match cond {
+        Condition::Const { left, op, value } => {
+            if left.part == part {
+                Ok(Some(Restriction {
+                    column: left.column,
+                    op: *op,
+                    value: value.copy()?,
+                }))
+            } else {
+                Ok(None)
+            }
+        }
+        Condition::Same { left: _, right: _ } => Ok(None),
+    }
+}

@@ -1,0 +1,11 @@
+use Rattle.std.proofs.Common.{◌≡◌, [], ◌∷◌, map}
+use Rattle.std.specs.List.{filter}
+use Rattle.sdd_lang.specs.Condition.{meets_all}
+use Rattle.sdd_lang.specs.Source.{entries_of}
+use Rattle.std.specs.Map.Iter.{deref_pair}
+use Rattle.sdd_plain.specs.Lent.{as_of}
+use Rattle.sdd_plain.proofs.rows.Rows.matching.Given as goal
+
+-- the entries so far are those of the rows so far that meet the conditions
+abbrev pub invariant-rows : goal.invariant-rows
+invariant-rows l = entries_of l.fn.rel.0 l.entries.items ≡ map (as_of l.fn.rel.0) (filter (λ e. meets_all l.conds (e.1 ∷ [])) (map deref_pair l.yielded))
