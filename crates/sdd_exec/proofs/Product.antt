@@ -1,12 +1,13 @@
 -- The tuples of a product are the rows of the choices that are there; so a join finds the answer.
-use Rattle.std.specs.Prelude.{ℕ, ◌<◌, ◌≡◌, ◌⊎◌, nat_lt, Bool, true, false, ◌&&◌, cond, List, [], ◌∷◌, length, Option, Some, None, map, filter_map, drop, slice_index, slice_index_or, refl}
+use Rattle.std.specs.Prelude.{ℕ, ◌<◌, ◌≤◌, ◌≡◌, ◌⊎◌, nat_lt, Bool, true, false, ◌&&◌, cond, List, [], ◌∷◌, length, Option, Some, None, map, filter_map, drop, slice_index, slice_index_or, refl}
 use Rattle.std.proofs.Common.{sym, ◌∙◌, ap, inl, inr, ⊎_elim}
-use Rattle.std.proofs.lemmas.Bool.{ltb-true, lt-ltb, cases_Bool}
+use Rattle.std.proofs.lemmas.Bool.{ltb-true, lt-ltb, le-ltb}
 use Rattle.sdd_lang.specs.declared.condition.Ref.{Ref}
 use Rattle.sdd_lang.specs.declared.condition.Condition.{Condition}
 use Rattle.sdd_lang.specs.Database.{Row}
 use Rattle.sdd_lang.specs.Condition.{Tuple, value_at, meets_all}
 use Rattle.sdd_lang.specs.Query.{product, selection, projection, distinct}
+use Rattle.sdd_lang.specs.Source.{within}
 use Rattle.sdd_exec.specs.Choices.{Choice, picked, is_there, row_from, Has, HasAll}
 use Rattle.sdd_exec.proofs.Members.{Has-map, Has-map_from, Has-filter, Has-filter_from, Has-flat_map, Has-flat_map_from, Has-filter_map, Has-filter_map_from, Has-get_or, place_of}
 use Rattle.sdd_exec.proofs.Complete.{both}
@@ -57,3 +58,10 @@ join_is_answer parts out conds kept all =
         let same : picked parts c.0 ≡ one.0 = c.3 ∙ t.2 in
         let row : row_from parts out conds c.0 ≡ Some x = rw (c.2, same, two.1, one.2) in
         Has-filter_map (row_from parts out conds) kept c.0 x c.1 row)
+
+-- an answer for which there is no room, or is
+pub many_rows : (room : ℕ) (rows answer : List Row) → rows ≡ answer → room < length rows → None ≡ within room answer
+many_rows room rows answer e h = let many : room < length answer = rw e at h in let yes = lt-ltb _ _ many in rw yes
+
+pub few_rows : (room : ℕ) (rows answer list : List Row) → rows ≡ answer → (list ≡ rows) × (length rows ≤ room) → Some list ≡ within room answer
+few_rows room rows answer list e h = let few : length answer ≤ room = rw e at h.1 in let no = le-ltb _ _ few in rw (no, h.0, e)

@@ -225,8 +225,19 @@ fn answers(
     Ok(Some(rows))
 }
 
+/// The rows of a set, in their order.
+fn listed(alloc: Global, rows: BTreeSet<Row>) -> Result<RowList, NoMemory>
+    ensures { IfOk result (λ list. list ≡ rows.keys) }
+{
+    Ok(RowList::from_vec(rows.into_iter().collect(alloc)?))
+}
+
 /// The answer of a query over these rows of its parts, or None where it has more than `room` rows.
-#[tactic(auto, using(crate::proofs::Product::join_is_answer))]
+///
+/// Parts are taken one after the other, at each step one that an equality ties to those that were
+/// taken, where there is one; its rows are found by a hash of the tied columns. So it costs time
+/// with the rows, the tuples that meet the equalities of the parts taken so far, and a logarithmic
+/// step for each row of the answer.
 pub fn join(
     alloc: Global,
     parts: &[RowList],
@@ -240,12 +251,6 @@ pub fn join(
     let kept = choices(alloc, parts, conds, &zero)?;
     match answers(alloc, parts, conds, out, &kept, room, &zero)? {
         None => Ok(None),
-        Some(rows) => {
-            let mut list = Vec::with_capacity(alloc, rows.len())?;
-            for row in rows {
-                list.push(row)?;
-            }
-            Ok(Some(RowList::from_vec(list)))
-        }
+        Some(rows) => Ok(Some(listed(alloc, rows)?)),
     }
 }

@@ -1,8 +1,14 @@
 pub mod Firsts
+pub mod KeyKinds
+pub mod KeyRanges
 pub mod Numbering
 pub mod Pushdown
 pub mod Running
 pub mod Sets
 pub mod Sources
 pub mod Standing
+pub mod ReadSetDecides
+pub mod SoFar
+pub mod SortedEntries
+pub mod StaysDatabase
 pub mod UseLists

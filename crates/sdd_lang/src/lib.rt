@@ -11,6 +11,7 @@ mod pending;
 mod replace;
 mod run;
 mod source;
+mod laws;
 mod statement;
 mod transaction;
 mod tuple;
@@ -23,6 +24,9 @@ pub use effect::Effect;
 pub use over::effect_over;
 pub use replace::replaced;
 pub use source::{Entries, Entry, Source};
+pub use laws::{
+    law_puts_held, law_read_set_decides, law_rows_held, law_rows_make_database, law_stays_database,
+};
 pub use statement::{Rels, Statements, Stmt};
 pub use transaction::Txn;
 pub use tuple::{key_of, may_stand, meets_all, project, value_at};

@@ -1,0 +1,6 @@
+use Rattle.std.proofs.Common.{All, take}
+use Rattle.sdd_lang.specs.Sound.{IsHeld}
+use Rattle.sdd_lang.proofs.laws.law_rows_held.Given as goal
+
+abbrev pub invariant-loop-row : goal.invariant-loop-row
+invariant-loop-row l = All (λ r. All IsHeld r.1) (take l.row-index l.rows)

@@ -1,0 +1,5 @@
+use Rattle.sdd_lang.proofs.StaysDatabase.{stays_database}
+use Rattle.sdd_lang.proofs.laws.law_stays_database.Goals as goal
+
+pub returns : goal.returns
+returns c = stays_database c.args.cat.now c.known.ensures.sound c.args.txn.now c.requires c.law_puts_held.ensures

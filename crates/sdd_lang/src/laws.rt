@@ -1,0 +1,99 @@
+//! Laws of transactions: facts about the definitions, each carried by the contract of a function.
+//! A program has no need to call them.
+ghost use Rattle.std.specs.Prelude.{◌≡◌, All};
+ghost use Rattle.sdd_lang.specs.Agree.{ReadSetDecides};
+ghost use Rattle.sdd_lang.specs.Database.{Database, database_of};
+ghost use Rattle.sdd_lang.specs.Effect.{effect};
+ghost use Rattle.sdd_lang.specs.Fits.{Fits, FitsStart};
+ghost use Rattle.sdd_lang.specs.Serial.{after_changes};
+ghost use Rattle.sdd_lang.specs.Sound.{IsDatabase, IsHeld, PutsHeld};
+
+use crate::statement::Stmt;
+use crate::transaction::Txn;
+use sdd_base::{RelNo, Row, Value};
+use sdd_catalog::Catalogue;
+
+/// What a transaction does is decided by the fragments that it reads: on two databases that have the
+/// same entries in each fragment of its read set it has the same effect. Takes no memory.
+#[tactic(auto, using(crate::proofs::ReadSetDecides::read_set_decides))]
+pub fn law_read_set_decides(cat: &Catalogue, txn: &Txn)
+    requires { Fits cat.now txn.now }
+    ensures { ReadSetDecides cat.now txn.now }
+{
+    cat.known();
+}
+
+/// A transaction leaves a database a database. Costs time in the values of the rows that it puts.
+/// Takes no memory.
+pub fn law_stays_database(cat: &Catalogue, txn: &Txn)
+    requires { Fits cat.now txn.now }
+    ensures { (db : Database) → IsDatabase cat.now db → IsDatabase cat.now (after_changes cat.now db (effect cat.now db txn.now).changes) }
+{
+    cat.known();
+    law_puts_held(txn);
+}
+
+/// Rows that fit make a database. Costs time in their values. Takes no memory.
+pub fn law_rows_make_database(cat: &Catalogue, rows: &[(RelNo, Row)])
+    requires { All (FitsStart cat.now) rows.now }
+    ensures { IsDatabase cat.now (database_of cat.now rows.now) }
+{
+    law_rows_held(rows);
+}
+
+/// The rows that a transaction puts hold numbers of 64 bits. Costs time in their values. Takes no
+/// memory.
+pub fn law_puts_held(txn: &Txn)
+    ensures { All PutsHeld txn.now.statements }
+{
+    for statement in txn.statements.as_slice() {
+        puts_held(statement);
+    }
+}
+
+/// Rows hold numbers of 64 bits. Costs time in their values. Takes no memory.
+pub fn law_rows_held(rows: &[(RelNo, Row)])
+    ensures { All (λ r. All IsHeld r.1) rows.now }
+{
+    for (_, row) in rows {
+        row_held(row);
+    }
+}
+
+fn puts_held(statement: &Stmt)
+    ensures { PutsHeld statement.now }
+{
+    match statement {
+        Stmt::Put { rel: _, row } => row_held(row),
+        Stmt::Query {
+            out: _,
+            rels: _,
+            conds: _,
+        } => {}
+        Stmt::Update {
+            rel: _,
+            sets: _,
+            conds: _,
+        } => {}
+        Stmt::Delete { rel: _, conds: _ } => {}
+    }
+}
+
+fn row_held(row: &Row)
+    ensures { All IsHeld row.now }
+{
+    for value in row.as_slice() {
+        value_held(value);
+    }
+}
+
+fn value_held(value: &Value)
+    ensures { IsHeld value.now }
+{
+    match value {
+        Value::Int(number) => {
+            let _number = *number;
+        }
+        Value::Text(_) => {}
+    }
+}
