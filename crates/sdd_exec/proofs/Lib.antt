@@ -4,3 +4,4 @@ pub mod Members
 pub mod Distinct
 pub mod Complete
 pub mod Product
+pub mod Shipping

@@ -232,6 +232,25 @@ fn listed(alloc: Global, rows: BTreeSet<Row>) -> Result<RowList, NoMemory>
     Ok(RowList::from_vec(rows.into_iter().collect(alloc)?))
 }
 
+/// The answer of a query, where `zero` is the value of a column that isn't there.
+fn join_with(
+    alloc: Global,
+    parts: &[RowList],
+    out: &[Ref],
+    conds: &[Condition],
+    room: usize,
+    zero: &Value,
+) -> Result<Option<RowList>, NoMemory>
+    requires { zero.now ≡ Int (pos 0) }
+    ensures { IfOk result (λ rows. rows ≡ within room (distinct (projection out.now (selection conds.now (product parts.now))))) }
+{
+    let kept = choices(alloc, parts, conds, zero)?;
+    match answers(alloc, parts, conds, out, &kept, room, zero)? {
+        None => Ok(None),
+        Some(rows) => Ok(Some(listed(alloc, rows)?)),
+    }
+}
+
 /// The answer of a query over these rows of its parts, or None where it has more than `room` rows.
 ///
 /// Parts are taken one after the other, at each step one that an equality ties to those that were
@@ -248,9 +267,5 @@ pub fn join(
     ensures { IfOk result (λ rows. rows ≡ within room (distinct (projection out.now (selection conds.now (product parts.now))))) }
 {
     let zero = Value::Int(0);
-    let kept = choices(alloc, parts, conds, &zero)?;
-    match answers(alloc, parts, conds, out, &kept, room, &zero)? {
-        None => Ok(None),
-        Some(rows) => Ok(Some(listed(alloc, rows)?)),
-    }
+    join_with(alloc, parts, out, conds, room, &zero)
 }

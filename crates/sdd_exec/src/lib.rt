@@ -2,9 +2,15 @@
 #![tactic(auto)]
 
 mod choice;
+mod from_rows;
 mod index;
 mod join;
+mod snapshot;
+mod source;
 mod tie;
+
+pub use from_rows::effect;
+pub use snapshot::Snapshot;
 
 #[cfg(test)]
 mod tests;
