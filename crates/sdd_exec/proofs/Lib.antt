@@ -5,3 +5,4 @@ pub mod Distinct
 pub mod Complete
 pub mod Product
 pub mod Shipping
+pub mod Serving

@@ -8,13 +8,14 @@ use Rattle.std.proofs.Common.{arith, get_or, sym, ◌∙◌, ap}
 use Rattle.std.proofs.lemmas.Bool.{cases_Bool}
 use Rattle.std.proofs.lemmas.Cmp.{nat_cmp_total, tied_itself}
 use Rattle.std.proofs.lemmas.List.{take_more}
+use Rattle.std.proofs.lemmas.List.FromFn.{map-range_with_len_more}
 use Rattle.std.proofs.lemmas.List.Sums.{fold-append}
 use Rattle.std.proofs.lemmas.List.Elements.{filter_map-append}
 use Rattle.sdd_catalog.specs.Catalogue.{Catalogue}
 use Rattle.sdd_lang.specs.declared.condition.Condition.{Condition}
 use Rattle.sdd_lang.specs.Database.{Row, Database, item_cmp, with_row, key_in}
 use Rattle.sdd_lang.specs.Condition.{meets_all}
-use Rattle.sdd_exec.specs.Snapshots.{Shipped, rows_for, chosen_for, with_chosen, of_relation}
+use Rattle.sdd_exec.specs.Snapshots.{Shipped, rows_for, chosen_for, with_chosen, of_relation, parts_for}
 
 pub rows_for_more : (snap : Shipped) (number : ℕ) (i : ℕ) (d : ℕ × Row) → i < length snap → rows_for (take (i + 1) snap) number ≡ rows_for (take i snap) number ++ rows_for (get_or snap i d ∷ []) number
 rows_for_more snap number i d h = rw (take_more snap i d h, filter_map-append)
@@ -52,3 +53,20 @@ chosen_one_by_one cat rel conds (row ∷ rows) db =
       | true ↦ with_it
       | false ↦ without
     ]
+
+pub rows_next : (snap : Shipped) (number i : ℕ) (one : ℕ × Row) (before after : List Row) → i < length snap → one ≡ get_or snap i one → after ≡ before ++ rows_for (one ∷ []) number → before ≡ rows_for (take i snap) number
+    → after ≡ rows_for (take (i + 1) snap) number
+rows_next snap number i one before after h e g b =
+    let step : rows_for (take (i + 1) snap) number ≡ rows_for (take i snap) number ++ rows_for (one ∷ []) number = rw (← e) at (rows_for_more snap number i one h) in
+    rw (g, b, step)
+
+pub chosen_next : (cat : Catalogue) (rel : ℕ) (conds : List Condition) (rows : List Row) (i : ℕ) (row : Row) (before after : Database) → i < length rows → row ≡ get_or rows i row → after ≡ with_chosen cat rel conds before row
+    → before ≡ fold (with_chosen cat rel conds) [] (take i rows) → after ≡ fold (with_chosen cat rel conds) [] (take (i + 1) rows)
+chosen_next cat rel conds rows i row before after h e g b =
+    let step : fold (with_chosen cat rel conds) [] (take (i + 1) rows) ≡ with_chosen cat rel conds (fold (with_chosen cat rel conds) [] (take i rows)) row = rw (← e) at (chosen_more cat rel conds rows i row h) in
+    rw (g, b, step)
+
+pub parts_next : (snap : Shipped) (before i number : ℕ) (rows : List Row) (done after : List (List Row)) → number ≡ before + i + 1 → rows ≡ rows_for snap number → after ≡ done ++ rows ∷ [] → done ≡ parts_for snap before i → after ≡ parts_for snap before (i + 1)
+parts_next snap before i number rows done after n r g d =
+    let e : number ≡ before + (1 + i) = omega arith in
+    rw (g, d, r, e, map-range_with_len_more (λ (p : ℕ). rows_for snap (before + p)) 1 i (1 + i) refl)

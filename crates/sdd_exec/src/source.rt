@@ -126,6 +126,6 @@ impl Source for Shipped<'_> {
     ) -> Result<Entries, NoMemory> {
         let rows = self.snap.rows_for(alloc, u64::from(before) + 1)?;
         let entries = entries_by_key(alloc, self.cat, rel, conds, rows.as_slice())?;
-        listed(alloc, entries)
+        Ok(listed(alloc, entries)?)
     }
 }
