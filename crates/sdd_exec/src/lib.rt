@@ -9,7 +9,7 @@ mod snapshot;
 mod source;
 mod tie;
 
-pub use from_rows::effect;
+pub use from_rows::{effect, law_one_effect};
 pub use snapshot::Snapshot;
 
 #[cfg(test)]
