@@ -1,6 +1,6 @@
 ghost use Rattle.std.specs.Prelude.{◌≡◌, IfOk, IsTrue};
 ghost use Rattle.sdd_catalog.specs.Catalogue as catalogues;
-ghost use Rattle.sdd_lang.specs.declared.transaction as transactions;
+ghost use Rattle.sdd_lang.specs.declared.transaction.Txn as transactions;
 ghost use Rattle.sdd_lang.specs.Database.{Database};
 ghost use Rattle.sdd_lang.specs.Effect as of_databases;
 ghost use Rattle.sdd_lang.specs.Fits.{Fits};
@@ -22,7 +22,6 @@ use std::alloc::Global;
 /// the tuples that meet the equalities of the parts taken so far, and not with the product; beyond
 /// that, with all rows of the snapshot once for each use, and a logarithmic step for each row that
 /// is answered or changed.
-#[tactic(auto, using(crate::proofs::Serving::served_effect))]
 pub fn effect(
     alloc: Global,
     cat: &Catalogue,
@@ -38,7 +37,7 @@ pub fn effect(
 
 /// A snapshot tells the effect: two databases that it serves for a transaction have one.
 pub fn law_one_effect()
-    ensures { (cat : catalogues.Catalogue) (txn : transactions.Txn.Txn) (snap : snapshots.Shipped) (db other : Database)
+    ensures { (cat : catalogues.Catalogue) (txn : transactions.Txn) (snap : snapshots.Shipped) (db other : Database)
         → IsDatabase cat db → IsDatabase cat other → Serves cat txn snap db → Serves cat txn snap other → of_databases.effect cat db txn ≡ of_databases.effect cat other txn }
 {
 }
