@@ -35,21 +35,21 @@ place_is_there (rows ∷ parts) (c ∷ t) (suc p) h there = place_is_there parts
 passes_condition : (tuple : Tuple) (part : ℕ) (cond' : Condition) → meets tuple cond' ≡ true → passes_one part (slice_index_or tuple part []) cond' ≡ true
 passes_condition tuple part (Const left op value) h =
     ⊎_elim
-      (λ (yes : (left.part - 1 == part) ≡ true). let same : left.part - 1 ≡ part = eqb-true _ _ yes in rw yes (rw same at h))
-      (λ (no : (left.part - 1 == part) ≡ false). rw no)
-      (cases_Bool (left.part - 1 == part))
+    (λ (yes : (left.part - 1 == part) ≡ true). let same : left.part - 1 ≡ part = eqb-true _ _ yes in rw yes (rw same at h))
+    (λ (no : (left.part - 1 == part) ≡ false). rw no)
+    (cases_Bool (left.part - 1 == part))
 passes_condition tuple part (Same left right) h =
     ⊎_elim
-      (λ (yes : (left.part - 1 == part) ≡ true).
-        ⊎_elim
-          (λ (also : (right.part - 1 == part) ≡ true).
-            let same : left.part - 1 ≡ part = eqb-true _ _ yes in
-            let too : right.part - 1 ≡ part = eqb-true _ _ also in
-            rw (yes, also) (rw (same, too) at h))
-          (λ (no : (right.part - 1 == part) ≡ false). rw (yes, no))
-          (cases_Bool (right.part - 1 == part)))
-      (λ (no : (left.part - 1 == part) ≡ false). rw no)
-      (cases_Bool (left.part - 1 == part))
+    (λ (yes : (left.part - 1 == part) ≡ true).
+    ⊎_elim
+    (λ (also : (right.part - 1 == part) ≡ true).
+    let same : left.part - 1 ≡ part = eqb-true _ _ yes in
+    let too : right.part - 1 ≡ part = eqb-true _ _ also in
+    rw (yes, also) (rw (same, too) at h))
+    (λ (no : (right.part - 1 == part) ≡ false). rw (yes, no))
+    (cases_Bool (right.part - 1 == part)))
+    (λ (no : (left.part - 1 == part) ≡ false). rw no)
+    (cases_Bool (left.part - 1 == part))
 
 pub passes_all : (tuple : Tuple) (part : ℕ) (conds : List Condition) → meets_all conds tuple ≡ true → passes part conds (slice_index_or tuple part []) ≡ true
 passes_all tuple part [] h = refl
@@ -70,13 +70,13 @@ EachTie taken part tuple (t ∷ ts) = IsTie taken part tuple t × EachTie taken 
 between_holds : (taken : List ℕ) (part : ℕ) (tuple : Tuple) (from to : Ref) (ts : List Tie) → value_at tuple from ≡ value_at tuple to → EachTie taken part tuple ts → EachTie taken part tuple (cons_option (tie_between taken part from to) ts)
 between_holds taken part tuple from to ts e rest =
     ⊎_elim
-      (λ (yes : ((from.part - 1 == part) && is_taken taken (to.part - 1)) ≡ true).
-        let b = both _ _ yes in
-        let same : from.part - 1 ≡ part = eqb-true _ _ b.0 in
-        let here : column (slice_index_or tuple part []) from.column ≡ value_at tuple to = rw same at e in
-        rw yes ((b.1, here), rest))
-      (λ (no : ((from.part - 1 == part) && is_taken taken (to.part - 1)) ≡ false). rw no rest)
-      (cases_Bool ((from.part - 1 == part) && is_taken taken (to.part - 1)))
+    (λ (yes : ((from.part - 1 == part) && is_taken taken (to.part - 1)) ≡ true).
+    let b = both _ _ yes in
+    let same : from.part - 1 ≡ part = eqb-true _ _ b.0 in
+    let here : column (slice_index_or tuple part []) from.column ≡ value_at tuple to = rw same at e in
+    rw yes ((b.1, here), rest))
+    (λ (no : ((from.part - 1 == part) && is_taken taken (to.part - 1)) ≡ false). rw no rest)
+    (cases_Bool ((from.part - 1 == part) && is_taken taken (to.part - 1)))
 
 one_of_two : (taken : List ℕ) (part : ℕ) (tuple : Tuple) (ts : List Tie) (first second : Option Tie) → EachTie taken part tuple (cons_option first ts) → EachTie taken part tuple (cons_option second ts)
     → EachTie taken part tuple (cons_option (elim first [ None ↦ second | Some tie ↦ Some tie ]) ts)
@@ -91,7 +91,7 @@ ties_hold taken part tuple (Same left right ∷ conds) h =
     let rest = ties_hold taken part tuple conds b.1 in
     let e : value_at tuple left ≡ value_at tuple right = same_value tuple left right b.0 in
     one_of_two taken part tuple (ties_of taken part conds) (tie_between taken part left right) (tie_between taken part right left)
-      (between_holds taken part tuple left right (ties_of taken part conds) e rest) (between_holds taken part tuple right left (ties_of taken part conds) (sym e) rest)
+    (between_holds taken part tuple left right (ties_of taken part conds) e rest) (between_holds taken part tuple right left (ties_of taken part conds) (sym e) rest)
 
 keys_meet : (taken : List ℕ) (part : ℕ) (tuple : Tuple) (ts : List Tie) → EachTie taken part tuple ts → key_of ts (slice_index_or tuple part []) ≡ key_for ts tuple
 keys_meet taken part tuple [] h = refl
@@ -101,10 +101,10 @@ keys_meet taken part tuple (t ∷ ts) h = let rest = keys_meet taken part tuple 
 pub value_agrees : (parts : List (List Row)) (c t : Choice) (r : Ref) → (r.part - 1 < length parts → slice_index c (r.part - 1) ≡ slice_index t (r.part - 1)) → value_at (picked parts c) r ≡ value_at (picked parts t) r
 value_agrees parts c t r h =
     rw (value_in_picked parts c r, value_in_picked parts t r)
-      (⊎_elim
-        (λ less. rw (h less))
-        (λ more. let none : slice_index_or parts (r.part - 1) [] ≡ [] = get_or_past parts (r.part - 1) [] more in rw none)
-        (cases_lt (r.part - 1) (length parts)))
+    (⊎_elim
+    (λ less. rw (h less))
+    (λ more. let none : slice_index_or parts (r.part - 1) [] ≡ [] = get_or_past parts (r.part - 1) [] more in rw none)
+    (cases_lt (r.part - 1) (length parts)))
 
 keys_agree : (parts : List (List Row)) (c t : Choice) (taken : List ℕ) (part : ℕ) (ts : List Tie) → ((p : ℕ) → p < length parts → is_taken taken p ≡ true → slice_index c p ≡ slice_index t p)
     → EachTie taken part (picked parts t) ts → key_for ts (picked parts c) ≡ key_for ts (picked parts t)
@@ -160,22 +160,21 @@ complete_step parts conds taken kept part h whole t there meets =
     let is_row : slice_index_or (picked parts t) part [] ≡ row = row_of_picked parts t part in
     let each = ties_hold taken part (picked parts t) conds meets in
     let key : key_of ties row ≡ key_for ties (picked parts c) =
-      rw is_row at (keys_meet taken part (picked parts t) ties each) ∙ sym (keys_agree parts c t taken part ties before.2 each) in
+    rw is_row at (keys_meet taken part (picked parts t) ties each) ∙ sym (keys_agree parts c t taken part ties before.2 each) in
     let passing : passes part conds row ≡ true = rw is_row at (passes_all (picked parts t) part conds meets) in
     let in_pairs : Has (keyed part conds ties 0 rows) (key_of ties row, 0 + place) = has_keyed part conds ties 0 rows place (place_is_there parts t part h there) passing in
     let zero_first : 0 + place ≡ place = omega arith in
     let found : Has (keyed part conds ties 0 rows) (key_for ties (picked parts c), place) = rw (key, zero_first) at in_pairs in
-    let next : Choice = placed (length parts) c part place in
-    (
+    let next : Choice = placed (length parts) c part place in (
       next,
       Has-flat_map (extensions parts conds taken part) kept c next before.1 (Has-map (placed (length parts) c part) _ place (has_place _ _ place found)),
       λ p less yes.
-        placed_at (length parts) c part place p less
-        ∙ ⊎_elim
+          placed_at (length parts) c part place p less
+          ∙ ⊎_elim
           (λ (new : (p == part) ≡ true). let same : p ≡ part = eqb-true _ _ new in rw new (rw same refl))
           (λ (old : (p == part) ≡ false).
-            rw old
-              (⊎_elim (λ was. before.2 p less was) (λ same. absurd (eqb-false _ _ old (sym same))) (taken_or_new taken part p yes)))
+          rw old
+          (⊎_elim (λ was. before.2 p less was) (λ same. absurd (eqb-false _ _ old (sym same))) (taken_or_new taken part p yes)))
           (cases_Bool (p == part)),
     )
 

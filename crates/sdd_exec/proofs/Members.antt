@@ -29,17 +29,17 @@ pub Has-filter : {X : Type 0} (p : X → Bool) (xs : List X) (x : X) → Has xs 
 Has-filter p [] x h t = absurd h
 Has-filter p (z ∷ xs) x h t =
     ⊎_elim
-      (λ e. let yes : p z ≡ true = rw e t in rw yes (inl e))
-      (λ k. let rest = Has-filter p xs x k t in elim (p z) as (λ b. Has (cond b (z ∷ filter p xs) (filter p xs)) x) [ true ↦ inr rest | false ↦ rest ])
-      h
+    (λ e. let yes : p z ≡ true = rw e t in rw yes (inl e))
+    (λ k. let rest = Has-filter p xs x k t in elim (p z) as (λ b. Has (cond b (z ∷ filter p xs) (filter p xs)) x) [ true ↦ inr rest | false ↦ rest ])
+    h
 
 pub Has-filter_from : {X : Type 0} (p : X → Bool) (xs : List X) (x : X) → Has (filter p xs) x → Has xs x × (p x ≡ true)
 Has-filter_from p [] x h = absurd h
 Has-filter_from p (z ∷ xs) x h =
     ⊎_elim
-      (λ (yes : p z ≡ true). let g : Has (z ∷ filter p xs) x = rw yes at h in ⊎_elim (λ e. (inl e, rw (← e) yes)) (λ k. let r = Has-filter_from p xs x k in (inr r.0, r.1)) g)
-      (λ (no : p z ≡ false). let g : Has (filter p xs) x = rw no at h in let r = Has-filter_from p xs x g in (inr r.0, r.1))
-      (cases_Bool (p z))
+    (λ (yes : p z ≡ true). let g : Has (z ∷ filter p xs) x = rw yes at h in ⊎_elim (λ e. (inl e, rw (← e) yes)) (λ k. let r = Has-filter_from p xs x k in (inr r.0, r.1)) g)
+    (λ (no : p z ≡ false). let g : Has (filter p xs) x = rw no at h in let r = Has-filter_from p xs x g in (inr r.0, r.1))
+    (cases_Bool (p z))
 
 pub Has-flat_map : {X Y : Type 0} (f : X → List Y) (xs : List X) (x : X) (y : Y) → Has xs x → Has (f x) y → Has (flat_map f xs) y
 Has-flat_map f [] x y h k = absurd h
@@ -55,9 +55,9 @@ pub Has-filter_map : {X Y : Type 0} (f : X → Option Y) (xs : List X) (x : X) (
 Has-filter_map f [] x y h e = absurd h
 Has-filter_map f (z ∷ xs) x y h e =
     ⊎_elim
-      (λ same. let found : f z ≡ Some y = rw same e in rw found (inl refl))
-      (λ k. let rest = Has-filter_map f xs x y k e in elim (f z) as (λ o. Has (cons_option o (filter_map f xs)) y) [ None ↦ rest | Some w ↦ inr rest ])
-      h
+    (λ same. let found : f z ≡ Some y = rw same e in rw found (inl refl))
+    (λ k. let rest = Has-filter_map f xs x y k e in elim (f z) as (λ o. Has (cons_option o (filter_map f xs)) y) [ None ↦ rest | Some w ↦ inr rest ])
+    h
 
 some_first : {Y : Type 0} (o : Option Y) (ys : List Y) (y : Y) → Has (cons_option o ys) y → (o ≡ Some y) ⊎ Has ys y
 some_first None ys y h = inr h

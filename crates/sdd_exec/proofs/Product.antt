@@ -19,8 +19,8 @@ picked_in_product (rows ∷ parts) t h =
     let b = both _ _ h in
     let row : Row = slice_index_or rows (slice_index t 0) [] in
     Has-flat_map (λ row. map (λ tuple. row ∷ tuple) (product parts)) rows row _
-      (Has-get_or rows (slice_index t 0) [] (ltb-true _ _ b.0))
-      (Has-map (λ (tuple : Tuple). row ∷ tuple) (product parts) (picked parts (drop 1 t)) (picked_in_product parts (drop 1 t) b.1))
+    (Has-get_or rows (slice_index t 0) [] (ltb-true _ _ b.0))
+    (Has-map (λ (tuple : Tuple). row ∷ tuple) (product parts) (picked parts (drop 1 t)) (picked_in_product parts (drop 1 t) b.1))
 
 pub choice_of : (parts : List (List Row)) (u : Tuple) → Has (product parts) u → (t : Choice) × (is_there parts t ≡ true) × (picked parts t ≡ u)
 choice_of [] u h = ([], refl, ⊎_elim (λ e. e) (λ n. absurd n) h)
@@ -41,23 +41,23 @@ pub join_is_answer : (parts : List (List Row)) (out : List Ref) (conds : List Co
     → distinct (filter_map (row_from parts out conds) kept) ≡ distinct (projection out (selection conds (product parts)))
 join_is_answer parts out conds kept all =
     distinct_same (filter_map (row_from parts out conds) kept) (projection out (selection conds (product parts)))
-      (λ x h.
-        let one = Has-filter_map_from (row_from parts out conds) kept x h in
-        let c : Choice = one.0 in
-        let f = found_row (is_there parts c && meets_all conds (picked parts c)) (map (value_at (picked parts c)) out) x one.2 in
-        let b = both _ _ f.0 in
-        let in_all : Has (selection conds (product parts)) (picked parts c) = Has-filter (meets_all conds) (product parts) (picked parts c) (picked_in_product parts c b.0) b.1 in
-        let projected : Has (projection out (selection conds (product parts))) (map (value_at (picked parts c)) out) = Has-map (λ (tuple : Tuple). map (value_at tuple) out) _ (picked parts c) in_all in
-        rw f.1 at projected)
-      (λ x h.
-        let one = Has-map_from (λ (tuple : Tuple). map (value_at tuple) out) (selection conds (product parts)) x h in
-        let two = Has-filter_from (meets_all conds) (product parts) one.0 one.1 in
-        let t = choice_of parts one.0 two.0 in
-        let met : meets_all conds (picked parts t.0) ≡ true = rw t.2 two.1 in
-        let c = all t.0 t.1 met in
-        let same : picked parts c.0 ≡ one.0 = c.3 ∙ t.2 in
-        let row : row_from parts out conds c.0 ≡ Some x = rw (c.2, same, two.1, one.2) in
-        Has-filter_map (row_from parts out conds) kept c.0 x c.1 row)
+    (λ x h.
+    let one = Has-filter_map_from (row_from parts out conds) kept x h in
+    let c : Choice = one.0 in
+    let f = found_row (is_there parts c && meets_all conds (picked parts c)) (map (value_at (picked parts c)) out) x one.2 in
+    let b = both _ _ f.0 in
+    let in_all : Has (selection conds (product parts)) (picked parts c) = Has-filter (meets_all conds) (product parts) (picked parts c) (picked_in_product parts c b.0) b.1 in
+    let projected : Has (projection out (selection conds (product parts))) (map (value_at (picked parts c)) out) = Has-map (λ (tuple : Tuple). map (value_at tuple) out) _ (picked parts c) in_all in
+    rw f.1 at projected)
+    (λ x h.
+    let one = Has-map_from (λ (tuple : Tuple). map (value_at tuple) out) (selection conds (product parts)) x h in
+    let two = Has-filter_from (meets_all conds) (product parts) one.0 one.1 in
+    let t = choice_of parts one.0 two.0 in
+    let met : meets_all conds (picked parts t.0) ≡ true = rw t.2 two.1 in
+    let c = all t.0 t.1 met in
+    let same : picked parts c.0 ≡ one.0 = c.3 ∙ t.2 in
+    let row : row_from parts out conds c.0 ≡ Some x = rw (c.2, same, two.1, one.2) in
+    Has-filter_map (row_from parts out conds) kept c.0 x c.1 row)
 
 -- an answer for which there is no room, or is
 pub many_rows : (room : ℕ) (rows answer : List Row) → rows ≡ answer → room < length rows → None ≡ within room answer

@@ -57,7 +57,7 @@ shipped_tuple cat db snap before conds a (rel ∷ rels) tuple held h =
     let row = held (use_of cat (before + a) rel (restrictions_of a conds)) (inl refl) one.0 one.1 in
     let later = shipped_tuple cat db snap before conds (a + 1) rels two.0 (λ u has. held u (inr has)) two.1 in
     let joined : Has (product (lists_of db (rel ∷ rels))) (one.0 ∷ two.0) =
-      Has-flat_map (λ row. each_row row (product (lists_of db rels))) (rows_of db rel.0) one.0 (one.0 ∷ two.0) row.0 (Has-map (λ (rest : Tuple). one.0 ∷ rest) (product (lists_of db rels)) two.0 later) in
+    Has-flat_map (λ row. each_row row (product (lists_of db rels))) (rows_of db rel.0) one.0 (one.0 ∷ two.0) row.0 (Has-map (λ (rest : Tuple). one.0 ∷ rest) (product (lists_of db rels)) two.0 later) in
     rw two.2 at joined
 
 -- a tuple of the database whose rows were shipped is one of the shipped rows
@@ -71,13 +71,13 @@ tuple_shipped db snap before a (rel ∷ rels) tuple h each =
     let at_a : a + 0 ≡ a = omega arith in
     let first : Has (rows_for snap (before + a)) one.0 = rw (same, at_a) at (each 0 (omega arith)) in
     let later = tuple_shipped db snap before (a + 1) rels two.0 two.1
-      (λ p less.
-        let e : a + suc p ≡ a + 1 + p = omega arith in
-        let here : Has (rows_for snap (before + (a + suc p))) (slice_index_or two.0 p []) = rw same at (each (suc p) (omega arith)) in
-        rw e at here) in
+    (λ p less.
+    let e : a + suc p ≡ a + 1 + p = omega arith in
+    let here : Has (rows_for snap (before + (a + suc p))) (slice_index_or two.0 p []) = rw same at (each (suc p) (omega arith)) in
+    rw e at here) in
     let joined : Has (product (lists_for snap before a (rel ∷ rels))) (one.0 ∷ two.0) =
-      Has-flat_map (λ row. each_row row (product (lists_for snap before (a + 1) rels))) (rows_for snap (before + a)) one.0 (one.0 ∷ two.0) first
-        (Has-map (λ (rest : Tuple). one.0 ∷ rest) (product (lists_for snap before (a + 1) rels)) two.0 later) in
+    Has-flat_map (λ row. each_row row (product (lists_for snap before (a + 1) rels))) (rows_for snap (before + a)) one.0 (one.0 ∷ two.0) first
+    (Has-map (λ (rest : Tuple). one.0 ∷ rest) (product (lists_for snap before (a + 1) rels)) two.0 later) in
     rw two.2 at joined
 
 -- what a query finds
@@ -85,20 +85,20 @@ query_agrees : (cat : Catalogue) (db : Database) (snap : Shipped) (before : ℕ)
     → AreHeld db snap (part_uses cat before conds 1 rels) → AreEnough db snap before (Query out rels conds) → found_for snap before out rels conds ≡ answer db out rels conds
 query_agrees cat db snap before out rels conds held enough =
     distinct_same (projection out (selection conds (product (lists_for snap before 1 rels)))) (projection out (selection conds (product (lists_of db rels))))
-      (λ x h.
-        let one = Has-map_from (λ (tuple : Tuple). map (value_at tuple) out) (selection conds (product (lists_for snap before 1 rels))) x h in
-        let two = Has-filter_from (meets_all conds) (product (lists_for snap before 1 rels)) one.0 one.1 in
-        let in_db = shipped_tuple cat db snap before conds 1 rels one.0 held two.0 in
-        rw one.2 at (Has-map (λ (tuple : Tuple). map (value_at tuple) out) _ one.0 (Has-filter (meets_all conds) (product (lists_of db rels)) one.0 in_db two.1)))
-      (λ x h.
-        let one = Has-map_from (λ (tuple : Tuple). map (value_at tuple) out) (selection conds (product (lists_of db rels))) x h in
-        let two = Has-filter_from (meets_all conds) (product (lists_of db rels)) one.0 one.1 in
-        let in_snap = tuple_shipped db snap before 1 rels one.0 two.0
-          (λ p less.
-            let e : 1 + p - 1 ≡ p = omega arith in
-            let here = enough one.0 two.0 two.1 (1 + p) (omega arith, omega arith) in
-            rw e at here) in
-        rw one.2 at (Has-map (λ (tuple : Tuple). map (value_at tuple) out) _ one.0 (Has-filter (meets_all conds) (product (lists_for snap before 1 rels)) one.0 in_snap two.1)))
+    (λ x h.
+    let one = Has-map_from (λ (tuple : Tuple). map (value_at tuple) out) (selection conds (product (lists_for snap before 1 rels))) x h in
+    let two = Has-filter_from (meets_all conds) (product (lists_for snap before 1 rels)) one.0 one.1 in
+    let in_db = shipped_tuple cat db snap before conds 1 rels one.0 held two.0 in
+    rw one.2 at (Has-map (λ (tuple : Tuple). map (value_at tuple) out) _ one.0 (Has-filter (meets_all conds) (product (lists_of db rels)) one.0 in_db two.1)))
+    (λ x h.
+    let one = Has-map_from (λ (tuple : Tuple). map (value_at tuple) out) (selection conds (product (lists_of db rels))) x h in
+    let two = Has-filter_from (meets_all conds) (product (lists_of db rels)) one.0 one.1 in
+    let in_snap = tuple_shipped db snap before 1 rels one.0 two.0
+    (λ p less.
+    let e : 1 + p - 1 ≡ p = omega arith in
+    let here = enough one.0 two.0 two.1 (1 + p) (omega arith, omega arith) in
+    rw e at here) in
+    rw one.2 at (Has-map (λ (tuple : Tuple). map (value_at tuple) out) _ one.0 (Has-filter (meets_all conds) (product (lists_for snap before 1 rels)) one.0 in_snap two.1)))
 
 has_in : {X : Type 0} (xs : List X) (x : X) → Has xs x → IsIn x xs
 has_in [] x h = h
@@ -130,17 +130,17 @@ one_row (f ∷ db) x y sorted hx hy same =
     let head = sorted_head item_cmp f.0 (keys_of db) sorted in
     let after : (e : Item × Row) → Has db e → item_cmp f.0 e.0 ≡ Less = λ e has. key_has db e (λ i. item_cmp f.0 i ≡ Less) head has in
     ⊎_elim
-      (λ ex.
-        ⊎_elim
-          (λ ey. sym ex ∙ ey)
-          (λ ly. absurd (not_less_itself f.0 y.0 (ap (λ (z : Item × Row). z.0) ex ∙ same) (after y ly)))
-          hy)
-      (λ lx.
-        ⊎_elim
-          (λ ey. absurd (not_less_itself f.0 x.0 (ap (λ (z : Item × Row). z.0) ey ∙ sym same) (after x lx)))
-          (λ ly. one_row db x y (sorted_tail item_cmp f.0 (keys_of db) sorted) lx ly same)
-          hy)
-      hx
+    (λ ex.
+    ⊎_elim
+    (λ ey. sym ex ∙ ey)
+    (λ ly. absurd (not_less_itself f.0 y.0 (ap (λ (z : Item × Row). z.0) ex ∙ same) (after y ly)))
+    hy)
+    (λ lx.
+    ⊎_elim
+    (λ ey. absurd (not_less_itself f.0 x.0 (ap (λ (z : Item × Row). z.0) ey ∙ sym same) (after x lx)))
+    (λ ly. one_row db x y (sorted_tail item_cmp f.0 (keys_of db) sorted) lx ly same)
+    hy)
+    hx
 
 put_there : (es : Database) (k : Item) (v : Row) → Has (with_row es k v) (k, v)
 put_there [] k v = inl refl
@@ -161,9 +161,9 @@ still_there (f ∷ es) k v e tells h =
       | Equal ↦ λ o.
           let same : k ≡ f.0 = item_cmp_exact k f.0 o in
           ⊎_elim
-            (λ is. inl (ap (λ (i : Item). (i, v)) (sym same) ∙ tells (same ∙ ap (λ (z : Item × Row). z.0) is)))
-            (λ r. inr r)
-            h
+          (λ is. inl (ap (λ (i : Item). (i, v)) (sym same) ∙ tells (same ∙ ap (λ (z : Item × Row). z.0) is)))
+          (λ r. inr r)
+          h
       | Greater ↦ λ o. later
     ] refl
 
@@ -191,9 +191,9 @@ put_all_from : (cat : Catalogue) (rel : ℕ) (rows : List Row) (es : Database) (
 put_all_from cat rel [] es e h = inl h
 put_all_from cat rel (r ∷ rows) es e h =
     ⊎_elim
-      (λ a. ⊎_elim (λ new. inr (r, inl refl, new)) (λ old. inl old) (put_or_there es (rel, key_in cat rel r) r e a))
-      (λ b. inr (b.0, inr b.1, b.2))
-      (put_all_from cat rel rows (with_row es (rel, key_in cat rel r) r) e h)
+    (λ a. ⊎_elim (λ new. inr (r, inl refl, new)) (λ old. inl old) (put_or_there es (rel, key_in cat rel r) r e a))
+    (λ b. inr (b.0, inr b.1, b.2))
+    (put_all_from cat rel rows (with_row es (rel, key_in cat rel r) r) e h)
 
 -- rows of a database do not displace one another
 put_all_there : (cat : Catalogue) (rel : ℕ) (db : Database) (rows : List Row) (es : Database) (e : Item × Row) → IsStrictlySortedBy item_cmp (keys_of db)
@@ -203,14 +203,14 @@ put_all_there cat rel db (r ∷ rows) es e sorted all in_db h =
     let next : Database = with_row es (rel, key_in cat rel r) r in
     let tells : (rel, key_in cat rel r) ≡ e.0 → item_of cat rel r ≡ e = λ same. one_row db (item_of cat rel r) e sorted (all r (inl refl)) in_db same in
     put_all_there cat rel db rows next e sorted (λ x has. all x (inr has)) in_db
-      (⊎_elim
-        (λ a. inl (still_there es (rel, key_in cat rel r) r e tells a))
-        (λ b.
-          ⊎_elim
-            (λ first. let is : item_of cat rel r ≡ e = ap (item_of cat rel) first ∙ b.2 in inl (subst (λ (z : Item × Row). Has next z) is (put_there es (rel, key_in cat rel r) r)))
-            (λ later. inr (b.0, later, b.2))
-            b.1)
-        h)
+    (⊎_elim
+    (λ a. inl (still_there es (rel, key_in cat rel r) r e tells a))
+    (λ b.
+    ⊎_elim
+    (λ first. let is : item_of cat rel r ≡ e = ap (item_of cat rel) first ∙ b.2 in inl (subst (λ (z : Item × Row). Has next z) is (put_there es (rel, key_in cat rel r) r)))
+    (λ later. inr (b.0, later, b.2))
+    b.1)
+    h)
 
 some_row : (b : Bool) (row x : Row) → cond b (Some row) None ≡ Some x → (b ≡ true) × (row ≡ x)
 some_row true row x e = (refl, cc)
@@ -246,34 +246,34 @@ chosen_agrees cat db snap before rel conds whole held enough =
     let rows : List Row = filter meeting (rows_for snap (before + 1)) in
     let test : Item × Row → Bool = λ e. (e.0.0 == rel.0) && meets_all conds (e.1 ∷ []) in
     let in_db : (r : Row) → Has rows r → Has db (item_of cat rel.0 r) =
-      λ r has.
-        let kept = Has-filter_from meeting (rows_for snap (before + 1)) r has in
-        let row = held (use_of cat (before + 1) rel (restrictions_of 1 conds)) (inl refl) r kept.0 in
-        row_entry cat db rel.0 r whole row.0 in
+    λ r has.
+    let kept = Has-filter_from meeting (rows_for snap (before + 1)) r has in
+    let row = held (use_of cat (before + 1) rel (restrictions_of 1 conds)) (inl refl) r kept.0 in
+    row_entry cat db rel.0 r whole row.0 in
     same_entries item_cmp item_cmp_total (put_all cat rel.0 [] rows) (filter test db)
-      (put_all_sorted cat rel.0 rows [] (sorted_nil item_cmp))
-      (filtered_sorted item_cmp test db whole.ascends)
-      (λ e h.
-        has_in (filter test db) e
-          (⊎_elim
-            (λ n. absurd n)
-            (λ b.
-              let kept = Has-filter_from meeting (rows_for snap (before + 1)) b.0 b.1 in
-              let same_rel : (rel.0 == rel.0) ≡ true = eq-eqb _ _ refl in
-              let passes : test (item_of cat rel.0 b.0) ≡ true = rw (same_rel, kept.1) refl in
-              subst (λ (z : Item × Row). Has (filter test db) z) b.2 (Has-filter test db (item_of cat rel.0 b.0) (in_db b.0 b.1) passes))
-            (put_all_from cat rel.0 rows [] e (in_has _ e h))))
-      (λ e h.
-        let kept = Has-filter_from test db e (in_has (filter test db) e h) in
-        let parts = both _ _ kept.1 in
-        let rel_is : e.0.0 ≡ rel.0 = eqb-true _ _ parts.0 in
-        let row = entry_row db rel.0 e kept.0 rel_is in
-        let restricted = parts_meet conds (e.1 ∷ []) 1 parts.1 in
-        let shipped : Has rows e.1 = Has-filter meeting (rows_for snap (before + 1)) e.1 (enough e.1 (row, restricted)) parts.1 in
-        let entry = each_has (IsEntry cat) db e (recursion_from_All (IsEntry cat) db whole.entries) kept.0 in
-        let key_is : e.0.1 ≡ key_in cat rel.0 e.1 = entry.key ∙ ap (λ (n : ℕ). key_in cat n e.1) rel_is in
-        let is : item_of cat rel.0 e.1 ≡ e = sym (same_entry e rel.0 (key_in cat rel.0 e.1) e.1 rel_is key_is refl) in
-        has_in _ e (put_all_there cat rel.0 db rows [] e whole.ascends in_db kept.0 (inr (e.1, shipped, is))))
+    (put_all_sorted cat rel.0 rows [] (sorted_nil item_cmp))
+    (filtered_sorted item_cmp test db whole.ascends)
+    (λ e h.
+    has_in (filter test db) e
+    (⊎_elim
+    (λ n. absurd n)
+    (λ b.
+    let kept = Has-filter_from meeting (rows_for snap (before + 1)) b.0 b.1 in
+    let same_rel : (rel.0 == rel.0) ≡ true = eq-eqb _ _ refl in
+    let passes : test (item_of cat rel.0 b.0) ≡ true = rw (same_rel, kept.1) refl in
+    subst (λ (z : Item × Row). Has (filter test db) z) b.2 (Has-filter test db (item_of cat rel.0 b.0) (in_db b.0 b.1) passes))
+    (put_all_from cat rel.0 rows [] e (in_has _ e h))))
+    (λ e h.
+    let kept = Has-filter_from test db e (in_has (filter test db) e h) in
+    let parts = both _ _ kept.1 in
+    let rel_is : e.0.0 ≡ rel.0 = eqb-true _ _ parts.0 in
+    let row = entry_row db rel.0 e kept.0 rel_is in
+    let restricted = parts_meet conds (e.1 ∷ []) 1 parts.1 in
+    let shipped : Has rows e.1 = Has-filter meeting (rows_for snap (before + 1)) e.1 (enough e.1 (row, restricted)) parts.1 in
+    let entry = each_has (IsEntry cat) db e (recursion_from_All (IsEntry cat) db whole.entries) kept.0 in
+    let key_is : e.0.1 ≡ key_in cat rel.0 e.1 = entry.key ∙ ap (λ (n : ℕ). key_in cat n e.1) rel_is in
+    let is : item_of cat rel.0 e.1 ≡ e = sym (same_entry e rel.0 (key_in cat rel.0 e.1) e.1 rel_is key_is refl) in
+    has_in _ e (put_all_there cat rel.0 db rows [] e whole.ascends in_db kept.0 (inr (e.1, shipped, is))))
 
 agree_at : (cat : Catalogue) (db : Database) (snap : Shipped) (before : ℕ) (s : Stmt) → IsDatabase cat db → AreHeld db snap (statement_uses cat before s) → AreEnough db snap before s
     → AgreeAt (found_for snap) (chosen_for cat snap) (found_in db) (chosen_in db) before s

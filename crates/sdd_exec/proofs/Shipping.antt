@@ -27,12 +27,12 @@ put_by_key rel (e ∷ keyed) key row =
     let rest = put_by_key rel keyed key row in
     let same : nat_cmp rel rel ≡ Equal = tied_itself nat_cmp_total rel in
     rw same
-      (elim (int_cmp key e.0) as (λ o. of_relation rel (match_ordering o ((key, row) ∷ e ∷ keyed) ((e.0, row) ∷ keyed) (e ∷ insert_entry int_cmp keyed key row))
-        ≡ match_ordering o (((rel, key), row) ∷ ((rel, e.0), e.1) ∷ of_relation rel keyed) (((rel, e.0), row) ∷ of_relation rel keyed) (((rel, e.0), e.1) ∷ with_row (of_relation rel keyed) (rel, key) row)) [
-        | Less ↦ refl
-        | Equal ↦ refl
-        | Greater ↦ ap (λ es. ((rel, e.0), e.1) ∷ es) rest
-      ])
+    (elim (int_cmp key e.0) as (λ o. of_relation rel (match_ordering o ((key, row) ∷ e ∷ keyed) ((e.0, row) ∷ keyed) (e ∷ insert_entry int_cmp keyed key row))
+    ≡ match_ordering o (((rel, key), row) ∷ ((rel, e.0), e.1) ∷ of_relation rel keyed) (((rel, e.0), row) ∷ of_relation rel keyed) (((rel, e.0), e.1) ∷ with_row (of_relation rel keyed) (rel, key) row)) [
+      | Less ↦ refl
+      | Equal ↦ refl
+      | Greater ↦ ap (λ es. ((rel, e.0), e.1) ∷ es) rest
+    ])
 
 pub chosen_more : (cat : Catalogue) (rel : ℕ) (conds : List Condition) (rows : List Row) (i : ℕ) (d : Row) → i < length rows
     → fold (with_chosen cat rel conds) [] (take (i + 1) rows) ≡ with_chosen cat rel conds (fold (with_chosen cat rel conds) [] (take i rows)) (get_or rows i d)

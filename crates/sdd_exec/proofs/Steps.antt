@@ -34,7 +34,7 @@ pub keyed_more : (part : ℕ) (conds : List Condition) (ties : List Tie) (i : �
 keyed_more part conds ties i rows d done h =
     rw (at_drop_more (keyed part conds ties i) rows i d h)
     (elim (passes part conds (get_or rows i d)) as (λ b. (done ++ cond b ((key_of ties (get_or rows i d), i) ∷ []) []) ++ keyed part conds ties (i + 1) (drop (i + 1) rows)
-        ≡ done ++ cond b ((key_of ties (get_or rows i d), i) ∷ keyed part conds ties (i + 1) (drop (i + 1) rows)) (keyed part conds ties (i + 1) (drop (i + 1) rows))) [
+    ≡ done ++ cond b ((key_of ties (get_or rows i d), i) ∷ keyed part conds ties (i + 1) (drop (i + 1) rows)) (keyed part conds ties (i + 1) (drop (i + 1) rows))) [
       | true ↦ rw append_assoc
       | false ↦ rw append-nil
     ])
@@ -47,7 +47,7 @@ places_more pairs q i d h = rw (take_more pairs i d h, filter-append, map-append
 pub with_found_more : (f : List ℕ → Option Row) (kept : List (List ℕ)) (i : ℕ) (d : List ℕ) → i < length kept → distinct (filter_map f (take (i + 1) kept)) ≡ with_found (f (get_or kept i d)) (distinct (filter_map f (take i kept)))
 with_found_more f kept i d h =
     rw (take_more kept i d h, filter_map-append, fold-append)
-      (elim (f (get_or kept i d)) as (λ o. fold (λ kept row. insert_key row_cmp kept row) (distinct (filter_map f (take i kept))) (cons_option o []) ≡ with_found o (distinct (filter_map f (take i kept)))) [ None ↦ refl | Some row ↦ refl ])
+    (elim (f (get_or kept i d)) as (λ o. fold (λ kept row. insert_key row_cmp kept row) (distinct (filter_map f (take i kept))) (cons_option o []) ≡ with_found o (distinct (filter_map f (take i kept)))) [ None ↦ refl | Some row ↦ refl ])
 
 insert_longer : (xs : List Row) (k : Row) → length xs ≤ length (insert_key row_cmp xs k)
 insert_longer [] k = omega arith
@@ -89,16 +89,16 @@ pub group_step : {V : Type 0} (items : V → List ℕ) (old mid new : Row → Op
     → (q : Row) → option_map_or items (new q) [] ≡ option_map_or items (old q) [] ++ places ((key, place) ∷ []) q
 group_step items old mid new key place taken more t m others put q =
     ⊎_elim
-      (λ (yes : same_row key q ≡ true). let same : key ≡ q = same_is_equal key q yes in rw (put q, yes) (m ∙ rw (t, same)))
-      (λ (no : same_row key q ≡ false). rw (put q, others q, no) (sym (append-nil _)))
-      (cases_Bool (same_row key q))
+    (λ (yes : same_row key q ≡ true). let same : key ≡ q = same_is_equal key q yes in rw (put q, yes) (m ∙ rw (t, same)))
+    (λ (no : same_row key q ≡ false). rw (put q, others q, no) (sym (append-nil _)))
+    (cases_Bool (same_row key q))
 
 pub keyed_next : (part : ℕ) (conds : List Condition) (ties : List Tie) (i : ℕ) (rows : List Row) (row : Row) (before after all : List (Row × ℕ))
     → i < length rows → row ≡ get_or rows i row → after ≡ before ++ keyed part conds ties i (row ∷ []) → before ++ keyed part conds ties i (drop i rows) ≡ all
     → after ++ keyed part conds ties (i + 1) (drop (i + 1) rows) ≡ all
 keyed_next part conds ties i rows row before after all h e f g =
     let step : (before ++ keyed part conds ties i (row ∷ [])) ++ keyed part conds ties (i + 1) (drop (i + 1) rows) ≡ before ++ keyed part conds ties i (drop i rows) =
-      rw (← e) at (keyed_more part conds ties i rows row before h) in
+    rw (← e) at (keyed_more part conds ties i rows row before h) in
     rw f (step ∙ g)
 
 pub flat_map_next : {X Y : Type 0} (f : X → List Y) (xs : List X) (i : ℕ) (x : X) (before after piece : List Y)

@@ -64,9 +64,7 @@ pub fn meets_all(parts: &[RowList], choice: &[usize], conds: &[Condition], zero:
     requires { zero.now ≡ Int (pos 0) }
     ensures { result ≡ of_tuples.meets_all conds.now (joins.picked parts.now choice.now) }
 {
-    conds
-        .iter()
-        .all(|cond| meets(parts, choice, cond, zero))
+    conds.iter().all(|cond| meets(parts, choice, cond, zero))
 }
 
 /// Whether each place of the choice is one of its part.

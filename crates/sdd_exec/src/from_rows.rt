@@ -39,5 +39,4 @@ pub fn effect(
 pub fn law_one_effect()
     ensures { (cat : catalogues.Catalogue) (txn : transactions.Txn) (snap : snapshots.Shipped) (db other : Database)
         → IsDatabase cat db → IsDatabase cat other → Serves cat txn snap db → Serves cat txn snap other → of_databases.effect cat db txn ≡ of_databases.effect cat other txn }
-{
-}
+{}

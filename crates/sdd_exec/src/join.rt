@@ -83,7 +83,14 @@ fn extend_all(
     for choice in kept {
         let key = key_for(alloc, ties, parts, choice.as_slice(), zero)?;
         let places = places_of(index, &key);
-        extend(alloc, &mut made, parts.len(), choice.as_slice(), part, places)?;
+        extend(
+            alloc,
+            &mut made,
+            parts.len(),
+            choice.as_slice(),
+            part,
+            places,
+        )?;
     }
     Ok(made)
 }

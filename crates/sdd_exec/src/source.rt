@@ -90,7 +90,12 @@ fn listed(alloc: Global, entries: BTreeMap<i64, Row>) -> Result<Entries, NoMemor
 }
 
 /// The rows of the uses of a query.
-fn parts(alloc: Global, snap: &Snapshot, before: u32, rels: &[RelNo]) -> Result<Vec<RowList>, NoMemory>
+fn parts(
+    alloc: Global,
+    snap: &Snapshot,
+    before: u32,
+    rels: &[RelNo],
+) -> Result<Vec<RowList>, NoMemory>
     ensures { IfOk result (λ parts. parts.items ≡ parts_for snap.now.value before (length rels.now)) }
 {
     let mut parts = Vec::new(alloc);
@@ -102,6 +107,7 @@ fn parts(alloc: Global, snap: &Snapshot, before: u32, rels: &[RelNo]) -> Result<
 
 impl Source for Shipped<'_> {
     ghost found = { λ s. found_for s.snap.now.value };
+
     ghost chosen = { λ s. chosen_for s.cat.now s.snap.now.value };
 
     fn query(

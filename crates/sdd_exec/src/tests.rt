@@ -21,8 +21,14 @@ fn a_join_by_two_equalities(rt: HostRuntime) -> Result<(), Fail> {
         rows(alloc, &[(1, 0)])?,
     ]?;
     let conds = vec![in alloc;
-        Condition::Same { left: Ref { part: 1, column: 2 }, right: Ref { part: 2, column: 1 } },
-        Condition::Same { left: Ref { part: 2, column: 2 }, right: Ref { part: 3, column: 1 } },
+        Condition::Same {
+            left: Ref { part: 1, column: 2 },
+            right: Ref { part: 2, column: 1 }
+        },
+        Condition::Same {
+            left: Ref { part: 2, column: 2 },
+            right: Ref { part: 3, column: 1 }
+        },
     ]?;
     let out = [Ref { part: 1, column: 1 }, Ref { part: 2, column: 1 }];
     let found = join(alloc, &parts, &out, &conds, 4)?.ok_or("too many")?;
