@@ -21,12 +21,12 @@ pub use assign::{Assign, Sets};
 pub use classes::{class_for, read_set, write_set};
 pub use condition::{Condition, Conditions, Ref, Refs};
 pub use effect::Effect;
-pub use over::effect_over;
-pub use replace::replaced;
-pub use source::{Entries, Entry, Source};
 pub use laws::{
     law_puts_held, law_read_set_decides, law_rows_held, law_rows_make_database, law_stays_database,
 };
+pub use over::effect_over;
+pub use replace::replaced;
+pub use source::{Entries, Entry, Source};
 pub use statement::{Rels, Statements, Stmt};
 pub use transaction::Txn;
 pub use tuple::{key_of, may_stand, meets_all, project, value_at};

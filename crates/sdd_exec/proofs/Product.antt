@@ -1,0 +1,67 @@
+-- The tuples of a product are the rows of the choices that are there; so a join finds the answer.
+use Rattle.std.specs.Prelude.{ℕ, ◌<◌, ◌≤◌, ◌≡◌, ◌⊎◌, nat_lt, Bool, true, false, ◌&&◌, cond, List, [], ◌∷◌, length, Option, Some, None, map, filter_map, drop, slice_index, slice_index_or, refl}
+use Rattle.std.proofs.Common.{sym, ◌∙◌, ap, inl, inr, ⊎_elim}
+use Rattle.std.proofs.lemmas.Bool.{ltb-true, lt-ltb, le-ltb}
+use Rattle.sdd_lang.specs.declared.condition.Ref.{Ref}
+use Rattle.sdd_lang.specs.declared.condition.Condition.{Condition}
+use Rattle.sdd_lang.specs.Database.{Row}
+use Rattle.sdd_lang.specs.Condition.{Tuple, value_at, meets_all}
+use Rattle.sdd_lang.specs.Query.{product, selection, projection, distinct}
+use Rattle.sdd_lang.specs.Source.{within}
+use Rattle.sdd_exec.specs.Choices.{Choice, picked, is_there, row_from, Has, HasAll}
+use Rattle.sdd_exec.proofs.Members.{Has-map, Has-map_from, Has-filter, Has-filter_from, Has-flat_map, Has-flat_map_from, Has-filter_map, Has-filter_map_from, Has-get_or, place_of}
+use Rattle.sdd_exec.proofs.Complete.{both}
+use Rattle.sdd_exec.proofs.Distinct.{distinct_same}
+
+pub picked_in_product : (parts : List (List Row)) (t : Choice) → is_there parts t ≡ true → Has (product parts) (picked parts t)
+picked_in_product [] t h = inl refl
+picked_in_product (rows ∷ parts) t h =
+    let b = both _ _ h in
+    let row : Row = slice_index_or rows (slice_index t 0) [] in
+    Has-flat_map (λ row. map (λ tuple. row ∷ tuple) (product parts)) rows row _
+    (Has-get_or rows (slice_index t 0) [] (ltb-true _ _ b.0))
+    (Has-map (λ (tuple : Tuple). row ∷ tuple) (product parts) (picked parts (drop 1 t)) (picked_in_product parts (drop 1 t) b.1))
+
+pub choice_of : (parts : List (List Row)) (u : Tuple) → Has (product parts) u → (t : Choice) × (is_there parts t ≡ true) × (picked parts t ≡ u)
+choice_of [] u h = ([], refl, ⊎_elim (λ e. e) (λ n. absurd n) h)
+choice_of (rows ∷ parts) u h =
+    let one = Has-flat_map_from (λ row. map (λ tuple. row ∷ tuple) (product parts)) rows u h in
+    let row : Row = one.0 in
+    let two = Has-map_from (λ (tuple : Tuple). row ∷ tuple) (product parts) u one.2 in
+    let rest = choice_of parts two.0 two.1 in
+    let place = place_of rows row [] one.1 in
+    let there : nat_lt place.0 (length rows) ≡ true = lt-ltb _ _ place.1 in
+    (place.0 ∷ rest.0, rw there rest.1, rw (place.2, rest.2) two.2)
+
+found_row : (b : Bool) (row x : Row) → cond b (Some row) None ≡ Some x → (b ≡ true) × (row ≡ x)
+found_row true row x e = (refl, cc)
+found_row false row x e = absurd cc
+
+pub join_is_answer : (parts : List (List Row)) (out : List Ref) (conds : List Condition) (kept : List Choice) → HasAll parts conds kept
+    → distinct (filter_map (row_from parts out conds) kept) ≡ distinct (projection out (selection conds (product parts)))
+join_is_answer parts out conds kept all =
+    distinct_same (filter_map (row_from parts out conds) kept) (projection out (selection conds (product parts)))
+    (λ x h.
+    let one = Has-filter_map_from (row_from parts out conds) kept x h in
+    let c : Choice = one.0 in
+    let f = found_row (is_there parts c && meets_all conds (picked parts c)) (map (value_at (picked parts c)) out) x one.2 in
+    let b = both _ _ f.0 in
+    let in_all : Has (selection conds (product parts)) (picked parts c) = Has-filter (meets_all conds) (product parts) (picked parts c) (picked_in_product parts c b.0) b.1 in
+    let projected : Has (projection out (selection conds (product parts))) (map (value_at (picked parts c)) out) = Has-map (λ (tuple : Tuple). map (value_at tuple) out) _ (picked parts c) in_all in
+    rw f.1 at projected)
+    (λ x h.
+    let one = Has-map_from (λ (tuple : Tuple). map (value_at tuple) out) (selection conds (product parts)) x h in
+    let two = Has-filter_from (meets_all conds) (product parts) one.0 one.1 in
+    let t = choice_of parts one.0 two.0 in
+    let met : meets_all conds (picked parts t.0) ≡ true = rw t.2 two.1 in
+    let c = all t.0 t.1 met in
+    let same : picked parts c.0 ≡ one.0 = c.3 ∙ t.2 in
+    let row : row_from parts out conds c.0 ≡ Some x = rw (c.2, same, two.1, one.2) in
+    Has-filter_map (row_from parts out conds) kept c.0 x c.1 row)
+
+-- an answer for which there is no room, or is
+pub many_rows : (room : ℕ) (rows answer : List Row) → rows ≡ answer → room < length rows → None ≡ within room answer
+many_rows room rows answer e h = let many : room < length answer = rw e at h in let yes = lt-ltb _ _ many in rw yes
+
+pub few_rows : (room : ℕ) (rows answer list : List Row) → rows ≡ answer → (list ≡ rows) × (length rows ≤ room) → Some list ≡ within room answer
+few_rows room rows answer list e h = let few : length answer ≤ room = rw e at h.1 in let no = le-ltb _ _ few in rw (no, h.0, e)

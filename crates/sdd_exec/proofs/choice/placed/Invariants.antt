@@ -1,0 +1,7 @@
+use Rattle.std.proofs.Common.{◌≡◌, ◌==◌, cond, map, slice_index}
+use Rattle.std.specs.List.{range_with_len}
+use Rattle.sdd_exec.specs.Choices.{placed}
+use Rattle.sdd_exec.proofs.choice.placed.Given as goal
+
+abbrev pub invariant-loop-p : goal.invariant-loop-p
+invariant-loop-p l = l.places.items ≡ placed l.p l.choice l.part l.place

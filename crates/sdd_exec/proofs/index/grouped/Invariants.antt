@@ -1,0 +1,9 @@
+use Rattle.std.proofs.Common.{◌≡◌, List, [], take}
+use Rattle.std.specs.HashMap as hash
+use Rattle.std.specs.Option.{option_map_or}
+use Rattle.sdd_base.specs.declared.value.Value.{Value}
+use Rattle.sdd_exec.specs.Choices.{same_row, places}
+use Rattle.sdd_exec.proofs.index.grouped.Given as goal
+
+abbrev pub invariant-loop-key : goal.invariant-loop-key
+invariant-loop-key l = (q : List Value) → option_map_or (λ v. v.items) (hash.get same_row l.index q) [] ≡ places (take l.key-index l.keyed) q

@@ -1,0 +1,6 @@
+use Rattle.std.proofs.Common.{◌≡◌, take}
+use Rattle.sdd_exec.specs.Choices.{picked, key_for}
+use Rattle.sdd_exec.proofs.tie.key_for.Given as goal
+
+abbrev pub invariant-loop-tie : goal.invariant-loop-tie
+invariant-loop-tie l = l.key.items ≡ key_for (take l.tie-index l.ties) (picked l.parts l.choice)

@@ -1,0 +1,6 @@
+use Rattle.std.proofs.Common.{◌≡◌, take}
+use Rattle.sdd_exec.specs.Choices.{ties_of}
+use Rattle.sdd_exec.proofs.tie.ties.Given as goal
+
+abbrev pub invariant-loop-cond : goal.invariant-loop-cond
+invariant-loop-cond l = l.ties.items ≡ ties_of l.taken l.part (take l.cond-index l.conds)

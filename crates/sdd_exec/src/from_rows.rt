@@ -1,0 +1,42 @@
+ghost use Rattle.std.specs.Prelude.{◌≡◌, IfOk, IsTrue};
+ghost use Rattle.sdd_catalog.specs.Catalogue as catalogues;
+ghost use Rattle.sdd_lang.specs.declared.transaction.Txn as transactions;
+ghost use Rattle.sdd_lang.specs.Database.{Database};
+ghost use Rattle.sdd_lang.specs.Effect as of_databases;
+ghost use Rattle.sdd_lang.specs.Fits.{Fits};
+ghost use Rattle.sdd_lang.specs.Sound.{IsDatabase};
+ghost use Rattle.sdd_exec.specs.Serves.{Serves};
+ghost use Rattle.sdd_exec.specs.Snapshots as snapshots;
+
+use crate::snapshot::Snapshot;
+use crate::source::Shipped;
+use sdd_base::NoMemory;
+use sdd_catalog::Catalogue;
+use sdd_lang::{Effect, Txn, effect_over};
+use std::alloc::Global;
+
+/// The effect of a transaction on each database that the snapshot serves.
+///
+/// Queries are joins: at each step a part is taken that an equality ties to those taken before,
+/// where there is one, and its rows are found by a hash of the tied columns. So it costs time with
+/// the tuples that meet the equalities of the parts taken so far, and not with the product; beyond
+/// that, with all rows of the snapshot once for each use, and a logarithmic step for each row that
+/// is answered or changed.
+pub fn effect(
+    alloc: Global,
+    cat: &Catalogue,
+    txn: &Txn,
+    snap: &Snapshot,
+) -> Result<Effect, NoMemory>
+    requires fits { Fits cat.now txn.now }
+    requires live { IsTrue snap.now.live }
+    ensures { (db : Database) → IsDatabase cat.now db → Serves cat.now txn.now snap.now.value db → IfOk result (λ effect. effect ≡ of_databases.effect cat.now db txn.now) }
+{
+    effect_over(alloc, cat, txn, &Shipped { cat, snap })
+}
+
+/// A snapshot tells the effect: two databases that it serves for a transaction have one.
+pub fn law_one_effect()
+    ensures { (cat : catalogues.Catalogue) (txn : transactions.Txn) (snap : snapshots.Shipped) (db other : Database)
+        → IsDatabase cat db → IsDatabase cat other → Serves cat txn snap db → Serves cat txn snap other → of_databases.effect cat db txn ≡ of_databases.effect cat other txn }
+{}

@@ -1,0 +1,149 @@
+ghost use Rattle.std.specs.Prelude.{◌≡◌, cond, ◌++◌, ◌∷◌, pos, List, [], IfOk};
+ghost use Rattle.std.specs.HashMap as hash;
+ghost use Rattle.std.specs.Option.{option_map_or};
+ghost use Rattle.sdd_base.specs.declared.value.Value.{Value};
+ghost use Rattle.sdd_base.specs.declared.value.Value.TheVariants.{Int};
+ghost use Rattle.sdd_exec.specs.Choices as joins;
+
+use crate::choice::column_of;
+use crate::tie::{Tie, key_of};
+use sdd_base::{NoMemory, Parcel, Row, Value};
+use sdd_lang::Condition;
+use std::alloc::Global;
+use std::collections::HashMap;
+
+/// The places of rows by the values in some of their columns.
+pub type Index = HashMap<Row, Vec<usize>>;
+
+/// Whether a row of a part meets the condition, where it names no other part.
+fn passes_one(part: usize, row: &Row, cond: &Condition, zero: &Value) -> bool
+    requires { zero.now ≡ Int (pos 0) }
+    ensures { result ≡ joins.passes_one part row.now cond.now }
+{
+    match cond {
+        Condition::Const { left, op, value } => {
+            left.part.saturating_sub(1) as usize != part
+                || op.admits(column_of(row, left.column, zero).cmp(value))
+        }
+        Condition::Same { left, right } => {
+            left.part.saturating_sub(1) as usize != part
+                || right.part.saturating_sub(1) as usize != part
+                || column_of(row, left.column, zero)
+                    .cmp(column_of(row, right.column, zero))
+                    .is_eq()
+        }
+    }
+}
+
+/// Whether a row of a part meets the conditions that name no other part.
+fn passes(part: usize, row: &Row, conds: &[Condition], zero: &Value) -> bool
+    requires { zero.now ≡ Int (pos 0) }
+    ensures { result ≡ joins.passes part conds.now row.now }
+{
+    conds.iter().all(|cond| passes_one(part, row, cond, zero))
+}
+
+/// Adds the place of a row with its values in the tied columns, where it meets the conditions that
+/// name no other part.
+fn add_keyed(
+    alloc: Global,
+    keyed: &mut Vec<(Row, usize)>,
+    part: usize,
+    conds: &[Condition],
+    ties: &[Tie],
+    place: usize,
+    row: &Row,
+    zero: &Value,
+) -> Result<(), NoMemory>
+    requires { zero.now ≡ Int (pos 0) }
+    ensures { IfOk result (λ _. keyed.new.items ≡ keyed.old.items ++ joins.keyed part conds.now ties.now place (row.now ∷ [])) }
+{
+    if !passes(part, row, conds, zero) {
+        return Ok(());
+    }
+    let key = key_of(alloc, ties, row, zero)?;
+    keyed.push((key, place))?;
+    Ok(())
+}
+
+/// The rows of a part that meet the conditions which name no other part: their places, each with
+/// the row's values in the tied columns.
+#[tactic(auto, using(crate::proofs::Steps::key_steps))]
+fn keyed(
+    alloc: Global,
+    rows: &[Row],
+    part: usize,
+    conds: &[Condition],
+    ties: &[Tie],
+    zero: &Value,
+) -> Result<Vec<(Row, usize)>, NoMemory>
+    requires { zero.now ≡ Int (pos 0) }
+    ensures { IfOk result (λ pairs. pairs.items ≡ joins.keyed part conds.now ties.now 0 rows.now) }
+{
+    let mut keyed = Vec::new(alloc);
+    for (place, row) in rows.iter().enumerate() {
+        add_keyed(alloc, &mut keyed, part, conds, ties, place, row, zero)?;
+    }
+    Ok(keyed)
+}
+
+/// Takes out the places with the key.
+fn take_places(alloc: Global, index: &mut Index, key: &Row) -> Vec<usize>
+    ensures places { result.items ≡ option_map_or (λ v. v.items) (hash.get joins.same_row index.old key.now) [] }
+    ensures others { (q : List Value) → hash.get joins.same_row index.new q ≡ cond (joins.same_row key.now q) None (hash.get joins.same_row index.old q) }
+{
+    match index.remove(key) {
+        Some(places) => places,
+        None => Vec::new(alloc),
+    }
+}
+
+/// Adds a place to those with the key.
+fn add_place(alloc: Global, index: &mut Index, key: &Row, place: usize) -> Result<(), NoMemory>
+    ensures { IfOk result (λ _. (q : List Value) →
+        option_map_or (λ v. v.items) (hash.get joins.same_row index.new q) []
+        ≡ option_map_or (λ v. v.items) (hash.get joins.same_row index.old q) [] ++ joins.places ((key.now, place) ∷ []) q) }
+{
+    let mut places = take_places(alloc, index, key);
+    places.push(place)?;
+    index.insert(key.copy()?, places)?;
+    Ok(())
+}
+
+/// The places by their keys.
+#[tactic(auto, using(crate::proofs::Steps::places_more))]
+fn grouped(alloc: Global, keyed: &[(Row, usize)]) -> Result<Index, NoMemory>
+    ensures { IfOk result (λ m. (q : List Value) → option_map_or (λ v. v.items) (hash.get joins.same_row m q) [] ≡ joins.places keyed.now q) }
+{
+    let mut index: Index = HashMap::new(alloc);
+    for (key, place) in keyed {
+        add_place(alloc, &mut index, key, *place)?;
+    }
+    Ok(index)
+}
+
+/// The places that the index has with a key.
+pub fn places_of<'a>(index: &'a Index, key: &Row) -> &'a [usize]
+    ensures { result.now ≡ option_map_or (λ v. v.items) (hash.get joins.same_row index.now key.now) [] }
+{
+    match index.get(key) {
+        Some(places) => places.as_slice(),
+        None => &[],
+    }
+}
+
+/// The places of a part's rows by the values in the tied columns, of those rows alone that meet the
+/// conditions which name no other part.
+pub fn index(
+    alloc: Global,
+    rows: &[Row],
+    part: usize,
+    conds: &[Condition],
+    ties: &[Tie],
+    zero: &Value,
+) -> Result<Index, NoMemory>
+    requires { zero.now ≡ Int (pos 0) }
+    ensures { IfOk result (λ m. (q : List Value) → option_map_or (λ v. v.items) (hash.get joins.same_row m q) [] ≡ joins.places (joins.keyed part conds.now ties.now 0 rows.now) q) }
+{
+    grouped(alloc, &keyed(alloc, rows, part, conds, ties, zero)?)
+}

@@ -1,0 +1,83 @@
+ghost use Rattle.std.specs.Prelude.{◌≡◌, true, false, [], ◌∷◌, ◌++◌, OnOk, OnErr, IfOk, IsTrue};
+ghost use Rattle.sdd_exec.specs.Snapshots.{rows_for};
+
+use sdd_base::{NoMemory, Parcel, Row, RowList};
+use std::alloc::Global;
+use std::marker::Model;
+
+/// Rows that were shipped for the uses of a transaction.
+#[derive(Drop)]
+pub struct Snapshot {
+    rows: Vec<(u32, Row)>,
+    live: bool,
+}
+
+impl Model for Snapshot {
+    ghost use Rattle.sdd_base.specs.Kept.{Kept};
+    ghost use Rattle.sdd_exec.specs.Snapshots.{Shipped};
+
+    ghost Value = { Kept Shipped };
+
+    ghost view = { λ s. record { live = s.live; value = s.rows.items } };
+}
+
+impl Snapshot {
+    /// No row.
+    pub fn new(alloc: Global) -> Self
+        ensures { result ≡ record { live = true; value = [] } }
+    {
+        Snapshot {
+            rows: Vec::new(alloc),
+            live: true,
+        }
+    }
+
+    /// Adds a row of a use. A row may be added more than once.
+    pub fn add(&mut self, use_no: u32, row: Row) -> Result<(), NoMemory>
+        requires live { IsTrue self.old.live }
+        ensures ok { OnOk result (self.new ≡ record { live = true; value = self.old.value ++ (use_no, row) ∷ [] }) }
+        ensures err { OnErr result (self.new.live ≡ false) }
+    {
+        self.live = false;
+        self.rows.push((use_no, row))?;
+        self.live = true;
+        Ok(())
+    }
+
+    /// Whether rows may be added.
+    pub fn live(&self) -> bool
+        ensures { result ≡ self.now.live }
+    {
+        self.live
+    }
+
+    /// The rows of a use, in the order in which they were added. Costs time with all rows.
+    pub(crate) fn rows_for(&self, alloc: Global, use_no: u64) -> Result<RowList, NoMemory>
+        ensures { IfOk result (λ rows. rows ≡ rows_for self.now.value use_no) }
+    {
+        rows_of(alloc, self.rows.as_slice(), use_no)
+    }
+}
+
+/// Adds the row, where it is of the use.
+fn add_row(rows: &mut Vec<Row>, shipped: &(u32, Row), use_no: u64) -> Result<(), NoMemory>
+    ensures { IfOk result (λ _. rows.new.items ≡ rows.old.items ++ rows_for (shipped.now ∷ []) use_no) }
+{
+    if u64::from(shipped.0) != use_no {
+        return Ok(());
+    }
+    rows.push(shipped.1.copy()?)?;
+    Ok(())
+}
+
+/// The rows of a use.
+#[tactic(auto, using(crate::proofs::Shipping::rows_for_more))]
+fn rows_of(alloc: Global, shipped: &[(u32, Row)], use_no: u64) -> Result<RowList, NoMemory>
+    ensures { IfOk result (λ rows. rows ≡ rows_for shipped.now use_no) }
+{
+    let mut rows = Vec::new(alloc);
+    for one in shipped {
+        add_row(&mut rows, one, use_no)?;
+    }
+    Ok(RowList::from_vec(rows))
+}

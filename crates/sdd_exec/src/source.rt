@@ -1,0 +1,137 @@
+ghost use Rattle.std.specs.Prelude.{◌≡◌, ◌+◌, ◌∷◌, [], ℕ, length, List, fold, IfOk};
+ghost use Rattle.sdd_catalog.specs.Catalogue.{key_column};
+ghost use Rattle.sdd_lang.specs.Condition as of_tuples;
+ghost use Rattle.sdd_lang.specs.Database.{key_in};
+ghost use Rattle.sdd_lang.specs.Source.{entries_of};
+ghost use Rattle.sdd_exec.specs.Snapshots.{parts_for, found_for, chosen_for, with_chosen, of_relation};
+
+use crate::join::join;
+use crate::snapshot::Snapshot;
+use sdd_base::{NoMemory, Parcel, RelNo, Row, RowList, Value};
+use sdd_catalog::Catalogue;
+use sdd_lang::{Condition, Entries, Entry, Ref, Source, meets_all};
+use std::alloc::Global;
+use std::collections::BTreeMap;
+
+/// What a transaction's statements find in the rows that were shipped for its uses.
+#[derive(Clone, Copy)]
+pub struct Shipped<'a> {
+    pub cat: &'a Catalogue,
+    pub snap: &'a Snapshot,
+}
+
+/// The key column of a relation; 0 where there is no such relation.
+fn key_column(cat: &Catalogue, rel: RelNo) -> u32
+    ensures { result ≡ key_column cat.now rel.0 }
+{
+    let before = rel.0.saturating_sub(1);
+    if before < cat.relations() {
+        return cat.relation(RelNo(before + 1)).key;
+    }
+    0
+}
+
+/// The key of a relation's row; 0 where it has none.
+fn key_of(cat: &Catalogue, rel: RelNo, row: &Row) -> i64
+    ensures { result ≡ key_in cat.now rel.0 row.now }
+{
+    let column = key_column(cat, rel).saturating_sub(1) as usize;
+    match row.as_slice().get(column) {
+        Some(Value::Int(number)) => *number,
+        _ => 0,
+    }
+}
+
+/// Adds a row by its key, where it meets the conditions.
+#[tactic(auto, using(crate::proofs::Shipping::entry_steps))]
+fn add_entry(
+    entries: &mut BTreeMap<i64, Row>,
+    cat: &Catalogue,
+    rel: RelNo,
+    conds: &[Condition],
+    row: &Row,
+) -> Result<(), NoMemory>
+    ensures { IfOk result (λ _. of_relation rel.0 entries.new.entries ≡ with_chosen cat.now rel.0 conds.now (of_relation rel.0 entries.old.entries) row.now) }
+{
+    if !meets_all(conds, &[row]) {
+        return Ok(());
+    }
+    entries.insert(key_of(cat, rel, row), row.copy()?)?;
+    Ok(())
+}
+
+/// The rows that meet the conditions, by their keys.
+#[tactic(auto, using(crate::proofs::Shipping::entry_steps))]
+fn entries_by_key(
+    alloc: Global,
+    cat: &Catalogue,
+    rel: RelNo,
+    conds: &[Condition],
+    rows: &[Row],
+) -> Result<BTreeMap<i64, Row>, NoMemory>
+    ensures { IfOk result (λ entries. of_relation rel.0 entries.entries ≡ fold (with_chosen cat.now rel.0 conds.now) [] rows.now) }
+{
+    let mut entries = BTreeMap::new(alloc);
+    for row in rows {
+        add_entry(&mut entries, cat, rel, conds, row)?;
+    }
+    Ok(entries)
+}
+
+/// The rows of a map, with their keys.
+fn listed(alloc: Global, entries: BTreeMap<i64, Row>) -> Result<Entries, NoMemory>
+    ensures { IfOk result (λ list. (rel : ℕ) → entries_of rel list ≡ of_relation rel entries.entries) }
+{
+    let mut list = Vec::new(alloc);
+    for (key, row) in entries {
+        list.push(Entry { key, row })?;
+    }
+    Ok(Entries::from_vec(list))
+}
+
+/// The rows of the uses of a query.
+fn parts(
+    alloc: Global,
+    snap: &Snapshot,
+    before: u32,
+    rels: &[RelNo],
+) -> Result<Vec<RowList>, NoMemory>
+    ensures { IfOk result (λ parts. parts.items ≡ parts_for snap.now.value before (length rels.now)) }
+{
+    let mut parts = Vec::new(alloc);
+    for part in 0..rels.len() {
+        parts.push(snap.rows_for(alloc, u64::from(before) + part as u64 + 1)?)?;
+    }
+    Ok(parts)
+}
+
+impl Source for Shipped<'_> {
+    ghost found = { λ s. found_for s.snap.now.value };
+
+    ghost chosen = { λ s. chosen_for s.cat.now s.snap.now.value };
+
+    fn query(
+        &self,
+        alloc: Global,
+        before: u32,
+        out: &[Ref],
+        rels: &[RelNo],
+        conds: &[Condition],
+        room: usize,
+    ) -> Result<Option<RowList>, NoMemory> {
+        let parts = parts(alloc, self.snap, before, rels)?;
+        join(alloc, &parts, out, conds, room)
+    }
+
+    fn matching(
+        &self,
+        alloc: Global,
+        before: u32,
+        rel: RelNo,
+        conds: &[Condition],
+    ) -> Result<Entries, NoMemory> {
+        let rows = self.snap.rows_for(alloc, u64::from(before) + 1)?;
+        let entries = entries_by_key(alloc, self.cat, rel, conds, rows.as_slice())?;
+        Ok(listed(alloc, entries)?)
+    }
+}
