@@ -12,8 +12,9 @@ ghost use Rattle.sdd_lang.specs.Classes.{read_set, write_set, written_by, covers
 use crate::condition::Condition;
 use crate::statement::Stmt;
 use crate::transaction::Txn;
+use crate::tuple::key_of;
 use crate::usage::{fragments_for, restrictions_of, uses};
-use sdd_base::{ClassNo, FragNo, Frags, NoMemory, RelNo, Row, Value};
+use sdd_base::{ClassNo, FragNo, Frags, NoMemory, RelNo, Row};
 use sdd_catalog::Catalogue;
 use std::alloc::Global;
 use std::collections::BTreeSet;
@@ -128,11 +129,8 @@ fn fragment_of_row(cat: &Catalogue, rel: RelNo, row: &Row) -> FragNo
     requires { IsRelation cat.now rel.0 }
     ensures { result.0 ≡ fragment_of cat.now rel.0 (key_in cat.now rel.0 row.now) }
 {
-    let key = cat.relation(rel).key as usize;
-    match row.as_slice().get(key.saturating_sub(1)) {
-        Some(Value::Int(number)) => cat.fragment_of(rel, *number),
-        _ => cat.fragment_of(rel, 0),
-    }
+    let key = key_of(cat, rel, row);
+    cat.fragment_of(rel, key)
 }
 
 /// The lowest class that covers the transaction, which reads and writes these, or class 0.

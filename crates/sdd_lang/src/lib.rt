@@ -1,4 +1,9 @@
 //! Transactions: what they are, what they mean, and in which class they run.
+//!
+//! The one contract to the layer above: `uses`, `read_set`, `write_set` and `class_for` are those of
+//! `specs/Uses.antt` and `specs/Classes.antt`; `effect_over` is the plain meaning of
+//! `specs/Effect.antt` over any `Source` of rows (`specs/Source.antt`); and the laws of `laws.rt`
+//! hold of these definitions.
 #![tactic(auto)]
 
 mod assign;
