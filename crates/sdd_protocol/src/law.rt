@@ -8,14 +8,10 @@ use sdd_catalog::Catalogue;
 pub fn law_one_protocol(cat: &Catalogue)
     ensures block { OneBlock cat.now }
     ensures protocol { OneProtocol cat.now }
-{
-    let _ = cat;
-}
+{}
 
 /// A law of every catalogue: it has one table. Takes no memory.
 #[tactic(auto, using(crate::proofs::Laws::one_table))]
 pub fn law_one_table(cat: &Catalogue)
     ensures { OneTable cat.now }
-{
-    let _ = cat;
-}
+{}
