@@ -13,13 +13,8 @@ use Rattle.sdd_lang.specs.declared.condition.Condition.TheVariants.{Const}
 use Rattle.sdd_lang.specs.declared.statement.Stmt.{Stmt}
 use Rattle.sdd_lang.specs.declared.statement.Stmt.TheVariants.{Put, Query}
 use Rattle.sdd_lang.proofs.KeyKinds.{kinds_at}
+use Rattle.sdd_lang.specs.Pairs.{IsPairs}
 use Rattle.sdd_lang.specs.Fits.{Fits, FitsCondition, FitsRef, FitsStatement, IsRelation}
-
--- the first relation has two columns of whole numbers, and there is a module
-pub record IsPairs (cat : Catalogue) : Type 0 where
-  pub tm : 1 ≤ cat.tms
-  pub there : 1 ≤ length cat.relations
-  pub columns : map (λ (c : Column). c.kind) (relation_at cat 1).columns ≡ kinds.Int ∷ kinds.Int ∷ []
 
 abbrev first_column : Ref
 first_column = record { part = 1; column = 1 }

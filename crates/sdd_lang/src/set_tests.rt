@@ -1,7 +1,7 @@
 ghost use Rattle.std.specs.Prelude.{◌≡◌, IsTrue, IfOk};
 ghost use Rattle.sdd_catalog.specs.declared.parts.Kind.TheVariants as kinds;
 ghost use Rattle.sdd_lang.specs.Fits.{Fits};
-ghost use Rattle.sdd_lang.proofs.Fitting.{IsPairs};
+ghost use Rattle.sdd_lang.specs.Pairs.{IsPairs};
 
 use super::*;
 use sdd_base::{ClassNo, FragNo, Name, Op, RelNo, Row, TmNo, Value};
