@@ -1,15 +1,13 @@
 -- What is known of each edge of a conflict graph, and how many there are.
-use Rattle.std.proofs.Common.{ℕ, ◌≡◌, ◌≢◌, ◌≤◌, ◌<◌, ◌-◌, ◌+◌, ◌*◌, ◌^◌, ◌==◌, nat_lt, Bool, true, false, ◌&&◌, not, is_some, List, ◌++◌, map, filter, length, refl, ap, sym, ◌∙◌, arith}
-use Rattle.std.specs.List.{All, AllByRecursion, range_with_len}
+use Rattle.std.proofs.Common.{ℕ, ◌≡◌, ◌≤◌, ◌<◌, ◌==◌, nat_lt, Bool, true, false, ◌&&◌, not, is_some, ◌++◌, length, refl, arith}
+use Rattle.std.specs.List.{All}
 use Rattle.std.proofs.lemmas.Bool.{ltb-true, eqb-false}
-use Rattle.std.proofs.lemmas.List.{length-map, length-append}
-use Rattle.std.proofs.lemmas.List.Elements.{All-map, All-append, All-weaker, All-from_recursion}
-use Rattle.std.proofs.lemmas.List.FromFn.{length-range_with_len}
-use Rattle.sdd_catalog.specs.Catalogue.{Catalogue, numbers_to, reads_at, writes}
+use Rattle.std.proofs.lemmas.List.Elements.{All-map, All-append, All-weaker}
+use Rattle.sdd_catalog.specs.Catalogue.{Catalogue, reads_at, writes}
 use Rattle.sdd_catalog.specs.Numbers.{IsWhole}
 use Rattle.sdd_graph.specs.declared.edge.Edge.{Edge}
 use Rattle.sdd_graph.specs.declared.edge.Edge.TheVariants.{Vertical, Horizontal, Diagonal}
-use Rattle.sdd_graph.specs.Graph.{class_no, frag_no, classes_of, fragments_of, vertical_edges, write_sets_meet, horizontals_from, horizontal_edges, diagonals_between, diagonals_from, diagonal_edges, conflict_graph, ends}
+use Rattle.sdd_graph.specs.Graph.{class_no, classes_of, fragments_of, vertical_edges, write_sets_meet, horizontals_from, horizontal_edges, diagonals_between, diagonals_from, diagonal_edges, conflict_graph}
 use Rattle.sdd_graph.specs.Edges.{IsClassOf, IsClassNo, WriteTogether, ReadsFrom, IsEdgeOf, NamesClasses, JoinsNodes}
 use Rattle.sdd_graph.proofs.Tables.{each_to}
 use Rattle.sdd_graph.proofs.Counts.{all_flat, all_kept, both_true}

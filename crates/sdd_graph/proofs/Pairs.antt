@@ -1,5 +1,5 @@
 -- The diagonal edges from one class to another.
-use Rattle.std.proofs.Common.{ℕ, ◌≡◌, ◌≢◌, ◌≤◌, ◌==◌, Bool, true, false, ◌&&◌, not, is_some, List, [], ◌++◌, map, filter, length, take, sym, ◌∙◌, ap, eq-eqb}
+use Rattle.std.proofs.Common.{ℕ, ◌≡◌, ◌≢◌, ◌≤◌, ◌&&◌, not, is_some, List, [], ◌++◌, map, filter, length, take, sym, ◌∙◌, ap, eq-eqb}
 use Rattle.std.proofs.lemmas.Bool.{ne_eqb}
 use Rattle.std.proofs.lemmas.List.{take_all}
 use Rattle.sdd_catalog.specs.Catalogue.{Catalogue, reads_at, writes}

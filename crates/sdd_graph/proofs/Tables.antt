@@ -1,6 +1,6 @@
 -- What the tables of a catalogue hold at a class and at a fragment.
-use Rattle.std.proofs.Common.{ℕ, ◌≡◌, ◌≤◌, ◌<◌, ◌-◌, ◌+◌, Bool, true, false, ◌&&◌, ◌||◌, List, map, filter, is_some, length, get_or, refl, ap, sym, ◌∙◌, subst, arith}
-use Rattle.std.specs.List.{flat_map, list_any, range_with_len, zip, All}
+use Rattle.std.proofs.Common.{ℕ, ◌≡◌, ◌≤◌, ◌<◌, ◌-◌, ◌+◌, Bool, ◌&&◌, List, is_some, length, get_or, ap, ◌∙◌, arith}
+use Rattle.std.specs.List.{list_any, zip, All}
 use Rattle.std.proofs.lemmas.List.Elements.{All-same, All-filter, All-weaker, All-from_recursion}
 use Rattle.std.proofs.lemmas.List.FromFn.{get_or-map-range_with_len, length-map-range_with_len}
 use Rattle.sdd_catalog.specs.Catalogue.{Catalogue, numbers_to, class_at, reads_at, writes}

@@ -1,4 +1,5 @@
 pub mod Edges
+pub mod Examples
 pub mod Graph
 pub mod Nodes
 pub mod Uses

@@ -10,12 +10,12 @@ use sdd_catalog::Catalogue;
 use std::alloc::Global;
 
 /// The edges of the catalogue's conflict graph: first the vertical one of each class, ascending; then the
-/// horizontal ones, by the two classes; then the diagonal ones, by reader, writer and fragment, one
+/// horizontal ones, by their two classes; then the diagonal ones, by reader, writer and fragment, one
 /// for each fragment that the one reads and the other writes.
 ///
-/// Each edge names classes and a fragment that are there, and joins two nodes that differ. Costs time in
-/// the square of the classes times the fragments, and memory for the edges and for a flag for each class
-/// and fragment.
+/// Each edge names classes and a fragment that are there, and joins two nodes that differ; there are at
+/// most 2^20. Costs time in the classes times the fragments times the classes or the reads of a class,
+/// whichever are more, and memory for the edges and for a flag for each class and fragment.
 pub fn conflict_graph(alloc: Global, cat: &Catalogue) -> Result<Vec<Edge>, NoMemory>
     ensures edges { IfOk result (λ edges. edges.items ≡ conflict_graph cat.now) }
     ensures known { IfOk result (λ edges. All (IsEdgeOf cat.now) edges.items) }

@@ -31,8 +31,8 @@ impl<'a> Model for Uses<'a> {
 }
 
 impl<'a> Uses<'a> {
-    /// Costs time in the fragments and in what each class reads and writes, and memory for a flag for
-    /// each class and fragment.
+    /// Costs time in the fragments times the reads of each class, and memory for a flag for each class
+    /// and fragment.
     pub(crate) fn of(alloc: Global, cat: &'a Catalogue) -> Result<Uses<'a>, NoMemory>
         ensures { IfOk result (λ uses. uses ≡ cat.now) }
     {
@@ -79,7 +79,7 @@ impl<'a> Uses<'a> {
         self.class(class).written.as_slice()[frag as usize - 1]
     }
 
-    /// Whether both classes write some fragment.
+    /// Whether both classes write some fragment. Costs time in the fragments.
     pub(crate) fn meet(&self, one: u32, other: u32) -> bool
         requires one { IsClassOf self.now one }
         requires other { IsClassOf self.now other }

@@ -1,4 +1,4 @@
-use Rattle.std.proofs.Common.{ℕ, List, ◌++◌, take, Vec, Global, sym, ◌∙◌, ap}
+use Rattle.std.proofs.Common.{◌++◌, Vec, Global, sym, ◌∙◌, ap}
 use Rattle.std.proofs.lemmas.List.{take_more, append-nil}
 use Rattle.sdd_catalog.specs.Catalogue.{writes}
 use Rattle.sdd_graph.specs.declared.edge.Edge.{Edge}

@@ -1,4 +1,4 @@
-use Rattle.std.proofs.Common.{ℕ, ◌&&◌, nat_lt, Vec, Global, sym, ◌∙◌, ap}
+use Rattle.std.proofs.Common.{◌&&◌, nat_lt, Vec, Global, sym, ◌∙◌, ap}
 use Rattle.sdd_graph.specs.declared.edge.Edge.{Edge}
 use Rattle.sdd_graph.specs.declared.edge.Edge.TheVariants.{Horizontal}
 use Rattle.sdd_graph.specs.Graph.{class_no, write_sets_meet}

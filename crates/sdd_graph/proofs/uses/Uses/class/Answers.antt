@@ -1,4 +1,4 @@
-use Rattle.std.proofs.Common.{length, ◌≡◌, ◌≤◌, sym, ◌∙◌, arith, subst}
+use Rattle.std.proofs.Common.{length, ◌≡◌, ◌≤◌, ◌∙◌, arith}
 use Rattle.sdd_graph.specs.Edges.{IsClassOf}
 use Rattle.sdd_graph.proofs.Tables.{all_uses_long, uses_at}
 use Rattle.sdd_graph.proofs.uses.Uses.class.Goals as goal

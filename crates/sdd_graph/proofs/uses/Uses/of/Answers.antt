@@ -1,5 +1,4 @@
-use Rattle.std.proofs.Common.{ℕ, ◌++◌, ◌∷◌, [], ◌-◌, List, map, sym, ◌∙◌, ap}
-use Rattle.sdd_catalog.specs.Catalogue.{numbers_to}
+use Rattle.std.proofs.Common.{◌++◌, ◌∷◌, [], List, sym, ◌∙◌, ap}
 use Rattle.sdd_graph.specs.declared.class_uses.ClassUses.{ClassUses}
 use Rattle.sdd_graph.specs.Uses.{class_uses}
 use Rattle.sdd_graph.proofs.Lists.{up_to, map_more}

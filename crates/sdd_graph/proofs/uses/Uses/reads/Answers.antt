@@ -1,4 +1,4 @@
-use Rattle.std.proofs.Common.{ℕ, length, ◌≡◌, ◌≤◌, ◌∙◌, ap}
+use Rattle.std.proofs.Common.{length, ◌≡◌, ◌≤◌, ◌∙◌, ap}
 use Rattle.std.proofs.lemmas.List.Elements.{All-same}
 use Rattle.sdd_graph.specs.Uses.{reads_of}
 use Rattle.sdd_graph.specs.declared.class_uses.ClassUses.{ClassUses}

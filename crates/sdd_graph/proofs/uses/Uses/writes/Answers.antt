@@ -1,4 +1,4 @@
-use Rattle.std.proofs.Common.{ℕ, length, get_or, ◌≡◌, ◌≤◌, ◌-◌, Bool, false, List, sym, ◌∙◌, ap, arith}
+use Rattle.std.proofs.Common.{length, get_or, ◌≡◌, ◌-◌, Bool, false, List, ◌∙◌, ap, arith}
 use Rattle.sdd_graph.specs.Uses.{written_by}
 use Rattle.sdd_graph.specs.declared.class_uses.ClassUses.{ClassUses}
 use Rattle.sdd_graph.proofs.Tables.{written_long, written_at}
