@@ -1,7 +1,8 @@
 //! The protocol table: which reads have to wait for which classes, and up to which time.
 //!
 //! The one contract to the layer above is the table of a catalogue, as `specs/Protocols.antt` defines it,
-//! and the read conditions of an attempt, as `specs/Conditions.antt` defines them.
+//! and the read conditions of an attempt, as `specs/Conditions.antt` defines them. What holds of all tables
+//! stands in `specs/Laws.antt`.
 #![tactic(auto)]
 
 mod asked;
