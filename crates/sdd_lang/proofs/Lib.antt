@@ -1,5 +1,4 @@
 pub mod Firsts
-pub mod Fitting
 pub mod KeyKinds
 pub mod KeyRanges
 pub mod Numbering

@@ -1,5 +1,5 @@
 -- Rows that may stand in a part.
-use Rattle.std.proofs.Common.{ℕ, ◌≡◌, ◌&&◌, ◌==◌, Bool, true, false, cond, List, [], ◌∷◌, Some, None, refl, ap}
+use Rattle.std.proofs.Common.{ℕ, ◌≡◌, ◌&&◌, ◌==◌, Bool, true, false, cond, List, [], ◌∷◌, Some, None, refl}
 use Rattle.std.specs.List.{list_all, cons_option}
 use Rattle.sdd_base.specs.declared.restriction.Restriction.{Restriction}
 use Rattle.sdd_base.specs.Order.{meets}
@@ -7,7 +7,7 @@ use Rattle.sdd_lang.specs.declared.condition.Condition.{Condition}
 use Rattle.sdd_lang.specs.declared.condition.Condition.TheVariants.{Const, Same}
 use Rattle.sdd_lang.specs.Database.{Row}
 use Rattle.sdd_lang.specs.Tuples.{may_stand}
-use Rattle.sdd_lang.specs.Uses.{restriction_of, restrictions_of}
+use Rattle.sdd_lang.specs.Uses.{restrictions_of}
 
 and_true : (a b c : Bool) → b ≡ c → ((a && true) && b) ≡ (a && c)
 and_true true b c e = e

@@ -10,6 +10,7 @@ mod assign;
 mod classes;
 mod condition;
 mod effect;
+mod fitting;
 mod keys;
 mod laws;
 mod over;
@@ -26,6 +27,7 @@ pub use assign::{Assign, Sets};
 pub use classes::{class_for, read_set, write_set};
 pub use condition::{Condition, Conditions, Ref, Refs};
 pub use effect::Effect;
+pub use fitting::fits;
 pub use laws::{
     law_puts_held, law_read_set_decides, law_rows_held, law_rows_make_database, law_stays_database,
 };

@@ -1,16 +1,10 @@
-ghost use Rattle.std.specs.Prelude.{◌≡◌, IsTrue, IfOk};
-ghost use Rattle.sdd_catalog.specs.declared.parts.Kind.TheVariants as kinds;
-ghost use Rattle.sdd_lang.specs.Fits.{Fits};
-ghost use Rattle.sdd_lang.specs.Pairs.{IsPairs};
-
 use super::*;
 use sdd_base::{ClassNo, FragNo, Name, Op, RelNo, Row, TmNo, Value};
 use sdd_catalog::{
-    Catalogue, ClassPart, ClassParts, Column, ColumnPart, ColumnParts, CopyNos, FragmentPart,
+    Catalogue, ClassPart, ClassParts, ColumnPart, ColumnParts, CopyNos, FragmentPart,
     FragmentParts, Kind, Names, Parts, ReadPart, ReadParts, RelationPart, RelationParts,
 };
 use std::alloc::Global;
-use std::process::Abort;
 use std::test::Fail;
 
 fn name(alloc: Global, text: &str) -> Result<Name, Fail> {
@@ -85,36 +79,8 @@ fn halves(alloc: Global) -> Result<Catalogue, Fail> {
     Ok(Catalogue::build(alloc, &parts)?)
 }
 
-fn is_int(column: &Column) -> bool
-    ensures { IsTrue result → column.now.kind ≡ kinds.Int }
-{
-    match column.kind {
-        Kind::Int => true,
-        Kind::Text => false,
-    }
-}
-
-/// The catalogue has a module, and a relation of two whole numbers.
-#[tactic(auto, using(crate::proofs::Fitting::pairs_seen))]
-fn has_pairs(rt: &impl Abort, cat: &Catalogue)
-    ensures { IsPairs cat.now }
-{
-    assert!(rt; cat.tms() >= 1);
-    assert!(rt; cat.relations() >= 1);
-    let columns = cat.relation(RelNo(1)).columns.as_slice();
-    assert!(rt; columns.len() == 2);
-    let first = &columns[0];
-    let second = &columns[1];
-    assert!(rt; is_int(first));
-    assert!(rt; is_int(second));
-}
-
 /// `query 1.id from acct where` the key meets both comparisons.
-#[tactic(auto, using(crate::proofs::Fitting::query_fits))]
-fn query(alloc: Global, cat: &Catalogue, first: (Op, i64), second: (Op, i64)) -> Result<Txn, Fail>
-    requires { IsPairs cat.now }
-    ensures { IfOk result (λ txn. Fits cat.now txn) }
-{
+fn query(alloc: Global, first: (Op, i64), second: (Op, i64)) -> Result<Txn, Fail> {
     Ok(Txn {
         name: name(alloc, "q")?,
         tm: TmNo(1),
@@ -140,78 +106,63 @@ fn query(alloc: Global, cat: &Catalogue, first: (Op, i64), second: (Op, i64)) ->
 }
 
 /// `put acct (id, 0)`.
-#[tactic(auto, using(crate::proofs::Fitting::put_fits))]
-fn put(alloc: Global, cat: &Catalogue, id: &i64) -> Result<Txn, Fail>
-    requires { IsPairs cat.now }
-    ensures { IfOk result (λ txn. Fits cat.now txn) }
-{
+fn put(alloc: Global, id: i64) -> Result<Txn, Fail> {
     Ok(Txn {
         name: name(alloc, "p")?,
         tm: TmNo(1),
         statements: Statements::from_vec(vec![in alloc;
             Stmt::Put {
                 rel: RelNo(1),
-                row: Row::from_vec(vec![in alloc; Value::Int(*id), Value::Int(0)]?),
+                row: Row::from_vec(vec![in alloc; Value::Int(id), Value::Int(0)]?),
             },
         ]?),
     })
 }
 
-/// The read set, the write set and the class are these.
-fn tells(
-    rt: &impl Abort,
+/// The numbers of the read set and of the write set, and the class.
+fn told(
     alloc: Global,
     cat: &Catalogue,
     txn: &Txn,
-    reads: &[FragNo],
-    writes: &[FragNo],
-    class: u32,
-) -> Result<(), Fail>
-    requires { Fits cat.now txn.now }
-{
-    assert!(rt; read_set(alloc, cat, txn)?.as_slice() == reads);
-    assert!(rt; write_set(alloc, cat, txn)?.as_slice() == writes);
-    assert!(rt; class_for(alloc, cat, txn)? == ClassNo(class));
-    Ok(())
+) -> Result<(Vec<FragNo>, Vec<FragNo>, ClassNo), Fail> {
+    if !fits(cat, txn) {
+        return Err("doesn't fit")?;
+    }
+    Ok((
+        read_set(alloc, cat, txn)?,
+        write_set(alloc, cat, txn)?,
+        class_for(alloc, cat, txn)?,
+    ))
+}
+
+/// The numbers, one digit each.
+fn digits(alloc: Global, frags: &[FragNo]) -> Result<String, Fail> {
+    let mut text = String::new(alloc);
+    for frag in frags {
+        text.push_str(match frag.0 {
+            1 => "1",
+            2 => "2",
+            _ => "other",
+        })?;
+    }
+    Ok(text)
 }
 
 #[test]
-fn restrictions_decide_what_is_read(rt: HostRuntime) -> Result<(), Fail> {
+fn restrictions_decide_what_is_read_and_keys_what_is_written(rt: HostRuntime) -> Result<(), Fail> {
     let alloc = rt.alloc();
     let cat = halves(alloc)?;
-    has_pairs(&rt, &cat);
-    let none = query(alloc, &cat, (Op::Lt, 1), (Op::Gt, 5))?;
-    assert!(rt; uses(alloc, &cat, &none)?.len() == 1);
-    tells(&rt, alloc, &cat, &none, &[], &[], 1)?;
-    let low = query(alloc, &cat, (Op::Le, 9), (Op::Ne, 3))?;
-    tells(&rt, alloc, &cat, &low, &[FragNo(1)], &[], 1)?;
-    let both = query(alloc, &cat, (Op::Ne, 3), (Op::Ne, 30))?;
-    tells(&rt, alloc, &cat, &both, &[FragNo(1), FragNo(2)], &[], 2)?;
-    Ok(())
-}
-
-#[test]
-fn puts_decide_what_is_written(rt: HostRuntime) -> Result<(), Fail> {
-    let alloc = rt.alloc();
-    let cat = halves(alloc)?;
-    has_pairs(&rt, &cat);
-    tells(
-        &rt,
-        alloc,
-        &cat,
-        &put(alloc, &cat, &12)?,
-        &[],
-        &[FragNo(2)],
-        1,
-    )?;
-    tells(
-        &rt,
-        alloc,
-        &cat,
-        &put(alloc, &cat, &9)?,
-        &[],
-        &[FragNo(1)],
-        0,
-    )?;
+    for (txn, reads, writes, class) in [
+        (query(alloc, (Op::Lt, 1), (Op::Gt, 5))?, "", "", 1),
+        (query(alloc, (Op::Le, 9), (Op::Ne, 3))?, "1", "", 1),
+        (query(alloc, (Op::Ne, 3), (Op::Ne, 30))?, "12", "", 2),
+        (put(alloc, 12)?, "", "2", 1),
+        (put(alloc, 9)?, "", "1", 0),
+    ] {
+        let (read, written, of) = told(alloc, &cat, &txn)?;
+        assert_eq!(rt; digits(alloc, &read)?.as_str(), reads);
+        assert_eq!(rt; digits(alloc, &written)?.as_str(), writes);
+        assert_eq!(rt; of.0, class);
+    }
     Ok(())
 }
