@@ -1,8 +1,68 @@
 use super::*;
-use sdd_base::{Change, FragNo, Name, Op, TmNo, Value};
-use sdd_lang::{Assign, Entry, Sets, Statements, Stmt};
-use std::process::Abort;
+use sdd_base::{Answers, Name, Op, TmNo, Value};
+use sdd_catalog::{
+    ClassParts, ColumnPart, ColumnParts, CopyNos, FragmentPart, FragmentParts, Kind, Parts,
+    RelationPart, RelationParts,
+};
+use sdd_lang::{Assign, Conditions, Entry, Refs, Rels, Sets, Statements, Stmt, fits};
 use std::test::Fail;
+
+fn name(alloc: Global, text: &str) -> Result<Name, Fail> {
+    Ok(Name::new(alloc, text)?.ok_or("no name")?)
+}
+
+/// A relation of two columns of whole numbers, of which the first is the key.
+fn relation(alloc: Global, called: &str) -> Result<RelationPart, Fail> {
+    let mut columns = Vec::new(alloc);
+    for column in ["id", "b"] {
+        columns.push(ColumnPart {
+            name: name(alloc, column)?,
+            kind: Kind::Int,
+        })?;
+    }
+    Ok(RelationPart {
+        name: name(alloc, called)?,
+        columns: ColumnParts::from_vec(columns),
+        key: name(alloc, "id")?,
+    })
+}
+
+/// All of a relation, at the one data module.
+fn fragment(alloc: Global, called: &str) -> Result<FragmentPart, Fail> {
+    Ok(FragmentPart {
+        name: name(alloc, called)?,
+        relation: name(alloc, called)?,
+        from: i64::MIN,
+        to: i64::MAX,
+        copies: CopyNos::from_vec(vec![in alloc; 1]?),
+    })
+}
+
+/// The relations r, s and t, each in one fragment.
+fn catalogue(alloc: Global) -> Result<Catalogue, Fail> {
+    let mut relations = Vec::new(alloc);
+    let mut fragments = Vec::new(alloc);
+    for called in ["r", "s", "t"] {
+        relations.push(relation(alloc, called)?)?;
+        fragments.push(fragment(alloc, called)?)?;
+    }
+    let parts = Parts {
+        tms: 1,
+        dms: 1,
+        relations: RelationParts::from_vec(relations),
+        fragments: FragmentParts::from_vec(fragments),
+        classes: ClassParts::from_vec(Vec::new(alloc)),
+    };
+    Ok(Catalogue::build(alloc, &parts)?)
+}
+
+fn txn(alloc: Global, statements: Vec<Stmt>) -> Result<Txn, Fail> {
+    Ok(Txn {
+        name: name(alloc, "g")?,
+        tm: TmNo(1),
+        statements: Statements::from_vec(statements),
+    })
+}
 
 fn two(alloc: Global, a: i64, b: i64) -> Result<Row, Fail> {
     Ok(Row::from_vec(vec![in alloc; Value::Int(a), Value::Int(b)]?))
@@ -92,5 +152,66 @@ fn rows_are_matched_in_the_order_of_their_keys(rt: HostRuntime) -> Result<(), Fa
         row: two(alloc, 4, 4)?,
     };
     assert!(rt; entries == Entries::from_vec(vec![in alloc; third, fourth]?));
+    Ok(())
+}
+
+/// The reply of a transaction of these statements.
+fn reply(
+    alloc: Global,
+    cat: &Catalogue,
+    plain: &mut Plain,
+    statements: Vec<Stmt>,
+) -> Result<Reply, Fail> {
+    let txn = txn(alloc, statements)?;
+    if plain.live() && fits(cat, &txn) {
+        return Ok(plain.run(cat, &txn)?);
+    }
+    Err("doesn't fit")?
+}
+
+/// `put r 5 N`, `query 1.b from r`, and `update r set 1.b += 1`.
+fn put(alloc: Global, n: i64) -> Result<Stmt, Fail> {
+    Ok(Stmt::Put {
+        rel: RelNo(1),
+        row: two(alloc, 5, n)?,
+    })
+}
+
+fn get(alloc: Global) -> Result<Stmt, Fail> {
+    Ok(Stmt::Query {
+        out: Refs::from_vec(vec![in alloc; at(1, 2)]?),
+        rels: Rels::from_vec(vec![in alloc; RelNo(1)]?),
+        conds: Conditions::from_vec(Vec::new(alloc)),
+    })
+}
+
+fn add_one(alloc: Global) -> Result<Stmt, Fail> {
+    Ok(Stmt::Update {
+        rel: RelNo(1),
+        sets: Sets::from_vec(vec![in alloc; Assign::Add { column: 2, by: 1 }]?),
+        conds: Conditions::from_vec(Vec::new(alloc)),
+    })
+}
+
+/// One answer of at most one number.
+fn numbers(alloc: Global, found: &[i64]) -> Result<Reply, Fail> {
+    let mut rows = Vec::new(alloc);
+    for n in found {
+        rows.push(Row::from_vec(vec![in alloc; Value::Int(*n)]?))?;
+    }
+    Ok(Reply::Rows(Answers::from_vec(vec![in alloc; RowList::from_vec(rows)]?)))
+}
+
+#[test]
+fn transactions_see_what_stood_before_them(rt: HostRuntime) -> Result<(), Fail> {
+    let alloc = rt.alloc();
+    let cat = catalogue(alloc)?;
+    let mut plain = Plain::new(alloc, &cat, &[])?;
+    let greatest = vec![in alloc; put(alloc, i64::MAX)?, get(alloc)?]?;
+    assert!(rt; reply(alloc, &cat, &mut plain, greatest)? == numbers(alloc, &[])?);
+    let over = vec![in alloc; put(alloc, 7)?, add_one(alloc)?]?;
+    assert!(rt; reply(alloc, &cat, &mut plain, over)? == Reply::Overflow);
+    let query = vec![in alloc; get(alloc)?]?;
+    assert!(rt; reply(alloc, &cat, &mut plain, query)? == numbers(alloc, &[i64::MAX])?);
     Ok(())
 }
