@@ -1,5 +1,5 @@
 -- The steps of the loops of a join.
-use Rattle.std.specs.Prelude.{ℕ, ◌+◌, ◌==◌, slice_index, ◌<◌, ◌≤◌, ◌≡◌, true, false, cond, List, [], ◌∷◌, ◌++◌, length, Option, Some, None, map, filter_map, fold, take, drop, refl}
+use Rattle.std.specs.Prelude.{ℕ, ◌+◌, ◌==◌, slice_index, ◌<◌, ◌≤◌, ◌≡◌, true, false, cond, List, [], ◌∷◌, ◌++◌, length, Option, Some, None, filter_map, fold, take, drop, refl}
 use Rattle.std.specs.declared.cmp.Ordering.TheVariants.{Less, Equal, Greater}
 use Rattle.std.specs.Ordering.{match_ordering}
 use Rattle.std.specs.List.{cons_option, flat_map}

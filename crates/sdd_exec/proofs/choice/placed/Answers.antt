@@ -1,4 +1,3 @@
-use Rattle.std.proofs.Common.{◌≡◌, ◌++◌, ◌∷◌, [], ℕ, List, ap, sym, ◌∙◌}
 use Rattle.sdd_exec.proofs.Steps.{placed_more}
 use Rattle.sdd_exec.proofs.choice.placed.Goals as goal
 

@@ -1,5 +1,4 @@
-use Rattle.std.proofs.Common.{◌≡◌, ◌==◌, cond, map, slice_index}
-use Rattle.std.specs.List.{range_with_len}
+use Rattle.std.proofs.Common.{◌≡◌}
 use Rattle.sdd_exec.specs.Choices.{placed}
 use Rattle.sdd_exec.proofs.choice.placed.Given as goal
 

@@ -1,4 +1,4 @@
-use Rattle.std.proofs.Common.{◌≡◌, ◌≤◌, ◌<◌, ◌+◌, length, take, arith, filter_map}
+use Rattle.std.proofs.Common.{◌≡◌, ◌<◌, ◌+◌, length, take, arith, filter_map}
 use Rattle.sdd_lang.specs.Query.{distinct}
 use Rattle.sdd_exec.specs.Choices.{row_from}
 use Rattle.sdd_exec.proofs.Steps.{found_next, part_is_fewer}

@@ -1,4 +1,4 @@
-use Rattle.std.proofs.Common.{ℕ, List, [], length, map, ap, ◌∙◌, refl}
+use Rattle.std.proofs.Common.{ℕ, List, [], length, map, refl}
 use Rattle.std.specs.HashMap as hash
 use Rattle.std.specs.Option.{option_map_or}
 use Rattle.sdd_exec.specs.Choices.{same_row, key_for, picked, placed}
