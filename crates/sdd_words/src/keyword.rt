@@ -144,7 +144,7 @@ pub fn looks_like_column(word: &Word) -> bool
     }
 }
 
-#[tactic(auto, using(crate::proofs::NameTexts::named, crate::proofs::NameTexts::unnamed))]
+#[tactic(auto, using(crate::proofs::NameTexts::unnamed))]
 fn is_name(alloc: Global, bytes: &[u8]) -> Result<bool, NoMemory>
     ensures { IfOk result (λ b. b ≡ is_name bytes.now) }
 {
