@@ -1,0 +1,9 @@
+pub mod Columns
+pub mod LineRules
+pub mod Naming
+pub mod Occurrences
+pub mod Places
+pub mod Rules
+pub mod Statements
+pub mod Values
+pub mod Walk
