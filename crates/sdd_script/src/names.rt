@@ -47,11 +47,11 @@ impl Names {
 
     /// Puts a name that isn't there yet at the end.
     pub fn add(&mut self, alloc: Global, name: &str) -> Result<(), NoMemory>
-        requires { position (bytes_eq name.now) self.old ≡ None }
         ensures { OnOk result (self.new ≡ self.old ++ name.now ∷ []) }
     {
         match self.set.insert(name.to_string(alloc)?) {
-            Ok(_) => Ok(()),
+            Ok(true) => Ok(()),
+            Ok(false) => Err(NoMemory),
             Err(_) => Err(NoMemory),
         }
     }

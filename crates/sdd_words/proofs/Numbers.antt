@@ -71,9 +71,9 @@ pub number_of_other_bytes : (bs : List ℕ) → (IsUtf8 bs → ⊥) → number_o
 number_of_other_bytes bs other =
     let z : ℤ = signed_digits_value 10 bs in
     by_cases bs (bytes_eq bs (signed_decimal z)) (is_small z) refl refl (λ p q.
-        let e : bs ≡ signed_decimal z = (bytes_eq-Decides bs (signed_decimal z)).0 p in
-        let u : IsUtf8 (signed_decimal z) = IsUtf8-from_ascii (signed_decimal z) (IsAscii-signed z (ltb-true (mag z) (2 ^ 63) q)) in
-        absurd (other (rw e u)))
+    let e : bs ≡ signed_decimal z = (bytes_eq-Decides bs (signed_decimal z)).0 p in
+    let u : IsUtf8 (signed_decimal z) = IsUtf8-from_ascii (signed_decimal z) (IsAscii-signed z (ltb-true (mag z) (2 ^ 63) q)) in
+    absurd (other (rw e u)))
 
 found_if : (b : Bool) (y z : ℤ) → cond b (Some y) None ≡ Some z → (b ≡ true) × (y ≡ z)
 found_if true y z e = (refl, cc)

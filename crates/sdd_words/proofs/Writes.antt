@@ -10,4 +10,3 @@ one_more text out total i lt e =
 
 pub all_written : (text out total : List ℕ) (i : ℕ) → length text ≤ i → out ++ escaped (drop i text) ≡ total → out ≡ total
 all_written text out total i past e = sym (append-nil out) ∙ ap (λ (l : List ℕ). out ++ escaped l) (sym (drop_all i text past)) ∙ e
-

@@ -65,12 +65,22 @@ pub fn split_from<'a>(words: &'a [Word], key: &[u8]) -> (&'a [Word], &'a [Word])
     }
 }
 
-fn read_comparison(key: &[u8], first: &Word, left: &Word, op: &Word, right: &Word) -> Result<Option<Comparison>, NoMemory>
+fn read_comparison(
+    key: &[u8],
+    first: &Word,
+    left: &Word,
+    op: &Word,
+    right: &Word,
+) -> Result<Option<Comparison>, NoMemory>
     ensures { IfOk result (λ o. o ≡ comparison_of key.now first.now left.now op.now right.now) }
 {
     if has_key(key, first) && looks_like_column(left) && stands_free(right) {
         match operator(op) {
-            Some(op) => Ok(Some(Comparison { left: left.copy()?, op, right: right.copy()? })),
+            Some(op) => Ok(Some(Comparison {
+                left: left.copy()?,
+                op,
+                right: right.copy()?,
+            })),
             None => Ok(None),
         }
     } else {
@@ -127,7 +137,11 @@ fn read_setting(left: &Word, op: &Word, right: &Word) -> Result<Option<Setting>,
 {
     if looks_like_column(left) && stands_free(right) {
         match adds(op) {
-            Some(adds) => Ok(Some(Setting { left: left.copy()?, adds, right: right.copy()? })),
+            Some(adds) => Ok(Some(Setting {
+                left: left.copy()?,
+                adds,
+                right: right.copy()?,
+            })),
             None => Ok(None),
         }
     } else {
