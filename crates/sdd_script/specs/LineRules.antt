@@ -3,7 +3,7 @@ use Rattle.std.specs.Prelude.{ℕ, ◌+◌, nat_lt, nat_le, ◌==◌, ◌&&◌, 
 use Rattle.std.specs.List.{position, list_any, list_all}
 use Rattle.std.specs.Str.{bytes_eq, is_utf8}
 use Rattle.sdd_base.specs.declared.event.Event.{Event}
-use Rattle.sdd_base.specs.declared.event.Event.TheVariants.{Submit, Deliver, Lose, Repeat, Resend, Tick, Settle}
+use Rattle.sdd_base.specs.declared.event.Event.TheVariants.{Submit}
 use Rattle.sdd_base.specs.declared.number.RelNo.{RelNo}
 use Rattle.sdd_base.specs.declared.number.TmNo.{TmNo}
 use Rattle.sdd_base.specs.declared.number.TxnNo.{TxnNo}
@@ -22,58 +22,19 @@ use Rattle.sdd_words.specs.Texts.{is_sound}
 use Rattle.sdd_words.specs.declared.word.Word.{Word}
 use Rattle.sdd_words.specs.declared.word.Word.TheVariants.{Plain, Quoted}
 use Rattle.sdd_script.specs.Values.{row_of}
-use Rattle.sdd_script.specs.Statements.{put_of, query_of, update_of, delete_of}
-use Rattle.sdd_script.specs.Occurrences.{tm_of, submit_of, place_of, resend_of, tick_of, settle_of}
+use Rattle.sdd_script.specs.FirstWords.{keyword_of}
+use Rattle.sdd_script.specs.Statements.{statement_of}
+use Rattle.sdd_script.specs.Occurrences.{tm_of, event_of}
 use Rattle.sdd_script.specs.Places.{takes_rows, takes_txns, takes_statements, takes_events}
 use Rattle.sdd_script.specs.declared.fault.Counts.TheVariants as counts
 use Rattle.sdd_script.specs.declared.fault.WorkRule.{WorkRule}
 use Rattle.sdd_script.specs.declared.fault.WorkRule.TheVariants.{NotUtf8, BadLine, UnknownName, DuplicateTxn, SubmittedTwice, TooMany}
 use Rattle.sdd_script.specs.declared.keyword.Keyword.{Keyword}
 use Rattle.sdd_script.specs.declared.keyword.Keyword.TheVariants as keys
-use Rattle.sdd_script.specs.declared.state.Header.{Header}
-use Rattle.sdd_script.specs.declared.state.Place.{Place}
-use Rattle.sdd_script.specs.declared.state.Place.TheVariants as places
+use Rattle.sdd_script.specs.declared.place.Header.{Header}
+use Rattle.sdd_script.specs.declared.place.Place.{Place}
+use Rattle.sdd_script.specs.declared.place.Place.TheVariants as places
 use Rattle.sdd_script.specs.declared.state.State.{State}
-
--- what keywords are written as
-abbrev pub keyword_bytes : Keyword → List ℕ
-keyword_bytes keys.Row = codes "row"
-keyword_bytes keys.Txn = codes "txn"
-keyword_bytes keys.Put = codes "put"
-keyword_bytes keys.Query = codes "query"
-keyword_bytes keys.Update = codes "update"
-keyword_bytes keys.Delete = codes "delete"
-keyword_bytes keys.Done = codes "done"
-keyword_bytes keys.Submit = codes "submit"
-keyword_bytes keys.Deliver = codes "deliver"
-keyword_bytes keys.Lose = codes "lose"
-keyword_bytes keys.Repeat = codes "repeat"
-keyword_bytes keys.Resend = codes "resend"
-keyword_bytes keys.Tick = codes "tick"
-keyword_bytes keys.Settle = codes "settle"
-keyword_bytes keys.End = codes "end"
-
-abbrev pub keyword_in : List ℕ → Option Keyword
-keyword_in bytes =
-    if bytes_eq bytes (codes "row") then Some keys.Row else (
-    if bytes_eq bytes (codes "txn") then Some keys.Txn else (
-    if bytes_eq bytes (codes "put") then Some keys.Put else (
-    if bytes_eq bytes (codes "query") then Some keys.Query else (
-    if bytes_eq bytes (codes "update") then Some keys.Update else (
-    if bytes_eq bytes (codes "delete") then Some keys.Delete else (
-    if bytes_eq bytes (codes "done") then Some keys.Done else (
-    if bytes_eq bytes (codes "submit") then Some keys.Submit else (
-    if bytes_eq bytes (codes "deliver") then Some keys.Deliver else (
-    if bytes_eq bytes (codes "lose") then Some keys.Lose else (
-    if bytes_eq bytes (codes "repeat") then Some keys.Repeat else (
-    if bytes_eq bytes (codes "resend") then Some keys.Resend else (
-    if bytes_eq bytes (codes "tick") then Some keys.Tick else (
-    if bytes_eq bytes (codes "settle") then Some keys.Settle else (
-    if bytes_eq bytes (codes "end") then Some keys.End else None))))))))))))))
-
-abbrev pub keyword_of : Word → Option Keyword
-keyword_of (Plain bytes) = keyword_in bytes
-keyword_of (Quoted text) = None
 
 -- limits
 abbrev pub most_rows : ℕ
@@ -99,13 +60,17 @@ most_events = 262144
 
 -- rows
 
+-- how many rows there are with one more, if there is room for it
+abbrev pub one_more_row : ℕ → Option ℕ
+one_more_row written = if nat_lt written most_rows then Some (written + 1) else None
+
 abbrev pub row_rules : Catalogue → State → List Word → Result State WorkRule
 row_rules cat st [] = Err BadLine
 row_rules cat st (name ∷ words) =
     must BadLine (takes_rows st.place && (is_free name && are_free words)) >>= λ _.
     row_of cat name words >>= λ (r : RelNo × List Value).
-    must (TooMany counts.Row) (nat_lt st.written most_rows) >>= λ _.
-    Ok (record st { rows = st.rows ++ r ∷ []; written = st.written + 1 })
+    known (TooMany counts.Row) (one_more_row st.written) >>= λ written.
+    Ok (record st { rows = st.rows ++ r ∷ []; written = written })
 
 -- transactions
 
@@ -144,23 +109,16 @@ statement_limits before (statements.Delete rel conds) =
     must (TooMany counts.Statement) (nat_lt before most_statements) >>= λ _.
     must (TooMany counts.Cond) (nat_le (length conds) most_conditions)
 
--- a statement puts one row, or none
-abbrev pub rows_put : Stmt → ℕ
-rows_put (statements.Put rel row) = 1
-rows_put statement = 0
-
-abbrev pub is_put : Stmt → Bool
-is_put (statements.Put rel row) = true
-is_put statement = false
-
-abbrev pub has_room : State → Stmt → Bool
-has_room st statement = not (is_put statement) || nat_lt st.written most_rows
+-- how many rows there are with the statement's, if there is room for it
+abbrev pub written_with : ℕ → Stmt → Option ℕ
+written_with written (statements.Put rel row) = one_more_row written
+written_with written statement = Some written
 
 abbrev pub with_statement : State → Stmt → Result State WorkRule
 with_statement st statement =
-    must (TooMany counts.Row) (has_room st statement) >>= λ _.
+    known (TooMany counts.Row) (written_with st.written statement) >>= λ written.
     statement_limits (length st.statements) statement >>= λ _.
-    Ok (record st { statements = st.statements ++ statement ∷ []; written = st.written + rows_put statement })
+    Ok (record st { statements = st.statements ++ statement ∷ []; written = written })
 
 -- a statement, by its reading
 abbrev pub statement_rules : State → Result Stmt WorkRule → Result State WorkRule
@@ -205,41 +163,26 @@ abbrev pub end_rules : State → List Word → Result State WorkRule
 end_rules st [] = must BadLine (takes_events st.place) >>= λ _. Ok (record st { place = places.Ended })
 end_rules st _ = Err BadLine
 
-abbrev pub deliver_event : Site → Site → ℕ → Event
-deliver_event from to place = Deliver from to place
-
-abbrev pub lose_event : Site → Site → ℕ → Event
-lose_event from to place = Lose from to place
-
-abbrev pub repeat_event : Site → Site → ℕ → Event
-repeat_event from to place = Repeat from to place
-
 -- a line, by its keyword and the words behind it
 abbrev pub keyword_rules : Keyword → Catalogue → State → List Word → Result State WorkRule
 keyword_rules keys.Row cat st words = row_rules cat st words
 keyword_rules keys.Txn cat st words = txn_rules cat st words
-keyword_rules keys.Put cat st words = statement_rules st (put_of cat words)
-keyword_rules keys.Query cat st words = statement_rules st (query_of cat words)
-keyword_rules keys.Update cat st words = statement_rules st (update_of cat words)
-keyword_rules keys.Delete cat st words = statement_rules st (delete_of cat words)
+keyword_rules (keys.Statement key) cat st words = statement_rules st (statement_of key cat words)
 keyword_rules keys.Done cat st words = done_rules st words
-keyword_rules keys.Submit cat st words = event_rules st (submit_of st.names words)
-keyword_rules keys.Deliver cat st words = event_rules st (place_of cat deliver_event words)
-keyword_rules keys.Lose cat st words = event_rules st (place_of cat lose_event words)
-keyword_rules keys.Repeat cat st words = event_rules st (place_of cat repeat_event words)
-keyword_rules keys.Resend cat st words = event_rules st (resend_of cat words)
-keyword_rules keys.Tick cat st words = event_rules st (tick_of cat words)
-keyword_rules keys.Settle cat st words = event_rules st (settle_of words)
+keyword_rules (keys.Event key) cat st words = event_rules st (event_of key cat st.names words)
 keyword_rules keys.End cat st words = end_rules st words
 
 abbrev pub words_rules : Catalogue → State → List Word → Result State WorkRule
 words_rules cat st [] = Err BadLine
 words_rules cat st (first ∷ words) = known BadLine (keyword_of first) >>= λ keyword. keyword_rules keyword cat st words
 
+-- a text that is too long makes the line bad
+abbrev pub sound_rules : Catalogue → State → List Word → Result State WorkRule
+sound_rules cat st words = must BadLine (list_all is_sound words) >>= λ _. words_rules cat st words
+
 -- a line: UTF-8, then words, of which the texts are not too long, then the rules of its first word
 unfoldable pub line_rules : Catalogue → State → List ℕ → Result State WorkRule
 line_rules cat st line =
     must NotUtf8 (is_utf8 line) >>= λ _.
     known BadLine (words_of line) >>= λ words.
-    must BadLine (list_all is_sound words) >>= λ _.
-    words_rules cat st words
+    sound_rules cat st words

@@ -18,6 +18,8 @@ use Rattle.sdd_words.specs.Steps.{◌>>=◌, known, must}
 use Rattle.sdd_words.specs.declared.word.Word.{Word}
 use Rattle.sdd_words.specs.declared.word.Word.TheVariants.{Plain, Quoted}
 use Rattle.sdd_script.specs.declared.fault.WorkRule.{WorkRule}
+use Rattle.sdd_script.specs.declared.keyword.EventKey.{EventKey}
+use Rattle.sdd_script.specs.declared.keyword.EventKey.TheVariants as keys
 use Rattle.sdd_script.specs.declared.fault.WorkRule.TheVariants.{BadEvent, BadLine, BadNumber, UnknownName}
 
 -- a number from 1 to the most
@@ -68,23 +70,35 @@ count_of (Plain bytes) = known BadNumber (numbered greatest_count bytes)
 count_of (Quoted text) = Err BadNumber
 
 -- a link and a place in its flight
-abbrev pub place_of : Catalogue → (Site → Site → ℕ → Event) → List Word → Result Event WorkRule
-place_of cat event (from ∷ to ∷ place ∷ []) =
+abbrev pub flight_place : Catalogue → List Word → Result (Site × Site × ℕ) WorkRule
+flight_place cat (from ∷ to ∷ place ∷ []) =
     must BadLine (is_free from && is_free to && is_free place) >>= λ _.
     link_of cat from to >>= λ (link : Site × Site).
     count_of place >>= λ k.
-    Ok (event link.0 link.1 k)
-place_of cat event _ = Err BadLine
+    Ok (link.0, link.1, k)
+flight_place cat _ = Err BadLine
 
-abbrev pub txn_no : ℕ → TxnNo
-txn_no place = record { 0 = place + 1 }
+abbrev pub deliver_of : Catalogue → List Word → Result Event WorkRule
+deliver_of cat words = flight_place cat words >>= λ (p : Site × Site × ℕ). Ok (Deliver p.0 p.1 p.2)
+
+abbrev pub lose_of : Catalogue → List Word → Result Event WorkRule
+lose_of cat words = flight_place cat words >>= λ (p : Site × Site × ℕ). Ok (Lose p.0 p.1 p.2)
+
+abbrev pub repeat_of : Catalogue → List Word → Result Event WorkRule
+repeat_of cat words = flight_place cat words >>= λ (p : Site × Site × ℕ). Ok (Repeat p.0 p.1 p.2)
 
 -- the number of the transaction with a name
+abbrev pub number_named : List (List ℕ) → List ℕ → Option ℕ
+number_named names name = option_map (λ place. place + 1) (position (bytes_eq name) names)
+
+abbrev pub txn_no : ℕ → TxnNo
+txn_no n = record { 0 = n }
+
 abbrev pub txn_named : List (List ℕ) → Word → Result TxnNo WorkRule
 txn_named names (Plain bytes) =
     known UnknownName (name_in bytes) >>= λ name.
-    known UnknownName (position (bytes_eq name) names) >>= λ place.
-    Ok (txn_no place)
+    known UnknownName (number_named names name) >>= λ n.
+    Ok (txn_no n)
 txn_named names (Quoted text) = Err UnknownName
 
 abbrev pub submit_of : List (List ℕ) → List Word → Result Event WorkRule
@@ -109,3 +123,13 @@ tick_of cat _ = Err BadLine
 abbrev pub settle_of : List Word → Result Event WorkRule
 settle_of [] = Ok Settle
 settle_of _ = Err BadLine
+
+-- an event, by its first word and the words behind it, where these are the names of the transactions
+abbrev pub event_of : EventKey → Catalogue → List (List ℕ) → List Word → Result Event WorkRule
+event_of keys.Submit cat names words = submit_of names words
+event_of keys.Deliver cat names words = deliver_of cat words
+event_of keys.Lose cat names words = lose_of cat words
+event_of keys.Repeat cat names words = repeat_of cat words
+event_of keys.Resend cat names words = resend_of cat words
+event_of keys.Tick cat names words = tick_of cat words
+event_of keys.Settle cat names words = settle_of words

@@ -1,7 +1,7 @@
 -- What may stand where: rows, then transactions, then events, then `end`.
 use Rattle.std.specs.Prelude.{Bool, true, false}
-use Rattle.sdd_script.specs.declared.state.Place.{Place}
-use Rattle.sdd_script.specs.declared.state.Place.TheVariants.{Rows, Inside, Between, Events, Ended}
+use Rattle.sdd_script.specs.declared.place.Place.{Place}
+use Rattle.sdd_script.specs.declared.place.Place.TheVariants.{Rows, Inside, Between, Events, Ended}
 
 -- where a row may stand
 abbrev pub takes_rows : Place → Bool

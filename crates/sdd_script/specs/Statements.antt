@@ -25,6 +25,8 @@ use Rattle.sdd_script.specs.Columns.{Parts, column_of_use, conditions_of}
 use Rattle.sdd_script.specs.declared.fault.WorkRule.{WorkRule}
 use Rattle.sdd_script.specs.declared.fault.WorkRule.TheVariants.{BadLine, BadNumber, UnknownName, WrongKind, KeyChanged}
 use Rattle.sdd_script.specs.declared.found.Found.{Found}
+use Rattle.sdd_script.specs.declared.keyword.StatementKey.{StatementKey}
+use Rattle.sdd_script.specs.declared.keyword.StatementKey.TheVariants as keys
 
 -- put: a relation and values
 abbrev pub put_of : Catalogue → List Word → Result Stmt WorkRule
@@ -95,12 +97,14 @@ update_of_parts cat name sets comparisons =
     conditions_of cat (Some rel ∷ []) comparisons >>= λ conds.
     Ok (Update (rel_no rel) assigns conds)
 
+abbrev pub update_with : Catalogue → Word → List Setting → List Word → Result Stmt WorkRule
+update_with cat name sets rest = known BadLine (conditions_form rest) >>= λ comparisons. update_of_parts cat name sets comparisons
+
 abbrev pub update_behind_set : Catalogue → Word → List Word → List Word → Result Stmt WorkRule
 update_behind_set cat name sets rest =
     must BadLine (is_free name && not_empty sets) >>= λ _.
     known BadLine (settings sets) >>= λ found.
-    known BadLine (conditions_form rest) >>= λ comparisons.
-    update_of_parts cat name found comparisons
+    update_with cat name found rest
 
 -- update: a relation, `set`, assignments, and perhaps conditions
 abbrev pub update_of : Catalogue → List Word → Result Stmt WorkRule
@@ -109,12 +113,24 @@ update_of cat (name ∷ key ∷ words) =
     update_behind_set cat name (up_to (codes "where") words) (from_key (codes "where") words)
 update_of cat _ = Err BadLine
 
+-- the relation, the conditions
+abbrev pub delete_of_parts : Catalogue → Word → List Comparison → Result Stmt WorkRule
+delete_of_parts cat name comparisons =
+    known UnknownName (relation_of cat name) >>= λ rel.
+    conditions_of cat (Some rel ∷ []) comparisons >>= λ conds.
+    Ok (Delete (rel_no rel) conds)
+
 -- delete: a relation, and perhaps conditions
 abbrev pub delete_of : Catalogue → List Word → Result Stmt WorkRule
 delete_of cat [] = Err BadLine
 delete_of cat (name ∷ rest) =
     must BadLine (is_free name) >>= λ _.
     known BadLine (conditions_form rest) >>= λ comparisons.
-    known UnknownName (relation_of cat name) >>= λ rel.
-    conditions_of cat (Some rel ∷ []) comparisons >>= λ conds.
-    Ok (Delete (rel_no rel) conds)
+    delete_of_parts cat name comparisons
+
+-- a statement, by its first word and the words behind it
+abbrev pub statement_of : StatementKey → Catalogue → List Word → Result Stmt WorkRule
+statement_of keys.Put cat words = put_of cat words
+statement_of keys.Query cat words = query_of cat words
+statement_of keys.Update cat words = update_of cat words
+statement_of keys.Delete cat words = delete_of cat words

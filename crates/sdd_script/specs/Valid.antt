@@ -1,5 +1,5 @@
 -- Workloads that a catalogue allows, and the files that spell them.
-use Rattle.std.specs.Prelude.{ℕ, ◌+◌, ◌^◌, ◌≡◌, ◌≤◌, ◌<◌, ◌==◌, IsTrue, false, List, [], ◌∷◌, ◌++◌, map, sum_by, slice_index_or, length, Option, Some, None}
+use Rattle.std.specs.Prelude.{ℕ, ◌+◌, ◌^◌, ◌≡◌, ◌≤◌, ◌<◌, ◌==◌, IsTrue, Bool, true, false, List, [], ◌∷◌, ◌++◌, map, sum_by, count_by, slice_index_or, length, Option, Some, None}
 use Rattle.std.specs.Int.Signed.{mag}
 use Rattle.std.specs.List.{All, filter_map}
 use Rattle.sdd_base.specs.Name.{IsName}
@@ -22,7 +22,7 @@ use Rattle.sdd_lang.specs.declared.statement.Stmt.{Stmt}
 use Rattle.sdd_lang.specs.declared.statement.Stmt.TheVariants as statements
 use Rattle.sdd_lang.specs.declared.transaction.Txn.{Txn}
 use Rattle.sdd_words.specs.Texts.{is_text}
-use Rattle.sdd_script.specs.LineRules.{rows_put, most_rows, most_txns, most_events}
+use Rattle.sdd_script.specs.LineRules.{most_rows, most_txns, most_events}
 use Rattle.sdd_script.specs.Occurrences.{greatest_count}
 use Rattle.sdd_script.specs.Spelling.{spelling}
 use Rattle.sdd_script.specs.Walk.{most_bytes}
@@ -78,9 +78,13 @@ IsValidEvent cat txns (Resend from to) = IsLink cat from to
 IsValidEvent cat txns (Tick tm n) = IsFrom1To cat.tms tm.0 × IsFrom1To greatest_count n
 IsValidEvent cat txns Settle = Unit {0}
 
+abbrev pub is_put : Stmt → Bool
+is_put (statements.Put rel row) = true
+is_put statement = false
+
 -- how many rows the statements put
 abbrev pub rows_put_by : Txn → ℕ
-rows_put_by t = sum_by rows_put t.statements
+rows_put_by t = count_by is_put t.statements
 
 abbrev pub submitted_by : Event → Option ℕ
 submitted_by (Submit txn) = Some txn.0

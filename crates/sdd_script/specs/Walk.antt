@@ -8,7 +8,7 @@ use Rattle.sdd_script.specs.Places.{is_ended}
 use Rattle.sdd_script.specs.declared.fault.WorkFault.{WorkFault}
 use Rattle.sdd_script.specs.declared.fault.WorkRule.{WorkRule}
 use Rattle.sdd_script.specs.declared.fault.WorkRule.TheVariants.{BadLine, NoEnd, NotUtf8, TooLong}
-use Rattle.sdd_script.specs.declared.state.Place.TheVariants.{Rows}
+use Rattle.sdd_script.specs.declared.place.Place.TheVariants.{Rows}
 use Rattle.sdd_script.specs.declared.state.State.{State}
 use Rattle.sdd_script.specs.declared.workload.Workload.{Workload}
 

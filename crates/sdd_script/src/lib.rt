@@ -1,18 +1,29 @@
 //! The workload file: its reader, which tells the first fault, and its writer.
 #![tactic(auto)]
 
+mod columns;
 mod fault;
 mod found;
 mod grown;
 mod keyword;
+mod limits;
 mod names;
+mod naming;
+mod occurrences;
+mod place;
+mod reader;
 mod state;
+mod statements;
+mod values;
+mod walk;
 mod workload;
 
 pub use fault::{Counts, LineError, WorkError, WorkFault, WorkRule};
 pub use found::Found;
 pub use grown::Grown;
-pub use keyword::Keyword;
+pub use keyword::{EventKey, Keyword, StatementKey};
 pub use names::Names;
-pub use state::{Header, Place, State};
+pub use place::{Header, Place};
+pub use state::State;
+pub use walk::read_workload;
 pub use workload::{StartRows, Txns, Workload};

@@ -1,29 +1,8 @@
 use crate::grown::Grown;
 use crate::names::Names;
-use sdd_base::{Event, Name, RelNo, Row, TmNo, TxnNo};
+use crate::place::Place;
+use sdd_base::{Event, RelNo, Row, TxnNo};
 use sdd_lang::{Stmt, Txn};
-
-/// The name of a transaction and the module to which it is given.
-#[derive(Drop)]
-pub struct Header {
-    pub name: Name,
-    pub tm: TmNo,
-}
-
-/// Where a reading stands in the order of the lines.
-#[derive(Drop)]
-pub enum Place {
-    /// Among the rows.
-    Rows,
-    /// Inside a transaction.
-    Inside(Header),
-    /// Behind a transaction.
-    Between,
-    /// Behind an event.
-    Events,
-    /// Behind the line `end`.
-    Ended,
-}
 
 /// What the lines so far have said.
 #[derive(Drop)]

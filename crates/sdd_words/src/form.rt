@@ -173,7 +173,8 @@ pub fn read_settings(alloc: Global, words: &[Word]) -> Result<Option<Vec<Setting
     }
 }
 
-fn is_not_empty(words: &[Word]) -> bool
+/// Whether there are words. Takes no memory.
+pub fn has_words(words: &[Word]) -> bool
     ensures { result ≡ not_empty words.now }
 {
     match words {
@@ -198,12 +199,12 @@ fn all_free(words: &[Word]) -> bool
 pub fn look_like_columns(words: &[Word]) -> bool
     ensures { result ≡ look_like_columns words.now }
 {
-    is_not_empty(words) && all_look_like_columns(words)
+    has_words(words) && all_look_like_columns(words)
 }
 
 /// Whether there are words, and none is a keyword. Takes no memory.
 pub fn are_free(words: &[Word]) -> bool
     ensures { result ≡ are_free words.now }
 {
-    is_not_empty(words) && all_free(words)
+    has_words(words) && all_free(words)
 }

@@ -18,7 +18,7 @@ mod word;
 mod write;
 
 pub use form::{
-    Comparison, Comparisons, Setting, Settings, are_free, cut_at, look_like_columns,
+    Comparison, Comparisons, Setting, Settings, are_free, cut_at, has_words, look_like_columns,
     read_comparisons, read_settings, split_from,
 };
 pub use keyword::{
