@@ -1,2 +1,4 @@
 pub mod Each
+pub mod Lists
 pub mod Marks
+pub mod Pieces

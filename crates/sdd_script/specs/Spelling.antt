@@ -5,6 +5,7 @@ use Rattle.std.specs.Fmt.{decimal, signed_decimal}
 use Rattle.sdd_base.specs.declared.event.Event.{Event}
 use Rattle.sdd_base.specs.declared.event.Event.TheVariants.{Submit, Deliver, Lose, Repeat, Resend, Tick, Settle}
 use Rattle.sdd_base.specs.declared.number.RelNo.{RelNo}
+use Rattle.sdd_base.specs.declared.number.TmNo.{TmNo}
 use Rattle.sdd_base.specs.declared.restriction.Op.TheVariants.{Eq}
 use Rattle.sdd_base.specs.declared.site.Site.{Site}
 use Rattle.sdd_base.specs.declared.site.Site.TheVariants.{U, T, D}
@@ -22,7 +23,6 @@ use Rattle.sdd_lang.specs.declared.statement.Stmt.{Stmt}
 use Rattle.sdd_lang.specs.declared.statement.Stmt.TheVariants as statements
 use Rattle.sdd_lang.specs.declared.transaction.Txn.{Txn}
 use Rattle.sdd_words.specs.Keywords.{op_word}
-use Rattle.sdd_words.specs.Lines.{spelled_lines}
 use Rattle.sdd_words.specs.Words.{line_bytes}
 use Rattle.sdd_words.specs.declared.word.Word.{Word}
 use Rattle.sdd_words.specs.declared.word.Word.TheVariants.{Plain, Quoted}
@@ -71,14 +71,22 @@ abbrev pub sets_words : Catalogue → RelNo → List Assign → List Word
 sets_words cat rel [] = []
 sets_words cat rel (a ∷ sets) = assign_words cat rel a ++ sets_words cat rel sets
 
+abbrev pub query_words : Catalogue → List Ref → List RelNo → List Condition → List Word
+query_words cat out rels conds =
+    Plain (codes "query") ∷ (map (column_word cat rels) out ++ Plain (codes "from") ∷ (map (relation_word cat) rels ++ where_words cat rels conds))
+
+abbrev pub update_words : Catalogue → RelNo → List Assign → List Condition → List Word
+update_words cat rel sets conds =
+    Plain (codes "update") ∷ relation_word cat rel ∷ Plain (codes "set") ∷ (sets_words cat rel sets ++ where_words cat (rel ∷ []) conds)
+
+abbrev pub delete_words : Catalogue → RelNo → List Condition → List Word
+delete_words cat rel conds = Plain (codes "delete") ∷ relation_word cat rel ∷ where_words cat (rel ∷ []) conds
+
 abbrev pub statement_words : Catalogue → Stmt → List Word
 statement_words cat (statements.Put rel row) = Plain (codes "put") ∷ row_words cat rel row
-statement_words cat (statements.Query out rels conds) =
-    Plain (codes "query") ∷ (map (column_word cat rels) out ++ Plain (codes "from") ∷ (map (relation_word cat) rels ++ where_words cat rels conds))
-statement_words cat (statements.Update rel sets conds) =
-    Plain (codes "update") ∷ relation_word cat rel ∷ Plain (codes "set") ∷ (sets_words cat rel sets ++ where_words cat (rel ∷ []) conds)
-statement_words cat (statements.Delete rel conds) =
-    Plain (codes "delete") ∷ relation_word cat rel ∷ where_words cat (rel ∷ []) conds
+statement_words cat (statements.Query out rels conds) = query_words cat out rels conds
+statement_words cat (statements.Update rel sets conds) = update_words cat rel sets conds
+statement_words cat (statements.Delete rel conds) = delete_words cat rel conds
 
 abbrev pub site_word : Site → Word
 site_word U = Plain (codes "U")
@@ -103,8 +111,8 @@ event_words txns Settle = Plain (codes "settle") ∷ []
 abbrev pub start_words : Catalogue → RelNo × List Value → List Word
 start_words cat r = Plain (codes "row") ∷ row_words cat r.0 r.1
 
-abbrev pub header_words : Txn → List Word
-header_words t = Plain (codes "txn") ∷ Plain t.name ∷ site_word (T t.tm) ∷ []
+abbrev pub header_words : List ℕ → TmNo → List Word
+header_words name tm = Plain (codes "txn") ∷ Plain name ∷ site_word (T tm) ∷ []
 
 abbrev pub done_words : List Word
 done_words = Plain (codes "done") ∷ []
@@ -114,11 +122,18 @@ end_words = Plain (codes "end") ∷ []
 
 -- the lines of a transaction
 abbrev pub txn_lines : Catalogue → Txn → List (List Word)
-txn_lines cat t = header_words t ∷ (map (statement_words cat) t.statements ++ done_words ∷ [])
+txn_lines cat t = header_words t.name t.tm ∷ (map (statement_words cat) t.statements ++ done_words ∷ [])
 
 -- rows, transactions, events, `end`
 abbrev pub lines_of : Catalogue → Workload → List (List Word)
 lines_of cat w = map (start_words cat) w.rows ++ flat_map (txn_lines cat) w.txns ++ map (event_words w.txns) w.events ++ end_words ∷ []
 
+-- a line and its newline
+abbrev pub ended : List Word → List ℕ
+ended words = line_bytes words ++ 10 ∷ []
+
+abbrev pub txn_bytes : Catalogue → Txn → List ℕ
+txn_bytes cat t = flat_map ended (txn_lines cat t)
+
 abbrev pub spelling : Catalogue → Workload → List ℕ
-spelling cat w = spelled_lines (map line_bytes (lines_of cat w))
+spelling cat w = flat_map ended (lines_of cat w)

@@ -17,6 +17,8 @@ mod statements;
 mod values;
 mod walk;
 mod workload;
+mod write_lines;
+mod write_words;
 
 pub use fault::{Counts, LineError, WorkError, WorkFault, WorkRule};
 pub use found::Found;
@@ -27,3 +29,4 @@ pub use place::{Header, Place};
 pub use state::State;
 pub use walk::read_workload;
 pub use workload::{StartRows, Txns, Workload};
+pub use write_lines::write_workload;

@@ -11,3 +11,4 @@ pub mod Splits
 pub mod Texts
 pub mod Utf8
 pub mod Writes
+pub mod Written

@@ -19,6 +19,10 @@ abbrev pub word_bytes : Word → List ℕ
 word_bytes (Plain bytes) = bytes
 word_bytes (Quoted text) = 34 ∷ (escaped text ++ 34 ∷ [])
 
+-- a word behind a space
+abbrev pub spaced : Word → List ℕ
+spaced w = 32 ∷ word_bytes w
+
 -- further words, each behind one space
 abbrev pub more_bytes : List Word → List ℕ
 more_bytes [] = []
