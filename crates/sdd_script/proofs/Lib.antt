@@ -1,4 +1,6 @@
 pub mod Each
+pub mod Exits
+pub mod FewColumns
 pub mod Lists
 pub mod Marks
 pub mod Pieces

@@ -3,7 +3,12 @@ use Rattle.std.proofs.Common.{◌≡◌, ℕ, List, [], ◌∷◌, ◌++◌, map
 use Rattle.sdd_words.specs.declared.word.Word.{Word}
 use Rattle.sdd_words.specs.declared.word.Word.TheVariants.{Plain}
 use Rattle.sdd_words.specs.Words.{word_bytes, more_bytes, line_bytes, spaced}
-use Rattle.sdd_words.proofs.Written.{words_spaced, more_bytes-append}
+use Rattle.sdd_words.proofs.Written.{words_spaced, more_bytes-append, flat_map-append, flat_map-map, flat_map-flat_map}
+use Rattle.sdd_script.specs.Spelling.{ended}
+
+-- one piece more
+pub after : {a t : List ℕ} (b s : List ℕ) → a ≡ b ++ s → b ≡ t → a ≡ t ++ s
+after b s e f = e ∙ ap (λ (l : List ℕ). l ++ s) f
 
 pub one_word : (out : List ℕ) (a : Word) → out ++ spaced a ≡ out ++ more_bytes (a ∷ [])
 one_word out a = ap (λ (l : List ℕ). out ++ l) (sym (append-nil (spaced a)))
@@ -59,3 +64,30 @@ update_pieces out key a b ws vs =
 
 pub delete_pieces : (out key : List ℕ) (a : Word) (ws : List Word) → ((out ++ key) ++ spaced a) ++ more_bytes ws ≡ out ++ line_bytes (Plain key ∷ a ∷ ws)
 delete_pieces out key a ws = append_assoc (out ++ key) (spaced a) (more_bytes ws) ∙ keyed out key (a ∷ ws)
+
+-- the lines of a transaction
+pub txn_pieces : {A : Type 0} (out : List ℕ) (h : List Word) (f : A → List Word) (xs : List A) (d : List Word)
+    → ((out ++ ended h) ++ flat_map (λ x. ended (f x)) xs) ++ ended d ≡ out ++ flat_map ended (h ∷ (map f xs ++ d ∷ []))
+txn_pieces out h f xs d =
+    append_assoc (out ++ ended h) (flat_map (λ x. ended (f x)) xs) (ended d)
+    ∙ append_assoc out (ended h) (flat_map (λ x. ended (f x)) xs ++ ended d)
+    ∙ ap (λ (l : List ℕ). out ++ (ended h ++ (l ++ ended d))) (sym (flat_map-map ended f xs))
+    ∙ ap (λ (l : List ℕ). out ++ (ended h ++ (flat_map ended (map f xs) ++ l))) (sym (append-nil (ended d)))
+    ∙ ap (λ (l : List ℕ). out ++ (ended h ++ l)) (sym (flat_map-append ended (map f xs) (d ∷ [])))
+
+-- the lines of a workload
+pub work_pieces : {A B C : Type 0} (f : A → List Word) (xs : List A) (g : B → List (List Word)) (ys : List B) (h : C → List Word) (zs : List C) (e : List Word)
+    → ((flat_map (λ x. ended (f x)) xs ++ flat_map (λ y. flat_map ended (g y)) ys) ++ flat_map (λ z. ended (h z)) zs) ++ ended e
+    ≡ flat_map ended (((map f xs ++ flat_map g ys) ++ map h zs) ++ e ∷ [])
+work_pieces f xs g ys h zs e =
+    let a : flat_map (λ x. ended (f x)) xs ++ flat_map (λ y. flat_map ended (g y)) ys ≡ flat_map ended (map f xs ++ flat_map g ys) =
+    ap (λ (l : List ℕ). l ++ flat_map (λ y. flat_map ended (g y)) ys) (sym (flat_map-map ended f xs))
+    ∙ ap (λ (l : List ℕ). flat_map ended (map f xs) ++ l) (sym (flat_map-flat_map ended g ys))
+    ∙ sym (flat_map-append ended (map f xs) (flat_map g ys)) in
+    let b : (flat_map (λ x. ended (f x)) xs ++ flat_map (λ y. flat_map ended (g y)) ys) ++ flat_map (λ z. ended (h z)) zs ≡ flat_map ended ((map f xs ++ flat_map g ys) ++ map h zs) =
+    ap (λ (l : List ℕ). l ++ flat_map (λ z. ended (h z)) zs) a
+    ∙ ap (λ (l : List ℕ). flat_map ended (map f xs ++ flat_map g ys) ++ l) (sym (flat_map-map ended h zs))
+    ∙ sym (flat_map-append ended (map f xs ++ flat_map g ys) (map h zs)) in
+    ap (λ (l : List ℕ). l ++ ended e) b
+    ∙ ap (λ (l : List ℕ). flat_map ended ((map f xs ++ flat_map g ys) ++ map h zs) ++ l) (sym (append-nil (ended e)))
+    ∙ sym (flat_map-append ended ((map f xs ++ flat_map g ys) ++ map h zs) (e ∷ []))

@@ -60,11 +60,12 @@ query_behind_from cat columns rels rest =
     known BadLine (conditions_form rest) >>= λ comparisons.
     query_of_parts cat columns rels comparisons
 
+abbrev pub query_with : Catalogue → List Word → List Word → Result Stmt WorkRule
+query_with cat columns behind = query_behind_from cat columns (up_to (codes "where") behind) (from_key (codes "where") behind)
+
 -- query: columns, `from`, relations, and perhaps conditions
 abbrev pub query_of : Catalogue → List Word → Result Stmt WorkRule
-query_of cat words =
-    known BadLine (cut_at (codes "from") words) >>= λ (cut : List Word × List Word).
-    query_behind_from cat cut.0 (up_to (codes "where") cut.1) (from_key (codes "where") cut.1)
+query_of cat words = known BadLine (cut_at (codes "from") words) >>= λ (cut : List Word × List Word). query_with cat cut.0 cut.1
 
 -- the number that is added; a text is of another kind
 abbrev pub addend_of : Word → Result ℤ WorkRule
@@ -106,11 +107,14 @@ update_behind_set cat name sets rest =
     known BadLine (settings sets) >>= λ found.
     update_with cat name found rest
 
+abbrev pub update_to : Catalogue → Word → List Word → Result Stmt WorkRule
+update_to cat name words = update_behind_set cat name (up_to (codes "where") words) (from_key (codes "where") words)
+
 -- update: a relation, `set`, assignments, and perhaps conditions
 abbrev pub update_of : Catalogue → List Word → Result Stmt WorkRule
 update_of cat (name ∷ key ∷ words) =
     must BadLine (is_key (codes "set") key) >>= λ _.
-    update_behind_set cat name (up_to (codes "where") words) (from_key (codes "where") words)
+    update_to cat name words
 update_of cat _ = Err BadLine
 
 -- the relation, the conditions

@@ -62,6 +62,7 @@ fn column_in(columns: &[Column], part: u32, name: &[u8]) -> Result<Found, LineEr
 }
 
 /// The column of a use that bytes name.
+#[tactic(auto, using(crate::proofs::FewColumns::few_columns))]
 fn column_of_use_in(cat: &Catalogue, parts: &[Option<u32>], bytes: &[u8]) -> Result<Found, LineError>
     ensures { Gives (λ f. f) result (column_of_use cat.now parts.now (Plain bytes.now)) }
 {

@@ -2,7 +2,7 @@
 ghost use Rattle.std.specs.Prelude.{◌≡◌, ◌∷◌, [], map, IfOk, Some, codes};
 ghost use Rattle.sdd_words.specs.Steps.{each_at};
 ghost use Rattle.sdd_script.specs.Rules.{Gives};
-ghost use Rattle.sdd_script.specs.Statements.{put_of, listed_column, part_of, parts_of, query_of_parts, query_behind_from, query_of, addend_of, add_of, to_of, assign_of, update_of_parts, update_with, update_behind_set, update_of, delete_of_parts, delete_of, statement_of};
+ghost use Rattle.sdd_script.specs.Statements.{put_of, listed_column, part_of, parts_of, query_of_parts, query_behind_from, query_with, query_of, addend_of, add_of, to_of, assign_of, update_of_parts, update_with, update_behind_set, update_to, update_of, delete_of_parts, delete_of, statement_of};
 
 use crate::columns::{read_column, read_conditions};
 use crate::fault::{LineError, WorkRule};
@@ -133,15 +133,20 @@ fn read_query_behind_from(alloc: Global, cat: &Catalogue, columns: &[Word], rels
     }
 }
 
+fn read_query_with(alloc: Global, cat: &Catalogue, columns: &[Word], behind: &[Word]) -> Result<Stmt, LineError>
+    ensures { Gives (λ s. s) result (query_with cat.now columns.now behind.now) }
+{
+    let key = b"where".as_slice();
+    let (rels, rest) = split_from(behind, key);
+    read_query_behind_from(alloc, cat, columns, rels, rest)
+}
+
 /// A query, by its columns, `from`, its relations, and its conditions.
 fn read_query(alloc: Global, cat: &Catalogue, words: &[Word]) -> Result<Stmt, LineError>
     ensures { Gives (λ s. s) result (query_of cat.now words.now) }
 {
     match cut_at(words, b"from".as_slice()) {
-        Some((columns, behind)) => {
-            let (rels, rest) = split_from(behind, b"where".as_slice());
-            read_query_behind_from(alloc, cat, columns, rels, rest)
-        }
+        Some((columns, behind)) => read_query_with(alloc, cat, columns, behind),
         None => Err(LineError::Broken(WorkRule::BadLine)),
     }
 }
@@ -270,6 +275,14 @@ fn read_update_form(alloc: Global, cat: &Catalogue, name: &Word, sets: &[Setting
     }
 }
 
+fn read_update_to(alloc: Global, cat: &Catalogue, name: &Word, words: &[Word]) -> Result<Stmt, LineError>
+    ensures { Gives (λ s. s) result (update_to cat.now name.now words.now) }
+{
+    let key = b"where".as_slice();
+    let (sets, rest) = split_from(words, key);
+    read_update_behind_set(alloc, cat, name, sets, rest)
+}
+
 /// An update, by its relation, `set`, its assignments, and its conditions.
 fn read_update(alloc: Global, cat: &Catalogue, words: &[Word]) -> Result<Stmt, LineError>
     ensures { Gives (λ s. s) result (update_of cat.now words.now) }
@@ -279,8 +292,7 @@ fn read_update(alloc: Global, cat: &Catalogue, words: &[Word]) -> Result<Stmt, L
             if !has_key(b"set".as_slice(), key) {
                 return Err(LineError::Broken(WorkRule::BadLine));
             }
-            let (sets, rest) = split_from(words, b"where".as_slice());
-            read_update_behind_set(alloc, cat, name, sets, rest)
+            read_update_to(alloc, cat, name, words)
         }
         _ => Err(LineError::Broken(WorkRule::BadLine)),
     }

@@ -49,7 +49,6 @@ fn put_put(out: &mut Vec<u8>, cat: &Catalogue, rel: RelNo, row: &[Value]) -> Res
     put_row(out, cat, rel, row)
 }
 
-#[tactic(auto, using(crate::proofs::Pieces::query_pieces))]
 fn put_query(out: &mut Vec<u8>, cat: &Catalogue, columns: &[Ref], rels: &[RelNo], conds: &[Condition]) -> Result<(), NoMemory>
     ensures { OnOk result (out.new.items ≡ out.old.items ++ line_bytes (query_words cat.now columns.now rels.now conds.now)) }
 {
@@ -57,10 +56,10 @@ fn put_query(out: &mut Vec<u8>, cat: &Catalogue, columns: &[Ref], rels: &[RelNo]
     put_columns(out, cat, rels, columns)?;
     put_plain(out, b"from")?;
     put_relations(out, cat, rels)?;
-    put_conditions(out, cat, rels, conds)
+    put_conditions(out, cat, rels, conds)?;
+    Ok(())
 }
 
-#[tactic(auto, using(crate::proofs::Pieces::update_pieces))]
 fn put_update(out: &mut Vec<u8>, cat: &Catalogue, rel: RelNo, sets: &[Assign], conds: &[Condition]) -> Result<(), NoMemory>
     ensures { OnOk result (out.new.items ≡ out.old.items ++ line_bytes (update_words cat.now rel sets.now conds.now)) }
 {
@@ -68,7 +67,8 @@ fn put_update(out: &mut Vec<u8>, cat: &Catalogue, rel: RelNo, sets: &[Assign], c
     put_relation(out, cat, rel)?;
     put_plain(out, b"set")?;
     put_assigns(out, cat, rel, sets)?;
-    put_conditions(out, cat, &[rel], conds)
+    put_conditions(out, cat, &[rel], conds)?;
+    Ok(())
 }
 
 #[tactic(auto, using(crate::proofs::Pieces::delete_pieces))]
@@ -131,7 +131,8 @@ fn put_txn(out: &mut Vec<u8>, cat: &Catalogue, txn: &Txn) -> Result<(), NoMemory
 {
     put_header(out, txn.name.as_str().as_bytes(), txn.tm)?;
     put_statements(out, cat, txn.statements.as_slice())?;
-    put(out, b"done\n")
+    put(out, b"done\n")?;
+    Ok(())
 }
 
 #[tactic(auto, using(crate::proofs::Lists::written))]

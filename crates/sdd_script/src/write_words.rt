@@ -62,12 +62,12 @@ pub fn put_relation(out: &mut Vec<u8>, cat: &Catalogue, rel: RelNo) -> Result<()
 }
 
 /// Puts a relation's name and a row.
-#[tactic(auto, using(crate::proofs::Pieces::word_and_items))]
 pub fn put_row(out: &mut Vec<u8>, cat: &Catalogue, rel: RelNo, row: &[Value]) -> Result<(), NoMemory>
     ensures { OnOk result (out.new.items ≡ out.old.items ++ more_bytes (row_words cat.now rel row.now)) }
 {
     put_relation(out, cat, rel)?;
-    put_values(out, row)
+    put_values(out, row)?;
+    Ok(())
 }
 
 fn rel_of(rels: &[RelNo], part: u32) -> u32
