@@ -1,6 +1,10 @@
+pub mod ColumnLaws
 pub mod Each
 pub mod Exits
 pub mod FewColumns
 pub mod Lists
 pub mod Marks
+pub mod NamingLaws
 pub mod Pieces
+pub mod SiteLaws
+pub mod ValueLaws

@@ -63,7 +63,11 @@ fn column_in(columns: &[Column], part: u32, name: &[u8]) -> Result<Found, LineEr
 
 /// The column of a use that bytes name.
 #[tactic(auto, using(crate::proofs::FewColumns::few_columns))]
-fn column_of_use_in(cat: &Catalogue, parts: &[Option<u32>], bytes: &[u8]) -> Result<Found, LineError>
+fn column_of_use_in(
+    cat: &Catalogue,
+    parts: &[Option<u32>],
+    bytes: &[u8],
+) -> Result<Found, LineError>
     ensures { Gives (λ f. f) result (column_of_use cat.now parts.now (Plain bytes.now)) }
 {
     let (number, name) = parts_at_point(bytes);
@@ -102,7 +106,12 @@ fn read_const(alloc: Global, left: Found, op: Op, right: &Word) -> Result<Condit
     }
 }
 
-fn read_same(cat: &Catalogue, parts: &[Option<u32>], left: Found, right: &Word) -> Result<Condition, LineError>
+fn read_same(
+    cat: &Catalogue,
+    parts: &[Option<u32>],
+    left: Found,
+    right: &Word,
+) -> Result<Condition, LineError>
     ensures { Gives (λ c. c) result (same_of cat.now parts.now left right.now) }
 {
     match read_column(cat, parts, right) {
@@ -120,7 +129,12 @@ fn read_same(cat: &Catalogue, parts: &[Option<u32>], left: Found, right: &Word) 
     }
 }
 
-fn read_condition(alloc: Global, cat: &Catalogue, parts: &[Option<u32>], words: &Comparison) -> Result<Condition, LineError>
+fn read_condition(
+    alloc: Global,
+    cat: &Catalogue,
+    parts: &[Option<u32>],
+    words: &Comparison,
+) -> Result<Condition, LineError>
     ensures { Gives (λ c. c) result (condition_of cat.now parts.now words.now) }
 {
     match read_column(cat, parts, &words.left) {
@@ -140,7 +154,12 @@ fn read_condition(alloc: Global, cat: &Catalogue, parts: &[Option<u32>], words: 
 
 /// The conditions of a statement on the relations of these parts.
 #[tactic(auto, using(crate::proofs::Each::each_loop))]
-pub fn read_conditions(alloc: Global, cat: &Catalogue, parts: &[Option<u32>], words: &[Comparison]) -> Result<Vec<Condition>, LineError>
+pub fn read_conditions(
+    alloc: Global,
+    cat: &Catalogue,
+    parts: &[Option<u32>],
+    words: &[Comparison],
+) -> Result<Vec<Condition>, LineError>
     ensures { Gives (λ v. v.items) result (conditions_of cat.now parts.now words.now) }
 {
     let mut conds = Vec::new(alloc);

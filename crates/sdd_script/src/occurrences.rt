@@ -279,7 +279,13 @@ fn read_settle(words: &[Word]) -> Result<Event, LineError>
 }
 
 /// An event, by its first word and the words behind it, among transactions with these names.
-pub fn read_event(alloc: Global, cat: &Catalogue, names: &Names, key: EventKey, words: &[Word]) -> Result<Event, LineError>
+pub fn read_event(
+    alloc: Global,
+    cat: &Catalogue,
+    names: &Names,
+    key: EventKey,
+    words: &[Word],
+) -> Result<Event, LineError>
     ensures { Gives (λ e. e) result (event_of key cat.now names.now words.now) }
 {
     match key {

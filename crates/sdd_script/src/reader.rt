@@ -23,7 +23,12 @@ use sdd_words::{Word, are_free, are_sound, read_name, split_line, stands_free, t
 use std::alloc::Global;
 use std::mem;
 
-fn row_line(alloc: Global, cat: &Catalogue, state: &mut State, words: &[Word]) -> Result<(), LineError>
+fn row_line(
+    alloc: Global,
+    cat: &Catalogue,
+    state: &mut State,
+    words: &[Word],
+) -> Result<(), LineError>
     ensures { Gives (λ _. state.new) result (row_rules cat.now state.old words.now) }
 {
     match words {
@@ -82,7 +87,12 @@ fn open_txn(alloc: Global, state: &mut State, name: Name, tm: TmNo) -> Result<()
     }
 }
 
-fn txn_line(alloc: Global, cat: &Catalogue, state: &mut State, words: &[Word]) -> Result<(), LineError>
+fn txn_line(
+    alloc: Global,
+    cat: &Catalogue,
+    state: &mut State,
+    words: &[Word],
+) -> Result<(), LineError>
     ensures { Gives (λ _. state.new) result (txn_rules cat.now state.old words.now) }
 {
     match words {
@@ -120,7 +130,13 @@ fn add_statement(state: &mut State, statement: Stmt) -> Result<(), LineError>
     }
 }
 
-fn statement_line(alloc: Global, cat: &Catalogue, state: &mut State, key: StatementKey, words: &[Word]) -> Result<(), LineError>
+fn statement_line(
+    alloc: Global,
+    cat: &Catalogue,
+    state: &mut State,
+    key: StatementKey,
+    words: &[Word],
+) -> Result<(), LineError>
     ensures { Gives (λ _. state.new) result (statement_rules state.old (statement_of key cat.now words.now)) }
 {
     if !state.place.takes_statements() {
@@ -203,7 +219,13 @@ fn add_event(state: &mut State, event: Event) -> Result<(), LineError>
     }
 }
 
-fn event_line(alloc: Global, cat: &Catalogue, state: &mut State, key: EventKey, words: &[Word]) -> Result<(), LineError>
+fn event_line(
+    alloc: Global,
+    cat: &Catalogue,
+    state: &mut State,
+    key: EventKey,
+    words: &[Word],
+) -> Result<(), LineError>
     ensures { Gives (λ _. state.new) result (event_rules state.old (event_of key cat.now state.old.names words.now)) }
 {
     if !state.place.takes_events() {
@@ -230,7 +252,13 @@ fn end_line(state: &mut State, words: &[Word]) -> Result<(), LineError>
     }
 }
 
-fn read_keyword_line(alloc: Global, cat: &Catalogue, state: &mut State, keyword: Keyword, words: &[Word]) -> Result<(), LineError>
+fn read_keyword_line(
+    alloc: Global,
+    cat: &Catalogue,
+    state: &mut State,
+    keyword: Keyword,
+    words: &[Word],
+) -> Result<(), LineError>
     ensures { Gives (λ _. state.new) result (keyword_rules keyword cat.now state.old words.now) }
 {
     match keyword {
@@ -243,7 +271,12 @@ fn read_keyword_line(alloc: Global, cat: &Catalogue, state: &mut State, keyword:
     }
 }
 
-fn read_words(alloc: Global, cat: &Catalogue, state: &mut State, words: &[Word]) -> Result<(), LineError>
+fn read_words(
+    alloc: Global,
+    cat: &Catalogue,
+    state: &mut State,
+    words: &[Word],
+) -> Result<(), LineError>
     ensures { Gives (λ _. state.new) result (words_rules cat.now state.old words.now) }
 {
     match words {
@@ -255,7 +288,12 @@ fn read_words(alloc: Global, cat: &Catalogue, state: &mut State, words: &[Word])
     }
 }
 
-fn read_sound_words(alloc: Global, cat: &Catalogue, state: &mut State, words: &[Word]) -> Result<(), LineError>
+fn read_sound_words(
+    alloc: Global,
+    cat: &Catalogue,
+    state: &mut State,
+    words: &[Word],
+) -> Result<(), LineError>
     ensures { Gives (λ _. state.new) result (sound_rules cat.now state.old words.now) }
 {
     if !are_sound(words) {
@@ -266,7 +304,12 @@ fn read_sound_words(alloc: Global, cat: &Catalogue, state: &mut State, words: &[
 
 /// What the lines have said with one line more. Where it has a fault, the state is not used again.
 #[tactic(auto, unfolding(crate::specs::LineRules::line_rules))]
-pub fn read_line(alloc: Global, cat: &Catalogue, state: &mut State, line: &[u8]) -> Result<(), LineError>
+pub fn read_line(
+    alloc: Global,
+    cat: &Catalogue,
+    state: &mut State,
+    line: &[u8],
+) -> Result<(), LineError>
     ensures { Gives (λ _. state.new) result (line_rules cat.now state.old line.now) }
 {
     match text_of(line) {

@@ -52,7 +52,12 @@ fn read_parts(alloc: Global, cat: &Catalogue, rels: &[Word]) -> Result<Vec<Optio
 }
 
 #[tactic(auto, using(crate::proofs::Each::each_loop))]
-fn read_listed(alloc: Global, cat: &Catalogue, parts: &[Option<u32>], words: &[Word]) -> Result<Vec<Ref>, LineError>
+fn read_listed(
+    alloc: Global,
+    cat: &Catalogue,
+    parts: &[Option<u32>],
+    words: &[Word],
+) -> Result<Vec<Ref>, LineError>
     ensures { Gives (λ v. v.items) result (each_at (λ i w. listed_column cat.now parts.now w) 0 words.now) }
 {
     let mut out = Vec::new(alloc);
@@ -95,7 +100,13 @@ fn read_relations(alloc: Global, cat: &Catalogue, words: &[Word]) -> Result<Vec<
 }
 
 #[tactic(auto, using(crate::proofs::Each::fails_bind), unfolding(crate::specs::Statements::query_of_parts))]
-fn read_query_parts(alloc: Global, cat: &Catalogue, columns: &[Word], rels: &[Word], words: &[Comparison]) -> Result<Stmt, LineError>
+fn read_query_parts(
+    alloc: Global,
+    cat: &Catalogue,
+    columns: &[Word],
+    rels: &[Word],
+    words: &[Comparison],
+) -> Result<Stmt, LineError>
     ensures { Gives (λ s. s) result (query_of_parts cat.now columns.now rels.now words.now) }
 {
     let parts = read_parts(alloc, cat, rels)?;
@@ -118,7 +129,13 @@ fn read_query_parts(alloc: Global, cat: &Catalogue, columns: &[Word], rels: &[Wo
     })
 }
 
-fn read_query_behind_from(alloc: Global, cat: &Catalogue, columns: &[Word], rels: &[Word], rest: &[Word]) -> Result<Stmt, LineError>
+fn read_query_behind_from(
+    alloc: Global,
+    cat: &Catalogue,
+    columns: &[Word],
+    rels: &[Word],
+    rest: &[Word],
+) -> Result<Stmt, LineError>
     ensures { Gives (λ s. s) result (query_behind_from cat.now columns.now rels.now rest.now) }
 {
     if !(look_like_columns(columns) && are_free(rels)) {
@@ -133,7 +150,12 @@ fn read_query_behind_from(alloc: Global, cat: &Catalogue, columns: &[Word], rels
     }
 }
 
-fn read_query_with(alloc: Global, cat: &Catalogue, columns: &[Word], behind: &[Word]) -> Result<Stmt, LineError>
+fn read_query_with(
+    alloc: Global,
+    cat: &Catalogue,
+    columns: &[Word],
+    behind: &[Word],
+) -> Result<Stmt, LineError>
     ensures { Gives (λ s. s) result (query_with cat.now columns.now behind.now) }
 {
     let key = b"where".as_slice();
@@ -190,7 +212,12 @@ fn read_to(alloc: Global, found: Found, word: &Word) -> Result<Assign, LineError
     }
 }
 
-fn read_assign(alloc: Global, cat: &Catalogue, rel: u32, words: &Setting) -> Result<Assign, LineError>
+fn read_assign(
+    alloc: Global,
+    cat: &Catalogue,
+    rel: u32,
+    words: &Setting,
+) -> Result<Assign, LineError>
     ensures { Gives (λ a. a) result (assign_of cat.now rel words.now) }
 {
     match read_column(cat, &[Some(rel)], &words.left) {
@@ -209,7 +236,12 @@ fn read_assign(alloc: Global, cat: &Catalogue, rel: u32, words: &Setting) -> Res
 }
 
 #[tactic(auto, using(crate::proofs::Each::each_loop))]
-fn read_assigns(alloc: Global, cat: &Catalogue, rel: u32, words: &[Setting]) -> Result<Vec<Assign>, LineError>
+fn read_assigns(
+    alloc: Global,
+    cat: &Catalogue,
+    rel: u32,
+    words: &[Setting],
+) -> Result<Vec<Assign>, LineError>
     ensures { Gives (λ v. v.items) result (each_at (λ i s. assign_of cat.now rel s) 0 words.now) }
 {
     let mut sets = Vec::new(alloc);
@@ -226,7 +258,13 @@ fn read_assigns(alloc: Global, cat: &Catalogue, rel: u32, words: &[Setting]) -> 
 }
 
 #[tactic(auto, using(crate::proofs::Each::fails_bind), unfolding(crate::specs::Statements::update_of_parts))]
-fn read_update_parts(alloc: Global, cat: &Catalogue, name: &Word, sets: &[Setting], words: &[Comparison]) -> Result<Stmt, LineError>
+fn read_update_parts(
+    alloc: Global,
+    cat: &Catalogue,
+    name: &Word,
+    sets: &[Setting],
+    words: &[Comparison],
+) -> Result<Stmt, LineError>
     ensures { Gives (λ s. s) result (update_of_parts cat.now name.now sets.now words.now) }
 {
     let rel = match relation_of(cat, name) {
@@ -248,7 +286,13 @@ fn read_update_parts(alloc: Global, cat: &Catalogue, name: &Word, sets: &[Settin
     })
 }
 
-fn read_update_behind_set(alloc: Global, cat: &Catalogue, name: &Word, sets: &[Word], rest: &[Word]) -> Result<Stmt, LineError>
+fn read_update_behind_set(
+    alloc: Global,
+    cat: &Catalogue,
+    name: &Word,
+    sets: &[Word],
+    rest: &[Word],
+) -> Result<Stmt, LineError>
     ensures { Gives (λ s. s) result (update_behind_set cat.now name.now sets.now rest.now) }
 {
     if !(stands_free(name) && has_words(sets)) {
@@ -263,7 +307,13 @@ fn read_update_behind_set(alloc: Global, cat: &Catalogue, name: &Word, sets: &[W
     }
 }
 
-fn read_update_form(alloc: Global, cat: &Catalogue, name: &Word, sets: &[Setting], rest: &[Word]) -> Result<Stmt, LineError>
+fn read_update_form(
+    alloc: Global,
+    cat: &Catalogue,
+    name: &Word,
+    sets: &[Setting],
+    rest: &[Word],
+) -> Result<Stmt, LineError>
     ensures { Gives (λ s. s) result (update_with cat.now name.now sets.now rest.now) }
 {
     match read_comparisons(alloc, rest) {
@@ -275,7 +325,12 @@ fn read_update_form(alloc: Global, cat: &Catalogue, name: &Word, sets: &[Setting
     }
 }
 
-fn read_update_to(alloc: Global, cat: &Catalogue, name: &Word, words: &[Word]) -> Result<Stmt, LineError>
+fn read_update_to(
+    alloc: Global,
+    cat: &Catalogue,
+    name: &Word,
+    words: &[Word],
+) -> Result<Stmt, LineError>
     ensures { Gives (λ s. s) result (update_to cat.now name.now words.now) }
 {
     let key = b"where".as_slice();
@@ -298,7 +353,12 @@ fn read_update(alloc: Global, cat: &Catalogue, words: &[Word]) -> Result<Stmt, L
     }
 }
 
-fn read_delete_parts(alloc: Global, cat: &Catalogue, name: &Word, words: &[Comparison]) -> Result<Stmt, LineError>
+fn read_delete_parts(
+    alloc: Global,
+    cat: &Catalogue,
+    name: &Word,
+    words: &[Comparison],
+) -> Result<Stmt, LineError>
     ensures { Gives (λ s. s) result (delete_of_parts cat.now name.now words.now) }
 {
     let rel = match relation_of(cat, name) {
@@ -336,7 +396,12 @@ fn read_delete(alloc: Global, cat: &Catalogue, words: &[Word]) -> Result<Stmt, L
 }
 
 /// A statement, by its first word and the words behind it.
-pub fn read_statement(alloc: Global, cat: &Catalogue, key: StatementKey, words: &[Word]) -> Result<Stmt, LineError>
+pub fn read_statement(
+    alloc: Global,
+    cat: &Catalogue,
+    key: StatementKey,
+    words: &[Word],
+) -> Result<Stmt, LineError>
     ensures { Gives (λ s. s) result (statement_of key cat.now words.now) }
 {
     match key {

@@ -94,7 +94,12 @@ fn read_values(alloc: Global, columns: &[Column], words: &[Word]) -> Result<Vec<
 
 /// A relation and a row of it, by the relation's name and the values.
 #[tactic(auto, using(crate::proofs::Each::fails_bind), unfolding(crate::specs::Values::row_of))]
-pub fn read_row(alloc: Global, cat: &Catalogue, name: &Word, words: &[Word]) -> Result<(RelNo, Row), LineError>
+pub fn read_row(
+    alloc: Global,
+    cat: &Catalogue,
+    name: &Word,
+    words: &[Word],
+) -> Result<(RelNo, Row), LineError>
     ensures { Gives (λ r. r) result (row_of cat.now name.now words.now) }
 {
     match relation_of(cat, name) {

@@ -65,7 +65,12 @@ fn nothing_read(alloc: Global) -> State
 }
 
 #[tactic(auto, unfolding(crate::specs::Walk::walk))]
-fn read_lines(alloc: Global, cat: &Catalogue, state: State, bytes: &[u8]) -> Result<State, WorkError>
+fn read_lines(
+    alloc: Global,
+    cat: &Catalogue,
+    state: State,
+    bytes: &[u8],
+) -> Result<State, WorkError>
     requires { length bytes.now ≤ 2 ^ 26 }
     ensures { Tells result (walk_bytes cat.now 1 state bytes.now) }
 {

@@ -49,7 +49,13 @@ fn put_put(out: &mut Vec<u8>, cat: &Catalogue, rel: RelNo, row: &[Value]) -> Res
     put_row(out, cat, rel, row)
 }
 
-fn put_query(out: &mut Vec<u8>, cat: &Catalogue, columns: &[Ref], rels: &[RelNo], conds: &[Condition]) -> Result<(), NoMemory>
+fn put_query(
+    out: &mut Vec<u8>,
+    cat: &Catalogue,
+    columns: &[Ref],
+    rels: &[RelNo],
+    conds: &[Condition],
+) -> Result<(), NoMemory>
     ensures { OnOk result (out.new.items ≡ out.old.items ++ line_bytes (query_words cat.now columns.now rels.now conds.now)) }
 {
     put(out, b"query")?;
@@ -60,7 +66,13 @@ fn put_query(out: &mut Vec<u8>, cat: &Catalogue, columns: &[Ref], rels: &[RelNo]
     Ok(())
 }
 
-fn put_update(out: &mut Vec<u8>, cat: &Catalogue, rel: RelNo, sets: &[Assign], conds: &[Condition]) -> Result<(), NoMemory>
+fn put_update(
+    out: &mut Vec<u8>,
+    cat: &Catalogue,
+    rel: RelNo,
+    sets: &[Assign],
+    conds: &[Condition],
+) -> Result<(), NoMemory>
     ensures { OnOk result (out.new.items ≡ out.old.items ++ line_bytes (update_words cat.now rel sets.now conds.now)) }
 {
     put(out, b"update")?;
@@ -72,7 +84,12 @@ fn put_update(out: &mut Vec<u8>, cat: &Catalogue, rel: RelNo, sets: &[Assign], c
 }
 
 #[tactic(auto, using(crate::proofs::Pieces::delete_pieces))]
-fn put_delete(out: &mut Vec<u8>, cat: &Catalogue, rel: RelNo, conds: &[Condition]) -> Result<(), NoMemory>
+fn put_delete(
+    out: &mut Vec<u8>,
+    cat: &Catalogue,
+    rel: RelNo,
+    conds: &[Condition],
+) -> Result<(), NoMemory>
     ensures { OnOk result (out.new.items ≡ out.old.items ++ line_bytes (delete_words cat.now rel conds.now)) }
 {
     put(out, b"delete")?;
@@ -89,7 +106,13 @@ fn put_statement_words(out: &mut Vec<u8>, cat: &Catalogue, statement: &Stmt) -> 
             out: columns,
             rels,
             conds,
-        } => put_query(out, cat, columns.as_slice(), rels.as_slice(), conds.as_slice()),
+        } => put_query(
+            out,
+            cat,
+            columns.as_slice(),
+            rels.as_slice(),
+            conds.as_slice(),
+        ),
         Stmt::Update { rel, sets, conds } => {
             put_update(out, cat, *rel, sets.as_slice(), conds.as_slice())
         }
@@ -167,7 +190,13 @@ fn put_place(out: &mut Vec<u8>, from: Site, to: Site, place: u32) -> Result<(), 
 }
 
 #[tactic(auto, using(crate::proofs::Pieces::keyed))]
-fn put_flight(out: &mut Vec<u8>, key: &[u8], from: Site, to: Site, place: u32) -> Result<(), NoMemory>
+fn put_flight(
+    out: &mut Vec<u8>,
+    key: &[u8],
+    from: Site,
+    to: Site,
+    place: u32,
+) -> Result<(), NoMemory>
     ensures { OnOk result (out.new.items ≡ out.old.items ++ line_bytes (Plain key.now ∷ site_word from ∷ site_word to ∷ count_word place ∷ [])) }
 {
     put(out, key)?;

@@ -62,7 +62,12 @@ pub fn put_relation(out: &mut Vec<u8>, cat: &Catalogue, rel: RelNo) -> Result<()
 }
 
 /// Puts a relation's name and a row.
-pub fn put_row(out: &mut Vec<u8>, cat: &Catalogue, rel: RelNo, row: &[Value]) -> Result<(), NoMemory>
+pub fn put_row(
+    out: &mut Vec<u8>,
+    cat: &Catalogue,
+    rel: RelNo,
+    row: &[Value],
+) -> Result<(), NoMemory>
     ensures { OnOk result (out.new.items ≡ out.old.items ++ more_bytes (row_words cat.now rel row.now)) }
 {
     put_relation(out, cat, rel)?;
@@ -89,18 +94,31 @@ fn name_of_column(columns: &[Column], column: u32) -> &[u8]
 }
 
 /// Puts a space and a column of a use.
-pub fn put_column(out: &mut Vec<u8>, cat: &Catalogue, rels: &[RelNo], column: Ref) -> Result<(), NoMemory>
+pub fn put_column(
+    out: &mut Vec<u8>,
+    cat: &Catalogue,
+    rels: &[RelNo],
+    column: Ref,
+) -> Result<(), NoMemory>
     ensures { OnOk result (out.new.items ≡ out.old.items ++ spaced (column_word cat.now rels.now column)) }
 {
     put(out, b" ")?;
     put_count(out, column.part)?;
     put(out, b".")?;
-    put(out, name_of_column(columns_of(cat, rel_of(rels, column.part)), column.column))
+    put(
+        out,
+        name_of_column(columns_of(cat, rel_of(rels, column.part)), column.column),
+    )
 }
 
 /// Puts columns of uses.
 #[tactic(auto, using(crate::proofs::Lists::written))]
-pub fn put_columns(out: &mut Vec<u8>, cat: &Catalogue, rels: &[RelNo], columns: &[Ref]) -> Result<(), NoMemory>
+pub fn put_columns(
+    out: &mut Vec<u8>,
+    cat: &Catalogue,
+    rels: &[RelNo],
+    columns: &[Ref],
+) -> Result<(), NoMemory>
     ensures { OnOk result (out.new.items ≡ out.old.items ++ flat_map (λ (r : Ref). spaced (column_word cat.now rels.now r)) columns.now) }
 {
     'columns: for column in columns {
@@ -140,7 +158,12 @@ fn op_word(op: Op) -> &'static [u8]
 }
 
 #[tactic(auto, using(crate::proofs::Pieces::three_words))]
-fn put_condition(out: &mut Vec<u8>, cat: &Catalogue, rels: &[RelNo], condition: &Condition) -> Result<(), NoMemory>
+fn put_condition(
+    out: &mut Vec<u8>,
+    cat: &Catalogue,
+    rels: &[RelNo],
+    condition: &Condition,
+) -> Result<(), NoMemory>
     ensures { OnOk result (out.new.items ≡ out.old.items ++ more_bytes (condition_words cat.now rels.now condition.now)) }
 {
     match condition {
@@ -157,7 +180,13 @@ fn put_condition(out: &mut Vec<u8>, cat: &Catalogue, rels: &[RelNo], condition: 
     }
 }
 
-fn put_keyed(out: &mut Vec<u8>, key: &[u8], cat: &Catalogue, rels: &[RelNo], condition: &Condition) -> Result<(), NoMemory>
+fn put_keyed(
+    out: &mut Vec<u8>,
+    key: &[u8],
+    cat: &Catalogue,
+    rels: &[RelNo],
+    condition: &Condition,
+) -> Result<(), NoMemory>
     ensures { OnOk result (out.new.items ≡ out.old.items ++ (spaced (Plain key.now) ++ more_bytes (condition_words cat.now rels.now condition.now))) }
 {
     put_plain(out, key)?;
@@ -166,7 +195,12 @@ fn put_keyed(out: &mut Vec<u8>, key: &[u8], cat: &Catalogue, rels: &[RelNo], con
 
 /// Puts conditions, the first behind `where` and each further one behind `and`.
 #[tactic(auto, using(crate::proofs::Lists::condition_more, crate::proofs::Lists::conditions_written))]
-pub fn put_conditions(out: &mut Vec<u8>, cat: &Catalogue, rels: &[RelNo], conditions: &[Condition]) -> Result<(), NoMemory>
+pub fn put_conditions(
+    out: &mut Vec<u8>,
+    cat: &Catalogue,
+    rels: &[RelNo],
+    conditions: &[Condition],
+) -> Result<(), NoMemory>
     ensures { OnOk result (out.new.items ≡ out.old.items ++ more_bytes (where_words cat.now rels.now conditions.now)) }
 {
     let mut key = b"where".as_slice();
@@ -188,17 +222,38 @@ fn put_addend(out: &mut Vec<u8>, by: &i64) -> Result<(), NoMemory>
 }
 
 #[tactic(auto, using(crate::proofs::Pieces::three_words))]
-fn put_assign(out: &mut Vec<u8>, cat: &Catalogue, rel: RelNo, assign: &Assign) -> Result<(), NoMemory>
+fn put_assign(
+    out: &mut Vec<u8>,
+    cat: &Catalogue,
+    rel: RelNo,
+    assign: &Assign,
+) -> Result<(), NoMemory>
     ensures { OnOk result (out.new.items ≡ out.old.items ++ more_bytes (assign_words cat.now rel assign.now)) }
 {
     match assign {
         Assign::To { column, value } => {
-            put_column(out, cat, &[rel], Ref { part: 1, column: *column })?;
+            put_column(
+                out,
+                cat,
+                &[rel],
+                Ref {
+                    part: 1,
+                    column: *column,
+                },
+            )?;
             put_plain(out, b"=")?;
             put_value(out, value)
         }
         Assign::Add { column, by } => {
-            put_column(out, cat, &[rel], Ref { part: 1, column: *column })?;
+            put_column(
+                out,
+                cat,
+                &[rel],
+                Ref {
+                    part: 1,
+                    column: *column,
+                },
+            )?;
             put_plain(out, b"+=")?;
             put_addend(out, by)
         }
@@ -207,7 +262,12 @@ fn put_assign(out: &mut Vec<u8>, cat: &Catalogue, rel: RelNo, assign: &Assign) -
 
 /// Puts assignments.
 #[tactic(auto, using(crate::proofs::Lists::assign_more, crate::proofs::Lists::assigns_written))]
-pub fn put_assigns(out: &mut Vec<u8>, cat: &Catalogue, rel: RelNo, assigns: &[Assign]) -> Result<(), NoMemory>
+pub fn put_assigns(
+    out: &mut Vec<u8>,
+    cat: &Catalogue,
+    rel: RelNo,
+    assigns: &[Assign],
+) -> Result<(), NoMemory>
     ensures { OnOk result (out.new.items ≡ out.old.items ++ more_bytes (sets_words cat.now rel assigns.now)) }
 {
     'assigns: for assign in assigns {
