@@ -1,4 +1,10 @@
 //! The workload file: its reader, which tells the first fault, and its writer.
+//!
+//! What the layer above gets: `read_workload` gives exactly what `workload` of `specs/Walk.antt` makes
+//! of the bytes, that is the workload or its first fault, and `write_workload` gives `spelling` of
+//! `specs/Spelling.antt`, the one spelling of a workload. `specs/LineRules.antt` has the rules of a
+//! line in the order in which they are judged, and `specs/Valid.antt` says which workloads a catalogue
+//! allows.
 #![tactic(auto)]
 
 mod columns;
