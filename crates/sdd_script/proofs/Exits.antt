@@ -6,7 +6,7 @@ use Rattle.sdd_words.specs.declared.form.Comparison.{Comparison}
 use Rattle.sdd_words.specs.declared.word.Word.{Word}
 use Rattle.sdd_base.specs.declared.number.RelNo.{RelNo}
 use Rattle.sdd_lang.specs.declared.condition.Ref.{Ref}
-use Rattle.std.proofs.Common.{Ok, Err}
+use Rattle.std.proofs.Common.{Ok}
 use Rattle.sdd_script.specs.Rules.{Fails}
 use Rattle.sdd_script.specs.Columns.{Parts, conditions_of}
 use Rattle.sdd_script.specs.Statements.{listed_column, part_of, parts_of, query_of_parts}

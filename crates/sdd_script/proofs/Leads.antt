@@ -1,15 +1,15 @@
 -- A file that is read is a run of lines that lead from state to state.
-use Rattle.std.proofs.Common.{◌≡◌, ℕ, ◌+◌, List, [], ◌∷◌, Bool, true, false, cond, Result, Ok, Err, Option, Some, None, refl, sym, ap, subst, ◌∙◌}
+use Rattle.std.proofs.Common.{◌≡◌, ℕ, ◌+◌, List, [], ◌∷◌, true, Result, Ok, Err, refl, ap, ◌∙◌}
 use Rattle.std.specs.List.{list_all}
 use Rattle.std.specs.Str.{is_utf8}
 use Rattle.sdd_catalog.specs.Catalogue.{Catalogue}
-use Rattle.sdd_words.specs.Scan.{scan, words_of}
+use Rattle.sdd_words.specs.Scan.{words_of}
 use Rattle.sdd_words.specs.Steps.{◌>>=◌, known, must}
 use Rattle.sdd_words.specs.Texts.{is_sound}
 use Rattle.sdd_words.specs.Words.{line_bytes, AreWords}
 use Rattle.sdd_words.specs.declared.word.Word.{Word}
 use Rattle.sdd_words.proofs.Splits.{scan_spelled, scan_words}
-use Rattle.sdd_words.proofs.StepLaws.{bind_ok, ok_is, known_ok, must_ok}
+use Rattle.sdd_words.proofs.StepLaws.{bind_ok, known_ok, must_ok}
 use Rattle.sdd_script.specs.LineRules.{line_rules, sound_rules, words_rules}
 use Rattle.sdd_script.specs.Walk.{at_line, one_line, tail_rules, walk}
 use Rattle.sdd_script.specs.declared.fault.WorkFault.{WorkFault}

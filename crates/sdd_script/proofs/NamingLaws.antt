@@ -1,17 +1,13 @@
 -- Relations by their names: what is found has the name, and each relation's name finds it.
-use Rattle.std.proofs.Common.{◌≡◌, ℕ, suc, zero, ◌+◌, ◌-◌, ◌<◌, ◌≤◌, List, [], ◌∷◌, length, map, Bool, true, false, cond, Option, Some, None, get_or, refl, sym, ap, subst, ◌∙◌, arith, inl, inr, ◌⊎◌}
-use Rattle.std.specs.Prelude.{slice_get}
-use Rattle.std.specs.List.{find, range_with_len}
-use Rattle.std.specs.Option.{option_map_or}
+use Rattle.std.proofs.Common.{◌≡◌, ℕ, ◌+◌, ◌<◌, ◌≤◌, List, length, true, Some, sym, ap, arith}
 use Rattle.std.specs.Str.{bytes_eq}
 use Rattle.std.proofs.lemmas.Slice.Eq.{bytes_eq-Decides}
-use Rattle.sdd_base.specs.declared.number.RelNo.{RelNo}
 use Rattle.sdd_catalog.specs.Catalogue.{Catalogue, numbers_to}
 use Rattle.sdd_catalog.proofs.Sound.{found_passes, found_has, each_in_range}
 use Rattle.sdd_lang.specs.Fits.{IsRelation}
 use Rattle.sdd_words.specs.declared.word.Word.{Word}
 use Rattle.sdd_words.specs.declared.word.Word.TheVariants.{Plain, Quoted}
-use Rattle.sdd_script.specs.Naming.{name_of_relation, relation_named, relation_of}
+use Rattle.sdd_script.specs.Naming.{name_of_relation, relation_of}
 use Rattle.sdd_script.specs.Spelling.{relation_word}
 use Rattle.sdd_script.specs.Values.{rel_no}
 

@@ -1,8 +1,8 @@
 -- Written pieces make words and lines.
-use Rattle.std.proofs.Common.{◌≡◌, ℕ, List, [], ◌∷◌, ◌++◌, map, flat_map, refl, sym, ap, ◌∙◌, append_assoc, append-nil}
+use Rattle.std.proofs.Common.{◌≡◌, ℕ, List, [], ◌∷◌, ◌++◌, map, flat_map, sym, ap, ◌∙◌, append_assoc, append-nil}
 use Rattle.sdd_words.specs.declared.word.Word.{Word}
 use Rattle.sdd_words.specs.declared.word.Word.TheVariants.{Plain}
-use Rattle.sdd_words.specs.Words.{word_bytes, more_bytes, line_bytes, spaced}
+use Rattle.sdd_words.specs.Words.{more_bytes, line_bytes, spaced}
 use Rattle.sdd_words.proofs.Written.{words_spaced, more_bytes-append, flat_map-append, flat_map-map, flat_map-flat_map}
 use Rattle.sdd_script.specs.Spelling.{ended}
 

@@ -1,12 +1,11 @@
 -- A relation and a row of it: what is read is spelled and fits, and what fits is read by its spelling.
-use Rattle.std.proofs.Common.{◌≡◌, ℕ, List, [], ◌∷◌, length, map, Bool, true, eqb, Option, Some, None, Result, Ok, Err, refl, sym, ap, subst, ◌∙◌}
+use Rattle.std.proofs.Common.{◌≡◌, ℕ, List, ◌∷◌, length, map, true, eqb, Some, Ok, refl, sym, ap, subst, ◌∙◌}
 use Rattle.std.specs.Prelude.{◌==◌}
 use Rattle.std.specs.List.{AllByRecursion}
 use Rattle.std.proofs.lemmas.Bool.{eqb-true, eq-eqb}
 use Rattle.sdd_base.specs.declared.number.RelNo.{RelNo}
 use Rattle.sdd_base.specs.declared.value.Value.{Value}
 use Rattle.sdd_catalog.specs.Catalogue.{Catalogue, relation_at}
-use Rattle.sdd_catalog.specs.declared.resolved.Column.{Column}
 use Rattle.sdd_lang.specs.Fits.{FitsStart, IsRelation, kind_of}
 use Rattle.sdd_words.specs.Steps.{◌>>=◌, known, must}
 use Rattle.sdd_words.specs.declared.word.Word.{Word}

@@ -1,7 +1,5 @@
 -- Values: what is read is spelled and fits, and what is spelled and fits is read.
-use Rattle.std.proofs.Common.{◌≡◌, ℕ, suc, zero, ◌^◌, ◌<◌, List, [], ◌∷◌, length, map, Bool, true, false, cond, Option, Some, None, Result, Ok, Err, IsTrue, refl, sym, ap, subst, ◌∙◌, arith}
-use Rattle.std.specs.Int.Signed.{mag}
-use Rattle.std.specs.Fmt.{signed_decimal}
+use Rattle.std.proofs.Common.{◌≡◌, ℕ, suc, List, [], ◌∷◌, length, map, Bool, true, false, cond, Some, None, Result, Ok, IsTrue, refl, sym, ap, subst, ◌∙◌, arith}
 use Rattle.std.specs.List.{AllByRecursion}
 use Rattle.std.proofs.lemmas.List.{length-map}
 use Rattle.sdd_base.specs.declared.value.Value.{Value}
@@ -12,7 +10,7 @@ use Rattle.sdd_catalog.specs.declared.resolved.Column.{Column}
 use Rattle.sdd_lang.specs.Fits.{kind_of}
 use Rattle.sdd_words.specs.Number.{number_of}
 use Rattle.sdd_words.specs.Texts.{is_text, text_in}
-use Rattle.sdd_words.specs.Steps.{◌>>=◌, known, must, each_at}
+use Rattle.sdd_words.specs.Steps.{◌>>=◌, known, must}
 use Rattle.sdd_words.specs.declared.word.Word.{Word}
 use Rattle.sdd_words.specs.declared.word.Word.TheVariants.{Plain, Quoted}
 use Rattle.sdd_words.proofs.Numbers.{number_takes, number_again}

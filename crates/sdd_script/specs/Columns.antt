@@ -1,10 +1,8 @@
 -- Columns of uses, and conditions, by their words.
-use Rattle.std.specs.Prelude.{ℕ, ◌+◌, ◌-◌, ◌^◌, ℤ, pos, negsuc, nat_lt, ◌==◌, ◌||◌, not, List, Bool, Option, Some, None, Result, Ok, Err, slice_get, if◌then◌else◌}
+use Rattle.std.specs.Prelude.{ℕ, ◌+◌, ◌-◌, ◌^◌, ℤ, pos, negsuc, nat_lt, ◌==◌, ◌||◌, not, List, Option, Some, None, Result, Ok, Err, slice_get, if◌then◌else◌}
 use Rattle.sdd_base.specs.declared.restriction.Op.{Op}
 use Rattle.sdd_catalog.specs.Catalogue.{Catalogue}
-use Rattle.sdd_catalog.specs.declared.parts.Kind.{Kind}
 use Rattle.sdd_catalog.specs.declared.resolved.Column.{Column}
-use Rattle.sdd_lang.specs.declared.condition.Ref.{Ref}
 use Rattle.sdd_lang.specs.declared.condition.Condition.{Condition}
 use Rattle.sdd_lang.specs.declared.condition.Condition.TheVariants.{Const, Same}
 use Rattle.sdd_words.specs.Keywords.{before_point, behind_point, names_column}

@@ -1,5 +1,5 @@
 -- Worked rows: files at one module of each kind, with the relation acct (id, bal) of whole numbers, of which id is the key.
-use Rattle.std.specs.Prelude.{◌≡◌, ℕ, pos, negsuc, List, [], ◌∷◌, codes, Ok, Err, Result, refl}
+use Rattle.std.specs.Prelude.{◌≡◌, ℕ, pos, negsuc, [], ◌∷◌, codes, Ok, Err, Result, refl}
 use Rattle.std.specs.Fmt.{digits}
 use Rattle.std.specs.Str.{is_utf8, chars}
 use Rattle.sdd_catalog.specs.Catalogue.{Catalogue}

@@ -1,5 +1,5 @@
 -- The rules of a line, by its first word. What the lines before it have said is a state, and a line makes the next one.
-use Rattle.std.specs.Prelude.{ℕ, ◌+◌, nat_lt, nat_le, ◌==◌, ◌&&◌, ◌||◌, not, List, [], ◌∷◌, ◌++◌, length, codes, Bool, true, false, Option, Some, None, is_some, Result, Ok, Err, if◌then◌else◌}
+use Rattle.std.specs.Prelude.{ℕ, ◌+◌, nat_lt, nat_le, ◌==◌, ◌&&◌, not, List, [], ◌∷◌, ◌++◌, length, Bool, false, Option, Some, None, is_some, Result, Ok, Err, if◌then◌else◌}
 use Rattle.std.specs.List.{position, list_any, list_all}
 use Rattle.std.specs.Str.{bytes_eq, is_utf8}
 use Rattle.sdd_base.specs.declared.event.Event.{Event}
@@ -7,12 +7,10 @@ use Rattle.sdd_base.specs.declared.event.Event.TheVariants.{Submit}
 use Rattle.sdd_base.specs.declared.number.RelNo.{RelNo}
 use Rattle.sdd_base.specs.declared.number.TmNo.{TmNo}
 use Rattle.sdd_base.specs.declared.number.TxnNo.{TxnNo}
-use Rattle.sdd_base.specs.declared.site.Site.{Site}
 use Rattle.sdd_base.specs.declared.value.Value.{Value}
 use Rattle.sdd_catalog.specs.Catalogue.{Catalogue}
 use Rattle.sdd_lang.specs.declared.statement.Stmt.{Stmt}
 use Rattle.sdd_lang.specs.declared.statement.Stmt.TheVariants as statements
-use Rattle.sdd_lang.specs.declared.transaction.Txn.{Txn}
 use Rattle.sdd_words.specs.Keywords.{is_free}
 use Rattle.sdd_words.specs.Forms.{are_free}
 use Rattle.sdd_words.specs.Names.{name_in}
@@ -31,7 +29,6 @@ use Rattle.sdd_script.specs.declared.fault.WorkRule.{WorkRule}
 use Rattle.sdd_script.specs.declared.fault.WorkRule.TheVariants.{NotUtf8, BadLine, UnknownName, DuplicateTxn, SubmittedTwice, TooMany}
 use Rattle.sdd_script.specs.declared.keyword.Keyword.{Keyword}
 use Rattle.sdd_script.specs.declared.keyword.Keyword.TheVariants as keys
-use Rattle.sdd_script.specs.declared.place.Header.{Header}
 use Rattle.sdd_script.specs.declared.place.Place.{Place}
 use Rattle.sdd_script.specs.declared.place.Place.TheVariants as places
 use Rattle.sdd_script.specs.declared.state.State.{State}

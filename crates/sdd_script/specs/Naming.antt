@@ -1,5 +1,5 @@
 -- Relations and columns by their names. Relations are numbered from 1; columns are placed from 0 here.
-use Rattle.std.specs.Prelude.{ℕ, ◌-◌, List, [], length, find, slice_get, Option, Some, None}
+use Rattle.std.specs.Prelude.{ℕ, ◌-◌, List, [], length, find, slice_get, Option, None}
 use Rattle.std.specs.Option.{option_map, option_map_or}
 use Rattle.std.specs.List.{position}
 use Rattle.std.specs.Str.{bytes_eq}

@@ -1,5 +1,5 @@
 -- Workloads that a catalogue allows, and the files that spell them.
-use Rattle.std.specs.Prelude.{ℕ, ◌+◌, ◌^◌, ◌≡◌, ◌≤◌, ◌<◌, ◌==◌, IsTrue, Bool, true, false, List, [], ◌∷◌, ◌++◌, map, sum_by, count_by, slice_index_or, length, Option, Some, None}
+use Rattle.std.specs.Prelude.{ℕ, ◌+◌, ◌^◌, ◌≡◌, ◌≤◌, ◌<◌, IsTrue, Bool, true, false, List, map, sum_by, count_by, slice_index_or, length, Option, Some, None}
 use Rattle.std.specs.Int.Signed.{mag}
 use Rattle.std.specs.List.{All, filter_map}
 use Rattle.sdd_base.specs.Name.{IsName}

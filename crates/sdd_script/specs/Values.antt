@@ -1,5 +1,5 @@
 -- Values and rows, by their words.
-use Rattle.std.specs.Prelude.{ℕ, List, length, ◌==◌, Bool, true, false, Option, Some, None, Result, Ok, Err}
+use Rattle.std.specs.Prelude.{ℕ, List, length, ◌==◌, Bool, true, false, Option, Some, None, Result, Ok}
 use Rattle.sdd_base.specs.declared.number.RelNo.{RelNo}
 use Rattle.sdd_base.specs.declared.value.Value.{Value}
 use Rattle.sdd_base.specs.declared.value.Value.TheVariants as values

@@ -1,4 +1,4 @@
-use Rattle.std.proofs.Common.{◌≡◌, ◌++◌, drop, flat_map}
+use Rattle.std.proofs.Common.{◌≡◌, ◌++◌, drop}
 use Rattle.sdd_words.specs.Words.{more_bytes}
 use Rattle.sdd_script.specs.Spelling.{conditions_words, where_words}
 use Rattle.sdd_script.proofs.write_words.put_conditions.Given as goal
