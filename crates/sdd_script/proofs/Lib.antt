@@ -1,0 +1,12 @@
+pub mod ColumnLaws
+pub mod Each
+pub mod Exits
+pub mod FewColumns
+pub mod Leads
+pub mod Lists
+pub mod Marks
+pub mod NamingLaws
+pub mod Pieces
+pub mod RowLaws
+pub mod SiteLaws
+pub mod ValueLaws
