@@ -36,3 +36,6 @@ pub use state::State;
 pub use walk::read_workload;
 pub use workload::{StartRows, Txns, Workload};
 pub use write_lines::write_workload;
+
+#[cfg(test)]
+mod tests;
