@@ -1,6 +1,7 @@
 pub mod Columns
 pub mod Examples
 pub mod FirstWords
+pub mod Laws
 pub mod LineRules
 pub mod Naming
 pub mod Occurrences
