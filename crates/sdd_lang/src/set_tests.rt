@@ -119,50 +119,49 @@ fn put(alloc: Global, id: i64) -> Result<Txn, Fail> {
     })
 }
 
-/// The numbers of the read set and of the write set, and the class.
-fn told(
+/// Whether these are the read set, the write set and the class.
+fn tells(
     alloc: Global,
     cat: &Catalogue,
     txn: &Txn,
-) -> Result<(Vec<FragNo>, Vec<FragNo>, ClassNo), Fail> {
+    reads: &[u32],
+    writes: &[u32],
+    class: u32,
+) -> Result<bool, Fail> {
     if !fits(cat, txn) {
         return Err("doesn't fit")?;
     }
-    Ok((
-        read_set(alloc, cat, txn)?,
-        write_set(alloc, cat, txn)?,
-        class_for(alloc, cat, txn)?,
-    ))
+    Ok(
+        are(&read_set(alloc, cat, txn)?, reads)
+            && are(&write_set(alloc, cat, txn)?, writes)
+            && class_for(alloc, cat, txn)?.0 == class,
+    )
 }
 
-/// The numbers, one digit each.
-fn digits(alloc: Global, frags: &[FragNo]) -> Result<String, Fail> {
-    let mut text = String::new(alloc);
-    for frag in frags {
-        text.push_str(match frag.0 {
-            1 => "1",
-            2 => "2",
-            _ => "other",
-        })?;
-    }
-    Ok(text)
+fn are(frags: &[FragNo], numbers: &[u32]) -> bool {
+    frags.iter().map(|frag| frag.0).eq(numbers.iter().copied())
 }
 
 #[test]
-fn restrictions_decide_what_is_read_and_keys_what_is_written(rt: HostRuntime) -> Result<(), Fail> {
+fn restrictions_decide_what_is_read(rt: HostRuntime) -> Result<(), Fail> {
     let alloc = rt.alloc();
     let cat = halves(alloc)?;
-    for (txn, reads, writes, class) in [
-        (query(alloc, (Op::Lt, 1), (Op::Gt, 5))?, "", "", 1),
-        (query(alloc, (Op::Le, 9), (Op::Ne, 3))?, "1", "", 1),
-        (query(alloc, (Op::Ne, 3), (Op::Ne, 30))?, "12", "", 2),
-        (put(alloc, 12)?, "", "2", 1),
-        (put(alloc, 9)?, "", "1", 0),
-    ] {
-        let (read, written, of) = told(alloc, &cat, &txn)?;
-        assert_eq!(rt; digits(alloc, &read)?.as_str(), reads);
-        assert_eq!(rt; digits(alloc, &written)?.as_str(), writes);
-        assert_eq!(rt; of.0, class);
-    }
+    let none = query(alloc, (Op::Lt, 1), (Op::Gt, 5))?;
+    assert!(rt; tells(alloc, &cat, &none, &[], &[], 1)?);
+    let low = query(alloc, (Op::Le, 9), (Op::Ne, 3))?;
+    assert!(rt; tells(alloc, &cat, &low, &[1], &[], 1)?);
+    let both = query(alloc, (Op::Ne, 3), (Op::Ne, 30))?;
+    assert!(rt; tells(alloc, &cat, &both, &[1, 2], &[], 2)?);
+    Ok(())
+}
+
+#[test]
+fn keys_decide_what_is_written(rt: HostRuntime) -> Result<(), Fail> {
+    let alloc = rt.alloc();
+    let cat = halves(alloc)?;
+    let high = put(alloc, 12)?;
+    assert!(rt; tells(alloc, &cat, &high, &[], &[2], 1)?);
+    let low = put(alloc, 9)?;
+    assert!(rt; tells(alloc, &cat, &low, &[], &[1], 0)?);
     Ok(())
 }
