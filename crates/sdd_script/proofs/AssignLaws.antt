@@ -34,7 +34,7 @@ use Rattle.sdd_script.specs.declared.fault.WorkRule.{WorkRule}
 use Rattle.sdd_script.specs.declared.fault.WorkRule.TheVariants.{BadNumber, WrongKind, KeyChanged}
 use Rattle.sdd_script.specs.declared.found.Found.{Found}
 use Rattle.sdd_script.proofs.StepLaws.{bind_ok, ok_is, must_then, known_ok, both_hold, Answer, each_ok, ok_each, not_true, three_same, some_of}
-use Rattle.sdd_script.proofs.ValueWordLaws.{value_takes, value_again, kind_int, kind_same, key_is}
+use Rattle.sdd_script.proofs.ValueLaws.{value_takes, value_again, kind_int, kind_same, key_is}
 use Rattle.sdd_script.proofs.WordLooks.{value_free, number_free}
 use Rattle.sdd_script.proofs.UseLaws.{IsKnown}
 use Rattle.sdd_script.proofs.RefLaws.{AreParts, ref_takes, ref_again, column_word_is}

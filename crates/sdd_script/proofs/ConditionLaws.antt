@@ -27,7 +27,7 @@ use Rattle.sdd_script.specs.declared.fault.WorkRule.{WorkRule}
 use Rattle.sdd_script.specs.declared.fault.WorkRule.TheVariants.{WrongKind}
 use Rattle.sdd_script.specs.declared.found.Found.{Found}
 use Rattle.sdd_script.proofs.StepLaws.{bind_ok, ok_is, must_then, both_hold, Answer, each_ok, ok_each, three_same, some_of}
-use Rattle.sdd_script.proofs.ValueWordLaws.{value_takes, value_again, same_kind, kind_same}
+use Rattle.sdd_script.proofs.ValueLaws.{value_takes, value_again, same_kind, kind_same}
 use Rattle.sdd_script.proofs.WordCuts.{key_is_that, is_key_again}
 use Rattle.sdd_script.proofs.WordLooks.{value_free, value_names_no_column}
 use Rattle.sdd_script.proofs.UseLaws.{IsKnown}

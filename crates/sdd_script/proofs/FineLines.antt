@@ -38,7 +38,7 @@ use Rattle.sdd_script.proofs.StepLaws.{both_hold}
 use Rattle.sdd_script.proofs.WordLooks.{IsFine, name_fine, number_fine, value_fine}
 use Rattle.sdd_script.proofs.UseLaws.{IsKnown}
 use Rattle.sdd_script.proofs.RefLaws.{AreParts, column_word_is}
-use Rattle.sdd_script.proofs.RowWordLaws.{FitsRowOf, row_fine}
+use Rattle.sdd_script.proofs.RowLaws.{FitsRowOf, row_fine}
 use Rattle.sdd_script.proofs.QueryLaws.{query_fits}
 use Rattle.sdd_script.proofs.UpdateLaws.{update_fits, one_part}
 use Rattle.sdd_script.proofs.EventLaws.{site_fine, place_fine}

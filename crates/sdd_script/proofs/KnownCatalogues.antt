@@ -31,7 +31,7 @@ use Rattle.sdd_script.proofs.Marks.{position-map}
 use Rattle.sdd_script.proofs.UseLaws.{IsKnown}
 use Rattle.sdd_script.proofs.NamePlaces.{place_of_name}
 use Rattle.sdd_script.proofs.ReadingLaws as reading
-use Rattle.sdd_script.proofs.ValueWordLaws.{columns_are, name_is}
+use Rattle.sdd_script.proofs.ValueLaws.{columns_are, name_is}
 use Rattle.sdd_script.proofs.WholeLaws.{read_again}
 
 no_column : Column

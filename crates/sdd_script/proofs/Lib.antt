@@ -1,5 +1,4 @@
 pub mod AssignLaws
-pub mod ColumnLaws
 pub mod ConditionLaws
 pub mod Each
 pub mod EventLaws
@@ -7,19 +6,15 @@ pub mod Exits
 pub mod FewColumns
 pub mod FineLines
 pub mod KnownCatalogues
-pub mod Leads
 pub mod LineLaws
 pub mod Lists
 pub mod Marks
 pub mod NamePlaces
-pub mod NamingLaws
 pub mod Pieces
 pub mod QueryLaws
 pub mod ReadingLaws
 pub mod RefLaws
 pub mod RowLaws
-pub mod RowWordLaws
-pub mod SiteLaws
 pub mod SoFar
 pub mod SoundStates
 pub mod SpellingLaws
@@ -27,7 +22,6 @@ pub mod StepLaws
 pub mod UpdateLaws
 pub mod UseLaws
 pub mod ValueLaws
-pub mod ValueWordLaws
 pub mod WholeLaws
 pub mod WordCuts
 pub mod WordLooks

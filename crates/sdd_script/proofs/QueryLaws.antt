@@ -35,7 +35,7 @@ use Rattle.sdd_script.proofs.WordLooks.{name_free}
 use Rattle.sdd_script.proofs.WordCuts.{NonePasses, cut_takes, cut_again, joined_again, key_is_that, before_again, from_again, all_before, none_from}
 use Rattle.sdd_script.proofs.UseLaws.{IsKnown, relation_takes, relation_again}
 use Rattle.sdd_script.proofs.RefLaws.{parts_for, AreParts, ref_takes, ref_again, column_word_is}
-use Rattle.sdd_script.proofs.RowWordLaws.{FitsRowOf, row_takes, row_again, row_free}
+use Rattle.sdd_script.proofs.RowLaws.{FitsRowOf, row_takes, row_again, row_free}
 use Rattle.sdd_script.proofs.ConditionLaws.{conditions_take, conditions_again, comparison_for, form_again}
 
 -- a statement that was read of the words behind its keyword

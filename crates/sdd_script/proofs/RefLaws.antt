@@ -25,7 +25,7 @@ use Rattle.sdd_script.specs.Naming.{columns_of, kind_of_place}
 use Rattle.sdd_script.specs.Spelling.{column_word, name_of_column}
 use Rattle.sdd_script.specs.declared.found.Found.{Found}
 use Rattle.sdd_script.proofs.StepLaws.{both_hold, some_is}
-use Rattle.sdd_script.proofs.ValueWordLaws.{columns_are}
+use Rattle.sdd_script.proofs.ValueLaws.{columns_are}
 use Rattle.sdd_script.proofs.WordCuts.{no_point}
 use Rattle.sdd_script.proofs.WordLooks.{IsFine, name_parts, names_no_point, column_fine, column_free, column_looks, column_spelled}
 use Rattle.sdd_script.proofs.UseLaws.{IsKnown, use_of_takes, use_again, kind_is}

@@ -43,7 +43,7 @@ use Rattle.sdd_script.specs.declared.place.Place.TheVariants as places
 use Rattle.sdd_script.specs.declared.state.State.{State}
 use Rattle.sdd_script.proofs.StepLaws.{bind_ok, ok_is, must_then, known_ok, both_hold, not_true, some_is, known_then}
 use Rattle.sdd_script.proofs.WordCuts.{NonePasses}
-use Rattle.sdd_script.proofs.RowWordLaws.{row_takes}
+use Rattle.sdd_script.proofs.RowLaws.{row_takes}
 use Rattle.sdd_script.proofs.QueryLaws.{IsStatement, limits_before}
 use Rattle.sdd_script.proofs.EventLaws.{tm_takes}
 use Rattle.sdd_script.proofs.NamePlaces.{none_any, none_found, repeats_not, distinct_more}

@@ -51,7 +51,7 @@ use Rattle.sdd_script.proofs.StepLaws.{both_are}
 use Rattle.sdd_script.proofs.WordCuts.{NonePasses}
 use Rattle.sdd_script.proofs.WordLooks.{name_free}
 use Rattle.sdd_script.proofs.UseLaws.{IsKnown}
-use Rattle.sdd_script.proofs.RowWordLaws.{FitsRowOf, row_again, row_free}
+use Rattle.sdd_script.proofs.RowLaws.{FitsRowOf, row_again, row_free}
 use Rattle.sdd_script.proofs.QueryLaws.{put_again, query_fits, query_again, limits_again}
 use Rattle.sdd_script.proofs.UpdateLaws.{update_fits, update_again, delete_again}
 use Rattle.sdd_script.proofs.EventLaws.{tm_again, site_free}

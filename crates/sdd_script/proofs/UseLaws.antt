@@ -29,7 +29,7 @@ use Rattle.sdd_script.specs.Values.{rel_no}
 use Rattle.sdd_script.specs.declared.fault.WorkRule.TheVariants.{BadNumber, UnknownName}
 use Rattle.sdd_script.specs.declared.found.Found.{Found}
 use Rattle.sdd_script.proofs.StepLaws.{ok_is, must_then, known_then, both_hold, some_is}
-use Rattle.sdd_script.proofs.ValueWordLaws.{columns_are}
+use Rattle.sdd_script.proofs.ValueLaws.{columns_are}
 use Rattle.sdd_script.proofs.WordCuts.{point_cut}
 use Rattle.sdd_script.proofs.WordLooks.{before_is, behind_is, decimal_is_whole}
 

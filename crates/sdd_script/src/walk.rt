@@ -1,7 +1,8 @@
 //! The lines of a workload, one after the other.
-ghost use Rattle.std.specs.Prelude.{◌≡◌, ◌≤◌, ◌^◌, length};
+ghost use Rattle.std.specs.Prelude.{◌≡◌, ◌≤◌, ◌^◌, length, IfOk};
 ghost use Rattle.sdd_script.specs.Rules.{Gives};
 ghost use Rattle.sdd_script.specs.Telling.{Tells};
+ghost use Rattle.sdd_script.specs.Valid.{Accepts};
 ghost use Rattle.sdd_script.specs.Walk.{one_line, tail_rules, walk_bytes, nothing_read, workload};
 
 use crate::fault::{LineError, WorkError, WorkFault, WorkRule};
@@ -96,10 +97,18 @@ fn read_lines(
 /// The workload that a file gives, or its first fault: that of the first line at fault, and on it the
 /// first rule that is broken.
 ///
+/// A workload that is given is one that the catalogue allows, and the bytes are its spelling.
 /// Costs time linear in the bytes, the relations and columns of the catalogue apart, which are looked
 /// through for each name. Costs memory linear in the bytes.
 pub fn read_workload(alloc: Global, bytes: &[u8], cat: &Catalogue) -> Result<Workload, WorkError>
     ensures exact { Tells result (workload cat.now bytes.now) }
+    ensures accepted { IfOk result (λ work. Accepts cat.now bytes.now work) }
+{
+    read_bytes(alloc, bytes, cat)
+}
+
+fn read_bytes(alloc: Global, bytes: &[u8], cat: &Catalogue) -> Result<Workload, WorkError>
+    ensures { Tells result (workload cat.now bytes.now) }
 {
     if bytes.len() > 67108864 {
         return Err(WorkError::Fault(WorkFault {
