@@ -1,6 +1,6 @@
 use crate::join::join;
 use crate::{Snapshot, effect};
-use sdd_base::{Name, RelNo, Reply, Row, RowList, TmNo, Value};
+use sdd_base::{Answers, Name, RelNo, Reply, Row, RowList, TmNo, Value};
 use sdd_catalog::{
     Catalogue, ClassParts, ColumnPart, ColumnParts, CopyNos, FragmentPart, FragmentParts, Kind,
     Parts, RelationPart, RelationParts,
@@ -135,6 +135,16 @@ fn three_way(alloc: Global) -> Result<Stmt, Fail> {
     })
 }
 
+/// One answer of one row.
+fn one_row(alloc: Global, values: &[i64]) -> Result<Reply, Fail> {
+    let mut row = Vec::new(alloc);
+    for value in values {
+        row.push(Value::Int(*value))?;
+    }
+    let rows = RowList::from_vec(vec![in alloc; Row::from_vec(row)]?);
+    Ok(Reply::Rows(Answers::from_vec(vec![in alloc; rows]?)))
+}
+
 #[test]
 fn three_uses_join(rt: HostRuntime) -> Result<(), Fail> {
     let alloc = rt.alloc();
@@ -147,14 +157,8 @@ fn three_uses_join(rt: HostRuntime) -> Result<(), Fail> {
         (2, 2, 2),
         (3, 1, 0),
     ];
-    match effect_of(alloc, three_way(alloc)?, &rows)?.reply {
-        Reply::Rows(answers) => {
-            let one = vec![in alloc; Value::Int(1), Value::Int(1), Value::Int(1)]?;
-            let found = RowList::from_vec(vec![in alloc; Row::from_vec(one)]?);
-            assert!(rt; answers.as_slice() == [found].as_slice());
-        }
-        _ => return Err("no rows")?,
-    }
+    let found = effect_of(alloc, three_way(alloc)?, &rows)?;
+    assert!(rt; found.reply == one_row(alloc, &[1, 1, 1])?);
     Ok(())
 }
 
