@@ -1,6 +1,6 @@
 -- What holds in every state, and that each line keeps it and adds itself to the lines before.
 use Rattle.std.proofs.Common.{◌≡◌, ℕ, ◌+◌, ◌<◌, ◌≤◌, List, [], ◌∷◌, ◌++◌, length, map, Bool, true, false, cond, ◌&&◌, Option, Some, None, Result, Ok, refl, sym, ap, subst, ◌∙◌, arith, append-nil}
-use Rattle.std.specs.Prelude.{codes, not, nat_lt, is_some, ◌||◌, ◌==◌, sum_by}
+use Rattle.std.specs.Prelude.{codes, not, nat_lt, is_some, ◌==◌, sum_by}
 use Rattle.std.specs.Str.{bytes_eq}
 use Rattle.std.specs.List.{All, position, filter_map}
 use Rattle.std.proofs.lemmas.Bool.{ltb-true}

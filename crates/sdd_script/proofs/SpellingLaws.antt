@@ -1,6 +1,6 @@
 -- The spelling of a workload that the catalogue allows is read as the workload.
 use Rattle.std.proofs.Common.{◌≡◌, ℕ, ◌+◌, ◌<◌, ◌≤◌, List, [], ◌∷◌, ◌++◌, length, map, flat_map, Bool, true, false, cond, ◌&&◌, ltb, Some, None, Result, Ok, Err, refl, sym, ap, subst, ◌∙◌, arith, append-nil, append_assoc, Option}
-use Rattle.std.specs.Prelude.{codes, not, nat_lt, is_some, sum_by, ◌||◌}
+use Rattle.std.specs.Prelude.{codes, not, nat_lt, is_some, sum_by}
 use Rattle.std.specs.Str.{bytes_eq}
 use Rattle.std.specs.List.{AllByRecursion, position}
 use Rattle.std.proofs.lemmas.Bool.{lt-ltb}
@@ -28,8 +28,8 @@ use Rattle.sdd_words.specs.Steps.{◌>>=◌, known, must}
 use Rattle.sdd_words.specs.Words.{line_bytes}
 use Rattle.sdd_words.specs.declared.word.Word.{Word}
 use Rattle.sdd_words.specs.declared.word.Word.TheVariants.{Plain}
-use Rattle.sdd_script.specs.LineRules.{keyword_rules, line_rules, words_rules, most_rows, most_txns, most_events, one_more_row, written_with, row_rules, name_of, opened, txn_rules, statement_limits, with_statement, statement_rules, closed, done_rules, is_submitted, with_submitted, with_event, event_rules, end_rules}
-use Rattle.sdd_script.specs.Occurrences.{tm_of, txn_no, number_named, txn_named, submit_of, flight_place, deliver_of, lose_of, repeat_of, resend_of, tick_of, settle_of}
+use Rattle.sdd_script.specs.LineRules.{keyword_rules, line_rules, most_rows, most_txns, one_more_row, written_with, name_of, opened, statement_limits, with_statement, statement_rules}
+use Rattle.sdd_script.specs.Occurrences.{tm_of}
 use Rattle.sdd_script.specs.Places.{takes_txns, is_ended}
 use Rattle.sdd_script.specs.Spelling.{value_word, relation_word, column_word, sets_words, where_words, row_words, start_words, header_words, statement_words, done_words, txn_lines, site_word}
 use Rattle.sdd_script.specs.Statements.{put_of, query_of, update_of, delete_of}
@@ -42,7 +42,6 @@ use Rattle.sdd_script.specs.declared.fault.WorkRule.TheVariants.{BadLine, Unknow
 use Rattle.sdd_script.specs.declared.keyword.Keyword.{Keyword}
 use Rattle.sdd_script.specs.declared.keyword.Keyword.TheVariants as keys
 use Rattle.sdd_script.specs.declared.keyword.StatementKey.TheVariants as skeys
-use Rattle.sdd_script.specs.declared.keyword.EventKey.TheVariants as ekeys
 use Rattle.sdd_script.specs.declared.place.Header.{Header}
 use Rattle.sdd_script.specs.declared.place.Place.{Place}
 use Rattle.sdd_script.specs.declared.place.Place.TheVariants as places

@@ -27,9 +27,8 @@ use Rattle.sdd_words.specs.declared.word.Word.{Word}
 use Rattle.sdd_words.specs.declared.word.Word.TheVariants.{Plain}
 use Rattle.sdd_words.proofs.Spelled.{cut_again}
 use Rattle.sdd_base.specs.declared.site.Site.{Site}
-use Rattle.sdd_script.proofs.LineLaws.{keyword_bytes}
-use Rattle.sdd_script.specs.LineRules.{keyword_rules, line_rules, words_rules, most_rows, most_txns, most_events, one_more_row, written_with, row_rules, name_of, opened, txn_rules, statement_limits, with_statement, statement_rules, closed, done_rules, is_submitted, with_submitted, with_event, event_rules, end_rules}
-use Rattle.sdd_script.specs.Occurrences.{tm_of, txn_no, number_named, txn_named, submit_of, flight_place, deliver_of, lose_of, repeat_of, resend_of, tick_of, settle_of}
+use Rattle.sdd_script.specs.LineRules.{most_events, is_submitted, with_submitted, with_event, event_rules}
+use Rattle.sdd_script.specs.Occurrences.{txn_no, number_named, txn_named, submit_of, deliver_of, lose_of, repeat_of, resend_of, tick_of, settle_of}
 use Rattle.sdd_script.specs.Places.{takes_txns, takes_events, is_ended}
 use Rattle.sdd_script.specs.Spelling.{start_words, event_words, end_words, name_of_txn, txn_lines, site_word, count_word, lines_of, spelling}
 use Rattle.sdd_script.specs.Valid.{IsValidRow, IsValidTxn, IsValidEvent, IsValid, rows_put_by, submitted_by, AreDistinct}
@@ -38,7 +37,6 @@ use Rattle.sdd_script.specs.declared.fault.Counts.TheVariants as counts
 use Rattle.sdd_script.specs.declared.fault.WorkRule.{WorkRule}
 use Rattle.sdd_script.specs.declared.fault.WorkRule.TheVariants.{BadLine, UnknownName, SubmittedTwice, TooMany, TooLong}
 use Rattle.sdd_script.specs.declared.keyword.Keyword.TheVariants as keys
-use Rattle.sdd_script.specs.declared.keyword.StatementKey.TheVariants as skeys
 use Rattle.sdd_script.specs.declared.keyword.EventKey.TheVariants as ekeys
 use Rattle.sdd_script.specs.declared.place.Place.{Place}
 use Rattle.sdd_script.specs.declared.place.Place.TheVariants as places
@@ -48,7 +46,7 @@ use Rattle.sdd_script.proofs.WordLooks.{name_fine, name_free}
 use Rattle.sdd_script.proofs.UseLaws.{IsKnown}
 use Rattle.sdd_script.proofs.EventLaws.{place_again, resend_again, tick_again}
 use Rattle.sdd_script.proofs.NamePlaces.{any_none, place_of_name, apart_from}
-use Rattle.sdd_script.proofs.SoundStates.{rows_put, names_of}
+use Rattle.sdd_script.proofs.SoundStates.{names_of}
 use Rattle.sdd_script.proofs.ReadingLaws.{name_at_number, lines_spelled}
 use Rattle.sdd_script.proofs.SpellingLaws.{IsStep, Chain, chain-append, chain_lines, chain_walk, line_step, state_of, of_rows, rows_chain, txns_chain}
 use Rattle.sdd_script.proofs.FineLines.{keyword_fine, NamesOne, event_fine}
