@@ -1,5 +1,5 @@
 use super::*;
-use sdd_base::{Answers, Name, Op, TmNo, Value};
+use sdd_base::{Name, Op, TmNo, Value};
 use sdd_catalog::{
     ClassParts, ColumnPart, ColumnParts, CopyNos, FragmentPart, FragmentParts, Kind, Parts,
     RelationPart, RelationParts,
@@ -155,20 +155,6 @@ fn rows_are_matched_in_the_order_of_their_keys(rt: HostRuntime) -> Result<(), Fa
     Ok(())
 }
 
-/// The reply of a transaction of these statements.
-fn reply(
-    alloc: Global,
-    cat: &Catalogue,
-    plain: &mut Plain,
-    statements: Vec<Stmt>,
-) -> Result<Reply, Fail> {
-    let txn = txn(alloc, statements)?;
-    if plain.live() && fits(cat, &txn) {
-        return Ok(plain.run(cat, &txn)?);
-    }
-    Err("doesn't fit")?
-}
-
 /// `put r 5 N`, `query 1.b from r`, and `update r set 1.b += 1`.
 fn put(alloc: Global, n: i64) -> Result<Stmt, Fail> {
     Ok(Stmt::Put {
@@ -193,13 +179,45 @@ fn add_one(alloc: Global) -> Result<Stmt, Fail> {
     })
 }
 
-/// One answer of at most one number.
-fn numbers(alloc: Global, found: &[i64]) -> Result<Reply, Fail> {
-    let mut rows = Vec::new(alloc);
-    for n in found {
-        rows.push(Row::from_vec(vec![in alloc; Value::Int(*n)]?))?;
+/// A statement for each letter: m puts the greatest number, 7 puts 7, + adds one, g queries.
+fn statement(alloc: Global, letter: u8) -> Result<Stmt, Fail> {
+    match letter {
+        b'm' => put(alloc, i64::MAX),
+        b'7' => put(alloc, 7),
+        b'+' => add_one(alloc),
+        _ => get(alloc),
     }
-    Ok(Reply::Rows(Answers::from_vec(vec![in alloc; RowList::from_vec(rows)]?)))
+}
+
+fn statements(alloc: Global, letters: &[u8]) -> Result<Vec<Stmt>, Fail> {
+    let mut statements = Vec::new(alloc);
+    for letter in letters {
+        statements.push(statement(alloc, *letter)?)?;
+    }
+    Ok(statements)
+}
+
+/// The reply of a transaction of these statements.
+fn reply(alloc: Global, cat: &Catalogue, plain: &mut Plain, letters: &[u8]) -> Result<Reply, Fail> {
+    let txn = txn(alloc, statements(alloc, letters)?)?;
+    if plain.live() && fits(cat, &txn) {
+        return Ok(plain.run(cat, &txn)?);
+    }
+    Err("doesn't fit")?
+}
+
+/// How many rows are answered, or None where the transaction failed.
+fn rows_in(reply: &Reply) -> Option<usize> {
+    match reply {
+        Reply::Rows(answers) => Some(
+            answers
+                .as_slice()
+                .iter()
+                .map(|rows| rows.as_slice().len())
+                .sum(),
+        ),
+        _ => None,
+    }
 }
 
 #[test]
@@ -207,11 +225,11 @@ fn transactions_see_what_stood_before_them(rt: HostRuntime) -> Result<(), Fail> 
     let alloc = rt.alloc();
     let cat = catalogue(alloc)?;
     let mut plain = Plain::new(alloc, &cat, &[])?;
-    let greatest = vec![in alloc; put(alloc, i64::MAX)?, get(alloc)?]?;
-    assert!(rt; reply(alloc, &cat, &mut plain, greatest)? == numbers(alloc, &[])?);
-    let over = vec![in alloc; put(alloc, 7)?, add_one(alloc)?]?;
-    assert!(rt; reply(alloc, &cat, &mut plain, over)? == Reply::Overflow);
-    let query = vec![in alloc; get(alloc)?]?;
-    assert!(rt; reply(alloc, &cat, &mut plain, query)? == numbers(alloc, &[i64::MAX])?);
+    // Its own put is not seen; a sum past the greatest number fails and undoes the put before it; so
+    // the next one overflows too.
+    for (letters, rows) in [("mg", Some(0)), ("g", Some(1)), ("7+", None), ("+", None)] {
+        let reply = reply(alloc, &cat, &mut plain, letters.as_bytes())?;
+        assert!(rt; rows_in(&reply) == rows, "at {letters}");
+    }
     Ok(())
 }
