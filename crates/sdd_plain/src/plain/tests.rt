@@ -206,16 +206,13 @@ fn reply(alloc: Global, cat: &Catalogue, plain: &mut Plain, letters: &[u8]) -> R
     Err("doesn't fit")?
 }
 
-/// How many rows are answered, or None where the transaction failed.
+/// How many rows the first query found, or None where the transaction failed.
 fn rows_in(reply: &Reply) -> Option<usize> {
     match reply {
-        Reply::Rows(answers) => Some(
-            answers
-                .as_slice()
-                .iter()
-                .map(|rows| rows.as_slice().len())
-                .sum(),
-        ),
+        Reply::Rows(answers) => match answers.as_slice() {
+            [] => Some(0),
+            [rows, ..] => Some(rows.as_slice().len()),
+        },
         _ => None,
     }
 }
