@@ -1,0 +1,282 @@
+-- Events: what is read is spelled and is there, and what is spelled and is there is read.
+use Rattle.std.proofs.Common.{◌≡◌, ◌≢◌, ℕ, ℤ, pos, negsuc, ◌^◌, ◌<◌, List, [], ◌∷◌, length, Bool, true, false, cond, ◌&&◌, ltb, Option, Some, None, Result, Ok, refl, ap, subst, ◌∙◌, arith}
+use Rattle.std.specs.Prelude.{nat_le, nat_lt, ◌==◌}
+use Rattle.std.specs.Option.{option_map}
+use Rattle.std.specs.Str.{IsUtf8}
+use Rattle.std.specs.Fmt.{decimal}
+use Rattle.std.proofs.lemmas.Bool.{eqb-true, ltb-true, lt-ltb}
+use Rattle.std.proofs.lemmas.Str.{IsUtf8-append, IsUtf8-from_ascii}
+use Rattle.std.proofs.lemmas.Str.Ascii.{IsAscii-cons, IsAscii-nil}
+use Rattle.sdd_base.specs.Sites.{are_linked}
+use Rattle.sdd_base.specs.declared.event.Event.{Event}
+use Rattle.sdd_base.specs.declared.event.Event.TheVariants.{Resend, Tick, Settle}
+use Rattle.sdd_base.specs.declared.number.DmNo.{DmNo}
+use Rattle.sdd_base.specs.declared.number.TmNo.{TmNo}
+use Rattle.sdd_base.specs.declared.site.Site.{Site}
+use Rattle.sdd_base.specs.declared.site.Site.TheVariants.{U, T, D}
+use Rattle.sdd_catalog.specs.Catalogue.{Catalogue}
+use Rattle.sdd_lang.specs.Fits.{IsFrom1To}
+use Rattle.sdd_words.specs.Keywords.{is_free}
+use Rattle.sdd_words.specs.Lines.{HasNoNewline}
+use Rattle.sdd_words.specs.Number.{number_of}
+use Rattle.sdd_words.specs.Steps.{◌>>=◌, must}
+use Rattle.sdd_words.specs.Words.{HasNoSpace, IsPlain}
+use Rattle.sdd_words.specs.declared.word.Word.{Word}
+use Rattle.sdd_words.specs.declared.word.Word.TheVariants.{Plain, Quoted}
+use Rattle.sdd_words.proofs.Numbers.{number_takes, number_again}
+use Rattle.sdd_script.specs.Occurrences.{from_one, numbered, tm_no, site_in, site_of, module_of, tm_of, link_of, greatest_count, count_of, flight_place, resend_of, tick_of, settle_of}
+use Rattle.sdd_script.specs.Spelling.{site_word, count_word}
+use Rattle.sdd_script.specs.Valid.{IsSite, IsLink}
+use Rattle.sdd_script.specs.declared.fault.WorkRule.{WorkRule}
+use Rattle.sdd_script.specs.declared.fault.WorkRule.TheVariants.{BadEvent, BadLine, BadNumber}
+use Rattle.sdd_script.proofs.StepLaws.{bind_ok, ok_is, must_then, known_ok, both_hold, both_are, le_of, of_le, some_is}
+use Rattle.sdd_script.proofs.WordLooks.{IsFine, count_fine, count_free}
+use Rattle.sdd_script.proofs.UseLaws.{IsKnown}
+
+-- ---- numbers from 1
+
+one_if : (most n k : ℕ) (b : Bool) → (nat_lt 0 n && nat_le n most) ≡ b → cond b (Some n) None ≡ Some k → (n ≡ k) × IsFrom1To most n
+one_if most n k false t e = absurd cc
+one_if most n k true t e = let h = both_hold (nat_lt 0 n) (nat_le n most) t in (some_is n k e, (omega (arith, ltb-true 0 n h.0), le_of n most h.1))
+
+one_takes : (most : ℕ) (bytes : List ℕ) (n : ℕ) (o : Option ℤ) → number_of bytes ≡ o → from_one most o ≡ Some n → (bytes ≡ decimal n) × IsFrom1To most n
+one_takes most bytes n None p e = absurd cc
+one_takes most bytes n (Some (negsuc k)) p e = absurd cc
+one_takes most bytes n (Some (pos k)) p e =
+    let h = one_if most k n (nat_lt 0 k && nat_le k most) refl e in
+    ((number_takes bytes (pos k) p).0 ∙ ap decimal h.0, subst (λ (x : ℕ). IsFrom1To most x) h.0 h.1)
+
+pub numbered_takes : (most : ℕ) (bytes : List ℕ) (n : ℕ) → numbered most bytes ≡ Some n → (bytes ≡ decimal n) × IsFrom1To most n
+numbered_takes most bytes n e = one_takes most bytes n (number_of bytes) refl e
+
+pub numbered_again : (most n : ℕ) → most < 2 ^ 63 → IsFrom1To most n → numbered most (decimal n) ≡ Some n
+numbered_again most n small h =
+    let a : number_of (decimal n) ≡ Some (pos n) = number_again (pos n) (omega (arith, h.1)) in
+    let b : ltb 0 n ≡ true = lt-ltb 0 n (omega (arith, h.0)) in
+    let c = of_le n most h.1 in
+    rw (a, b, c) refl
+
+-- ---- sites
+
+pub record IsSiteWord (cat : Catalogue) (w : Word) (site : Site) : Type 0 where
+  pub spelled : w ≡ site_word site
+  pub there : IsSite cat site
+
+abbrev some_site : Site → Option Site
+some_site s = Some s
+
+site_is : (x y : Site) → some_site x ≡ some_site y → x ≡ y
+site_is x y e = cc
+
+mapped : (f : ℕ → Site) (o : Option ℕ) (site : Site) → option_map f o ≡ Some site → (n : ℕ) × (o ≡ Some n) × (f n ≡ site)
+mapped f None site e = absurd cc
+mapped f (Some n) site e = (n, refl, site_is (f n) site e)
+
+abbrev dm_no : ℕ → DmNo
+dm_no n = record { 0 = n }
+
+empty_if : (ds : List ℕ) → (length ds == 0) ≡ true → ds ≡ []
+empty_if [] e = refl
+empty_if (c ∷ ds) e = let n : length (c ∷ ds) ≡ 0 = eqb-true (length (c ∷ ds)) 0 e in absurd (omega (arith, n))
+
+site_if : (cat : Catalogue) (c : ℕ) (ds : List ℕ) (site : Site) (u t d : Bool) → (c == 85 && (length ds == 0)) ≡ u → (c == 84) ≡ t → (c == 68) ≡ d
+    → cond u (Some U) (cond t (option_map (λ n. T (tm_no n)) (numbered cat.tms ds)) (cond d (option_map (λ n. D (dm_no n)) (numbered cat.dms ds)) None)) ≡ Some site
+    → IsSiteWord cat (Plain (c ∷ ds)) site
+site_if cat c ds site true t d p q r e =
+    let h = both_hold (c == 85) (length ds == 0) p in
+    let a : c ≡ 85 = eqb-true c 85 h.0 in
+    let b : ds ≡ [] = empty_if ds h.1 in
+    subst (λ (s : Site). IsSiteWord cat (Plain (c ∷ ds)) s) (site_is U site e) (record { spelled = ap (λ (x : ℕ). Plain (x ∷ ds)) a ∙ ap (λ (l : List ℕ). Plain (85 ∷ l)) b; there = tt })
+site_if cat c ds site false true d p q r e =
+    let m = mapped (λ n. T (tm_no n)) (numbered cat.tms ds) site e in
+    let n = numbered_takes cat.tms ds m.0 m.1 in
+    subst (λ (s : Site). IsSiteWord cat (Plain (c ∷ ds)) s) m.2 (record { spelled = ap (λ (x : ℕ). Plain (x ∷ ds)) (eqb-true c 84 q) ∙ ap (λ (l : List ℕ). Plain (84 ∷ l)) n.0; there = n.1 })
+site_if cat c ds site false false true p q r e =
+    let m = mapped (λ n. D (dm_no n)) (numbered cat.dms ds) site e in
+    let n = numbered_takes cat.dms ds m.0 m.1 in
+    subst (λ (s : Site). IsSiteWord cat (Plain (c ∷ ds)) s) m.2 (record { spelled = ap (λ (x : ℕ). Plain (x ∷ ds)) (eqb-true c 68 r) ∙ ap (λ (l : List ℕ). Plain (68 ∷ l)) n.0; there = n.1 })
+site_if cat c ds site false false false p q r e = absurd cc
+
+site_bytes : (cat : Catalogue) (bytes : List ℕ) (site : Site) → site_in cat bytes ≡ Some site → IsSiteWord cat (Plain bytes) site
+site_bytes cat [] site e = absurd cc
+site_bytes cat (c ∷ ds) site e = site_if cat c ds site (c == 85 && (length ds == 0)) (c == 84) (c == 68) refl refl refl e
+
+pub site_takes : (cat : Catalogue) (w : Word) (site : Site) → site_of cat w ≡ Ok site → IsSiteWord cat w site
+site_takes cat (Plain bytes) site e = site_bytes cat bytes site (known_ok BadEvent (site_in cat bytes) site e)
+site_takes cat (Quoted text) site e = absurd cc
+
+pub site_again : (cat : Catalogue) → IsKnown cat → (site : Site) → IsSite cat site → site_of cat (site_word site) ≡ Ok site
+site_again cat k U h = refl
+site_again cat k (T tm) h = let e = numbered_again cat.tms tm.0 (omega (arith, k.few_tms)) h in rw e refl
+site_again cat k (D dm) h = let e = numbered_again cat.dms dm.0 (omega (arith, k.few_dms)) h in rw e refl
+
+module_takes : (cat : Catalogue) (w : Word) (tm : TmNo) (site : Site) → IsSiteWord cat w site → module_of site ≡ Ok tm → (w ≡ site_word (T tm)) × IsFrom1To cat.tms tm.0
+module_takes cat w tm U h e = absurd cc
+module_takes cat w tm (D dm) h e = absurd cc
+module_takes cat w tm (T t) h e = let same : t ≡ tm = ok_is t tm e in (h.spelled ∙ ap (λ (x : TmNo). site_word (T x)) same, subst (λ (x : TmNo). IsFrom1To cat.tms x.0) same h.there)
+
+pub tm_takes : (cat : Catalogue) (w : Word) (tm : TmNo) → tm_of cat w ≡ Ok tm → (w ≡ site_word (T tm)) × IsFrom1To cat.tms tm.0
+tm_takes cat w tm e =
+    let a = bind_ok (site_of cat w) (λ site. module_of site) tm e in
+    module_takes cat w tm a.0 (site_takes cat w a.0 a.1) a.2
+
+pub tm_again : (cat : Catalogue) → IsKnown cat → (tm : TmNo) → IsFrom1To cat.tms tm.0 → tm_of cat (site_word (T tm)) ≡ Ok tm
+tm_again cat k tm h = let e = site_again cat k (T tm) h in rw e refl
+
+pub record IsLinkWords (cat : Catalogue) (from to : Word) (link : Site × Site) : Type 0 where
+  pub from_is : from ≡ site_word link.0
+  pub to_is : to ≡ site_word link.1
+  pub linked : IsLink cat link.0 link.1
+
+abbrev link : Site → Site → Site × Site
+link a b = (a, b)
+
+pub link_takes : (cat : Catalogue) (from to : Word) (l : Site × Site) → link_of cat from to ≡ Ok l → IsLinkWords cat from to l
+link_takes cat from to l e =
+    let a = bind_ok (site_of cat from) (λ a. site_of cat to >>= λ b. must BadEvent (are_linked a b) >>= λ _. Ok (link a b)) l e in
+    let b = bind_ok (site_of cat to) (λ b. must BadEvent (are_linked a.0 b) >>= λ _. Ok (link a.0 b)) l a.2 in
+    let c = must_then BadEvent (are_linked a.0 b.0) (λ _. Ok (link a.0 b.0)) l b.2 in
+    let f = site_takes cat from a.0 a.1 in
+    let t = site_takes cat to b.0 b.1 in
+    subst (λ (x : Site × Site). IsLinkWords cat from to x) (ok_is (link a.0 b.0) l c.1) (record { from_is = f.spelled; to_is = t.spelled; linked = (f.there, t.there, c.0) })
+
+pub link_again : (cat : Catalogue) → IsKnown cat → (from to : Site) → IsLink cat from to → link_of cat (site_word from) (site_word to) ≡ Ok (from, to)
+link_again cat k from to h =
+    let a = site_again cat k from h.0 in
+    let b = site_again cat k to h.1 in
+    let c : are_linked from to ≡ true = h.2 in
+    rw (a, b, c) refl
+
+pub count_takes : (w : Word) (n : ℕ) → count_of w ≡ Ok n → (w ≡ count_word n) × IsFrom1To greatest_count n
+count_takes (Plain bytes) n e = let h = numbered_takes greatest_count bytes n (known_ok BadNumber (numbered greatest_count bytes) n e) in (ap (λ (l : List ℕ). Plain l) h.0, h.1)
+count_takes (Quoted text) n e = absurd cc
+
+pub count_again : (n : ℕ) → IsFrom1To greatest_count n → count_of (count_word n) ≡ Ok n
+count_again n h = let e = numbered_again greatest_count n (omega arith) h in rw e refl
+
+-- ---- what the words look like
+
+literal : (c : ℕ) → c < 128 → IsUtf8 (c ∷ [])
+literal c lt = IsUtf8-from_ascii (c ∷ []) (IsAscii-cons c [] lt IsAscii-nil)
+
+lettered : (c : ℕ) (bytes : List ℕ) → c < 128 → c ≢ 10 → c ≢ 32 → c ≢ 34 → HasNoSpace bytes → HasNoNewline bytes → IsUtf8 bytes → IsFine (Plain (c ∷ bytes))
+lettered c bytes lt newline space quote s l u = record { word = (quote, space, s); utf8 = IsUtf8-append (c ∷ []) bytes (literal c lt) u; sound = refl; line = (newline, l) }
+
+plain_space : (bytes : List ℕ) → IsPlain bytes → HasNoSpace bytes
+plain_space [] h = absurd h
+plain_space (c ∷ bytes) h = (h.1, h.2)
+
+numbered_fine : (c n : ℕ) → c < 128 → c ≢ 10 → c ≢ 32 → c ≢ 34 → n < 2 ^ 63 → IsFine (Plain (c ∷ decimal n))
+numbered_fine c n lt newline space quote small = let f = count_fine n small in lettered c (decimal n) lt newline space quote (plain_space (decimal n) f.word) f.line f.utf8
+
+pub site_fine : (cat : Catalogue) → IsKnown cat → (site : Site) → IsSite cat site → IsFine (site_word site)
+site_fine cat k U h = lettered 85 [] (omega arith) (λ e. omega arith) (λ e. omega arith) (λ e. omega arith) tt tt (IsUtf8-from_ascii [] IsAscii-nil)
+site_fine cat k (T tm) h = numbered_fine 84 tm.0 (omega arith) (λ e. omega arith) (λ e. omega arith) (λ e. omega arith) (omega (arith, h.1, k.few_tms))
+site_fine cat k (D dm) h = numbered_fine 68 dm.0 (omega arith) (λ e. omega arith) (λ e. omega arith) (λ e. omega arith) (omega (arith, h.1, k.few_dms))
+
+pub site_free : (site : Site) → is_free (site_word site) ≡ true
+site_free U = refl
+site_free (T tm) = refl
+site_free (D dm) = refl
+
+pub place_free : (n : ℕ) → IsFrom1To greatest_count n → is_free (count_word n) ≡ true
+place_free n h = count_free n (omega (arith, h.1))
+
+pub place_fine : (n : ℕ) → IsFrom1To greatest_count n → IsFine (count_word n)
+place_fine n h = count_fine n (omega (arith, h.1))
+
+-- ---- events
+
+pub record IsPlaced (cat : Catalogue) (words : List Word) (p : Site × Site × ℕ) : Type 0 where
+  pub linked : IsLink cat p.0 p.1
+  pub placed : IsFrom1To greatest_count p.2
+  pub spelled : words ≡ site_word p.0 ∷ site_word p.1 ∷ count_word p.2 ∷ []
+
+three_words : (a b c d e f : Word) → a ≡ b → c ≡ d → e ≡ f → a ∷ c ∷ e ∷ [] ≡ b ∷ d ∷ f ∷ []
+three_words a b c d e f p q r = cc
+
+two_words : (a b c d : Word) → a ≡ b → c ≡ d → a ∷ c ∷ [] ≡ b ∷ d ∷ []
+two_words a b c d p q = cc
+
+abbrev flight : Site → Site → ℕ → Site × Site × ℕ
+flight from to place = (from, to, place)
+
+pub place_takes : (cat : Catalogue) (words : List Word) (p : Site × Site × ℕ) → flight_place cat words ≡ Ok p → IsPlaced cat words p
+place_takes cat [] p h = absurd cc
+place_takes cat (a ∷ []) p h = absurd cc
+place_takes cat (a ∷ b ∷ []) p h = absurd cc
+place_takes cat (from ∷ to ∷ place ∷ []) p h =
+    let a = must_then BadLine (is_free from && is_free to && is_free place) (λ _. link_of cat from to >>= λ (link : Site × Site). count_of place >>= λ k. Ok (flight link.0 link.1 k)) p h in
+    let b = bind_ok (link_of cat from to) (λ (link : Site × Site). count_of place >>= λ k. Ok (flight link.0 link.1 k)) p a.1 in
+    let c = bind_ok (count_of place) (λ k. Ok (flight b.0.0 b.0.1 k)) p b.2 in
+    let l = link_takes cat from to b.0 b.1 in
+    let n = count_takes place c.0 c.1 in
+    subst (λ (x : Site × Site × ℕ). IsPlaced cat (from ∷ to ∷ place ∷ []) x) (ok_is (flight b.0.0 b.0.1 c.0) p c.2)
+    (record { linked = l.linked; placed = n.1; spelled = three_words from (site_word b.0.0) to (site_word b.0.1) place (count_word c.0) l.from_is l.to_is n.0 })
+place_takes cat (a ∷ b ∷ c ∷ d ∷ rest) p h = absurd cc
+
+pub place_again : (cat : Catalogue) → IsKnown cat → (from to : Site) (place : ℕ) → IsLink cat from to → IsFrom1To greatest_count place → flight_place cat (site_word from ∷ site_word to ∷ count_word place ∷ []) ≡ Ok (flight from to place)
+place_again cat k from to place h n =
+    let f = both_are (is_free (site_word from) && is_free (site_word to)) (is_free (count_word place)) (both_are (is_free (site_word from)) (is_free (site_word to)) (site_free from) (site_free to)) (place_free place n) in
+    let a = link_again cat k from to h in
+    let b = count_again place n in
+    ap (λ (t : Bool). must BadLine t >>= λ _. link_of cat (site_word from) (site_word to) >>= λ (link : Site × Site). count_of (count_word place) >>= λ k. Ok (flight link.0 link.1 k)) f
+    ∙ ap (λ (r : Result (Site × Site) WorkRule). r >>= λ (link : Site × Site). count_of (count_word place) >>= λ k. Ok (flight link.0 link.1 k)) a
+    ∙ ap (λ (r : Result ℕ WorkRule). r >>= λ k. Ok (flight from to k)) b
+
+pub record IsResent (cat : Catalogue) (words : List Word) (e : Event) : Type 0 where
+  pub from : Site
+  pub to : Site
+  pub linked : IsLink cat from to
+  pub spelled : words ≡ site_word from ∷ site_word to ∷ []
+  pub is : Resend from to ≡ e
+
+pub resend_takes : (cat : Catalogue) (words : List Word) (e : Event) → resend_of cat words ≡ Ok e → IsResent cat words e
+resend_takes cat [] e h = absurd cc
+resend_takes cat (a ∷ []) e h = absurd cc
+resend_takes cat (from ∷ to ∷ []) e h =
+    let a = must_then BadLine (is_free from && is_free to) (λ _. link_of cat from to >>= λ (link : Site × Site). Ok (Resend link.0 link.1)) e h in
+    let b = bind_ok (link_of cat from to) (λ (link : Site × Site). Ok (Resend link.0 link.1)) e a.1 in
+    let l = link_takes cat from to b.0 b.1 in
+    record { from = b.0.0; to = b.0.1; linked = l.linked; spelled = two_words from (site_word b.0.0) to (site_word b.0.1) l.from_is l.to_is; is = ok_is (Resend b.0.0 b.0.1) e b.2 }
+resend_takes cat (a ∷ b ∷ c ∷ rest) e h = absurd cc
+
+pub resend_again : (cat : Catalogue) → IsKnown cat → (from to : Site) → IsLink cat from to → resend_of cat (site_word from ∷ site_word to ∷ []) ≡ Ok (Resend from to)
+resend_again cat k from to h =
+    let f = both_are (is_free (site_word from)) (is_free (site_word to)) (site_free from) (site_free to) in
+    let a = link_again cat k from to h in
+    ap (λ (t : Bool). must BadLine t >>= λ _. link_of cat (site_word from) (site_word to) >>= λ (link : Site × Site). Ok (Resend link.0 link.1)) f
+    ∙ ap (λ (r : Result (Site × Site) WorkRule). r >>= λ (link : Site × Site). Ok (Resend link.0 link.1)) a
+
+pub record IsTick (cat : Catalogue) (words : List Word) (e : Event) : Type 0 where
+  pub tm : TmNo
+  pub n : ℕ
+  pub there : IsFrom1To cat.tms tm.0
+  pub counted : IsFrom1To greatest_count n
+  pub spelled : words ≡ site_word (T tm) ∷ count_word n ∷ []
+  pub is : Tick tm n ≡ e
+
+pub tick_takes : (cat : Catalogue) (words : List Word) (e : Event) → tick_of cat words ≡ Ok e → IsTick cat words e
+tick_takes cat [] e h = absurd cc
+tick_takes cat (a ∷ []) e h = absurd cc
+tick_takes cat (tm ∷ n ∷ []) e h =
+    let a = must_then BadLine (is_free tm && is_free n) (λ _. tm_of cat tm >>= λ t. count_of n >>= λ k. Ok (Tick t k)) e h in
+    let b = bind_ok (tm_of cat tm) (λ t. count_of n >>= λ k. Ok (Tick t k)) e a.1 in
+    let c = bind_ok (count_of n) (λ k. Ok (Tick b.0 k)) e b.2 in
+    let t = tm_takes cat tm b.0 b.1 in
+    let m = count_takes n c.0 c.1 in
+    record { tm = b.0; n = c.0; there = t.1; counted = m.1; spelled = two_words tm (site_word (T b.0)) n (count_word c.0) t.0 m.0; is = ok_is (Tick b.0 c.0) e c.2 }
+tick_takes cat (a ∷ b ∷ c ∷ rest) e h = absurd cc
+
+pub tick_again : (cat : Catalogue) → IsKnown cat → (tm : TmNo) (n : ℕ) → IsFrom1To cat.tms tm.0 → IsFrom1To greatest_count n → tick_of cat (site_word (T tm) ∷ count_word n ∷ []) ≡ Ok (Tick tm n)
+tick_again cat k tm n h m =
+    let f = both_are (is_free (site_word (T tm))) (is_free (count_word n)) (site_free (T tm)) (place_free n m) in
+    let a = tm_again cat k tm h in
+    let b = count_again n m in
+    ap (λ (t : Bool). must BadLine t >>= λ _. tm_of cat (site_word (T tm)) >>= λ t. count_of (count_word n) >>= λ k. Ok (Tick t k)) f
+    ∙ ap (λ (r : Result TmNo WorkRule). r >>= λ t. count_of (count_word n) >>= λ k. Ok (Tick t k)) a
+    ∙ ap (λ (r : Result ℕ WorkRule). r >>= λ k. Ok (Tick tm k)) b
+
+pub settle_takes : (words : List Word) (e : Event) → settle_of words ≡ Ok e → (words ≡ []) × (Settle ≡ e)
+settle_takes [] e h = (refl, ok_is Settle e h)
+settle_takes (w ∷ words) e h = absurd cc

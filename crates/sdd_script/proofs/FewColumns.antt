@@ -1,0 +1,31 @@
+-- Every relation has so few columns that each has a number.
+use Rattle.std.proofs.Common.{◌≡◌, ℕ, ◌-◌, ◌^◌, ◌<◌, [], map, length, Option, Some, None, get_or, refl, ap, ◌∙◌, subst, arith}
+use Rattle.std.specs.Prelude.{slice_get}
+use Rattle.std.specs.Option.{option_map_or}
+use Rattle.std.proofs.lemmas.List.{length-map, get_or-map}
+use Rattle.std.proofs.lemmas.Option.{slice_get_within, get_or_from_slice_get}
+use Rattle.sdd_catalog.specs.Catalogue.{Catalogue, parts_of, relation_part, column_part}
+use Rattle.sdd_catalog.specs.Cover.{no_relation}
+use Rattle.sdd_catalog.specs.Rules.{IsSound}
+use Rattle.sdd_catalog.specs.declared.parts.RelationPart.{RelationPart}
+use Rattle.sdd_catalog.specs.declared.resolved.Relation.{Relation}
+use Rattle.sdd_catalog.proofs.RoundTrip.{have_numbers}
+use Rattle.sdd_script.specs.Naming.{columns_of, relation_if}
+
+few_of : (cat : Catalogue) → IsSound cat → (k : ℕ) (r : Relation) → slice_get cat.relations k ≡ Some r → length r.columns < 2 ^ 32 - 1
+few_of cat sound k r e =
+    let within : k < length cat.relations = slice_get_within cat.relations k r e in
+    let many : length (map relation_part cat.relations) ≡ length cat.relations = length-map cat.relations relation_part in
+    let few : length (get_or (map relation_part cat.relations) k no_relation).columns < 2 ^ 32 - 1 = have_numbers (parts_of cat) sound.valid k no_relation (omega arith) in
+    let at : get_or (map relation_part cat.relations) k no_relation ≡ relation_part r =
+    get_or-map relation_part cat.relations k r no_relation within ∙ ap relation_part (get_or_from_slice_get cat.relations k r r e) in
+    let same : length (relation_part r).columns ≡ length r.columns = length-map r.columns column_part in
+    let there : length (relation_part r).columns < 2 ^ 32 - 1 = subst (λ (p : RelationPart). length p.columns < 2 ^ 32 - 1) at few in
+    omega arith
+
+few_if : (cat : Catalogue) → IsSound cat → (k : ℕ) (o : Option Relation) → slice_get cat.relations k ≡ o → length (option_map_or (λ (r : Relation). r.columns) o []) < 2 ^ 32 - 1
+few_if cat sound k None e = omega arith
+few_if cat sound k (Some r) e = few_of cat sound k r e
+
+pub few_columns : (cat : Catalogue) (rel : ℕ) → IsSound cat → length (columns_of cat rel) < 2 ^ 32 - 1
+few_columns cat rel sound = few_if cat sound (rel - 1) (relation_if cat rel) refl

@@ -1,0 +1,201 @@
+-- The words of the lines of a valid workload are words, texts, and hold no newline.
+use Rattle.std.proofs.Common.{◌≡◌, ◌≢◌, ℕ, ◌<◌, List, [], ◌∷◌, ◌++◌, length, map, Bool, true, false, ◌&&◌, eqb, refl, subst, arith}
+use Rattle.std.specs.Prelude.{codes, not, nat_lt, ◌==◌}
+use Rattle.std.specs.Str.{IsAscii}
+use Rattle.std.specs.List.{AllByRecursion, list_all}
+use Rattle.std.proofs.lemmas.Bool.{ltb-true, eq-eqb}
+use Rattle.std.proofs.lemmas.Str.{IsUtf8-from_ascii}
+use Rattle.std.proofs.lemmas.Str.Ascii.{IsAscii-cons, IsAscii-nil}
+use Rattle.std.proofs.lemmas.List.Elements.{recursion_from_All}
+use Rattle.sdd_base.specs.declared.event.Event.{Event}
+use Rattle.sdd_base.specs.declared.event.Event.TheVariants.{Submit, Deliver, Lose, Repeat, Resend, Tick, Settle}
+use Rattle.sdd_base.specs.declared.number.RelNo.{RelNo}
+use Rattle.sdd_base.specs.declared.restriction.Op.{Op}
+use Rattle.sdd_base.specs.declared.restriction.Op.TheVariants as ops
+use Rattle.sdd_base.specs.declared.site.Site.TheVariants.{T}
+use Rattle.sdd_base.specs.declared.value.Value.{Value}
+use Rattle.sdd_catalog.specs.Catalogue.{Catalogue}
+use Rattle.sdd_lang.specs.Fits.{IsRelation, FitsRef, FitsCondition, FitsAssign, FitsStatement}
+use Rattle.sdd_lang.specs.declared.assign.Assign.{Assign}
+use Rattle.sdd_lang.specs.declared.assign.Assign.TheVariants.{To, Add}
+use Rattle.sdd_lang.specs.declared.condition.Ref.{Ref}
+use Rattle.sdd_lang.specs.declared.condition.Condition.{Condition}
+use Rattle.sdd_lang.specs.declared.condition.Condition.TheVariants.{Const, Same}
+use Rattle.sdd_lang.specs.declared.statement.Stmt.{Stmt}
+use Rattle.sdd_lang.specs.declared.statement.Stmt.TheVariants.{Put, Query, Update, Delete}
+use Rattle.sdd_lang.specs.declared.transaction.Txn.{Txn}
+use Rattle.sdd_words.specs.Keywords.{op_word}
+use Rattle.sdd_words.specs.Lines.{HasNoNewline}
+use Rattle.sdd_words.specs.Words.{HasNoSpace}
+use Rattle.sdd_words.specs.declared.word.Word.{Word}
+use Rattle.sdd_words.specs.declared.word.Word.TheVariants.{Plain}
+use Rattle.sdd_script.specs.Naming.{name_of_relation}
+use Rattle.sdd_script.specs.Spelling.{relation_word, column_word, own_column, start_words, header_words, conditions_words, where_words, sets_words, statement_words, event_words, name_of_txn}
+use Rattle.sdd_script.specs.Valid.{IsValue, HoldsValue, AssignsValue, HoldsValues, IsValidRow, IsValidTxn, IsValidEvent}
+use Rattle.sdd_script.specs.declared.keyword.Keyword.{Keyword}
+use Rattle.sdd_script.specs.declared.keyword.Keyword.TheVariants as keys
+use Rattle.sdd_script.proofs.StepLaws.{both_hold}
+use Rattle.sdd_script.proofs.WordLooks.{IsFine, name_fine, number_fine, value_fine}
+use Rattle.sdd_script.proofs.UseLaws.{IsKnown}
+use Rattle.sdd_script.proofs.RefLaws.{AreParts, column_word_is}
+use Rattle.sdd_script.proofs.RowLaws.{FitsRowOf, row_fine}
+use Rattle.sdd_script.proofs.QueryLaws.{query_fits}
+use Rattle.sdd_script.proofs.UpdateLaws.{update_fits, one_part}
+use Rattle.sdd_script.proofs.EventLaws.{site_fine, place_fine}
+use Rattle.sdd_script.proofs.LineLaws.{keyword_bytes}
+use Rattle.sdd_script.specs.declared.keyword.StatementKey.TheVariants as skeys
+use Rattle.sdd_script.specs.declared.keyword.EventKey.TheVariants as ekeys
+
+abbrev pub AreFine : List Word → Type 0
+AreFine ws = AllByRecursion IsFine ws
+
+pub fine-append : (xs ys : List Word) → AreFine xs → AreFine ys → AreFine (xs ++ ys)
+fine-append [] ys h k = k
+fine-append (x ∷ xs) ys h k = (h.0, fine-append xs ys h.1 k)
+
+-- ---- words that stand for themselves
+
+abbrev is_simple_byte : ℕ → Bool
+is_simple_byte c = nat_lt c 128 && not (c == 32) && not (c == 10)
+
+abbrev is_simple : List ℕ → Bool
+is_simple [] = false
+is_simple (c ∷ cs) = not (c == 34) && list_all is_simple_byte (c ∷ cs)
+
+record IsSimpleByte (c : ℕ) : Type 0 where
+  low : c < 128
+  space : c ≢ 32
+  newline : c ≢ 10
+
+differs : (c k : ℕ) → not (c == k) ≡ true → c ≢ k
+differs c k e p = let q : eqb c k ≡ true = eq-eqb c k p in let r : not true ≡ true = subst (λ (b : Bool). not b ≡ true) q e in absurd cc
+
+simple_byte : (c : ℕ) → is_simple_byte c ≡ true → IsSimpleByte c
+simple_byte c e =
+    let a = both_hold (nat_lt c 128 && not (c == 32)) (not (c == 10)) e in
+    let b = both_hold (nat_lt c 128) (not (c == 32)) a.0 in
+    record { low = ltb-true c 128 b.0; space = differs c 32 b.1; newline = differs c 10 a.1 }
+
+simple_ascii : (cs : List ℕ) → list_all is_simple_byte cs ≡ true → IsAscii cs
+simple_ascii [] e = IsAscii-nil
+simple_ascii (c ∷ cs) e = let h = both_hold (is_simple_byte c) (list_all is_simple_byte cs) e in IsAscii-cons c cs (simple_byte c h.0).low (simple_ascii cs h.1)
+
+simple_space : (cs : List ℕ) → list_all is_simple_byte cs ≡ true → HasNoSpace cs
+simple_space [] e = tt
+simple_space (c ∷ cs) e = let h = both_hold (is_simple_byte c) (list_all is_simple_byte cs) e in ((simple_byte c h.0).space, simple_space cs h.1)
+
+simple_line : (cs : List ℕ) → list_all is_simple_byte cs ≡ true → HasNoNewline cs
+simple_line [] e = tt
+simple_line (c ∷ cs) e = let h = both_hold (is_simple_byte c) (list_all is_simple_byte cs) e in ((simple_byte c h.0).newline, simple_line cs h.1)
+
+simple_fine : (bytes : List ℕ) → is_simple bytes ≡ true → IsFine (Plain bytes)
+simple_fine [] e = absurd cc
+simple_fine (c ∷ cs) e =
+    let h = both_hold (not (c == 34)) (list_all is_simple_byte (c ∷ cs)) e in
+    let s = simple_space (c ∷ cs) h.1 in
+    record { word = (differs c 34 h.0, s.0, s.1); utf8 = IsUtf8-from_ascii (c ∷ cs) (simple_ascii (c ∷ cs) h.1); sound = refl; line = simple_line (c ∷ cs) h.1 }
+
+keyword_simple : (key : Keyword) → is_simple (keyword_bytes key) ≡ true
+keyword_simple keys.Row = refl
+keyword_simple keys.Txn = refl
+keyword_simple (keys.Statement skeys.Put) = refl
+keyword_simple (keys.Statement skeys.Query) = refl
+keyword_simple (keys.Statement skeys.Update) = refl
+keyword_simple (keys.Statement skeys.Delete) = refl
+keyword_simple keys.Done = refl
+keyword_simple (keys.Event ekeys.Submit) = refl
+keyword_simple (keys.Event ekeys.Deliver) = refl
+keyword_simple (keys.Event ekeys.Lose) = refl
+keyword_simple (keys.Event ekeys.Repeat) = refl
+keyword_simple (keys.Event ekeys.Resend) = refl
+keyword_simple (keys.Event ekeys.Tick) = refl
+keyword_simple (keys.Event ekeys.Settle) = refl
+keyword_simple keys.End = refl
+
+pub keyword_fine : (key : Keyword) → IsFine (Plain (keyword_bytes key))
+keyword_fine key = simple_fine (keyword_bytes key) (keyword_simple key)
+
+op_simple : (op : Op) → is_simple (op_word op) ≡ true
+op_simple ops.Eq = refl
+op_simple ops.Ne = refl
+op_simple ops.Lt = refl
+op_simple ops.Le = refl
+op_simple ops.Gt = refl
+op_simple ops.Ge = refl
+
+op_fine : (op : Op) → IsFine (Plain (op_word op))
+op_fine op = simple_fine (op_word op) (op_simple op)
+
+-- ---- statements
+
+conditions_fine : (cat : Catalogue) → IsKnown cat → (rels : List RelNo) → AreParts cat rels → (key : List ℕ) → IsFine (Plain key) → (ds : List Condition) → AllByRecursion (FitsCondition cat rels) ds → AllByRecursion HoldsValue ds → AreFine (conditions_words key cat rels ds)
+conditions_fine cat k rels p key f [] fits v = tt
+conditions_fine cat k rels p key f (Const left op value ∷ ds) fits v =
+    (f, ((column_word_is cat k rels left p fits.0.0).fine, (op_fine op, (value_fine value v.0, conditions_fine cat k rels p (codes "and") (simple_fine (codes "and") refl) ds fits.1 v.1))))
+conditions_fine cat k rels p key f (Same left right ∷ ds) fits v =
+    (f, ((column_word_is cat k rels left p fits.0.0).fine, (op_fine ops.Eq, ((column_word_is cat k rels right p fits.0.1).fine, conditions_fine cat k rels p (codes "and") (simple_fine (codes "and") refl) ds fits.1 v.1))))
+
+where_fine : (cat : Catalogue) → IsKnown cat → (rels : List RelNo) → AreParts cat rels → (ds : List Condition) → AllByRecursion (FitsCondition cat rels) ds → AllByRecursion HoldsValue ds → AreFine (where_words cat rels ds)
+where_fine cat k rels p ds fits v = conditions_fine cat k rels p (codes "where") (simple_fine (codes "where") refl) ds fits v
+
+sets_fine : (cat : Catalogue) → IsKnown cat → (rel : RelNo) → AreParts cat (rel ∷ []) → (sets : List Assign) → AllByRecursion (FitsAssign cat rel.0) sets → AllByRecursion AssignsValue sets → AreFine (sets_words cat rel sets)
+sets_fine cat k rel p [] fits v = tt
+sets_fine cat k rel p (To column value ∷ sets) fits v =
+    ((column_word_is cat k (rel ∷ []) (own_column column) p ((omega arith, omega arith), fits.0.0)).fine, (simple_fine (codes "=") refl, (value_fine value v.0, sets_fine cat k rel p sets fits.1 v.1)))
+sets_fine cat k rel p (Add column by ∷ sets) fits v =
+    ((column_word_is cat k (rel ∷ []) (own_column column) p ((omega arith, omega arith), fits.0.0)).fine, (simple_fine (codes "+=") refl, (number_fine by v.0, sets_fine cat k rel p sets fits.1 v.1)))
+
+relations_fine : (cat : Catalogue) → IsKnown cat → (rels : List RelNo) → AllByRecursion (λ (r : RelNo). IsRelation cat r.0) rels → AreFine (map (relation_word cat) rels)
+relations_fine cat k [] h = tt
+relations_fine cat k (r ∷ rels) h = (name_fine (name_of_relation cat r.0) (k.relation_name r.0 h.0), relations_fine cat k rels h.1)
+
+columns_fine : (cat : Catalogue) → IsKnown cat → (rels : List RelNo) → AreParts cat rels → (out : List Ref) → AllByRecursion (FitsRef cat rels) out → AreFine (map (column_word cat rels) out)
+columns_fine cat k rels p [] h = tt
+columns_fine cat k rels p (r ∷ out) h = ((column_word_is cat k rels r p h.0).fine, columns_fine cat k rels p out h.1)
+
+pub row_of_statement : (cat : Catalogue) (rel : RelNo) (row : List Value) → FitsStatement cat (Put rel row) → HoldsValues (Put rel row) → FitsRowOf cat rel row
+row_of_statement cat rel row h v = (h.0, h.1, recursion_from_All IsValue row v)
+
+pub statement_fine : (cat : Catalogue) → IsKnown cat → (s : Stmt) → FitsStatement cat s → HoldsValues s → AreFine (statement_words cat s)
+statement_fine cat k (Put rel row) h v = (keyword_fine (keys.Statement skeys.Put), row_fine cat k rel row (row_of_statement cat rel row h v))
+statement_fine cat k (Query out rels conds) h v =
+    let q = query_fits cat out rels conds h v in (
+      keyword_fine (keys.Statement skeys.Query),
+      fine-append (map (column_word cat rels) out) (Plain (codes "from") ∷ (map (relation_word cat) rels ++ where_words cat rels conds)) (columns_fine cat k rels q.parts out q.columns)
+          (simple_fine (codes "from") refl, fine-append (map (relation_word cat) rels) (where_words cat rels conds) (relations_fine cat k rels q.relations) (where_fine cat k rels q.parts conds q.conds_fit q.conds_hold)),
+    )
+statement_fine cat k (Update rel sets conds) h v =
+    let u = update_fits cat rel sets conds h v in (
+      keyword_fine (keys.Statement skeys.Update),
+      (
+        name_fine (name_of_relation cat rel.0) (k.relation_name rel.0 u.relation),
+        (
+          simple_fine (codes "set") refl,
+          fine-append (sets_words cat rel sets) (where_words cat (rel ∷ []) conds) (sets_fine cat k rel u.parts sets u.sets_fit u.sets_hold) (where_fine cat k (rel ∷ []) u.parts conds u.conds_fit u.conds_hold),
+        ),
+      ),
+    )
+statement_fine cat k (Delete rel conds) h v =
+    (keyword_fine (keys.Statement skeys.Delete), (name_fine (name_of_relation cat rel.0) (k.relation_name rel.0 h.0), where_fine cat k (rel ∷ []) (one_part cat rel h.0) conds (recursion_from_All (FitsCondition cat (rel ∷ [])) conds h.1.1) (recursion_from_All HoldsValue conds v)))
+
+-- ---- other lines
+
+pub start_fine : (cat : Catalogue) → IsKnown cat → (r : RelNo × List Value) → IsValidRow cat r → AreFine (start_words cat r)
+start_fine cat k r h = (keyword_fine keys.Row, row_fine cat k r.0 r.1 (h.fits.0, h.fits.1, recursion_from_All IsValue r.1 h.values))
+
+pub header_fine : (cat : Catalogue) → IsKnown cat → (t : Txn) → IsValidTxn cat t → AreFine (header_words t.name t.tm)
+header_fine cat k t h = (keyword_fine keys.Txn, (name_fine t.name h.named, (site_fine cat k (T t.tm) h.fits.module_is_there, tt)))
+
+-- the name of the transaction that an event submits is one
+abbrev pub NamesOne : List Txn → Event → Type 0
+NamesOne txns (Submit txn) = IsFine (Plain (name_of_txn txns txn.0))
+NamesOne txns _ = Unit {0}
+
+pub event_fine : (cat : Catalogue) → IsKnown cat → (txns : List Txn) (e : Event) → IsValidEvent cat (length txns) e → NamesOne txns e → AreFine (event_words txns e)
+event_fine cat k txns (Submit txn) h n = (keyword_fine (keys.Event ekeys.Submit), (n, tt))
+event_fine cat k txns (Deliver from to place) h n = (keyword_fine (keys.Event ekeys.Deliver), (site_fine cat k from h.0.0, (site_fine cat k to h.0.1, (place_fine place h.1, tt))))
+event_fine cat k txns (Lose from to place) h n = (keyword_fine (keys.Event ekeys.Lose), (site_fine cat k from h.0.0, (site_fine cat k to h.0.1, (place_fine place h.1, tt))))
+event_fine cat k txns (Repeat from to place) h n = (keyword_fine (keys.Event ekeys.Repeat), (site_fine cat k from h.0.0, (site_fine cat k to h.0.1, (place_fine place h.1, tt))))
+event_fine cat k txns (Resend from to) h n = (keyword_fine (keys.Event ekeys.Resend), (site_fine cat k from h.0, (site_fine cat k to h.1, tt)))
+event_fine cat k txns (Tick tm n) h m = (keyword_fine (keys.Event ekeys.Tick), (site_fine cat k (T tm) h.0, (place_fine n h.1, tt)))
+event_fine cat k txns Settle h n = (keyword_fine (keys.Event ekeys.Settle), tt)

@@ -1,0 +1,167 @@
+-- In every catalogue each number is found by its name.
+use Rattle.std.proofs.Common.{◌≡◌, ℕ, zero, suc, ◌+◌, ◌-◌, ◌<◌, ◌≤◌, List, [], ◌∷◌, length, map, take, get_or, Bool, true, false, cond, not, ltb, Some, None, refl, sym, ap, subst, ◌∙◌, arith, inl, inr}
+use Rattle.std.proofs.lemmas.Bool.{cases_lt}
+use Rattle.std.specs.Prelude.{slice_get}
+use Rattle.std.specs.Option.{option_map_or}
+use Rattle.std.specs.Str.{bytes_eq}
+use Rattle.std.specs.List.{position, prefix_len}
+use Rattle.std.proofs.lemmas.List.{length-map, get_or-map, take_all}
+use Rattle.std.proofs.lemmas.List.Elements.{All-get_or, All-more}
+use Rattle.std.proofs.lemmas.Slice.Eq.{bytes_eq-Decides}
+use Rattle.sdd_base.specs.Name.{IsName, is_name}
+use Rattle.sdd_catalog.specs.Catalogue.{Catalogue, parts_of, relation_part, column_part, relation_at, relation_names}
+use Rattle.sdd_catalog.specs.Names.{number_of}
+use Rattle.sdd_catalog.specs.Numbers.{HasKey, IsWhole}
+use Rattle.sdd_catalog.specs.Rules.{IsSound, repeats, relation_rules, faults_of_relation}
+use Rattle.sdd_catalog.specs.declared.parts.Kind.TheVariants.{Int}
+use Rattle.sdd_catalog.specs.declared.parts.ColumnPart.{ColumnPart}
+use Rattle.sdd_catalog.specs.declared.parts.Parts.{Parts}
+use Rattle.sdd_catalog.specs.declared.parts.RelationPart.{RelationPart}
+use Rattle.sdd_catalog.specs.declared.resolved.Column.{Column}
+use Rattle.sdd_catalog.specs.declared.resolved.Relation.{Relation}
+use Rattle.sdd_catalog.proofs.Distinct.{number_of_place}
+use Rattle.sdd_catalog.proofs.Found.{both_empty, empty_of_map, unfound_at, map-map}
+use Rattle.sdd_catalog.proofs.FragmentOf.{found_one}
+use Rattle.sdd_catalog.proofs.Validity.{no_faults, unbroken}
+use Rattle.sdd_lang.specs.Fits.{IsRelation, IsColumn}
+use Rattle.sdd_script.specs.Laws.{AreNames, IsNamed, AreNamed, ReadsAgain, ReadsSpelling}
+use Rattle.sdd_script.specs.Naming.{columns_of, name_of_relation, relation_named, column_named}
+use Rattle.sdd_script.specs.Spelling.{name_of_column}
+use Rattle.sdd_script.proofs.Marks.{position-map}
+use Rattle.sdd_script.proofs.UseLaws.{IsKnown}
+use Rattle.sdd_script.proofs.NamePlaces.{place_of_name}
+use Rattle.sdd_script.proofs.ReadingLaws as reading
+use Rattle.sdd_script.proofs.ValueLaws.{columns_are, name_is}
+use Rattle.sdd_script.proofs.WholeLaws.{read_again}
+
+no_column : Column
+no_column = record { name = []; kind = Int }
+
+abbrev no_relation : Relation
+no_relation = record { name = []; columns = []; key = 0 }
+
+abbrev no_part : RelationPart
+no_part = relation_part no_relation
+
+-- ---- relations
+
+part_at : (cat : Catalogue) (rel : ℕ) → IsRelation cat rel → get_or (parts_of cat).relations (rel - 1) no_part ≡ relation_part (relation_at cat rel)
+part_at cat rel h = get_or-map relation_part cat.relations (rel - 1) no_relation no_part (omega (arith, h.0, h.1))
+
+named_number : (cat : Catalogue) → IsSound cat → (rel : ℕ) → IsRelation cat rel → number_of (name_of_relation cat rel) (relation_names (parts_of cat).relations) ≡ rel
+named_number cat s rel h =
+    let to : rel ≤ length (parts_of cat).relations = omega (arith, h.1, length-map cat.relations relation_part) in
+    number_of_place (parts_of cat) s.valid (name_of_relation cat rel) rel no_part h.0 to (name_is cat rel ∙ ap (λ (r : RelationPart). r.name) (sym (part_at cat rel h)))
+
+one_relation : (cat : Catalogue) → IsSound cat → (a b : ℕ) → IsRelation cat a → IsRelation cat b → name_of_relation cat a ≡ name_of_relation cat b → a ≡ b
+one_relation cat s a b h k e = sym (named_number cat s a h) ∙ ap (λ (n : List ℕ). number_of n (relation_names (parts_of cat).relations)) e ∙ named_number cat s b k
+
+relation_found : (cat : Catalogue) → IsSound cat → (rel : ℕ) → IsRelation cat rel → relation_named cat (name_of_relation cat rel) ≡ Some rel
+relation_found cat s rel h =
+    let name : List ℕ = name_of_relation cat rel in
+    found_one (λ r. bytes_eq (name_of_relation cat r) name) rel (length cat.relations) h.0 h.1 ((bytes_eq-Decides name name).1 refl)
+    (λ g from to e. one_relation cat s g rel (from, to) h ((bytes_eq-Decides (name_of_relation cat g) name).0 e))
+
+-- ---- columns
+
+columns_differ : (before : List RelationPart) (r : RelationPart) → relation_rules before r ≡ [] → repeats (map (λ (c : ColumnPart). c.name) r.columns) ≡ false
+columns_differ before r e = let a = both_empty _ _ e in let b = both_empty _ _ a.0 in unbroken _ _ b.1
+
+abbrev names_of : List Column → List (List ℕ)
+names_of columns = map (λ (c : Column). c.name) columns
+
+differ : (cat : Catalogue) → IsSound cat → (rel : ℕ) → IsRelation cat rel → repeats (names_of (relation_at cat rel).columns) ≡ false
+differ cat s rel h =
+    let parts : Parts = parts_of cat in
+    let lt : rel - 1 < length parts.relations = omega (arith, h.0, h.1, length-map cat.relations relation_part) in
+    let rules : relation_rules (take (rel - 1) parts.relations) (get_or parts.relations (rel - 1) no_part) ≡ [] = empty_of_map _ _ (unfound_at faults_of_relation parts.relations (no_faults parts s.valid).relations (rel - 1) no_part lt) in
+    let at : repeats (map (λ (c : ColumnPart). c.name) (get_or parts.relations (rel - 1) no_part).columns) ≡ false = columns_differ (take (rel - 1) parts.relations) (get_or parts.relations (rel - 1) no_part) rules in
+    let same : map (λ (c : ColumnPart). c.name) (get_or parts.relations (rel - 1) no_part).columns ≡ names_of (relation_at cat rel).columns =
+    ap (λ (r : RelationPart). map (λ (c : ColumnPart). c.name) r.columns) (part_at cat rel h) ∙ map-map (λ (c : ColumnPart). c.name) column_part (relation_at cat rel).columns in
+    subst (λ (l : List (List ℕ)). repeats l ≡ false) same at
+
+prefix_same : {A : Type 0} (p q : A → Bool) (xs : List A) → ((x : A) → p x ≡ q x) → prefix_len p xs ≡ prefix_len q xs
+prefix_same p q [] h = refl
+prefix_same p q (x ∷ xs) h = ap (λ (b : Bool). cond b (1 + prefix_len p xs) 0) (h x) ∙ ap (λ (n : ℕ). cond (q x) (1 + n) 0) (prefix_same p q xs h)
+
+position_same : {A : Type 0} (p q : A → Bool) (xs : List A) → ((x : A) → p x ≡ q x) → position p xs ≡ position q xs
+position_same p q xs h = ap (λ (n : ℕ). cond (ltb n (length xs)) (Some n) None) (prefix_same (λ y. not (p y)) (λ y. not (q y)) xs (λ x. ap not (h x)))
+
+turned_if : (a b : List ℕ) (x y : Bool) → bytes_eq a b ≡ x → bytes_eq b a ≡ y → x ≡ y
+turned_if a b true true p q = refl
+turned_if a b false false p q = refl
+turned_if a b true false p q = let e : a ≡ b = (bytes_eq-Decides a b).0 p in let r : bytes_eq b a ≡ true = (bytes_eq-Decides b a).1 (sym e) in absurd cc
+turned_if a b false true p q = let e : b ≡ a = (bytes_eq-Decides b a).0 q in let r : bytes_eq a b ≡ true = (bytes_eq-Decides a b).1 (sym e) in absurd cc
+
+turned : (a b : List ℕ) → bytes_eq a b ≡ bytes_eq b a
+turned a b = turned_if a b (bytes_eq a b) (bytes_eq b a) refl refl
+
+column_at : (columns : List Column) (i : ℕ) → i < length columns → option_map_or (λ (c : Column). c.name) (slice_get columns i) [] ≡ get_or (names_of columns) i []
+column_at [] i lt = absurd (omega arith)
+column_at (c ∷ columns) zero lt = refl
+column_at (c ∷ columns) (suc i) lt = column_at columns i (omega arith)
+
+column_name_is : (columns : List Column) (column : ℕ) → 1 ≤ column → column ≤ length columns → name_of_column columns column ≡ get_or (names_of columns) (column - 1) []
+column_name_is columns column from to = column_at columns (column - 1) (omega (arith, from, to))
+
+column_found : (cat : Catalogue) → IsSound cat → (rel column : ℕ) → IsRelation cat rel → IsColumn cat rel column → column_named (columns_of cat rel) (name_of_column (columns_of cat rel) column) ≡ Some (column - 1)
+column_found cat s rel column h k =
+    let columns : List Column = (relation_at cat rel).columns in
+    let name : List ℕ = name_of_column columns column in
+    let lt : column - 1 < length (names_of columns) = omega (arith, k.0, k.1, length-map columns (λ (c : Column). c.name)) in
+    let is : name ≡ get_or (names_of columns) (column - 1) [] = column_name_is columns column k.0 k.1 in
+    ap (λ (l : List Column). column_named l (name_of_column l column)) (columns_are cat rel)
+    ∙ position_same (λ (c : Column). bytes_eq c.name name) (λ (c : Column). bytes_eq name c.name) columns (λ c. turned c.name name)
+    ∙ sym (position-map (bytes_eq name) (λ (c : Column). c.name) columns)
+    ∙ ap (λ (n : List ℕ). position (bytes_eq n) (names_of columns)) is
+    ∙ place_of_name (names_of columns) (column - 1) (differ cat s rel h) lt
+
+-- ---- names
+
+column_named_so : (cat : Catalogue) → AreNamed cat → (rel column : ℕ) → IsRelation cat rel → IsColumn cat rel column → is_name (name_of_column (columns_of cat rel) column) ≡ true
+column_named_so cat n rel column h k =
+    let columns : List Column = (relation_at cat rel).columns in
+    let lt : column - 1 < length columns = omega (arith, k.0, k.1) in
+    let named : is_name (get_or columns (column - 1) no_column).name ≡ true = All-get_or (λ (c : Column). IsName c.name) columns (column - 1) no_column lt (n rel h).1 in
+    let same : name_of_column (columns_of cat rel) column ≡ (get_or columns (column - 1) no_column).name =
+    ap (λ (l : List Column). name_of_column l column) (columns_are cat rel) ∙ column_name_is columns column k.0 k.1 ∙ get_or-map (λ (c : Column). c.name) columns (column - 1) no_column [] lt in
+    subst (λ (l : List ℕ). is_name l ≡ true) (sym same) named
+
+some_columns : (cat : Catalogue) → IsWhole cat → (rel : ℕ) → IsRelation cat rel → 1 ≤ length (columns_of cat rel)
+some_columns cat w rel h =
+    let key : HasKey (relation_at cat rel) = All-get_or HasKey cat.relations (rel - 1) no_relation (omega (arith, h.0, h.1)) w.relations in
+    omega (arith, key.from, key.to, ap (λ (l : List Column). length l) (columns_are cat rel))
+
+pub known : (cat : Catalogue) → IsSound cat → IsWhole cat → AreNamed cat → IsKnown cat
+known cat s w n = record {
+  relation = relation_found cat s;
+  column = column_found cat s;
+  relation_name = λ rel h. subst (λ (l : List ℕ). is_name l ≡ true) (sym (name_is cat rel)) (n rel h).0;
+  column_name = column_named_so cat n;
+  some_column = some_columns cat w;
+  few_tms = w.few_tms;
+  few_dms = w.few_dms;
+}
+
+-- ---- the laws
+
+pub reads_again : (cat : Catalogue) → IsSound cat → IsWhole cat → AreNamed cat → ReadsAgain cat
+reads_again cat s w n = read_again cat (known cat s w n)
+
+pub reads_spelling : (cat : Catalogue) → ReadsSpelling cat
+reads_spelling cat = reading.reads_spelling cat
+
+-- the relations up to a number have names, and the next one too
+pub named_more : (cat : Catalogue) (place : ℕ) (r : Relation) → ((rel : ℕ) → 1 ≤ rel → rel ≤ place → IsNamed (relation_at cat rel)) → r ≡ relation_at cat (place + 1) → IsNamed r → (rel : ℕ) → 1 ≤ rel → rel ≤ place + 1 → IsNamed (relation_at cat rel)
+named_more cat place r before is named rel from to =
+    elim (cases_lt rel (place + 1)) [
+      | inl lt ↦ before rel from (omega (arith, lt))
+      | inr le ↦ let same : place + 1 ≡ rel = omega (arith, le, to) in subst (λ (x : Relation). IsNamed x) (is ∙ ap (relation_at cat) same) named
+    ]
+
+-- the columns before a place have names, and the next one too
+pub columns_more : (columns : List Column) (i : ℕ) (c : Column) → i < length columns → c ≡ get_or columns i c → IsName c.name → AreNames (take i columns) → AreNames (take (i + 1) columns)
+columns_more columns i c lt is named before = All-more (λ (x : Column). IsName x.name) columns i c lt before (subst (λ (x : Column). IsName x.name) is named)
+
+pub all_columns : (columns : List Column) (i : ℕ) → length columns ≤ i → AreNames (take i columns) → AreNames columns
+all_columns columns i past h = subst AreNames (take_all i columns past) h

@@ -1,0 +1,173 @@
+-- A line and its words, and its first word.
+use Rattle.std.proofs.Common.{◌≡◌, ℕ, List, [], ◌∷◌, ◌++◌, Bool, true, false, cond, Option, Some, None, Ok, refl, ap, ◌∙◌, arith}
+use Rattle.std.specs.Prelude.{codes}
+use Rattle.std.specs.Str.{bytes_eq, IsUtf8, is_utf8}
+use Rattle.std.specs.List.{AllByRecursion, list_all}
+use Rattle.std.proofs.lemmas.Slice.Eq.{bytes_eq-Decides}
+use Rattle.std.proofs.lemmas.Str.{IsUtf8-append, IsUtf8-from_ascii, is_utf8-from_IsUtf8}
+use Rattle.std.proofs.lemmas.Str.Ascii.{IsAscii-cons, IsAscii-nil}
+use Rattle.sdd_catalog.specs.Catalogue.{Catalogue}
+use Rattle.sdd_words.specs.Lines.{HasNoNewline}
+use Rattle.sdd_words.specs.Scan.{words_of}
+use Rattle.sdd_words.specs.Steps.{◌>>=◌, known, must}
+use Rattle.sdd_words.specs.Texts.{is_sound}
+use Rattle.sdd_words.specs.Words.{word_bytes, more_bytes, line_bytes, AllWords}
+use Rattle.sdd_words.specs.declared.word.Word.{Word}
+use Rattle.sdd_words.specs.declared.word.Word.TheVariants.{Plain, Quoted}
+use Rattle.sdd_words.proofs.Splits.{scan_spelled, scan_again}
+use Rattle.sdd_script.specs.LineRules.{keyword_rules, words_rules, line_rules}
+use Rattle.sdd_script.specs.FirstWords.{statement_key_in, event_key_in, inner_keyword, keyword_in, keyword_of}
+use Rattle.sdd_script.specs.declared.keyword.StatementKey.{StatementKey}
+use Rattle.sdd_script.specs.declared.keyword.StatementKey.TheVariants.{Put, Query, Update, Delete}
+use Rattle.sdd_script.specs.declared.keyword.EventKey.{EventKey}
+use Rattle.sdd_script.specs.declared.keyword.EventKey.TheVariants.{Submit, Deliver, Lose, Repeat, Resend, Tick, Settle}
+use Rattle.sdd_script.specs.declared.fault.WorkRule.TheVariants.{NotUtf8, BadLine}
+use Rattle.sdd_script.specs.declared.keyword.Keyword.{Keyword}
+use Rattle.sdd_script.specs.declared.keyword.Keyword.TheVariants as keys
+use Rattle.sdd_script.specs.declared.state.State.{State}
+use Rattle.sdd_script.proofs.StepLaws.{must_then, known_then, both_are, some_is}
+use Rattle.sdd_script.proofs.WordLooks.{IsFine, no_newline-append}
+
+-- ---- words
+
+pub record HasWords (cat : Catalogue) (st to : State) (line : List ℕ) : Type 0 where
+  pub words : List Word
+  pub spelled : line ≡ line_bytes words
+  pub rules : words_rules cat st words ≡ Ok to
+
+pub line_takes : (cat : Catalogue) (st to : State) (line : List ℕ) → line_rules cat st line ≡ Ok to → HasWords cat st to line
+unfolding line_rules
+line_takes cat st to line e =
+    let a = must_then NotUtf8 (is_utf8 line) (λ _. known BadLine (words_of line) >>= λ words. must BadLine (list_all is_sound words) >>= λ _. words_rules cat st words) to e in
+    let b = known_then BadLine (words_of line) (λ words. must BadLine (list_all is_sound words) >>= λ _. words_rules cat st words) to a.1 in
+    let c = must_then BadLine (list_all is_sound b.0) (λ _. words_rules cat st b.0) to b.2 in
+    record { words = b.0; spelled = scan_spelled line b.0 b.1; rules = c.1 }
+
+space : IsUtf8 (32 ∷ [])
+space = IsUtf8-from_ascii (32 ∷ []) (IsAscii-cons 32 [] (omega arith) IsAscii-nil)
+
+all_words : (ws : List Word) → AllByRecursion IsFine ws → AllWords ws
+all_words [] h = tt
+all_words (w ∷ ws) h = (h.0.word, all_words ws h.1)
+
+all_sound : (ws : List Word) → AllByRecursion IsFine ws → list_all is_sound ws ≡ true
+all_sound [] h = refl
+all_sound (w ∷ ws) h = both_are (is_sound w) (list_all is_sound ws) h.0.sound (all_sound ws h.1)
+
+more_utf8 : (ws : List Word) → AllByRecursion IsFine ws → IsUtf8 (more_bytes ws)
+more_utf8 [] h = IsUtf8-from_ascii [] IsAscii-nil
+more_utf8 (w ∷ ws) h = IsUtf8-append (32 ∷ []) (word_bytes w ++ more_bytes ws) space (IsUtf8-append (word_bytes w) (more_bytes ws) h.0.utf8 (more_utf8 ws h.1))
+
+more_line : (ws : List Word) → AllByRecursion IsFine ws → HasNoNewline (more_bytes ws)
+more_line [] h = tt
+more_line (w ∷ ws) h = ((λ e. omega arith), no_newline-append (word_bytes w) (more_bytes ws) h.0.line (more_line ws h.1))
+
+pub line_has_no_newline : (w : Word) (ws : List Word) → AllByRecursion IsFine (w ∷ ws) → HasNoNewline (line_bytes (w ∷ ws))
+line_has_no_newline w ws h = no_newline-append (word_bytes w) (more_bytes ws) h.0.line (more_line ws h.1)
+
+pub line_again : (cat : Catalogue) (st : State) (w : Word) (ws : List Word) → AllByRecursion IsFine (w ∷ ws) → line_rules cat st (line_bytes (w ∷ ws)) ≡ words_rules cat st (w ∷ ws)
+unfolding line_rules
+line_again cat st w ws h =
+    let line : List ℕ = line_bytes (w ∷ ws) in
+    let u : is_utf8 line ≡ true = is_utf8-from_IsUtf8 line (IsUtf8-append (word_bytes w) (more_bytes ws) h.0.utf8 (more_utf8 ws h.1)) in
+    let s : words_of line ≡ Some (w ∷ ws) = scan_again (w ∷ ws) (h.0.word, all_words ws h.1) in
+    let a : list_all is_sound (w ∷ ws) ≡ true = all_sound (w ∷ ws) h in
+    ap (λ (t : Bool). must NotUtf8 t >>= λ _. known BadLine (words_of line) >>= λ words. must BadLine (list_all is_sound words) >>= λ _. words_rules cat st words) u
+    ∙ ap (λ (o : Option (List Word)). known BadLine o >>= λ words. must BadLine (list_all is_sound words) >>= λ _. words_rules cat st words) s
+    ∙ ap (λ (t : Bool). must BadLine t >>= λ _. words_rules cat st (w ∷ ws)) a
+
+-- ---- keywords
+
+-- what keywords are written as
+
+abbrev pub statement_key_bytes : StatementKey → List ℕ
+statement_key_bytes Put = codes "put"
+statement_key_bytes Query = codes "query"
+statement_key_bytes Update = codes "update"
+statement_key_bytes Delete = codes "delete"
+
+abbrev pub event_key_bytes : EventKey → List ℕ
+event_key_bytes Submit = codes "submit"
+event_key_bytes Deliver = codes "deliver"
+event_key_bytes Lose = codes "lose"
+event_key_bytes Repeat = codes "repeat"
+event_key_bytes Resend = codes "resend"
+event_key_bytes Tick = codes "tick"
+event_key_bytes Settle = codes "settle"
+
+abbrev pub keyword_bytes : Keyword → List ℕ
+keyword_bytes keys.Row = codes "row"
+keyword_bytes keys.Txn = codes "txn"
+keyword_bytes (keys.Statement key) = statement_key_bytes key
+keyword_bytes keys.Done = codes "done"
+keyword_bytes (keys.Event key) = event_key_bytes key
+keyword_bytes keys.End = codes "end"
+
+choice : {K : Type 0} (f : K → List ℕ) (bytes : List ℕ) (o key : K) (rest : Option K) (b : Bool) → bytes_eq bytes (f o) ≡ b → cond b (Some o) rest ≡ Some key → (rest ≡ Some key → bytes ≡ f key) → bytes ≡ f key
+choice f bytes o key rest true e is later = (bytes_eq-Decides bytes (f o)).0 e ∙ ap f (some_is o key is)
+choice f bytes o key rest false e is later = later is
+
+statement_key_is : (bytes : List ℕ) (key : StatementKey) → statement_key_in bytes ≡ Some key → bytes ≡ statement_key_bytes key
+statement_key_is bytes key e =
+    choice statement_key_bytes bytes Put key _ (bytes_eq bytes (codes "put")) refl e (λ e.
+    choice statement_key_bytes bytes Query key _ (bytes_eq bytes (codes "query")) refl e (λ e.
+    choice statement_key_bytes bytes Update key _ (bytes_eq bytes (codes "update")) refl e (λ e.
+    choice statement_key_bytes bytes Delete key None (bytes_eq bytes (codes "delete")) refl e (λ e. absurd cc))))
+
+event_key_is : (bytes : List ℕ) (key : EventKey) → event_key_in bytes ≡ Some key → bytes ≡ event_key_bytes key
+event_key_is bytes key e =
+    choice event_key_bytes bytes Submit key _ (bytes_eq bytes (codes "submit")) refl e (λ e.
+    choice event_key_bytes bytes Deliver key _ (bytes_eq bytes (codes "deliver")) refl e (λ e.
+    choice event_key_bytes bytes Lose key _ (bytes_eq bytes (codes "lose")) refl e (λ e.
+    choice event_key_bytes bytes Repeat key _ (bytes_eq bytes (codes "repeat")) refl e (λ e.
+    choice event_key_bytes bytes Resend key _ (bytes_eq bytes (codes "resend")) refl e (λ e.
+    choice event_key_bytes bytes Tick key _ (bytes_eq bytes (codes "tick")) refl e (λ e.
+    choice event_key_bytes bytes Settle key None (bytes_eq bytes (codes "settle")) refl e (λ e. absurd cc)))))))
+
+inner_is : (bytes : List ℕ) (key : Keyword) (o : Option StatementKey) (p : Option EventKey) → statement_key_in bytes ≡ o → event_key_in bytes ≡ p → inner_keyword o p ≡ Some key → bytes ≡ keyword_bytes key
+inner_is bytes key (Some s) p a b e = statement_key_is bytes s a ∙ ap keyword_bytes (some_is (keys.Statement s) key e)
+inner_is bytes key None (Some v) a b e = event_key_is bytes v b ∙ ap keyword_bytes (some_is (keys.Event v) key e)
+inner_is bytes key None None a b e = absurd cc
+
+keyword_bytes_are : (bytes : List ℕ) (key : Keyword) → keyword_in bytes ≡ Some key → bytes ≡ keyword_bytes key
+keyword_bytes_are bytes key e =
+    choice keyword_bytes bytes keys.Row key _ (bytes_eq bytes (codes "row")) refl e (λ e.
+    choice keyword_bytes bytes keys.Txn key _ (bytes_eq bytes (codes "txn")) refl e (λ e.
+    choice keyword_bytes bytes keys.Done key _ (bytes_eq bytes (codes "done")) refl e (λ e.
+    choice keyword_bytes bytes keys.End key (inner_keyword (statement_key_in bytes) (event_key_in bytes)) (bytes_eq bytes (codes "end")) refl e (λ e. inner_is bytes key (statement_key_in bytes) (event_key_in bytes) refl refl e))))
+
+pub keyword_takes : (w : Word) (key : Keyword) → keyword_of w ≡ Some key → w ≡ Plain (keyword_bytes key)
+keyword_takes (Plain bytes) key e = ap (λ (l : List ℕ). Plain l) (keyword_bytes_are bytes key e)
+keyword_takes (Quoted text) key e = absurd cc
+
+pub keyword_again : (key : Keyword) → keyword_of (Plain (keyword_bytes key)) ≡ Some key
+keyword_again keys.Row = refl
+keyword_again keys.Txn = refl
+keyword_again (keys.Statement Put) = refl
+keyword_again (keys.Statement Query) = refl
+keyword_again (keys.Statement Update) = refl
+keyword_again (keys.Statement Delete) = refl
+keyword_again keys.Done = refl
+keyword_again (keys.Event Submit) = refl
+keyword_again (keys.Event Deliver) = refl
+keyword_again (keys.Event Lose) = refl
+keyword_again (keys.Event Repeat) = refl
+keyword_again (keys.Event Resend) = refl
+keyword_again (keys.Event Tick) = refl
+keyword_again (keys.Event Settle) = refl
+keyword_again keys.End = refl
+
+pub record HasKeyword (cat : Catalogue) (st to : State) (ws : List Word) : Type 0 where
+  pub key : Keyword
+  pub words : List Word
+  pub whole : ws ≡ Plain (keyword_bytes key) ∷ words
+  pub rules : keyword_rules key cat st words ≡ Ok to
+
+pub words_take : (cat : Catalogue) (st to : State) (ws : List Word) → words_rules cat st ws ≡ Ok to → HasKeyword cat st to ws
+words_take cat st to [] e = absurd cc
+words_take cat st to (first ∷ words) e =
+    let a = known_then BadLine (keyword_of first) (λ keyword. keyword_rules keyword cat st words) to e in
+    record { key = a.0; words = words; whole = ap (λ (w : Word). w ∷ words) (keyword_takes first a.0 a.1); rules = a.2 }
+
+pub words_again : (cat : Catalogue) (st : State) (key : Keyword) (words : List Word) → words_rules cat st (Plain (keyword_bytes key) ∷ words) ≡ keyword_rules key cat st words
+words_again cat st key words = ap (λ (o : Option Keyword). known BadLine o >>= λ keyword. keyword_rules keyword cat st words) (keyword_again key)

@@ -1,0 +1,132 @@
+-- Lists in which no item stands twice: names, and numbers.
+use Rattle.std.proofs.Common.{◌≡◌, ◌≢◌, ℕ, zero, suc, ◌+◌, ◌-◌, ◌<◌, ◌≤◌, List, [], ◌∷◌, ◌++◌, length, get_or, Bool, true, false, cond, not, eqb, ltb, Some, None, refl, sym, ap, subst, ◌∙◌, arith, inl, inr}
+use Rattle.std.specs.Prelude.{◌||◌, is_some, slice_index_or, ◌==◌}
+use Rattle.std.specs.Str.{bytes_eq}
+use Rattle.std.specs.List.{position, position_or_len, list_any}
+use Rattle.std.proofs.lemmas.Bool.{ne_eqb, eq-eqb, ltb-false, cases_lt}
+use Rattle.std.proofs.lemmas.List.{length-append, get_or_append_left, get_or-append_right}
+use Rattle.std.proofs.lemmas.Slice.Eq.{bytes_eq-Decides}
+use Rattle.sdd_catalog.specs.Rules.{repeats, has_name}
+use Rattle.sdd_script.specs.Valid.{AreDistinct}
+use Rattle.sdd_script.proofs.WordCuts.{NonePasses, position_again, no_position}
+
+or_false : (a b : Bool) → (a || b) ≡ false → (a ≡ false) × (b ≡ false)
+or_false true b e = absurd cc
+or_false false b e = (refl, e)
+
+if_false : (a b : Bool) → cond a true b ≡ false → (a ≡ false) × (b ≡ false)
+if_false true b e = absurd cc
+if_false false b e = (refl, e)
+
+-- a test that no item passes
+
+pub none_any : {A : Type 0} (p : A → Bool) (xs : List A) → list_any p xs ≡ false → NonePasses p xs
+none_any p [] e = tt
+none_any p (x ∷ xs) e = let h = or_false (p x) (list_any p xs) e in (h.0, none_any p xs h.1)
+
+pub any_none : {A : Type 0} (p : A → Bool) (xs : List A) → NonePasses p xs → list_any p xs ≡ false
+any_none p [] h = refl
+any_none p (x ∷ xs) h = let a = h.0 in let b = any_none p xs h.1 in rw (a, b) refl
+
+within_if : (b : Bool) (k : ℕ) → is_some (cond b (Some k) None) ≡ false → b ≡ false
+within_if true k e = absurd cc
+within_if false k e = refl
+
+none_if : (b : Bool) (n m : ℕ) → suc n ≤ cond (not b) (1 + m) 0 → (b ≡ false) × (n ≤ m)
+none_if true n m h = absurd (omega (arith, h))
+none_if false n m h = (refl, omega (arith, h))
+
+past_none : {A : Type 0} (p : A → Bool) (xs : List A) → length xs ≤ position_or_len p xs → NonePasses p xs
+past_none p [] h = tt
+past_none p (x ∷ xs) h = let r = none_if (p x) (length xs) (position_or_len p xs) h in (r.0, past_none p xs r.1)
+
+pub none_found : {A : Type 0} (p : A → Bool) (xs : List A) → is_some (position p xs) ≡ false → NonePasses p xs
+none_found p xs e = past_none p xs (ltb-false (position_or_len p xs) (length xs) (within_if (ltb (position_or_len p xs) (length xs)) (position_or_len p xs) e))
+
+pub found_none : {A : Type 0} (p : A → Bool) (xs : List A) → NonePasses p xs → is_some (position p xs) ≡ false
+found_none p xs h = let e = no_position p xs h in rw e refl
+
+-- ---- names
+
+bytes_differ : (a b : List ℕ) (t : Bool) → bytes_eq b a ≡ t → bytes_eq a b ≡ false → bytes_eq b a ≡ false
+bytes_differ a b true p e = let same : b ≡ a = (bytes_eq-Decides b a).0 p in let q : bytes_eq a b ≡ true = (bytes_eq-Decides a b).1 (sym same) in absurd cc
+bytes_differ a b false p e = p
+
+pub differ_again : (a b : List ℕ) → bytes_eq a b ≡ false → bytes_eq b a ≡ false
+differ_again a b e = bytes_differ a b (bytes_eq b a) refl e
+
+apart_at : (name : List ℕ) (ns : List (List ℕ)) (i : ℕ) → NonePasses (bytes_eq name) ns → i < length ns → bytes_eq name (get_or ns i []) ≡ false
+apart_at name [] i h lt = absurd (omega arith)
+apart_at name (n ∷ ns) zero h lt = h.0
+apart_at name (n ∷ ns) (suc i) h lt = apart_at name ns i h.1 (omega arith)
+
+none_more : {A : Type 0} (p : A → Bool) (xs : List A) (x : A) → NonePasses p xs → p x ≡ false → NonePasses p (xs ++ x ∷ [])
+none_more p [] x h e = (e, tt)
+none_more p (y ∷ xs) x h e = (h.0, none_more p xs x h.1 e)
+
+in_middle : {A : Type 0} (p : A → Bool) (xs : List A) (x : A) (rest : List A) → NonePasses p (xs ++ x ∷ rest) → p x ≡ false
+in_middle p [] x rest h = h.0
+in_middle p (y ∷ xs) x rest h = in_middle p xs x rest h.1
+
+split_at : (ns : List (List ℕ)) (i : ℕ) → i < length ns → (before : List (List ℕ)) × (behind : List (List ℕ)) × (ns ≡ before ++ get_or ns i [] ∷ behind) × (length before ≡ i)
+split_at [] i lt = absurd (omega arith)
+split_at (n ∷ ns) zero lt = ([], ns, refl, refl)
+split_at (n ∷ ns) (suc i) lt = let p = split_at ns i (omega arith) in (n ∷ p.0, p.1, ap (λ (l : List (List ℕ)). n ∷ l) p.2, ap suc p.3)
+
+-- an item more
+
+pub repeats_not : (ns : List (List ℕ)) (name : List ℕ) → repeats ns ≡ false → NonePasses (bytes_eq name) ns → repeats (ns ++ name ∷ []) ≡ false
+repeats_not [] name e h = refl
+repeats_not (n ∷ ns) name e h =
+    let r = if_false (has_name ns n) (repeats ns) e in
+    let other : NonePasses (bytes_eq n) (ns ++ name ∷ []) = none_more (bytes_eq n) ns name (none_any (bytes_eq n) ns r.0) (differ_again name n h.0) in
+    let a : has_name (ns ++ name ∷ []) n ≡ false = any_none (bytes_eq n) (ns ++ name ∷ []) other in
+    let b = repeats_not ns name r.1 h.1 in
+    rw (a, b) refl
+
+pub apart_before : (ns : List (List ℕ)) (name : List ℕ) (rest : List (List ℕ)) → repeats (ns ++ name ∷ rest) ≡ false → NonePasses (bytes_eq name) ns
+apart_before [] name rest e = tt
+apart_before (n ∷ ns) name rest e =
+    let r = if_false (has_name (ns ++ name ∷ rest) n) (repeats (ns ++ name ∷ rest)) e in
+    (differ_again n name (in_middle (bytes_eq n) ns name rest (none_any (bytes_eq n) (ns ++ name ∷ rest) r.0)), apart_before ns name rest r.1)
+
+-- an item is found at its place
+pub place_of_name : (ns : List (List ℕ)) (i : ℕ) → repeats ns ≡ false → i < length ns → position (bytes_eq (get_or ns i [])) ns ≡ Some i
+place_of_name ns i e lt =
+    let p = split_at ns i lt in
+    let name : List ℕ = get_or ns i [] in
+    let found : position (bytes_eq name) (p.0 ++ name ∷ p.1) ≡ Some (length p.0) = position_again (bytes_eq name) p.0 name p.1 (apart_before p.0 name p.1 (subst (λ (l : List (List ℕ)). repeats l ≡ false) p.2 e)) ((bytes_eq-Decides name name).1 refl) in
+    ap (position (bytes_eq name)) p.2 ∙ found ∙ ap (λ (k : ℕ). Some k) p.3
+
+-- ---- numbers
+
+zero_of : (k n : ℕ) → k ≡ n → k - n ≡ 0
+zero_of k n e = omega (arith, e)
+
+not_at : (ns : List ℕ) (x i d : ℕ) → NonePasses (λ n. n == x) ns → i < length ns → get_or ns i d ≢ x
+not_at [] x i d h lt e = omega arith
+not_at (n ∷ ns) x zero d h lt e = let q : eqb n x ≡ true = eq-eqb n x e in let r : eqb n x ≡ false = h.0 in absurd cc
+not_at (n ∷ ns) x (suc i) d h lt e = not_at ns x i d h.1 (omega arith) e
+
+all_differ : (ns : List ℕ) (x : ℕ) → ((i : ℕ) → i < length ns → get_or ns i 0 ≡ x → ⊥) → NonePasses (λ n. n == x) ns
+all_differ [] x h = tt
+all_differ (n ∷ ns) x h = (ne_eqb n x (h 0 (omega arith)), all_differ ns x (λ i lt. h (suc i) (omega arith)))
+
+pub distinct_more : (ns : List ℕ) (x : ℕ) → AreDistinct ns → NonePasses (λ n. n == x) ns → AreDistinct (ns ++ x ∷ [])
+distinct_more ns x h other i k less within d =
+    elim (cases_lt k (length ns)) as (λ o. slice_index_or (ns ++ x ∷ []) i d ≡ slice_index_or (ns ++ x ∷ []) k d → ⊥) [
+      | inl lt ↦ λ e. h i k less lt d (sym (get_or_append_left ns (x ∷ []) d i (omega arith)) ∙ e ∙ get_or_append_left ns (x ∷ []) d k lt)
+      | inr le ↦ λ e.
+          let len : length (ns ++ x ∷ []) ≡ length ns + 1 = omega (arith, length-append ns (x ∷ [])) in
+          let at : k ≡ length ns = omega (arith, len, within) in
+          let last : get_or (ns ++ x ∷ []) k d ≡ x = get_or-append_right ns (x ∷ []) (length ns) k d refl le ∙ ap (λ (n : ℕ). get_or (x ∷ []) n d) (zero_of k (length ns) at) in
+          let first : get_or (ns ++ x ∷ []) i d ≡ get_or ns i d = get_or_append_left ns (x ∷ []) d i (omega (arith, at, less)) in
+          let differs : get_or ns i d ≢ x = not_at ns x i d other (omega (arith, at, less)) in
+          differs (sym first ∙ e ∙ last)
+    ]
+
+pub apart_from : (ns : List ℕ) (x : ℕ) (rest : List ℕ) → AreDistinct (ns ++ x ∷ rest) → NonePasses (λ n. n == x) ns
+apart_from ns x rest h = all_differ ns x (λ i lt e.
+    let len : length (ns ++ x ∷ rest) ≡ length ns + length (x ∷ rest) = length-append ns (x ∷ rest) in
+    let at : get_or (ns ++ x ∷ rest) (length ns) 0 ≡ x = get_or-append_right ns (x ∷ rest) (length ns) (length ns) 0 refl (omega arith) ∙ ap (λ (n : ℕ). get_or (x ∷ rest) n 0) (zero_of (length ns) (length ns) refl) in
+    h i (length ns) lt (omega (arith, len)) 0 (get_or_append_left ns (x ∷ rest) 0 i lt ∙ e ∙ sym at))

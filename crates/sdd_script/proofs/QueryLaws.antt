@@ -1,0 +1,293 @@
+-- Statements: what is read is spelled and fits, and what is spelled and fits is read.
+use Rattle.std.proofs.Common.{◌≡◌, ℕ, suc, ◌<◌, ◌≤◌, List, [], ◌∷◌, ◌++◌, length, map, Bool, true, false, ◌&&◌, ltb, Option, Some, Ok, refl, sym, ap, subst, ◌∙◌, arith, append-nil}
+use Rattle.std.specs.Prelude.{codes, nat_le, nat_lt}
+use Rattle.std.specs.List.{AllByRecursion, list_all}
+use Rattle.std.proofs.lemmas.Bool.{ltb-true, lt-ltb}
+use Rattle.std.proofs.lemmas.List.Elements.{All-from_recursion, recursion_from_All}
+use Rattle.sdd_base.specs.declared.number.RelNo.{RelNo}
+use Rattle.sdd_base.specs.declared.value.Value.{Value}
+use Rattle.sdd_catalog.specs.Catalogue.{Catalogue}
+use Rattle.sdd_lang.specs.Fits.{IsRelation, FitsRef, FitsCondition, FitsStatement, kind_of_ref}
+use Rattle.sdd_lang.specs.declared.assign.Assign.{Assign}
+use Rattle.sdd_lang.specs.declared.condition.Ref.{Ref}
+use Rattle.sdd_lang.specs.declared.condition.Condition.{Condition}
+use Rattle.sdd_lang.specs.declared.statement.Stmt.{Stmt}
+use Rattle.sdd_lang.specs.declared.statement.Stmt.TheVariants.{Put, Query, Update, Delete}
+use Rattle.sdd_words.specs.Keywords.{is_key, is_free, looks_like_column}
+use Rattle.sdd_words.specs.Forms.{cut_at, up_to, from_key, comparisons, conditions_form, not_empty, look_like_columns, are_free}
+use Rattle.sdd_words.specs.Steps.{◌>>=◌, known, must, each_at}
+use Rattle.sdd_words.specs.declared.form.Comparison.{Comparison}
+use Rattle.sdd_words.specs.declared.word.Word.{Word}
+use Rattle.sdd_words.specs.declared.word.Word.TheVariants.{Plain}
+use Rattle.sdd_script.specs.Columns.{Parts, column_of_use, conditions_of}
+use Rattle.sdd_script.specs.LineRules.{statement_limits, most_statements, most_parts, most_conditions, most_columns}
+use Rattle.sdd_script.specs.Naming.{name_of_relation, relation_of}
+use Rattle.sdd_script.specs.Spelling.{relation_word, column_word, row_words, condition_words, conditions_words, where_words, statement_words}
+use Rattle.sdd_script.specs.Statements.{put_of, listed_column, part_of, parts_of, query_of_parts, query_behind_from, query_of}
+use Rattle.sdd_script.specs.Valid.{IsValue, HoldsValue, HoldsValues}
+use Rattle.sdd_script.specs.Values.{rel_no, row_of}
+use Rattle.sdd_script.specs.declared.fault.Counts.TheVariants as counts
+use Rattle.sdd_script.specs.declared.fault.WorkRule.TheVariants.{BadLine, UnknownName, TooMany}
+use Rattle.sdd_script.specs.declared.found.Found.{Found}
+use Rattle.sdd_script.proofs.StepLaws.{bind_ok, ok_is, must_then, must_ok, known_then, both_hold, both_are, Answer, each_ok, ok_each, le_of, of_le, two_same}
+use Rattle.sdd_script.proofs.WordLooks.{name_free}
+use Rattle.sdd_script.proofs.WordCuts.{NonePasses, cut_takes, cut_again, joined_again, key_is_that, before_again, from_again, all_before, none_from}
+use Rattle.sdd_script.proofs.UseLaws.{IsKnown, relation_takes, relation_again}
+use Rattle.sdd_script.proofs.RefLaws.{parts_for, AreParts, ref_takes, ref_again, column_word_is}
+use Rattle.sdd_script.proofs.RowLaws.{FitsRowOf, row_takes, row_again, row_free}
+use Rattle.sdd_script.proofs.ConditionLaws.{conditions_take, conditions_again, comparison_for, form_again}
+
+-- a statement that was read of the words behind its keyword
+pub record IsStatement (cat : Catalogue) (key : List ℕ) (words : List Word) (s : Stmt) : Type 0 where
+  pub spelled : Plain key ∷ words ≡ statement_words cat s
+  pub values : HoldsValues s
+  pub fits : (before : ℕ) (u : Unit {0}) → statement_limits before s ≡ Ok u → FitsStatement cat s
+
+-- ---- limits
+
+pub query_limits : (before : ℕ) (out : List Ref) (rels : List RelNo) (conds : List Condition) (u : Unit {0}) → statement_limits before (Query out rels conds) ≡ Ok u → (length rels ≤ 6) × (length conds ≤ 16) × (length out ≤ 16)
+query_limits before out rels conds u e =
+    let a = must_then (TooMany counts.Statement) (nat_lt before most_statements) (λ _. must (TooMany counts.Part) (nat_le (length rels) most_parts) >>= λ _. must (TooMany counts.Cond) (nat_le (length conds) most_conditions) >>= λ _. must (TooMany counts.Column) (nat_le (length out) most_columns)) u e in
+    let b = must_then (TooMany counts.Part) (nat_le (length rels) most_parts) (λ _. must (TooMany counts.Cond) (nat_le (length conds) most_conditions) >>= λ _. must (TooMany counts.Column) (nat_le (length out) most_columns)) u a.1 in
+    let c = must_then (TooMany counts.Cond) (nat_le (length conds) most_conditions) (λ _. must (TooMany counts.Column) (nat_le (length out) most_columns)) u b.1 in
+    let d = must_ok (TooMany counts.Column) (nat_le (length out) most_columns) u c.1 in
+    (le_of (length rels) 6 b.0, le_of (length conds) 16 c.0, le_of (length out) 16 d)
+
+pub update_limits : (before : ℕ) (rel : RelNo) (sets : List Assign) (conds : List Condition) (u : Unit {0}) → statement_limits before (Update rel sets conds) ≡ Ok u → (length conds ≤ 16) × (length sets ≤ 16)
+update_limits before rel sets conds u e =
+    let a = must_then (TooMany counts.Statement) (nat_lt before most_statements) (λ _. must (TooMany counts.Cond) (nat_le (length conds) most_conditions) >>= λ _. must (TooMany counts.Column) (nat_le (length sets) most_columns)) u e in
+    let c = must_then (TooMany counts.Cond) (nat_le (length conds) most_conditions) (λ _. must (TooMany counts.Column) (nat_le (length sets) most_columns)) u a.1 in
+    let d = must_ok (TooMany counts.Column) (nat_le (length sets) most_columns) u c.1 in
+    (le_of (length conds) 16 c.0, le_of (length sets) 16 d)
+
+pub delete_limits : (before : ℕ) (rel : RelNo) (conds : List Condition) (u : Unit {0}) → statement_limits before (Delete rel conds) ≡ Ok u → length conds ≤ 16
+delete_limits before rel conds u e =
+    let a = must_then (TooMany counts.Statement) (nat_lt before most_statements) (λ _. must (TooMany counts.Cond) (nat_le (length conds) most_conditions)) u e in
+    le_of (length conds) 16 (must_ok (TooMany counts.Cond) (nat_le (length conds) most_conditions) u a.1)
+
+pub limits_before : (before : ℕ) (s : Stmt) (u : Unit {0}) → statement_limits before s ≡ Ok u → before < 32
+limits_before before (Put rel row) u e = ltb-true before 32 (must_ok (TooMany counts.Statement) (nat_lt before most_statements) u e)
+limits_before before (Query out rels conds) u e = ltb-true before 32 (must_then (TooMany counts.Statement) (nat_lt before most_statements) (λ _. must (TooMany counts.Part) (nat_le (length rels) most_parts) >>= λ _. must (TooMany counts.Cond) (nat_le (length conds) most_conditions) >>= λ _. must (TooMany counts.Column) (nat_le (length out) most_columns)) u e).0
+limits_before before (Update rel sets conds) u e = ltb-true before 32 (must_then (TooMany counts.Statement) (nat_lt before most_statements) (λ _. must (TooMany counts.Cond) (nat_le (length conds) most_conditions) >>= λ _. must (TooMany counts.Column) (nat_le (length sets) most_columns)) u e).0
+limits_before before (Delete rel conds) u e = ltb-true before 32 (must_then (TooMany counts.Statement) (nat_lt before most_statements) (λ _. must (TooMany counts.Cond) (nat_le (length conds) most_conditions)) u e).0
+
+pub limits_again : (cat : Catalogue) (before : ℕ) (s : Stmt) → before < 32 → FitsStatement cat s → statement_limits before s ≡ Ok tt
+limits_again cat before (Put rel row) lt h = let a : ltb before 32 ≡ true = lt-ltb before 32 lt in rw a refl
+limits_again cat before (Query out rels conds) lt h =
+    let a : ltb before 32 ≡ true = lt-ltb before 32 lt in
+    let b = of_le (length rels) 6 h.0.1 in
+    let c = of_le (length conds) 16 h.4.0 in
+    let d = of_le (length out) 16 h.2.1 in
+    rw (a, b, c, d) refl
+limits_again cat before (Update rel sets conds) lt h =
+    let a : ltb before 32 ≡ true = lt-ltb before 32 lt in
+    let c = of_le (length conds) 16 h.3.0 in
+    let d = of_le (length sets) 16 h.1.1 in
+    rw (a, c, d) refl
+limits_again cat before (Delete rel conds) lt h =
+    let a : ltb before 32 ≡ true = lt-ltb before 32 lt in
+    let c = of_le (length conds) 16 h.1.0 in
+    rw (a, c) refl
+
+-- ---- put
+
+pub put_takes : (cat : Catalogue) (words : List Word) (s : Stmt) → put_of cat words ≡ Ok s → IsStatement cat (codes "put") words s
+put_takes cat [] s e = absurd cc
+put_takes cat (name ∷ words) s e =
+    let a = must_then BadLine (is_free name && are_free words) (λ _. row_of cat name words >>= λ (r : RelNo × List Value). Ok (Put r.0 r.1)) s e in
+    let b = bind_ok (row_of cat name words) (λ (r : RelNo × List Value). Ok (Put r.0 r.1)) s a.1 in
+    let r = row_takes cat name words b.0 b.1 in
+    subst (λ (x : Stmt). IsStatement cat (codes "put") (name ∷ words) x) (ok_is (Put b.0.0 b.0.1) s b.2) (record {
+      spelled = ap (λ (l : List Word). Plain (codes "put") ∷ l) r.spelled;
+      values = All-from_recursion IsValue b.0.1 r.fits.2;
+      fits = λ before u lim. (r.fits.0, r.fits.1);
+    })
+
+pub put_again : (cat : Catalogue) → IsKnown cat → (rel : RelNo) (row : List Value) → FitsRowOf cat rel row → put_of cat (row_words cat rel row) ≡ Ok (Put rel row)
+put_again cat k rel row h =
+    let a = row_free cat k rel row h in
+    let b = row_again cat k rel row h in
+    rw (a, b) refl
+
+-- ---- the relations and columns of a query
+
+two_parts : (a b : Option ℕ) (xs ys : Parts) → a ≡ b → xs ≡ ys → a ∷ xs ≡ b ∷ ys
+two_parts a b xs ys p q = cc
+
+part_again : (cat : Catalogue) (r : RelNo) → relation_of cat (relation_word cat r) ≡ Some r.0 → part_of cat (relation_word cat r) ≡ Ok r
+part_again cat r e = rw e refl
+
+listed_again : (cat : Catalogue) (rels : List RelNo) (r : Ref) → column_of_use cat (parts_for rels) (column_word cat rels r) ≡ Ok (record { at = r; kind = kind_of_ref cat rels r }) → listed_column cat (parts_for rels) (column_word cat rels r) ≡ Ok r
+listed_again cat rels r e = rw e refl
+
+query_words : (a b c d e f : List Word) → a ≡ b → c ≡ d → e ≡ f → Plain (codes "query") ∷ (a ++ Plain (codes "from") ∷ (c ++ e)) ≡ Plain (codes "query") ∷ (b ++ Plain (codes "from") ∷ (d ++ f))
+query_words a b c d e f p q r = ap (λ (l : List Word). Plain (codes "query") ∷ (l ++ Plain (codes "from") ∷ (c ++ e))) p ∙ ap (λ (l : List Word). Plain (codes "query") ∷ (b ++ Plain (codes "from") ∷ (l ++ e))) q ∙ ap (λ (l : List Word). Plain (codes "query") ∷ (b ++ Plain (codes "from") ∷ (d ++ l))) r
+
+parts_take : (cat : Catalogue) (i : ℕ) (words : List Word) (rels : List RelNo) → Answer (λ i w. part_of cat w) i words rels → (words ≡ map (relation_word cat) rels) × (parts_of cat words ≡ parts_for rels) × AllByRecursion (λ (r : RelNo). IsRelation cat r.0) rels
+parts_take cat i [] [] h = (refl, refl, tt)
+parts_take cat i [] (r ∷ rels) h = absurd h
+parts_take cat i (w ∷ words) [] h = absurd h
+parts_take cat i (w ∷ words) (r ∷ rels) h =
+    let a = known_then UnknownName (relation_of cat w) (λ rel. Ok (rel_no rel)) r h.0 in
+    let t = relation_takes cat w a.0 a.1 in
+    let same : rel_no a.0 ≡ r = ok_is (rel_no a.0) r a.2 in
+    let more = parts_take cat (suc i) words rels h.1 in (
+      two_same w (relation_word cat r) words (map (relation_word cat) rels) (t.spelled ∙ ap (relation_word cat) same) more.0,
+      two_parts (relation_of cat w) (Some r.0) (parts_of cat words) (parts_for rels) (a.1 ∙ ap (λ (x : RelNo). Some x.0) same) more.1,
+      (subst (λ (x : RelNo). IsRelation cat x.0) same t.there, more.2),
+    )
+
+parts_again : (cat : Catalogue) → IsKnown cat → (rels : List RelNo) → AllByRecursion (λ (r : RelNo). IsRelation cat r.0) rels → (i : ℕ) → Answer (λ i w. part_of cat w) i (map (relation_word cat) rels) rels
+parts_again cat k [] h i = tt
+parts_again cat k (r ∷ rels) h i = (part_again cat r (relation_again cat k r.0 h.0), parts_again cat k rels h.1 (suc i))
+
+parts_are : (cat : Catalogue) → IsKnown cat → (rels : List RelNo) → AllByRecursion (λ (r : RelNo). IsRelation cat r.0) rels → parts_of cat (map (relation_word cat) rels) ≡ parts_for rels
+parts_are cat k [] h = refl
+parts_are cat k (r ∷ rels) h = two_parts (relation_of cat (relation_word cat r)) (Some r.0) (parts_of cat (map (relation_word cat) rels)) (parts_for rels) (relation_again cat k r.0 h.0) (parts_are cat k rels h.1)
+
+columns_take : (cat : Catalogue) (rels : List RelNo) (i : ℕ) (words : List Word) (out : List Ref) → list_all looks_like_column words ≡ true → Answer (λ i w. listed_column cat (parts_for rels) w) i words out → (words ≡ map (column_word cat rels) out) × AllByRecursion (FitsRef cat rels) out
+columns_take cat rels i [] [] l h = (refl, tt)
+columns_take cat rels i [] (r ∷ out) l h = absurd h
+columns_take cat rels i (w ∷ words) [] l h = absurd h
+columns_take cat rels i (w ∷ words) (r ∷ out) l h =
+    let look = both_hold (looks_like_column w) (list_all looks_like_column words) l in
+    let a = bind_ok (column_of_use cat (parts_for rels) w) (λ (f : Found). Ok f.at) r h.0 in
+    let t = ref_takes cat rels w a.0 look.0 a.1 in
+    let same : a.0.at ≡ r = ok_is a.0.at r a.2 in
+    let more = columns_take cat rels (suc i) words out look.1 h.1 in
+    (two_same w (column_word cat rels r) words (map (column_word cat rels) out) (t.spelled ∙ ap (column_word cat rels) same) more.0, (subst (λ (x : Ref). FitsRef cat rels x) same t.fits, more.1))
+
+columns_again : (cat : Catalogue) → IsKnown cat → (rels : List RelNo) → AreParts cat rels → (i : ℕ) (out : List Ref) → AllByRecursion (FitsRef cat rels) out → Answer (λ i w. listed_column cat (parts_for rels) w) i (map (column_word cat rels) out) out
+columns_again cat k rels p i [] h = tt
+columns_again cat k rels p i (r ∷ out) h = (listed_again cat rels r (ref_again cat k rels r p h.0), columns_again cat k rels p (suc i) out h.1)
+
+-- ---- where a list of words ends
+
+no_key : (key : List ℕ) (w : Word) (b : Bool) → is_key key w ≡ b → is_free (Plain key) ≡ false → is_free w ≡ true → is_key key w ≡ false
+no_key key w true e r f = let same = key_is_that key w e in let q : is_free (Plain key) ≡ true = subst (λ (x : Word). is_free x ≡ true) same f in absurd cc
+no_key key w false e r f = e
+
+pub free_no_key : (key : List ℕ) (w : Word) → is_free (Plain key) ≡ false → is_free w ≡ true → is_key key w ≡ false
+free_no_key key w r f = no_key key w (is_key key w) refl r f
+
+pub frees_no_key : (key : List ℕ) (ws : List Word) → is_free (Plain key) ≡ false → list_all is_free ws ≡ true → NonePasses (is_key key) ws
+frees_no_key key [] r h = tt
+frees_no_key key (w ∷ ws) r h = let a = both_hold (is_free w) (list_all is_free ws) h in (free_no_key key w r a.0, frees_no_key key ws r a.1)
+
+pub before_where : (cat : Catalogue) (rels : List RelNo) (front : List Word) (conds : List Condition) → NonePasses (is_key (codes "where")) front → up_to (codes "where") (front ++ where_words cat rels conds) ≡ front
+before_where cat rels front [] h = ap (up_to (codes "where")) (append-nil front) ∙ all_before (is_key (codes "where")) front h
+before_where cat rels front (c ∷ conds) h = before_again (is_key (codes "where")) front (Plain (codes "where")) (condition_words cat rels c ++ conditions_words (codes "and") cat rels conds) h refl
+
+pub from_where : (cat : Catalogue) (rels : List RelNo) (front : List Word) (conds : List Condition) → NonePasses (is_key (codes "where")) front → from_key (codes "where") (front ++ where_words cat rels conds) ≡ where_words cat rels conds
+from_where cat rels front [] h = ap (from_key (codes "where")) (append-nil front) ∙ none_from (is_key (codes "where")) front h
+from_where cat rels front (c ∷ conds) h = from_again (is_key (codes "where")) front (Plain (codes "where")) (condition_words cat rels c ++ conditions_words (codes "and") cat rels conds) h refl
+
+-- ---- query
+
+pub nonempty : {A : Type 0} (f : A → Word) (xs : List A) → not_empty (map f xs) ≡ true → 1 ≤ length xs
+nonempty f [] e = absurd cc
+nonempty f (x ∷ xs) e = omega arith
+
+pub not_empty_again : {A : Type 0} (f : A → Word) (xs : List A) → 1 ≤ length xs → not_empty (map f xs) ≡ true
+not_empty_again f [] h = absurd (omega arith)
+not_empty_again f (x ∷ xs) h = refl
+
+query_parts_take : (cat : Catalogue) (columns rels rest : List Word) (cs : List Comparison) (s : Stmt) → look_like_columns columns ≡ true → are_free rels ≡ true → comparisons (codes "where") rest ≡ Some cs
+    → query_of_parts cat columns rels cs ≡ Ok s → IsStatement cat (codes "query") (columns ++ Plain (codes "from") ∷ (rels ++ rest)) s
+unfolding query_of_parts
+query_parts_take cat columns rels rest cs s look free form e =
+    let a = bind_ok (each_at (λ i w. listed_column cat (parts_of cat rels) w) 0 columns) (λ out. each_at (λ i w. part_of cat w) 0 rels >>= λ found. conditions_of cat (parts_of cat rels) cs >>= λ conds. Ok (Query out found conds)) s e in
+    let b = bind_ok (each_at (λ i w. part_of cat w) 0 rels) (λ found. conditions_of cat (parts_of cat rels) cs >>= λ conds. Ok (Query a.0 found conds)) s a.2 in
+    let c = bind_ok (conditions_of cat (parts_of cat rels) cs) (λ conds. Ok (Query a.0 b.0 conds)) s b.2 in
+    let p = parts_take cat 0 rels b.0 (each_ok (λ i w. part_of cat w) 0 rels b.0 b.1) in
+    let looks = both_hold (not_empty columns) (list_all looks_like_column columns) look in
+    let frees = both_hold (not_empty rels) (list_all is_free rels) free in
+    let o = columns_take cat b.0 0 columns a.0 looks.1 (each_ok (λ i w. listed_column cat (parts_for b.0) w) 0 columns a.0 (subst (λ (q : Parts). each_at (λ i w. listed_column cat q w) 0 columns ≡ Ok a.0) p.1 a.1)) in
+    let d = conditions_take cat b.0 (codes "where") rest cs c.0 form (subst (λ (q : Parts). conditions_of cat q cs ≡ Ok c.0) p.1 c.1) in
+    let some_rels : 1 ≤ length b.0 = nonempty (relation_word cat) b.0 (subst (λ (l : List Word). not_empty l ≡ true) p.0 frees.0) in
+    let some_out : 1 ≤ length a.0 = nonempty (column_word cat b.0) a.0 (subst (λ (l : List Word). not_empty l ≡ true) o.0 looks.0) in
+    subst (λ (x : Stmt). IsStatement cat (codes "query") (columns ++ Plain (codes "from") ∷ (rels ++ rest)) x) (ok_is (Query a.0 b.0 c.0) s c.2) (record {
+      spelled = query_words columns (map (column_word cat b.0) a.0) rels (map (relation_word cat) b.0) rest (where_words cat b.0 c.0) o.0 p.0 d.spelled;
+      values = All-from_recursion HoldsValue c.0 d.values;
+      fits = λ before u lim. let l = query_limits before a.0 b.0 c.0 u lim in
+          ((some_rels, l.0), All-from_recursion (λ (r : RelNo). IsRelation cat r.0) b.0 p.2, (some_out, l.2), All-from_recursion (FitsRef cat b.0) a.0 o.1, (l.1, All-from_recursion (FitsCondition cat b.0) c.0 d.fits));
+    })
+
+pub query_takes : (cat : Catalogue) (words : List Word) (s : Stmt) → query_of cat words ≡ Ok s → IsStatement cat (codes "query") words s
+query_takes cat words s e =
+    let a = known_then BadLine (cut_at (codes "from") words) (λ (cut : List Word × List Word). query_behind_from cat cut.0 (up_to (codes "where") cut.1) (from_key (codes "where") cut.1)) s e in
+    let rels : List Word = up_to (codes "where") a.0.1 in
+    let rest : List Word = from_key (codes "where") a.0.1 in
+    let b = must_then BadLine (look_like_columns a.0.0 && are_free rels) (λ _. known BadLine (conditions_form rest) >>= λ comparisons. query_of_parts cat a.0.0 rels comparisons) s a.2 in
+    let c = known_then BadLine (conditions_form rest) (λ comparisons. query_of_parts cat a.0.0 rels comparisons) s b.1 in
+    let t = both_hold (look_like_columns a.0.0) (are_free rels) b.0 in
+    let whole : words ≡ a.0.0 ++ Plain (codes "from") ∷ (rels ++ rest) = cut_takes (codes "from") words a.0.0 a.0.1 a.1 ∙ ap (λ (l : List Word). a.0.0 ++ Plain (codes "from") ∷ l) (sym (joined_again (is_key (codes "where")) a.0.1)) in
+    subst (λ (l : List Word). IsStatement cat (codes "query") l s) (sym whole) (query_parts_take cat a.0.0 rels rest c.0 s t.0 t.1 c.1 c.2)
+
+-- where a query fits
+pub record FitsQuery (cat : Catalogue) (out : List Ref) (rels : List RelNo) (conds : List Condition) : Type 0 where
+  pub parts : AreParts cat rels
+  pub relations : AllByRecursion (λ (r : RelNo). IsRelation cat r.0) rels
+  pub some_rels : 1 ≤ length rels
+  pub some_out : 1 ≤ length out
+  pub columns : AllByRecursion (FitsRef cat rels) out
+  pub conds_fit : AllByRecursion (FitsCondition cat rels) conds
+  pub conds_hold : AllByRecursion HoldsValue conds
+
+pub query_fits : (cat : Catalogue) (out : List Ref) (rels : List RelNo) (conds : List Condition) → FitsStatement cat (Query out rels conds) → HoldsValues (Query out rels conds) → FitsQuery cat out rels conds
+query_fits cat out rels conds h v = record {
+  parts = record { there = h.1; few = h.0.1 };
+  relations = recursion_from_All (λ (r : RelNo). IsRelation cat r.0) rels h.1;
+  some_rels = h.0.0;
+  some_out = h.2.0;
+  columns = recursion_from_All (FitsRef cat rels) out h.3;
+  conds_fit = recursion_from_All (FitsCondition cat rels) conds h.4.1;
+  conds_hold = recursion_from_All HoldsValue conds v;
+}
+
+query_parts_again : (cat : Catalogue) → IsKnown cat → (out : List Ref) (rels : List RelNo) (conds : List Condition) → FitsQuery cat out rels conds
+    → query_of_parts cat (map (column_word cat rels) out) (map (relation_word cat) rels) (map (comparison_for cat rels) conds) ≡ Ok (Query out rels conds)
+unfolding query_of_parts
+query_parts_again cat k out rels conds h =
+    let p = parts_are cat k rels h.relations in
+    let a : each_at (λ i w. listed_column cat (parts_for rels) w) 0 (map (column_word cat rels) out) ≡ Ok out = ok_each (λ i w. listed_column cat (parts_for rels) w) 0 (map (column_word cat rels) out) out (columns_again cat k rels h.parts 0 out h.columns) in
+    let b : each_at (λ i w. part_of cat w) 0 (map (relation_word cat) rels) ≡ Ok rels = ok_each (λ i w. part_of cat w) 0 (map (relation_word cat) rels) rels (parts_again cat k rels h.relations 0) in
+    let c = conditions_again cat k rels h.parts conds h.conds_fit h.conds_hold in
+    ap (λ (q : Parts). each_at (λ i w. listed_column cat q w) 0 (map (column_word cat rels) out) >>= λ o. each_at (λ i w. part_of cat w) 0 (map (relation_word cat) rels) >>= λ found. conditions_of cat q (map (comparison_for cat rels) conds) >>= λ cs. Ok (Query o found cs)) p
+    ∙ rw (a, b, c) refl
+
+all_free_names : (cat : Catalogue) → IsKnown cat → (rels : List RelNo) → AllByRecursion (λ (r : RelNo). IsRelation cat r.0) rels → list_all is_free (map (relation_word cat) rels) ≡ true
+all_free_names cat k [] h = refl
+all_free_names cat k (r ∷ rels) h = both_are (is_free (relation_word cat r)) (list_all is_free (map (relation_word cat) rels)) (name_free (name_of_relation cat r.0) (k.relation_name r.0 h.0)) (all_free_names cat k rels h.1)
+
+columns_look : (cat : Catalogue) → IsKnown cat → (rels : List RelNo) → AreParts cat rels → (out : List Ref) → AllByRecursion (FitsRef cat rels) out → (list_all looks_like_column (map (column_word cat rels) out) ≡ true) × (list_all is_free (map (column_word cat rels) out) ≡ true)
+columns_look cat k rels p [] h = (refl, refl)
+columns_look cat k rels p (r ∷ out) h =
+    let w = column_word_is cat k rels r p h.0 in
+    let more = columns_look cat k rels p out h.1 in
+    (both_are (looks_like_column (column_word cat rels r)) (list_all looks_like_column (map (column_word cat rels) out)) w.looks more.0, both_are (is_free (column_word cat rels r)) (list_all is_free (map (column_word cat rels) out)) w.free more.1)
+
+pub query_again : (cat : Catalogue) → IsKnown cat → (out : List Ref) (rels : List RelNo) (conds : List Condition) → FitsQuery cat out rels conds
+    → query_of cat (map (column_word cat rels) out ++ Plain (codes "from") ∷ (map (relation_word cat) rels ++ where_words cat rels conds)) ≡ Ok (Query out rels conds)
+query_again cat k out rels conds h =
+    let cols : List Word = map (column_word cat rels) out in
+    let names : List Word = map (relation_word cat) rels in
+    let rest : List Word = where_words cat rels conds in
+    let looks = columns_look cat k rels h.parts out h.columns in
+    let frees = all_free_names cat k rels h.relations in
+    let a : cut_at (codes "from") (cols ++ Plain (codes "from") ∷ (names ++ rest)) ≡ Some (cols, names ++ rest) = cut_again (codes "from") cols (names ++ rest) (frees_no_key (codes "from") cols refl looks.1) in
+    let none : NonePasses (is_key (codes "where")) names = frees_no_key (codes "where") names refl frees in
+    let b : up_to (codes "where") (names ++ rest) ≡ names = before_where cat rels names conds none in
+    let c : from_key (codes "where") (names ++ rest) ≡ rest = from_where cat rels names conds none in
+    let d : (look_like_columns cols && are_free names) ≡ true =
+    both_are (look_like_columns cols) (are_free names) (both_are (not_empty cols) (list_all looks_like_column cols) (not_empty_again (column_word cat rels) out h.some_out) looks.0) (both_are (not_empty names) (list_all is_free names) (not_empty_again (relation_word cat) rels h.some_rels) frees) in
+    let f : conditions_form rest ≡ Some (map (comparison_for cat rels) conds) = form_again cat k rels h.parts (codes "where") conds h.conds_fit h.conds_hold in
+    let g = query_parts_again cat k out rels conds h in
+    let behind : query_behind_from cat cols names rest ≡ Ok (Query out rels conds) =
+    ap (λ (t : Bool). must BadLine t >>= λ _. known BadLine (conditions_form rest) >>= λ comparisons. query_of_parts cat cols names comparisons) d
+    ∙ ap (λ (o : Option (List Comparison)). known BadLine o >>= λ comparisons. query_of_parts cat cols names comparisons) f
+    ∙ g in
+    ap (λ (o : Option (List Word × List Word)). known BadLine o >>= λ (cut : List Word × List Word). query_behind_from cat cut.0 (up_to (codes "where") cut.1) (from_key (codes "where") cut.1)) a
+    ∙ ap (λ (l : List Word). query_behind_from cat cols l (from_key (codes "where") (names ++ rest))) b
+    ∙ ap (λ (l : List Word). query_behind_from cat cols names l) c
+    ∙ behind

@@ -1,0 +1,314 @@
+-- What is read is a workload that the catalogue allows, and the file is its spelling.
+use Rattle.std.proofs.Common.{◌≡◌, ℕ, ◌+◌, ◌-◌, ◌<◌, List, [], ◌∷◌, ◌++◌, length, map, get_or, Bool, true, false, cond, Option, Some, None, Result, Ok, Err, refl, sym, ap, subst, ◌∙◌, arith, append-nil, append_assoc, flat_map}
+use Rattle.std.specs.Prelude.{codes, nat_lt, slice_get, unwrap_or}
+use Rattle.std.specs.Option.{option_map, option_map_or}
+use Rattle.std.specs.Str.{bytes_eq, is_utf8}
+use Rattle.std.specs.List.{position}
+use Rattle.std.proofs.lemmas.Bool.{ltb-false}
+use Rattle.std.proofs.lemmas.List.{length-map}
+use Rattle.std.proofs.lemmas.List.Elements.{All-from_recursion}
+use Rattle.std.proofs.lemmas.List.Quantifiers.{position-Some}
+use Rattle.std.proofs.lemmas.Option.{unwrap_or-slice_get, slice_get-map}
+use Rattle.std.proofs.lemmas.Slice.Eq.{bytes_eq-Decides}
+use Rattle.sdd_base.specs.declared.event.Event.{Event}
+use Rattle.sdd_base.specs.declared.event.Event.TheVariants.{Submit, Deliver, Lose, Repeat}
+use Rattle.sdd_base.specs.declared.number.TxnNo.{TxnNo}
+use Rattle.sdd_catalog.specs.Catalogue.{Catalogue}
+use Rattle.sdd_catalog.specs.Rules.{repeats}
+use Rattle.sdd_lang.specs.Fits.{FitsStatement}
+use Rattle.sdd_lang.specs.declared.transaction.Txn.{Txn}
+use Rattle.sdd_words.specs.Keywords.{is_free}
+use Rattle.sdd_words.specs.Lines.{cut_lines, spelled_lines}
+use Rattle.sdd_words.specs.Names.{name_in}
+use Rattle.sdd_words.specs.Steps.{◌>>=◌, known}
+use Rattle.sdd_words.specs.Words.{line_bytes}
+use Rattle.sdd_words.specs.declared.word.Word.{Word}
+use Rattle.sdd_words.specs.declared.word.Word.TheVariants.{Plain, Quoted}
+use Rattle.sdd_words.proofs.Spelled.{cut_takes}
+use Rattle.sdd_base.specs.declared.site.Site.{Site}
+use Rattle.sdd_script.specs.LineRules.{keyword_rules, line_rules}
+use Rattle.sdd_script.specs.Occurrences.{txn_no, number_named, txn_named, submit_of, flight_place, deliver_of, lose_of, repeat_of, resend_of, tick_of, settle_of}
+use Rattle.sdd_script.specs.Places.{takes_events, is_ended}
+use Rattle.sdd_script.specs.Spelling.{name_of_txn, lines_of, spelling, ended}
+use Rattle.sdd_script.specs.Statements.{put_of, query_of, update_of, delete_of}
+use Rattle.sdd_script.specs.Valid.{HoldsValues, IsValidEvent, IsValid, Accepts}
+use Rattle.sdd_script.specs.Walk.{at_line, one_line, tail_rules, walk, walk_bytes, nothing_read, finished, most_bytes, workload}
+use Rattle.sdd_script.specs.declared.fault.WorkFault.{WorkFault}
+use Rattle.sdd_script.specs.declared.fault.WorkRule.{WorkRule}
+use Rattle.sdd_script.specs.declared.fault.WorkRule.TheVariants.{BadLine, UnknownName}
+use Rattle.sdd_script.specs.declared.keyword.Keyword.{Keyword}
+use Rattle.sdd_script.specs.declared.keyword.Keyword.TheVariants as keys
+use Rattle.sdd_script.specs.declared.keyword.StatementKey.TheVariants as skeys
+use Rattle.sdd_script.specs.declared.keyword.EventKey.TheVariants as ekeys
+use Rattle.sdd_script.specs.declared.place.Place.{Place}
+use Rattle.sdd_script.specs.declared.place.Place.TheVariants as places
+use Rattle.sdd_script.specs.declared.state.State.{State}
+use Rattle.sdd_script.specs.declared.workload.Workload.{Workload}
+use Rattle.sdd_script.proofs.StepLaws.{bind_ok, ok_is, must_then, known_then, some_is}
+use Rattle.sdd_script.proofs.QueryLaws.{put_takes, query_takes}
+use Rattle.sdd_script.proofs.UpdateLaws.{update_takes, delete_takes}
+use Rattle.sdd_script.proofs.EventLaws.{place_takes, resend_takes, tick_takes, settle_takes}
+use Rattle.sdd_script.proofs.LineLaws.{line_takes, words_take, keyword_bytes}
+use Rattle.sdd_script.proofs.SoFar.{lines_at, so_far, lines_at_end}
+use Rattle.sdd_script.proofs.SoundStates.{Sound, Leads, IsEvent, names_of, open_name, no_open, named_takes, row_leads, txn_leads, statement_leads, done_leads, event_leads, end_leads}
+
+-- ---- events
+
+or_named : (o : Option Txn) → option_map_or (λ (t : Txn). t.name) o [] ≡ unwrap_or (option_map (λ (t : Txn). t.name) o) []
+or_named None = refl
+or_named (Some t) = refl
+
+pub name_at_number : (txns : List Txn) (txn : ℕ) → name_of_txn txns txn ≡ get_or (names_of txns) (txn - 1) []
+name_at_number txns txn = or_named (slice_get txns (txn - 1)) ∙ ap (λ (o : Option (List ℕ)). unwrap_or o []) (sym (slice_get-map (λ (t : Txn). t.name) txns (txn - 1))) ∙ unwrap_or-slice_get (names_of txns) (txn - 1) []
+
+record IsSubmit (names : List (List ℕ)) (words : List Word) (e : Event) : Type 0 where
+  place : ℕ
+  within : place < length names
+  spelled : words ≡ Plain (get_or names place []) ∷ []
+  is : Submit (txn_no (place + 1)) ≡ e
+
+numbered_at : (o : Option ℕ) (n : ℕ) → option_map (λ place. place + 1) o ≡ Some n → (place : ℕ) × (o ≡ Some place) × (place + 1 ≡ n)
+numbered_at None n e = absurd cc
+numbered_at (Some place) n e = (place, refl, some_is (place + 1) n e)
+
+named_submit : (names : List (List ℕ)) (w : Word) (txn : TxnNo) → txn_named names w ≡ Ok txn → (place : ℕ) × (place < length names) × (w ≡ Plain (get_or names place [])) × (txn_no (place + 1) ≡ txn)
+named_submit names (Quoted text) txn e = absurd cc
+named_submit names (Plain bytes) txn e =
+    let a = known_then UnknownName (name_in bytes) (λ name. known UnknownName (number_named names name) >>= λ n. Ok (txn_no n)) txn e in
+    let m = known_then UnknownName (number_named names a.0) (λ n. Ok (txn_no n)) txn a.2 in
+    let b = numbered_at (position (bytes_eq a.0) names) m.0 m.1 in
+    let n = named_takes bytes a.0 a.1 in
+    let p = position-Some (bytes_eq a.0) names b.0 [] b.1 in
+    let same : a.0 ≡ get_or names b.0 [] = (bytes_eq-Decides a.0 (get_or names b.0 [])).0 p.1 in
+    (b.0, p.0, ap (λ (l : List ℕ). Plain l) (n.1 ∙ same), ap txn_no b.2 ∙ ok_is (txn_no m.0) txn m.2)
+
+submit_takes : (names : List (List ℕ)) (words : List Word) (e : Event) → submit_of names words ≡ Ok e → IsSubmit names words e
+submit_takes names [] e h = absurd cc
+submit_takes names (w ∷ []) e h =
+    let a = must_then BadLine (is_free w) (λ _. txn_named names w >>= λ txn. Ok (Submit txn)) e h in
+    let b = bind_ok (txn_named names w) (λ txn. Ok (Submit txn)) e a.1 in
+    let n = named_submit names w b.0 b.1 in
+    record { place = n.0; within = n.1; spelled = ap (λ (x : Word). x ∷ []) n.2; is = ap (λ (t : TxnNo). Submit t) n.3 ∙ ok_is (Submit b.0) e b.2 }
+submit_takes names (a ∷ b ∷ rest) e h = absurd cc
+
+submit_is : (cat : Catalogue) (st : State) (words : List Word) (e : Event) → Sound cat st → takes_events st.place ≡ true → submit_of st.names words ≡ Ok e → IsEvent cat st (codes "submit") words e
+submit_is cat st words e s t h =
+    let r = submit_takes st.names words e h in
+    let names : st.names ≡ names_of st.txns = s.names ∙ ap (λ (l : List (List ℕ)). names_of st.txns ++ l) (no_open st.place t) ∙ append-nil (names_of st.txns) in
+    let len : length st.names ≡ length st.txns = ap (λ (l : List (List ℕ)). length l) names ∙ length-map st.txns (λ (t : Txn). t.name) in
+    let back : r.place + 1 - 1 ≡ r.place = omega arith in
+    let name : name_of_txn st.txns (r.place + 1) ≡ get_or st.names r.place [] = name_at_number st.txns (r.place + 1) ∙ ap (λ (i : ℕ). get_or (names_of st.txns) i []) back ∙ ap (λ (l : List (List ℕ)). get_or l r.place []) (sym names) in
+    subst (λ (x : Event). IsEvent cat st (codes "submit") words x) r.is (record {
+      spelled = ap (λ (l : List Word). Plain (codes "submit") ∷ l) r.spelled ∙ ap (λ (l : List ℕ). Plain (codes "submit") ∷ Plain l ∷ []) (sym name);
+      valid = (omega arith, omega (arith, r.within, len));
+    })
+
+-- the three events of one form
+deliver_is : (cat : Catalogue) (st : State) (words : List Word) (e : Event) → deliver_of cat words ≡ Ok e → IsEvent cat st (codes "deliver") words e
+deliver_is cat st words e h =
+    let b = bind_ok (flight_place cat words) (λ (p : Site × Site × ℕ). Ok (Deliver p.0 p.1 p.2)) e h in
+    let r = place_takes cat words b.0 b.1 in
+    subst (λ (x : Event). IsEvent cat st (codes "deliver") words x) (ok_is (Deliver b.0.0 b.0.1 b.0.2) e b.2) (record { spelled = ap (λ (l : List Word). Plain (codes "deliver") ∷ l) r.spelled; valid = (r.linked, r.placed) })
+
+lose_is : (cat : Catalogue) (st : State) (words : List Word) (e : Event) → lose_of cat words ≡ Ok e → IsEvent cat st (codes "lose") words e
+lose_is cat st words e h =
+    let b = bind_ok (flight_place cat words) (λ (p : Site × Site × ℕ). Ok (Lose p.0 p.1 p.2)) e h in
+    let r = place_takes cat words b.0 b.1 in
+    subst (λ (x : Event). IsEvent cat st (codes "lose") words x) (ok_is (Lose b.0.0 b.0.1 b.0.2) e b.2) (record { spelled = ap (λ (l : List Word). Plain (codes "lose") ∷ l) r.spelled; valid = (r.linked, r.placed) })
+
+repeat_is : (cat : Catalogue) (st : State) (words : List Word) (e : Event) → repeat_of cat words ≡ Ok e → IsEvent cat st (codes "repeat") words e
+repeat_is cat st words e h =
+    let b = bind_ok (flight_place cat words) (λ (p : Site × Site × ℕ). Ok (Repeat p.0 p.1 p.2)) e h in
+    let r = place_takes cat words b.0 b.1 in
+    subst (λ (x : Event). IsEvent cat st (codes "repeat") words x) (ok_is (Repeat b.0.0 b.0.1 b.0.2) e b.2) (record { spelled = ap (λ (l : List Word). Plain (codes "repeat") ∷ l) r.spelled; valid = (r.linked, r.placed) })
+
+resend_is : (cat : Catalogue) (st : State) (words : List Word) (e : Event) → resend_of cat words ≡ Ok e → IsEvent cat st (codes "resend") words e
+resend_is cat st words e h = let r = resend_takes cat words e h in subst (λ (x : Event). IsEvent cat st (codes "resend") words x) r.is (record { spelled = ap (λ (l : List Word). Plain (codes "resend") ∷ l) r.spelled; valid = r.linked })
+
+tick_is : (cat : Catalogue) (st : State) (words : List Word) (e : Event) → tick_of cat words ≡ Ok e → IsEvent cat st (codes "tick") words e
+tick_is cat st words e h = let r = tick_takes cat words e h in subst (λ (x : Event). IsEvent cat st (codes "tick") words x) r.is (record { spelled = ap (λ (l : List Word). Plain (codes "tick") ∷ l) r.spelled; valid = (r.there, r.counted) })
+
+settle_is : (cat : Catalogue) (st : State) (words : List Word) (e : Event) → settle_of words ≡ Ok e → IsEvent cat st (codes "settle") words e
+settle_is cat st words e h = let r = settle_takes words e h in subst (λ (x : Event). IsEvent cat st (codes "settle") words x) r.1 (record { spelled = ap (λ (l : List Word). Plain (codes "settle") ∷ l) r.0; valid = tt })
+
+-- ---- a line
+
+keyword_leads : (cat : Catalogue) (st to : State) (key : Keyword) (words : List Word) → Sound cat st → keyword_rules key cat st words ≡ Ok to → Leads cat st to (Plain (keyword_bytes key) ∷ words)
+keyword_leads cat st to keys.Row words s e = row_leads cat st to words s e
+keyword_leads cat st to keys.Txn words s e = txn_leads cat st to words s e
+keyword_leads cat st to (keys.Statement skeys.Put) words s e = statement_leads cat st to (codes "put") words (put_of cat words) s (λ q h. put_takes cat words q h) e
+keyword_leads cat st to (keys.Statement skeys.Query) words s e = statement_leads cat st to (codes "query") words (query_of cat words) s (λ q h. query_takes cat words q h) e
+keyword_leads cat st to (keys.Statement skeys.Update) words s e = statement_leads cat st to (codes "update") words (update_of cat words) s (λ q h. update_takes cat words q h) e
+keyword_leads cat st to (keys.Statement skeys.Delete) words s e = statement_leads cat st to (codes "delete") words (delete_of cat words) s (λ q h. delete_takes cat words q h) e
+keyword_leads cat st to keys.Done words s e = done_leads cat st to words s e
+keyword_leads cat st to (keys.Event ekeys.Submit) words s e = event_leads cat st to (codes "submit") words (submit_of st.names words) s (λ t x h. submit_is cat st words x s t h) e
+keyword_leads cat st to (keys.Event ekeys.Deliver) words s e = event_leads cat st to (codes "deliver") words (deliver_of cat words) s (λ t x h. deliver_is cat st words x h) e
+keyword_leads cat st to (keys.Event ekeys.Lose) words s e = event_leads cat st to (codes "lose") words (lose_of cat words) s (λ t x h. lose_is cat st words x h) e
+keyword_leads cat st to (keys.Event ekeys.Repeat) words s e = event_leads cat st to (codes "repeat") words (repeat_of cat words) s (λ t x h. repeat_is cat st words x h) e
+keyword_leads cat st to (keys.Event ekeys.Resend) words s e = event_leads cat st to (codes "resend") words (resend_of cat words) s (λ t x h. resend_is cat st words x h) e
+keyword_leads cat st to (keys.Event ekeys.Tick) words s e = event_leads cat st to (codes "tick") words (tick_of cat words) s (λ t x h. tick_is cat st words x h) e
+keyword_leads cat st to (keys.Event ekeys.Settle) words s e = event_leads cat st to (codes "settle") words (settle_of words) s (λ t x h. settle_is cat st words x h) e
+keyword_leads cat st to keys.End words s e = end_leads cat st to words s e
+
+record IsRead (cat : Catalogue) (st to : State) (line : List ℕ) : Type 0 where
+  words : List Word
+  spelled : line ≡ line_bytes words
+  leads : Leads cat st to words
+
+line_leads : (cat : Catalogue) (st to : State) (line : List ℕ) → Sound cat st → line_rules cat st line ≡ Ok to → IsRead cat st to line
+line_leads cat st to line s e =
+    let l = line_takes cat st to line e in
+    let k = words_take cat st to l.words l.rules in
+    record { words = l.words; spelled = l.spelled; leads = subst (λ (ws : List Word). Leads cat st to ws) (sym k.whole) (keyword_leads cat st to k.key k.words s k.rules) }
+
+one_if : (cat : Catalogue) (st to : State) (line : List ℕ) (b : Bool) → cond b (Err BadLine) (line_rules cat st line) ≡ Ok to → line_rules cat st line ≡ Ok to
+one_if cat st to line true e = absurd cc
+one_if cat st to line false e = e
+
+-- ---- a file
+
+at_ok : (n : ℕ) (r : Result State WorkRule) (f : State → Result State WorkFault) (to : State) → at_line n r f ≡ Ok to → (st : State) × (r ≡ Ok st) × (f st ≡ Ok to)
+at_ok n (Ok st) f to e = (st, refl, e)
+at_ok n (Err rule) f to e = absurd cc
+
+abbrev read_state : State → Result State WorkFault
+read_state st = Ok st
+
+same_state : (x y : State) → read_state x ≡ read_state y → x ≡ y
+same_state x y e = cc
+
+record IsEnd (st to : State) (tail : List ℕ) : Type 0 where
+  nothing : tail ≡ []
+  is : st ≡ to
+  ended : is_ended st.place ≡ true
+
+ended_if : (st to : State) (b : Bool) (rule : WorkRule) → cond b (Ok st) (Err rule) ≡ Ok to → (b ≡ true) × (st ≡ to)
+ended_if st to true rule e = (refl, ok_is st to e)
+ended_if st to false rule e = absurd cc
+
+never_if : (a b : Bool) (to : State) (x y z : WorkRule) → cond a (Err x) (cond b (Err y) (Err z)) ≡ Ok to → ⊥
+never_if true b to x y z e = absurd cc
+never_if false true to x y z e = absurd cc
+never_if false false to x y z e = absurd cc
+
+tail_takes : (st to : State) (tail : List ℕ) → tail_rules st tail ≡ Ok to → IsEnd st to tail
+tail_takes st to [] e = let h = ended_if st to (is_ended st.place) _ e in record { nothing = refl; is = h.1; ended = h.0 }
+tail_takes st to (c ∷ cs) e = absurd (never_if (is_ended st.place) (is_utf8 (c ∷ cs)) to _ _ _ e)
+
+record IsFile (cat : Catalogue) (st to : State) (lines : List (List ℕ)) (tail : List ℕ) : Type 0 where
+  words : List (List Word)
+  spelled : lines ≡ map line_bytes words
+  nothing : tail ≡ []
+  sound : Sound cat to
+  so : so_far cat to ≡ so_far cat st ++ words
+  ended : is_ended to.place ≡ true
+
+line_more : (a b : List ℕ) (xs ys : List (List ℕ)) → a ≡ b → xs ≡ ys → a ∷ xs ≡ b ∷ ys
+line_more a b xs ys p q = cc
+
+walk_takes : (cat : Catalogue) (n : ℕ) (st to : State) (lines : List (List ℕ)) (tail : List ℕ) → Sound cat st → walk cat n st lines tail ≡ Ok to → IsFile cat st to lines tail
+unfolding walk
+walk_takes cat n st to [] tail s e =
+    let a = at_ok n (tail_rules st tail) (λ s. Ok s) to e in
+    let t = tail_takes st a.0 tail a.1 in
+    let same : st ≡ to = t.is ∙ same_state a.0 to a.2 in
+    subst (λ (x : State). IsFile cat st x [] tail) same (record { words = []; spelled = refl; nothing = t.nothing; sound = s; so = sym (append-nil (so_far cat st)); ended = t.ended })
+walk_takes cat n st to (line ∷ lines) tail s e =
+    let a = at_ok n (one_line cat st line) (λ s. walk cat (n + 1) s lines tail) to e in
+    let r = line_leads cat st a.0 line s (one_if cat st a.0 line (is_ended st.place) a.1) in
+    let more = walk_takes cat (n + 1) a.0 to lines tail r.leads.sound a.2 in
+    record {
+      words = r.words ∷ more.words;
+      spelled = line_more line (line_bytes r.words) lines (map line_bytes more.words) r.spelled more.spelled;
+      nothing = more.nothing;
+      sound = more.sound;
+      so = more.so ∙ ap (λ (l : List (List Word)). l ++ more.words) r.leads.lines ∙ append_assoc (so_far cat st) (r.words ∷ []) more.words;
+      ended = more.ended;
+    }
+
+nothing_sound : (cat : Catalogue) → Sound cat nothing_read
+nothing_sound cat = record {
+  rows = All-from_recursion _ [] tt;
+  txns = All-from_recursion _ [] tt;
+  statements = All-from_recursion (FitsStatement cat) [] tt;
+  values = All-from_recursion HoldsValues [] tt;
+  few_statements = omega arith;
+  header = tt;
+  names = refl;
+  differ = refl;
+  events = All-from_recursion (IsValidEvent cat 0) [] tt;
+  submitted = refl;
+  once = λ i k less within d e. omega arith;
+  written = refl;
+  few_rows = omega arith;
+  few_txns = omega arith;
+  few_events = omega arith;
+  order = (refl, refl, refl);
+}
+
+-- ---- the workload
+
+abbrev made : State → Workload
+made st = record { rows = st.rows; txns = st.txns; events = st.events }
+
+ended_place : (place : Place) → is_ended place ≡ true → place ≡ places.Ended
+ended_place places.Ended e = refl
+ended_place places.Rows e = absurd cc
+ended_place (places.Inside h) e = absurd cc
+ended_place places.Between e = absurd cc
+ended_place places.Events e = absurd cc
+
+sound_valid : (cat : Catalogue) (st : State) → Sound cat st → st.place ≡ places.Ended → IsValid cat (made st)
+sound_valid cat st s p =
+    let names : st.names ≡ names_of st.txns = s.names ∙ ap (λ (x : Place). names_of st.txns ++ open_name x) p ∙ append-nil (names_of st.txns) in
+    let len : length st.names ≡ length st.txns = ap (λ (l : List (List ℕ)). length l) names ∙ length-map st.txns (λ (t : Txn). t.name) in
+    record {
+      rows = s.rows;
+      txns = s.txns;
+      names = subst (λ (l : List (List ℕ)). repeats l ≡ false) names s.differ;
+      events = s.events;
+      submitted = s.once;
+      few_rows = omega (arith, s.written, s.few_rows);
+      few_txns = omega (arith, len, s.few_txns);
+      few_events = s.few_events;
+    }
+
+abbrev read_work : Workload → Result Workload WorkFault
+read_work w = Ok w
+
+workload_is : (x y : Workload) → read_work x ≡ read_work y → x ≡ y
+workload_is x y e = cc
+
+finished_ok : (r : Result State WorkFault) (w : Workload) → finished r ≡ Ok w → (st : State) × (r ≡ Ok st) × (made st ≡ w)
+finished_ok (Ok st) w e = (st, refl, workload_is (made st) w e)
+finished_ok (Err fault) w e = absurd cc
+
+state_spelled : (cat : Catalogue) (st : State) → st.place ≡ places.Ended → so_far cat st ≡ lines_of cat (made st)
+state_spelled cat st p = ap (λ (x : Place). lines_at cat st.rows st.txns x st.statements st.events) p ∙ lines_at_end cat (made st) st.statements
+
+small_if : (bytes : List ℕ) (w : Workload) (fault : WorkFault) (r : Result Workload WorkFault) (b : Bool) → cond b (Err fault) r ≡ Ok w → (b ≡ false) × (r ≡ Ok w)
+small_if bytes w fault r true e = absurd cc
+small_if bytes w fault r false e = (refl, e)
+
+-- lines joined are lines with their newlines
+pub lines_spelled : (lines : List (List Word)) → spelled_lines (map line_bytes lines) ≡ flat_map ended lines
+lines_spelled [] = refl
+lines_spelled (l ∷ lines) = ap (λ (t : List ℕ). line_bytes l ++ 10 ∷ t) (lines_spelled lines) ∙ sym (append_assoc (line_bytes l) (10 ∷ []) (flat_map ended lines))
+
+-- a file that gives a workload spells it
+pub reads_spelling : (cat : Catalogue) (bytes : List ℕ) (w : Workload) → workload cat bytes ≡ Ok w → Accepts cat bytes w
+reads_spelling cat bytes w e =
+    let a = small_if bytes w _ (finished (walk_bytes cat 1 nothing_read bytes)) (nat_lt most_bytes (length bytes)) e in
+    let b = finished_ok (walk_bytes cat 1 nothing_read bytes) w a.1 in
+    let st : State = b.0 in
+    let f = walk_takes cat 1 nothing_read st (cut_lines bytes).0 (cut_lines bytes).1 (nothing_sound cat) b.1 in
+    let place = ended_place st.place f.ended in
+    let words : f.words ≡ lines_of cat (made st) = sym f.so ∙ state_spelled cat st place in
+    let spelled : bytes ≡ spelling cat (made st) =
+    sym (cut_takes bytes)
+    ∙ ap (λ (l : List ℕ). spelled_lines (cut_lines bytes).0 ++ l) f.nothing
+    ∙ append-nil (spelled_lines (cut_lines bytes).0)
+    ∙ ap spelled_lines f.spelled
+    ∙ ap (λ (l : List (List Word)). spelled_lines (map line_bytes l)) words
+    ∙ lines_spelled (lines_of cat (made st)) in
+    subst (λ (x : Workload). Accepts cat bytes x) b.2 (record { small = ltb-false most_bytes (length bytes) a.0; valid = sound_valid cat st f.sound place; spelled = spelled })

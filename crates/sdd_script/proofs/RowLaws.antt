@@ -1,0 +1,79 @@
+-- Rows: what is read is spelled and fits, and what is spelled and fits is read.
+use Rattle.std.proofs.Common.{◌≡◌, ◌≤◌, List, [], ◌∷◌, length, map, true, ◌&&◌, Ok, refl, sym, ap, subst, ◌∙◌, arith}
+use Rattle.std.specs.Prelude.{◌==◌}
+use Rattle.std.specs.List.{AllByRecursion, list_all}
+use Rattle.std.proofs.lemmas.Bool.{eqb-true, eq-eqb}
+use Rattle.std.proofs.lemmas.List.{length-map}
+use Rattle.sdd_base.specs.declared.number.RelNo.{RelNo}
+use Rattle.sdd_base.specs.declared.value.Value.{Value}
+use Rattle.sdd_catalog.specs.Catalogue.{Catalogue}
+use Rattle.sdd_lang.specs.Fits.{IsRelation, FitsRow, kind_of}
+use Rattle.sdd_words.specs.Keywords.{is_free}
+use Rattle.sdd_words.specs.Forms.{are_free, not_empty}
+use Rattle.sdd_words.specs.Steps.{◌>>=◌, must}
+use Rattle.sdd_words.specs.declared.word.Word.{Word}
+use Rattle.sdd_script.specs.Naming.{columns_of, name_of_relation, relation_of}
+use Rattle.sdd_script.specs.Spelling.{value_word, relation_word, row_words}
+use Rattle.sdd_script.specs.Valid.{IsValue}
+use Rattle.sdd_script.specs.Values.{rel_no, row_of, values_of}
+use Rattle.sdd_script.specs.declared.fault.WorkRule.TheVariants.{UnknownName, WrongKind}
+use Rattle.sdd_script.proofs.StepLaws.{bind_ok, ok_is, must_then, known_then, both_are, two_same}
+use Rattle.sdd_script.proofs.ValueLaws.{columns_are, kinds_of, values_take, values_again, values_length}
+use Rattle.sdd_script.proofs.WordLooks.{IsFine, name_fine, name_free, value_fine, value_free}
+use Rattle.sdd_script.proofs.UseLaws.{IsKnown, relation_takes, relation_again}
+
+abbrev pub FitsRowOf : Catalogue → RelNo → List Value → Type 0
+FitsRowOf cat rel row = IsRelation cat rel.0 × FitsRow cat rel.0 row × AllByRecursion IsValue row
+
+pub record IsRowOf (cat : Catalogue) (name : Word) (words : List Word) (r : RelNo × List Value) : Type 0 where
+  pub spelled : name ∷ words ≡ row_words cat r.0 r.1
+  pub fits : FitsRowOf cat r.0 r.1
+
+abbrev pair_of : RelNo → List Value → RelNo × List Value
+pair_of rel row = (rel, row)
+
+pub row_takes : (cat : Catalogue) (name : Word) (words : List Word) (r : RelNo × List Value) → row_of cat name words ≡ Ok r → IsRowOf cat name words r
+unfolding row_of
+row_takes cat name words r e =
+    let a = known_then UnknownName (relation_of cat name) (λ rel. values_of (columns_of cat rel) words >>= λ row. must WrongKind (length words == length (columns_of cat rel)) >>= λ _. Ok (pair_of (rel_no rel) row)) r e in
+    let b = bind_ok (values_of (columns_of cat a.0) words) (λ row. must WrongKind (length words == length (columns_of cat a.0)) >>= λ _. Ok (pair_of (rel_no a.0) row)) r a.2 in
+    let c = must_then WrongKind (length words == length (columns_of cat a.0)) (λ _. Ok (pair_of (rel_no a.0) b.0)) r b.2 in
+    let rel = relation_takes cat name a.0 a.1 in
+    let row = values_take (columns_of cat a.0) words b.0 b.1 (eqb-true (length words) (length (columns_of cat a.0)) c.0) in
+    subst (λ (x : RelNo × List Value). IsRowOf cat name words x) (ok_is (pair_of (rel_no a.0) b.0) r c.1) (record {
+      spelled = two_same name (relation_word cat (rel_no a.0)) words (map value_word b.0) rel.spelled row.spelled;
+      fits = (rel.there, row.same ∙ ap kinds_of (columns_are cat a.0), row.fits);
+    })
+
+pub row_again : (cat : Catalogue) → IsKnown cat → (rel : RelNo) (row : List Value) → FitsRowOf cat rel row → row_of cat (relation_word cat rel) (map value_word row) ≡ Ok (rel, row)
+unfolding row_of
+row_again cat k rel row h =
+    let same : map kind_of row ≡ kinds_of (columns_of cat rel.0) = h.1 ∙ ap kinds_of (sym (columns_are cat rel.0)) in
+    let a = relation_again cat k rel.0 h.0 in
+    let b = values_again (columns_of cat rel.0) row same h.2 in
+    let c : (length (map value_word row) == length (columns_of cat rel.0)) ≡ true = eq-eqb (length (map value_word row)) (length (columns_of cat rel.0)) (values_length (columns_of cat rel.0) row same h.2) in
+    rw (a, b, c) refl
+
+-- the words of a row
+
+all_free : (row : List Value) → AllByRecursion IsValue row → list_all is_free (map value_word row) ≡ true
+all_free [] h = refl
+all_free (v ∷ row) h = both_are (is_free (value_word v)) (list_all is_free (map value_word row)) (value_free v h.0) (all_free row h.1)
+
+some_words : (row : List Value) → 1 ≤ length row → not_empty (map value_word row) ≡ true
+some_words [] h = absurd (omega arith)
+some_words (v ∷ row) h = refl
+
+pub row_free : (cat : Catalogue) → IsKnown cat → (rel : RelNo) (row : List Value) → FitsRowOf cat rel row → (is_free (relation_word cat rel) && are_free (map value_word row)) ≡ true
+row_free cat k rel row h =
+    let same : map kind_of row ≡ kinds_of (columns_of cat rel.0) = h.1 ∙ ap kinds_of (sym (columns_are cat rel.0)) in
+    let len : length row ≡ length (columns_of cat rel.0) = omega (arith, values_length (columns_of cat rel.0) row same h.2, length-map row value_word) in
+    both_are (is_free (relation_word cat rel)) (are_free (map value_word row)) (name_free (name_of_relation cat rel.0) (k.relation_name rel.0 h.0))
+    (both_are (not_empty (map value_word row)) (list_all is_free (map value_word row)) (some_words row (omega (arith, len, k.some_column rel.0 h.0))) (all_free row h.2))
+
+values_fine : (row : List Value) → AllByRecursion IsValue row → AllByRecursion IsFine (map value_word row)
+values_fine [] h = tt
+values_fine (v ∷ row) h = (value_fine v h.0, values_fine row h.1)
+
+pub row_fine : (cat : Catalogue) → IsKnown cat → (rel : RelNo) (row : List Value) → FitsRowOf cat rel row → AllByRecursion IsFine (row_words cat rel row)
+row_fine cat k rel row h = (name_fine (name_of_relation cat rel.0) (k.relation_name rel.0 h.0), values_fine row h.2)

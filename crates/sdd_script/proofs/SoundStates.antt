@@ -1,0 +1,445 @@
+-- What holds in every state, and that each line keeps it and adds itself to the lines before.
+use Rattle.std.proofs.Common.{◌≡◌, ℕ, ◌+◌, ◌<◌, ◌≤◌, List, [], ◌∷◌, ◌++◌, length, map, Bool, true, false, cond, ◌&&◌, Option, Some, None, Result, Ok, refl, sym, ap, subst, ◌∙◌, arith, append-nil}
+use Rattle.std.specs.Prelude.{codes, not, nat_lt, is_some, ◌==◌, sum_by}
+use Rattle.std.specs.Str.{bytes_eq}
+use Rattle.std.specs.List.{All, position, filter_map}
+use Rattle.std.proofs.lemmas.Bool.{ltb-true}
+use Rattle.std.proofs.lemmas.List.{map-append, length-append}
+use Rattle.std.proofs.lemmas.List.Elements.{All-append, All-from_recursion, filter_map-append}
+use Rattle.std.proofs.lemmas.List.Sums.{sum_by-append}
+use Rattle.sdd_base.specs.Name.{IsName, is_name}
+use Rattle.sdd_base.specs.declared.event.Event.{Event}
+use Rattle.sdd_base.specs.declared.event.Event.TheVariants.{Submit, Deliver, Lose, Repeat, Resend, Tick, Settle}
+use Rattle.sdd_base.specs.declared.number.RelNo.{RelNo}
+use Rattle.sdd_base.specs.declared.number.TmNo.{TmNo}
+use Rattle.sdd_base.specs.declared.number.TxnNo.{TxnNo}
+use Rattle.sdd_base.specs.declared.site.Site.TheVariants.{T}
+use Rattle.sdd_base.specs.declared.value.Value.{Value}
+use Rattle.sdd_catalog.specs.Catalogue.{Catalogue}
+use Rattle.sdd_catalog.specs.Rules.{repeats}
+use Rattle.sdd_catalog.proofs.NameLemmas.{list_any-map}
+use Rattle.sdd_lang.specs.Fits.{IsFrom1To, FitsStatement}
+use Rattle.sdd_lang.specs.declared.statement.Stmt.{Stmt}
+use Rattle.sdd_lang.specs.declared.statement.Stmt.TheVariants as statements
+use Rattle.sdd_lang.specs.declared.transaction.Txn.{Txn}
+use Rattle.sdd_words.specs.Forms.{are_free}
+use Rattle.sdd_words.specs.Keywords.{is_free}
+use Rattle.sdd_words.specs.Names.{name_in}
+use Rattle.sdd_words.specs.Steps.{◌>>=◌, must, known}
+use Rattle.sdd_words.specs.declared.word.Word.{Word}
+use Rattle.sdd_words.specs.declared.word.Word.TheVariants.{Plain, Quoted}
+use Rattle.sdd_script.specs.LineRules.{most_rows, most_txns, most_events, row_rules, name_of, opened, txn_rules, statement_limits, one_more_row, written_with, with_statement, statement_rules, closed, done_rules, is_submitted, with_submitted, with_event, event_rules, end_rules}
+use Rattle.sdd_script.specs.Occurrences.{tm_of}
+use Rattle.sdd_script.specs.Places.{takes_rows, takes_txns, takes_statements, takes_events}
+use Rattle.sdd_script.specs.Spelling.{start_words, header_words, done_words, event_words, end_words, site_word}
+use Rattle.sdd_script.specs.Valid.{IsValue, HoldsValues, IsValidRow, IsValidTxn, IsValidEvent, is_put, rows_put_by, submitted_by, AreDistinct}
+use Rattle.sdd_script.specs.Values.{row_of}
+use Rattle.sdd_script.specs.declared.fault.Counts.TheVariants as counts
+use Rattle.sdd_script.specs.declared.fault.WorkRule.{WorkRule}
+use Rattle.sdd_script.specs.declared.fault.WorkRule.TheVariants.{BadLine, UnknownName, DuplicateTxn, SubmittedTwice, TooMany}
+use Rattle.sdd_script.specs.declared.place.Header.{Header}
+use Rattle.sdd_script.specs.declared.place.Place.{Place}
+use Rattle.sdd_script.specs.declared.place.Place.TheVariants as places
+use Rattle.sdd_script.specs.declared.state.State.{State}
+use Rattle.sdd_script.proofs.StepLaws.{bind_ok, ok_is, must_then, known_ok, both_hold, not_true, some_is, known_then}
+use Rattle.sdd_script.proofs.WordCuts.{NonePasses}
+use Rattle.sdd_script.proofs.RowLaws.{row_takes}
+use Rattle.sdd_script.proofs.QueryLaws.{IsStatement, limits_before}
+use Rattle.sdd_script.proofs.EventLaws.{tm_takes}
+use Rattle.sdd_script.proofs.NamePlaces.{none_any, none_found, repeats_not, distinct_more}
+use Rattle.sdd_script.proofs.SoFar.{txn_with, so_far, InOrder, row_more, header_more, statement_more, done_more, event_more, end_more}
+
+-- a statement puts one row, or none
+abbrev pub rows_put : Stmt → ℕ
+rows_put q = cond (is_put q) 1 0
+
+abbrev pub names_of : List Txn → List (List ℕ)
+names_of txns = map (λ (t : Txn). t.name) txns
+
+abbrev pub open_name : Place → List (List ℕ)
+open_name (places.Inside header) = header.name ∷ []
+open_name _ = []
+
+abbrev pub HeaderFits : Catalogue → Place → Type 0
+HeaderFits cat (places.Inside header) = IsName header.name × IsFrom1To cat.tms header.tm.0
+HeaderFits cat _ = Unit {0}
+
+pub record Sound (cat : Catalogue) (st : State) : Type 0 where
+  pub rows : All (IsValidRow cat) st.rows
+  pub txns : All (IsValidTxn cat) st.txns
+  pub statements : All (FitsStatement cat) st.statements
+  pub values : All HoldsValues st.statements
+  pub few_statements : length st.statements ≤ 32
+  pub header : HeaderFits cat st.place
+  pub names : st.names ≡ names_of st.txns ++ open_name st.place
+  pub differ : repeats st.names ≡ false
+  pub events : All (IsValidEvent cat (length st.txns)) st.events
+  pub submitted : map (λ (t : TxnNo). t.0) st.submitted ≡ filter_map submitted_by st.events
+  pub once : AreDistinct (filter_map submitted_by st.events)
+  pub written : st.written ≡ length st.rows + sum_by rows_put_by st.txns + sum_by rows_put st.statements
+  pub few_rows : st.written ≤ most_rows
+  pub few_txns : length st.names ≤ most_txns
+  pub few_events : length st.events ≤ most_events
+  pub order : InOrder st.place st.txns st.statements st.events
+
+-- a line leads from one state to the next
+pub record Leads (cat : Catalogue) (st to : State) (words : List Word) : Type 0 where
+  pub sound : Sound cat to
+  pub lines : so_far cat to ≡ so_far cat st ++ words ∷ []
+
+one : {A : Type 0} (P : A → Type 0) (x : A) → P x → All P (x ∷ [])
+one P x h = All-from_recursion P (x ∷ []) (h, tt)
+
+all_more : {A : Type 0} (P : A → Type 0) (xs : List A) (x : A) → All P xs → P x → All P (xs ++ x ∷ [])
+all_more P xs x h k = All-append P xs (x ∷ []) h (one P x k)
+
+one_longer : {A : Type 0} (xs : List A) (x : A) → length (xs ++ x ∷ []) ≡ length xs + 1
+one_longer xs x = length-append xs (x ∷ [])
+
+-- ---- a row
+
+abbrev with_row : State → RelNo × List Value → State
+with_row st r = record st { rows = st.rows ++ r ∷ []; written = st.written + 1 }
+
+abbrev with_row_at : State → RelNo × List Value → ℕ → State
+with_row_at st r n = record st { rows = st.rows ++ r ∷ []; written = n }
+
+one_more_is : (written n : ℕ) (b : Bool) → nat_lt written most_rows ≡ b → cond b (Some (written + 1)) None ≡ Some n → (written + 1 ≡ n) × (written < most_rows)
+one_more_is written n true t e = (some_is (written + 1) n e, ltb-true written most_rows t)
+one_more_is written n false t e = absurd cc
+
+row_sound : (cat : Catalogue) (st : State) (r : RelNo × List Value) → Sound cat st → IsValidRow cat r → st.written < most_rows → Sound cat (with_row st r)
+row_sound cat st r s v room = record {
+  rows = all_more (IsValidRow cat) st.rows r s.rows v;
+  txns = s.txns;
+  statements = s.statements;
+  values = s.values;
+  few_statements = s.few_statements;
+  header = s.header;
+  names = s.names;
+  differ = s.differ;
+  events = s.events;
+  submitted = s.submitted;
+  once = s.once;
+  written = omega (arith, s.written, one_longer st.rows r);
+  few_rows = omega (arith, room);
+  few_txns = s.few_txns;
+  few_events = s.few_events;
+  order = s.order;
+}
+
+pub row_leads : (cat : Catalogue) (st to : State) (words : List Word) → Sound cat st → row_rules cat st words ≡ Ok to → Leads cat st to (Plain (codes "row") ∷ words)
+row_leads cat st to [] s e = absurd cc
+row_leads cat st to (name ∷ words) s e =
+    let a = must_then BadLine (takes_rows st.place && (is_free name && are_free words)) (λ _. row_of cat name words >>= λ (r : RelNo × List Value). known (TooMany counts.Row) (one_more_row st.written) >>= λ n. Ok (with_row_at st r n)) to e in
+    let b = bind_ok (row_of cat name words) (λ (r : RelNo × List Value). known (TooMany counts.Row) (one_more_row st.written) >>= λ n. Ok (with_row_at st r n)) to a.1 in
+    let c = known_then (TooMany counts.Row) (one_more_row st.written) (λ n. Ok (with_row_at st b.0 n)) to b.2 in
+    let n = one_more_is st.written c.0 (nat_lt st.written most_rows) refl c.1 in
+    let place = (both_hold (takes_rows st.place) (is_free name && are_free words) a.0).0 in
+    let r = row_takes cat name words b.0 b.1 in
+    let valid : IsValidRow cat b.0 = record { fits = (r.fits.0, r.fits.1); values = All-from_recursion IsValue b.0.1 r.fits.2 } in
+    let spelled : Plain (codes "row") ∷ name ∷ words ≡ start_words cat b.0 = ap (λ (l : List Word). Plain (codes "row") ∷ l) r.spelled in
+    subst (λ (x : State). Leads cat st x (Plain (codes "row") ∷ name ∷ words)) (ap (with_row_at st b.0) n.0 ∙ ok_is (with_row_at st b.0 c.0) to c.2) (record {
+      sound = row_sound cat st b.0 s valid n.1;
+      lines = row_more cat st.rows b.0 st.txns st.place st.statements st.events place s.order ∙ ap (λ (l : List Word). so_far cat st ++ l ∷ []) (sym spelled);
+    })
+
+-- ---- a transaction opens
+
+abbrev with_header : State → Header → State
+with_header st h = record st { place = places.Inside h; names = st.names ++ h.name ∷ [] }
+
+closed_name : (place : Place) → takes_txns place ≡ true → open_name place ≡ []
+closed_name places.Rows t = refl
+closed_name places.Between t = refl
+closed_name (places.Inside h) t = absurd cc
+closed_name places.Events t = absurd cc
+closed_name places.Ended t = absurd cc
+
+no_events : (place : Place) (txns : List Txn) (ss : List Stmt) (events : List Event) → takes_txns place ≡ true → InOrder place txns ss events → events ≡ []
+no_events places.Rows txns ss events t o = o.2
+no_events places.Between txns ss events t o = o.1
+no_events (places.Inside h) txns ss events t o = absurd cc
+no_events places.Events txns ss events t o = absurd cc
+no_events places.Ended txns ss events t o = absurd cc
+
+header_sound : (cat : Catalogue) (st : State) (h : Header) → Sound cat st → takes_txns st.place ≡ true → IsName h.name → IsFrom1To cat.tms h.tm.0 → NonePasses (bytes_eq h.name) st.names → length st.names < most_txns → Sound cat (with_header st h)
+header_sound cat st h s t named tm other room = record {
+  rows = s.rows;
+  txns = s.txns;
+  statements = s.statements;
+  values = s.values;
+  few_statements = s.few_statements;
+  header = (named, tm);
+  names = ap (λ (l : List (List ℕ)). l ++ h.name ∷ []) (s.names ∙ ap (λ (l : List (List ℕ)). names_of st.txns ++ l) (closed_name st.place t) ∙ append-nil (names_of st.txns));
+  differ = repeats_not st.names h.name s.differ other;
+  events = s.events;
+  submitted = s.submitted;
+  once = s.once;
+  written = s.written;
+  few_rows = s.few_rows;
+  few_txns = omega (arith, room, one_longer st.names h.name);
+  few_events = s.few_events;
+  order = no_events st.place st.txns st.statements st.events t s.order;
+}
+
+abbrev some_name : List ℕ → Option (List ℕ)
+some_name n = Some n
+
+name_if : (bytes name : List ℕ) (b : Bool) → cond b (Some bytes) None ≡ Some name → (b ≡ true) × (bytes ≡ name)
+name_if bytes name true e = (refl, cc)
+name_if bytes name false e = absurd cc
+
+pub named_takes : (bytes name : List ℕ) → name_in bytes ≡ Some name → (is_name name ≡ true) × (bytes ≡ name)
+named_takes bytes name e = let h = name_if bytes name (is_name bytes) e in (subst (λ (l : List ℕ). is_name l ≡ true) h.1 h.0, h.1)
+
+name_of_takes : (w : Word) (name : List ℕ) → name_of w ≡ Ok name → (w ≡ Plain name) × (is_name name ≡ true)
+name_of_takes (Plain bytes) name e = let h = named_takes bytes name (known_ok UnknownName (name_in bytes) name e) in (ap (λ (l : List ℕ). Plain l) h.1, h.0)
+name_of_takes (Quoted text) name e = absurd cc
+
+two_words : (k a b c d : Word) → a ≡ b → c ≡ d → k ∷ a ∷ c ∷ [] ≡ k ∷ b ∷ d ∷ []
+two_words k a b c d p q = cc
+
+abbrev header_of : List ℕ → TmNo → Header
+header_of name tm = record { name = name; tm = tm }
+
+pub txn_leads : (cat : Catalogue) (st to : State) (words : List Word) → Sound cat st → txn_rules cat st words ≡ Ok to → Leads cat st to (Plain (codes "txn") ∷ words)
+txn_leads cat st to [] s e = absurd cc
+txn_leads cat st to (w ∷ []) s e = absurd cc
+txn_leads cat st to (word ∷ tm ∷ []) s e =
+    let a = must_then BadLine (takes_txns st.place && (is_free word && is_free tm)) (λ _. name_of word >>= λ name. tm_of cat tm >>= λ t. opened st name t) to e in
+    let b = bind_ok (name_of word) (λ name. tm_of cat tm >>= λ t. opened st name t) to a.1 in
+    let c = bind_ok (tm_of cat tm) (λ t. opened st b.0 t) to b.2 in
+    let h : Header = header_of b.0 c.0 in
+    let d = must_then DuplicateTxn (not (is_some (position (bytes_eq b.0) st.names))) (λ _. must (TooMany counts.Txn) (nat_lt (length st.names) most_txns) >>= λ _. Ok (with_header st h)) to c.2 in
+    let f = must_then (TooMany counts.Txn) (nat_lt (length st.names) most_txns) (λ _. Ok (with_header st h)) to d.1 in
+    let place = (both_hold (takes_txns st.place) (is_free word && is_free tm) a.0).0 in
+    let n = name_of_takes word b.0 b.1 in
+    let t = tm_takes cat tm c.0 c.1 in
+    let other = none_found (bytes_eq b.0) st.names (not_true (is_some (position (bytes_eq b.0) st.names)) d.0) in
+    let spelled : Plain (codes "txn") ∷ word ∷ tm ∷ [] ≡ header_words h.name h.tm = two_words (Plain (codes "txn")) word (Plain b.0) tm (site_word (T c.0)) n.0 t.0 in
+    subst (λ (x : State). Leads cat st x (Plain (codes "txn") ∷ word ∷ tm ∷ [])) (ok_is (with_header st h) to f.1) (record {
+      sound = header_sound cat st h s place n.1 t.1 other (ltb-true (length st.names) most_txns f.0);
+      lines = header_more cat st.rows st.txns st.place st.statements st.events h place s.order ∙ ap (λ (l : List Word). so_far cat st ++ l ∷ []) (sym spelled);
+    })
+txn_leads cat st to (a ∷ b ∷ c ∷ rest) s e = absurd cc
+
+-- ---- a statement
+
+abbrev with_one : State → Stmt → State
+with_one st q = record st { statements = st.statements ++ q ∷ []; written = st.written + rows_put q }
+
+abbrev with_one_at : State → Stmt → ℕ → State
+with_one_at st q n = record st { statements = st.statements ++ q ∷ []; written = n }
+
+written_is : (written n : ℕ) (q : Stmt) → written ≤ most_rows → written_with written q ≡ Some n → (written + rows_put q ≡ n) × (written + rows_put q ≤ most_rows)
+written_is written n (statements.Put rel row) few e = let h = one_more_is written n (nat_lt written most_rows) refl e in (h.0, omega (arith, h.1))
+written_is written n (statements.Query out rels conds) few e = let h = some_is written n e in (omega (arith, h), omega (arith, few))
+written_is written n (statements.Update rel sets conds) few e = let h = some_is written n e in (omega (arith, h), omega (arith, few))
+written_is written n (statements.Delete rel conds) few e = let h = some_is written n e in (omega (arith, h), omega (arith, few))
+
+statement_order : (place : Place) (txns : List Txn) (ss other : List Stmt) (events : List Event) → takes_statements place ≡ true → InOrder place txns ss events → InOrder place txns other events
+statement_order (places.Inside h) txns ss other events t o = o
+statement_order places.Rows txns ss other events t o = absurd cc
+statement_order places.Between txns ss other events t o = absurd cc
+statement_order places.Events txns ss other events t o = absurd cc
+statement_order places.Ended txns ss other events t o = absurd cc
+
+sum_more : (w r t q x all : ℕ) → w ≡ r + t + q → all ≡ q + (0 + x) → w + x ≡ r + t + all
+sum_more w r t q x all e f = omega (arith, e, f)
+
+statement_sound : (cat : Catalogue) (st : State) (q : Stmt) → Sound cat st → takes_statements st.place ≡ true → FitsStatement cat q → HoldsValues q → length st.statements < 32 → st.written + rows_put q ≤ most_rows → Sound cat (with_one st q)
+statement_sound cat st q s t fits hold few room = record {
+  rows = s.rows;
+  txns = s.txns;
+  statements = all_more (FitsStatement cat) st.statements q s.statements fits;
+  values = all_more HoldsValues st.statements q s.values hold;
+  few_statements = omega (arith, few, one_longer st.statements q);
+  header = s.header;
+  names = s.names;
+  differ = s.differ;
+  events = s.events;
+  submitted = s.submitted;
+  once = s.once;
+  written = sum_more st.written (length st.rows) (sum_by rows_put_by st.txns) (sum_by rows_put st.statements) (rows_put q) (sum_by rows_put (st.statements ++ q ∷ [])) s.written (sum_by-append rows_put st.statements (q ∷ []));
+  few_rows = room;
+  few_txns = s.few_txns;
+  few_events = s.few_events;
+  order = statement_order st.place st.txns st.statements (st.statements ++ q ∷ []) st.events t s.order;
+}
+
+pub statement_leads : (cat : Catalogue) (st to : State) (key : List ℕ) (words : List Word) (reading : Result Stmt WorkRule) → Sound cat st → ((q : Stmt) → reading ≡ Ok q → IsStatement cat key words q) → statement_rules st reading ≡ Ok to → Leads cat st to (Plain key ∷ words)
+statement_leads cat st to key words reading s read e =
+    let a = must_then BadLine (takes_statements st.place) (λ _. reading >>= λ statement. with_statement st statement) to e in
+    let b = bind_ok reading (λ statement. with_statement st statement) to a.1 in
+    let q : Stmt = b.0 in
+    let c = known_then (TooMany counts.Row) (written_with st.written q) (λ n. statement_limits (length st.statements) q >>= λ _. Ok (with_one_at st q n)) to b.2 in
+    let n = written_is st.written c.0 q s.few_rows c.1 in
+    let d = bind_ok (statement_limits (length st.statements) q) (λ _. Ok (with_one_at st q c.0)) to c.2 in
+    let r = read q b.1 in
+    subst (λ (x : State). Leads cat st x (Plain key ∷ words)) (ap (with_one_at st q) n.0 ∙ ok_is (with_one_at st q c.0) to d.2) (record {
+      sound = statement_sound cat st q s a.0 (r.fits (length st.statements) d.0 d.1) r.values (limits_before (length st.statements) q d.0 d.1) n.1;
+      lines = statement_more cat st.rows st.txns st.place st.statements q st.events a.0 s.order ∙ ap (λ (l : List Word). so_far cat st ++ l ∷ []) (sym r.spelled);
+    })
+
+-- ---- a transaction ends
+
+abbrev with_done : State → Header → State
+with_done st h = record st { place = places.Between; txns = st.txns ++ txn_with h st.statements ∷ []; statements = [] }
+
+abbrev at_place : State → Place → State
+at_place st p = record st { place = p }
+
+sum_closed : (w r t q all : ℕ) → w ≡ r + t + q → all ≡ t + (0 + q) → w ≡ r + all + 0
+sum_closed w r t q all e f = omega (arith, e, f)
+
+done_sound : (cat : Catalogue) (st : State) (h : Header) → Sound cat (at_place st (places.Inside h)) → Sound cat (with_done st h)
+done_sound cat st h s = record {
+  rows = s.rows;
+  txns = all_more (IsValidTxn cat) st.txns (txn_with h st.statements) s.txns (record { named = s.header.0; fits = record { module_is_there = s.header.1; few = s.few_statements; statements = s.statements }; values = s.values });
+  statements = All-from_recursion (FitsStatement cat) [] tt;
+  values = All-from_recursion HoldsValues [] tt;
+  few_statements = omega arith;
+  header = tt;
+  names = s.names ∙ sym (map-append (λ (t : Txn). t.name) st.txns (txn_with h st.statements ∷ [])) ∙ sym (append-nil (names_of (st.txns ++ txn_with h st.statements ∷ [])));
+  differ = s.differ;
+  events = subst (λ (es : List Event). All (IsValidEvent cat (length (st.txns ++ txn_with h st.statements ∷ []))) es) (sym s.order) (All-from_recursion (IsValidEvent cat (length (st.txns ++ txn_with h st.statements ∷ []))) [] tt);
+  submitted = s.submitted;
+  once = s.once;
+  written = sum_closed st.written (length st.rows) (sum_by rows_put_by st.txns) (sum_by rows_put st.statements) (sum_by rows_put_by (st.txns ++ txn_with h st.statements ∷ [])) s.written (sum_by-append rows_put_by st.txns (txn_with h st.statements ∷ []));
+  few_rows = s.few_rows;
+  few_txns = s.few_txns;
+  few_events = s.few_events;
+  order = (refl, s.order);
+}
+
+closed_leads : (cat : Catalogue) (st to : State) (p : Place) → Sound cat (at_place st p) → closed p st ≡ Ok to → Leads cat (at_place st p) to done_words
+closed_leads cat st to (places.Inside h) s e =
+    subst (λ (x : State). Leads cat (at_place st (places.Inside h)) x done_words) (ok_is (with_done st h) to e) (record {
+      sound = done_sound cat st h s;
+      lines = done_more cat st.rows st.txns h st.statements st.events s.order;
+    })
+closed_leads cat st to places.Rows s e = absurd cc
+closed_leads cat st to places.Between s e = absurd cc
+closed_leads cat st to places.Events s e = absurd cc
+closed_leads cat st to places.Ended s e = absurd cc
+
+pub done_leads : (cat : Catalogue) (st to : State) (words : List Word) → Sound cat st → done_rules st words ≡ Ok to → Leads cat st to (Plain (codes "done") ∷ words)
+done_leads cat st to [] s e = closed_leads cat st to st.place s e
+done_leads cat st to (w ∷ words) s e = absurd cc
+
+-- ---- an event
+
+pub record IsEvent (cat : Catalogue) (st : State) (key : List ℕ) (words : List Word) (e : Event) : Type 0 where
+  pub spelled : Plain key ∷ words ≡ event_words st.txns e
+  pub valid : IsValidEvent cat (length st.txns) e
+
+abbrev with_occurrence : State → Event → State
+with_occurrence st e = record st { place = places.Events; events = st.events ++ e ∷ []; submitted = with_submitted st.submitted e }
+
+pub no_open : (place : Place) → takes_events place ≡ true → open_name place ≡ []
+no_open places.Rows t = refl
+no_open places.Between t = refl
+no_open places.Events t = refl
+no_open (places.Inside h) t = absurd cc
+no_open places.Ended t = absurd cc
+
+pub no_statements : (place : Place) (txns : List Txn) (ss : List Stmt) (events : List Event) → takes_events place ≡ true → InOrder place txns ss events → ss ≡ []
+no_statements places.Rows txns ss events t o = o.1
+no_statements places.Between txns ss events t o = o.0
+no_statements places.Events txns ss events t o = o
+no_statements (places.Inside h) txns ss events t o = absurd cc
+no_statements places.Ended txns ss events t o = absurd cc
+
+abbrev numbers : List TxnNo → List ℕ
+numbers txns = map (λ (t : TxnNo). t.0) txns
+
+submitted_more : (submitted : List TxnNo) (events : List Event) (e : Event) → numbers submitted ≡ filter_map submitted_by events → numbers (with_submitted submitted e) ≡ filter_map submitted_by (events ++ e ∷ [])
+submitted_more submitted events (Submit txn) h = map-append (λ (t : TxnNo). t.0) submitted (txn ∷ []) ∙ ap (λ (l : List ℕ). l ++ txn.0 ∷ []) h ∙ sym (filter_map-append submitted_by events (Submit txn ∷ []))
+submitted_more submitted events (Deliver from to place) h = h ∙ sym (append-nil (filter_map submitted_by events)) ∙ sym (filter_map-append submitted_by events (Deliver from to place ∷ []))
+submitted_more submitted events (Lose from to place) h = h ∙ sym (append-nil (filter_map submitted_by events)) ∙ sym (filter_map-append submitted_by events (Lose from to place ∷ []))
+submitted_more submitted events (Repeat from to place) h = h ∙ sym (append-nil (filter_map submitted_by events)) ∙ sym (filter_map-append submitted_by events (Repeat from to place ∷ []))
+submitted_more submitted events (Resend from to) h = h ∙ sym (append-nil (filter_map submitted_by events)) ∙ sym (filter_map-append submitted_by events (Resend from to ∷ []))
+submitted_more submitted events (Tick tm n) h = h ∙ sym (append-nil (filter_map submitted_by events)) ∙ sym (filter_map-append submitted_by events (Tick tm n ∷ []))
+submitted_more submitted events Settle h = h ∙ sym (append-nil (filter_map submitted_by events)) ∙ sym (filter_map-append submitted_by events (Settle ∷ []))
+
+same_distinct : (ns ms : List ℕ) → AreDistinct ns → ns ≡ ms → AreDistinct ms
+same_distinct ns ms h e = subst AreDistinct e h
+
+once_more : (submitted : List TxnNo) (events : List Event) (e : Event) → numbers submitted ≡ filter_map submitted_by events → AreDistinct (filter_map submitted_by events) → is_submitted submitted e ≡ false → AreDistinct (filter_map submitted_by (events ++ e ∷ []))
+once_more submitted events (Submit txn) h d other =
+    let none : NonePasses (λ (n : ℕ). n == txn.0) (filter_map submitted_by events) = subst (NonePasses (λ (n : ℕ). n == txn.0)) h (none_any (λ (n : ℕ). n == txn.0) (numbers submitted) (list_any-map (λ (n : ℕ). n == txn.0) (λ (t : TxnNo). t.0) submitted ∙ other)) in
+    same_distinct (filter_map submitted_by events ++ txn.0 ∷ []) (filter_map submitted_by (events ++ Submit txn ∷ [])) (distinct_more (filter_map submitted_by events) txn.0 d none) (sym (filter_map-append submitted_by events (Submit txn ∷ [])))
+once_more submitted events (Deliver from to place) h d other = same_distinct (filter_map submitted_by events) (filter_map submitted_by (events ++ Deliver from to place ∷ [])) d (sym (append-nil (filter_map submitted_by events)) ∙ sym (filter_map-append submitted_by events (Deliver from to place ∷ [])))
+once_more submitted events (Lose from to place) h d other = same_distinct (filter_map submitted_by events) (filter_map submitted_by (events ++ Lose from to place ∷ [])) d (sym (append-nil (filter_map submitted_by events)) ∙ sym (filter_map-append submitted_by events (Lose from to place ∷ [])))
+once_more submitted events (Repeat from to place) h d other = same_distinct (filter_map submitted_by events) (filter_map submitted_by (events ++ Repeat from to place ∷ [])) d (sym (append-nil (filter_map submitted_by events)) ∙ sym (filter_map-append submitted_by events (Repeat from to place ∷ [])))
+once_more submitted events (Resend from to) h d other = same_distinct (filter_map submitted_by events) (filter_map submitted_by (events ++ Resend from to ∷ [])) d (sym (append-nil (filter_map submitted_by events)) ∙ sym (filter_map-append submitted_by events (Resend from to ∷ [])))
+once_more submitted events (Tick tm n) h d other = same_distinct (filter_map submitted_by events) (filter_map submitted_by (events ++ Tick tm n ∷ [])) d (sym (append-nil (filter_map submitted_by events)) ∙ sym (filter_map-append submitted_by events (Tick tm n ∷ [])))
+once_more submitted events Settle h d other = same_distinct (filter_map submitted_by events) (filter_map submitted_by (events ++ Settle ∷ [])) d (sym (append-nil (filter_map submitted_by events)) ∙ sym (filter_map-append submitted_by events (Settle ∷ [])))
+
+event_sound : (cat : Catalogue) (st : State) (e : Event) → Sound cat st → takes_events st.place ≡ true → IsValidEvent cat (length st.txns) e → is_submitted st.submitted e ≡ false → length st.events < most_events → Sound cat (with_occurrence st e)
+event_sound cat st e s t valid other room = record {
+  rows = s.rows;
+  txns = s.txns;
+  statements = s.statements;
+  values = s.values;
+  few_statements = s.few_statements;
+  header = tt;
+  names = s.names ∙ ap (λ (l : List (List ℕ)). names_of st.txns ++ l) (no_open st.place t);
+  differ = s.differ;
+  events = all_more (IsValidEvent cat (length st.txns)) st.events e s.events valid;
+  submitted = submitted_more st.submitted st.events e s.submitted;
+  once = once_more st.submitted st.events e s.submitted s.once other;
+  written = s.written;
+  few_rows = s.few_rows;
+  few_txns = s.few_txns;
+  few_events = omega (arith, room, one_longer st.events e);
+  order = no_statements st.place st.txns st.statements st.events t s.order;
+}
+
+pub event_leads : (cat : Catalogue) (st to : State) (key : List ℕ) (words : List Word) (reading : Result Event WorkRule) → Sound cat st → (takes_events st.place ≡ true → (e : Event) → reading ≡ Ok e → IsEvent cat st key words e) → event_rules st reading ≡ Ok to → Leads cat st to (Plain key ∷ words)
+event_leads cat st to key words reading s read h =
+    let a = must_then BadLine (takes_events st.place) (λ _. reading >>= λ event. with_event st event) to h in
+    let b = bind_ok reading (λ event. with_event st event) to a.1 in
+    let e : Event = b.0 in
+    let c = must_then SubmittedTwice (not (is_submitted st.submitted e)) (λ _. must (TooMany counts.Event) (nat_lt (length st.events) most_events) >>= λ _. Ok (with_occurrence st e)) to b.2 in
+    let d = must_then (TooMany counts.Event) (nat_lt (length st.events) most_events) (λ _. Ok (with_occurrence st e)) to c.1 in
+    let r = read a.0 e b.1 in
+    subst (λ (x : State). Leads cat st x (Plain key ∷ words)) (ok_is (with_occurrence st e) to d.1) (record {
+      sound = event_sound cat st e s a.0 r.valid (not_true (is_submitted st.submitted e) c.0) (ltb-true (length st.events) most_events d.0);
+      lines = event_more cat st.rows st.txns st.place st.statements st.events e a.0 ∙ ap (λ (l : List Word). so_far cat st ++ l ∷ []) (sym r.spelled);
+    })
+
+-- ---- the end
+
+abbrev with_end : State → State
+with_end st = record st { place = places.Ended }
+
+end_sound : (cat : Catalogue) (st : State) → Sound cat st → takes_events st.place ≡ true → Sound cat (with_end st)
+end_sound cat st s t = record {
+  rows = s.rows;
+  txns = s.txns;
+  statements = s.statements;
+  values = s.values;
+  few_statements = s.few_statements;
+  header = tt;
+  names = s.names ∙ ap (λ (l : List (List ℕ)). names_of st.txns ++ l) (no_open st.place t);
+  differ = s.differ;
+  events = s.events;
+  submitted = s.submitted;
+  once = s.once;
+  written = s.written;
+  few_rows = s.few_rows;
+  few_txns = s.few_txns;
+  few_events = s.few_events;
+  order = no_statements st.place st.txns st.statements st.events t s.order;
+}
+
+pub end_leads : (cat : Catalogue) (st to : State) (words : List Word) → Sound cat st → end_rules st words ≡ Ok to → Leads cat st to (Plain (codes "end") ∷ words)
+end_leads cat st to [] s e =
+    let a = must_then BadLine (takes_events st.place) (λ _. Ok (with_end st)) to e in
+    subst (λ (x : State). Leads cat st x end_words) (ok_is (with_end st) to a.1) (record {
+      sound = end_sound cat st s a.0;
+      lines = end_more cat st.rows st.txns st.place st.statements st.events a.0;
+    })
+end_leads cat st to (w ∷ words) s e = absurd cc

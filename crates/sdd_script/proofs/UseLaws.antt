@@ -1,0 +1,222 @@
+-- Relations and columns of uses: what is read is spelled and is there, and what is spelled and is there is read.
+use Rattle.std.proofs.Common.{◌≡◌, ℕ, ℤ, pos, negsuc, zero, suc, ◌+◌, ◌-◌, ◌^◌, ◌<◌, ◌≤◌, List, [], ◌∷◌, ◌++◌, length, get_or, Bool, true, false, cond, eqb, ltb, Option, Some, None, Ok, refl, sym, ap, subst, ◌∙◌, arith}
+use Rattle.std.specs.Prelude.{not, ◌||◌, slice_get}
+use Rattle.std.specs.Str.{bytes_eq}
+use Rattle.std.specs.Option.{option_map_or}
+use Rattle.std.specs.Fmt.{decimal, signed_decimal}
+use Rattle.std.specs.List.{find, range_with_len}
+use Rattle.std.proofs.lemmas.Bool.{ltb-true, lt-ltb, ne_eqb}
+use Rattle.std.proofs.lemmas.Slice.Eq.{bytes_eq-Decides}
+use Rattle.std.proofs.lemmas.Option.{slice_get-get_or}
+use Rattle.std.proofs.lemmas.List.Quantifiers.{position-Some}
+use Rattle.sdd_base.specs.Name.{is_name}
+use Rattle.sdd_catalog.specs.Catalogue.{Catalogue, kind_at}
+use Rattle.sdd_catalog.specs.declared.parts.Kind.TheVariants.{Int}
+use Rattle.sdd_catalog.specs.declared.resolved.Column.{Column}
+use Rattle.sdd_lang.specs.Fits.{IsRelation, IsColumn}
+use Rattle.sdd_lang.specs.declared.condition.Ref.{Ref}
+use Rattle.sdd_words.specs.Keywords.{has_point, before_point, behind_point, looks_like_column}
+use Rattle.sdd_words.specs.Number.{number_of}
+use Rattle.sdd_words.specs.Whole.{is_whole}
+use Rattle.sdd_words.specs.Steps.{◌>>=◌, known}
+use Rattle.sdd_words.specs.declared.word.Word.{Word}
+use Rattle.sdd_words.specs.declared.word.Word.TheVariants.{Plain, Quoted}
+use Rattle.sdd_words.proofs.Numbers.{number_takes, number_again}
+use Rattle.sdd_script.specs.Columns.{Parts, use_in, use_at, use_numbered, column_in, column_of_use}
+use Rattle.sdd_script.specs.Naming.{columns_of, name_of_relation, relation_named, relation_of, column_named, kind_of_place}
+use Rattle.sdd_script.specs.Spelling.{relation_word, name_of_column}
+use Rattle.sdd_script.specs.Values.{rel_no}
+use Rattle.sdd_script.specs.declared.fault.WorkRule.TheVariants.{BadNumber, UnknownName}
+use Rattle.sdd_script.specs.declared.found.Found.{Found}
+use Rattle.sdd_script.proofs.StepLaws.{ok_is, must_then, known_then, both_hold, some_is}
+use Rattle.sdd_script.proofs.ValueLaws.{columns_are}
+use Rattle.sdd_script.proofs.WordCuts.{point_cut}
+use Rattle.sdd_script.proofs.WordLooks.{before_is, behind_is, decimal_is_whole}
+
+-- a catalogue in which each number is found by its name, and each name is one
+pub record IsKnown (cat : Catalogue) : Type 0 where
+  pub relation : (rel : ℕ) → IsRelation cat rel → relation_named cat (name_of_relation cat rel) ≡ Some rel
+  pub column : (rel column : ℕ) → IsRelation cat rel → IsColumn cat rel column → column_named (columns_of cat rel) (name_of_column (columns_of cat rel) column) ≡ Some (column - 1)
+  pub relation_name : (rel : ℕ) → IsRelation cat rel → is_name (name_of_relation cat rel) ≡ true
+  pub column_name : (rel column : ℕ) → IsRelation cat rel → IsColumn cat rel column → is_name (name_of_column (columns_of cat rel) column) ≡ true
+  pub some_column : (rel : ℕ) → IsRelation cat rel → 1 ≤ length (columns_of cat rel)
+  pub few_tms : cat.tms ≤ 16
+  pub few_dms : cat.dms ≤ 16
+
+-- ---- relations
+
+pub record IsFound (p : ℕ → Bool) (a n found : ℕ) : Type 0 where
+  pub passes : p found ≡ true
+  pub from : a ≤ found
+  pub to : found < a + n
+
+found_step : (p : ℕ → Bool) (a n found : ℕ) (b : Bool) → p a ≡ b → (find p (range_with_len (a + 1) n) ≡ Some found → IsFound p (a + 1) n found) → cond b (Some a) (find p (range_with_len (a + 1) n)) ≡ Some found → IsFound p a (suc n) found
+found_step p a n found true e ih h = let same = some_is a found h in record { passes = subst (λ (x : ℕ). p x ≡ true) same e; from = omega (arith, same); to = omega (arith, same) }
+found_step p a n found false e ih h = let r = ih h in record { passes = r.passes; from = omega (arith, r.from); to = omega (arith, r.to) }
+
+found_in_range : (p : ℕ → Bool) (a n found : ℕ) → find p (range_with_len a n) ≡ Some found → IsFound p a n found
+found_in_range p a zero found e = absurd cc
+found_in_range p a (suc n) found e = found_step p a n found (p a) refl (λ h. found_in_range p (a + 1) n found h) e
+
+pub record IsSomeRelation (cat : Catalogue) (w : Word) (rel : ℕ) : Type 0 where
+  pub spelled : w ≡ relation_word cat (rel_no rel)
+  pub there : IsRelation cat rel
+
+pub relation_takes : (cat : Catalogue) (w : Word) (rel : ℕ) → relation_of cat w ≡ Some rel → IsSomeRelation cat w rel
+relation_takes cat (Quoted text) rel e = absurd cc
+relation_takes cat (Plain name) rel e =
+    let f = found_in_range (λ r. bytes_eq (name_of_relation cat r) name) 1 (length cat.relations) rel e in
+    let same : name_of_relation cat rel ≡ name = (bytes_eq-Decides (name_of_relation cat rel) name).0 f.passes in
+    record { spelled = ap (λ (l : List ℕ). Plain l) (sym same); there = (f.from, omega (arith, f.to)) }
+
+pub relation_again : (cat : Catalogue) → IsKnown cat → (rel : ℕ) → IsRelation cat rel → relation_of cat (relation_word cat (rel_no rel)) ≡ Some rel
+relation_again cat h rel r = h.relation rel r
+
+-- ---- columns
+
+pub record IsColumnAt (columns : List Column) (part : ℕ) (name : List ℕ) (f : Found) : Type 0 where
+  pub place : ℕ
+  pub within : place < length columns
+  pub at : f.at ≡ record { part = part; column = place + 1 }
+  pub named : name_of_column columns (place + 1) ≡ name
+  pub kind : kind_of_place columns place ≡ Some f.kind
+
+name_at : (columns : List Column) (i : ℕ) (d : Column) → i < length columns → option_map_or (λ (c : Column). c.name) (slice_get columns i) [] ≡ (get_or columns i d).name
+name_at columns i d lt = let e = slice_get-get_or columns i d lt in rw e refl
+
+kind_at_place : (columns : List Column) (i : ℕ) (d : Column) → i < length columns → kind_of_place columns i ≡ Some (get_or columns i d).kind
+kind_at_place columns i d lt = let e = slice_get-get_or columns i d lt in rw e refl
+
+pub column_takes : (columns : List Column) (part : ℕ) (name : List ℕ) (f : Found) → column_in columns part name ≡ Ok f → IsColumnAt columns part name f
+column_takes columns part name f e =
+    let a = known_then UnknownName (column_named columns name) (λ place. known UnknownName (kind_of_place columns place) >>= λ kind. Ok (record { at = record { part = part; column = place + 1 }; kind = kind })) f e in
+    let b = known_then UnknownName (kind_of_place columns a.0) (λ kind. Ok (record { at = record { part = part; column = a.0 + 1 }; kind = kind })) f a.2 in
+    let d : Column = record { name = []; kind = b.0 } in
+    let p = position-Some (λ (c : Column). bytes_eq c.name name) columns a.0 d a.1 in
+    let n : a.0 + 1 - 1 ≡ a.0 = omega arith in
+    let made : Found = record { at = record { part = part; column = a.0 + 1 }; kind = b.0 } in
+    let same : made ≡ f = ok_is made f b.2 in
+    subst (λ (g : Found). IsColumnAt columns part name g) same (record {
+      place = a.0;
+      within = p.0;
+      at = refl;
+      named = ap (λ (i : ℕ). option_map_or (λ (c : Column). c.name) (slice_get columns i) []) n ∙ name_at columns a.0 d p.0 ∙ (bytes_eq-Decides (get_or columns a.0 d).name name).0 p.1;
+      kind = b.1;
+    })
+
+-- ---- columns of uses
+
+-- what a column's word was read as
+pub record IsUse (cat : Catalogue) (parts : Parts) (w : Word) (f : Found) : Type 0 where
+  pub rel : ℕ
+  pub some : 1 ≤ f.at.part
+  pub small : f.at.part < 2 ^ 32
+  pub there : slice_get parts (f.at.part - 1) ≡ Some (Some rel)
+  pub column_from : 1 ≤ f.at.column
+  pub column_to : f.at.column ≤ length (columns_of cat rel)
+  pub kind : kind_of_place (columns_of cat rel) (f.at.column - 1) ≡ Some f.kind
+  pub spelled : w ≡ Plain (decimal f.at.part ++ 46 ∷ name_of_column (columns_of cat rel) f.at.column)
+
+pub record IsUseAt (parts : Parts) (z : ℤ) (u : ℕ × ℕ) : Type 0 where
+  pub is : z ≡ pos u.0
+  pub some : 1 ≤ u.0
+  pub small : u.0 < 2 ^ 32
+  pub there : slice_get parts (u.0 - 1) ≡ Some (Some u.1)
+
+abbrev left_of : Option (ℕ × ℕ) → ℕ
+left_of None = 0
+left_of (Some x) = x.0
+
+abbrev right_of : Option (ℕ × ℕ) → ℕ
+right_of None = 0
+right_of (Some x) = x.1
+
+abbrev some_use : ℕ × ℕ → Option (ℕ × ℕ)
+some_use u = Some u
+
+use_pair : (rel part : ℕ) (u : ℕ × ℕ) → some_use (part, rel) ≡ some_use u → (u.0 ≡ part) × (Some (Some rel) ≡ Some (Some u.1))
+use_pair rel part u e = (sym (ap left_of e), ap (λ (n : ℕ). Some (Some n)) (ap right_of e))
+
+use_in_is : (o : Option (Option ℕ)) (part : ℕ) (u : ℕ × ℕ) → use_in o part ≡ Some u → (u.0 ≡ part) × (o ≡ Some (Some u.1))
+use_in_is None part u e = absurd cc
+use_in_is (Some None) part u e = absurd cc
+use_in_is (Some (Some rel)) part u e = use_pair rel part u e
+
+use_at_if : (parts : Parts) (part : ℕ) (u : ℕ × ℕ) (a b : Bool) → eqb part 0 ≡ a → ltb part (2 ^ 32) ≡ b → cond (a || not b) None (use_in (slice_get parts (part - 1)) part) ≡ Some u → IsUseAt parts (pos part) u
+use_at_if parts part u true b p q e = absurd cc
+use_at_if parts part u false false p q e = absurd cc
+use_at_if parts zero u false true p q e = absurd cc
+use_at_if parts (suc part) u false true p q e =
+    let i = use_in_is (slice_get parts (suc part - 1)) (suc part) u e in
+    let same : u.0 ≡ suc part = i.0 in
+    let small : suc part < 2 ^ 32 = ltb-true (suc part) (2 ^ 32) q in
+    record { is = ap (λ (n : ℕ). pos n) (sym same); some = omega (arith, same); small = omega (arith, same, small); there = subst (λ (n : ℕ). slice_get parts (n - 1) ≡ Some (Some u.1)) (sym same) i.1 }
+
+pub use_takes : (parts : Parts) (z : ℤ) (u : ℕ × ℕ) → use_at parts z ≡ Some u → IsUseAt parts z u
+use_takes parts (pos part) u e = use_at_if parts part u (eqb part 0) (ltb part (2 ^ 32)) refl refl e
+use_takes parts (negsuc n) u e = absurd cc
+
+use_of_number : (cat : Catalogue) (parts : Parts) (bytes : List ℕ) (f : Found) (u : ℕ × ℕ) (o : Option ℤ) → number_of (before_point bytes) ≡ o → bytes ≡ before_point bytes ++ 46 ∷ behind_point bytes
+    → use_numbered parts o ≡ Some u → column_in (columns_of cat u.1) u.0 (behind_point bytes) ≡ Ok f → IsUse cat parts (Plain bytes) f
+use_of_number cat parts bytes f u None n cut e c = absurd cc
+use_of_number cat parts bytes f u (Some z) n cut e c =
+    let at = use_takes parts z u e in
+    let col = column_takes (columns_of cat u.1) u.0 (behind_point bytes) f c in
+    let number : before_point bytes ≡ signed_decimal z = (number_takes (before_point bytes) z n).0 in
+    let digits : before_point bytes ≡ decimal u.0 = number ∙ ap signed_decimal at.is in
+    let part : f.at.part ≡ u.0 = ap (λ (r : Ref). r.part) col.at in
+    let column : f.at.column ≡ col.place + 1 = ap (λ (r : Ref). r.column) col.at in
+    let back : f.at.column - 1 ≡ col.place = omega (arith, column) in
+    record {
+      rel = u.1;
+      some = omega (arith, at.some, part);
+      small = omega (arith, at.small, part);
+      there = subst (λ (k : ℕ). slice_get parts (k - 1) ≡ Some (Some u.1)) (sym part) at.there;
+      column_from = omega (arith, column);
+      column_to = omega (arith, column, col.within);
+      kind = subst (λ (k : ℕ). kind_of_place (columns_of cat u.1) k ≡ Some f.kind) (sym back) col.kind;
+      spelled = ap (λ (l : List ℕ). Plain l) (cut ∙ ap (λ (l : List ℕ). l ++ 46 ∷ behind_point bytes) (digits ∙ ap decimal (sym part)) ∙ ap (λ (l : List ℕ). decimal f.at.part ++ 46 ∷ l) (sym col.named ∙ ap (name_of_column (columns_of cat u.1)) (sym column)));
+    }
+
+pub use_of_takes : (cat : Catalogue) (parts : Parts) (w : Word) (f : Found) → looks_like_column w ≡ true → column_of_use cat parts w ≡ Ok f → IsUse cat parts w f
+use_of_takes cat parts (Quoted text) f look e = absurd cc
+use_of_takes cat parts (Plain bytes) f look e =
+    let a = must_then BadNumber (is_whole (before_point bytes)) (λ _. known UnknownName (use_numbered parts (number_of (before_point bytes))) >>= λ u. column_in (columns_of cat u.1) u.0 (behind_point bytes)) f e in
+    let b = known_then UnknownName (use_numbered parts (number_of (before_point bytes))) (λ u. column_in (columns_of cat u.1) u.0 (behind_point bytes)) f a.1 in
+    use_of_number cat parts bytes f b.0 (number_of (before_point bytes)) refl (point_cut bytes (both_hold (has_point bytes) (not (has_point (behind_point bytes))) look).0) b.1 b.2
+
+-- what is spelled is read
+
+pub record HasUse (cat : Catalogue) (parts : Parts) (rel : ℕ) (r : Ref) : Type 0 where
+  pub some : 1 ≤ r.part
+  pub small : r.part < 2 ^ 32
+  pub there : slice_get parts (r.part - 1) ≡ Some (Some rel)
+  pub relation : IsRelation cat rel
+  pub column : IsColumn cat rel r.column
+
+use_at_again : (parts : Parts) (part rel : ℕ) → 1 ≤ part → part < 2 ^ 32 → slice_get parts (part - 1) ≡ Some (Some rel) → use_at parts (pos part) ≡ Some (part, rel)
+use_at_again parts part rel some small there =
+    let a : eqb part 0 ≡ false = ne_eqb part 0 (λ e. omega arith) in
+    let b : ltb part (2 ^ 32) ≡ true = lt-ltb part (2 ^ 32) small in
+    rw (a, b, there) refl
+
+pub kind_is : (cat : Catalogue) (rel column : ℕ) → IsColumn cat rel column → kind_of_place (columns_of cat rel) (column - 1) ≡ Some (kind_at cat rel column)
+kind_is cat rel column h =
+    let lt : column - 1 < length (columns_of cat rel) = rw (columns_are cat rel) (omega (arith, h.0, h.1)) in
+    let d : Column = record { name = []; kind = Int } in
+    kind_at_place (columns_of cat rel) (column - 1) d lt ∙ ap (λ (l : List Column). Some (get_or l (column - 1) d).kind) (columns_are cat rel)
+
+pub use_again : (cat : Catalogue) → IsKnown cat → (parts : Parts) (rel : ℕ) (r : Ref) → HasUse cat parts rel r
+    → column_of_use cat parts (Plain (decimal r.part ++ 46 ∷ name_of_column (columns_of cat rel) r.column)) ≡ Ok (record { at = r; kind = kind_at cat rel r.column })
+use_again cat k parts rel r h =
+    let name : List ℕ = name_of_column (columns_of cat rel) r.column in
+    let lt : r.part < 2 ^ 63 = omega (arith, h.small) in
+    let a = before_is r.part name lt in
+    let b = behind_is r.part name lt in
+    let w = decimal_is_whole r.part lt in
+    let n : number_of (decimal r.part) ≡ Some (pos r.part) = number_again (pos r.part) lt in
+    let u = use_at_again parts r.part rel h.some h.small h.there in
+    let c = k.column rel r.column h.relation h.column in
+    let t = kind_is cat rel r.column h.column in
+    let again : r.column - 1 + 1 ≡ r.column = omega (arith, h.column.0) in
+    rw (a, w, n, u, b, c, t, again) refl

@@ -1,0 +1,154 @@
+-- Values: what is read is spelled and fits, and what is spelled and fits is read.
+use Rattle.std.proofs.Common.{◌≡◌, ℕ, suc, ◌-◌, List, [], ◌∷◌, length, map, get_or, Bool, true, false, cond, Option, Some, None, Result, Ok, refl, ap, subst, ◌∙◌, arith}
+use Rattle.std.specs.Prelude.{slice_get, unwrap_or}
+use Rattle.std.specs.Option.{option_map_or}
+use Rattle.std.specs.List.{AllByRecursion}
+use Rattle.std.proofs.lemmas.Option.{unwrap_or-slice_get}
+use Rattle.sdd_base.specs.declared.value.Value.{Value}
+use Rattle.sdd_base.specs.declared.value.Value.TheVariants as values
+use Rattle.sdd_catalog.specs.Catalogue.{Catalogue, relation_at, key_column}
+use Rattle.sdd_catalog.specs.declared.parts.Kind.{Kind}
+use Rattle.sdd_catalog.specs.declared.parts.Kind.TheVariants as kinds
+use Rattle.sdd_catalog.specs.declared.resolved.Column.{Column}
+use Rattle.sdd_catalog.specs.declared.resolved.Relation.{Relation}
+use Rattle.sdd_lang.specs.Fits.{kind_of}
+use Rattle.sdd_words.specs.Number.{number_of}
+use Rattle.sdd_words.specs.Texts.{is_text, text_in}
+use Rattle.sdd_words.specs.Steps.{◌>>=◌, must}
+use Rattle.sdd_words.specs.declared.word.Word.{Word}
+use Rattle.sdd_words.specs.declared.word.Word.TheVariants.{Plain, Quoted}
+use Rattle.sdd_words.proofs.Numbers.{number_takes, number_again}
+use Rattle.sdd_script.specs.Naming.{columns_of, key_of, name_of_relation, kind_of_place}
+use Rattle.sdd_script.specs.Spelling.{value_word}
+use Rattle.sdd_script.specs.Valid.{IsValue}
+use Rattle.sdd_script.specs.Values.{is_of_kind, value_of, values_of}
+use Rattle.sdd_script.specs.declared.fault.WorkRule.{WorkRule}
+use Rattle.sdd_script.specs.declared.fault.WorkRule.TheVariants.{BadLine, BadNumber, WrongKind}
+use Rattle.sdd_script.proofs.StepLaws.{ok_is, must_then, known_then, Answer, each_ok, ok_each}
+
+-- ---- the two spellings of a relation's parts
+
+at_or : {A B : Type 0} (f : A → B) (o : Option A) (d : A) → option_map_or f o (f d) ≡ f (unwrap_or o d)
+at_or f None d = refl
+at_or f (Some x) d = refl
+
+pub part_at : {A B : Type 0} (f : A → B) (xs : List A) (i : ℕ) (d : A) → option_map_or f (slice_get xs i) (f d) ≡ f (get_or xs i d)
+part_at f xs i d = at_or f (slice_get xs i) d ∙ ap f (unwrap_or-slice_get xs i d)
+
+pub columns_are : (cat : Catalogue) (rel : ℕ) → columns_of cat rel ≡ (relation_at cat rel).columns
+columns_are cat rel = part_at (λ (r : Relation). r.columns) cat.relations (rel - 1) (record { name = []; columns = []; key = 0 })
+
+pub key_is : (cat : Catalogue) (rel : ℕ) → key_of cat rel ≡ key_column cat rel
+key_is cat rel = part_at (λ (r : Relation). r.key) cat.relations (rel - 1) (record { name = []; columns = []; key = 0 })
+
+pub name_is : (cat : Catalogue) (rel : ℕ) → name_of_relation cat rel ≡ (relation_at cat rel).name
+name_is cat rel = part_at (λ (r : Relation). r.name) cat.relations (rel - 1) (record { name = []; columns = []; key = 0 })
+
+-- ---- values
+
+pub record IsRead (kind : Kind) (w : Word) (v : Value) : Type 0 where
+  pub spelled : w ≡ value_word v
+  pub same : kind_of v ≡ kind
+  pub fits : IsValue v
+
+pub kind_int : (k : Kind) → is_of_kind (Some k) kinds.Int ≡ true → kinds.Int ≡ k
+kind_int kinds.Int e = refl
+kind_int kinds.Text e = absurd cc
+
+pub kind_text : (k : Kind) → is_of_kind (Some k) kinds.Text ≡ true → kinds.Text ≡ k
+kind_text kinds.Int e = absurd cc
+kind_text kinds.Text e = refl
+
+pub same_kind : (a b : Kind) → is_of_kind (Some a) b ≡ true → a ≡ b
+same_kind kinds.Int kinds.Int e = refl
+same_kind kinds.Int kinds.Text e = absurd cc
+same_kind kinds.Text kinds.Int e = absurd cc
+same_kind kinds.Text kinds.Text e = refl
+
+pub kind_same : (a : Kind) → is_of_kind (Some a) a ≡ true
+kind_same kinds.Int = refl
+kind_same kinds.Text = refl
+
+some_text : (bytes text : List ℕ) (b : Bool) → cond b (Some bytes) None ≡ Some text → (b ≡ true) × (bytes ≡ text)
+some_text bytes text true e = (refl, cc)
+some_text bytes text false e = absurd cc
+
+pub text_takes : (bytes text : List ℕ) → text_in bytes ≡ Some text → (is_text bytes ≡ true) × (bytes ≡ text)
+text_takes bytes text e = some_text bytes text (is_text bytes) e
+
+pub value_takes : (k : Kind) (w : Word) (v : Value) → value_of (Some k) w ≡ Ok v → IsRead k w v
+value_takes k (Plain bytes) v e =
+    let a = known_then BadNumber (number_of bytes) (λ number. must WrongKind (is_of_kind (Some k) kinds.Int) >>= λ _. Ok (values.Int number)) v e in
+    let n = number_takes bytes a.0 a.1 in
+    let b = must_then WrongKind (is_of_kind (Some k) kinds.Int) (λ _. Ok (values.Int a.0)) v a.2 in
+    rw (← ok_is (values.Int a.0) v b.1) (record { spelled = ap (λ (l : List ℕ). Plain l) n.0; same = kind_int k b.0; fits = n.1 })
+value_takes k (Quoted text) v e =
+    let a = known_then BadLine (text_in text) (λ t. must WrongKind (is_of_kind (Some k) kinds.Text) >>= λ _. Ok (values.Text t)) v e in
+    let t = text_takes text a.0 a.1 in
+    let b = must_then WrongKind (is_of_kind (Some k) kinds.Text) (λ _. Ok (values.Text a.0)) v a.2 in
+    rw (← ok_is (values.Text a.0) v b.1) (record { spelled = ap (λ (l : List ℕ). Quoted l) t.1; same = kind_text k b.0; fits = (subst (λ (l : List ℕ). is_text l ≡ true) t.1 t.0) })
+
+pub value_again : (v : Value) → IsValue v → value_of (Some (kind_of v)) (value_word v) ≡ Ok v
+value_again (values.Int z) h = let e = number_again z h in rw e refl
+value_again (values.Text text) h = rw h refl
+
+-- ---- rows
+
+abbrev at_columns : List Column → ℕ → Word → Result Value WorkRule
+at_columns columns i w = value_of (kind_of_place columns i) w
+
+shifted : (c : Column) (cs : List Column) (i : ℕ) (ws : List Word) (vs : List Value) → Answer (at_columns (c ∷ cs)) (suc i) ws vs → Answer (at_columns cs) i ws vs
+shifted c cs i [] [] h = tt
+shifted c cs i [] (v ∷ vs) h = absurd h
+shifted c cs i (w ∷ ws) [] h = absurd h
+shifted c cs i (w ∷ ws) (v ∷ vs) h = (h.0, shifted c cs (suc i) ws vs h.1)
+
+back : (c : Column) (cs : List Column) (i : ℕ) (ws : List Word) (vs : List Value) → Answer (at_columns cs) i ws vs → Answer (at_columns (c ∷ cs)) (suc i) ws vs
+back c cs i [] [] h = tt
+back c cs i [] (v ∷ vs) h = absurd h
+back c cs i (w ∷ ws) [] h = absurd h
+back c cs i (w ∷ ws) (v ∷ vs) h = (h.0, back c cs (suc i) ws vs h.1)
+
+abbrev pub kinds_of : List Column → List Kind
+kinds_of columns = map (λ (c : Column). c.kind) columns
+
+pub record IsRow (columns : List Column) (ws : List Word) (vs : List Value) : Type 0 where
+  pub spelled : ws ≡ map value_word vs
+  pub same : map kind_of vs ≡ kinds_of columns
+  pub fits : AllByRecursion IsValue vs
+
+row_of_answers : (columns : List Column) (ws : List Word) (vs : List Value) → Answer (at_columns columns) 0 ws vs → length ws ≡ length columns → IsRow columns ws vs
+row_of_answers [] [] [] h len = record { spelled = refl; same = refl; fits = tt }
+row_of_answers [] [] (v ∷ vs) h len = absurd h
+row_of_answers [] (w ∷ ws) vs h len = absurd (omega arith)
+row_of_answers (c ∷ cs) [] vs h len = absurd (omega arith)
+row_of_answers (c ∷ cs) (w ∷ ws) [] h len = absurd h
+row_of_answers (c ∷ cs) (w ∷ ws) (v ∷ vs) h len =
+    let one = value_takes c.kind w v h.0 in
+    let more = row_of_answers cs ws vs (shifted c cs 0 ws vs h.1) (omega arith) in
+    let first : w ≡ value_word v = one.spelled in
+    let others : ws ≡ map value_word vs = more.spelled in
+    let k : kind_of v ≡ c.kind = one.same in
+    let ks : map kind_of vs ≡ kinds_of cs = more.same in
+    record { spelled = cc; same = cc; fits = (one.fits, more.fits) }
+
+pub values_take : (columns : List Column) (ws : List Word) (vs : List Value) → values_of columns ws ≡ Ok vs → length ws ≡ length columns → IsRow columns ws vs
+values_take columns ws vs e len = row_of_answers columns ws vs (each_ok (at_columns columns) 0 ws vs e) len
+
+heads : (k l : Kind) (ks ls : List Kind) → k ∷ ks ≡ l ∷ ls → (k ≡ l) × (ks ≡ ls)
+heads k l ks ls e = (cc, cc)
+
+answers_of_row : (columns : List Column) (vs : List Value) → map kind_of vs ≡ kinds_of columns → AllByRecursion IsValue vs → Answer (at_columns columns) 0 (map value_word vs) vs × (length (map value_word vs) ≡ length columns)
+answers_of_row [] [] e h = (tt, refl)
+answers_of_row [] (v ∷ vs) e h = absurd cc
+answers_of_row (c ∷ cs) [] e h = absurd cc
+answers_of_row (c ∷ cs) (v ∷ vs) e h =
+    let k = heads (kind_of v) c.kind (map kind_of vs) (kinds_of cs) e in
+    let more = answers_of_row cs vs k.1 h.1 in
+    ((subst (λ (x : Kind). value_of (Some x) (value_word v) ≡ Ok v) k.0 (value_again v h.0), back c cs 0 (map value_word vs) vs more.0), ap suc more.1)
+
+pub values_again : (columns : List Column) (vs : List Value) → map kind_of vs ≡ kinds_of columns → AllByRecursion IsValue vs → values_of columns (map value_word vs) ≡ Ok vs
+values_again columns vs e h = ok_each (at_columns columns) 0 (map value_word vs) vs (answers_of_row columns vs e h).0
+
+pub values_length : (columns : List Column) (vs : List Value) → map kind_of vs ≡ kinds_of columns → AllByRecursion IsValue vs → length (map value_word vs) ≡ length columns
+values_length columns vs e h = (answers_of_row columns vs e h).1

@@ -1,0 +1,262 @@
+-- The whole file: the spelling of a workload that the catalogue allows is read as the workload.
+use Rattle.std.proofs.Common.{◌≡◌, ℕ, ◌+◌, ◌-◌, ◌<◌, ◌≤◌, List, [], ◌∷◌, ◌++◌, length, map, flat_map, get_or, Bool, true, false, cond, ltb, Option, Some, None, Result, Ok, Err, refl, sym, ap, subst, ◌∙◌, arith, append-nil, append_assoc}
+use Rattle.std.specs.Prelude.{not, nat_lt, sum_by, ◌==◌}
+use Rattle.std.specs.Option.{option_map}
+use Rattle.std.specs.Str.{bytes_eq}
+use Rattle.std.specs.List.{All, AllByRecursion, position, filter_map, list_any}
+use Rattle.std.proofs.lemmas.Bool.{lt-ltb, le-ltb}
+use Rattle.std.proofs.lemmas.List.{map-append, length-append, length-map, get_or-map}
+use Rattle.std.proofs.lemmas.List.Elements.{recursion_from_All, All-get_or}
+use Rattle.sdd_base.specs.Name.{is_name}
+use Rattle.sdd_base.specs.declared.event.Event.{Event}
+use Rattle.sdd_base.specs.declared.event.Event.TheVariants.{Submit, Deliver, Lose, Repeat, Resend, Tick, Settle}
+use Rattle.sdd_base.specs.declared.number.RelNo.{RelNo}
+use Rattle.sdd_base.specs.declared.number.TxnNo.{TxnNo}
+use Rattle.sdd_base.specs.declared.site.Site.TheVariants.{T}
+use Rattle.sdd_base.specs.declared.value.Value.{Value}
+use Rattle.sdd_catalog.specs.Catalogue.{Catalogue}
+use Rattle.sdd_catalog.specs.Rules.{repeats}
+use Rattle.sdd_catalog.proofs.NameLemmas.{list_any-map}
+use Rattle.sdd_lang.specs.Fits.{IsFrom1To}
+use Rattle.sdd_lang.specs.declared.transaction.Txn.{Txn}
+use Rattle.sdd_words.specs.Lines.{cut_lines}
+use Rattle.sdd_words.specs.Names.{name_in}
+use Rattle.sdd_words.specs.Steps.{◌>>=◌, known, must}
+use Rattle.sdd_words.specs.Words.{line_bytes}
+use Rattle.sdd_words.specs.declared.word.Word.{Word}
+use Rattle.sdd_words.specs.declared.word.Word.TheVariants.{Plain}
+use Rattle.sdd_words.proofs.Spelled.{cut_again}
+use Rattle.sdd_base.specs.declared.site.Site.{Site}
+use Rattle.sdd_script.specs.LineRules.{most_events, is_submitted, with_submitted, with_event, event_rules}
+use Rattle.sdd_script.specs.Occurrences.{txn_no, number_named, txn_named, submit_of, deliver_of, lose_of, repeat_of, resend_of, tick_of, settle_of}
+use Rattle.sdd_script.specs.Places.{takes_txns, takes_events, is_ended}
+use Rattle.sdd_script.specs.Spelling.{start_words, event_words, end_words, name_of_txn, txn_lines, site_word, count_word, lines_of, spelling}
+use Rattle.sdd_script.specs.Valid.{IsValidRow, IsValidTxn, IsValidEvent, IsValid, rows_put_by, submitted_by, AreDistinct}
+use Rattle.sdd_script.specs.Walk.{walk, walk_bytes, nothing_read, finished, most_bytes, workload}
+use Rattle.sdd_script.specs.declared.fault.Counts.TheVariants as counts
+use Rattle.sdd_script.specs.declared.fault.WorkRule.{WorkRule}
+use Rattle.sdd_script.specs.declared.fault.WorkRule.TheVariants.{BadLine, UnknownName, SubmittedTwice, TooMany, TooLong}
+use Rattle.sdd_script.specs.declared.keyword.Keyword.TheVariants as keys
+use Rattle.sdd_script.specs.declared.keyword.EventKey.TheVariants as ekeys
+use Rattle.sdd_script.specs.declared.place.Place.{Place}
+use Rattle.sdd_script.specs.declared.place.Place.TheVariants as places
+use Rattle.sdd_script.specs.declared.state.State.{State}
+use Rattle.sdd_script.specs.declared.workload.Workload.{Workload}
+use Rattle.sdd_script.proofs.WordLooks.{name_fine, name_free}
+use Rattle.sdd_script.proofs.UseLaws.{IsKnown}
+use Rattle.sdd_script.proofs.EventLaws.{place_again, resend_again, tick_again}
+use Rattle.sdd_script.proofs.NamePlaces.{any_none, place_of_name, apart_from}
+use Rattle.sdd_script.proofs.SoundStates.{names_of}
+use Rattle.sdd_script.proofs.ReadingLaws.{name_at_number, lines_spelled}
+use Rattle.sdd_script.proofs.SpellingLaws.{IsStep, Chain, chain-append, chain_lines, chain_walk, line_step, state_of, of_rows, rows_chain, txns_chain}
+use Rattle.sdd_script.proofs.FineLines.{keyword_fine, NamesOne, event_fine}
+
+abbrev numbers : List TxnNo → List ℕ
+numbers submitted = map (λ (t : TxnNo). t.0) submitted
+
+abbrev scheduled : Place → List (RelNo × List Value) → ℕ → List Txn → List TxnNo → List Event → State
+scheduled place rows written txns submitted events = state_of place rows written (names_of txns) txns [] submitted events
+
+-- ---- the transaction that an event submits
+
+no_txn : Txn
+no_txn = record { name = []; tm = record { 0 = 0 }; statements = [] }
+
+pub submitted_name : (cat : Catalogue) (txns : List Txn) (txn : ℕ) → All (IsValidTxn cat) txns → IsFrom1To (length txns) txn → is_name (name_of_txn txns txn) ≡ true
+submitted_name cat txns txn valid h =
+    let lt : txn - 1 < length txns = omega (arith, h.0, h.1) in
+    let named : is_name (get_or txns (txn - 1) no_txn).name ≡ true = (All-get_or (IsValidTxn cat) txns (txn - 1) no_txn lt valid).named in
+    let same : name_of_txn txns txn ≡ (get_or txns (txn - 1) no_txn).name = name_at_number txns txn ∙ get_or-map (λ (t : Txn). t.name) txns (txn - 1) no_txn [] lt in
+    subst (λ (l : List ℕ). is_name l ≡ true) (sym same) named
+
+number_again : (n : ℕ) → 1 ≤ n → n - 1 + 1 ≡ n
+number_again n h = omega (arith, h)
+
+abbrev number_of : ℕ → TxnNo
+number_of n = record { 0 = n }
+
+submit_again : (cat : Catalogue) (txns : List Txn) (txn : TxnNo) → All (IsValidTxn cat) txns → repeats (names_of txns) ≡ false → IsFrom1To (length txns) txn.0 → submit_of (names_of txns) (Plain (name_of_txn txns txn.0) ∷ []) ≡ Ok (Submit txn)
+submit_again cat txns txn valid differ h =
+    let name : List ℕ = name_of_txn txns txn.0 in
+    let named = submitted_name cat txns txn.0 valid h in
+    let lt : txn.0 - 1 < length (names_of txns) = omega (arith, h.0, h.1, length-map txns (λ (t : Txn). t.name)) in
+    let free = name_free name named in
+    let a : name_in name ≡ Some name = ap (λ (b : Bool). cond b (Some name) None) named in
+    let p : position (bytes_eq name) (names_of txns) ≡ Some (txn.0 - 1) = ap (λ (l : List ℕ). position (bytes_eq l) (names_of txns)) (name_at_number txns txn.0) ∙ place_of_name (names_of txns) (txn.0 - 1) differ lt in
+    let is : txn_no (txn.0 - 1 + 1) ≡ txn = ap (λ (n : ℕ). number_of n) (number_again txn.0 h.0) in
+    ap (λ (b : Bool). must BadLine b >>= λ _. txn_named (names_of txns) (Plain name) >>= λ t. Ok (Submit t)) free
+    ∙ ap (λ (o : Option (List ℕ)). (known UnknownName o >>= λ n. known UnknownName (number_named (names_of txns) n) >>= λ m. Ok (txn_no m)) >>= λ t. Ok (Submit t)) a
+    ∙ ap (λ (o : Option ℕ). (known UnknownName (option_map (λ place. place + 1) o) >>= λ m. Ok (txn_no m)) >>= λ t. Ok (Submit t)) p
+    ∙ ap (λ (t : TxnNo). Ok (Submit t)) is
+
+names_one : (cat : Catalogue) (txns : List Txn) (e : Event) → All (IsValidTxn cat) txns → IsValidEvent cat (length txns) e → NamesOne txns e
+names_one cat txns (Submit txn) valid h = name_fine (name_of_txn txns txn.0) (submitted_name cat txns txn.0 valid h)
+names_one cat txns (Deliver from to place) valid h = tt
+names_one cat txns (Lose from to place) valid h = tt
+names_one cat txns (Repeat from to place) valid h = tt
+names_one cat txns (Resend from to) valid h = tt
+names_one cat txns (Tick tm n) valid h = tt
+names_one cat txns Settle valid h = tt
+
+record IsFresh (submitted : List TxnNo) (e : Event) (es : List Event) : Type 0 where
+  new : is_submitted submitted e ≡ false
+  distinct : AreDistinct (numbers (with_submitted submitted e) ++ filter_map submitted_by es)
+
+fresh : (submitted : List TxnNo) (e : Event) (es : List Event) → AreDistinct (numbers submitted ++ filter_map submitted_by (e ∷ es)) → IsFresh submitted e es
+fresh submitted (Submit txn) es d =
+    let none : list_any (λ (n : ℕ). n == txn.0) (numbers submitted) ≡ false = any_none (λ (n : ℕ). n == txn.0) (numbers submitted) (apart_from (numbers submitted) txn.0 (filter_map submitted_by es) d) in
+    let joined : numbers submitted ++ txn.0 ∷ filter_map submitted_by es ≡ numbers (submitted ++ txn ∷ []) ++ filter_map submitted_by es =
+    sym (append_assoc (numbers submitted) (txn.0 ∷ []) (filter_map submitted_by es)) ∙ ap (λ (l : List ℕ). l ++ filter_map submitted_by es) (sym (map-append (λ (t : TxnNo). t.0) submitted (txn ∷ []))) in
+    record { new = sym (list_any-map (λ (n : ℕ). n == txn.0) (λ (t : TxnNo). t.0) submitted) ∙ none; distinct = subst AreDistinct joined d }
+fresh submitted (Deliver from to place) es d = record { new = refl; distinct = d }
+fresh submitted (Lose from to place) es d = record { new = refl; distinct = d }
+fresh submitted (Repeat from to place) es d = record { new = refl; distinct = d }
+fresh submitted (Resend from to) es d = record { new = refl; distinct = d }
+fresh submitted (Tick tm n) es d = record { new = refl; distinct = d }
+fresh submitted Settle es d = record { new = refl; distinct = d }
+
+-- ---- events
+
+still : (place : Place) → takes_events place ≡ true → is_ended place ≡ false
+still places.Rows t = refl
+still places.Between t = refl
+still places.Events t = refl
+still (places.Inside h) t = absurd cc
+still places.Ended t = absurd cc
+
+event_rules_again : (place : Place) (rows : List (RelNo × List Value)) (written : ℕ) (txns : List Txn) (submitted : List TxnNo) (events : List Event) (e : Event) (reading : Result Event WorkRule)
+    → reading ≡ Ok e → takes_events place ≡ true → is_submitted submitted e ≡ false → length events < most_events
+    → event_rules (scheduled place rows written txns submitted events) reading ≡ Ok (scheduled places.Events rows written txns (with_submitted submitted e) (events ++ e ∷ []))
+event_rules_again place rows written txns submitted events e reading r t new room =
+    let st : State = scheduled place rows written txns submitted events in
+    let to : State = scheduled places.Events rows written txns (with_submitted submitted e) (events ++ e ∷ []) in
+    let c : ltb (length events) most_events ≡ true = lt-ltb (length events) most_events room in
+    ap (λ (b : Bool). must BadLine b >>= λ _. reading >>= λ event. with_event st event) t
+    ∙ ap (λ (q : Result Event WorkRule). q >>= λ event. with_event st event) r
+    ∙ ap (λ (b : Bool). must SubmittedTwice (not b) >>= λ _. must (TooMany counts.Event) (nat_lt (length events) most_events) >>= λ _. Ok to) new
+    ∙ ap (λ (b : Bool). must (TooMany counts.Event) b >>= λ _. Ok to) c
+
+record CanStand (place : Place) (submitted : List TxnNo) (events : List Event) (e : Event) : Type 0 where
+  takes : takes_events place ≡ true
+  new : is_submitted submitted e ≡ false
+  room : length events < most_events
+
+event_step : (cat : Catalogue) → IsKnown cat → (place : Place) (rows : List (RelNo × List Value)) (written : ℕ) (txns : List Txn) (submitted : List TxnNo) (events : List Event) (e : Event)
+    → All (IsValidTxn cat) txns → repeats (names_of txns) ≡ false → IsValidEvent cat (length txns) e → CanStand place submitted events e
+    → IsStep cat (scheduled place rows written txns submitted events) (scheduled places.Events rows written txns (with_submitted submitted e) (events ++ e ∷ [])) (line_bytes (event_words txns e))
+event_step cat k place rows written txns submitted events (Submit txn) valid differ h c =
+    let e : Event = Submit txn in
+    line_step cat (scheduled place rows written txns submitted events) (scheduled places.Events rows written txns (with_submitted submitted e) (events ++ e ∷ [])) (keys.Event ekeys.Submit) (Plain (name_of_txn txns txn.0) ∷ []) (still place c.takes) (event_fine cat k txns e h (names_one cat txns e valid h))
+    (event_rules_again place rows written txns submitted events e (submit_of (names_of txns) (Plain (name_of_txn txns txn.0) ∷ [])) (submit_again cat txns txn valid differ h) c.takes c.new c.room)
+event_step cat k place rows written txns submitted events (Deliver from to n) valid differ h c =
+    let e : Event = Deliver from to n in
+    let ws : List Word = site_word from ∷ site_word to ∷ count_word n ∷ [] in
+    line_step cat (scheduled place rows written txns submitted events) (scheduled places.Events rows written txns (with_submitted submitted e) (events ++ e ∷ [])) (keys.Event ekeys.Deliver) ws (still place c.takes) (event_fine cat k txns e h tt)
+    (event_rules_again place rows written txns submitted events e (deliver_of cat ws) (ap (λ (r : Result (Site × Site × ℕ) WorkRule). r >>= λ (p : Site × Site × ℕ). Ok (Deliver p.0 p.1 p.2)) (place_again cat k from to n h.0 h.1)) c.takes c.new c.room)
+event_step cat k place rows written txns submitted events (Lose from to n) valid differ h c =
+    let e : Event = Lose from to n in
+    let ws : List Word = site_word from ∷ site_word to ∷ count_word n ∷ [] in
+    line_step cat (scheduled place rows written txns submitted events) (scheduled places.Events rows written txns (with_submitted submitted e) (events ++ e ∷ [])) (keys.Event ekeys.Lose) ws (still place c.takes) (event_fine cat k txns e h tt)
+    (event_rules_again place rows written txns submitted events e (lose_of cat ws) (ap (λ (r : Result (Site × Site × ℕ) WorkRule). r >>= λ (p : Site × Site × ℕ). Ok (Lose p.0 p.1 p.2)) (place_again cat k from to n h.0 h.1)) c.takes c.new c.room)
+event_step cat k place rows written txns submitted events (Repeat from to n) valid differ h c =
+    let e : Event = Repeat from to n in
+    let ws : List Word = site_word from ∷ site_word to ∷ count_word n ∷ [] in
+    line_step cat (scheduled place rows written txns submitted events) (scheduled places.Events rows written txns (with_submitted submitted e) (events ++ e ∷ [])) (keys.Event ekeys.Repeat) ws (still place c.takes) (event_fine cat k txns e h tt)
+    (event_rules_again place rows written txns submitted events e (repeat_of cat ws) (ap (λ (r : Result (Site × Site × ℕ) WorkRule). r >>= λ (p : Site × Site × ℕ). Ok (Repeat p.0 p.1 p.2)) (place_again cat k from to n h.0 h.1)) c.takes c.new c.room)
+event_step cat k place rows written txns submitted events (Resend from to) valid differ h c =
+    let e : Event = Resend from to in
+    let ws : List Word = site_word from ∷ site_word to ∷ [] in
+    line_step cat (scheduled place rows written txns submitted events) (scheduled places.Events rows written txns (with_submitted submitted e) (events ++ e ∷ [])) (keys.Event ekeys.Resend) ws (still place c.takes) (event_fine cat k txns e h tt)
+    (event_rules_again place rows written txns submitted events e (resend_of cat ws) (resend_again cat k from to h) c.takes c.new c.room)
+event_step cat k place rows written txns submitted events (Tick tm n) valid differ h c =
+    let e : Event = Tick tm n in
+    let ws : List Word = site_word (T tm) ∷ count_word n ∷ [] in
+    line_step cat (scheduled place rows written txns submitted events) (scheduled places.Events rows written txns (with_submitted submitted e) (events ++ e ∷ [])) (keys.Event ekeys.Tick) ws (still place c.takes) (event_fine cat k txns e h tt)
+    (event_rules_again place rows written txns submitted events e (tick_of cat ws) (tick_again cat k tm n h.0 h.1) c.takes c.new c.room)
+event_step cat k place rows written txns submitted events Settle valid differ h c =
+    line_step cat (scheduled place rows written txns submitted events) (scheduled places.Events rows written txns submitted (events ++ Settle ∷ [])) (keys.Event ekeys.Settle) [] (still place c.takes) (event_fine cat k txns Settle h tt)
+    (event_rules_again place rows written txns submitted events Settle (settle_of []) refl c.takes c.new c.room)
+
+record AreEvents (cat : Catalogue) (st : State) (lines : List (List ℕ)) (rows : List (RelNo × List Value)) (written : ℕ) (txns : List Txn) (events : List Event) : Type 0 where
+  place : Place
+  submitted : List TxnNo
+  takes : takes_events place ≡ true
+  chain : Chain cat st lines (scheduled place rows written txns submitted events)
+
+events_chain : (cat : Catalogue) → IsKnown cat → (rows : List (RelNo × List Value)) (written : ℕ) (txns : List Txn) → All (IsValidTxn cat) txns → repeats (names_of txns) ≡ false
+    → (es : List Event) (place : Place) (submitted : List TxnNo) (events : List Event) → takes_events place ≡ true → AllByRecursion (IsValidEvent cat (length txns)) es → AreDistinct (numbers submitted ++ filter_map submitted_by es) → length events + length es ≤ most_events
+    → AreEvents cat (scheduled place rows written txns submitted events) (map line_bytes (map (event_words txns) es)) rows written txns (events ++ es)
+events_chain cat k rows written txns valid differ [] place submitted events t h d few = record { place = place; submitted = submitted; takes = t; chain = ap (scheduled place rows written txns submitted) (sym (append-nil events)) }
+events_chain cat k rows written txns valid differ (e ∷ es) place submitted events t h d few =
+    let f = fresh submitted e es d in
+    let len : length (events ++ e ∷ []) ≡ length events + 1 = length-append events (e ∷ []) in
+    let one = event_step cat k place rows written txns submitted events e valid differ h.0 (record { takes = t; new = f.new; room = omega (arith, few) }) in
+    let more = events_chain cat k rows written txns valid differ es places.Events (with_submitted submitted e) (events ++ e ∷ []) refl h.1 f.distinct (omega (arith, few, len)) in
+    let mid : State = scheduled places.Events rows written txns (with_submitted submitted e) (events ++ e ∷ []) in
+    record {
+      place = more.place;
+      submitted = more.submitted;
+      takes = more.takes;
+      chain = (mid, one, subst (λ (l : List Event). Chain cat mid (map line_bytes (map (event_words txns) es)) (scheduled more.place rows written txns more.submitted l)) (append_assoc events (e ∷ []) es) more.chain);
+    }
+
+-- ---- the whole
+
+events_from : (place : Place) → takes_txns place ≡ true → takes_events place ≡ true
+events_from places.Rows t = refl
+events_from places.Between t = refl
+events_from (places.Inside h) t = absurd cc
+events_from places.Events t = absurd cc
+events_from places.Ended t = absurd cc
+
+end_step : (cat : Catalogue) (place : Place) (rows : List (RelNo × List Value)) (written : ℕ) (txns : List Txn) (submitted : List TxnNo) (events : List Event) → takes_events place ≡ true
+    → IsStep cat (scheduled place rows written txns submitted events) (scheduled places.Ended rows written txns submitted events) (line_bytes end_words)
+end_step cat place rows written txns submitted events t =
+    line_step cat (scheduled place rows written txns submitted events) (scheduled places.Ended rows written txns submitted events) keys.End [] (still place t) (keyword_fine keys.End, tt)
+    (ap (λ (b : Bool). must BadLine b >>= λ _. Ok (scheduled places.Ended rows written txns submitted events)) t)
+
+record IsWhole (cat : Catalogue) (w : Workload) : Type 0 where
+  written : ℕ
+  submitted : List TxnNo
+  chain : Chain cat nothing_read (map line_bytes (lines_of cat w)) (scheduled places.Ended w.rows written w.txns submitted w.events)
+
+four_mapped : {A B : Type 0} (f : A → B) (a b c d : List A) → map f (a ++ b ++ c ++ d) ≡ map f a ++ map f b ++ map f c ++ map f d
+four_mapped f a b c d = map-append f (a ++ b ++ c) d ∙ ap (λ l. l ++ map f d) (map-append f (a ++ b) c ∙ ap (λ l. l ++ map f c) (map-append f a b))
+
+whole_chain : (cat : Catalogue) → IsKnown cat → (w : Workload) → IsValid cat w → IsWhole cat w
+whole_chain cat k w v =
+    let rs : List (List ℕ) = map line_bytes (map (start_words cat) w.rows) in
+    let ts : List (List ℕ) = map line_bytes (flat_map (txn_lines cat) w.txns) in
+    let es : List (List ℕ) = map line_bytes (map (event_words w.txns) w.events) in
+    let written : ℕ = length w.rows + sum_by rows_put_by w.txns in
+    let zero_more : 0 + length w.rows ≡ length w.rows = omega arith in
+    let rows = rows_chain cat k w.rows [] 0 (recursion_from_All (IsValidRow cat) w.rows v.rows) (omega (arith, v.few_rows, zero_more)) in
+    let rows_are : Chain cat nothing_read rs (of_rows w.rows (length w.rows)) = subst (λ (n : ℕ). Chain cat nothing_read rs (of_rows w.rows n)) zero_more rows in
+    let txns = txns_chain cat k w.rows w.txns places.Rows (length w.rows) [] [] refl (recursion_from_All (IsValidTxn cat) w.txns v.txns) v.names (omega (arith, v.few_txns)) v.few_rows in
+    let events = events_chain cat k w.rows written w.txns v.txns v.names w.events txns.place [] [] (events_from txns.place txns.goes_on) (recursion_from_All (IsValidEvent cat (length w.txns)) w.events v.events) v.submitted (omega (arith, v.few_events)) in
+    let after_rows : State = of_rows w.rows (length w.rows) in
+    let after_txns : State = scheduled txns.place w.rows written w.txns [] [] in
+    let after_events : State = scheduled events.place w.rows written w.txns events.submitted w.events in
+    let last : State = scheduled places.Ended w.rows written w.txns events.submitted w.events in
+    let ended : Chain cat after_events (line_bytes end_words ∷ []) last = (last, end_step cat events.place w.rows written w.txns events.submitted w.events events.takes, refl) in
+    let two : Chain cat nothing_read (rs ++ ts) after_txns = chain-append cat nothing_read after_rows after_txns rs ts rows_are txns.chain in
+    let three : Chain cat nothing_read (rs ++ ts ++ es) after_events = chain-append cat nothing_read after_txns after_events (rs ++ ts) es two events.chain in
+    let four : Chain cat nothing_read (rs ++ ts ++ es ++ line_bytes end_words ∷ []) last = chain-append cat nothing_read after_events last (rs ++ ts ++ es) (line_bytes end_words ∷ []) three ended in
+    record {
+      written = written;
+      submitted = events.submitted;
+      chain = subst (λ (l : List (List ℕ)). Chain cat nothing_read l last) (sym (four_mapped line_bytes (map (start_words cat) w.rows) (flat_map (txn_lines cat) w.txns) (map (event_words w.txns) w.events) (end_words ∷ []))) four;
+    }
+
+-- the spelling of a workload that is allowed is read as the workload
+pub read_again : (cat : Catalogue) → IsKnown cat → (w : Workload) → IsValid cat w → length (spelling cat w) ≤ most_bytes → workload cat (spelling cat w) ≡ Ok w
+read_again cat k w v small =
+    let c = whole_chain cat k w v in
+    let lines : List (List ℕ) = map line_bytes (lines_of cat w) in
+    let last : State = scheduled places.Ended w.rows c.written w.txns c.submitted w.events in
+    let a : nat_lt most_bytes (length (spelling cat w)) ≡ false = le-ltb most_bytes (length (spelling cat w)) small in
+    let b : cut_lines (spelling cat w) ≡ (lines, []) = ap cut_lines (sym (lines_spelled (lines_of cat w))) ∙ cut_again lines (chain_lines cat nothing_read last lines c.chain) in
+    let d : walk cat 1 nothing_read lines [] ≡ Ok last = chain_walk cat 1 nothing_read last lines c.chain refl in
+    ap (λ (t : Bool). cond t (Err (record { line = 0; rule = TooLong })) (finished (walk_bytes cat 1 nothing_read (spelling cat w)))) a
+    ∙ ap (λ (cut : List (List ℕ) × List ℕ). finished (walk cat 1 nothing_read cut.0 cut.1)) b
+    ∙ ap finished d

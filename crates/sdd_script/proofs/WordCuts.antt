@@ -1,0 +1,148 @@
+-- A list cut at the first item that passes, both ways.
+use Rattle.std.proofs.Common.{◌≡◌, ℕ, ◌+◌, ◌<◌, List, [], ◌∷◌, ◌++◌, length, get_or, take, drop, Bool, true, false, cond, ltb, Option, Some, None, refl, sym, ap, ◌∙◌, arith, append_assoc, add-one, drop-cons}
+use Rattle.std.specs.Prelude.{nat_lt, is_some}
+use Rattle.std.specs.Option.{option_map}
+use Rattle.std.specs.List.{position, position_or_len, before_first, after_first}
+use Rattle.std.proofs.lemmas.Bool.{lt-ltb, le-ltb, eqb-true}
+use Rattle.std.proofs.lemmas.List.{length-append, take_at, drop_at, take-append-drop, take_all, drop_all}
+use Rattle.std.proofs.lemmas.List.Quantifiers.{position-Some}
+use Rattle.std.proofs.lemmas.Slice.Eq.{bytes_eq-Decides}
+use Rattle.sdd_words.specs.Forms.{cut_at}
+use Rattle.sdd_words.specs.Keywords.{is_key, is_point, has_point, before_point, behind_point}
+use Rattle.sdd_words.specs.declared.word.Word.{Word}
+use Rattle.sdd_words.specs.declared.word.Word.TheVariants.{Plain, Quoted}
+
+abbrev pub NonePasses : {A : Type 0} → (A → Bool) → List A → Type 0
+NonePasses p [] = Unit {0}
+NonePasses p (x ∷ xs) = (p x ≡ false) × NonePasses p xs
+
+pub none-append : {A : Type 0} (p : A → Bool) (xs ys : List A) → NonePasses p xs → NonePasses p ys → NonePasses p (xs ++ ys)
+none-append p [] ys h k = k
+none-append p (x ∷ xs) ys h k = (h.0, none-append p xs ys h.1 k)
+
+pub first_at : {A : Type 0} (p : A → Bool) (xs : List A) (x : A) (rest : List A) → NonePasses p xs → p x ≡ true → position_or_len p (xs ++ x ∷ rest) ≡ length xs
+first_at p [] x rest h e = rw e refl
+first_at p (y ∷ xs) x rest h e = let a = h.0 in let ih = first_at p xs x rest h.1 e in rw (a, ih) (omega arith)
+
+pub before_again : {A : Type 0} (p : A → Bool) (xs : List A) (x : A) (rest : List A) → NonePasses p xs → p x ≡ true → before_first p (xs ++ x ∷ rest) ≡ xs
+before_again p xs x rest h e = take_at xs (x ∷ rest) (position_or_len p (xs ++ x ∷ rest)) (sym (first_at p xs x rest h e))
+
+pub after_again : {A : Type 0} (p : A → Bool) (xs : List A) (x : A) (rest : List A) → NonePasses p xs → p x ≡ true → after_first p (xs ++ x ∷ rest) ≡ rest
+after_again p xs x rest h e =
+    let n : length (xs ++ x ∷ []) ≡ position_or_len p (xs ++ x ∷ rest) + 1 = rw (first_at p xs x rest h e) (omega (arith, length-append xs (x ∷ []))) in
+    ap (λ l. drop (position_or_len p (xs ++ x ∷ rest) + 1) l) (sym (append_assoc xs (x ∷ []) rest)) ∙ drop_at (xs ++ x ∷ []) rest (position_or_len p (xs ++ x ∷ rest) + 1) n
+
+pub from_again : {A : Type 0} (p : A → Bool) (xs : List A) (x : A) (rest : List A) → NonePasses p xs → p x ≡ true → drop (position_or_len p (xs ++ x ∷ rest)) (xs ++ x ∷ rest) ≡ x ∷ rest
+from_again p xs x rest h e = drop_at xs (x ∷ rest) (position_or_len p (xs ++ x ∷ rest)) (sym (first_at p xs x rest h e))
+
+pub position_again : {A : Type 0} (p : A → Bool) (xs : List A) (x : A) (rest : List A) → NonePasses p xs → p x ≡ true → position p (xs ++ x ∷ rest) ≡ Some (length xs)
+position_again p xs x rest h e =
+    let f = first_at p xs x rest h e in
+    let lt : nat_lt (length xs) (length (xs ++ x ∷ rest)) ≡ true = lt-ltb _ _ (omega (arith, length-append xs (x ∷ rest))) in
+    rw (f, lt) refl
+
+-- where none passes
+
+pub none_at : {A : Type 0} (p : A → Bool) (xs : List A) → NonePasses p xs → position_or_len p xs ≡ length xs
+none_at p [] h = refl
+none_at p (y ∷ xs) h = let a = h.0 in let ih = none_at p xs h.1 in rw (a, ih) (omega arith)
+
+pub no_position : {A : Type 0} (p : A → Bool) (xs : List A) → NonePasses p xs → position p xs ≡ None
+no_position p xs h =
+    let f = none_at p xs h in
+    let lt : nat_lt (length xs) (length xs) ≡ false = le-ltb (length xs) (length xs) (omega arith) in
+    rw (f, lt) refl
+
+pub all_before : {A : Type 0} (p : A → Bool) (xs : List A) → NonePasses p xs → before_first p xs ≡ xs
+all_before p xs h = take_all (position_or_len p xs) xs (omega (arith, none_at p xs h))
+
+pub none_from : {A : Type 0} (p : A → Bool) (xs : List A) → NonePasses p xs → drop (position_or_len p xs) xs ≡ []
+none_from p xs h = drop_all (position_or_len p xs) xs (omega (arith, none_at p xs h))
+
+-- what is cut is joined again
+
+pub joined_again : {A : Type 0} (p : A → Bool) (xs : List A) → before_first p xs ++ drop (position_or_len p xs) xs ≡ xs
+joined_again p xs = take-append-drop (position_or_len p xs) xs
+
+is_that : (key : List ℕ) (w : Word) → is_key key w ≡ true → w ≡ Plain key
+is_that key (Plain bytes) e = ap (λ (l : List ℕ). Plain l) ((bytes_eq-Decides bytes key).0 e)
+is_that key (Quoted text) e = absurd cc
+
+pub key_is_that : (key : List ℕ) (w : Word) → is_key key w ≡ true → w ≡ Plain key
+key_is_that key w e = is_that key w e
+
+pub is_key_again : (key : List ℕ) → is_key key (Plain key) ≡ true
+is_key_again key = (bytes_eq-Decides key key).1 refl
+
+-- what is cut at a keyword is joined by it
+pub key_cut : (key : List ℕ) (ws : List Word) (k : ℕ) → position (is_key key) ws ≡ Some k → ws ≡ take k ws ++ Plain key ∷ drop (k + 1) ws
+key_cut key ws k e =
+    let d : Word = Quoted [] in
+    let p = position-Some (is_key key) ws k d e in
+    let lt : k < length ws = p.0 in
+    let is : get_or ws k d ≡ Plain key = is_that key (get_or ws k d) p.1 in
+    sym (take-append-drop k ws) ∙ ap (λ l. take k ws ++ l) (rw (drop-cons ws k d, is, add-one) refl)
+
+abbrev some_pair : List Word → List Word → Option (List Word × List Word)
+some_pair a b = Some (a, b)
+
+abbrev left_of : Option (List Word × List Word) → List Word
+left_of None = []
+left_of (Some x) = x.0
+
+abbrev right_of : Option (List Word × List Word) → List Word
+right_of None = []
+right_of (Some x) = x.1
+
+firsts : (a b c d : List Word) → some_pair a c ≡ some_pair b d → a ≡ b
+firsts a b c d e = ap left_of e
+
+seconds : (a b c d : List Word) → some_pair a c ≡ some_pair b d → c ≡ d
+seconds a b c d e = ap right_of e
+
+abbrev cut_there : List Word → ℕ → List Word × List Word
+cut_there ws k = (take k ws, drop (k + 1) ws)
+
+cut_if : (key : List ℕ) (ws before behind : List Word) (o : Option ℕ) → position (is_key key) ws ≡ o → option_map (cut_there ws) o ≡ Some (before, behind) → ws ≡ before ++ Plain key ∷ behind
+cut_if key ws before behind None p e = absurd cc
+cut_if key ws before behind (Some k) p e =
+    let a : take k ws ≡ before = firsts (take k ws) before (drop (k + 1) ws) behind e in
+    let b : drop (k + 1) ws ≡ behind = seconds (take k ws) before (drop (k + 1) ws) behind e in
+    key_cut key ws k p ∙ ap (λ (l : List Word). l ++ Plain key ∷ drop (k + 1) ws) a ∙ ap (λ (l : List Word). before ++ Plain key ∷ l) b
+
+pub cut_takes : (key : List ℕ) (ws before behind : List Word) → cut_at key ws ≡ Some (before, behind) → ws ≡ before ++ Plain key ∷ behind
+cut_takes key ws before behind e = cut_if key ws before behind (position (is_key key) ws) refl e
+
+pub cut_again : (key : List ℕ) (before behind : List Word) → NonePasses (is_key key) before → cut_at key (before ++ Plain key ∷ behind) ≡ Some (before, behind)
+cut_again key before behind h =
+    let t : is_key key (Plain key) ≡ true = is_key_again key in
+    let p = position_again (is_key key) before (Plain key) behind h t in
+    let n : length (before ++ Plain key ∷ []) ≡ length before + 1 = omega (arith, length-append before (Plain key ∷ [])) in
+    let a : take (length before) (before ++ Plain key ∷ behind) ≡ before = take_at before (Plain key ∷ behind) (length before) refl in
+    let b : drop (length before + 1) (before ++ Plain key ∷ behind) ≡ behind = ap (λ (l : List Word). drop (length before + 1) l) (sym (append_assoc before (Plain key ∷ []) behind)) ∙ drop_at (before ++ Plain key ∷ []) behind (length before + 1) n in
+    rw (p, a, b) refl
+
+-- points
+
+pub no_point : (bytes : List ℕ) → NonePasses is_point bytes → has_point bytes ≡ false
+no_point bytes h = let e = no_position is_point bytes h in rw e refl
+
+place_if : (b : Bool) (n k : ℕ) → cond b (Some n) None ≡ Some k → n ≡ k
+place_if true n k e = cc
+place_if false n k e = absurd cc
+
+place_is : (n len k : ℕ) → cond (ltb n len) (Some n) None ≡ Some k → n ≡ k
+place_is n len k e = place_if (ltb n len) n k e
+
+point_if : (bytes : List ℕ) (o : Option ℕ) → position is_point bytes ≡ o → is_some o ≡ true → bytes ≡ before_point bytes ++ 46 ∷ behind_point bytes
+point_if bytes None p e = absurd cc
+point_if bytes (Some k) p e =
+    let at = position-Some is_point bytes k 0 p in
+    let is : get_or bytes k 0 ≡ 46 = eqb-true (get_or bytes k 0) 46 at.1 in
+    let lt : k < length bytes = at.0 in
+    let whole : bytes ≡ take k bytes ++ 46 ∷ drop (k + 1) bytes = sym (take-append-drop k bytes) ∙ ap (λ l. take k bytes ++ l) (rw (drop-cons bytes k 0, is, add-one) refl) in
+    let place : position_or_len is_point bytes ≡ k = place_is (position_or_len is_point bytes) (length bytes) k p in
+    rw place whole
+
+pub point_cut : (bytes : List ℕ) → has_point bytes ≡ true → bytes ≡ before_point bytes ++ 46 ∷ behind_point bytes
+point_cut bytes e = point_if bytes (position is_point bytes) refl e

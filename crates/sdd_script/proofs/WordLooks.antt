@@ -1,0 +1,295 @@
+-- What the words of a spelling look like: each is a word, a text, holds no newline, and is no keyword where it could be mistaken for one.
+use Rattle.std.proofs.Common.{◌≡◌, ◌≢◌, ℕ, ℤ, pos, negsuc, zero, suc, ◌+◌, ◌^◌, ◌<◌, ◌≤◌, List, [], ◌∷◌, ◌++◌, length, get_or, Bool, true, false, ◌&&◌, eqb, None, refl, ap, subst, append-nil, arith}
+use Rattle.std.specs.Prelude.{codes, not, nat_le, ◌||◌}
+use Rattle.std.specs.Str.{bytes_eq, IsUtf8, is_utf8}
+use Rattle.std.specs.Int.Signed.{mag}
+use Rattle.std.specs.Fmt.{decimal, signed_decimal}
+use Rattle.std.specs.Str.Parse.{AllDigits}
+use Rattle.std.specs.List.{list_all, position_or_len, after_first}
+use Rattle.std.proofs.lemmas.List.{drop_all}
+use Rattle.std.proofs.lemmas.Bool.Decides.{nat_tests}
+use Rattle.std.proofs.lemmas.Bool.{ne_eqb}
+use Rattle.std.proofs.lemmas.Str.{IsUtf8-append, IsUtf8-from_ascii, IsUtf8-from_is_utf8}
+use Rattle.std.proofs.lemmas.Str.Parse.{digit_from_value}
+use Rattle.std.proofs.lemmas.Fmt.{IsAscii-signed, decimal_is_IsNumeral, first_decimal, decimal_digit}
+use Rattle.sdd_base.specs.Name.{is_name, is_name_byte, is_letter, is_digit, begins_with_letter, is_keyword}
+use Rattle.sdd_base.specs.declared.restriction.Op.{Op}
+use Rattle.sdd_base.specs.declared.restriction.Op.TheVariants as ops
+use Rattle.sdd_base.specs.declared.value.Value.{Value}
+use Rattle.sdd_base.specs.declared.value.Value.TheVariants as values
+use Rattle.sdd_words.specs.Keywords.{is_free, op_in, is_point, has_point, before_point, behind_point, looks_like_column, spells_column, names_column}
+use Rattle.sdd_words.specs.Lines.{HasNoNewline}
+use Rattle.sdd_words.specs.Texts.{is_text, is_sound, has_newline}
+use Rattle.sdd_words.specs.Whole.{whole_digits, is_whole}
+use Rattle.sdd_words.specs.Words.{escaped, escaped_byte, word_bytes, HasNoSpace, IsPlain, IsWord}
+use Rattle.sdd_words.specs.declared.word.Word.{Word}
+use Rattle.sdd_words.specs.declared.word.Word.TheVariants.{Plain, Quoted}
+use Rattle.sdd_words.proofs.NameTexts.{name_is_utf8}
+use Rattle.sdd_words.proofs.Utf8.{IsUtf8-escaped, number_plain}
+use Rattle.sdd_script.specs.Spelling.{value_word}
+use Rattle.sdd_script.specs.Valid.{IsValue}
+use Rattle.sdd_script.proofs.StepLaws.{both_hold, both_are, not_true}
+use Rattle.sdd_script.proofs.WordCuts.{NonePasses, none_at, before_again, after_again, position_again, no_point}
+
+-- a word as lines hold it
+pub record IsFine (w : Word) : Type 0 where
+  pub word : IsWord w
+  pub utf8 : IsUtf8 (word_bytes w)
+  pub sound : is_sound w ≡ true
+  pub line : HasNoNewline (word_bytes w)
+
+-- ---- bytes joined
+
+pub no_newline-append : (a b : List ℕ) → HasNoNewline a → HasNoNewline b → HasNoNewline (a ++ b)
+no_newline-append [] b h k = k
+no_newline-append (c ∷ a) b h k = (h.0, no_newline-append a b h.1 k)
+
+no_space-append : (a b : List ℕ) → HasNoSpace a → HasNoSpace b → HasNoSpace (a ++ b)
+no_space-append [] b h k = k
+no_space-append (c ∷ a) b h k = (h.0, no_space-append a b h.1 k)
+
+plain-append : (a b : List ℕ) → IsPlain a → HasNoSpace b → IsPlain (a ++ b)
+plain-append [] b h k = absurd h
+plain-append (c ∷ a) b h k = (h.0, h.1, no_space-append a b h.2 k)
+
+-- ---- names
+
+not_it : (p : ℕ → Bool) (b k : ℕ) → p k ≡ false → p b ≡ true → b ≢ k
+not_it p b k other e same = let q : p b ≡ p k = ap p same in absurd cc
+
+names_no_newline : (bs : List ℕ) → list_all is_name_byte bs ≡ true → HasNoNewline bs
+names_no_newline [] e = tt
+names_no_newline (b ∷ bs) e = let h = both_hold (is_name_byte b) (list_all is_name_byte bs) e in (not_it is_name_byte b 10 refl h.0, names_no_newline bs h.1)
+
+names_no_space : (bs : List ℕ) → list_all is_name_byte bs ≡ true → HasNoSpace bs
+names_no_space [] e = tt
+names_no_space (b ∷ bs) e = let h = both_hold (is_name_byte b) (list_all is_name_byte bs) e in (not_it is_name_byte b 32 refl h.0, names_no_space bs h.1)
+
+pub names_no_point : (bs : List ℕ) → list_all is_name_byte bs ≡ true → NonePasses is_point bs
+names_no_point [] e = tt
+names_no_point (b ∷ bs) e = let h = both_hold (is_name_byte b) (list_all is_name_byte bs) e in (ne_eqb b 46 (not_it is_name_byte b 46 refl h.0), names_no_point bs h.1)
+
+pub record IsNamed (bytes : List ℕ) : Type 0 where
+  pub letter : begins_with_letter bytes ≡ true
+  pub bytes_are : list_all is_name_byte bytes ≡ true
+  pub no_key : is_keyword bytes ≡ false
+
+pub name_parts : (bs : List ℕ) → is_name bs ≡ true → IsNamed bs
+name_parts bs e =
+    let all = both_hold (begins_with_letter bs && nat_le (length bs) 32 && list_all is_name_byte bs) (not (is_keyword bs)) e in
+    let front = both_hold (begins_with_letter bs && nat_le (length bs) 32) (list_all is_name_byte bs) all.0 in
+    record { letter = (both_hold (begins_with_letter bs) (nat_le (length bs) 32) front.0).0; bytes_are = front.1; no_key = not_true (is_keyword bs) all.1 }
+
+plain_name : (bs : List ℕ) → begins_with_letter bs ≡ true → list_all is_name_byte bs ≡ true → IsPlain bs
+plain_name [] l e = absurd cc
+plain_name (b ∷ bs) l e = let h = both_hold (is_name_byte b) (list_all is_name_byte bs) e in (not_it is_name_byte b 34 refl h.0, not_it is_name_byte b 32 refl h.0, names_no_space bs h.1)
+
+pub name_fine : (bs : List ℕ) → is_name bs ≡ true → IsFine (Plain bs)
+name_fine bs e = let n = name_parts bs e in record { word = plain_name bs n.letter n.bytes_are; utf8 = name_is_utf8 bs e; sound = refl; line = names_no_newline bs n.bytes_are }
+
+-- ---- words that are free
+
+-- a word is known to be free by its first byte
+free_first : (c : ℕ) (cs : List ℕ) → eqb c 102 ≡ false → eqb c 119 ≡ false → eqb c 97 ≡ false → eqb c 115 ≡ false → eqb c 43 ≡ false → eqb c 61 ≡ false → eqb c 33 ≡ false → eqb c 60 ≡ false → eqb c 62 ≡ false
+    → is_free (Plain (c ∷ cs)) ≡ true
+free_first c cs f w a s p e n l g = rw (f, w, a, s, p, e, n, l, g) refl
+
+-- or by its first byte and as no keyword
+free_if : (c : ℕ) (cs : List ℕ) → is_keyword (c ∷ cs) ≡ false → eqb c 43 ≡ false → eqb c 61 ≡ false → eqb c 33 ≡ false → eqb c 60 ≡ false → eqb c 62 ≡ false
+    → is_free (Plain (c ∷ cs)) ≡ true
+free_if c cs k p e n l g =
+    let o : op_in (c ∷ cs) ≡ None = rw (e, n, l, g) refl in
+    let q : bytes_eq (c ∷ cs) (codes "+=") ≡ false = rw p refl in
+    rw (k, q, o) refl
+
+name_free_if : (bs : List ℕ) → begins_with_letter bs ≡ true → is_keyword bs ≡ false → is_free (Plain bs) ≡ true
+name_free_if [] l k = absurd cc
+name_free_if (c ∷ cs) l k = free_if c cs k (ne_eqb c 43 (not_it is_letter c 43 refl l)) (ne_eqb c 61 (not_it is_letter c 61 refl l)) (ne_eqb c 33 (not_it is_letter c 33 refl l)) (ne_eqb c 60 (not_it is_letter c 60 refl l)) (ne_eqb c 62 (not_it is_letter c 62 refl l))
+
+pub name_free : (bs : List ℕ) → is_name bs ≡ true → is_free (Plain bs) ≡ true
+name_free bs e = let n = name_parts bs e in name_free_if bs n.letter n.no_key
+
+free_digit : (c : ℕ) (cs : List ℕ) → is_digit c ≡ true → is_free (Plain (c ∷ cs)) ≡ true
+free_digit c cs d =
+    free_first c cs (ne_eqb c 102 (not_it is_digit c 102 refl d)) (ne_eqb c 119 (not_it is_digit c 119 refl d)) (ne_eqb c 97 (not_it is_digit c 97 refl d)) (ne_eqb c 115 (not_it is_digit c 115 refl d)) (ne_eqb c 43 (not_it is_digit c 43 refl d)) (ne_eqb c 61 (not_it is_digit c 61 refl d)) (ne_eqb c 33 (not_it is_digit c 33 refl d)) (ne_eqb c 60 (not_it is_digit c 60 refl d)) (ne_eqb c 62 (not_it is_digit c 62 refl d))
+
+-- ---- numbers
+
+le_is : (a b : ℕ) → a ≤ b → nat_le a b ≡ true
+le_is a b h = grind (arith, nat_tests)
+
+within : (c : ℕ) → 48 ≤ c → c ≤ 57 → is_digit c ≡ true
+within c lo hi = both_are (nat_le 48 c) (nat_le c 57) (le_is 48 c lo) (le_is c 57 hi)
+
+all_digits : (ds : List ℕ) → AllDigits 10 ds → list_all is_digit ds ≡ true
+all_digits [] h = refl
+all_digits (c ∷ ds) h = let r = digit_from_value c (omega (arith, h.0)) in both_are (is_digit c) (list_all is_digit ds) (within c (omega (arith, r.0)) (omega (arith, r.1))) (all_digits ds h.1)
+
+digits_no_newline : (ds : List ℕ) → list_all is_digit ds ≡ true → HasNoNewline ds
+digits_no_newline [] e = tt
+digits_no_newline (c ∷ ds) e = let h = both_hold (is_digit c) (list_all is_digit ds) e in (not_it is_digit c 10 refl h.0, digits_no_newline ds h.1)
+
+digits_no_point : (ds : List ℕ) → list_all is_digit ds ≡ true → NonePasses is_point ds
+digits_no_point [] e = tt
+digits_no_point (c ∷ ds) e = let h = both_hold (is_digit c) (list_all is_digit ds) e in (ne_eqb c 46 (not_it is_digit c 46 refl h.0), digits_no_point ds h.1)
+
+digits_free : (ds rest : List ℕ) → 0 < length ds → list_all is_digit ds ≡ true → is_free (Plain (ds ++ rest)) ≡ true
+digits_free [] rest some e = absurd (omega arith)
+digits_free (c ∷ ds) rest some e = free_digit c (ds ++ rest) (both_hold (is_digit c) (list_all is_digit ds) e).0
+
+pub record IsDecimal (n : ℕ) : Type 0 where
+  pub some : 0 < length (decimal n)
+  pub digits : list_all is_digit (decimal n) ≡ true
+
+wide_parts : (n : ℕ) → n < 2 ^ 64 → IsDecimal n
+wide_parts n lt = let k = decimal_is_IsNumeral n (omega arith) in record { some = k.0.0; digits = all_digits (decimal n) k.0.1 }
+
+pub decimal_parts : (n : ℕ) → n < 2 ^ 63 → IsDecimal n
+decimal_parts n lt = wide_parts n (omega arith)
+
+pub decimal_free : (n : ℕ) (rest : List ℕ) → n < 2 ^ 63 → is_free (Plain (decimal n ++ rest)) ≡ true
+decimal_free n rest lt = let d = decimal_parts n lt in digits_free (decimal n) rest d.some d.digits
+
+signed_no_newline : (z : ℤ) → mag z < 2 ^ 63 → HasNoNewline (signed_decimal z)
+signed_no_newline (pos n) lt = digits_no_newline (decimal n) (decimal_parts n lt).digits
+signed_no_newline (negsuc n) lt = ((λ e. omega arith), digits_no_newline (decimal (suc n)) (wide_parts (suc n) (omega (arith, lt))).digits)
+
+pub signed_no_point : (z : ℤ) → mag z < 2 ^ 63 → NonePasses is_point (signed_decimal z)
+signed_no_point (pos n) lt = digits_no_point (decimal n) (decimal_parts n lt).digits
+signed_no_point (negsuc n) lt = (refl, digits_no_point (decimal (suc n)) (wide_parts (suc n) (omega (arith, lt))).digits)
+
+pub number_fine : (z : ℤ) → mag z < 2 ^ 63 → IsFine (Plain (signed_decimal z))
+number_fine z lt = record { word = number_plain z lt; utf8 = IsUtf8-from_ascii (signed_decimal z) (IsAscii-signed z lt); sound = refl; line = signed_no_newline z lt }
+
+pub number_free : (z : ℤ) → mag z < 2 ^ 63 → is_free (Plain (signed_decimal z)) ≡ true
+number_free (pos n) lt = let d = decimal_parts n lt in subst (λ (l : List ℕ). is_free (Plain l) ≡ true) (append-nil (decimal n)) (digits_free (decimal n) [] d.some d.digits)
+number_free (negsuc n) lt = refl
+
+pub count_fine : (n : ℕ) → n < 2 ^ 63 → IsFine (Plain (decimal n))
+count_fine n lt = number_fine (pos n) lt
+
+pub count_free : (n : ℕ) → n < 2 ^ 63 → is_free (Plain (decimal n)) ≡ true
+count_free n lt = number_free (pos n) lt
+
+-- ---- texts
+
+quote : IsUtf8 (34 ∷ [])
+unfolding lib.Utf8.encode
+quote = (34 ∷ [], (refl, refl))
+
+or_parts : (a b : Bool) → (a || b) ≡ false → (a ≡ false) × (b ≡ false)
+or_parts true b e = absurd cc
+or_parts false b e = (refl, e)
+
+escaped_line : (c : ℕ) (x y : Bool) → eqb c 34 ≡ x → eqb c 92 ≡ y → c ≢ 10 → HasNoNewline (escaped_byte c)
+escaped_line c true y p q n = rw p ((λ e. omega arith), (n, tt))
+escaped_line c false true p q n = rw (p, q) ((λ e. omega arith), (n, tt))
+escaped_line c false false p q n = rw (p, q) (n, tt)
+
+escaped_no_newline : (text : List ℕ) → has_newline text ≡ false → HasNoNewline (escaped text)
+escaped_no_newline [] e = tt
+escaped_no_newline (c ∷ cs) e =
+    let h = or_parts (eqb c 10) (has_newline cs) e in
+    no_newline-append (escaped_byte c) (escaped cs) (escaped_line c (eqb c 34) (eqb c 92) refl refl (λ p. let q : eqb 10 10 ≡ false = subst (λ (b : ℕ). eqb b 10 ≡ false) p h.0 in absurd cc)) (escaped_no_newline cs h.1)
+
+pub text_fine : (text : List ℕ) → is_text text ≡ true → IsFine (Quoted text)
+text_fine text e =
+    let all = both_hold (nat_le (length text) 255 && not (has_newline text)) (is_utf8 text) e in
+    let front = both_hold (nat_le (length text) 255) (not (has_newline text)) all.0 in
+    record {
+      word = tt;
+      utf8 = IsUtf8-append (34 ∷ []) (escaped text ++ 34 ∷ []) quote (IsUtf8-append (escaped text) (34 ∷ []) (IsUtf8-escaped text (IsUtf8-from_is_utf8 text all.1)) quote);
+      sound = e;
+      line = ((λ p. omega arith), no_newline-append (escaped text) (34 ∷ []) (escaped_no_newline text (not_true (has_newline text) front.1)) ((λ p. omega arith), tt));
+    }
+
+pub value_fine : (v : Value) → IsValue v → IsFine (value_word v)
+value_fine (values.Int z) h = number_fine z h
+value_fine (values.Text text) h = text_fine text h
+
+pub value_free : (v : Value) → IsValue v → is_free (value_word v) ≡ true
+value_free (values.Int z) h = number_free z h
+value_free (values.Text text) h = refl
+
+and_false : (b : Bool) → (b && false) ≡ false
+and_false true = refl
+and_false false = refl
+
+none_behind : {A : Type 0} (p : A → Bool) (xs : List A) → NonePasses p xs → after_first p xs ≡ []
+none_behind p xs h = drop_all (position_or_len p xs + 1) xs (omega (arith, none_at p xs h))
+
+-- a value is never taken for a column
+no_column : (bytes : List ℕ) → NonePasses is_point bytes → spells_column bytes ≡ false
+no_column bytes h =
+    let b : behind_point bytes ≡ [] = none_behind is_point bytes h in
+    rw b (and_false (whole_digits (before_point bytes)))
+
+pub value_names_no_column : (op : Op) (v : Value) → IsValue v → names_column op (value_word v) ≡ false
+value_names_no_column ops.Eq (values.Int z) h = no_column (signed_decimal z) (signed_no_point z h)
+value_names_no_column ops.Eq (values.Text text) h = refl
+value_names_no_column ops.Ne v h = refl
+value_names_no_column ops.Lt v h = refl
+value_names_no_column ops.Le v h = refl
+value_names_no_column ops.Gt v h = refl
+value_names_no_column ops.Ge v h = refl
+
+-- ---- columns of uses
+
+column_bytes_line : (n : ℕ) (name : List ℕ) → n < 2 ^ 63 → is_name name ≡ true → HasNoNewline (decimal n ++ 46 ∷ name)
+column_bytes_line n name lt e = no_newline-append (decimal n) (46 ∷ name) (digits_no_newline (decimal n) (decimal_parts n lt).digits) ((λ p. omega arith), names_no_newline name (name_parts name e).bytes_are)
+
+point : IsUtf8 (46 ∷ [])
+unfolding lib.Utf8.encode
+point = (46 ∷ [], (refl, refl))
+
+pub column_fine : (n : ℕ) (name : List ℕ) → n < 2 ^ 63 → is_name name ≡ true → IsFine (Plain (decimal n ++ 46 ∷ name))
+column_fine n name lt e =
+    let number = count_fine n lt in
+    record {
+      word = plain-append (decimal n) (46 ∷ name) number.word ((λ p. omega arith), names_no_space name (name_parts name e).bytes_are);
+      utf8 = IsUtf8-append (decimal n) (46 ∷ name) number.utf8 (IsUtf8-append (46 ∷ []) name point (name_is_utf8 name e));
+      sound = refl;
+      line = column_bytes_line n name lt e;
+    }
+
+pub column_free : (n : ℕ) (name : List ℕ) → n < 2 ^ 63 → is_free (Plain (decimal n ++ 46 ∷ name)) ≡ true
+column_free n name lt = decimal_free n (46 ∷ name) lt
+
+pub before_is : (n : ℕ) (name : List ℕ) → n < 2 ^ 63 → before_point (decimal n ++ 46 ∷ name) ≡ decimal n
+before_is n name lt = before_again is_point (decimal n) 46 name (digits_no_point (decimal n) (decimal_parts n lt).digits) refl
+
+pub behind_is : (n : ℕ) (name : List ℕ) → n < 2 ^ 63 → behind_point (decimal n ++ 46 ∷ name) ≡ name
+behind_is n name lt = after_again is_point (decimal n) 46 name (digits_no_point (decimal n) (decimal_parts n lt).digits) refl
+
+pub column_looks : (n : ℕ) (name : List ℕ) → n < 2 ^ 63 → is_name name ≡ true → looks_like_column (Plain (decimal n ++ 46 ∷ name)) ≡ true
+column_looks n name lt e =
+    let p = position_again is_point (decimal n) 46 name (digits_no_point (decimal n) (decimal_parts n lt).digits) refl in
+    let a : has_point (decimal n ++ 46 ∷ name) ≡ true = rw p refl in
+    let b = behind_is n name lt in
+    let c : has_point (behind_point (decimal n ++ 46 ∷ name)) ≡ false = rw b (no_point name (names_no_point name (name_parts name e).bytes_are)) in
+    rw (a, c) refl
+
+whole_if : (ds : List ℕ) → 0 < length ds → list_all is_digit ds ≡ true → 48 < get_or ds 0 0 → whole_digits ds ≡ true
+whole_if [] some h first = absurd (omega arith)
+whole_if (c ∷ ds) some h first = let n : eqb c 48 ≡ false = ne_eqb c 48 (λ e. omega arith) in rw n h
+
+pub decimal_whole : (n : ℕ) → n < 2 ^ 63 → whole_digits (decimal n) ≡ true
+decimal_whole zero lt = rw (decimal_digit 0 (omega arith)) refl
+decimal_whole (suc n) lt = let d = decimal_parts (suc n) lt in whole_if (decimal (suc n)) d.some d.digits (first_decimal (suc n) (omega arith) (omega arith))
+
+whole_digit_first : (c : ℕ) (cs : List ℕ) → eqb c 45 ≡ false → whole_digits (c ∷ cs) ≡ true → is_whole (c ∷ cs) ≡ true
+whole_digit_first c cs n e = rw n e
+
+digits_whole : (ds : List ℕ) → list_all is_digit ds ≡ true → whole_digits ds ≡ true → is_whole ds ≡ true
+digits_whole [] d e = absurd cc
+digits_whole (c ∷ cs) d e = whole_digit_first c cs (ne_eqb c 45 (not_it is_digit c 45 refl (both_hold (is_digit c) (list_all is_digit cs) d).0)) e
+
+pub decimal_is_whole : (n : ℕ) → n < 2 ^ 63 → is_whole (decimal n) ≡ true
+decimal_is_whole n lt = digits_whole (decimal n) (decimal_parts n lt).digits (decimal_whole n lt)
+
+pub column_spelled : (n : ℕ) (name : List ℕ) → n < 2 ^ 63 → is_name name ≡ true → spells_column (decimal n ++ 46 ∷ name) ≡ true
+column_spelled n name lt e =
+    let a = before_is n name lt in
+    let b = behind_is n name lt in
+    let w = decimal_whole n lt in
+    rw (a, b, w, e) refl

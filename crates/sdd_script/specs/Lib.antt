@@ -1,0 +1,15 @@
+pub mod Columns
+pub mod Examples
+pub mod FirstWords
+pub mod Laws
+pub mod LineRules
+pub mod Naming
+pub mod Occurrences
+pub mod Places
+pub mod Rules
+pub mod Spelling
+pub mod Statements
+pub mod Telling
+pub mod Valid
+pub mod Values
+pub mod Walk

@@ -1,0 +1,114 @@
+-- Workloads that a catalogue allows, and the files that spell them.
+use Rattle.std.specs.Prelude.{ℕ, ◌+◌, ◌^◌, ◌≡◌, ◌≤◌, ◌<◌, IsTrue, Bool, true, false, List, map, sum_by, count_by, slice_index_or, length, Option, Some, None}
+use Rattle.std.specs.Int.Signed.{mag}
+use Rattle.std.specs.List.{All, filter_map}
+use Rattle.sdd_base.specs.Name.{IsName}
+use Rattle.sdd_base.specs.Sites.{are_linked}
+use Rattle.sdd_base.specs.declared.event.Event.{Event}
+use Rattle.sdd_base.specs.declared.event.Event.TheVariants.{Submit, Deliver, Lose, Repeat, Resend, Tick, Settle}
+use Rattle.sdd_base.specs.declared.number.RelNo.{RelNo}
+use Rattle.sdd_base.specs.declared.site.Site.{Site}
+use Rattle.sdd_base.specs.declared.site.Site.TheVariants.{U, T, D}
+use Rattle.sdd_base.specs.declared.value.Value.{Value}
+use Rattle.sdd_base.specs.declared.value.Value.TheVariants as values
+use Rattle.sdd_catalog.specs.Catalogue.{Catalogue}
+use Rattle.sdd_catalog.specs.Rules.{repeats}
+use Rattle.sdd_lang.specs.Fits.{Fits, FitsStart, IsFrom1To}
+use Rattle.sdd_lang.specs.declared.assign.Assign.{Assign}
+use Rattle.sdd_lang.specs.declared.assign.Assign.TheVariants.{To, Add}
+use Rattle.sdd_lang.specs.declared.condition.Condition.{Condition}
+use Rattle.sdd_lang.specs.declared.condition.Condition.TheVariants.{Const, Same}
+use Rattle.sdd_lang.specs.declared.statement.Stmt.{Stmt}
+use Rattle.sdd_lang.specs.declared.statement.Stmt.TheVariants as statements
+use Rattle.sdd_lang.specs.declared.transaction.Txn.{Txn}
+use Rattle.sdd_words.specs.Texts.{is_text}
+use Rattle.sdd_script.specs.LineRules.{most_rows, most_txns, most_events}
+use Rattle.sdd_script.specs.Occurrences.{greatest_count}
+use Rattle.sdd_script.specs.Spelling.{spelling}
+use Rattle.sdd_script.specs.Walk.{most_bytes}
+use Rattle.sdd_script.specs.declared.workload.Workload.{Workload}
+
+-- a number of 64 bits, or a text
+abbrev pub IsValue : Value → Type 0
+IsValue (values.Int n) = mag n < 2 ^ 63
+IsValue (values.Text text) = IsTrue (is_text text)
+
+abbrev pub HoldsValue : Condition → Type 0
+HoldsValue (Const left op value) = IsValue value
+HoldsValue (Same left right) = Unit {0}
+
+abbrev pub AssignsValue : Assign → Type 0
+AssignsValue (To column value) = IsValue value
+AssignsValue (Add column by) = mag by < 2 ^ 63
+
+-- the values of a statement are values
+abbrev pub HoldsValues : Stmt → Type 0
+HoldsValues (statements.Put rel row) = All IsValue row
+HoldsValues (statements.Query out rels conds) = All HoldsValue conds
+HoldsValues (statements.Update rel sets conds) = All AssignsValue sets × All HoldsValue conds
+HoldsValues (statements.Delete rel conds) = All HoldsValue conds
+
+-- an initial row that the catalogue allows
+pub record IsValidRow (cat : Catalogue) (r : RelNo × List Value) : Type 0 where
+  pub fits : FitsStart cat r
+  pub values : All IsValue r.1
+
+-- a transaction that the catalogue allows
+pub record IsValidTxn (cat : Catalogue) (t : Txn) : Type 0 where
+  pub named : IsName t.name
+  pub fits : Fits cat t
+  pub values : All HoldsValues t.statements
+
+-- a site that is there
+abbrev pub IsSite : Catalogue → Site → Type 0
+IsSite cat U = Unit {0}
+IsSite cat (T tm) = IsFrom1To cat.tms tm.0
+IsSite cat (D dm) = IsFrom1To cat.dms dm.0
+
+abbrev pub IsLink : Catalogue → Site → Site → Type 0
+IsLink cat from to = IsSite cat from × IsSite cat to × IsTrue (are_linked from to)
+
+-- an event among so many transactions that the catalogue allows
+abbrev pub IsValidEvent : Catalogue → ℕ → Event → Type 0
+IsValidEvent cat txns (Submit txn) = IsFrom1To txns txn.0
+IsValidEvent cat txns (Deliver from to place) = IsLink cat from to × IsFrom1To greatest_count place
+IsValidEvent cat txns (Lose from to place) = IsLink cat from to × IsFrom1To greatest_count place
+IsValidEvent cat txns (Repeat from to place) = IsLink cat from to × IsFrom1To greatest_count place
+IsValidEvent cat txns (Resend from to) = IsLink cat from to
+IsValidEvent cat txns (Tick tm n) = IsFrom1To cat.tms tm.0 × IsFrom1To greatest_count n
+IsValidEvent cat txns Settle = Unit {0}
+
+abbrev pub is_put : Stmt → Bool
+is_put (statements.Put rel row) = true
+is_put statement = false
+
+-- how many rows the statements put
+abbrev pub rows_put_by : Txn → ℕ
+rows_put_by t = count_by is_put t.statements
+
+abbrev pub submitted_by : Event → Option ℕ
+submitted_by (Submit txn) = Some txn.0
+submitted_by event = None
+
+-- no number stands twice
+abbrev pub AreDistinct : List ℕ → Type 0
+AreDistinct numbers = (i k : ℕ) → i < k → k < length numbers → (d : ℕ) → slice_index_or numbers i d ≡ slice_index_or numbers k d → ⊥
+
+-- a workload that the catalogue allows
+pub record IsValid (cat : Catalogue) (w : Workload) : Type 0 where
+  pub rows : All (IsValidRow cat) w.rows
+  pub txns : All (IsValidTxn cat) w.txns
+  -- no two transactions have one name
+  pub names : repeats (map (λ (t : Txn). t.name) w.txns) ≡ false
+  pub events : All (IsValidEvent cat (length w.txns)) w.events
+  -- a transaction is submitted at most once
+  pub submitted : AreDistinct (filter_map submitted_by w.events)
+  pub few_rows : length w.rows + sum_by rows_put_by w.txns ≤ most_rows
+  pub few_txns : length w.txns ≤ most_txns
+  pub few_events : length w.events ≤ most_events
+
+-- a file that spells a workload which the catalogue allows
+pub record Accepts (cat : Catalogue) (bytes : List ℕ) (w : Workload) : Type 0 where
+  pub small : length bytes ≤ most_bytes
+  pub valid : IsValid cat w
+  pub spelled : bytes ≡ spelling cat w

@@ -1,0 +1,176 @@
+//! Columns of uses, and conditions, by their words.
+ghost use Rattle.std.specs.Prelude.{◌≡◌, ◌<◌, ◌-◌, ◌^◌, length, Some, None};
+ghost use Rattle.sdd_words.specs.Steps.{each_at};
+ghost use Rattle.sdd_words.specs.declared.word.Word.TheVariants.{Plain};
+ghost use Rattle.sdd_script.specs.Rules.{Gives};
+ghost use Rattle.sdd_script.specs.Columns.{use_in, use_at, use_numbered, column_in, column_of_use, same_of, const_of, condition_of, conditions_of};
+
+use crate::fault::{LineError, WorkRule};
+use crate::found::Found;
+use crate::naming::{column_named, columns_of, kind_of_place};
+use crate::values::{is_of_kind, read_value};
+use sdd_base::Op;
+use sdd_catalog::{Catalogue, Column};
+use sdd_lang::{Condition, Ref};
+use sdd_words::{Comparison, Word, is_whole_number, names_column, number_in, parts_at_point};
+use std::alloc::Global;
+
+/// The number of a use and its relation, or None exactly where one of them isn't there.
+fn use_at(parts: &[Option<u32>], part: i64) -> Option<(u32, u32)>
+    ensures { result ≡ use_at parts.now part }
+{
+    match u32::try_from(part) {
+        Ok(part) => {
+            if part == 0 {
+                return None;
+            }
+            match parts.get(part as usize - 1) {
+                Some(Some(rel)) => Some((part, *rel)),
+                _ => None,
+            }
+        }
+        Err(_) => None,
+    }
+}
+
+fn use_numbered(parts: &[Option<u32>], part: Option<i64>) -> Option<(u32, u32)>
+    ensures { result ≡ use_numbered parts.now part }
+{
+    match part {
+        Some(part) => use_at(parts, part),
+        None => None,
+    }
+}
+
+fn column_in(columns: &[Column], part: u32, name: &[u8]) -> Result<Found, LineError>
+    requires { length columns.now < 2 ^ 32 - 1 }
+    ensures { Gives (λ f. f) result (column_in columns.now part name.now) }
+{
+    match column_named(columns, name) {
+        None => Err(LineError::Broken(WorkRule::UnknownName)),
+        Some(place) => match kind_of_place(columns, place) {
+            None => Err(LineError::Broken(WorkRule::UnknownName)),
+            Some(kind) => Ok(Found {
+                at: Ref {
+                    part,
+                    column: place as u32 + 1,
+                },
+                kind,
+            }),
+        },
+    }
+}
+
+/// The column of a use that bytes name.
+#[tactic(auto, using(crate::proofs::FewColumns::few_columns))]
+fn column_of_use_in(
+    cat: &Catalogue,
+    parts: &[Option<u32>],
+    bytes: &[u8],
+) -> Result<Found, LineError>
+    ensures { Gives (λ f. f) result (column_of_use cat.now parts.now (Plain bytes.now)) }
+{
+    let (number, name) = parts_at_point(bytes);
+    if !is_whole_number(number) {
+        return Err(LineError::Broken(WorkRule::BadNumber));
+    }
+    match use_numbered(parts, number_in(number)) {
+        None => Err(LineError::Broken(WorkRule::UnknownName)),
+        Some((part, rel)) => {
+            cat.known();
+            column_in(columns_of(cat, rel), part, name)
+        }
+    }
+}
+
+/// The column of a use that a word names.
+pub fn read_column(cat: &Catalogue, parts: &[Option<u32>], word: &Word) -> Result<Found, LineError>
+    ensures { Gives (λ f. f) result (column_of_use cat.now parts.now word.now) }
+{
+    match word {
+        Word::Quoted(_) => Err(LineError::Broken(WorkRule::BadNumber)),
+        Word::Plain(bytes) => column_of_use_in(cat, parts, bytes.as_slice()),
+    }
+}
+
+fn read_const(alloc: Global, left: Found, op: Op, right: &Word) -> Result<Condition, LineError>
+    ensures { Gives (λ c. c) result (const_of left op right.now) }
+{
+    match read_value(alloc, Some(left.kind), right) {
+        Ok(value) => Ok(Condition::Const {
+            left: left.at,
+            op,
+            value,
+        }),
+        Err(e) => Err(e),
+    }
+}
+
+fn read_same(
+    cat: &Catalogue,
+    parts: &[Option<u32>],
+    left: Found,
+    right: &Word,
+) -> Result<Condition, LineError>
+    ensures { Gives (λ c. c) result (same_of cat.now parts.now left right.now) }
+{
+    match read_column(cat, parts, right) {
+        Ok(right) => {
+            if is_of_kind(Some(left.kind), right.kind) {
+                Ok(Condition::Same {
+                    left: left.at,
+                    right: right.at,
+                })
+            } else {
+                Err(LineError::Broken(WorkRule::WrongKind))
+            }
+        }
+        Err(e) => Err(e),
+    }
+}
+
+fn read_condition(
+    alloc: Global,
+    cat: &Catalogue,
+    parts: &[Option<u32>],
+    words: &Comparison,
+) -> Result<Condition, LineError>
+    ensures { Gives (λ c. c) result (condition_of cat.now parts.now words.now) }
+{
+    match read_column(cat, parts, &words.left) {
+        Ok(left) => match names_column(alloc, words.op, &words.right) {
+            Ok(names) => {
+                if names {
+                    read_same(cat, parts, left, &words.right)
+                } else {
+                    read_const(alloc, left, words.op, &words.right)
+                }
+            }
+            Err(_) => Err(LineError::NoMemory),
+        },
+        Err(e) => Err(e),
+    }
+}
+
+/// The conditions of a statement on the relations of these parts.
+#[tactic(auto, using(crate::proofs::Each::each_loop))]
+pub fn read_conditions(
+    alloc: Global,
+    cat: &Catalogue,
+    parts: &[Option<u32>],
+    words: &[Comparison],
+) -> Result<Vec<Condition>, LineError>
+    ensures { Gives (λ v. v.items) result (conditions_of cat.now parts.now words.now) }
+{
+    let mut conds = Vec::new(alloc);
+    'words: for (i, one) in words.iter().enumerate() {
+        match read_condition(alloc, cat, parts, one) {
+            Ok(cond) => match conds.push(cond) {
+                Ok(()) => {}
+                Err(_) => return Err(LineError::NoMemory),
+            },
+            Err(e) => return Err(e),
+        }
+    }
+    Ok(conds)
+}

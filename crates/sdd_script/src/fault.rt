@@ -1,0 +1,116 @@
+use sdd_base::{NoMemory, Parcel};
+use std::alloc::{AllocError, AllocFailed};
+use thiserror::Error;
+
+/// A fault of a workload: the rule that is broken, and the line.
+#[derive(Clone, Copy, Debug, PartialEq, Eq)]
+pub struct WorkFault {
+    /// The line, counted from 1; 0 where the file is too long.
+    pub line: u32,
+    pub rule: WorkRule,
+}
+
+/// The rules that a workload may break.
+#[derive(Clone, Copy, Debug, PartialEq, Eq)]
+pub enum WorkRule {
+    /// The line isn't UTF-8.
+    NotUtf8,
+    /// The file has more bytes than the limit.
+    TooLong,
+    /// The line has no form, or may not stand there.
+    BadLine,
+    /// There is nothing of this name or number, or it isn't spelled as a name.
+    UnknownName,
+    /// A value or column is of another kind, or there are too few or too many values.
+    WrongKind,
+    /// The name is that of an earlier transaction.
+    DuplicateTxn,
+    /// The transaction is submitted before.
+    SubmittedTwice,
+    /// There are more than the limit.
+    TooMany(Counts),
+    /// A key is assigned.
+    KeyChanged,
+    /// A number is misspelled or out of its range.
+    BadNumber,
+    /// The site isn't there, or there is no link.
+    BadEvent,
+    /// The file ends before its end.
+    NoEnd,
+}
+
+/// What there are too many of.
+#[derive(Clone, Copy, Debug, PartialEq, Eq)]
+pub enum Counts {
+    /// Initial rows, and statements that put one, together.
+    Row,
+    Txn,
+    /// Statements of a transaction.
+    Statement,
+    /// Relations of a query.
+    Part,
+    /// Conditions of a statement.
+    Cond,
+    /// Columns that a query lists, or assignments of an update.
+    Column,
+    Event,
+}
+
+/// Why there is no workload.
+#[derive(Debug, Drop, Error, PartialEq, Eq)]
+pub enum WorkError {
+    /// The first fault.
+    #[error("the workload has a fault")]
+    Fault(WorkFault),
+    /// Want of memory.
+    #[error("no memory")]
+    NoMemory,
+}
+
+/// Why a line is not read.
+#[derive(Clone, Copy, Debug, PartialEq, Eq)]
+pub enum LineError {
+    /// The first rule that it breaks.
+    Broken(WorkRule),
+    /// Want of memory.
+    NoMemory,
+}
+
+impl From<AllocError> for LineError {
+    ghost use Rattle.std.specs.Prelude.{◌≡◌};
+    ghost use Rattle.sdd_script.specs.declared.fault.LineError.TheVariants.{NoMemory};
+
+    ghost from_gives = { λ _ e. e ≡ NoMemory };
+
+    fn from(_error: AllocError) -> Self {
+        LineError::NoMemory
+    }
+}
+
+impl<T: Drop> From<AllocFailed<T>> for LineError {
+    ghost use Rattle.std.specs.Prelude.{◌≡◌};
+    ghost use Rattle.sdd_script.specs.declared.fault.LineError.TheVariants.{NoMemory};
+
+    ghost from_gives = { λ _ e. e ≡ NoMemory };
+
+    fn from(_error: AllocFailed<T>) -> Self {
+        LineError::NoMemory
+    }
+}
+
+impl From<NoMemory> for LineError {
+    ghost use Rattle.std.specs.Prelude.{◌≡◌};
+    ghost use Rattle.sdd_script.specs.declared.fault.LineError.TheVariants.{NoMemory};
+
+    ghost from_gives = { λ _ e. e ≡ NoMemory };
+
+    fn from(_error: NoMemory) -> Self {
+        LineError::NoMemory
+    }
+}
+
+impl Parcel for WorkFault {
+    fn copy(&self) -> Result<Self, NoMemory> {
+        Ok(*self)
+    }
+}

@@ -1,0 +1,9 @@
+use sdd_catalog::Kind;
+use sdd_lang::Ref;
+
+/// A column of a use, and its kind.
+#[derive(Clone, Copy, Debug, PartialEq, Eq)]
+pub struct Found {
+    pub at: Ref,
+    pub kind: Kind,
+}

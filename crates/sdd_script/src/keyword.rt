@@ -1,0 +1,112 @@
+ghost use Rattle.std.specs.Prelude.{◌≡◌};
+ghost use Rattle.sdd_script.specs.FirstWords.{statement_key_in, event_key_in, inner_keyword, keyword_in, keyword_of};
+
+use sdd_words::Word;
+
+/// The first word of a line.
+#[derive(Clone, Copy, Debug, PartialEq, Eq)]
+pub enum Keyword {
+    Row,
+    Txn,
+    Statement(StatementKey),
+    Done,
+    Event(EventKey),
+    End,
+}
+
+/// The first word of a statement's line.
+#[derive(Clone, Copy, Debug, PartialEq, Eq)]
+pub enum StatementKey {
+    Put,
+    Query,
+    Update,
+    Delete,
+}
+
+/// The first word of an event's line.
+#[derive(Clone, Copy, Debug, PartialEq, Eq)]
+pub enum EventKey {
+    Submit,
+    Deliver,
+    Lose,
+    Repeat,
+    Resend,
+    Tick,
+    Settle,
+}
+
+fn statement_key_in(bytes: &[u8]) -> Option<StatementKey>
+    ensures { result ≡ statement_key_in bytes.now }
+{
+    if bytes == b"put".as_slice() {
+        Some(StatementKey::Put)
+    } else if bytes == b"query".as_slice() {
+        Some(StatementKey::Query)
+    } else if bytes == b"update".as_slice() {
+        Some(StatementKey::Update)
+    } else if bytes == b"delete".as_slice() {
+        Some(StatementKey::Delete)
+    } else {
+        None
+    }
+}
+
+fn event_key_in(bytes: &[u8]) -> Option<EventKey>
+    ensures { result ≡ event_key_in bytes.now }
+{
+    if bytes == b"submit".as_slice() {
+        Some(EventKey::Submit)
+    } else if bytes == b"deliver".as_slice() {
+        Some(EventKey::Deliver)
+    } else if bytes == b"lose".as_slice() {
+        Some(EventKey::Lose)
+    } else if bytes == b"repeat".as_slice() {
+        Some(EventKey::Repeat)
+    } else if bytes == b"resend".as_slice() {
+        Some(EventKey::Resend)
+    } else if bytes == b"tick".as_slice() {
+        Some(EventKey::Tick)
+    } else if bytes == b"settle".as_slice() {
+        Some(EventKey::Settle)
+    } else {
+        None
+    }
+}
+
+fn inner_keyword(statement: Option<StatementKey>, event: Option<EventKey>) -> Option<Keyword>
+    ensures { result ≡ inner_keyword statement event }
+{
+    match statement {
+        Some(key) => Some(Keyword::Statement(key)),
+        None => match event {
+            Some(key) => Some(Keyword::Event(key)),
+            None => None,
+        },
+    }
+}
+
+fn keyword_in(bytes: &[u8]) -> Option<Keyword>
+    ensures { result ≡ keyword_in bytes.now }
+{
+    if bytes == b"row".as_slice() {
+        Some(Keyword::Row)
+    } else if bytes == b"txn".as_slice() {
+        Some(Keyword::Txn)
+    } else if bytes == b"done".as_slice() {
+        Some(Keyword::Done)
+    } else if bytes == b"end".as_slice() {
+        Some(Keyword::End)
+    } else {
+        inner_keyword(statement_key_in(bytes), event_key_in(bytes))
+    }
+}
+
+/// The keyword that a word is, or None exactly where it is none. Takes no memory.
+pub fn keyword_of(word: &Word) -> Option<Keyword>
+    ensures { result ≡ keyword_of word.now }
+{
+    match word {
+        Word::Plain(bytes) => keyword_in(bytes.as_slice()),
+        Word::Quoted(_) => None,
+    }
+}

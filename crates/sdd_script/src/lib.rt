@@ -1,0 +1,43 @@
+//! The workload file: its reader, which tells the first fault, and its writer.
+//!
+//! What the layer above gets: `read_workload` gives exactly what `workload` of `specs/Walk.antt` makes
+//! of the bytes, that is the workload or its first fault, and `write_workload` gives `spelling` of
+//! `specs/Spelling.antt`, the one spelling of a workload. `specs/LineRules.antt` has the rules of a
+//! line in the order in which they are judged, and `specs/Valid.antt` says which workloads a catalogue
+//! allows.
+#![tactic(auto)]
+
+mod columns;
+mod fault;
+mod found;
+mod grown;
+mod keyword;
+mod laws;
+mod limits;
+mod names;
+mod naming;
+mod occurrences;
+mod place;
+mod reader;
+mod state;
+mod statements;
+mod values;
+mod walk;
+mod workload;
+mod write_lines;
+mod write_words;
+
+pub use fault::{Counts, LineError, WorkError, WorkFault, WorkRule};
+pub use found::Found;
+pub use grown::Grown;
+pub use keyword::{EventKey, Keyword, StatementKey};
+pub use laws::law_round_trip;
+pub use names::Names;
+pub use place::{Header, Place};
+pub use state::State;
+pub use walk::read_workload;
+pub use workload::{StartRows, Txns, Workload};
+pub use write_lines::write_workload;
+
+#[cfg(test)]
+mod tests;

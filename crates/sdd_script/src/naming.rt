@@ -1,0 +1,90 @@
+//! Relations and columns by their names.
+ghost use Rattle.std.specs.Prelude.{◌≡◌, ◌<◌, ◌^◌, length, slice_get, option_map, MatchOption, Some, None};
+ghost use Rattle.std.specs.Str.{bytes_eq};
+ghost use Rattle.sdd_script.specs.Naming.{relation_if, columns_of, key_of, name_of_relation, relation_named, relation_of, column_named, kind_of_place};
+
+use sdd_base::RelNo;
+use sdd_catalog::{Catalogue, Column, Kind, Relation};
+use sdd_words::Word;
+
+/// The relation with a number, 0 standing for 1, or None past the last.
+fn relation_if(cat: &Catalogue, rel: u32) -> Option<&Relation>
+    ensures { MatchOption result (relation_if cat.now rel ≡ None) (λ r. relation_if cat.now rel ≡ Some r.now) }
+{
+    let number = if rel == 0 { 1 } else { rel };
+    if number <= cat.relations() {
+        Some(cat.relation(RelNo(number)))
+    } else {
+        None
+    }
+}
+
+/// The columns of a relation, none past the last relation.
+pub fn columns_of(cat: &Catalogue, rel: u32) -> &[Column]
+    ensures { result.now ≡ columns_of cat.now rel }
+{
+    match relation_if(cat, rel) {
+        Some(relation) => relation.columns.as_slice(),
+        None => &[],
+    }
+}
+
+/// The number of the column that holds a relation's key, 0 past the last relation.
+pub fn key_of(cat: &Catalogue, rel: u32) -> u32
+    ensures { result ≡ key_of cat.now rel }
+{
+    match relation_if(cat, rel) {
+        Some(relation) => relation.key,
+        None => 0,
+    }
+}
+
+/// The name of a relation, empty past the last.
+pub fn name_of_relation(cat: &Catalogue, rel: u32) -> &[u8]
+    ensures { result.now ≡ name_of_relation cat.now rel }
+{
+    match relation_if(cat, rel) {
+        Some(relation) => relation.name.as_str().as_bytes(),
+        None => &[],
+    }
+}
+
+fn has_name(cat: &Catalogue, rel: u32, name: &[u8]) -> bool
+    ensures { result ≡ bytes_eq (name_of_relation cat.now rel) name.now }
+{
+    name_of_relation(cat, rel) == name
+}
+
+fn relation_named(cat: &Catalogue, name: &[u8]) -> Option<u32>
+    ensures { result ≡ relation_named cat.now name.now }
+{
+    cat.known();
+    (1..cat.relations() + 1).find(|rel| has_name(cat, *rel, name))
+}
+
+/// The number of the relation that the word names, or None exactly where there is none. Costs time in
+/// the number of relations.
+pub fn relation_of(cat: &Catalogue, word: &Word) -> Option<u32>
+    ensures { result ≡ relation_of cat.now word.now }
+{
+    match word {
+        Word::Plain(name) => relation_named(cat, name.as_slice()),
+        Word::Quoted(_) => None,
+    }
+}
+
+/// The place of the first column with the name, from 0.
+pub fn column_named(columns: &[Column], name: &[u8]) -> Option<usize>
+    ensures { result ≡ column_named columns.now name.now }
+{
+    columns
+        .iter()
+        .position(|column| column.name.as_str().as_bytes() == name)
+}
+
+/// The kind of the column at a place, from 0, or None past the last.
+pub fn kind_of_place(columns: &[Column], place: usize) -> Option<Kind>
+    ensures { result ≡ kind_of_place columns.now place }
+{
+    columns.get(place).map(|column| column.kind)
+}

@@ -1,0 +1,323 @@
+//! One line of a workload, by its words.
+ghost use Rattle.std.specs.Prelude.{◌≡◌, ◌==◌, OnOk};
+ghost use Rattle.std.specs.List.{list_any};
+ghost use Rattle.sdd_base.specs.declared.number.TxnNo.{TxnNo};
+ghost use Rattle.sdd_script.specs.Rules.{Gives};
+ghost use Rattle.sdd_script.specs.LineRules.{row_rules, name_of, opened, txn_rules, with_statement, statement_rules, closed, done_rules, is_submitted, with_submitted, with_event, event_rules, end_rules, keyword_rules, words_rules, sound_rules, line_rules};
+ghost use Rattle.sdd_script.specs.Occurrences.{event_of};
+ghost use Rattle.sdd_script.specs.Statements.{statement_of};
+
+use crate::fault::{Counts, LineError, WorkRule};
+use crate::grown::Grown;
+use crate::keyword::{EventKey, Keyword, StatementKey, keyword_of};
+use crate::limits::{check_limits, one_more_row, written_with};
+use crate::occurrences::{read_event, read_tm};
+use crate::place::{Header, Place};
+use crate::state::State;
+use crate::statements::read_statement;
+use crate::values::read_row;
+use sdd_base::{Event, Name, NoMemory, TmNo, TxnNo};
+use sdd_catalog::Catalogue;
+use sdd_lang::{Stmt, Txn};
+use sdd_words::{Word, are_free, are_sound, read_name, split_line, stands_free, text_of};
+use std::alloc::Global;
+use std::mem;
+
+fn row_line(
+    alloc: Global,
+    cat: &Catalogue,
+    state: &mut State,
+    words: &[Word],
+) -> Result<(), LineError>
+    ensures { Gives (λ _. state.new) result (row_rules cat.now state.old words.now) }
+{
+    match words {
+        [] => Err(LineError::Broken(WorkRule::BadLine)),
+        [name, values @ ..] => {
+            if !(state.place.takes_rows() && (stands_free(name) && are_free(values))) {
+                return Err(LineError::Broken(WorkRule::BadLine));
+            }
+            match read_row(alloc, cat, name, values) {
+                Err(e) => Err(e),
+                Ok(row) => match one_more_row(state.written) {
+                    None => Err(LineError::Broken(WorkRule::TooMany(Counts::Row))),
+                    Some(written) => {
+                        state.written = written;
+                        match state.rows.push(row) {
+                            Ok(()) => Ok(()),
+                            Err(_) => Err(LineError::NoMemory),
+                        }
+                    }
+                },
+            }
+        }
+    }
+}
+
+fn name_in_word(alloc: Global, word: &Word) -> Result<Name, LineError>
+    ensures { Gives (λ n. n) result (name_of word.now) }
+{
+    match word {
+        Word::Plain(bytes) => match read_name(alloc, bytes.as_slice()) {
+            Ok(found) => match found {
+                Some(name) => Ok(name),
+                None => Err(LineError::Broken(WorkRule::UnknownName)),
+            },
+            Err(_) => Err(LineError::NoMemory),
+        },
+        Word::Quoted(_) => Err(LineError::Broken(WorkRule::UnknownName)),
+    }
+}
+
+fn open_txn(alloc: Global, state: &mut State, name: Name, tm: TmNo) -> Result<(), LineError>
+    ensures { Gives (λ _. state.new) result (opened state.old name tm) }
+{
+    if state.names.has(name.as_str()) {
+        return Err(LineError::Broken(WorkRule::DuplicateTxn));
+    }
+    if state.names.len() >= 2048 {
+        return Err(LineError::Broken(WorkRule::TooMany(Counts::Txn)));
+    }
+    match state.names.add(alloc, name.as_str()) {
+        Ok(()) => {
+            state.place = Place::Inside(Header { name, tm });
+            Ok(())
+        }
+        Err(_) => Err(LineError::NoMemory),
+    }
+}
+
+fn txn_line(
+    alloc: Global,
+    cat: &Catalogue,
+    state: &mut State,
+    words: &[Word],
+) -> Result<(), LineError>
+    ensures { Gives (λ _. state.new) result (txn_rules cat.now state.old words.now) }
+{
+    match words {
+        [word, tm] => {
+            if !(state.place.takes_txns() && (stands_free(word) && stands_free(tm))) {
+                return Err(LineError::Broken(WorkRule::BadLine));
+            }
+            match name_in_word(alloc, word) {
+                Err(e) => Err(e),
+                Ok(name) => match read_tm(cat, tm) {
+                    Err(e) => Err(e),
+                    Ok(tm) => open_txn(alloc, state, name, tm),
+                },
+            }
+        }
+        _ => Err(LineError::Broken(WorkRule::BadLine)),
+    }
+}
+
+fn add_statement(state: &mut State, statement: Stmt) -> Result<(), LineError>
+    ensures { Gives (λ _. state.new) result (with_statement state.old statement) }
+{
+    match written_with(state.written, &statement) {
+        None => Err(LineError::Broken(WorkRule::TooMany(Counts::Row))),
+        Some(written) => match check_limits(state.statements.len(), &statement) {
+            Err(e) => Err(e),
+            Ok(()) => {
+                state.written = written;
+                match state.statements.push(statement) {
+                    Ok(()) => Ok(()),
+                    Err(_) => Err(LineError::NoMemory),
+                }
+            }
+        },
+    }
+}
+
+fn statement_line(
+    alloc: Global,
+    cat: &Catalogue,
+    state: &mut State,
+    key: StatementKey,
+    words: &[Word],
+) -> Result<(), LineError>
+    ensures { Gives (λ _. state.new) result (statement_rules state.old (statement_of key cat.now words.now)) }
+{
+    if !state.place.takes_statements() {
+        return Err(LineError::Broken(WorkRule::BadLine));
+    }
+    match read_statement(alloc, cat, key, words) {
+        Ok(statement) => add_statement(state, statement),
+        Err(e) => Err(e),
+    }
+}
+
+fn close_txn(alloc: Global, state: &mut State) -> Result<(), LineError>
+    ensures { Gives (λ _. state.new) result (closed state.old.place state.old) }
+{
+    match mem::replace(&mut state.place, Place::Between) {
+        Place::Inside(Header { name, tm }) => {
+            let statements = mem::replace(&mut state.statements, Grown::new(alloc));
+            match state.txns.push(Txn {
+                name,
+                tm,
+                statements: statements.into_listed(),
+            }) {
+                Ok(()) => Ok(()),
+                Err(_) => Err(LineError::NoMemory),
+            }
+        }
+        _ => Err(LineError::Broken(WorkRule::BadLine)),
+    }
+}
+
+fn done_line(alloc: Global, state: &mut State, words: &[Word]) -> Result<(), LineError>
+    ensures { Gives (λ _. state.new) result (done_rules state.old words.now) }
+{
+    match words {
+        [] => close_txn(alloc, state),
+        _ => Err(LineError::Broken(WorkRule::BadLine)),
+    }
+}
+
+fn has_number(submitted: &[TxnNo], txn: TxnNo) -> bool
+    ensures { result ≡ list_any (λ (t : TxnNo). t.0 == txn.0) submitted.now }
+{
+    submitted.iter().any(|other| other.0 == txn.0)
+}
+
+fn is_submitted(submitted: &[TxnNo], event: Event) -> bool
+    ensures { result ≡ is_submitted submitted.now event }
+{
+    match event {
+        Event::Submit(txn) => has_number(submitted, txn),
+        _ => false,
+    }
+}
+
+fn note_submitted(submitted: &mut Grown<TxnNo>, event: Event) -> Result<(), NoMemory>
+    ensures { OnOk result (submitted.new ≡ with_submitted submitted.old event) }
+{
+    match event {
+        Event::Submit(txn) => submitted.push(txn),
+        _ => Ok(()),
+    }
+}
+
+fn add_event(state: &mut State, event: Event) -> Result<(), LineError>
+    ensures { Gives (λ _. state.new) result (with_event state.old event) }
+{
+    if is_submitted(state.submitted.as_slice(), event) {
+        return Err(LineError::Broken(WorkRule::SubmittedTwice));
+    }
+    if state.events.len() >= 262144 {
+        return Err(LineError::Broken(WorkRule::TooMany(Counts::Event)));
+    }
+    state.place = Place::Events;
+    match note_submitted(&mut state.submitted, event) {
+        Ok(()) => match state.events.push(event) {
+            Ok(()) => Ok(()),
+            Err(_) => Err(LineError::NoMemory),
+        },
+        Err(_) => Err(LineError::NoMemory),
+    }
+}
+
+fn event_line(
+    alloc: Global,
+    cat: &Catalogue,
+    state: &mut State,
+    key: EventKey,
+    words: &[Word],
+) -> Result<(), LineError>
+    ensures { Gives (λ _. state.new) result (event_rules state.old (event_of key cat.now state.old.names words.now)) }
+{
+    if !state.place.takes_events() {
+        return Err(LineError::Broken(WorkRule::BadLine));
+    }
+    match read_event(alloc, cat, &state.names, key, words) {
+        Ok(event) => add_event(state, event),
+        Err(e) => Err(e),
+    }
+}
+
+fn end_line(state: &mut State, words: &[Word]) -> Result<(), LineError>
+    ensures { Gives (λ _. state.new) result (end_rules state.old words.now) }
+{
+    match words {
+        [] => {
+            if !state.place.takes_events() {
+                return Err(LineError::Broken(WorkRule::BadLine));
+            }
+            state.place = Place::Ended;
+            Ok(())
+        }
+        _ => Err(LineError::Broken(WorkRule::BadLine)),
+    }
+}
+
+fn read_keyword_line(
+    alloc: Global,
+    cat: &Catalogue,
+    state: &mut State,
+    keyword: Keyword,
+    words: &[Word],
+) -> Result<(), LineError>
+    ensures { Gives (λ _. state.new) result (keyword_rules keyword cat.now state.old words.now) }
+{
+    match keyword {
+        Keyword::Row => row_line(alloc, cat, state, words),
+        Keyword::Txn => txn_line(alloc, cat, state, words),
+        Keyword::Statement(key) => statement_line(alloc, cat, state, key, words),
+        Keyword::Done => done_line(alloc, state, words),
+        Keyword::Event(key) => event_line(alloc, cat, state, key, words),
+        Keyword::End => end_line(state, words),
+    }
+}
+
+fn read_words(
+    alloc: Global,
+    cat: &Catalogue,
+    state: &mut State,
+    words: &[Word],
+) -> Result<(), LineError>
+    ensures { Gives (λ _. state.new) result (words_rules cat.now state.old words.now) }
+{
+    match words {
+        [] => Err(LineError::Broken(WorkRule::BadLine)),
+        [first, words @ ..] => match keyword_of(first) {
+            None => Err(LineError::Broken(WorkRule::BadLine)),
+            Some(keyword) => read_keyword_line(alloc, cat, state, keyword, words),
+        },
+    }
+}
+
+fn read_sound_words(
+    alloc: Global,
+    cat: &Catalogue,
+    state: &mut State,
+    words: &[Word],
+) -> Result<(), LineError>
+    ensures { Gives (λ _. state.new) result (sound_rules cat.now state.old words.now) }
+{
+    if !are_sound(words) {
+        return Err(LineError::Broken(WorkRule::BadLine));
+    }
+    read_words(alloc, cat, state, words)
+}
+
+/// What the lines have said with one line more. Where it has a fault, the state is not used again.
+#[tactic(auto, unfolding(crate::specs::LineRules::line_rules))]
+pub fn read_line(
+    alloc: Global,
+    cat: &Catalogue,
+    state: &mut State,
+    line: &[u8],
+) -> Result<(), LineError>
+    ensures { Gives (λ _. state.new) result (line_rules cat.now state.old line.now) }
+{
+    match text_of(line) {
+        None => Err(LineError::Broken(WorkRule::NotUtf8)),
+        Some(_) => match split_line(alloc, line) {
+            Ok(Some(words)) => read_sound_words(alloc, cat, state, words.as_slice()),
+            Ok(None) => Err(LineError::Broken(WorkRule::BadLine)),
+            Err(_) => Err(LineError::NoMemory),
+        },
+    }
+}

@@ -1,0 +1,22 @@
+use crate::grown::Grown;
+use crate::names::Names;
+use crate::place::Place;
+use sdd_base::{Event, RelNo, Row, TxnNo};
+use sdd_lang::{Stmt, Txn};
+
+/// What the lines so far have said.
+#[derive(Drop)]
+pub struct State {
+    pub place: Place,
+    pub rows: Grown<(RelNo, Row)>,
+    /// How many rows there are, and statements that put one, together.
+    pub written: u32,
+    /// The names of all transactions, the open one's too.
+    pub names: Names,
+    pub txns: Grown<Txn>,
+    /// The statements of the transaction that is open.
+    pub statements: Grown<Stmt>,
+    /// The transactions that were submitted.
+    pub submitted: Grown<TxnNo>,
+    pub events: Grown<Event>,
+}

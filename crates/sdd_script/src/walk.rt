@@ -1,0 +1,127 @@
+//! The lines of a workload, one after the other.
+ghost use Rattle.std.specs.Prelude.{◌≡◌, ◌≤◌, ◌^◌, length, IfOk};
+ghost use Rattle.sdd_script.specs.Rules.{Gives};
+ghost use Rattle.sdd_script.specs.Telling.{Tells};
+ghost use Rattle.sdd_script.specs.Valid.{Accepts};
+ghost use Rattle.sdd_script.specs.Walk.{one_line, tail_rules, walk_bytes, nothing_read, workload};
+
+use crate::fault::{LineError, WorkError, WorkFault, WorkRule};
+use crate::grown::Grown;
+use crate::names::Names;
+use crate::place::Place;
+use crate::reader::read_line;
+use crate::state::State;
+use crate::workload::Workload;
+use sdd_catalog::Catalogue;
+use sdd_words::{next_line, text_of};
+use std::alloc::Global;
+
+fn read_one(alloc: Global, cat: &Catalogue, state: &mut State, line: &[u8]) -> Result<(), LineError>
+    ensures { Gives (λ _. state.new) result (one_line cat.now state.old line.now) }
+{
+    if state.place.is_ended() {
+        Err(LineError::Broken(WorkRule::BadLine))
+    } else {
+        read_line(alloc, cat, state, line)
+    }
+}
+
+/// What stands behind the last newline.
+fn check_tail(state: &State, tail: &[u8]) -> Result<(), LineError>
+    ensures { Gives (λ _. state.now) result (tail_rules state.now tail.now) }
+{
+    match tail {
+        [] => {
+            if state.place.is_ended() {
+                Ok(())
+            } else {
+                Err(LineError::Broken(WorkRule::NoEnd))
+            }
+        }
+        _ => {
+            if state.place.is_ended() {
+                return Err(LineError::Broken(WorkRule::BadLine));
+            }
+            match text_of(tail) {
+                Some(_) => Err(LineError::Broken(WorkRule::NoEnd)),
+                None => Err(LineError::Broken(WorkRule::NotUtf8)),
+            }
+        }
+    }
+}
+
+fn nothing_read(alloc: Global) -> State
+    ensures { result ≡ nothing_read }
+{
+    State {
+        place: Place::Rows,
+        rows: Grown::new(alloc),
+        written: 0,
+        names: Names::new(alloc),
+        txns: Grown::new(alloc),
+        statements: Grown::new(alloc),
+        submitted: Grown::new(alloc),
+        events: Grown::new(alloc),
+    }
+}
+
+#[tactic(auto, unfolding(crate::specs::Walk::walk))]
+fn read_lines(
+    alloc: Global,
+    cat: &Catalogue,
+    state: State,
+    bytes: &[u8],
+) -> Result<State, WorkError>
+    requires { length bytes.now ≤ 2 ^ 26 }
+    ensures { Tells result (walk_bytes cat.now 1 state bytes.now) }
+{
+    let mut state = state;
+    let mut rest = bytes;
+    let mut line = 1;
+    'lines: while let Some((text, behind)) = next_line(rest) {
+        match read_one(alloc, cat, &mut state, text) {
+            Ok(()) => {}
+            Err(LineError::NoMemory) => return Err(WorkError::NoMemory),
+            Err(LineError::Broken(rule)) => return Err(WorkError::Fault(WorkFault { line, rule })),
+        }
+        rest = behind;
+        line += 1;
+    }
+    match check_tail(&state, rest) {
+        Ok(()) => Ok(state),
+        Err(LineError::NoMemory) => Err(WorkError::NoMemory),
+        Err(LineError::Broken(rule)) => Err(WorkError::Fault(WorkFault { line, rule })),
+    }
+}
+
+/// The workload that a file gives, or its first fault: that of the first line at fault, and on it the
+/// first rule that is broken.
+///
+/// A workload that is given is one that the catalogue allows, and the bytes are its spelling.
+/// Costs time linear in the bytes, the relations and columns of the catalogue apart, which are looked
+/// through for each name. Costs memory linear in the bytes.
+pub fn read_workload(alloc: Global, bytes: &[u8], cat: &Catalogue) -> Result<Workload, WorkError>
+    ensures exact { Tells result (workload cat.now bytes.now) }
+    ensures accepted { IfOk result (λ work. Accepts cat.now bytes.now work) }
+{
+    read_bytes(alloc, bytes, cat)
+}
+
+fn read_bytes(alloc: Global, bytes: &[u8], cat: &Catalogue) -> Result<Workload, WorkError>
+    ensures { Tells result (workload cat.now bytes.now) }
+{
+    if bytes.len() > 67108864 {
+        return Err(WorkError::Fault(WorkFault {
+            line: 0,
+            rule: WorkRule::TooLong,
+        }));
+    }
+    match read_lines(alloc, cat, nothing_read(alloc), bytes) {
+        Ok(state) => Ok(Workload {
+            rows: state.rows.into_listed(),
+            txns: state.txns.into_listed(),
+            events: state.events.into_listed(),
+        }),
+        Err(e) => Err(e),
+    }
+}

@@ -1,0 +1,15 @@
+pub mod Assigning
+pub mod Comparing
+pub mod CutLaws
+pub mod Joining
+pub mod NameTexts
+pub mod Numbers
+pub mod Points
+pub mod Scans
+pub mod Spelled
+pub mod Splits
+pub mod StepLaws
+pub mod Texts
+pub mod Utf8
+pub mod Writes
+pub mod Written

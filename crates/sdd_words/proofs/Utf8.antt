@@ -1,0 +1,87 @@
+-- The spelling of a text is UTF-8, and that of a number is a plain word.
+use Rattle.std.proofs.Common.{◌≡◌, ◌≢◌, ℕ, ℤ, pos, negsuc, zero, suc, ◌^◌, ◌<◌, ◌≤◌, List, [], ◌∷◌, ◌++◌, length, get_or, Bool, true, false, cond, ◌&&◌, eqb, refl, sym, ap, ◌∙◌, append_assoc, append-nil, arith, inl, inr}
+use Rattle.std.specs.Str.{IsUtf8, IsAscii, all_scalars, encode_utf8_all}
+use Rattle.std.specs.Int.Signed.{mag}
+use Rattle.std.specs.Fmt.{signed_decimal, decimal}
+use Rattle.std.specs.Str.Parse.{AllDigits}
+use Rattle.std.proofs.lemmas.Str.Parse.{digit_from_value}
+use Rattle.std.proofs.lemmas.Fmt.{decimal_is_IsNumeral}
+use Rattle.std.proofs.lemmas.Bool.{eqb-true, cases_lt}
+use Rattle.std.proofs.lemmas.Str.{encode_ascii, encodes-append, encodes-IsAscii, inside_one}
+use lib.Utf8.{encode, scalar}
+use Rattle.sdd_words.specs.Words.{is_special, escaped_byte, escaped, HasNoSpace, IsPlain}
+
+high_byte : (b : ℕ) (x y : Bool) → eqb b 34 ≡ x → eqb b 92 ≡ y → (b < 128 → ⊥) → escaped_byte b ≡ b ∷ []
+high_byte b true y p q h = let e = eqb-true b 34 p in absurd (h (omega arith))
+high_byte b false true p q h = let e = eqb-true b 92 q in absurd (h (omega arith))
+high_byte b false false p q h = rw (p, q) refl
+
+high_same : (bs : List ℕ) → ((k : ℕ) → k < length bs → get_or bs k 0 < 128 → ⊥) → escaped bs ≡ bs
+high_same [] h = refl
+high_same (b ∷ bs) h =
+    let one : escaped_byte b ≡ b ∷ [] = high_byte b (eqb b 34) (eqb b 92) refl refl (h 0 (omega arith)) in
+    let more : escaped bs ≡ bs = high_same bs (λ k lt. h (suc k) (omega arith)) in
+    ap (λ (l : List ℕ). l ++ escaped bs) one ∙ ap (λ (l : List ℕ). b ∷ l) more
+
+pub escaped-append : (a b : List ℕ) → escaped (a ++ b) ≡ escaped a ++ escaped b
+escaped-append [] b = refl
+escaped-append (c ∷ a) b = ap (λ (l : List ℕ). escaped_byte c ++ l) (escaped-append a b) ∙ sym (append_assoc (escaped_byte c) (escaped a) (escaped b))
+
+one : (c : ℕ) → c < 128 → IsAscii (c ∷ [])
+one c lt zero = lt
+one c lt (suc i) = omega arith
+
+two : (c : ℕ) → c < 128 → IsAscii (92 ∷ c ∷ [])
+two c lt zero = omega arith
+two c lt (suc zero) = lt
+two c lt (suc (suc i)) = omega arith
+
+low_ascii : (c : ℕ) (x y : Bool) → eqb c 34 ≡ x → eqb c 92 ≡ y → c < 128 → encode_utf8_all (escaped_byte c) ≡ escaped_byte c
+low_ascii c true y p q lt = rw p (encodes-IsAscii (92 ∷ c ∷ []) (two c lt))
+low_ascii c false true p q lt = rw (p, q) (encodes-IsAscii (92 ∷ c ∷ []) (two c lt))
+low_ascii c false false p q lt = rw (p, q) (encodes-IsAscii (c ∷ []) (one c lt))
+
+char_step : (c : ℕ) → escaped (encode c) ≡ encode_utf8_all (escaped_byte c)
+char_step c =
+    elim (cases_lt c 128) [
+      | inl lt ↦ rw (encode_ascii c lt) (append-nil (escaped_byte c) ∙ sym (low_ascii c (eqb c 34) (eqb c 92) refl refl lt))
+      | inr le ↦
+          let same : escaped (encode c) ≡ encode c = high_same (encode c) (λ k lt low. let e : c ≡ get_or (encode c) k 0 = inside_one c [] (encode c) k (sym (append-nil (encode c))) lt low in omega arith) in
+          let byte : escaped_byte c ≡ c ∷ [] = high_byte c (eqb c 34) (eqb c 92) refl refl (λ lt. omega arith) in
+          same ∙ sym (append-nil (encode c)) ∙ ap encode_utf8_all (sym byte)
+    ]
+
+-- escaping characters is escaping bytes
+chars_escape : (cs : List ℕ) → escaped (encode_utf8_all cs) ≡ encode_utf8_all (escaped cs)
+chars_escape [] = refl
+chars_escape (c ∷ cs) =
+    escaped-append (encode c) (encode_utf8_all cs) ∙ ap (λ (l : List ℕ). l ++ escaped (encode_utf8_all cs)) (char_step c) ∙ ap (λ (l : List ℕ). encode_utf8_all (escaped_byte c) ++ l) (chars_escape cs) ∙ sym (encodes-append (escaped_byte c) (escaped cs))
+
+both : (x y : Bool) → (x && y) ≡ true → (x ≡ true) × (y ≡ true)
+both true true e = (refl, refl)
+both true false e = absurd cc
+both false y e = absurd cc
+
+scalar_step : (c : ℕ) (cs : List ℕ) (x y : Bool) → eqb c 34 ≡ x → eqb c 92 ≡ y → scalar c ≡ true → all_scalars (escaped cs) ≡ true → all_scalars (escaped_byte c ++ escaped cs) ≡ true
+scalar_step c cs true y p q h k = rw (p, h, k) refl
+scalar_step c cs false true p q h k = rw (p, q, h, k) refl
+scalar_step c cs false false p q h k = rw (p, q, h, k) refl
+
+scalars_escape : (cs : List ℕ) → all_scalars cs ≡ true → all_scalars (escaped cs) ≡ true
+scalars_escape [] h = refl
+scalars_escape (c ∷ cs) h = let a = both (scalar c) (all_scalars cs) h in scalar_step c cs (eqb c 34) (eqb c 92) refl refl a.0 (scalars_escape cs a.1)
+
+pub IsUtf8-escaped : (text : List ℕ) → IsUtf8 text → IsUtf8 (escaped text)
+IsUtf8-escaped text u = (escaped u.0, (scalars_escape u.0 u.1.0, sym (chars_escape u.0) ∙ ap escaped u.1.1))
+
+digits_plain : (ds : List ℕ) → AllDigits 10 ds → HasNoSpace ds
+digits_plain [] h = tt
+digits_plain (c ∷ ds) h = let r = digit_from_value c (omega (arith, h.0)) in ((λ e. omega (arith, r.0)), digits_plain ds h.1)
+
+numeral_plain : (ds : List ℕ) → 0 < length ds → AllDigits 10 ds → IsPlain ds
+numeral_plain [] some h = absurd (omega arith)
+numeral_plain (c ∷ ds) some h = let r = digit_from_value c (omega (arith, h.0)) in ((λ e. omega (arith, r.0)), (λ e. omega (arith, r.0)), digits_plain ds h.1)
+
+pub number_plain : (z : ℤ) → mag z < 2 ^ 63 → IsPlain (signed_decimal z)
+number_plain (pos n) lt = let k = decimal_is_IsNumeral n (omega arith) in numeral_plain (decimal n) k.0.0 k.0.1
+number_plain (negsuc n) lt = let k = decimal_is_IsNumeral (suc n) (omega arith) in ((λ e. omega arith), (λ e. omega arith), digits_plain (decimal (suc n)) k.0.1)

@@ -1,0 +1,11 @@
+pub mod Examples
+pub mod Forms
+pub mod Keywords
+pub mod Lines
+pub mod Names
+pub mod Number
+pub mod Scan
+pub mod Steps
+pub mod Texts
+pub mod Whole
+pub mod Words

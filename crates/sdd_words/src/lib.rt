@@ -1,0 +1,34 @@
+//! Lines and their words, as the files of a run spell them: lines are cut at newlines, words at
+//! single spaces; a word is plain or a text between quotes; each number has one spelling.
+//!
+//! What the layer above gets: `next_line` and `split_line` give exactly the lines and words that the
+//! bytes spell (`specs/Lines.antt`, `specs/Words.antt`), `number_in` the number (`specs/Number.antt`),
+//! and the calls of `form` the parts of a line by its keywords (`specs/Forms.antt`).
+#![tactic(auto)]
+
+mod form;
+mod keyword;
+mod line;
+mod naming;
+mod number;
+mod split;
+mod text;
+mod whole;
+mod word;
+mod write;
+
+pub use form::{
+    Comparison, Comparisons, Setting, Settings, are_free, cut_at, has_words, look_like_columns,
+    read_comparisons, read_settings, split_from,
+};
+pub use keyword::{
+    adds, has_key, looks_like_column, names_column, operator, parts_at_point, stands_free,
+};
+pub use line::next_line;
+pub use naming::read_name;
+pub use number::number_in;
+pub use split::{Mode, Move, split_line};
+pub use text::{are_sound, is_text, text_of};
+pub use whole::{are_whole_digits, is_whole_number};
+pub use word::{Word, Words};
+pub use write::{put, put_count, put_number, put_text};

@@ -1,0 +1,56 @@
+//! Texts of words.
+ghost use Rattle.std.specs.Prelude.{◌≡◌, MatchOption, true, false};
+ghost use Rattle.std.specs.List.{list_all};
+ghost use Rattle.std.specs.Str.{is_utf8};
+ghost use Rattle.sdd_words.specs.Texts.{has_newline, is_text, is_sound};
+
+use crate::word::Word;
+
+/// The text of the bytes, or None exactly where they aren't UTF-8. Takes no memory.
+#[tactic(auto, using(crate::proofs::Texts::is_text, crate::proofs::Texts::is_no_text))]
+pub fn text_of(bytes: &[u8]) -> Option<&str>
+    ensures { MatchOption result (is_utf8 bytes.now ≡ false) (λ s. (s.now ≡ bytes.now) × (is_utf8 bytes.now ≡ true)) }
+{
+    match std::str::from_utf8(bytes) {
+        Ok(text) => Some(text),
+        Err(_) => None,
+    }
+}
+
+fn has_newline(bytes: &[u8]) -> bool
+    ensures { result ≡ has_newline bytes.now }
+{
+    bytes.iter().any(|byte| *byte == b'\n')
+}
+
+fn is_utf8(bytes: &[u8]) -> bool
+    ensures { result ≡ is_utf8 bytes.now }
+{
+    match text_of(bytes) {
+        Some(_) => true,
+        None => false,
+    }
+}
+
+/// Whether the bytes are a text: at most 255 bytes of UTF-8 without a newline. Takes no memory.
+pub fn is_text(bytes: &[u8]) -> bool
+    ensures { result ≡ is_text bytes.now }
+{
+    bytes.len() <= 255 && !has_newline(bytes) && is_utf8(bytes)
+}
+
+fn is_sound(word: &Word) -> bool
+    ensures { result ≡ is_sound word.now }
+{
+    match word {
+        Word::Plain(_) => true,
+        Word::Quoted(text) => is_text(text.as_slice()),
+    }
+}
+
+/// Whether each word that is written as a text is one. Takes no memory.
+pub fn are_sound(words: &[Word]) -> bool
+    ensures { result ≡ list_all is_sound words.now }
+{
+    words.iter().all(|word| is_sound(word))
+}
