@@ -1,20 +1,24 @@
 -- What a call answers: the text for its words and files, or why there is none.
-use Rattle.std.specs.Prelude.{◌≡◌, ℕ, ◌^◌, ◌≤◌, ◌<◌, List, [], length, take, Option, Some, Result, Ok, Err, IfSome, IsTrue}
+use Rattle.std.specs.Prelude.{◌≡◌, ℕ, ◌≤◌, ◌<◌, List, [], length, take, Option, Some, Result, Ok, Err, IfSome, IsSome}
 use Rattle.std.specs.Option.{option_map}
 use Rattle.sdd_base.specs.declared.files.ShelfFile.{ShelfFile}
 use Rattle.sdd_base.specs.Outside.{find_file, Rose, with_end}
 use Rattle.sdd_catalog.specs.Catalogue.{Catalogue}
 use Rattle.sdd_catalog.specs.declared.fault.CatFault.{CatFault}
 use Rattle.sdd_catread.specs.Reading.{catalogue_in}
-use Rattle.sdd_app.specs.declared.first.FirstWork.{FirstWork}
+use Rattle.sdd_script.specs.Walk.{workload}
+use Rattle.sdd_script.specs.declared.fault.WorkFault.{WorkFault}
+use Rattle.sdd_script.specs.declared.workload.Workload.{Workload}
 use Rattle.sdd_app.specs.declared.status.Status.{Status}
-use Rattle.sdd_app.specs.declared.status.Status.TheVariants.{ReadFault, NoMemory, Unbuilt, BadCatalogue}
+use Rattle.sdd_app.specs.declared.status.Status.TheVariants.{ReadFault, NoMemory, Unbuilt, BadCatalogue, BadWorkload}
 use Rattle.sdd_app.specs.declared.listing.Listing.{Listing}
 use Rattle.sdd_app.specs.declared.listing.Listing.TheVariants as listings
-use Rattle.sdd_app.specs.Command.{Form, Check, Graph, Table, Run, IsForm, words_of}
-use Rattle.sdd_app.specs.First.{first_catalogue, is_first_work, spelling}
+use Rattle.sdd_app.specs.Command.{Form, Check, Graph, Table, Run, Plain, IsForm, words_of}
+use Rattle.sdd_app.specs.declared.reach.Reach.{Reach}
+use Rattle.sdd_app.specs.declared.reach.Reach.TheVariants as reaches
 use Rattle.sdd_app.specs.Listing.{Tells}
-use Rattle.sdd_app.specs.Run.{report_of}
+use Rattle.sdd_app.specs.Reach.{TakesCatalogue, TakesWorkload}
+use Rattle.sdd_app.specs.Serially.{serial_text}
 
 -- the catalogue that the file of this name gives, or its first fault
 abbrev pub catalogue_named : List ShelfFile → List ℕ → Option (Result Catalogue CatFault)
@@ -26,22 +30,28 @@ pub record AnswersListing (files : List ShelfFile) (listing : Listing) (catalogu
   pub accepted : catalogue_named files catalogue ≡ Some (Ok says)
   pub tells : Tells listing says text
 
--- The first file gives the one catalogue that is run today, the second is at most 64 MiB long and the
--- spelling of a workload of the first form, and this is the workload's report.
-pub record AnswersRun (files : List ShelfFile) (catalogue workload : List ℕ) (text : List ℕ) : Type 0 where
-  pub accepted : catalogue_named files catalogue ≡ Some (Ok first_catalogue)
-  pub work : FirstWork
-  pub first : IsTrue (is_first_work work)
-  pub small : length (spelling work) ≤ 2 ^ 26
-  pub workload_read : find_file files workload ≡ Some (spelling work)
-  pub text_is : text ≡ report_of work
+-- the workload that the file of this name gives for a catalogue, or its first fault
+abbrev pub workload_named : List ShelfFile → Catalogue → List ℕ → Option (Result Workload WorkFault)
+workload_named files cat name = option_map (workload cat) (find_file files name)
+
+-- The first file gives a catalogue and the second a workload for it, the command takes both, and this is what
+-- serial execution of the workload's submissions gives.
+pub record AnswersWorkload (files : List ShelfFile) (reach : Reach) (catalogue workload : List ℕ) (text : List ℕ) : Type 0 where
+  pub says : Catalogue
+  pub accepted : catalogue_named files catalogue ≡ Some (Ok says)
+  pub taken : TakesCatalogue reach says
+  pub work : Workload
+  pub read : workload_named files says workload ≡ Some (Ok work)
+  pub takes : TakesWorkload reach work
+  pub text_is : text ≡ serial_text says work
 
 -- the text is what a command of this form answers
 abbrev pub AnswersForm : List ShelfFile → Form → List ℕ → Type 0
 AnswersForm files (Check catalogue) text = AnswersListing files listings.Counts catalogue text
 AnswersForm files (Graph catalogue) text = AnswersListing files listings.Graph catalogue text
 AnswersForm files (Table catalogue) text = AnswersListing files listings.Table catalogue text
-AnswersForm files (Run catalogue workload) text = AnswersRun files catalogue workload text
+AnswersForm files (Run catalogue workload) text = AnswersWorkload files reaches.Run catalogue workload text
+AnswersForm files (Plain catalogue workload) text = AnswersWorkload files reaches.Plain catalogue workload text
 AnswersForm files _ text = ⊥
 
 pub record Answers (files : List ShelfFile) (ws : List (List ℕ)) (text : List ℕ) : Type 0 where
@@ -55,6 +65,7 @@ FaultOf files (Check catalogue) fault = catalogue_named files catalogue ≡ Some
 FaultOf files (Graph catalogue) fault = catalogue_named files catalogue ≡ Some (Err fault)
 FaultOf files (Table catalogue) fault = catalogue_named files catalogue ≡ Some (Err fault)
 FaultOf files (Run catalogue workload) fault = catalogue_named files catalogue ≡ Some (Err fault)
+FaultOf files (Plain catalogue workload) fault = catalogue_named files catalogue ≡ Some (Err fault)
 FaultOf files _ fault = ⊥
 
 pub record HasFault (files : List ShelfFile) (ws : List (List ℕ)) (fault : CatFault) : Type 0 where
@@ -62,19 +73,53 @@ pub record HasFault (files : List ShelfFile) (ws : List (List ℕ)) (fault : Cat
   pub words : ws ≡ words_of form
   pub has : FaultOf files form fault
 
--- The words are of a form, they have no answer, and no fault of a catalogue is the cause: the command is
--- `plain` or `make`, or the files of a run are of another form.
+-- the first file gives a catalogue that the command takes, and the workload of the second has the fault
+pub record HasFaultyWorkload (files : List ShelfFile) (reach : Reach) (catalogue workload : List ℕ) (fault : WorkFault) : Type 0 where
+  pub says : Catalogue
+  pub accepted : catalogue_named files catalogue ≡ Some (Ok says)
+  pub taken : TakesCatalogue reach says
+  pub has : workload_named files says workload ≡ Some (Err fault)
+
+-- the workload that a command of this form reads has the fault
+abbrev pub WorkFaultOf : List ShelfFile → Form → WorkFault → Type 0
+WorkFaultOf files (Run catalogue workload) fault = HasFaultyWorkload files reaches.Run catalogue workload fault
+WorkFaultOf files (Plain catalogue workload) fault = HasFaultyWorkload files reaches.Plain catalogue workload fault
+WorkFaultOf files _ fault = ⊥
+
+pub record HasWorkFault (files : List ShelfFile) (ws : List (List ℕ)) (fault : WorkFault) : Type 0 where
+  pub form : Form
+  pub words : ws ≡ words_of form
+  pub has : WorkFaultOf files form fault
+
+-- The words are of a form, they have no answer, and no fault of a file is the cause: the command is `make`, or
+-- the files of a run are of another form.
 pub record IsUnbuilt (files : List ShelfFile) (ws : List (List ℕ)) : Type 0 where
   pub form : Form
   pub is_form : IsForm form
   pub words : ws ≡ words_of form
   pub none : (text : List ℕ) → Answers files ws text → ⊥
   pub fault : (f : CatFault) → HasFault files ws f → ⊥
+  pub work_fault : (f : WorkFault) → HasWorkFault files ws f → ⊥
 
--- a run of these files has no answer, and no fault of the catalogue is the cause
-pub record IsUnbuiltRun (files : List ShelfFile) (catalogue workload : List ℕ) : Type 0 where
-  pub none : (text : List ℕ) → AnswersRun files catalogue workload text → ⊥
+-- a command over these files has no answer, and no fault of them is the cause
+pub record IsUnbuiltWorkload (files : List ShelfFile) (reach : Reach) (catalogue workload : List ℕ) : Type 0 where
+  pub none : (text : List ℕ) → AnswersWorkload files reach catalogue workload text → ⊥
   pub fault : (f : CatFault) → catalogue_named files catalogue ≡ Some (Err f) → ⊥
+  pub work_fault : (f : WorkFault) → HasFaultyWorkload files reach catalogue workload f → ⊥
+
+-- the files that a command over two files reads are there: the first and, where it gives a catalogue, the second
+abbrev pub HasFiles : List ShelfFile → List ℕ → List ℕ → Type 0
+HasFiles files catalogue workload =
+    IsSome (find_file files catalogue) × ((says : Catalogue) → catalogue_named files catalogue ≡ Some (Ok says) → IsSome (find_file files workload))
+
+-- the files that a command of this form reads are there
+abbrev pub FilesOf : List ShelfFile → Form → Type 0
+FilesOf files (Check catalogue) = IsSome (find_file files catalogue)
+FilesOf files (Graph catalogue) = IsSome (find_file files catalogue)
+FilesOf files (Table catalogue) = IsSome (find_file files catalogue)
+FilesOf files (Run catalogue workload) = HasFiles files catalogue workload
+FilesOf files (Plain catalogue workload) = HasFiles files catalogue workload
+FilesOf files _ = Unit {0}
 
 -- A file was opened and, where the shelf tells it, nothing of it is unread.
 pub record OneAtItsEnd (was stands : ℕ → Type 0) (unread : ℕ → Option (List ℕ)) : Type 0 where
@@ -101,6 +146,7 @@ EndsForm (Check catalogue) was stands unread = OneAtItsEnd was stands unread
 EndsForm (Graph catalogue) was stands unread = OneAtItsEnd was stands unread
 EndsForm (Table catalogue) was stands unread = OneAtItsEnd was stands unread
 EndsForm (Run catalogue workload) was stands unread = TwoAtTheirEnds was stands unread
+EndsForm (Plain catalogue workload) was stands unread = TwoAtTheirEnds was stands unread
 EndsForm _ was stands unread = ⊥
 
 pub record AtTheirEnds (ws : List (List ℕ)) (was stands : ℕ → Type 0) (unread : ℕ → Option (List ℕ)) : Type 0 where
@@ -113,7 +159,7 @@ pub record TakesOrFaults (before now : Option (List ℕ)) (faults_before faults_
   pub later : faults_before ≤ faults_now
   pub front : (n : ℕ) × (now ≡ with_end before (take n text)) × (n < length text → Rose faults_before faults_now)
 
--- what reading a file may answer, what judging a catalogue may, both, making a run's text, and a command
+-- what reading a file may answer, what judging a catalogue or a workload may, both, and a command over both
 abbrev pub IsReadingError : Status → Type 0
 IsReadingError ReadFault = Unit {0}
 IsReadingError NoMemory = Unit {0}
@@ -130,14 +176,21 @@ IsCatalogueError ReadFault = Unit {0}
 IsCatalogueError NoMemory = Unit {0}
 IsCatalogueError s = ⊥
 
-abbrev pub IsTextError : Status → Type 0
-IsTextError Unbuilt = Unit {0}
-IsTextError NoMemory = Unit {0}
-IsTextError s = ⊥
+abbrev pub IsWorkJudgement : Status → Type 0
+IsWorkJudgement (BadWorkload fault) = Unit {0}
+IsWorkJudgement NoMemory = Unit {0}
+IsWorkJudgement s = ⊥
 
-abbrev pub IsRunError : Status → Type 0
-IsRunError (BadCatalogue fault) = Unit {0}
-IsRunError ReadFault = Unit {0}
-IsRunError NoMemory = Unit {0}
-IsRunError Unbuilt = Unit {0}
-IsRunError s = ⊥
+abbrev pub IsWorkloadError : Status → Type 0
+IsWorkloadError (BadWorkload fault) = Unit {0}
+IsWorkloadError ReadFault = Unit {0}
+IsWorkloadError NoMemory = Unit {0}
+IsWorkloadError s = ⊥
+
+abbrev pub IsSerialError : Status → Type 0
+IsSerialError (BadCatalogue fault) = Unit {0}
+IsSerialError (BadWorkload fault) = Unit {0}
+IsSerialError ReadFault = Unit {0}
+IsSerialError NoMemory = Unit {0}
+IsSerialError Unbuilt = Unit {0}
+IsSerialError s = ⊥

@@ -1,13 +1,9 @@
-pub mod Accounts
 pub mod Answer
 pub mod Check
 pub mod Command
 pub mod Edges
-pub mod First
-pub mod Lines
 pub mod Listing
-pub mod Number
-pub mod Reading
+pub mod Reach
 pub mod Report
-pub mod Run
+pub mod Serially
 pub mod Status

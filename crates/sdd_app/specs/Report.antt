@@ -1,18 +1,16 @@
 -- The text that a run prints: the serial order and the replies.
-use Rattle.std.specs.Prelude.{ℕ, ◌+◌, ◌≡◌, List, [], ◌∷◌, ◌++◌, length, flat_map, codes, if◌then◌else◌, ◌==◌, ◌||◌, refl}
-use Rattle.std.specs.Fmt.{decimal, signed_decimal}
+use Rattle.std.specs.Prelude.{ℕ, ◌+◌, ◌≡◌, List, [], ◌∷◌, ◌++◌, length, flat_map, codes, refl}
+use Rattle.std.specs.Fmt.{decimal}
 use Rattle.sdd_base.specs.declared.value.Value.{Value}
-use Rattle.sdd_base.specs.declared.value.Value.TheVariants.{Int, Text}
+use Rattle.sdd_base.specs.declared.value.Value.TheVariants.{Text}
 use Rattle.sdd_base.specs.declared.reply.Reply.{Reply}
 use Rattle.sdd_base.specs.declared.reply.Reply.TheVariants.{Rows, Overflow, TooMany}
+use Rattle.sdd_script.specs.Spelling.{value_word}
+use Rattle.sdd_words.specs.Words.{word_bytes}
 
--- a quote or a backslash stands behind a backslash
-abbrev pub escaped_byte : ℕ → List ℕ
-escaped_byte b = if b == 34 || b == 92 then 92 ∷ b ∷ [] else b ∷ []
-
+-- values are printed as a workload's file spells them
 abbrev pub value_bytes : Value → List ℕ
-value_bytes (Int n) = signed_decimal n
-value_bytes (Text t) = 34 ∷ (flat_map escaped_byte t ++ 34 ∷ [])
+value_bytes v = word_bytes (value_word v)
 
 -- each behind a space
 abbrev pub spaced : List (List ℕ) → List ℕ

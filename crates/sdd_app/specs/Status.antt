@@ -8,8 +8,13 @@ use Rattle.sdd_catalog.specs.declared.fault.Counted.{Counted}
 use Rattle.sdd_catalog.specs.declared.fault.Counted.TheVariants as counted
 use Rattle.sdd_catalog.specs.declared.fault.Part.{Part}
 use Rattle.sdd_catalog.specs.declared.fault.Part.TheVariants as parts
+use Rattle.sdd_script.specs.declared.fault.Counts.{Counts}
+use Rattle.sdd_script.specs.declared.fault.Counts.TheVariants as counts
+use Rattle.sdd_script.specs.declared.fault.WorkFault.{WorkFault}
+use Rattle.sdd_script.specs.declared.fault.WorkRule.{WorkRule}
+use Rattle.sdd_script.specs.declared.fault.WorkRule.TheVariants as work_rules
 use Rattle.sdd_app.specs.declared.status.Status.{Status}
-use Rattle.sdd_app.specs.declared.status.Status.TheVariants.{Done, Usage, BadCatalogue, ReadFault, WriteFault, NoMemory, Unbuilt}
+use Rattle.sdd_app.specs.declared.status.Status.TheVariants.{Done, Usage, BadCatalogue, BadWorkload, ReadFault, WriteFault, NoMemory, Unbuilt}
 
 -- the place of a fault: the top, or a part with its number
 abbrev pub part_word : Part → List ℕ
@@ -59,21 +64,54 @@ counted_words rule = []
 abbrev pub fault_line : CatFault → List ℕ
 fault_line fault = codes "catalogue: " ++ (part_word fault.part ++ (number_word fault.part fault.no ++ (codes ": " ++ (rule_word fault.rule ++ (counted_words fault.rule ++ codes "\n")))))
 
+abbrev pub work_rule_word : WorkRule → List ℕ
+work_rule_word work_rules.NotUtf8 = codes "NotUtf8"
+work_rule_word work_rules.TooLong = codes "TooLong"
+work_rule_word work_rules.BadLine = codes "BadLine"
+work_rule_word work_rules.UnknownName = codes "UnknownName"
+work_rule_word work_rules.WrongKind = codes "WrongKind"
+work_rule_word work_rules.DuplicateTxn = codes "DuplicateTxn"
+work_rule_word work_rules.SubmittedTwice = codes "SubmittedTwice"
+work_rule_word (work_rules.TooMany what) = codes "TooMany"
+work_rule_word work_rules.KeyChanged = codes "KeyChanged"
+work_rule_word work_rules.BadNumber = codes "BadNumber"
+work_rule_word work_rules.BadEvent = codes "BadEvent"
+work_rule_word work_rules.NoEnd = codes "NoEnd"
+
+-- what there were too many of, behind a space
+abbrev pub many_word : Counts → List ℕ
+many_word counts.Row = codes " row"
+many_word counts.Txn = codes " txn"
+many_word counts.Statement = codes " statement"
+many_word counts.Part = codes " part"
+many_word counts.Cond = codes " cond"
+many_word counts.Column = codes " column"
+many_word counts.Event = codes " event"
+
+abbrev pub many_words : WorkRule → List ℕ
+many_words (work_rules.TooMany what) = many_word what
+many_words rule = []
+
+abbrev pub work_fault_line : WorkFault → List ℕ
+work_fault_line fault = codes "workload: line " ++ (decimal fault.line ++ (codes ": " ++ (work_rule_word fault.rule ++ (many_words fault.rule ++ codes "\n"))))
+
 -- the line on standard error
 abbrev pub line_of : Status → List ℕ
 line_of Done = []
 line_of Usage = codes "usage: sdd1 check CAT | graph CAT | table CAT | run CAT WORK | plain CAT WORK | make SEED N\n"
 line_of (BadCatalogue fault) = fault_line fault
+line_of (BadWorkload fault) = work_fault_line fault
 line_of ReadFault = codes "read fault\n"
 line_of WriteFault = codes "write fault\n"
 line_of NoMemory = codes "no memory\n"
 line_of Unbuilt = codes "unbuilt\n"
 
--- the number that the process ends with; 4 and 5 are kept for faults of workloads and for the limits of a run
+-- the number that the process ends with; 5 is kept for the limits of a run
 abbrev pub number_of_status : Status → ℕ
 number_of_status Done = 0
 number_of_status Usage = 2
 number_of_status (BadCatalogue fault) = 3
+number_of_status (BadWorkload fault) = 4
 number_of_status ReadFault = 6
 number_of_status WriteFault = 7
 number_of_status NoMemory = 8
@@ -85,3 +123,6 @@ gap_line = refl
 
 pub many_line : line_of (BadCatalogue (record { rule = rules_of.TooMany counted.Class; part = parts.Top; no = 0 })) ≡ codes "catalogue: top: TooMany class\n"
 many_line = refl
+
+pub twice_line : line_of (BadWorkload (record { line = 5; rule = work_rules.SubmittedTwice })) ≡ codes "workload: line " ++ (decimal 5 ++ codes ": SubmittedTwice\n")
+twice_line = refl

@@ -2,9 +2,10 @@
 ghost use Rattle.std.specs.Prelude.{◌≡◌, ◌++◌, IfOk, OnOk};
 ghost use Rattle.sdd_app.specs.Check.{check_line, module_counts, part_counts, class_count};
 
-use crate::report::{put, put_count};
+use crate::report::put_count;
 use sdd_base::NoMemory;
 use sdd_catalog::Catalogue;
+use sdd_words::put;
 use std::alloc::Global;
 
 /// Adds how many modules there are of each sort.

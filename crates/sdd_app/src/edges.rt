@@ -4,11 +4,12 @@ ghost use Rattle.sdd_graph.specs.Edges.{IsEdgeOf};
 ghost use Rattle.sdd_protocol.specs.Protocols.{IsTable};
 ghost use Rattle.sdd_app.specs.Edges as shown;
 
-use crate::report::{put, put_count};
+use crate::report::put_count;
 use sdd_base::{ClassNo, FragNo, NoMemory};
 use sdd_catalog::Catalogue;
 use sdd_graph::Edge;
 use sdd_protocol::{Entry, Protocol, Table};
+use sdd_words::put;
 use std::alloc::Global;
 
 fn put_class(text: &mut Vec<u8>, catalogue: &Catalogue, class: ClassNo) -> Result<(), NoMemory>

@@ -2,28 +2,26 @@
 //!
 //! `run_sdd1` is the one contract to the layer above. What a call answers is defined in
 //! `specs/Answer.antt`: the files that the words name, the catalogue that the first gives
-//! (`sdd_catread`) or its fault, what is listed of it (`specs/Listing.antt`): its counts, its conflict
-//! graph (`sdd_graph`) with the blocks, its protocol table (`sdd_protocol`); the workload that
-//! the second spells (`specs/First.antt`), and the text that is printed for it (`specs/Run.antt`),
-//! with the replies that serial execution on one database gives (`sdd_lang`).
+//! (`sdd_catread`) and the workload that the second gives for it (`sdd_script`), or their first fault;
+//! what is listed of a catalogue (`specs/Listing.antt`): its counts, its conflict graph (`sdd_graph`)
+//! with the blocks, its protocol table (`sdd_protocol`); and what is printed of a workload
+//! (`specs/Serially.antt`): the replies that serial execution on one database gives (`sdd_lang`).
 #![tactic(auto)]
 
-mod accounts;
 mod catalogue_file;
 mod check;
 mod command;
 mod edges;
-mod first;
-mod first_catalogue;
-mod line;
 mod listing;
 mod number;
-mod reading;
+mod reach;
 mod report;
 mod run;
-mod serial;
+mod serially;
 mod status;
 mod tell;
+mod workload_answer;
+mod workload_file;
 
 pub use run::run_sdd1;
 pub use status::Status;

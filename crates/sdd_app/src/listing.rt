@@ -1,7 +1,7 @@
 //! The commands that tell what is in a catalogue.
-ghost use Rattle.std.specs.Prelude.{◌≡◌, ◌+◌, ℕ, List, IfOk, OnOk, IfErr, IsErrOf, Some, Err};
+ghost use Rattle.std.specs.Prelude.{◌≡◌, ◌+◌, ℕ, List, IfOk, OnOk, IfErr, IsErrOf, IsSome, Some, Err};
 ghost use Rattle.sdd_base.specs.declared.files.ShelfFile.{ShelfFile};
-ghost use Rattle.sdd_base.specs.Outside.{Rose};
+ghost use Rattle.sdd_base.specs.Outside.{Rose, find_file};
 ghost use Rattle.sdd_catalog.specs.declared.fault.CatFault.{CatFault};
 ghost use Rattle.sdd_app.specs.Answer.{AnswersListing, OneAtItsEnd, IsCatalogueError, catalogue_named};
 ghost use Rattle.sdd_app.specs.Listing.{Tells};
@@ -55,8 +55,8 @@ pub fn listing_answer<S: Shelf>(
     ensures ended { OnOk result (OneAtItsEnd (S.is_open shelf.old) (S.is_open shelf.new) (S.unread shelf.new)) }
     ensures fault { IsErrOf result Status.ReadFault → Rose (S.faults shelf.old) (S.faults shelf.new) }
     ensures errors { IfErr result IsCatalogueError }
-    ensures surely { (free : ℕ) (fs : List ShelfFile) (text : List ℕ) → S.sure shelf.old (free + 1) → S.files shelf.old ≡ Some fs
-        → AnswersListing fs listing catalogue.now text → IsErrOf result Status.ReadFault → ⊥ }
+    ensures surely { (free : ℕ) (fs : List ShelfFile) → S.sure shelf.old (free + 1) → S.files shelf.old ≡ Some fs → IsSome (find_file fs catalogue.now)
+        → IsErrOf result Status.ReadFault → ⊥ }
 {
     let catalogue = match accepted_catalogue(alloc, shelf, catalogue) {
         Ok(catalogue) => catalogue,

@@ -1,39 +1,8 @@
 //! Numbers by their one spelling.
-ghost use Rattle.std.specs.Prelude.{◌≡◌, ◌↔◌, ◌<◌, ◌^◌, ℕ, ℤ, IsTrue, IfSome, IfNone, FitsSigned};
-ghost use Rattle.std.specs.Int.{w64};
-ghost use Rattle.std.specs.Fmt.{decimal, signed_decimal};
-ghost use Rattle.sdd_app.specs.Number.{number_of};
+ghost use Rattle.std.specs.Prelude.{◌≡◌, ◌↔◌, ◌<◌, ◌^◌, ℕ, IsTrue, IfSome, IfNone};
+ghost use Rattle.std.specs.Fmt.{decimal};
 
 use itoa::Buffer;
-
-fn is_spelling(word: &str, number: i64) -> bool
-    ensures { IsTrue result ↔ (word.now ≡ signed_decimal number) }
-{
-    let mut buffer = Buffer::new();
-    buffer.format(number) == word
-}
-
-fn read_int(word: &str) -> Option<i64>
-    ensures found { IfSome result (λ z. word.now ≡ signed_decimal z) }
-    ensures none { IfNone result ((z : ℤ) → FitsSigned w64 z → word.now ≡ signed_decimal z → ⊥) }
-    ensures exact { result ≡ number_of word.now }
-{
-    match word.parse::<i64>() {
-        Ok(number) if is_spelling(word, number) => Some(number),
-        _ => None,
-    }
-}
-
-/// The whole number that bytes spell: decimal, without a plus sign or leading zeros, and no `-0`.
-#[tactic(auto, using(crate::proofs::Numbers::number_of_other_bytes))]
-pub fn number_in(word: &[u8]) -> Option<i64>
-    ensures { result ≡ number_of word.now }
-{
-    match std::str::from_utf8(word) {
-        Ok(word) => read_int(word),
-        Err(_) => None,
-    }
-}
 
 fn is_count_spelling(word: &str, number: u32) -> bool
     ensures { IsTrue result ↔ (word.now ≡ decimal number) }

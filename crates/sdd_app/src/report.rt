@@ -1,45 +1,19 @@
 //! The text of a report, piece by piece.
 ghost use Rattle.std.specs.Prelude.{◌≡◌, ◌+◌, ◌^◌, ◌<◌, ◌∷◌, ◌++◌, [], List, length, OnOk, flat_map};
-ghost use Rattle.sdd_app.specs.Report.{escaped_byte, value_bytes, row_line, query_lines, queries_from, outcome_lines, reply_lines};
+ghost use Rattle.sdd_app.specs.Report.{value_bytes, row_line, query_lines, queries_from, outcome_lines, reply_lines};
 ghost use Rattle.std.specs.Fmt.{decimal, signed_decimal};
 
 use itoa::Buffer;
 use sdd_base::{Answers, Name, NoMemory, Reply, Row, RowList, Value};
-
-/// Adds bytes at the text's end.
-pub fn put(text: &mut Vec<u8>, piece: &[u8]) -> Result<(), NoMemory>
-    ensures { OnOk result (text.new.items ≡ text.old.items ++ piece.now) }
-{
-    text.extend_from_slice(piece)?;
-    Ok(())
-}
+use sdd_words::{put, put_number, put_text};
 
 fn put_value(text: &mut Vec<u8>, value: &Value) -> Result<(), NoMemory>
     ensures { OnOk result (text.new.items ≡ text.old.items ++ value_bytes value.now) }
 {
     match value {
-        Value::Int(number) => {
-            let mut buffer = Buffer::new();
-            put(text, buffer.format(*number).as_bytes())
-        }
-        Value::Text(content) => {
-            put(text, b"\"")?;
-            put_escaped(text, content.as_str().as_bytes())?;
-            put(text, b"\"")
-        }
+        Value::Int(number) => put_number(text, number),
+        Value::Text(content) => put_text(text, content.as_str().as_bytes()),
     }
-}
-
-fn put_escaped(text: &mut Vec<u8>, content: &[u8]) -> Result<(), NoMemory>
-    ensures { OnOk result (text.new.items ≡ text.old.items ++ flat_map escaped_byte content.now) }
-{
-    'bytes: for byte in content {
-        if *byte == b'"' || *byte == b'\\' {
-            put(text, b"\\")?;
-        }
-        put(text, &[*byte])?;
-    }
-    Ok(())
 }
 
 fn put_row(text: &mut Vec<u8>, row: &Row) -> Result<(), NoMemory>

@@ -2,6 +2,7 @@ ghost use Rattle.std.specs.Prelude.{◌≡◌};
 ghost use Rattle.sdd_app.specs.Status.{number_of_status};
 
 use sdd_catalog::CatFault;
+use sdd_script::WorkFault;
 
 /// How a call ended.
 #[derive(Clone, Copy, Debug, PartialEq, Eq)]
@@ -12,6 +13,8 @@ pub enum Status {
     Usage,
     /// The catalogue has a fault, which is the first one.
     BadCatalogue(CatFault),
+    /// The workload has a fault, which is the first one.
+    BadWorkload(WorkFault),
     /// A call of the shelf failed.
     ReadFault,
     /// A call of the sink for the text failed, which took a front of it.
@@ -30,6 +33,7 @@ impl Status {
             Status::Done => 0,
             Status::Usage => 2,
             Status::BadCatalogue(_) => 3,
+            Status::BadWorkload(_) => 4,
             Status::ReadFault => 6,
             Status::WriteFault => 7,
             Status::NoMemory => 8,

@@ -1,12 +1,13 @@
 //! The line on standard error. Writing it takes no memory.
 ghost use Rattle.std.specs.Prelude.{◌≡◌, ◌++◌, flat_map};
 ghost use Rattle.sdd_app.specs.Answer.{TakesOrFaults};
-ghost use Rattle.sdd_app.specs.Status.{part_word, number_word, rule_word, counted_word, counted_words, line_of, fault_line};
+ghost use Rattle.sdd_app.specs.Status.{part_word, number_word, rule_word, counted_word, counted_words, work_rule_word, many_word, many_words, line_of, fault_line, work_fault_line};
 
 use crate::status::Status;
 use itoa::Buffer;
 use sdd_base::{Sink, write_text};
 use sdd_catalog::{CatFault, CatRule, Counted, Part};
+use sdd_script::{Counts, WorkFault, WorkRule};
 
 const USAGE: &[u8] =
     b"usage: sdd1 check CAT | graph CAT | table CAT | run CAT WORK | plain CAT WORK | make SEED N\n";
@@ -109,6 +110,66 @@ fn tell_fault<E: Sink>(err: &mut E, fault: CatFault)
     );
 }
 
+fn word_for_work_rule(rule: WorkRule) -> &'static [u8]
+    ensures { result.now ≡ work_rule_word rule }
+{
+    match rule {
+        WorkRule::NotUtf8 => b"NotUtf8",
+        WorkRule::TooLong => b"TooLong",
+        WorkRule::BadLine => b"BadLine",
+        WorkRule::UnknownName => b"UnknownName",
+        WorkRule::WrongKind => b"WrongKind",
+        WorkRule::DuplicateTxn => b"DuplicateTxn",
+        WorkRule::SubmittedTwice => b"SubmittedTwice",
+        WorkRule::TooMany(_) => b"TooMany",
+        WorkRule::KeyChanged => b"KeyChanged",
+        WorkRule::BadNumber => b"BadNumber",
+        WorkRule::BadEvent => b"BadEvent",
+        WorkRule::NoEnd => b"NoEnd",
+    }
+}
+
+fn word_for_many(many: Counts) -> &'static [u8]
+    ensures { result.now ≡ many_word many }
+{
+    match many {
+        Counts::Row => b" row",
+        Counts::Txn => b" txn",
+        Counts::Statement => b" statement",
+        Counts::Part => b" part",
+        Counts::Cond => b" cond",
+        Counts::Column => b" column",
+        Counts::Event => b" event",
+    }
+}
+
+/// What there are too many of, where something was counted.
+fn word_for_work_count(rule: WorkRule) -> &'static [u8]
+    ensures { result.now ≡ many_words rule }
+{
+    match rule {
+        WorkRule::TooMany(many) => word_for_many(many),
+        _ => b"",
+    }
+}
+
+fn tell_work_fault<E: Sink>(err: &mut E, fault: WorkFault)
+    ensures { TakesOrFaults (E.taken err.old) (E.taken err.new) (E.faults err.old) (E.faults err.new) (work_fault_line fault) }
+{
+    let mut buffer = Buffer::new();
+    tell_pieces(
+        err,
+        &[
+            b"workload: line ",
+            buffer.format(fault.line).as_bytes(),
+            b": ",
+            word_for_work_rule(fault.rule),
+            word_for_work_count(fault.rule),
+            b"\n",
+        ],
+    );
+}
+
 /// Writes the status's line.
 pub fn tell<E: Sink>(err: &mut E, status: Status)
     ensures { TakesOrFaults (E.taken err.old) (E.taken err.new) (E.faults err.old) (E.faults err.new) (line_of status) }
@@ -117,6 +178,7 @@ pub fn tell<E: Sink>(err: &mut E, status: Status)
         Status::Done => tell_pieces(err, &[]),
         Status::Usage => tell_pieces(err, &[USAGE]),
         Status::BadCatalogue(fault) => tell_fault(err, fault),
+        Status::BadWorkload(fault) => tell_work_fault(err, fault),
         Status::ReadFault => tell_pieces(err, &[b"read fault\n"]),
         Status::WriteFault => tell_pieces(err, &[b"write fault\n"]),
         Status::NoMemory => tell_pieces(err, &[b"no memory\n"]),

@@ -1,12 +1,10 @@
 //! What `check`, `graph` and `table` print of the catalogues that are shipped as examples.
+use super::catalogues::{BANK, BRIDGE, JOIN, LATE_WRITE, MUTUAL_READS, REPLICATED, TWO_FRAGMENTS};
 use super::{file, words};
 use crate::{Status, run_sdd1};
 use sdd_base::{Files, SureShelf, SureSink};
 use std::alloc::Global;
 use std::test::Fail;
-
-const BRIDGE: &str =
-    "tms = 2\ndms = 1\n[[relation]]\nname = \"item\"\ncolumns = [{name = \"id\", kind = \"int\"}, {name = \"val\", kind = \"int\"}]\nkey = \"id\"\n[[fragment]]\nname = \"a\"\nrelation = \"item\"\nto = 9\ncopies = [1]\n[[fragment]]\nname = \"b\"\nrelation = \"item\"\nfrom = 10\ncopies = [1]\n[[class]]\nname = \"wr\"\ntm = 1\nwrites = [\"a\"]\n[[class]]\nname = \"rd\"\ntm = 2\nreads = [{fragment = \"a\", at = 1}]\n";
 
 const BRIDGE_TELLS: [&str; 3] = [
     "ok tms 2 dms 1 relations 1 fragments 2 classes 2\n",
@@ -14,17 +12,11 @@ const BRIDGE_TELLS: [&str; 3] = [
     "rd reads a at D1 writer wr P1 block -\n",
 ];
 
-const TWO_FRAGMENTS: &str =
-    "tms = 2\ndms = 2\n[[relation]]\nname = \"item\"\ncolumns = [{name = \"id\", kind = \"int\"}, {name = \"val\", kind = \"int\"}]\nkey = \"id\"\n[[fragment]]\nname = \"a\"\nrelation = \"item\"\nto = 9\ncopies = [1]\n[[fragment]]\nname = \"b\"\nrelation = \"item\"\nfrom = 10\ncopies = [2]\n[[class]]\nname = \"wr\"\ntm = 1\nwrites = [\"a\", \"b\"]\n[[class]]\nname = \"rd\"\ntm = 2\nreads = [{fragment = \"a\", at = 1}, {fragment = \"b\", at = 2}]\n";
-
 const TWO_FRAGMENTS_TELLS: [&str; 3] = [
     "ok tms 2 dms 2 relations 1 fragments 2 classes 2\n",
     "vertical wr block -\nvertical rd block -\ndiagonal rd wr a block 1\ndiagonal rd wr b block 1\n",
     "rd reads a at D1 writer wr P2 block 1\nrd reads b at D2 writer wr P2 block 1\n",
 ];
-
-const MUTUAL_READS: &str =
-    "tms = 2\ndms = 1\n[[relation]]\nname = \"item\"\ncolumns = [{name = \"id\", kind = \"int\"}, {name = \"val\", kind = \"int\"}]\nkey = \"id\"\n[[fragment]]\nname = \"a\"\nrelation = \"item\"\nto = 9\ncopies = [1]\n[[fragment]]\nname = \"b\"\nrelation = \"item\"\nfrom = 10\ncopies = [1]\n[[class]]\nname = \"p\"\ntm = 1\nreads = [{fragment = \"a\", at = 1}]\nwrites = [\"b\"]\n[[class]]\nname = \"q\"\ntm = 2\nreads = [{fragment = \"b\", at = 1}]\nwrites = [\"a\"]\n";
 
 const MUTUAL_READS_TELLS: [&str; 3] = [
     "ok tms 2 dms 1 relations 1 fragments 2 classes 2\n",
@@ -32,17 +24,11 @@ const MUTUAL_READS_TELLS: [&str; 3] = [
     "p reads a at D1 writer q P3 block 1\nq reads b at D1 writer p P3 block 1\n",
 ];
 
-const LATE_WRITE: &str =
-    "tms = 3\ndms = 1\n[[relation]]\nname = \"item\"\ncolumns = [{name = \"id\", kind = \"int\"}, {name = \"val\", kind = \"int\"}]\nkey = \"id\"\n[[fragment]]\nname = \"a\"\nrelation = \"item\"\ncopies = [1]\n[[class]]\nname = \"rd\"\ntm = 1\nreads = [{fragment = \"a\", at = 1}]\n[[class]]\nname = \"j\"\ntm = 2\nwrites = [\"a\"]\n[[class]]\nname = \"k\"\ntm = 3\nwrites = [\"a\"]\n";
-
 const LATE_WRITE_TELLS: [&str; 3] = [
     "ok tms 3 dms 1 relations 1 fragments 1 classes 3\n",
     "vertical rd block -\nvertical j block -\nvertical k block -\nhorizontal j k block 1\ndiagonal rd j a block 1\ndiagonal rd k a block 1\n",
     "rd reads a at D1 writer j P2 block 1\nrd reads a at D1 writer k P2 block 1\n",
 ];
-
-const REPLICATED: &str =
-    "tms = 2\ndms = 2\n[[relation]]\nname = \"item\"\ncolumns = [{name = \"id\", kind = \"int\"}, {name = \"val\", kind = \"int\"}]\nkey = \"id\"\n[[fragment]]\nname = \"a\"\nrelation = \"item\"\ncopies = [1, 2]\n[[class]]\nname = \"j\"\ntm = 1\nwrites = [\"a\"]\n[[class]]\nname = \"k\"\ntm = 2\nwrites = [\"a\"]\n";
 
 const REPLICATED_TELLS: [&str; 3] = [
     "ok tms 2 dms 2 relations 1 fragments 1 classes 2\n",
@@ -50,17 +36,11 @@ const REPLICATED_TELLS: [&str; 3] = [
     "",
 ];
 
-const JOIN: &str =
-    "tms = 1\ndms = 3\n[[relation]]\nname = \"r\"\ncolumns = [{name = \"id\", kind = \"int\"}, {name = \"a\", kind = \"int\"}]\nkey = \"id\"\n[[relation]]\nname = \"s\"\ncolumns = [{name = \"id\", kind = \"int\"}, {name = \"b\", kind = \"int\"}]\nkey = \"id\"\n[[relation]]\nname = \"t\"\ncolumns = [{name = \"id\", kind = \"int\"}, {name = \"c\", kind = \"int\"}]\nkey = \"id\"\n[[fragment]]\nname = \"r\"\nrelation = \"r\"\ncopies = [1]\n[[fragment]]\nname = \"s\"\nrelation = \"s\"\ncopies = [2]\n[[fragment]]\nname = \"t\"\nrelation = \"t\"\ncopies = [3]\n[[class]]\nname = \"jn\"\ntm = 1\nreads = [{fragment = \"r\", at = 1}, {fragment = \"s\", at = 2}, {fragment = \"t\", at = 3}]\n";
-
 const JOIN_TELLS: [&str; 3] = [
     "ok tms 1 dms 3 relations 3 fragments 3 classes 1\n",
     "vertical jn block -\n",
     "",
 ];
-
-const BANK: &str =
-    "tms = 3\ndms = 3\n[[relation]]\nname = \"account\"\ncolumns = [{name = \"id\", kind = \"int\"}, {name = \"owner\", kind = \"text\"}, {name = \"bal\", kind = \"int\"}]\nkey = \"id\"\n[[fragment]]\nname = \"east\"\nrelation = \"account\"\nto = 999\ncopies = [1, 3]\n[[fragment]]\nname = \"west\"\nrelation = \"account\"\nfrom = 1000\ncopies = [2, 3]\n[[class]]\nname = \"eastpay\"\ntm = 1\nreads = [{fragment = \"east\", at = 1}]\nwrites = [\"east\"]\n[[class]]\nname = \"westpay\"\ntm = 2\nreads = [{fragment = \"west\", at = 2}]\nwrites = [\"west\"]\n[[class]]\nname = \"book\"\ntm = 3\nreads = [{fragment = \"east\", at = 3}, {fragment = \"west\", at = 3}]\n[[class]]\nname = \"move\"\ntm = 3\nreads = [{fragment = \"east\", at = 1}, {fragment = \"west\", at = 2}]\nwrites = [\"east\", \"west\"]\n";
 
 const BANK_TELLS: [&str; 3] = [
     "ok tms 3 dms 3 relations 1 fragments 2 classes 4\n",

@@ -1,0 +1,89 @@
+-- What reading a file says of what is in it.
+use Rattle.std.proofs.Common.{◌≡◌, ℕ, ◌^◌, ◌<◌, ◌≤◌, List, length, Option, Some, None, Result, Ok, Err, refl, ap, sym, ◌∙◌, arith, inl, inr}
+use Rattle.std.proofs.lemmas.Bool.{cases_lt, lt-ltb}
+use Rattle.std.specs.Prelude.{IsSome, IfSome, IfOk, OnOk, IsErrOf, take, ◌+◌, nat_lt, true}
+use Rattle.std.specs.Option.{option_map}
+use Rattle.sdd_base.specs.Outside.{ReadsTo, find_file}
+use Rattle.sdd_base.specs.declared.files.ShelfFile.{ShelfFile}
+use Rattle.sdd_app.specs.declared.status.Status.{Status}
+use Rattle.sdd_catalog.specs.Catalogue.{Catalogue}
+use Rattle.sdd_catalog.specs.declared.fault.CatRule.TheVariants.{TooLong}
+use Rattle.sdd_catread.specs.Faults.{broken}
+use Rattle.sdd_catread.specs.Form.{top}
+use Rattle.sdd_catread.specs.Reading.{catalogue_in, parts_in}
+use Rattle.sdd_script.specs.Walk.{workload}
+use Rattle.sdd_script.specs.declared.fault.WorkRule.TheVariants as work_rules
+use Rattle.sdd_script.specs.declared.workload.Workload.{Workload}
+
+-- more than 1 MiB are too long
+pub too_long : (bytes : List ℕ) → 2 ^ 20 < length bytes → catalogue_in bytes ≡ Err (broken top TooLong)
+unfolding catalogue_in parts_in
+too_long bytes long =
+    let yes : nat_lt (2 ^ 20) (length bytes) ≡ true = lt-ltb (2 ^ 20) (length bytes) long in
+    rw yes refl
+
+-- an accepted file has at most 1 MiB
+pub accepted_small : (bytes : List ℕ) (cat : Catalogue) → catalogue_in bytes ≡ Ok cat → length bytes ≤ 2 ^ 20
+accepted_small bytes cat ok =
+    elim (cases_lt (2 ^ 20) (length bytes)) [
+      | inl past ↦ let bad = too_long bytes past in absurd cc
+      | inr within ↦ omega arith
+    ]
+
+-- what all files past a limit give alike, and what was read of one up to a byte past it
+
+named_past : {A : Type 0} (limit : ℕ) (give : List ℕ → A) (alike : (a b : List ℕ) → limit < length a → limit < length b → give a ≡ give b) (file : Option (List ℕ)) (read : List ℕ)
+    → IsSome file → IfSome file (λ bytes. (read ≡ take (limit + 1) bytes) × (limit < length bytes)) → limit < length read → option_map give file ≡ Some (give read)
+named_past limit give alike None read some p past = absurd cc
+named_past limit give alike (Some bytes) read some p past = ap (λ r. Some r) (alike bytes read p.1 past)
+
+-- what was read of a file gives what the file gives
+pub read_gives : {A : Type 0} (limit : ℕ) (give : List ℕ → A) → ((a b : List ℕ) → limit < length a → limit < length b → give a ≡ give b) → (file : Option (List ℕ)) (read : List ℕ)
+    → ReadsTo limit file read → option_map give file ≡ Some (give read)
+read_gives limit give alike file read r =
+    elim (cases_lt limit (length read)) [
+      | inl past ↦ named_past limit give alike file read r.found (r.past past) past
+      | inr within ↦ rw (r.whole (omega arith)) refl
+    ]
+
+-- catalogues past their limit are alike, and so are workloads
+pub long_catalogues : (a b : List ℕ) → 2 ^ 20 < length a → 2 ^ 20 < length b → catalogue_in a ≡ catalogue_in b
+long_catalogues a b la lb = too_long a la ∙ sym (too_long b lb)
+
+long_workload : (cat : Catalogue) (bytes : List ℕ) → 2 ^ 26 < length bytes → workload cat bytes ≡ Err (record { line = 0; rule = work_rules.TooLong })
+long_workload cat bytes long = let yes : nat_lt (2 ^ 26) (length bytes) ≡ true = lt-ltb (2 ^ 26) (length bytes) long in rw yes refl
+
+pub long_workloads : (cat : Catalogue) (a b : List ℕ) → 2 ^ 26 < length a → 2 ^ 26 < length b → workload cat a ≡ workload cat b
+long_workloads cat a b la lb = long_workload cat a la ∙ sym (long_workload cat b lb)
+
+-- an accepted workload has at most 64 MiB
+pub accepted_short : (cat : Catalogue) (bytes : List ℕ) (w : Workload) → workload cat bytes ≡ Ok w → length bytes ≤ 2 ^ 26
+accepted_short cat bytes w ok =
+    elim (cases_lt (2 ^ 26) (length bytes)) [
+      | inl past ↦ let bad = long_workload cat bytes past in absurd cc
+      | inr within ↦ omega arith
+    ]
+
+-- a file that gives something is there
+pub named_found : {A : Type 0} (give : List ℕ → A) (file : Option (List ℕ)) (reading : A) → option_map give file ≡ Some reading → IsSome file
+named_found give None reading e = absurd cc
+named_found give (Some bytes) reading e = refl
+
+-- what was accepted of the bytes is what the file gives
+pub accepted_gives : {A F : Type 0} (limit : ℕ) (give : List ℕ → Result A F) → ((a b : List ℕ) → limit < length a → limit < length b → give a ≡ give b)
+    → (r : Result A Status) (bytes : List ℕ) (told : Option (List ShelfFile)) (name : List ℕ) → IfOk r (λ x. give bytes ≡ Ok x)
+    → ((fs : List ShelfFile) → told ≡ Some fs → ReadsTo limit (find_file fs name) bytes) → IfOk r (λ x. (fs : List ShelfFile) → told ≡ Some fs → option_map give (find_file fs name) ≡ Some (Ok x))
+accepted_gives limit give alike (Ok x) bytes told name e reads = λ fs is. read_gives limit give alike (find_file fs name) bytes (reads fs is) ∙ ap (λ r. Some r) e
+accepted_gives limit give alike (Err s) bytes told name e reads = tt
+
+-- what follows from what each answer says
+pub on_ok_by : {T : Type 0} (r : Result T Status) (P : T → Type 0) (Q : Type 0) → IfOk r P → ((v : T) → P v → Q) → OnOk r Q
+on_ok_by (Ok v) P Q p f = f v p
+on_ok_by (Err s) P Q p f = tt
+
+one_error : {T : Type 0} (s t : Status) → IsErrOf {T = T} (Err s) t → s ≡ t
+one_error {T} s t e = cc
+
+-- an error is the same beside another value
+pub err_again : {T U : Type 0} (s t : Status) → IsErrOf {T = T} (Err s) t → IsErrOf {T = U} (Err s) t
+err_again {T} {U} s t e = ap (λ (x : Status). Err x) (one_error {T = T} s t e)

@@ -1,6 +1,0 @@
-use Rattle.std.proofs.Common.{sym}
-use Rattle.sdd_app.proofs.Shapes.{name_in_other_bytes}
-use Rattle.sdd_app.proofs.line.read_name.Goals as goal
-
-pub returns-in-Err : goal.returns-in-Err
-returns-in-Err c = sym (name_in_other_bytes c.args.word.now c.in-Err.ensures.cases.0)

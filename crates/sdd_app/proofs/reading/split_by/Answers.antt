@@ -1,7 +1,0 @@
-use Rattle.std.proofs.Common.{◌==◌, Ok, rules}
-use Rattle.std.proofs.lemmas.Iterator.Consumers.{map_from_collect}
-use Rattle.std.proofs.lemmas.Iterator.Splits.{YieldsList-from_slice_split}
-use Rattle.sdd_app.proofs.reading.split_by.Goals as goal
-
-pub returns : goal.returns
-returns c = map_from_collect {E = Unit {0}} (Ok c.in_ok-collect.field-0) c.in_ok-collect.ensures.ran (YieldsList-from_slice_split _ (λ b. b == c.args.separator) c.args.bytes.now c.split.ensures.rest c.split.ensures.done c.split.ensures.closure (λ x b q called. search rules))

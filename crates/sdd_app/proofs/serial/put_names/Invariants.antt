@@ -1,8 +1,0 @@
-use Rattle.std.proofs.Common.{◌≡◌, ◌++◌, take, map}
-use Rattle.sdd_app.specs.First.{names_of}
-use Rattle.sdd_app.specs.Report.{spaced}
-use Rattle.sdd_app.proofs.serial.put_names.Given as goal
-
--- the names of the transactions so far are written
-abbrev pub invariant-txns : goal.invariant-txns
-invariant-txns l = l.text.items ≡ l.fn.text.items ++ spaced (names_of (map (λ t. t.now) (take l.txn-index l.txns)))

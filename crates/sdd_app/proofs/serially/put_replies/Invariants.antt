@@ -1,0 +1,13 @@
+use Rattle.std.proofs.Common.{◌≡◌, ◌++◌, drop, map}
+use Rattle.std.specs.Prelude.{IsTrue}
+use Rattle.sdd_lang.specs.Database.{database_of}
+use Rattle.sdd_app.specs.Serially.{replies_of}
+use Rattle.sdd_app.proofs.serially.put_replies.Given as goal
+
+-- what is written, and the replies of the transactions that are left, are all replies
+abbrev pub invariant-txns : goal.invariant-txns
+invariant-txns l = record {
+  live : IsTrue l.plain.live;
+  written : l.text.items ++ replies_of l.catalogue l.plain.value (map (λ t. t.now) (drop l.txn-index l.txns))
+      ≡ l.fn.text.items ++ replies_of l.catalogue (database_of l.catalogue l.rows) (map (λ t. t.now) l.txns);
+}

@@ -1,0 +1,30 @@
+-- What is printed of the submitted transactions, run one after the other on one database.
+use Rattle.std.specs.Prelude.{ℕ, ◌-◌, List, map, filter_map, Option, None, slice_get}
+use Rattle.sdd_base.specs.declared.event.Event.{Event}
+use Rattle.sdd_base.specs.declared.event.Event.TheVariants.{Submit}
+use Rattle.sdd_catalog.specs.Catalogue.{Catalogue}
+use Rattle.sdd_lang.specs.Database.{Database, database_of}
+use Rattle.sdd_lang.specs.Serial.{serial}
+use Rattle.sdd_lang.specs.declared.transaction.Txn.{Txn}
+use Rattle.sdd_script.specs.declared.workload.Workload.{Workload}
+use Rattle.sdd_app.specs.Report.{report, replies}
+
+-- the transaction that an event submits
+abbrev pub submitted_by : List Txn → Event → Option Txn
+submitted_by txns (Submit number) = slice_get txns (number.0 - 1)
+submitted_by txns event = None
+
+-- in order of submission
+abbrev pub submitted : Workload → List Txn
+submitted w = filter_map (submitted_by w.txns) w.events
+
+abbrev pub names_of : List Txn → List (List ℕ)
+names_of txns = map (λ (t : Txn). t.name) txns
+
+-- the lines of the replies of transactions that run one after the other on a database
+abbrev pub replies_of : Catalogue → Database → List Txn → List ℕ
+replies_of cat db txns = replies (names_of txns) (serial cat db txns).0
+
+-- the order, and the replies on a database that began with the workload's rows
+abbrev pub serial_text : Catalogue → Workload → List ℕ
+serial_text cat w = report (names_of (submitted w)) (serial cat (database_of cat w.rows) (submitted w)).0

@@ -1,0 +1,167 @@
+//! Which catalogues and workloads the commands take today that run a workload.
+ghost use Rattle.std.specs.Prelude.{◌≡◌, ◌↔◌, ◌||◌, ◌∷◌, [], map, IsTrue};
+ghost use Rattle.std.specs.List.{list_all};
+ghost use Rattle.sdd_catalog.specs.declared.resolved.Column as shown;
+ghost use Rattle.sdd_catalog.specs.declared.parts.Kind.TheVariants.{Int};
+ghost use Rattle.sdd_base.specs.Words.{is_empty};
+ghost use Rattle.sdd_lang.specs.declared.transaction.Txn as transactions;
+ghost use Rattle.sdd_app.specs.Reach.{IsFirstCatalogue, IsPairs, IsWhole, IsOwner, is_first_workload, is_simple, are_settled, TakesCatalogue, TakesWorkload};
+
+use sdd_base::{ClassNo, Event, FragNo, RelNo};
+use sdd_catalog::{Catalogue, Class, Column, Fragment, Kind, Relation};
+use sdd_lang::{Stmt, Txn};
+use sdd_script::Workload;
+
+/// How far a command goes.
+#[derive(Clone, Copy)]
+pub enum Reach {
+    /// Everything, on one plain database.
+    Plain,
+    /// One class at one module: what the distributed system carries out today.
+    Run,
+}
+
+impl Reach {
+    /// Whether the command takes the catalogue.
+    pub fn takes_catalogue(self, catalogue: &Catalogue) -> bool
+        ensures { IsTrue result ↔ TakesCatalogue self catalogue.now }
+    {
+        match self {
+            Reach::Plain => true,
+            Reach::Run => is_first_catalogue(catalogue),
+        }
+    }
+
+    /// Whether the command takes the workload.
+    pub fn takes_workload(self, work: &Workload) -> bool
+        ensures { IsTrue result ↔ TakesWorkload self work.now }
+    {
+        match self {
+            Reach::Plain => true,
+            Reach::Run => is_first_workload(work),
+        }
+    }
+}
+
+#[tactic(auto, using(crate::proofs::Reaches::first_catalogue))]
+fn is_first_catalogue(catalogue: &Catalogue) -> bool
+    ensures { IsTrue result ↔ IsFirstCatalogue catalogue.now }
+{
+    if catalogue.relations() != 1 || catalogue.fragments() != 1 || catalogue.classes() != 1 {
+        return false;
+    }
+    catalogue.tms() == 1
+        && catalogue.dms() == 1
+        && is_pairs(catalogue.relation(RelNo(1)))
+        && is_whole(catalogue.fragment(FragNo(1)))
+        && is_owner(catalogue.class(ClassNo(1)))
+}
+
+fn are_two_numbers(columns: &[Column]) -> bool
+    ensures { IsTrue result ↔ (map (λ (c : shown.Column). c.kind) columns.now ≡ Int ∷ Int ∷ []) }
+{
+    match columns {
+        [first, second] => first.kind == Kind::Int && second.kind == Kind::Int,
+        _ => false,
+    }
+}
+
+fn is_pairs(relation: &Relation) -> bool
+    ensures { IsTrue result ↔ IsPairs relation.now }
+{
+    relation.key == 1 && are_two_numbers(relation.columns.as_slice())
+}
+
+/// Whether the numbers are the number 1 alone.
+fn is_one(numbers: &[u32]) -> bool
+    ensures { IsTrue result ↔ (numbers.now ≡ 1 ∷ []) }
+{
+    match numbers {
+        [number] => *number == 1,
+        _ => false,
+    }
+}
+
+fn is_whole(fragment: &Fragment) -> bool
+    ensures { IsTrue result ↔ IsWhole fragment.now }
+{
+    fragment.rel == 1
+        && fragment.least == i64::MIN
+        && fragment.greatest == i64::MAX
+        && is_one(fragment.copies.as_slice())
+}
+
+/// Whether the reads are that of the first fragment at the first module alone.
+fn is_one_read(reads: &[(u32, u32)]) -> bool
+    ensures { IsTrue result ↔ (reads.now ≡ (1, 1) ∷ []) }
+{
+    match reads {
+        [read] => read.0 == 1 && read.1 == 1,
+        _ => false,
+    }
+}
+
+fn is_owner(class: &Class) -> bool
+    ensures { IsTrue result ↔ IsOwner class.now }
+{
+    class.tm == 1 && is_one_read(class.reads.as_slice()) && is_one(class.writes.as_slice())
+}
+
+fn is_simple(statement: &Stmt) -> bool
+    ensures { result ≡ is_simple statement.now }
+{
+    match statement {
+        Stmt::Put { .. } => true,
+        Stmt::Query { rels, conds, .. } => {
+            rels.as_slice().len() == 1 && conds.as_slice().is_empty()
+        }
+        _ => false,
+    }
+}
+
+fn is_first_txn(txn: &Txn) -> bool
+    ensures { result ≡ list_all is_simple txn.now.statements }
+{
+    txn.statements
+        .as_slice()
+        .iter()
+        .all(|statement| is_simple(statement))
+}
+
+/// Whether the events are submissions, with one settle behind them.
+fn are_settled(events: &[Event]) -> bool
+    ensures { result ≡ are_settled events.now }
+{
+    'events: for (before, event) in events.iter().enumerate() {
+        match event {
+            Event::Submit(_) => {}
+            Event::Settle => return before + 1 == events.len(),
+            _ => return false,
+        }
+    }
+    false
+}
+
+fn are_first_txns(txns: &[Txn]) -> bool
+    ensures { result ≡ list_all (λ (t : transactions.Txn). list_all is_simple t.statements) txns.now }
+{
+    txns.iter().all(|txn| is_first_txn(txn))
+}
+
+fn are_first_events(events: &[Event]) -> bool
+    ensures { result ≡ (is_empty events.now || are_settled events.now) }
+{
+    events.is_empty() || are_settled(events)
+}
+
+fn is_first_workload(work: &Workload) -> bool
+    ensures { result ≡ is_first_workload work.now }
+{
+    if !work.rows.as_slice().is_empty() {
+        return false;
+    }
+    if !are_first_txns(work.txns.as_slice()) {
+        return false;
+    }
+    are_first_events(work.events.as_slice())
+}
