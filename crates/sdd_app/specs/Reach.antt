@@ -1,7 +1,8 @@
 -- Which catalogues and workloads the commands take today that run a workload.
-use Rattle.std.specs.Prelude.{◌^◌, ◌-◌, ◌≡◌, pos, negsuc, IsTrue, Bool, true, false, ◌&&◌, ◌||◌, List, [], ◌∷◌, map, length}
+use Rattle.std.specs.Prelude.{◌^◌, ◌-◌, ◌≡◌, refl, pos, negsuc, IsTrue, Bool, true, false, ◌&&◌, ◌||◌, List, [], ◌∷◌, map, length}
 use Rattle.std.specs.List.{list_all}
 use Rattle.sdd_base.specs.Words.{is_empty}
+use Rattle.sdd_base.specs.declared.number.TxnNo.{TxnNo}
 use Rattle.sdd_base.specs.declared.event.Event.{Event}
 use Rattle.sdd_base.specs.declared.event.Event.TheVariants.{Submit, Settle}
 use Rattle.sdd_catalog.specs.Catalogue.{Catalogue, relation_at, fragment_at, class_at}
@@ -52,6 +53,13 @@ are_settled [] = false
 are_settled (Submit txn ∷ rest) = are_settled rest
 are_settled (Settle ∷ rest) = is_empty rest
 are_settled (_ ∷ rest) = false
+
+-- worked: behind the settle nothing may stand
+pub settled : (t u : TxnNo) → are_settled (Submit t ∷ Submit u ∷ Settle ∷ []) ≡ true
+settled t u = refl
+
+pub settled_too_soon : (t u : TxnNo) → are_settled (Submit t ∷ Settle ∷ Submit u ∷ []) ≡ false
+settled_too_soon t u = refl
 
 -- no initial rows, simple statements, and no events or submissions with a settle behind them
 abbrev pub is_first_workload : Workload → Bool

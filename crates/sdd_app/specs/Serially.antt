@@ -1,7 +1,7 @@
 -- What is printed of the submitted transactions, run one after the other on one database.
-use Rattle.std.specs.Prelude.{ℕ, ◌-◌, List, map, filter_map, Option, None, slice_get}
+use Rattle.std.specs.Prelude.{ℕ, ◌-◌, ◌≡◌, refl, List, [], ◌∷◌, map, filter_map, Option, None, slice_get}
 use Rattle.sdd_base.specs.declared.event.Event.{Event}
-use Rattle.sdd_base.specs.declared.event.Event.TheVariants.{Submit}
+use Rattle.sdd_base.specs.declared.event.Event.TheVariants.{Submit, Settle}
 use Rattle.sdd_catalog.specs.Catalogue.{Catalogue}
 use Rattle.sdd_lang.specs.Database.{Database, database_of}
 use Rattle.sdd_lang.specs.Serial.{serial}
@@ -17,6 +17,10 @@ submitted_by txns event = None
 -- in order of submission
 abbrev pub submitted : Workload → List Txn
 submitted w = filter_map (submitted_by w.txns) w.events
+
+-- worked: the second is submitted before the first, and the third isn't
+pub second_first : (a b c : Txn) → submitted (record { rows = []; txns = a ∷ b ∷ c ∷ []; events = Submit (record { 0 = 2 }) ∷ Settle ∷ Submit (record { 0 = 1 }) ∷ [] }) ≡ b ∷ a ∷ []
+second_first a b c = refl
 
 abbrev pub names_of : List Txn → List (List ℕ)
 names_of txns = map (λ (t : Txn). t.name) txns
