@@ -7,7 +7,7 @@ use sdd_catalog::{
 use std::alloc::Global;
 use std::test::Fail;
 
-fn name(alloc: Global, text: &str) -> Result<Name, Fail> {
+pub(crate) fn name(alloc: Global, text: &str) -> Result<Name, Fail> {
     Ok(Name::new(alloc, text)?.ok_or("no name")?)
 }
 
@@ -62,7 +62,7 @@ fn class(alloc: Global, called: &str, reads: &[&str], writes: &[&str]) -> Result
 
 /// Keys to 9 in a, and from 10 on in b. The first class reads a and writes b, the second reads both
 /// and writes b.
-fn halves(alloc: Global) -> Result<Catalogue, Fail> {
+pub(crate) fn halves(alloc: Global) -> Result<Catalogue, Fail> {
     let mut fragments = Vec::new(alloc);
     fragments.push(fragment(alloc, "a", i64::MIN, 9)?)?;
     fragments.push(fragment(alloc, "b", 10, i64::MAX)?)?;
@@ -163,5 +163,23 @@ fn keys_decide_what_is_written(rt: HostRuntime) -> Result<(), Fail> {
     assert!(rt; tells(alloc, &cat, &high, &[], &[2], 1)?);
     let low = put(alloc, 9)?;
     assert!(rt; tells(alloc, &cat, &low, &[], &[1], 0)?);
+    Ok(())
+}
+
+#[test]
+fn uses_are_numbered_from_1(rt: HostRuntime) -> Result<(), Fail> {
+    let alloc = rt.alloc();
+    let cat = halves(alloc)?;
+    let low = query(alloc, (Op::Le, 9), (Op::Ne, 3))?;
+    if !fits(&cat, &low) {
+        return Err("doesn't fit")?;
+    }
+    let uses = uses(alloc, &cat, &low)?;
+    assert!(rt;
+        uses.as_slice()
+            .iter()
+            .map(|one| one.number)
+            .eq([1].iter().copied())
+    );
     Ok(())
 }

@@ -1,3 +1,4 @@
+pub mod AddedNames
 pub mod AssignLaws
 pub mod ConditionLaws
 pub mod Each
@@ -16,6 +17,7 @@ pub mod ReadingLaws
 pub mod RefLaws
 pub mod RowLaws
 pub mod SoFar
+pub mod SoundEvents
 pub mod SoundStates
 pub mod SpellingLaws
 pub mod StepLaws

@@ -50,7 +50,8 @@ use Rattle.sdd_script.proofs.UpdateLaws.{update_takes, delete_takes}
 use Rattle.sdd_script.proofs.EventLaws.{place_takes, resend_takes, tick_takes, settle_takes}
 use Rattle.sdd_script.proofs.LineLaws.{line_takes, words_take, keyword_bytes}
 use Rattle.sdd_script.proofs.SoFar.{lines_at, so_far, lines_at_end}
-use Rattle.sdd_script.proofs.SoundStates.{Sound, Leads, IsEvent, names_of, open_name, no_open, named_takes, row_leads, txn_leads, statement_leads, done_leads, event_leads, end_leads}
+use Rattle.sdd_script.proofs.SoundEvents.{IsEvent, no_open, event_leads, end_leads}
+use Rattle.sdd_script.proofs.SoundStates.{Sound, Leads, names_of, open_name, named_takes, row_leads, txn_leads, statement_leads, done_leads}
 
 -- ---- events
 

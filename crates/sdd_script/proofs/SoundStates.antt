@@ -1,15 +1,14 @@
 -- What holds in every state, and that each line keeps it and adds itself to the lines before.
 use Rattle.std.proofs.Common.{◌≡◌, ℕ, ◌+◌, ◌<◌, ◌≤◌, List, [], ◌∷◌, ◌++◌, length, map, Bool, true, false, cond, ◌&&◌, Option, Some, None, Result, Ok, refl, sym, ap, subst, ◌∙◌, arith, append-nil}
-use Rattle.std.specs.Prelude.{codes, not, nat_lt, is_some, ◌==◌, sum_by}
+use Rattle.std.specs.Prelude.{codes, not, nat_lt, is_some, sum_by}
 use Rattle.std.specs.Str.{bytes_eq}
 use Rattle.std.specs.List.{All, position, filter_map}
 use Rattle.std.proofs.lemmas.Bool.{ltb-true}
 use Rattle.std.proofs.lemmas.List.{map-append, length-append}
-use Rattle.std.proofs.lemmas.List.Elements.{All-append, All-from_recursion, filter_map-append}
+use Rattle.std.proofs.lemmas.List.Elements.{All-append, All-from_recursion}
 use Rattle.std.proofs.lemmas.List.Sums.{sum_by-append}
 use Rattle.sdd_base.specs.Name.{IsName, is_name}
 use Rattle.sdd_base.specs.declared.event.Event.{Event}
-use Rattle.sdd_base.specs.declared.event.Event.TheVariants.{Submit, Deliver, Lose, Repeat, Resend, Tick, Settle}
 use Rattle.sdd_base.specs.declared.number.RelNo.{RelNo}
 use Rattle.sdd_base.specs.declared.number.TmNo.{TmNo}
 use Rattle.sdd_base.specs.declared.number.TxnNo.{TxnNo}
@@ -17,7 +16,6 @@ use Rattle.sdd_base.specs.declared.site.Site.TheVariants.{T}
 use Rattle.sdd_base.specs.declared.value.Value.{Value}
 use Rattle.sdd_catalog.specs.Catalogue.{Catalogue}
 use Rattle.sdd_catalog.specs.Rules.{repeats}
-use Rattle.sdd_catalog.proofs.NameLemmas.{list_any-map}
 use Rattle.sdd_lang.specs.Fits.{IsFrom1To, FitsStatement}
 use Rattle.sdd_lang.specs.declared.statement.Stmt.{Stmt}
 use Rattle.sdd_lang.specs.declared.statement.Stmt.TheVariants as statements
@@ -28,15 +26,15 @@ use Rattle.sdd_words.specs.Names.{name_in}
 use Rattle.sdd_words.specs.Steps.{◌>>=◌, must, known}
 use Rattle.sdd_words.specs.declared.word.Word.{Word}
 use Rattle.sdd_words.specs.declared.word.Word.TheVariants.{Plain, Quoted}
-use Rattle.sdd_script.specs.LineRules.{most_rows, most_txns, most_events, row_rules, name_of, opened, txn_rules, statement_limits, one_more_row, written_with, with_statement, statement_rules, closed, done_rules, is_submitted, with_submitted, with_event, event_rules, end_rules}
+use Rattle.sdd_script.specs.LineRules.{most_rows, most_txns, most_events, row_rules, name_of, opened, txn_rules, statement_limits, one_more_row, written_with, with_statement, statement_rules, closed, done_rules}
 use Rattle.sdd_script.specs.Occurrences.{tm_of}
-use Rattle.sdd_script.specs.Places.{takes_rows, takes_txns, takes_statements, takes_events}
-use Rattle.sdd_script.specs.Spelling.{start_words, header_words, done_words, event_words, end_words, site_word}
+use Rattle.sdd_script.specs.Places.{takes_rows, takes_txns, takes_statements}
+use Rattle.sdd_script.specs.Spelling.{start_words, header_words, done_words, site_word}
 use Rattle.sdd_script.specs.Valid.{IsValue, HoldsValues, IsValidRow, IsValidTxn, IsValidEvent, is_put, rows_put_by, submitted_by, AreDistinct}
 use Rattle.sdd_script.specs.Values.{row_of}
 use Rattle.sdd_script.specs.declared.fault.Counts.TheVariants as counts
 use Rattle.sdd_script.specs.declared.fault.WorkRule.{WorkRule}
-use Rattle.sdd_script.specs.declared.fault.WorkRule.TheVariants.{BadLine, UnknownName, DuplicateTxn, SubmittedTwice, TooMany}
+use Rattle.sdd_script.specs.declared.fault.WorkRule.TheVariants.{BadLine, UnknownName, DuplicateTxn, TooMany}
 use Rattle.sdd_script.specs.declared.place.Header.{Header}
 use Rattle.sdd_script.specs.declared.place.Place.{Place}
 use Rattle.sdd_script.specs.declared.place.Place.TheVariants as places
@@ -46,8 +44,8 @@ use Rattle.sdd_script.proofs.WordCuts.{NonePasses}
 use Rattle.sdd_script.proofs.RowLaws.{row_takes}
 use Rattle.sdd_script.proofs.QueryLaws.{IsStatement, limits_before}
 use Rattle.sdd_script.proofs.EventLaws.{tm_takes}
-use Rattle.sdd_script.proofs.NamePlaces.{none_any, none_found, repeats_not, distinct_more}
-use Rattle.sdd_script.proofs.SoFar.{txn_with, so_far, InOrder, row_more, header_more, statement_more, done_more, event_more, end_more}
+use Rattle.sdd_script.proofs.NamePlaces.{none_found, repeats_not}
+use Rattle.sdd_script.proofs.SoFar.{txn_with, so_far, InOrder, row_more, header_more, statement_more, done_more}
 
 -- a statement puts one row, or none
 abbrev pub rows_put : Stmt → ℕ
@@ -90,10 +88,10 @@ pub record Leads (cat : Catalogue) (st to : State) (words : List Word) : Type 0 
 one : {A : Type 0} (P : A → Type 0) (x : A) → P x → All P (x ∷ [])
 one P x h = All-from_recursion P (x ∷ []) (h, tt)
 
-all_more : {A : Type 0} (P : A → Type 0) (xs : List A) (x : A) → All P xs → P x → All P (xs ++ x ∷ [])
+pub all_more : {A : Type 0} (P : A → Type 0) (xs : List A) (x : A) → All P xs → P x → All P (xs ++ x ∷ [])
 all_more P xs x h k = All-append P xs (x ∷ []) h (one P x k)
 
-one_longer : {A : Type 0} (xs : List A) (x : A) → length (xs ++ x ∷ []) ≡ length xs + 1
+pub one_longer : {A : Type 0} (xs : List A) (x : A) → length (xs ++ x ∷ []) ≡ length xs + 1
 one_longer xs x = length-append xs (x ∷ [])
 
 -- ---- a row
@@ -327,119 +325,3 @@ closed_leads cat st to places.Ended s e = absurd cc
 pub done_leads : (cat : Catalogue) (st to : State) (words : List Word) → Sound cat st → done_rules st words ≡ Ok to → Leads cat st to (Plain (codes "done") ∷ words)
 done_leads cat st to [] s e = closed_leads cat st to st.place s e
 done_leads cat st to (w ∷ words) s e = absurd cc
-
--- ---- an event
-
-pub record IsEvent (cat : Catalogue) (st : State) (key : List ℕ) (words : List Word) (e : Event) : Type 0 where
-  pub spelled : Plain key ∷ words ≡ event_words st.txns e
-  pub valid : IsValidEvent cat (length st.txns) e
-
-abbrev with_occurrence : State → Event → State
-with_occurrence st e = record st { place = places.Events; events = st.events ++ e ∷ []; submitted = with_submitted st.submitted e }
-
-pub no_open : (place : Place) → takes_events place ≡ true → open_name place ≡ []
-no_open places.Rows t = refl
-no_open places.Between t = refl
-no_open places.Events t = refl
-no_open (places.Inside h) t = absurd cc
-no_open places.Ended t = absurd cc
-
-pub no_statements : (place : Place) (txns : List Txn) (ss : List Stmt) (events : List Event) → takes_events place ≡ true → InOrder place txns ss events → ss ≡ []
-no_statements places.Rows txns ss events t o = o.1
-no_statements places.Between txns ss events t o = o.0
-no_statements places.Events txns ss events t o = o
-no_statements (places.Inside h) txns ss events t o = absurd cc
-no_statements places.Ended txns ss events t o = absurd cc
-
-abbrev numbers : List TxnNo → List ℕ
-numbers txns = map (λ (t : TxnNo). t.0) txns
-
-submitted_more : (submitted : List TxnNo) (events : List Event) (e : Event) → numbers submitted ≡ filter_map submitted_by events → numbers (with_submitted submitted e) ≡ filter_map submitted_by (events ++ e ∷ [])
-submitted_more submitted events (Submit txn) h = map-append (λ (t : TxnNo). t.0) submitted (txn ∷ []) ∙ ap (λ (l : List ℕ). l ++ txn.0 ∷ []) h ∙ sym (filter_map-append submitted_by events (Submit txn ∷ []))
-submitted_more submitted events (Deliver from to place) h = h ∙ sym (append-nil (filter_map submitted_by events)) ∙ sym (filter_map-append submitted_by events (Deliver from to place ∷ []))
-submitted_more submitted events (Lose from to place) h = h ∙ sym (append-nil (filter_map submitted_by events)) ∙ sym (filter_map-append submitted_by events (Lose from to place ∷ []))
-submitted_more submitted events (Repeat from to place) h = h ∙ sym (append-nil (filter_map submitted_by events)) ∙ sym (filter_map-append submitted_by events (Repeat from to place ∷ []))
-submitted_more submitted events (Resend from to) h = h ∙ sym (append-nil (filter_map submitted_by events)) ∙ sym (filter_map-append submitted_by events (Resend from to ∷ []))
-submitted_more submitted events (Tick tm n) h = h ∙ sym (append-nil (filter_map submitted_by events)) ∙ sym (filter_map-append submitted_by events (Tick tm n ∷ []))
-submitted_more submitted events Settle h = h ∙ sym (append-nil (filter_map submitted_by events)) ∙ sym (filter_map-append submitted_by events (Settle ∷ []))
-
-same_distinct : (ns ms : List ℕ) → AreDistinct ns → ns ≡ ms → AreDistinct ms
-same_distinct ns ms h e = subst AreDistinct e h
-
-once_more : (submitted : List TxnNo) (events : List Event) (e : Event) → numbers submitted ≡ filter_map submitted_by events → AreDistinct (filter_map submitted_by events) → is_submitted submitted e ≡ false → AreDistinct (filter_map submitted_by (events ++ e ∷ []))
-once_more submitted events (Submit txn) h d other =
-    let none : NonePasses (λ (n : ℕ). n == txn.0) (filter_map submitted_by events) = subst (NonePasses (λ (n : ℕ). n == txn.0)) h (none_any (λ (n : ℕ). n == txn.0) (numbers submitted) (list_any-map (λ (n : ℕ). n == txn.0) (λ (t : TxnNo). t.0) submitted ∙ other)) in
-    same_distinct (filter_map submitted_by events ++ txn.0 ∷ []) (filter_map submitted_by (events ++ Submit txn ∷ [])) (distinct_more (filter_map submitted_by events) txn.0 d none) (sym (filter_map-append submitted_by events (Submit txn ∷ [])))
-once_more submitted events (Deliver from to place) h d other = same_distinct (filter_map submitted_by events) (filter_map submitted_by (events ++ Deliver from to place ∷ [])) d (sym (append-nil (filter_map submitted_by events)) ∙ sym (filter_map-append submitted_by events (Deliver from to place ∷ [])))
-once_more submitted events (Lose from to place) h d other = same_distinct (filter_map submitted_by events) (filter_map submitted_by (events ++ Lose from to place ∷ [])) d (sym (append-nil (filter_map submitted_by events)) ∙ sym (filter_map-append submitted_by events (Lose from to place ∷ [])))
-once_more submitted events (Repeat from to place) h d other = same_distinct (filter_map submitted_by events) (filter_map submitted_by (events ++ Repeat from to place ∷ [])) d (sym (append-nil (filter_map submitted_by events)) ∙ sym (filter_map-append submitted_by events (Repeat from to place ∷ [])))
-once_more submitted events (Resend from to) h d other = same_distinct (filter_map submitted_by events) (filter_map submitted_by (events ++ Resend from to ∷ [])) d (sym (append-nil (filter_map submitted_by events)) ∙ sym (filter_map-append submitted_by events (Resend from to ∷ [])))
-once_more submitted events (Tick tm n) h d other = same_distinct (filter_map submitted_by events) (filter_map submitted_by (events ++ Tick tm n ∷ [])) d (sym (append-nil (filter_map submitted_by events)) ∙ sym (filter_map-append submitted_by events (Tick tm n ∷ [])))
-once_more submitted events Settle h d other = same_distinct (filter_map submitted_by events) (filter_map submitted_by (events ++ Settle ∷ [])) d (sym (append-nil (filter_map submitted_by events)) ∙ sym (filter_map-append submitted_by events (Settle ∷ [])))
-
-event_sound : (cat : Catalogue) (st : State) (e : Event) → Sound cat st → takes_events st.place ≡ true → IsValidEvent cat (length st.txns) e → is_submitted st.submitted e ≡ false → length st.events < most_events → Sound cat (with_occurrence st e)
-event_sound cat st e s t valid other room = record {
-  rows = s.rows;
-  txns = s.txns;
-  statements = s.statements;
-  values = s.values;
-  few_statements = s.few_statements;
-  header = tt;
-  names = s.names ∙ ap (λ (l : List (List ℕ)). names_of st.txns ++ l) (no_open st.place t);
-  differ = s.differ;
-  events = all_more (IsValidEvent cat (length st.txns)) st.events e s.events valid;
-  submitted = submitted_more st.submitted st.events e s.submitted;
-  once = once_more st.submitted st.events e s.submitted s.once other;
-  written = s.written;
-  few_rows = s.few_rows;
-  few_txns = s.few_txns;
-  few_events = omega (arith, room, one_longer st.events e);
-  order = no_statements st.place st.txns st.statements st.events t s.order;
-}
-
-pub event_leads : (cat : Catalogue) (st to : State) (key : List ℕ) (words : List Word) (reading : Result Event WorkRule) → Sound cat st → (takes_events st.place ≡ true → (e : Event) → reading ≡ Ok e → IsEvent cat st key words e) → event_rules st reading ≡ Ok to → Leads cat st to (Plain key ∷ words)
-event_leads cat st to key words reading s read h =
-    let a = must_then BadLine (takes_events st.place) (λ _. reading >>= λ event. with_event st event) to h in
-    let b = bind_ok reading (λ event. with_event st event) to a.1 in
-    let e : Event = b.0 in
-    let c = must_then SubmittedTwice (not (is_submitted st.submitted e)) (λ _. must (TooMany counts.Event) (nat_lt (length st.events) most_events) >>= λ _. Ok (with_occurrence st e)) to b.2 in
-    let d = must_then (TooMany counts.Event) (nat_lt (length st.events) most_events) (λ _. Ok (with_occurrence st e)) to c.1 in
-    let r = read a.0 e b.1 in
-    subst (λ (x : State). Leads cat st x (Plain key ∷ words)) (ok_is (with_occurrence st e) to d.1) (record {
-      sound = event_sound cat st e s a.0 r.valid (not_true (is_submitted st.submitted e) c.0) (ltb-true (length st.events) most_events d.0);
-      lines = event_more cat st.rows st.txns st.place st.statements st.events e a.0 ∙ ap (λ (l : List Word). so_far cat st ++ l ∷ []) (sym r.spelled);
-    })
-
--- ---- the end
-
-abbrev with_end : State → State
-with_end st = record st { place = places.Ended }
-
-end_sound : (cat : Catalogue) (st : State) → Sound cat st → takes_events st.place ≡ true → Sound cat (with_end st)
-end_sound cat st s t = record {
-  rows = s.rows;
-  txns = s.txns;
-  statements = s.statements;
-  values = s.values;
-  few_statements = s.few_statements;
-  header = tt;
-  names = s.names ∙ ap (λ (l : List (List ℕ)). names_of st.txns ++ l) (no_open st.place t);
-  differ = s.differ;
-  events = s.events;
-  submitted = s.submitted;
-  once = s.once;
-  written = s.written;
-  few_rows = s.few_rows;
-  few_txns = s.few_txns;
-  few_events = s.few_events;
-  order = no_statements st.place st.txns st.statements st.events t s.order;
-}
-
-pub end_leads : (cat : Catalogue) (st to : State) (words : List Word) → Sound cat st → end_rules st words ≡ Ok to → Leads cat st to (Plain (codes "end") ∷ words)
-end_leads cat st to [] s e =
-    let a = must_then BadLine (takes_events st.place) (λ _. Ok (with_end st)) to e in
-    subst (λ (x : State). Leads cat st x end_words) (ok_is (with_end st) to a.1) (record {
-      sound = end_sound cat st s a.0;
-      lines = end_more cat st.rows st.txns st.place st.statements st.events a.0;
-    })
-end_leads cat st to (w ∷ words) s e = absurd cc

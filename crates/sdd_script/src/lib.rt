@@ -8,6 +8,7 @@
 #![tactic(auto)]
 
 mod columns;
+mod deletes;
 mod fault;
 mod found;
 mod grown;
@@ -18,9 +19,11 @@ mod names;
 mod naming;
 mod occurrences;
 mod place;
+mod queries;
 mod reader;
 mod state;
 mod statements;
+mod updates;
 mod values;
 mod walk;
 mod workload;

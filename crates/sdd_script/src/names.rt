@@ -1,4 +1,4 @@
-ghost use Rattle.std.specs.Prelude.{◌≡◌, ◌<◌, ◌++◌, ◌∷◌, [], OnOk, IfSome, is_some, length};
+ghost use Rattle.std.specs.Prelude.{◌≡◌, ◌<◌, ◌++◌, ◌∷◌, [], IfOk, IfSome, is_some, not, length, if◌then◌else◌};
 ghost use Rattle.std.specs.List.{position};
 ghost use Rattle.std.specs.Str.{bytes_eq};
 ghost use Rattle.sdd_script.specs.Occurrences.{number_named};
@@ -66,14 +66,14 @@ impl Names {
         }
     }
 
-    /// Puts a name that isn't there yet at the end.
-    pub fn add(&mut self, alloc: Global, name: &str) -> Result<(), NoMemory>
+    /// Puts a name at the end where it isn't there yet, and tells whether it did so.
+    pub fn add(&mut self, alloc: Global, name: &str) -> Result<bool, NoMemory>
         requires { length self.old < 2048 }
-        ensures { OnOk result (self.new ≡ self.old ++ name.now ∷ []) }
+        ensures fresh { IfOk result (λ fresh. fresh ≡ not (is_some (position (bytes_eq name.now) self.old))) }
+        ensures names { IfOk result (λ fresh. self.new ≡ (if fresh then self.old ++ name.now ∷ [] else self.old)) }
     {
         match self.set.insert(name.to_string(alloc)?) {
-            Ok(true) => Ok(()),
-            Ok(false) => Err(NoMemory),
+            Ok(fresh) => Ok(fresh),
             Err(_) => Err(NoMemory),
         }
     }

@@ -72,17 +72,18 @@ fn name_in_word(alloc: Global, word: &Word) -> Result<Name, LineError>
 fn open_txn(alloc: Global, state: &mut State, name: Name, tm: TmNo) -> Result<(), LineError>
     ensures { Gives (λ _. state.new) result (opened state.old name tm) }
 {
-    if state.names.has(name.as_str()) {
-        return Err(LineError::Broken(WorkRule::DuplicateTxn));
-    }
     if state.names.len() >= 2048 {
+        if state.names.has(name.as_str()) {
+            return Err(LineError::Broken(WorkRule::DuplicateTxn));
+        }
         return Err(LineError::Broken(WorkRule::TooMany(Counts::Txn)));
     }
     match state.names.add(alloc, name.as_str()) {
-        Ok(()) => {
+        Ok(true) => {
             state.place = Place::Inside(Header { name, tm });
             Ok(())
         }
+        Ok(false) => Err(LineError::Broken(WorkRule::DuplicateTxn)),
         Err(_) => Err(LineError::NoMemory),
     }
 }

@@ -3,7 +3,7 @@ use Rattle.std.proofs.Common.{◌≡◌, ℕ, suc, ◌+◌, ◌<◌, ◌≤◌, 
 use Rattle.std.proofs.lemmas.List.{drop_all}
 use Rattle.sdd_words.specs.declared.word.Word.{Word}
 use Rattle.sdd_words.specs.declared.split.Mode.{Mode}
-use Rattle.sdd_words.specs.declared.split.Mode.TheVariants.{Start, InPlain, InText, Escape, Closed}
+use Rattle.sdd_words.specs.declared.split.Mode.TheVariants.{Start}
 use Rattle.sdd_words.specs.declared.split.Move.{Move}
 use Rattle.sdd_words.specs.declared.split.Move.TheVariants.{Goes, Adds, Ends, Refuses}
 use Rattle.sdd_words.specs.Scan.{scan, moved, move_of, onto, word_of, words_at_end, last_word}

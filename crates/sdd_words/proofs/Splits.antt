@@ -1,5 +1,5 @@
 -- What is read is spelled, and what is spelled is read.
-use Rattle.std.proofs.Common.{◌≡◌, ◌≢◌, ℕ, suc, List, [], ◌∷◌, ◌++◌, Option, Some, None, Bool, true, false, eqb, refl, sym, ap, ◌∙◌, append_assoc, append-nil}
+use Rattle.std.proofs.Common.{◌≡◌, ◌≢◌, ℕ, List, [], ◌∷◌, ◌++◌, Option, Some, None, Bool, true, false, eqb, refl, sym, ap, ◌∙◌, append_assoc, append-nil}
 use Rattle.std.proofs.lemmas.Bool.{eqb-true, eq-eqb}
 use Rattle.sdd_words.specs.declared.word.Word.{Word}
 use Rattle.sdd_words.specs.declared.word.Word.TheVariants.{Plain, Quoted}
@@ -7,7 +7,7 @@ use Rattle.sdd_words.specs.declared.split.Mode.{Mode}
 use Rattle.sdd_words.specs.declared.split.Mode.TheVariants.{Start, InPlain, InText, Escape, Closed}
 use Rattle.sdd_words.specs.declared.split.Move.{Move}
 use Rattle.sdd_words.specs.declared.split.Move.TheVariants.{Goes, Adds, Ends, Refuses}
-use Rattle.sdd_words.specs.Words.{is_special, escaped_byte, escaped, word_bytes, more_bytes, line_bytes, HasNoSpace, IsPlain, IsWord, AllWords, AreWords}
+use Rattle.sdd_words.specs.Words.{escaped_byte, escaped, word_bytes, more_bytes, line_bytes, HasNoSpace, IsPlain, IsWord, AllWords, AreWords}
 use Rattle.sdd_words.specs.Scan.{scan, moved, move_of, onto, word_of, words_at_end}
 
 not_byte : (c k : ℕ) (b : Bool) → eqb c k ≡ b → c ≢ k → eqb c k ≡ false

@@ -1,5 +1,5 @@
 -- The spelling of a text is UTF-8, and that of a number is a plain word.
-use Rattle.std.proofs.Common.{◌≡◌, ◌≢◌, ℕ, ℤ, pos, negsuc, zero, suc, ◌^◌, ◌<◌, ◌≤◌, List, [], ◌∷◌, ◌++◌, length, get_or, Bool, true, false, cond, ◌&&◌, eqb, refl, sym, ap, ◌∙◌, append_assoc, append-nil, arith, inl, inr}
+use Rattle.std.proofs.Common.{◌≡◌, ℕ, ℤ, pos, negsuc, zero, suc, ◌^◌, ◌<◌, List, [], ◌∷◌, ◌++◌, length, get_or, Bool, true, false, ◌&&◌, eqb, refl, sym, ap, ◌∙◌, append_assoc, append-nil, arith, inl, inr}
 use Rattle.std.specs.Str.{IsUtf8, IsAscii, all_scalars, encode_utf8_all}
 use Rattle.std.specs.Int.Signed.{mag}
 use Rattle.std.specs.Fmt.{signed_decimal, decimal}
@@ -9,7 +9,7 @@ use Rattle.std.proofs.lemmas.Fmt.{decimal_is_IsNumeral}
 use Rattle.std.proofs.lemmas.Bool.{eqb-true, cases_lt}
 use Rattle.std.proofs.lemmas.Str.{encode_ascii, encodes-append, encodes-IsAscii, inside_one}
 use lib.Utf8.{encode, scalar}
-use Rattle.sdd_words.specs.Words.{is_special, escaped_byte, escaped, HasNoSpace, IsPlain}
+use Rattle.sdd_words.specs.Words.{escaped_byte, escaped, HasNoSpace, IsPlain}
 
 high_byte : (b : ℕ) (x y : Bool) → eqb b 34 ≡ x → eqb b 92 ≡ y → (b < 128 → ⊥) → escaped_byte b ≡ b ∷ []
 high_byte b true y p q h = let e = eqb-true b 34 p in absurd (h (omega arith))

@@ -1,8 +1,8 @@
 -- What was written, one item more, and how written words are put together.
-use Rattle.std.proofs.Common.{◌≡◌, ℕ, suc, ◌+◌, ◌<◌, ◌≤◌, List, [], ◌∷◌, ◌++◌, length, map, flat_map, get_or, drop, refl, sym, ap, ◌∙◌, append_assoc, append-nil, drop-cons, add-one}
+use Rattle.std.proofs.Common.{◌≡◌, ℕ, ◌+◌, ◌<◌, ◌≤◌, List, [], ◌∷◌, ◌++◌, length, map, flat_map, get_or, drop, refl, sym, ap, ◌∙◌, append_assoc, append-nil, drop-cons, add-one}
 use Rattle.std.proofs.lemmas.List.{drop_all}
 use Rattle.sdd_words.specs.declared.word.Word.{Word}
-use Rattle.sdd_words.specs.Words.{word_bytes, more_bytes, spaced}
+use Rattle.sdd_words.specs.Words.{more_bytes, spaced}
 
 -- what f makes of the items before, and what it makes of those that are left
 pub item_written : {A : Type 0} (f : A → List ℕ) (xs : List A) (x : A) (out total : List ℕ) (i : ℕ) → i < length xs → x ≡ get_or xs i x → out ++ flat_map f (drop i xs) ≡ total

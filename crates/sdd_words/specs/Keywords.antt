@@ -1,5 +1,5 @@
 -- Words that stand for themselves, and the places that a word can take by its looks alone.
-use Rattle.std.specs.Prelude.{ℕ, List, [], codes, ◌==◌, ◌&&◌, ◌||◌, not, Bool, true, false, Option, Some, None, is_some, if◌then◌else◌}
+use Rattle.std.specs.Prelude.{ℕ, List, codes, ◌==◌, ◌&&◌, ◌||◌, not, Bool, true, false, Option, Some, None, is_some, if◌then◌else◌}
 use Rattle.std.specs.List.{position, before_first, after_first}
 use Rattle.std.specs.Str.{bytes_eq}
 use Rattle.sdd_base.specs.Name.{is_keyword, is_name}

@@ -230,3 +230,36 @@ fn transactions_see_what_stood_before_them(rt: HostRuntime) -> Result<(), Fail> 
     }
     Ok(())
 }
+
+/// The replies of two transactions, where the second runs after the first.
+fn replies(
+    alloc: Global,
+    cat: &Catalogue,
+    plain: &mut Plain,
+    first: &[u8],
+    second: &[u8],
+) -> Result<Replies, Fail> {
+    let first = txn(alloc, statements(alloc, first)?)?;
+    let second = txn(alloc, statements(alloc, second)?)?;
+    if plain.live() && fits(cat, &first) && fits(cat, &second) {
+        return Ok(plain.run_all(cat, &[first, second])?);
+    }
+    Err("doesn't fit")?
+}
+
+#[test]
+fn the_second_transaction_sees_what_the_first_left(rt: HostRuntime) -> Result<(), Fail> {
+    let alloc = rt.alloc();
+    let cat = catalogue(alloc)?;
+    let mut plain = Plain::new(alloc, &cat, &[])?;
+    let replies = replies(alloc, &cat, &mut plain, b"7g", b"+g")?;
+    let found = [Some(0), Some(1)];
+    assert!(rt;
+        replies
+            .as_slice()
+            .iter()
+            .map(rows_in)
+            .eq(found.iter().copied())
+    );
+    Ok(())
+}

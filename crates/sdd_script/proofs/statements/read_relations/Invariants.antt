@@ -1,9 +1,0 @@
-use Rattle.std.proofs.Common.{◌≡◌, drop}
-use Rattle.sdd_words.specs.Steps.{each_at}
-use Rattle.sdd_script.specs.Statements.{part_of}
-use Rattle.sdd_script.proofs.Each.{with_front}
-use Rattle.sdd_script.proofs.statements.read_relations.Given as goal
-
--- what was read and what is left to read is all of it
-abbrev pub invariant-words : goal.invariant-words
-invariant-words l = with_front l.rels.items (each_at (λ i w. part_of l.cat w) l.i (drop l.i l.words)) ≡ each_at (λ i w. part_of l.cat w) 0 l.words
