@@ -170,6 +170,14 @@ fn limits_are_told(rt: HostRuntime) -> Result<(), Fail> {
             17,
             " from acct\n",
         ),
+        // Relations are counted before columns.
+        (
+            "line 2: TooMany part",
+            "txn a T1\nquery",
+            " 1.id",
+            17,
+            " from acct acct acct acct acct acct acct\n",
+        ),
         (
             "line 2: TooMany cond",
             "txn a T1\ndelete acct where 1.id = 1",
