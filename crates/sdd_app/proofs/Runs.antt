@@ -9,7 +9,7 @@ use Rattle.sdd_catalog.specs.Catalogue.{Catalogue}
 use Rattle.sdd_catalog.specs.declared.fault.CatFault.{CatFault}
 use Rattle.sdd_script.specs.declared.fault.WorkFault.{WorkFault}
 use Rattle.sdd_script.specs.declared.workload.Workload.{Workload}
-use Rattle.sdd_app.specs.Answer.{Answers, AnswersWorkload, AnswersForm, HasFault, FaultOf, HasFaultyWorkload, HasWorkFault, WorkFaultOf, IsUnbuilt, IsUnbuiltWorkload, HasFiles, FilesOf, TwoAtTheirEnds, catalogue_named, workload_named}
+use Rattle.sdd_app.specs.Answer.{Answers, AnswersWorkload, AnswersForm, HasFault, FaultOf, HasFaultyWorkload, HasWorkFault, WorkFaultOf, IsUnbuilt, IsUnbuiltWorkload, UnbuiltForm, HasFiles, FilesOf, TwoAtTheirEnds, catalogue_named, workload_named}
 use Rattle.sdd_app.specs.Command.{Form, Check, Graph, Table, Run, Plain, Make, IsNoForm, IsForm, words_of}
 use Rattle.sdd_app.specs.Reach.{TakesCatalogue, TakesWorkload}
 use Rattle.sdd_app.specs.Serially.{serial_text}
@@ -45,23 +45,33 @@ same_work : (fs : List ShelfFile) (cat work : List ℕ) (x y : Catalogue) (told 
     → workload_named fs x work ≡ Some told → workload_named fs y work ≡ Some told
 same_work fs cat work x y told e f is = subst (λ c. workload_named fs c work ≡ Some told) (one_accepted x y (catalogue_named fs cat) e f) is
 
--- a command that doesn't take the catalogue is unbuilt
-pub other_catalogue : (fs : List ShelfFile) (reach : Reach) (cat work : List ℕ) (says : Catalogue) → catalogue_named fs cat ≡ Some (Ok says) → (TakesCatalogue reach says → ⊥)
-    → IsUnbuiltWorkload fs reach cat work
+-- files over which a command has no answer, and which have no fault
+record HasNothing (fs : List ShelfFile) (reach : Reach) (cat work : List ℕ) : Type 0 where
+  pub none : (text : List ℕ) → AnswersWorkload fs reach cat work text → ⊥
+  pub fault : (f : CatFault) → catalogue_named fs cat ≡ Some (Err f) → ⊥
+  pub work_fault : (f : WorkFault) → HasFaultyWorkload fs reach cat work f → ⊥
+
+-- such are those with a catalogue that the command doesn't take
+other_catalogue : (fs : List ShelfFile) (reach : Reach) (cat work : List ℕ) (says : Catalogue) → catalogue_named fs cat ≡ Some (Ok says) → (TakesCatalogue reach says → ⊥)
+    → HasNothing fs reach cat work
 other_catalogue fs reach cat work says accepted other = record {
   none = λ text a. other (subst (λ c. TakesCatalogue reach c) (one_accepted a.says says (catalogue_named fs cat) a.accepted accepted) a.taken);
   fault = λ f e. no_fault fs cat says f accepted e;
   work_fault = λ f h. other (subst (λ c. TakesCatalogue reach c) (one_accepted h.says says (catalogue_named fs cat) h.accepted accepted) h.taken);
 }
 
--- and so is one that doesn't take the workload
-pub other_workload : (fs : List ShelfFile) (reach : Reach) (cat work : List ℕ) (says : Catalogue) (w : Workload) → catalogue_named fs cat ≡ Some (Ok says) → workload_named fs says work ≡ Some (Ok w)
-    → (TakesWorkload reach w → ⊥) → IsUnbuiltWorkload fs reach cat work
+-- and those with a workload that it doesn't take
+other_workload : (fs : List ShelfFile) (reach : Reach) (cat work : List ℕ) (says : Catalogue) (w : Workload) → catalogue_named fs cat ≡ Some (Ok says) → workload_named fs says work ≡ Some (Ok w)
+    → (TakesWorkload reach w → ⊥) → HasNothing fs reach cat work
 other_workload fs reach cat work says w accepted read other = record {
   none = λ text a. other (subst (λ v. TakesWorkload reach v) (one_accepted a.work w (workload_named fs says work) (same_work fs cat work a.says says (Ok a.work) a.accepted accepted a.read) read) a.takes);
   fault = λ f e. no_fault fs cat says f accepted e;
   work_fault = λ f h. not_both w f (workload_named fs says work) read (same_work fs cat work h.says says (Err f) h.accepted accepted h.has);
 }
+
+nothing : (fs : List ShelfFile) (reach : Reach) (cat work : List ℕ) → IsUnbuiltWorkload fs reach cat work → HasNothing fs reach cat work
+nothing fs reach cat work (inl h) = other_catalogue fs reach cat work h.says h.accepted h.other
+nothing fs reach cat work (inr h) = other_workload fs reach cat work h.says h.work h.accepted h.read h.other
 
 -- what is answered to the words of a command over two files, and the faults of them
 
@@ -256,37 +266,54 @@ built_form (Run cat work) b = tt
 built_form (Plain cat work) b = tt
 built_form (Make s n) b = absurd b
 
--- the words of a command that is not built
-pub make_unbuilt : (fs : List ShelfFile) (ws : List (List ℕ)) (seed count : ℕ) → IsForm (Make seed count) → ws ≡ words_of (Make seed count) → IsUnbuilt fs ws
-make_unbuilt fs ws seed count is words = record {
-  form = Make seed count;
-  is_form = is;
-  words = words;
+-- words that have no answer and no fault
+record AreSilent (fs : List ShelfFile) (ws : List (List ℕ)) : Type 0 where
+  pub none : (text : List ℕ) → Answers fs ws text → ⊥
+  pub fault : (f : CatFault) → HasFault fs ws f → ⊥
+  pub work_fault : (f : WorkFault) → HasWorkFault fs ws f → ⊥
+
+make_silent : (fs : List ShelfFile) (ws : List (List ℕ)) (seed count : ℕ) → ws ≡ words_of (Make seed count) → AreSilent fs ws
+make_silent fs ws seed count words = record {
   none = λ text a. make_form seed count a.form (sym words ∙ a.words) (answers_built fs text a.form a.answers);
   fault = λ f h. make_form seed count h.form (sym words ∙ h.words) (fault_built fs f h.form h.has);
   work_fault = λ f h. make_form seed count h.form (sym words ∙ h.words) (work_fault_built fs f h.form h.has);
 }
 
--- and those of a command over files that it doesn't take
-pub unbuilt_run : (fs : List ShelfFile) (ws : List (List ℕ)) (cat work : List ℕ) → ws ≡ words_of (Run cat work) → IsUnbuiltWorkload fs reaches.Run cat work → IsUnbuilt fs ws
-unbuilt_run fs ws cat work words u = record {
-  form = Run cat work;
-  is_form = tt;
-  words = words;
+run_silent : (fs : List ShelfFile) (ws : List (List ℕ)) (cat work : List ℕ) → ws ≡ words_of (Run cat work) → HasNothing fs reaches.Run cat work → AreSilent fs ws
+run_silent fs ws cat work words u = record {
   none = λ text a. u.none text (answers_run fs ws cat work text words a);
   fault = λ f h. u.fault f (fault_of_run fs ws cat work f words h);
   work_fault = λ f h. u.work_fault f (work_fault_of_run fs ws cat work f words h);
 }
 
-pub unbuilt_plain : (fs : List ShelfFile) (ws : List (List ℕ)) (cat work : List ℕ) → ws ≡ words_of (Plain cat work) → IsUnbuiltWorkload fs reaches.Plain cat work → IsUnbuilt fs ws
-unbuilt_plain fs ws cat work words u = record {
-  form = Plain cat work;
-  is_form = tt;
-  words = words;
+plain_silent : (fs : List ShelfFile) (ws : List (List ℕ)) (cat work : List ℕ) → ws ≡ words_of (Plain cat work) → HasNothing fs reaches.Plain cat work → AreSilent fs ws
+plain_silent fs ws cat work words u = record {
   none = λ text a. u.none text (answers_plain fs ws cat work text words a);
   fault = λ f h. u.fault f (fault_of_plain fs ws cat work f words h);
   work_fault = λ f h. u.work_fault f (work_fault_of_plain fs ws cat work f words h);
 }
+
+silent_form : (fs : List ShelfFile) (ws : List (List ℕ)) (g : Form) → ws ≡ words_of g → UnbuiltForm fs g → AreSilent fs ws
+silent_form fs ws (Check cat) words u = absurd u
+silent_form fs ws (Graph cat) words u = absurd u
+silent_form fs ws (Table cat) words u = absurd u
+silent_form fs ws (Run cat work) words u = run_silent fs ws cat work words (nothing fs reaches.Run cat work u)
+silent_form fs ws (Plain cat work) words u = plain_silent fs ws cat work words (nothing fs reaches.Plain cat work u)
+silent_form fs ws (Make s n) words u = make_silent fs ws s n words
+
+-- what is unbuilt has no answer and no fault
+silent : (fs : List ShelfFile) (ws : List (List ℕ)) → IsUnbuilt fs ws → AreSilent fs ws
+silent fs ws u = silent_form fs ws u.form u.words u.unbuilt
+
+-- the words of a command that is not built, or doesn't take what its files give
+pub make_unbuilt : (fs : List ShelfFile) (ws : List (List ℕ)) (seed count : ℕ) → IsForm (Make seed count) → ws ≡ words_of (Make seed count) → IsUnbuilt fs ws
+make_unbuilt fs ws seed count is words = record { form = Make seed count; words = words; unbuilt = is }
+
+pub unbuilt_run : (fs : List ShelfFile) (ws : List (List ℕ)) (cat work : List ℕ) → ws ≡ words_of (Run cat work) → IsUnbuiltWorkload fs reaches.Run cat work → IsUnbuilt fs ws
+unbuilt_run fs ws cat work words u = record { form = Run cat work; words = words; unbuilt = u }
+
+pub unbuilt_plain : (fs : List ShelfFile) (ws : List (List ℕ)) (cat work : List ℕ) → ws ≡ words_of (Plain cat work) → IsUnbuiltWorkload fs reaches.Plain cat work → IsUnbuilt fs ws
+unbuilt_plain fs ws cat work words u = record { form = Plain cat work; words = words; unbuilt = u }
 
 -- two files that were opened one after the other and read to their ends
 pub two_ended : (was between now : ℕ → Type 0) (unread_between unread_now : ℕ → Option (List ℕ)) (was_unread : ℕ → Option (List ℕ)) (f g : ℕ)
@@ -341,7 +368,7 @@ fails_by_memory T s fs ws text a c = only_memory s
     (λ f e. answered_without_work_fault fs ws text f a (c.bad_workload f (err_is T s (BadWorkload f) e)))
     (λ e. c.read (err_is T s ReadFault e))
     (λ e. c.write (err_is T s WriteFault e))
-    (λ e. (c.unbuilt (err_is T s Unbuilt e)).none text a)
+    (λ e. (silent fs ws (c.unbuilt (err_is T s Unbuilt e))).none text a)
 
 told_fault : (s : Status) (f : CatFault) → (s ≡ Done → ⊥) → (s ≡ Usage → ⊥) → ((g : CatFault) → s ≡ BadCatalogue g → g ≡ f) → ((g : WorkFault) → s ≡ BadWorkload g → ⊥)
     → (s ≡ ReadFault → ⊥) → (s ≡ WriteFault → ⊥) → (s ≡ Unbuilt → ⊥) → (s ≡ BadCatalogue f) ⊎ (s ≡ NoMemory)
@@ -363,7 +390,7 @@ tells_fault T s fs ws f h c = told_fault s f
     (λ g e. one_file fs ws f g h (c.bad_workload g (err_is T s (BadWorkload g) e)))
     (λ e. c.read (err_is T s ReadFault e))
     (λ e. c.write (err_is T s WriteFault e))
-    (λ e. (c.unbuilt (err_is T s Unbuilt e)).fault f h)
+    (λ e. (silent fs ws (c.unbuilt (err_is T s Unbuilt e))).fault f h)
 
 told_work_fault : (s : Status) (f : WorkFault) → (s ≡ Done → ⊥) → (s ≡ Usage → ⊥) → ((g : CatFault) → s ≡ BadCatalogue g → ⊥) → ((g : WorkFault) → s ≡ BadWorkload g → g ≡ f)
     → (s ≡ ReadFault → ⊥) → (s ≡ WriteFault → ⊥) → (s ≡ Unbuilt → ⊥) → (s ≡ BadWorkload f) ⊎ (s ≡ NoMemory)
@@ -385,4 +412,4 @@ tells_work_fault T s fs ws f h c = told_work_fault s f
     (λ g e. one_work_fault fs ws g f (c.bad_workload g (err_is T s (BadWorkload g) e)) h)
     (λ e. c.read (err_is T s ReadFault e))
     (λ e. c.write (err_is T s WriteFault e))
-    (λ e. (c.unbuilt (err_is T s Unbuilt e)).work_fault f h)
+    (λ e. (silent fs ws (c.unbuilt (err_is T s Unbuilt e))).work_fault f h)

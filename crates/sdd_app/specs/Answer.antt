@@ -1,5 +1,5 @@
 -- What a call answers: the text for its words and files, or why there is none.
-use Rattle.std.specs.Prelude.{◌≡◌, ℕ, ◌≤◌, ◌<◌, List, [], length, take, Option, Some, Result, Ok, Err, IfSome, IsSome}
+use Rattle.std.specs.Prelude.{◌≡◌, ◌⊎◌, ℕ, ◌≤◌, ◌<◌, List, [], length, take, Option, Some, Result, Ok, Err, IfSome, IsSome}
 use Rattle.std.specs.Option.{option_map}
 use Rattle.sdd_base.specs.declared.files.ShelfFile.{ShelfFile}
 use Rattle.sdd_base.specs.Outside.{find_file, Rose, with_end}
@@ -13,7 +13,7 @@ use Rattle.sdd_app.specs.declared.status.Status.{Status}
 use Rattle.sdd_app.specs.declared.status.Status.TheVariants.{ReadFault, NoMemory, Unbuilt, BadCatalogue, BadWorkload}
 use Rattle.sdd_app.specs.declared.listing.Listing.{Listing}
 use Rattle.sdd_app.specs.declared.listing.Listing.TheVariants as listings
-use Rattle.sdd_app.specs.Command.{Form, Check, Graph, Table, Run, Plain, IsForm, words_of}
+use Rattle.sdd_app.specs.Command.{Form, Check, Graph, Table, Run, Plain, Make, IsForm, words_of}
 use Rattle.sdd_app.specs.declared.reach.Reach.{Reach}
 use Rattle.sdd_app.specs.declared.reach.Reach.TheVariants as reaches
 use Rattle.sdd_app.specs.Listing.{Tells}
@@ -91,21 +91,36 @@ pub record HasWorkFault (files : List ShelfFile) (ws : List (List ℕ)) (fault :
   pub words : ws ≡ words_of form
   pub has : WorkFaultOf files form fault
 
--- The words are of a form, they have no answer, and no fault of a file is the cause: the command is `make`, or
--- the files of a run are of another form.
+-- the first file gives a catalogue that the command doesn't take
+pub record HasOtherCatalogue (files : List ShelfFile) (reach : Reach) (catalogue : List ℕ) : Type 0 where
+  pub says : Catalogue
+  pub accepted : catalogue_named files catalogue ≡ Some (Ok says)
+  pub other : TakesCatalogue reach says → ⊥
+
+-- the first file gives a catalogue that the command takes, and the second a workload that it doesn't take
+pub record HasOtherWorkload (files : List ShelfFile) (reach : Reach) (catalogue workload : List ℕ) : Type 0 where
+  pub says : Catalogue
+  pub accepted : catalogue_named files catalogue ≡ Some (Ok says)
+  pub taken : TakesCatalogue reach says
+  pub work : Workload
+  pub read : workload_named files says workload ≡ Some (Ok work)
+  pub other : TakesWorkload reach work → ⊥
+
+-- a command over these files doesn't take what they give
+abbrev pub IsUnbuiltWorkload : List ShelfFile → Reach → List ℕ → List ℕ → Type 0
+IsUnbuiltWorkload files reach catalogue workload = HasOtherCatalogue files reach catalogue ⊎ HasOtherWorkload files reach catalogue workload
+
+-- a command of this form isn't built, or doesn't take what its files give
+abbrev pub UnbuiltForm : List ShelfFile → Form → Type 0
+UnbuiltForm files (Run catalogue workload) = IsUnbuiltWorkload files reaches.Run catalogue workload
+UnbuiltForm files (Plain catalogue workload) = IsUnbuiltWorkload files reaches.Plain catalogue workload
+UnbuiltForm files (Make seed count) = IsForm (Make seed count)
+UnbuiltForm files _ = ⊥
+
 pub record IsUnbuilt (files : List ShelfFile) (ws : List (List ℕ)) : Type 0 where
   pub form : Form
-  pub is_form : IsForm form
   pub words : ws ≡ words_of form
-  pub none : (text : List ℕ) → Answers files ws text → ⊥
-  pub fault : (f : CatFault) → HasFault files ws f → ⊥
-  pub work_fault : (f : WorkFault) → HasWorkFault files ws f → ⊥
-
--- a command over these files has no answer, and no fault of them is the cause
-pub record IsUnbuiltWorkload (files : List ShelfFile) (reach : Reach) (catalogue workload : List ℕ) : Type 0 where
-  pub none : (text : List ℕ) → AnswersWorkload files reach catalogue workload text → ⊥
-  pub fault : (f : CatFault) → catalogue_named files catalogue ≡ Some (Err f) → ⊥
-  pub work_fault : (f : WorkFault) → HasFaultyWorkload files reach catalogue workload f → ⊥
+  pub unbuilt : UnbuiltForm files form
 
 -- the files that a command over two files reads are there: the first and, where it gives a catalogue, the second
 abbrev pub HasFiles : List ShelfFile → List ℕ → List ℕ → Type 0
