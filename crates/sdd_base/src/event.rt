@@ -1,6 +1,6 @@
 use crate::listed::Listed;
 use crate::no_memory::NoMemory;
-use crate::number::{TmNo, TxnNo};
+use crate::number::{DmNo, TmNo, TxnNo};
 use crate::parcel::Parcel;
 use crate::site::Site;
 
@@ -21,6 +21,12 @@ pub enum Event {
     Tick { tm: TmNo, n: u32 },
     /// Rounds are carried out until the world is quiet.
     Settle,
+    /// Rounds are carried out until the world is quiet, and then the next list of classes is in force.
+    Redeclare,
+    /// A data module goes down: its messages are kept for it.
+    Down(DmNo),
+    /// A data module comes up: the messages that were kept are handed to it.
+    Up(DmNo),
 }
 
 /// A schedule.

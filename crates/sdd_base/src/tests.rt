@@ -99,8 +99,9 @@ fn a_copy_equals_its_source(rt: HostRuntime) -> Result<(), Fail> {
     let cond = Cond {
         class: ClassNo(1),
         time: Ts(65),
+        frags: Frags::from_vec(vec![in alloc; FragNo(2)]?),
     };
-    assert_eq!(rt; (cond, 7u64).copy()?, (cond, 7));
+    assert_eq!(rt; cond.copy()?, cond);
     let event = Event::Deliver {
         from: Site::U,
         to: Site::D(DmNo(2)),

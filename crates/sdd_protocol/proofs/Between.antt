@@ -1,15 +1,15 @@
 -- The conditions on a writer rest on the diagonals between the reader and the writer alone.
-use Rattle.std.proofs.Common.{ℕ, ◌-◌, ◌+◌, ◌<◌, ◌≤◌, ◌==◌, ◌≡◌, Bool, true, false, ◌&&◌, cond, List, [], ◌∷◌, ◌++◌, length, get_or, take, drop, Some, None, refl, sym, ap, ◌∙◌, subst, arith, inl, inr}
+use Rattle.std.proofs.Common.{ℕ, ◌-◌, ◌+◌, ◌<◌, ◌≤◌, ◌==◌, ◌≡◌, Bool, true, false, ◌&&◌, cond, List, [], ◌∷◌, ◌++◌, length, get_or, take, drop, Option, Some, None, refl, sym, ap, ◌∙◌, subst, arith, inl, inr}
 use Rattle.std.specs.Prelude.{All, filter}
-use Rattle.std.specs.List.{list_any}
+use Rattle.std.specs.List.{filter_map, cons_option}
 use Rattle.std.proofs.lemmas.Bool.{cases_Bool, cases_lt, eqb-true, and_parts, and_from}
 use Rattle.std.proofs.lemmas.List.{append-nil, take-append-drop, get_or-take, get_or-drop, get_or_past, length-take, length-drop}
 use Rattle.std.proofs.lemmas.List.Elements.{All-head, All-tail, filter-append}
 use Rattle.std.proofs.lemmas.List.Folds.{drop_split}
-use Rattle.std.proofs.lemmas.Map.Views.{any-filter_same}
 use Rattle.sdd_graph.specs.declared.edge.Edge.{Edge}
 use Rattle.sdd_graph.specs.declared.edge.Edge.TheVariants.{Vertical, Horizontal, Diagonal}
-use Rattle.sdd_protocol.specs.Conditions.{is_p2, is_p3, asks, asks_by, cond_of, condition_on}
+use Rattle.sdd_base.specs.declared.number.FragNo.{FragNo}
+use Rattle.sdd_protocol.specs.Conditions.{is_p2, is_p3, asked_on, asked_by, cond_for, condition_on}
 use Rattle.sdd_protocol.specs.Places.{Places, ArePlaces, Covers, cell, part_of, is_between}
 use Rattle.sdd_protocol.specs.declared.protocol.Protocol.{Protocol}
 use Rattle.sdd_protocol.specs.declared.entry.Entry.{Entry}
@@ -66,24 +66,38 @@ diagonals_in_part entries places h i j =
     filter_part (λ e. is_between i j e.edge) entries (part_of places i j).0 (part_of places i j).1 (part_in_order entries (length entries) places h i j)
     (λ k d l t. covered_within places i j k (get_or entries k d).edge (h.covers k d l) t)
 
--- what asks is between
-asks_between : (test : ℕ → Bool) (i j : ℕ) (e : Edge) (b : Bool) → (asks test i j e && b) ≡ true → is_between i j e ≡ true
-asks_between test i j (Vertical c) b t = t
-asks_between test i j (Horizontal c d) b t = t
-asks_between test i j (Diagonal a c f) b t =
-    let asking = (and_parts ((a.0 == i) && ((c.0 == j) && test f.0)) b t).0 in
-    let parts = and_parts (a.0 == i) ((c.0 == j) && test f.0) asking in
-    and_from (a.0 == i) (c.0 == j) parts.0 (and_parts (c.0 == j) (test f.0) parts.1).0
+-- what a diagonal asks for is between
+asked_between : (test : ℕ → Bool) (i j : ℕ) (e : Edge) → is_between i j e ≡ false → asked_on test i j e ≡ None
+asked_between test i j (Vertical c) t = refl
+asked_between test i j (Horizontal c d) t = refl
+asked_between test i j (Diagonal a c f) t =
+    elim (a.0 == i) as (λ x. x && (c.0 == j) ≡ false → cond (x && ((c.0 == j) && test f.0)) (Some f) None ≡ None) [
+      | true ↦ λ p. rw p refl
+      | false ↦ λ p. refl
+    ] t
 
-asks_by-between : (protocol : Protocol → Bool) (test : ℕ → Bool) (xs ys : List Entry) (i j : ℕ) → filter (λ e. is_between i j e.edge) xs ≡ filter (λ e. is_between i j e.edge) ys → asks_by protocol test xs i j ≡ asks_by protocol test ys i j
-asks_by-between protocol test xs ys i j e =
-    let asking : Entry → Bool = λ z. asks test i j z.edge && protocol z.protocol in
+none_by : (b : Bool) (o : Option FragNo) → o ≡ None → cond b o None ≡ None
+none_by true o e = e
+none_by false o e = refl
+
+-- a list with the members that give something gives the same
+filter_map-filter : {A B : Type 0} (f : A → Option B) (p : A → Bool) (xs : List A) → ((x : A) → p x ≡ false → f x ≡ None) → filter_map f (filter p xs) ≡ filter_map f xs
+filter_map-filter f p [] h = refl
+filter_map-filter f p (x ∷ xs) h =
+    elim (p x) as (λ b. p x ≡ b → filter_map f (cond b (x ∷ filter p xs) (filter p xs)) ≡ filter_map f (x ∷ xs)) [
+      | true ↦ λ e. ap (cons_option (f x)) (filter_map-filter f p xs h)
+      | false ↦ λ e. filter_map-filter f p xs h ∙ ap (λ o. cons_option o (filter_map f xs)) (sym (h x e))
+    ] refl
+
+asked_by-between : (protocol : Protocol → Bool) (test : ℕ → Bool) (xs ys : List Entry) (i j : ℕ) → filter (λ e. is_between i j e.edge) xs ≡ filter (λ e. is_between i j e.edge) ys → asked_by protocol test xs i j ≡ asked_by protocol test ys i j
+asked_by-between protocol test xs ys i j e =
+    let asked : Entry → Option FragNo = λ z. cond (protocol z.protocol) (asked_on test i j z.edge) None in
     let between : Entry → Bool = λ z. is_between i j z.edge in
-    let here : (z : Entry) → asking z ≡ true → between z ≡ true = λ z t. asks_between test i j z.edge (protocol z.protocol) t in
-    sym (any-filter_same asking between true here xs) ∙ ap (λ z. list_any asking z) e ∙ any-filter_same asking between true here ys
+    let nothing : (z : Entry) → between z ≡ false → asked z ≡ None = λ z t. none_by (protocol z.protocol) (asked_on test i j z.edge) (asked_between test i j z.edge t) in
+    sym (filter_map-filter asked between xs nothing) ∙ ap (λ z. filter_map asked z) e ∙ filter_map-filter asked between ys nothing
 
 -- lists with the same diagonals between the reader and the writer set one condition
 pub condition_on-between : (test : ℕ → Bool) (xs ys : List Entry) (i own p2 j : ℕ) → filter (λ e. is_between i j e.edge) xs ≡ filter (λ e. is_between i j e.edge) ys → condition_on test xs i own p2 j ≡ condition_on test ys i own p2 j
 condition_on-between test xs ys i own p2 j e =
-    ap (λ z. cond z (Some (cond_of j own)) (cond (asks_by is_p2 test xs i j) (Some (cond_of j p2)) None)) (asks_by-between is_p3 test xs ys i j e)
-    ∙ ap (λ z. cond (asks_by is_p3 test ys i j) (Some (cond_of j own)) (cond z (Some (cond_of j p2)) None)) (asks_by-between is_p2 test xs ys i j e)
+    ap (λ z. cond_for j own z (cond_for j p2 (asked_by is_p2 test xs i j) None)) (asked_by-between is_p3 test xs ys i j e)
+    ∙ ap (λ z. cond_for j own (asked_by is_p3 test ys i j) (cond_for j p2 z None)) (asked_by-between is_p2 test xs ys i j e)

@@ -1,3 +1,4 @@
+mod Asking
 pub mod Between
 pub mod Laws
 pub mod MadeTable

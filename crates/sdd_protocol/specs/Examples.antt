@@ -38,7 +38,7 @@ pub reader_block : protocol_in (vertical 1 0 ∷ vertical 2 1 ∷ []) (Diagonal 
 reader_block = refl
 
 -- at module 1 the reader of both fragments asks its one writer, up to the time of P2
-pub asks_once : conditions two lines 2 1 (frag_no 1 ∷ frag_no 2 ∷ []) 258 255 ≡ cond_of 1 255 ∷ []
+pub asks_once : conditions two lines 2 1 (frag_no 1 ∷ frag_no 2 ∷ []) 258 255 ≡ cond_of 1 255 (frag_no 1 ∷ []) ∷ []
 asks_once = refl
 
 -- fragment 2 is read at module 2
@@ -46,7 +46,7 @@ pub asks_elsewhere : conditions two lines 2 1 (frag_no 2 ∷ []) 258 255 ≡ []
 asks_elsewhere = refl
 
 -- by P3 it would ask up to its own time
-pub asks_own : conditions two (diagonal 2 1 1 1 P3 ∷ []) 2 1 (frag_no 1 ∷ []) 258 255 ≡ cond_of 1 258 ∷ []
+pub asks_own : conditions two (diagonal 2 1 1 1 P3 ∷ []) 2 1 (frag_no 1 ∷ []) 258 255 ≡ cond_of 1 258 (frag_no 1 ∷ []) ∷ []
 asks_own = refl
 
 pub asks_nothing : conditions two (diagonal 2 1 1 0 P1 ∷ []) 2 1 (frag_no 1 ∷ []) 258 255 ≡ []

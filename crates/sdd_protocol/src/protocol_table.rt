@@ -1,4 +1,4 @@
-ghost use Rattle.std.specs.Prelude.{◌≡◌, ◌≤◌, ◌<◌, length, filter, filter_map, slice_get, All, Some, IfOk};
+ghost use Rattle.std.specs.Prelude.{◌≡◌, ◌≤◌, ◌<◌, [], ◌∷◌, ◌++◌, length, filter, filter_map, slice_get, All, Some, IfOk, OnOk};
 ghost use Rattle.sdd_catalog.specs.Catalogue.{numbers_to};
 ghost use Rattle.sdd_protocol.specs.Asked.{is_marked};
 ghost use Rattle.sdd_protocol.specs.Conditions.{condition_on, conditions};
@@ -105,11 +105,29 @@ impl Table {
         requires { classes ≤ 64 }
         ensures { IfOk result (λ conds. conds.items ≡ filter_map (condition_on (is_marked asked.now) self.now reader.0 own.0 p2.0) (numbers_to classes)) }
     {
-        Ok(
-            (1..classes + 1)
-                .filter_map(|writer| self.condition_on(asked, reader, ClassNo(writer), own, p2))
-                .collect(self.alloc)?,
-        )
+        let mut conds = Vec::new(self.alloc);
+        for writer in 1..classes + 1 {
+            self.add_condition(&mut conds, asked, reader, ClassNo(writer), own, p2)?;
+        }
+        Ok(conds)
+    }
+
+    /// Adds the condition on a writer, where there is one.
+    fn add_condition(
+        &self,
+        conds: &mut Vec<Cond>,
+        asked: &Asked,
+        reader: ClassNo,
+        writer: ClassNo,
+        own: Ts,
+        p2: Ts,
+    ) -> Result<(), NoMemory>
+        ensures { OnOk result (conds.new.items ≡ conds.old.items ++ filter_map (condition_on (is_marked asked.now) self.now reader.0 own.0 p2.0) (writer.0 ∷ [])) }
+    {
+        if let Some(cond) = self.condition_on(asked, reader, writer, own, p2)? {
+            conds.push(cond)?;
+        }
+        Ok(())
     }
 
     /// The condition on a writer.
@@ -120,10 +138,11 @@ impl Table {
         writer: ClassNo,
         own: Ts,
         p2: Ts,
-    ) -> Option<Cond>
-        ensures { result ≡ condition_on (is_marked asked.now) self.now reader.0 own.0 p2.0 writer.0 }
+    ) -> Result<Option<Cond>, NoMemory>
+        ensures { IfOk result (λ found. found ≡ condition_on (is_marked asked.now) self.now reader.0 own.0 p2.0 writer.0) }
     {
         condition_on(
+            self.alloc,
             self.diagonals(reader, writer),
             asked,
             reader,

@@ -1,5 +1,5 @@
 use super::*;
-use sdd_base::{ClassNo, Cond, DmNo, FragNo, Name, Ts};
+use sdd_base::{ClassNo, Cond, DmNo, FragNo, Frags, Name, Ts};
 use sdd_catalog::{
     Catalogue, ClassPart, ClassParts, ColumnPart, ColumnParts, CopyNos, FragmentPart,
     FragmentParts, Kind, Names, Parts, ReadPart, ReadParts, RelationPart, RelationParts,
@@ -135,6 +135,7 @@ fn a_reader_of_two_fragments_has_one_time(rt: HostRuntime) -> Result<(), Fail> {
     let cond = Cond {
         class: ClassNo(1),
         time: Ts(255),
+        frags: Frags::from_vec(vec![in alloc; FragNo(1)]?),
     };
     has(&rt, alloc, &cat, &entries, &[FragNo(1), FragNo(2)], &[cond])?;
     has(&rt, alloc, &cat, &entries, &[FragNo(2)], &[])?;
@@ -172,6 +173,7 @@ fn classes_that_read_each_other_ask_up_to_their_own_times(rt: HostRuntime) -> Re
     let cond = Cond {
         class: ClassNo(1),
         time: Ts(258),
+        frags: Frags::from_vec(vec![in alloc; FragNo(2)]?),
     };
     has(&rt, alloc, &cat, &entries, &[FragNo(2)], &[cond])
 }
