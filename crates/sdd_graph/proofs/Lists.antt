@@ -2,6 +2,7 @@
 use Rattle.std.proofs.Common.{ℕ, zero, suc, ◌≡◌, ◌≢◌, ◌≤◌, ◌-◌, ◌+◌, ◌==◌, Bool, true, false, ◌&&◌, ◌||◌, cond, List, [], ◌∷◌, ◌++◌, map, filter, set, Option, Some, None, is_some, refl, ap, sym, ◌∙◌, arith, append_assoc, eq-eqb}
 use Rattle.std.specs.List.{flat_map, list_any, range_with_len, zip}
 use Rattle.std.specs.Option.{option_map}
+use Rattle.std.proofs.Math.Bool.{or-false}
 use Rattle.std.proofs.lemmas.Bool.{ne_eqb}
 use Rattle.std.proofs.lemmas.List.{map-append, append-nil, flat_map_more}
 use Rattle.std.proofs.lemmas.List.Elements.{filter-append}
@@ -105,12 +106,8 @@ mark_from p a (suc n) f (suc k) e =
     let rest : set (map p (range_with_len (a + 1) n)) k true ≡ map (λ x. p x || (f == x)) (range_with_len (a + 1) n) = mark_from p (a + 1) n f k (omega arith) in
     ap (λ b. b ∷ set (map p (range_with_len (a + 1) n)) k true) (sym head) ∙ ap (λ bs. (p a || (f == a)) ∷ bs) rest
 
-or_none : (b : Bool) → (b || false) ≡ b
-or_none true = refl
-or_none false = refl
-
 has_more : (ws : List ℕ) (f x : ℕ) → has (ws ++ f ∷ []) x ≡ (has ws x || (f == x))
-has_more ws f x = list_any-append (λ y. y == x) ws (f ∷ []) ∙ ap (λ b. has ws x || b) (or_none (f == x))
+has_more ws f x = list_any-append (λ y. y == x) ws (f ∷ []) ∙ ap (λ b. has ws x || b) (or-false (f == x))
 
 -- a flag set at a number is that of a list with the number behind it
 pub mark_more : (ws more : List ℕ) (n f : ℕ) → more ≡ ws ++ f ∷ [] → 1 ≤ f → set (map (has ws) (numbers_to n)) (f - 1) true ≡ map (has more) (numbers_to n)

@@ -7,7 +7,8 @@ use Rattle.sdd_catalog.specs.declared.resolved.Class.{Class}
 use Rattle.sdd_catalog.specs.Catalogue.{Catalogue}
 use Rattle.sdd_graph.specs.declared.edge.Edge.{Edge}
 use Rattle.sdd_graph.specs.declared.edge.Edge.TheVariants.{Vertical, Horizontal, Diagonal}
-use Rattle.sdd_graph.specs.Graph.{class_no, frag_no, conflict_graph, ends}
+use Rattle.sdd_base.specs.Numbers.{class_no, frag_no}
+use Rattle.sdd_graph.specs.Graph.{conflict_graph, ends}
 
 abbrev pub vertical : ℕ → Edge
 vertical i = Vertical (class_no i)
@@ -56,7 +57,7 @@ each_by_itself = refl
 pub ends_of_a_vertical : ends (vertical 2) ≡ (2, 3)
 ends_of_a_vertical = refl
 
-pub ends_of_a_horizontal : ends (horizontal 1 2) ≡ (1, 3)
+pub ends_of_a_horizontal : ends (horizontal 1 64) ≡ (1, 127)
 ends_of_a_horizontal = refl
 
 -- from the reader to the writer
