@@ -2,7 +2,8 @@
 use Rattle.std.specs.Prelude.{ℕ, pos, ◌≡◌, List, [], ◌∷◌, map, refl}
 use Rattle.sdd_catalog.specs.Catalogue.{Catalogue, catalogue_of}
 use Rattle.sdd_catalog.specs.Examples.{split}
-use Rattle.sdd_graph.specs.Graph.{class_no, frag_no, conflict_graph}
+use Rattle.sdd_base.specs.Numbers.{class_no, frag_no}
+use Rattle.sdd_graph.specs.Graph.{conflict_graph}
 use Rattle.sdd_graph.specs.declared.edge.Edge.TheVariants.{Vertical, Diagonal}
 use Rattle.sdd_protocol.specs.Conditions.{cond_of, conditions}
 use Rattle.sdd_protocol.specs.Protocols.{protocol_in}
