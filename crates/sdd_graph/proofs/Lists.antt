@@ -28,6 +28,12 @@ up_to i some =
 pub map_more : {X A : Type 0} (g : X → A) (xs more : List X) (x : X) → more ≡ xs ++ x ∷ [] → map g more ≡ map g xs ++ g x ∷ []
 map_more g xs more x e = ap (map g) e ∙ map-append g xs (x ∷ [])
 
+-- a list of images: one more
+pub collected_more : {X A : Type 0} (g : X → A) (xs more : List X) (x : X) (d : A) (items new : List A)
+    → more ≡ xs ++ x ∷ [] → items ≡ map g xs → d ≡ g x → new ≡ items ++ d ∷ [] → new ≡ map g more
+collected_more g xs more x d items new e before same now =
+    now ∙ ap (λ z. z ++ d ∷ []) before ∙ ap (λ z. map g xs ++ z ∷ []) same ∙ sym (map_more g xs more x e)
+
 -- what is made of each one, in order: one more
 pub each_more : {X A : Type 0} (f : X → List A) (xs more : List X) (x : X) (old items new : List A) → more ≡ xs ++ x ∷ [] → items ≡ old ++ flat_map f xs → new ≡ items ++ f x → new ≡ old ++ flat_map f more
 each_more f xs more x old items new e before now =

@@ -3,13 +3,12 @@ use Rattle.std.proofs.Common.{ℕ, ◌-◌, ◌+◌, ◌<◌, ◌≤◌, ◌==�
 use Rattle.std.specs.Prelude.{All, filter}
 use Rattle.std.specs.List.{filter_map, cons_option}
 use Rattle.std.specs.Option.{option_or}
-use Rattle.std.proofs.lemmas.Bool.{cases_Bool, cases_lt, eqb-true, and_parts, and_from}
+use Rattle.std.proofs.lemmas.Bool.{cases_Bool, cases_lt, eqb-true, and_parts}
 use Rattle.std.proofs.lemmas.List.{append-nil, take-append-drop, get_or-take, get_or-drop, get_or_past, length-take, length-drop}
 use Rattle.std.proofs.lemmas.List.Elements.{All-head, All-tail, filter-append}
 use Rattle.std.proofs.lemmas.List.Folds.{drop_split}
 use Rattle.sdd_graph.specs.declared.edge.Edge.{Edge}
 use Rattle.sdd_graph.specs.declared.edge.Edge.TheVariants.{Vertical, Horizontal, Diagonal}
-use Rattle.sdd_base.specs.declared.number.FragNo.{FragNo}
 use Rattle.sdd_protocol.specs.Conditions.{asked_on, asked_in, asked_by, cond_for, condition_on}
 use Rattle.sdd_protocol.specs.Protocols.{same_protocol}
 use Rattle.sdd_protocol.specs.DiagonalIndex.{DiagonalIndex, IsIndexOf, Covers, cell, range_of, is_between}

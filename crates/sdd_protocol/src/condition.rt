@@ -53,10 +53,12 @@ fn asked_by(
     ensures { IfOk result (λ frags.
         frags.items ≡ asked_by protocol (is_marked asked.now) entries.now reader.0 writer.0) }
 {
-    Ok(entries
-        .iter()
-        .filter_map(|entry| asked_in(entry, protocol, asked, reader, writer))
-        .collect(alloc)?)
+    Ok(
+        entries
+            .iter()
+            .filter_map(|entry| asked_in(entry, protocol, asked, reader, writer))
+            .collect(alloc)?,
+    )
 }
 
 /// The fragment of an entry, where it is such a diagonal.

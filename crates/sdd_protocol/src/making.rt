@@ -4,8 +4,8 @@ ghost use Rattle.sdd_graph.specs.Edges.{NamesClasses, JoinsNodes};
 ghost use Rattle.sdd_graph.specs.Graph.{ends};
 ghost use Rattle.sdd_protocol.specs.Protocols.{IsTable};
 
-use crate::entries::entries;
 use crate::diagonal_index::DiagonalIndex;
+use crate::entries::entries;
 use crate::protocol_table::Table;
 use sdd_base::NoMemory;
 use sdd_blocks::blocks;

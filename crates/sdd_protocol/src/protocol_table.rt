@@ -153,8 +153,7 @@ impl Table {
 
     /// A part of the table that has all diagonals from the reader to the writer.
     fn diagonals(&self, reader: ClassNo, writer: ClassNo) -> &[Entry]
-        ensures {
-            filter (λ e. is_between reader.0 writer.0 e.edge) result.now
+        ensures { filter (λ e. is_between reader.0 writer.0 e.edge) result.now
             ≡ filter (λ e. is_between reader.0 writer.0 e.edge) self.now }
     {
         let (from, to) = self.index.range(reader, writer);

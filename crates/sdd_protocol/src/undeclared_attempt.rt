@@ -21,12 +21,7 @@ pub fn undeclared(alloc: Global, cat: &Catalogue, own: Ts) -> Result<Vec<Cond>, 
 }
 
 /// The conditions on so many classes, each for the fragments.
-fn conditions_on(
-    alloc: Global,
-    classes: u32,
-    own: Ts,
-    frags: &Frags,
-) -> Result<Vec<Cond>, NoMemory>
+fn conditions_on(alloc: Global, classes: u32, own: Ts, frags: &Frags) -> Result<Vec<Cond>, NoMemory>
     requires { classes ≤ 64 }
     ensures { IfOk result (λ conds.
         conds.items ≡ map (λ c. cond_of c own.0 frags.now) (numbers_to classes)) }
@@ -54,7 +49,9 @@ fn all_fragments(alloc: Global, cat: &Catalogue) -> Result<Vec<FragNo>, NoMemory
     ensures { IfOk result (λ frags. frags.items ≡ map frag_no (fragments_of cat.now)) }
 {
     cat.known();
-    Ok((1..cat.fragments() + 1)
-        .map(|frag| FragNo(frag))
-        .collect(alloc)?)
+    Ok(
+        (1..cat.fragments() + 1)
+            .map(|frag| FragNo(frag))
+            .collect(alloc)?,
+    )
 }
