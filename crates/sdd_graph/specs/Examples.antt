@@ -26,7 +26,12 @@ rel_no n = record { 0 = n }
 
 -- a relation of two columns, in two fragments at two modules: keys to 9, and from 10
 abbrev pub item : Relation
-item = record { name = []; columns = record { name = []; kind = kinds.Int } ∷ record { name = []; kind = kinds.Int } ∷ []; key = 1 }
+item =
+    record {
+      name = [];
+      columns = record { name = []; kind = kinds.Int } ∷ record { name = []; kind = kinds.Int } ∷ [];
+      key = 1;
+    }
 
 abbrev pub halves : List Fragment
 halves =
@@ -35,7 +40,8 @@ halves =
     ∷ []
 
 abbrev pub with_classes : List Class → Catalogue
-with_classes classes = record { tms = 2; dms = 2; relations = item ∷ []; fragments = halves; classes = classes }
+with_classes classes =
+    record { tms = 2; dms = 2; relations = item ∷ []; fragments = halves; classes = classes }
 
 abbrev read_from : ℕ × ℕ → Read
 read_from r = record { fragment = frag_no r.0; at = dm_no r.1 }

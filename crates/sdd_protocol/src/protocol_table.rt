@@ -111,7 +111,8 @@ impl Table {
     ) -> Result<Vec<Cond>, NoMemory>
         requires { classes ≤ 64 }
         ensures { IfOk result (λ conds.
-            conds.items ≡ conditions_on (is_marked asked.now) self.now attempt (numbers_to classes)) }
+            conds.items
+            ≡ conditions_on (is_marked asked.now) self.now attempt (numbers_to classes)) }
     {
         let mut conds = Vec::new(self.alloc);
         for writer in 1..classes + 1 {
@@ -128,8 +129,10 @@ impl Table {
         attempt: Attempt,
         writer: ClassNo,
     ) -> Result<(), NoMemory>
-        ensures { OnOk result (conds.new.items
-            ≡ conds.old.items ++ conditions_on (is_marked asked.now) self.now attempt (writer.0 ∷ [])) }
+        ensures { OnOk result (
+            conds.new.items
+            ≡ conds.old.items
+              ++ conditions_on (is_marked asked.now) self.now attempt (writer.0 ∷ [])) }
     {
         if let Some(cond) = self.condition_on(asked, attempt, writer)? {
             conds.push(cond)?;
