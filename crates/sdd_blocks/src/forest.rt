@@ -37,14 +37,10 @@ impl Forest {
         ensures forest { IsForest self.new.parents.items }
         ensures within { result < length self.old.parents.items }
         ensures top { slice_index self.new.parents.items result ≡ result }
-        ensures kept {
-            (v : ℕ) → slice_index self.old.parents.items v ≡ v
-            → slice_index self.new.parents.items v ≡ v
-        }
-        ensures labels {
-            (labels : List ℕ) → AreRoots self.old.parents.items labels
-            → AreRoots self.new.parents.items labels × (result ≡ slice_index labels node)
-        }
+        ensures kept { (v : ℕ) → slice_index self.old.parents.items v ≡ v
+            → slice_index self.new.parents.items v ≡ v }
+        ensures labels { (labels : List ℕ) → AreRoots self.old.parents.items labels
+            → AreRoots self.new.parents.items labels × (result ≡ slice_index labels node) }
     {
         let mut at = node;
         while self.parents[at as usize] != at {
@@ -63,10 +59,8 @@ impl Forest {
         requires forest { IsForest self.old.parents.items }
         ensures length { length self.new.parents.items ≡ length self.old.parents.items }
         ensures forest { IsForest self.new.parents.items }
-        ensures joined {
-            (before : List ℕ) → AreRoots self.old.parents.items before
-            → (after : List ℕ) × AreRoots self.new.parents.items after × AreJoined a b before after
-        }
+        ensures joined { (before : List ℕ) → AreRoots self.old.parents.items before
+            → (after : List ℕ) × AreRoots self.new.parents.items after × AreJoined a b before after }
     {
         let one = self.root(a);
         let other = self.root(b);

@@ -12,9 +12,7 @@ pub(crate) fn marks(
 ) -> Result<Vec<u32>, NoMemory>
     requires few { length labels.now < 2 ^ 32 }
     requires below { All (λ label. label < length labels.now) labels.now }
-    requires pairs {
-        All (λ pair. (pair.0 < length labels.now) × (pair.1 < length labels.now)) pairs.now
-    }
+    requires pairs { All (λ pair. (pair.0 < length labels.now) × (pair.1 < length labels.now)) pairs.now }
     ensures below { IfOk result (λ marks. All (λ mark. mark < length labels.now + 1) marks.items) }
     ensures marked { IfOk result (λ marks. AreMarked pairs.now labels.now marks.items) }
 {

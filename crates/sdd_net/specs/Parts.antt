@@ -51,10 +51,10 @@ abbrev pub received : {M : Type 0} → ℕ → M → Receiving M → Receiving M
 received n m r =
     if nat_le n r.count then r
     else
-      record {
-        count = r.count + length (in_turn r.count (with_early n m r));
-        early = out_of_turn r.count (with_early n m r);
-      }
+    record {
+      count = r.count + length (in_turn r.count (with_early n m r));
+      early = out_of_turn r.count (with_early n m r);
+    }
 
 -- messages by ascending numbers above k
 abbrev pub Ascends : {M : Type 0} → ℕ → List (ℕ × M) → Type 0

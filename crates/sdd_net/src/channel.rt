@@ -39,17 +39,17 @@ impl<M: Parcel> Channel<M> {
         ensures sender { OnOk result (
             self.new.sender
             ≡ record {
-                live = true;
-                value = record self.old.sender.value {
-                    unacked = self.old.sender.value.unacked ++ msg ∷ []
-                }
+              live = true;
+              value = record self.old.sender.value {
+                unacked = self.old.sender.value.unacked ++ msg ∷ [];
+              };
             }) }
         ensures flight { OnOk result (
             self.new.flight
             ≡ record {
-                live = true;
-                value = self.old.flight.value
-                    ++ Packet.Message (last_number self.old.sender.value + 1) msg ∷ []
+              live = true;
+              value = self.old.flight.value
+                  ++ Packet.Message (last_number self.old.sender.value + 1) msg ∷ [];
             }) }
         ensures receiver { self.new.receiver ≡ self.old.receiver }
     {
@@ -65,9 +65,9 @@ impl<M: Parcel> Channel<M> {
         ensures flight { OnOk result (
             self.new.flight
             ≡ record {
-                live = true;
-                value = self.old.flight.value
-                    ++ numbered self.old.sender.value.acked self.old.sender.value.unacked
+              live = true;
+              value = self.old.flight.value
+                  ++ numbered self.old.sender.value.acked self.old.sender.value.unacked;
             }) }
         ensures receiver { self.new.receiver ≡ self.old.receiver }
     {

@@ -34,15 +34,11 @@ pub fn take_at<M: Parcel>(
 ) -> Option<Packet<M>>
     requires live { IsLiveAt (slice_get channels.old.items at) }
     requires place { 1 ≤ place }
-    ensures packet {
-        (w : Way M) → Fits (slice_get channels.old.items at) w
-        → result ≡ slice_get w.flight (place - 1)
-    }
-    ensures some {
-        (w : Way M) → Fits (slice_get channels.old.items at) w
+    ensures packet { (w : Way M) → Fits (slice_get channels.old.items at) w
+        → result ≡ slice_get w.flight (place - 1) }
+    ensures some { (w : Way M) → Fits (slice_get channels.old.items at) w
         → Changes channels.old.items channels.new.items at
-            (with_flight (without_at w.flight (place - 1)) w)
-    }
+        (with_flight (without_at w.flight (place - 1)) w) }
 {
     let channel = &mut channels[at];
     channel.flight.take(place)
@@ -73,19 +69,13 @@ pub fn repeat_at<M: Parcel>(
 ) -> Result<bool, NoMemory>
     requires live { IsLiveAt (slice_get channels.old.items at) }
     requires place { 1 ≤ place }
-    ensures some {
-        result ≡ Ok true → (w : Way M) (packet : Packet M)
+    ensures some { result ≡ Ok true → (w : Way M) (packet : Packet M)
         → Fits (slice_get channels.old.items at) w → slice_get w.flight (place - 1) ≡ Some packet
-        → Changes channels.old.items channels.new.items at (with_flight (w.flight ++ packet ∷ []) w)
-    }
-    ensures there {
-        result ≡ Ok true → (w : Way M) → Fits (slice_get channels.old.items at) w
-        → place ≤ length w.flight
-    }
-    ensures none {
-        result ≡ Ok false → (w : Way M) → Fits (slice_get channels.old.items at) w
-        → Changes channels.old.items channels.new.items at w × (length w.flight < place)
-    }
+        → Changes channels.old.items channels.new.items at (with_flight (w.flight ++ packet ∷ []) w) }
+    ensures there { result ≡ Ok true → (w : Way M) → Fits (slice_get channels.old.items at) w
+        → place ≤ length w.flight }
+    ensures none { result ≡ Ok false → (w : Way M) → Fits (slice_get channels.old.items at) w
+        → Changes channels.old.items channels.new.items at w × (length w.flight < place) }
 {
     let channel = &mut channels[at];
     channel.flight.repeat(place)
@@ -111,10 +101,8 @@ pub fn resend_at<M: Parcel>(channels: &mut Vec<Channel<M>>, at: usize) -> Result
 fn acknowledge_at<M: Parcel>(channels: &mut Vec<Channel<M>>, at: usize, k: u32)
     requires live { IsLiveAt (slice_get channels.old.items at) }
     requires known { k ≤ sent_by (slice_get channels.old.items at) }
-    ensures {
-        (w : Way M) → Fits (slice_get channels.old.items at) w
-        → Changes channels.old.items channels.new.items at (with_ack k w)
-    }
+    ensures { (w : Way M) → Fits (slice_get channels.old.items at) w
+        → Changes channels.old.items channels.new.items at (with_ack k w) }
 {
     let channel = &mut channels[at];
     channel.sender.acked(k);

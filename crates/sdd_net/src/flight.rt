@@ -94,11 +94,9 @@ impl<M: Parcel> Flight<M> {
         requires live { IsTrue self.old.live }
         requires place { 1 ≤ place }
         ensures which { IfOk result (λ there. IsTrue there ↔ (place ≤ length self.old.value)) }
-        ensures some {
-            (packet : Packet M) → result ≡ Ok true
+        ensures some { (packet : Packet M) → result ≡ Ok true
             → slice_get self.old.value (place - 1) ≡ Some packet
-            → self.new ≡ record { live = true; value = self.old.value ++ packet ∷ [] }
-        }
+            → self.new ≡ record { live = true; value = self.old.value ++ packet ∷ [] } }
         ensures none { result ≡ Ok false → self.new ≡ self.old }
         ensures err { OnErr result (self.new.live ≡ false) }
     {

@@ -82,10 +82,8 @@ impl<M: Parcel> Net<M> {
         requires live { IsTrue self.now.live }
         requires exists { HasLink self.now from to }
         ensures count { result ≡ sent_on self.now.value from to }
-        ensures calls {
-            (calls : List (Call M)) → StandsFor self.now calls
-            → result ≡ length (link from to calls).there.sent
-        }
+        ensures calls { (calls : List (Call M)) → StandsFor self.now calls
+            → result ≡ length (link from to calls).there.sent }
     {
         let channel = &self.channels[index_of(self.tms, self.dms, from, to)];
         channel.sender.count()
@@ -139,10 +137,8 @@ impl<M: Parcel> Net<M> {
         requires live { IsTrue self.old.live }
         requires exists { HasLink self.old from to }
         requires place { 1 ≤ place }
-        ensures there {
-            (calls : List (Call M)) → StandsFor self.old calls
-            → result ≡ is_some (packet_at place (link from to calls))
-        }
+        ensures there { (calls : List (Call M)) → StandsFor self.old calls
+            → result ≡ is_some (packet_at place (link from to calls)) }
         ensures ok { Does self.old self.new (Loses from to place) }
     {
         let at = index_of(self.tms, self.dms, from, to);
@@ -176,7 +172,7 @@ impl<M: Parcel> Net<M> {
         ensures some { IfOk result (λ some.
             (calls : List (Call M)) → StandsFor self.old calls
             → some ≡ nat_lt (link from to calls).there.acked
-                (length (link from to calls).there.sent)) }
+            (length (link from to calls).there.sent)) }
         ensures ok { OnOk result (Does self.old self.new (Resends from to)) }
         ensures err { OnErr result (self.new.live ≡ false) }
     {
@@ -192,10 +188,8 @@ impl<M: Parcel> Net<M> {
     /// Takes no memory, and constant time for each link.
     pub fn quiet(&self) -> bool
         requires { IsTrue self.now.live }
-        ensures {
-            (calls : List (Call M)) → StandsFor self.now calls
-            → result ≡ quiet (links self.now.value.tms self.now.value.dms) calls
-        }
+        ensures { (calls : List (Call M)) → StandsFor self.now calls
+            → result ≡ quiet (links self.now.value.tms self.now.value.dms) calls }
     {
         for (from, to) in &self.links {
             if !self.is_quiet_link(*from, *to) {

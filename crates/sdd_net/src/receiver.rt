@@ -72,7 +72,7 @@ impl<M: Parcel> Receiver<M> {
             (arrived : List ℕ) (sent : List M) → slice_get sent (no - 1) ≡ Some msg
             → HasReceived self.old.value arrived sent
             → HasReceived self.new.value (no ∷ arrived) sent
-              × (handed ≡ drop (top arrived) (take (top (no ∷ arrived)) sent))) }
+            × (handed ≡ drop (top arrived) (take (top (no ∷ arrived)) sent))) }
     {
         let mut handed = Vec::new(self.alloc);
         if no <= self.count {
@@ -94,10 +94,8 @@ impl<M: Parcel> Receiver<M> {
 fn take_next<M: Parcel>(early: &mut BTreeMap<u32, M>, count: u32) -> Option<M>
     ensures some { IfSome result (λ m. early.old.entries ≡ (count + 1, m) ∷ early.new.entries) }
     ensures room { IfSome result (λ m. count + 1 < 2 ^ 32) }
-    ensures none {
-        result ≡ None
-        → (early.new.entries ≡ early.old.entries) × (in_turn count early.old.entries ≡ [])
-    }
+    ensures none { result ≡ None
+        → (early.new.entries ≡ early.old.entries) × (in_turn count early.old.entries ≡ []) }
 {
     let Some((number, _)) = early.first_key_value() else {
         return None;

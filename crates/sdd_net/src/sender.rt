@@ -79,8 +79,8 @@ impl<M: Parcel> Sender<M> {
         ensures ok { OnOk result (
             self.new
             ≡ record {
-                live = true;
-                value = record self.old.value { unacked = self.old.value.unacked ++ msg ∷ [] }
+              live = true;
+              value = record self.old.value { unacked = self.old.value.unacked ++ msg ∷ [] };
             }) }
         ensures err { OnErr result (self.new.live ≡ false) }
     {

@@ -56,7 +56,7 @@ fn add_links(links: &mut Vec<(Site, Site)>, from: Site, sites: &[Site]) -> Resul
     ensures { OnOk result (
         links.new.items
         ≡ links.old.items
-          ++ filter_map (λ to. cond (spec.are_linked from to) (Some (from, to)) None) sites.now) }
+        ++ filter_map (λ to. cond (spec.are_linked from to) (Some (from, to)) None) sites.now) }
 {
     for to in sites {
         if are_linked(from, *to) {

@@ -132,7 +132,7 @@ impl Table {
         ensures { OnOk result (
             conds.new.items
             ≡ conds.old.items
-              ++ conditions_on (is_marked asked.now) self.now attempt (writer.0 ∷ [])) }
+            ++ conditions_on (is_marked asked.now) self.now attempt (writer.0 ∷ [])) }
     {
         if let Some(cond) = self.condition_on(asked, attempt, writer)? {
             conds.push(cond)?;
