@@ -82,7 +82,8 @@ impl<M: Parcel> Net<M> {
         requires live { IsTrue self.now.live }
         requires exists { HasLink self.now from to }
         ensures count { result ≡ sent_on self.now.value from to }
-        ensures calls { (calls : List (Call M)) → StandsFor self.now calls → result ≡ length (link from to calls).there.sent }
+        ensures calls { (calls : List (Call M)) → StandsFor self.now calls
+            → result ≡ length (link from to calls).there.sent }
     {
         let channel = &self.channels[index_of(self.tms, self.dms, from, to)];
         channel.sender.count()
@@ -114,7 +115,9 @@ impl<M: Parcel> Net<M> {
         requires live { IsTrue self.old.live }
         requires exists { HasLink self.old from to }
         requires place { 1 ≤ place }
-        ensures given { IfOk result (λ given. (calls : List (Call M)) → StandsFor self.old calls → given ≡ delivery place (link from to calls)) }
+        ensures given { IfOk result (λ given.
+            (calls : List (Call M)) → StandsFor self.old calls
+            → given ≡ delivery place (link from to calls)) }
         ensures ok { OnOk result (Does self.old self.new (Delivers from to place)) }
         ensures err { OnErr result (self.new.live ≡ false) }
     {
@@ -134,7 +137,8 @@ impl<M: Parcel> Net<M> {
         requires live { IsTrue self.old.live }
         requires exists { HasLink self.old from to }
         requires place { 1 ≤ place }
-        ensures there { (calls : List (Call M)) → StandsFor self.old calls → result ≡ is_some (packet_at place (link from to calls)) }
+        ensures there { (calls : List (Call M)) → StandsFor self.old calls
+            → result ≡ is_some (packet_at place (link from to calls)) }
         ensures ok { Does self.old self.new (Loses from to place) }
     {
         let at = index_of(self.tms, self.dms, from, to);
@@ -147,7 +151,9 @@ impl<M: Parcel> Net<M> {
         requires live { IsTrue self.old.live }
         requires exists { HasLink self.old from to }
         requires place { 1 ≤ place }
-        ensures there { IfOk result (λ there. (calls : List (Call M)) → StandsFor self.old calls → there ≡ is_some (packet_at place (link from to calls))) }
+        ensures there { IfOk result (λ there.
+            (calls : List (Call M)) → StandsFor self.old calls
+            → there ≡ is_some (packet_at place (link from to calls))) }
         ensures ok { OnOk result (Does self.old self.new (Repeats from to place)) }
         ensures err { OnErr result (self.new.live ≡ false) }
     {
@@ -163,7 +169,10 @@ impl<M: Parcel> Net<M> {
     pub fn resend(&mut self, from: Site, to: Site) -> Result<bool, NoMemory>
         requires live { IsTrue self.old.live }
         requires exists { HasLink self.old from to }
-        ensures some { IfOk result (λ some. (calls : List (Call M)) → StandsFor self.old calls → some ≡ nat_lt (link from to calls).there.acked (length (link from to calls).there.sent)) }
+        ensures some { IfOk result (λ some.
+            (calls : List (Call M)) → StandsFor self.old calls
+            → some ≡ nat_lt (link from to calls).there.acked
+            (length (link from to calls).there.sent)) }
         ensures ok { OnOk result (Does self.old self.new (Resends from to)) }
         ensures err { OnErr result (self.new.live ≡ false) }
     {
@@ -179,7 +188,8 @@ impl<M: Parcel> Net<M> {
     /// Takes no memory, and constant time for each link.
     pub fn quiet(&self) -> bool
         requires { IsTrue self.now.live }
-        ensures { (calls : List (Call M)) → StandsFor self.now calls → result ≡ quiet (links self.now.value.tms self.now.value.dms) calls }
+        ensures { (calls : List (Call M)) → StandsFor self.now calls
+            → result ≡ quiet (links self.now.value.tms self.now.value.dms) calls }
     {
         for (from, to) in &self.links {
             if !self.is_quiet_link(*from, *to) {
@@ -197,7 +207,9 @@ impl<M: Parcel> Net<M> {
     /// Costs constant time for each link and for each event.
     pub fn round(&self) -> Result<Vec<Event>, NoMemory>
         requires { IsTrue self.now.live }
-        ensures { IfOk result (λ events. (calls : List (Call M)) → StandsFor self.now calls → events.items ≡ round (links self.now.value.tms self.now.value.dms) calls) }
+        ensures { IfOk result (λ events.
+            (calls : List (Call M)) → StandsFor self.now calls
+            → events.items ≡ round (links self.now.value.tms self.now.value.dms) calls) }
     {
         let mut events = Vec::new(self.alloc);
         for (from, to) in &self.links {
@@ -263,7 +275,8 @@ fn add_deliveries(
     to: Site,
     count: usize,
 ) -> Result<(), NoMemory>
-    ensures { OnOk result (events.new.items ≡ events.old.items ++ replicate count (Event.Deliver from to 1)) }
+    ensures { OnOk result (
+        events.new.items ≡ events.old.items ++ replicate count (Event.Deliver from to 1)) }
 {
     for _ in 0..count {
         events.push(Event::Deliver { from, to, place: 1 })?;

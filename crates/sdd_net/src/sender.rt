@@ -76,7 +76,12 @@ impl<M: Parcel> Sender<M> {
         requires live { IsTrue self.old.live }
         requires room { last_number self.old.value < 2 ^ 32 - 1 }
         ensures number { IfOk result (λ number. number ≡ last_number self.old.value + 1) }
-        ensures ok { OnOk result (self.new ≡ record { live = true; value = record self.old.value { unacked = self.old.value.unacked ++ msg ∷ [] } }) }
+        ensures ok { OnOk result (
+            self.new
+            ≡ record {
+              live = true;
+              value = record self.old.value { unacked = self.old.value.unacked ++ msg ∷ [] };
+            }) }
         ensures err { OnErr result (self.new.live ≡ false) }
     {
         self.live = false;
@@ -88,7 +93,8 @@ impl<M: Parcel> Sender<M> {
     /// A packet for each unacknowledged message, in order. Costs what their copies cost.
     #[tactic(auto, using(crate::proofs::Turns::numbering))]
     pub fn resend(&self) -> Result<Packets<M>, NoMemory>
-        ensures { IfOk result (λ packets. packets ≡ numbered self.now.value.acked self.now.value.unacked) }
+        ensures { IfOk result (λ packets.
+            packets ≡ numbered self.now.value.acked self.now.value.unacked) }
     {
         let mut packets = Vec::new(*self.unacked.allocator());
         let mut number = self.acked;

@@ -53,7 +53,10 @@ pub fn is_link(tms: u32, dms: u32, from: Site, to: Site) -> bool
 
 /// Adds the links from one site to those among the sites.
 fn add_links(links: &mut Vec<(Site, Site)>, from: Site, sites: &[Site]) -> Result<(), NoMemory>
-    ensures { OnOk result (links.new.items ≡ links.old.items ++ filter_map (λ to. cond (spec.are_linked from to) (Some (from, to)) None) sites.now) }
+    ensures { OnOk result (
+        links.new.items
+        ≡ links.old.items
+        ++ filter_map (λ to. cond (spec.are_linked from to) (Some (from, to)) None) sites.now) }
 {
     for to in sites {
         if are_linked(from, *to) {
