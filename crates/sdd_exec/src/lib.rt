@@ -16,6 +16,3 @@ mod tie;
 
 pub use from_rows::{effect, law_one_effect};
 pub use snapshot::Snapshot;
-
-#[cfg(test)]
-mod tests;
