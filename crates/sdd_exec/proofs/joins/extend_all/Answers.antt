@@ -3,7 +3,7 @@ use Rattle.std.specs.HashMap as hash
 use Rattle.std.specs.Option.{option_map_or}
 use Rattle.sdd_exec.specs.Choices.{same_row, key_for, picked, placed}
 use Rattle.sdd_exec.proofs.Steps.{flat_map_next}
-use Rattle.sdd_exec.proofs.join.extend_all.Goals as goal
+use Rattle.sdd_exec.proofs.joins.extend_all.Goals as goal
 
 pub loop-choice-preserved : goal.loop-choice-preserved
 loop-choice-preserved c =
