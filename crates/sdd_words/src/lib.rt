@@ -32,6 +32,3 @@ pub use text::{are_sound, is_text, text_of};
 pub use whole::{are_whole_digits, is_whole_number};
 pub use word::{Word, Words};
 pub use write::{put, put_count, put_number, put_text};
-
-#[cfg(test)]
-mod tests;
