@@ -9,7 +9,8 @@ use Rattle.sdd_net.specs.declared.channel.Channel.{Channel}
 use Rattle.sdd_net.specs.Links.{Call, Delivers, Loses, Repeats, Way, Link, link, unused, after_call, on_link, deliver, lose, repeat, packet_at, with_packet, without_at, with_flight}
 use Rattle.sdd_net.specs.Sound.{IsSound}
 use Rattle.sdd_net.specs.Nets.{Directions, is_link, site_count, index_of, unused_channel, Matches, Fits, Stands, StandsFor, Changes, ArePair, ChangesPair, IsNet, Does, HasLink}
-use Rattle.sdd_net.proofs.Lists.{without-past, get-within}
+use Rattle.std.proofs.lemmas.Option.{slice_get_within}
+use Rattle.sdd_net.proofs.Lists.{without-past}
 use Rattle.sdd_net.proofs.Directions.{link_parts, link_back, place_below, index_apart, back_is, step, one_way}
 use Rattle.sdd_net.proofs.Sound.{sound}
 
@@ -94,7 +95,7 @@ module _ {M : Type 0} where
       → Changes old new at (with_packet o (λ p. record l { there = with_flight (l.there.flight ++ p ∷ []) l.there }) l).there × (there ≡ is_some o)
   repeated_way old new at place true l (Some p) one e some inside none fits = (some refl l.there p fits e, refl)
   repeated_way old new at place false l (Some p) one e some inside none fits =
-      let b = (none refl l.there fits).1 in let w = get-within l.there.flight (place - 1) p e in absurd (omega (arith, b, w))
+      let b = (none refl l.there fits).1 in let w = slice_get_within l.there.flight (place - 1) p e in absurd (omega (arith, b, w))
   repeated_way old new at place true l None one e some inside none fits =
       absurd (past l.there.flight (place - 1) (omega (arith, inside refl l.there fits)) e)
   repeated_way old new at place false l None one e some inside none fits = ((none refl l.there fits).0, refl)

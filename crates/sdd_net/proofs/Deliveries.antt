@@ -8,7 +8,7 @@ use Rattle.sdd_net.specs.declared.channel.Channel.{Channel}
 use Rattle.sdd_net.specs.Links.{Way, Link, packet_at, deliver, arrives, with_packet, without_packet, without_at, with_flight, with_ack, with_arrival, delivered, newly_delivered, delivery}
 use Rattle.sdd_net.specs.Sound.{IsOf, IsSoundWay, IsSound}
 use Rattle.sdd_net.specs.Nets.{Matches, Fits, IsLive, IsLiveAt, Changes, ArePair, ChangesPair, sent_by}
-use Rattle.sdd_net.proofs.Lists.{every_get, without-past}
+use Rattle.sdd_net.proofs.Lists.{All-at, without-past}
 use Rattle.sdd_net.proofs.Matching.{last_number_is}
 use Rattle.sdd_net.proofs.Sound.{delivered_le}
 
@@ -30,7 +30,7 @@ module _ {M : Type 0} where
 
   -- a packet in flight is right
   pub packet_is_of : (l : Link M) (k : ℕ) (p : Packet M) → slice_get l.there.flight k ≡ Some p → IsSound l → IsOf l.there.sent (delivered l.back) p
-  packet_is_of l k p e h = every_get (IsOf l.there.sent (delivered l.back)) l.there.flight k p e h.there.packets
+  packet_is_of l k p e h = All-at (IsOf l.there.sent (delivered l.back)) l.there.flight k p e h.there.packets
 
   pub acked_le : (w : Way M) (back : ℕ) → IsSoundWay w back → w.acked ≤ length w.sent
   acked_le w back h = omega (arith, h.acked, delivered_le w back h)

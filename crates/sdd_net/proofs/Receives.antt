@@ -7,13 +7,13 @@ use Rattle.std.proofs.Math.Decide.{dec_le}
 use Rattle.std.proofs.lemmas.Bool.{eqb-true, eqb-false, eq-eqb, ne_eqb, le-leb, lt-leb}
 use Rattle.std.proofs.lemmas.List.{drop_all}
 use Rattle.sdd_base.specs.Kept.{Kept}
-use Rattle.sdd_net.specs.Links.{has, top}
+use Rattle.sdd_net.specs.Links.{contains, top}
 use Rattle.sdd_net.specs.Parts.{Receiving, Ascends, AreSent, numbers, IsEarly, HasReceived, in_turn, out_of_turn, handed_on, received}
 use Rattle.sdd_net.proofs.Lists.{by_order, drop-member, get-take}
 use Rattle.sdd_net.proofs.Tops.{top_is, stops, starts, counts_up, repeated}
 
 -- numbers that ascend above k have none at or below it
-none_below : {M : Type 0} (k j : ℕ) (early : List (ℕ × M)) → Ascends k early → j ≤ k → has (numbers early) j ≡ false
+none_below : {M : Type 0} (k j : ℕ) (early : List (ℕ × M)) → Ascends k early → j ≤ k → contains (numbers early) j ≡ false
 none_below k j [] h l = refl
 none_below k j ((n, m) ∷ rest) h l =
     let ne : n ≢ j = λ e. omega (arith, h.0) in
@@ -50,13 +50,13 @@ or_again : (a c : Bool) → (a || c) ≡ (a || (a || c))
 or_again true c = refl
 or_again false c = refl
 
-has_insert : {M : Type 0} (j n : ℕ) (m : M) (early : List (ℕ × M)) → has (numbers (insert_entry nat_cmp early n m)) j ≡ ((n == j) || has (numbers early) j)
+has_insert : {M : Type 0} (j n : ℕ) (m : M) (early : List (ℕ × M)) → contains (numbers (insert_entry nat_cmp early n m)) j ≡ ((n == j) || contains (numbers early) j)
 has_insert j n m [] = refl
 has_insert j n m ((x, y) ∷ rest) =
-    by_order n x (λ o. has (numbers (match_ordering o ((n, m) ∷ (x, y) ∷ rest) ((x, m) ∷ rest) ((x, y) ∷ insert_entry nat_cmp rest n m))) j ≡ ((n == j) || ((x == j) || has (numbers rest) j)))
+    by_order n x (λ o. contains (numbers (match_ordering o ((n, m) ∷ (x, y) ∷ rest) ((x, m) ∷ rest) ((x, y) ∷ insert_entry nat_cmp rest n m))) j ≡ ((n == j) || ((x == j) || contains (numbers rest) j)))
     (λ less. refl)
-    (λ same. rw same (or_again (x == j) (has (numbers rest) j)))
-    (λ more. ap (λ b. (x == j) || b) (has_insert j n m rest) ∙ or_swap (x == j) (n == j) (has (numbers rest) j))
+    (λ same. rw same (or_again (x == j) (contains (numbers rest) j)))
+    (λ more. ap (λ b. (x == j) || b) (has_insert j n m rest) ∙ or_swap (x == j) (n == j) (contains (numbers rest) j))
 
 insert_early : {M : Type 0} (k : ℕ) (arrived : List ℕ) (sent : List M) (n : ℕ) (m : M) (early : List (ℕ × M)) → k < n → slice_get sent (n - 1) ≡ Some m → IsEarly k arrived sent early → IsEarly k (n ∷ arrived) sent (insert_entry nat_cmp early n m)
 insert_early k arrived sent n m early l e h = record {
@@ -82,14 +82,14 @@ next_early : {M : Type 0} (k : ℕ) (ns : List ℕ) (sent : List M) (m : M) (res
 next_early k ns sent m rest h = record {
   ascends = h.ascends.1;
   are_sent = h.are_sent.1;
-  same = λ n l. (let ne : k + 1 ≢ n = λ e. omega arith in let test : (k + 1 == n) ≡ false = ne_eqb (k + 1) n ne in let old : ((k + 1 == n) || has (numbers rest) n) ≡ has ns n = h.same n (omega arith) in rw test at old);
+  same = λ n l. (let ne : k + 1 ≢ n = λ e. omega arith in let test : (k + 1 == n) ≡ false = ne_eqb (k + 1) n ne in let old : ((k + 1 == n) || contains (numbers rest) n) ≡ contains ns n = h.same n (omega arith) in rw test at old);
 }
 
-next_there : {M : Type 0} (k : ℕ) (ns : List ℕ) (sent : List M) (m : M) (rest : List (ℕ × M)) → IsEarly k ns sent ((k + 1, m) ∷ rest) → has ns (suc k) ≡ true
+next_there : {M : Type 0} (k : ℕ) (ns : List ℕ) (sent : List M) (m : M) (rest : List (ℕ × M)) → IsEarly k ns sent ((k + 1, m) ∷ rest) → contains ns (suc k) ≡ true
 next_there k ns sent m rest h =
     let at : k + 1 ≡ suc k = omega arith in
     let test : (k + 1 == suc k) ≡ true = eq-eqb (k + 1) (suc k) at in
-    let old : ((k + 1 == suc k) || has (numbers rest) (suc k)) ≡ has ns (suc k) = h.same (suc k) (omega arith) in
+    let old : ((k + 1 == suc k) || contains (numbers rest) (suc k)) ≡ contains ns (suc k) = h.same (suc k) (omega arith) in
     sym (rw test at old)
 
 turn : {M : Type 0} (k : ℕ) (ns : List ℕ) (sent : List M) (m : M) (rest : List (ℕ × M)) → IsEarly k ns sent ((k + 1, m) ∷ rest) → Turns (k + 1) ns sent rest → Turns k ns sent ((k + 1, m) ∷ rest)
@@ -105,17 +105,17 @@ turn {M = M} k ns sent m rest h t =
       waits = rw test t.waits;
     }
 
-pub turns_to : {M : Type 0} (k : ℕ) (ns : List ℕ) (sent : List M) (early : List (ℕ × M)) → IsEarly k ns sent early → ((j : ℕ) → j < k → has ns (suc j) ≡ true) → Turns k ns sent early
+pub turns_to : {M : Type 0} (k : ℕ) (ns : List ℕ) (sent : List M) (early : List (ℕ × M)) → IsEarly k ns sent early → ((j : ℕ) → j < k → contains ns (suc j) ≡ true) → Turns k ns sent early
 turns_to k ns sent [] h below = stays k ns sent [] h (stops ns k below (sym (h.same (suc k) (omega arith)))) refl refl
 turns_to {M = M} k ns sent ((x, m) ∷ rest) h below = elim (x == k + 1) as (λ b. (x == k + 1) ≡ b → Turns k ns sent ((x, m) ∷ rest)) [
   | true ↦ λ p. (let same : x ≡ k + 1 = eqb-true x (k + 1) p in
       let h1 : IsEarly k ns sent ((k + 1, m) ∷ rest) = subst (λ z. IsEarly k ns sent ((z, m) ∷ rest)) same h in
       let one : suc k ≡ k + 1 = omega arith in
-      let below1 : (j : ℕ) → j < k + 1 → has ns (suc j) ≡ true = λ j l. counts_up ns k below (next_there k ns sent m rest h1) j (omega arith) in
+      let below1 : (j : ℕ) → j < k + 1 → contains ns (suc j) ≡ true = λ j l. counts_up ns k below (next_there k ns sent m rest h1) j (omega arith) in
       subst (λ z. Turns k ns sent ((z, m) ∷ rest)) (sym same) (turn k ns sent m rest h1 (turns_to (k + 1) ns sent rest (next_early k ns sent m rest h1) below1)))
   | false ↦ λ p. (let ne : x ≢ k + 1 = eqb-false x (k + 1) p in
       let above : k < x = h.ascends.0 in
-      let gap : has (numbers ((x, m) ∷ rest)) (suc k) ≡ false = none_below (suc k) (suc k) ((x, m) ∷ rest) (omega (arith, ne), h.ascends.1) (omega arith) in
+      let gap : contains (numbers ((x, m) ∷ rest)) (suc k) ≡ false = none_below (suc k) (suc k) ((x, m) ∷ rest) (omega (arith, ne), h.ascends.1) (omega arith) in
       stays k ns sent ((x, m) ∷ rest) h (stops ns k below (sym (h.same (suc k) (omega arith)) ∙ gap)) (rw p refl) (rw p refl))
 ] refl
 
@@ -127,7 +127,7 @@ pub record Receives {M : Type 0} (n : ℕ) (m : M) (arrived : List ℕ) (sent : 
 receives_old : {M : Type 0} (n : ℕ) (m : M) (arrived : List ℕ) (sent : List M) (r : Receiving M) → 1 ≤ n → n ≤ top arrived → HasReceived r arrived sent → Receives n m arrived sent r
 receives_old {M = M} n m arrived sent r one old h =
     let at : suc (n - 1) ≡ n = omega arith in
-    let there : has arrived n ≡ true = subst (λ j. has arrived j ≡ true) at ((top_is arrived).0 (n - 1) (omega arith)) in
+    let there : contains arrived n ≡ true = subst (λ j. contains arrived j ≡ true) at ((top_is arrived).0 (n - 1) (omega arith)) in
     let same : top (n ∷ arrived) ≡ top arrived = repeated n arrived there in
     let test : nat_le n r.count ≡ true = le-leb n r.count (omega (arith, h.count)) in
     record {

@@ -39,13 +39,13 @@ unused = record { sent = []; flight = []; arrived = []; acked = 0 }
 abbrev pub turned : {M : Type 0} → Link M → Link M
 turned l = record { there = l.back; back = l.there }
 
-abbrev pub has : List ℕ → ℕ → Bool
-has ns k = list_any (λ x. x == k) ns
+abbrev pub contains : List ℕ → ℕ → Bool
+contains ns k = list_any (λ x. x == k) ns
 
 -- the greatest k + j, with j at most n, such that k + 1 to k + j are all among the numbers
 abbrev pub top_from : ℕ → ℕ → List ℕ → ℕ
 top_from zero k ns = k
-top_from (suc n) k ns = elim (has ns (suc k)) [ true ↦ top_from n (suc k) ns | false ↦ k ]
+top_from (suc n) k ns = elim (contains ns (suc k)) [ true ↦ top_from n (suc k) ns | false ↦ k ]
 
 abbrev pub greatest : List ℕ → ℕ
 greatest [] = 0

@@ -2,7 +2,7 @@
 use Rattle.std.specs.Prelude.{ℕ, ◌+◌, ◌-◌, nat_le, max, ◌==◌, if◌then◌else◌, List, [], ◌∷◌, ◌≡◌, ◌-◌, ◌<◌, length, drop, map, slice_get, Some, refl}
 use Rattle.std.specs.Ordering.{nat_cmp}
 use Rattle.std.specs.BTreeMap.{insert_entry}
-use Rattle.sdd_net.specs.Links.{has, top}
+use Rattle.sdd_net.specs.Links.{contains, top}
 
 -- a sender: the messages 1 to `acked` are acknowledged and dropped, and those after them are kept in order
 pub record Sending (M : Type 0) : Type 0 where
@@ -69,7 +69,7 @@ numbers early = map (λ e. e.0) early
 pub record IsEarly {M : Type 0} (k : ℕ) (arrived : List ℕ) (sent : List M) (early : List (ℕ × M)) : Type 0 where
   pub ascends : Ascends k early
   pub are_sent : AreSent sent early
-  pub same : (n : ℕ) → k < n → has (numbers early) n ≡ has arrived n
+  pub same : (n : ℕ) → k < n → contains (numbers early) n ≡ contains arrived n
 
 -- a receiver stands for the numbers that arrived, where each message is the one that was sent with its number
 pub record HasReceived {M : Type 0} (r : Receiving M) (arrived : List ℕ) (sent : List M) : Type 0 where
