@@ -1,0 +1,71 @@
+//! One call of the program, and what it answers.
+use crate::case::{Case, Taking};
+use crate::text::{Text, front};
+use anyhow::{Result, anyhow};
+use sdd_app::{Status, run_sdd1};
+use sdd_base::{Bytes, CallNos, Files, MemShelf, MemSink, ShelfFile};
+use std::alloc::Global;
+
+/// How one run differs from what its case says. A call's number 0 is that of none.
+#[derive(Clone, Copy)]
+pub struct Run<'a> {
+    /// The file that is cut, and behind how many lines.
+    pub cut: Option<(&'a str, usize)>,
+    pub shelf_fails: u64,
+    pub out_fails: u64,
+}
+
+#[derive(Drop)]
+pub struct Answer {
+    pub status: Status,
+    pub out: MemSink,
+    pub err: MemSink,
+}
+
+impl Answer {
+    /// Whether the other call ended with the same status and both sinks took the same.
+    pub fn is_same(&self, other: &Self) -> bool {
+        self.status == other.status
+            && self.out.taken() == other.out.taken()
+            && self.err.taken() == other.err.taken()
+    }
+}
+
+/// Makes the call.
+pub fn call(alloc: Global, case: &Case, run: Run<'_>) -> Result<Answer> {
+    let files = files(alloc, case.files.as_slice(), run.cut)?;
+    let mut shelf = MemShelf::new(files, case.reads.max(1), calls(alloc, run.shelf_fails)?);
+    let mut out = sink(alloc, case.out, run.out_fails)?;
+    let mut err = sink(alloc, case.err, case.err.fails)?;
+    let status = run_sdd1(alloc, case.words.as_slice(), &mut shelf, &mut out, &mut err);
+    Ok(Answer { status, out, err })
+}
+
+fn sink(alloc: Global, taking: Taking, fails: u64) -> Result<MemSink> {
+    MemSink::new(alloc, taking.room, taking.most, calls(alloc, fails)?).map_err(|_| anyhow!(
+        "no memory"
+    ))
+}
+
+fn calls(alloc: Global, number: u64) -> Result<CallNos> {
+    Ok(CallNos::from_vec(vec![in alloc; number]?))
+}
+
+fn files(alloc: Global, texts: &[Text], cut: Option<(&str, usize)>) -> Result<Files> {
+    let mut files = Vec::new(alloc);
+    for text in texts {
+        files.push(file(alloc, text, cut)?)?;
+    }
+    Ok(Files::from_vec(files))
+}
+
+fn file(alloc: Global, text: &Text, cut: Option<(&str, usize)>) -> Result<ShelfFile> {
+    let bytes = match cut {
+        Some((name, lines)) if text.name.as_str() == name => front(text.bytes.as_slice(), lines),
+        _ => text.bytes.as_slice(),
+    };
+    Ok(ShelfFile {
+        name: Bytes::from_vec(Vec::from_slice(alloc, text.name.as_bytes())?),
+        bytes: Bytes::from_vec(Vec::from_slice(alloc, bytes)?),
+    })
+}

@@ -1,0 +1,48 @@
+//! Runs the cases of its standard input through the top call, and prints what each answers.
+//!
+//! What is expected stands in `stdout`, made from outside. The input is text, line by line; blank
+//! lines and lines that begin with `#` are skipped.
+//!
+//! | line | meaning |
+//! |---|---|
+//! | `keep NAME` | a text that cases may name begins; its lines follow |
+//! | `case NAME` | a case begins; no other has its name |
+//! | `words W ..` | the words of the call, none where the line is left out |
+//! | `file NAME KEPT` | the shelf has the kept text KEPT under NAME |
+//! | `text NAME` | the shelf has a text of its own under NAME; its lines follow |
+//! | `reads N` | a read gives at most N bytes |
+//! | `shelf-fails N` | the Nth call of the shelf fails |
+//! | `out-takes N`, `err-takes N` | a write of that sink takes at most N bytes; none where N is 0 |
+//! | `out-room N`, `err-room N` | that sink takes N bytes in all |
+//! | `out-fails N`, `err-fails N` | the Nth call of that sink fails |
+//! | `each cut NAME` | one run for each front of whole lines of that file, from none to all |
+//! | `each shelf-call` | one run for each call of the shelf, which fails, and one where none does |
+//! | `each out-call` | the same of the sink for the text |
+//!
+//! The lines of a text: `|TEXT` is TEXT and a newline, `>TEXT` is TEXT alone, `=HEX` the bytes that
+//! HEX spells, and `*N LINE` such a line N times.
+//!
+//! Printed are `case NAME`, then `run K` or `runs K to L` where the case has several (runs that
+//! follow each other and answer the same are told once), `status N`, the error line behind `!` and
+//! the text behind `|`, or `>` where no newline ends it. A line of the input that is none of these
+//! ends the program with status 1 and tells its number.
+#![tactic(auto)]
+
+mod answer;
+mod case;
+mod input;
+mod printed;
+mod runs;
+mod text;
+
+use anyhow::Result;
+use std::io::{self, BufWriter, Write};
+
+fn main(rt: HostRuntime) -> Result<()> {
+    let alloc = rt.alloc();
+    let lines = io::read_to_string(alloc, rt.reader())?;
+    let mut out = BufWriter::new(alloc, io::writer(&rt))?;
+    input::tell_cases(alloc, lines.as_str(), &mut out)?;
+    out.flush()?;
+    Ok(())
+}

@@ -1,0 +1,111 @@
+//! The runs of a case.
+use crate::answer::{Answer, Run, call};
+use crate::case::{Case, Each};
+use crate::printed::{put_answer, put_name, put_numbers};
+use anyhow::{Result, bail};
+use sdd_app::Status;
+use std::alloc::Global;
+use std::io::Write;
+
+/// How many runs a case may have.
+const MOST: usize = 10_000;
+
+/// Runs of a case that follow each other and answer the same.
+#[derive(Drop)]
+struct Group {
+    first: usize,
+    last: usize,
+    answer: Answer,
+}
+
+/// Makes the runs of a case, and writes its name and what they answer.
+pub fn tell_runs<W: Write>(alloc: Global, case: &Case, out: &mut W) -> Result<()> {
+    put_name(out, case.name.as_str())?;
+    match &case.each {
+        Each::Alone => put_answer(out, &call(alloc, case, nth(case, 0))?),
+        _ => tell_each(alloc, case, out),
+    }
+}
+
+fn tell_each<W: Write>(alloc: Global, case: &Case, out: &mut W) -> Result<()> {
+    let mut group: Option<Group> = None;
+    for number in first(case)..MOST {
+        let next = call(alloc, case, nth(case, number))?;
+        let last = is_last(case, number, &next);
+        group = Some(joined(group, number, next, out)?);
+        if last {
+            return put_group(out, group);
+        }
+    }
+    bail!("a case of too many runs")
+}
+
+/// The number of the first run: of no lines, or of the first call.
+fn first(case: &Case) -> usize {
+    match &case.each {
+        Each::Alone | Each::Cut(_) => 0,
+        Each::ShelfCall | Each::OutCall => 1,
+    }
+}
+
+/// What differs in a run: the number of lines or of the call.
+fn nth(case: &Case, number: usize) -> Run<'_> {
+    let mut run = Run {
+        cut: None,
+        shelf_fails: case.shelf_fails,
+        out_fails: case.out.fails,
+    };
+    match &case.each {
+        Each::Alone => {}
+        Each::Cut(name) => run.cut = Some((name.as_str(), number)),
+        Each::ShelfCall => run.shelf_fails = number as u64,
+        Each::OutCall => run.out_fails = number as u64,
+    }
+    run
+}
+
+/// Whether the file was whole, or no call failed.
+fn is_last(case: &Case, number: usize, answer: &Answer) -> bool {
+    match &case.each {
+        Each::Alone => true,
+        Each::Cut(name) => match case.file(name.as_str()) {
+            None => true,
+            Some(text) => text.lines() <= number,
+        },
+        Each::ShelfCall => answer.status != Status::ReadFault,
+        Each::OutCall => answer.status != Status::WriteFault,
+    }
+}
+
+/// The group with one run more; where that answers otherwise, the group is written and a new one begins.
+fn joined<W: Write>(
+    group: Option<Group>,
+    number: usize,
+    answer: Answer,
+    out: &mut W,
+) -> Result<Group> {
+    match group {
+        Some(group) if group.answer.is_same(&answer) => Ok(Group {
+            last: number,
+            ..group
+        }),
+        _ => {
+            put_group(out, group)?;
+            Ok(Group {
+                first: number,
+                last: number,
+                answer,
+            })
+        }
+    }
+}
+
+fn put_group<W: Write>(out: &mut W, group: Option<Group>) -> Result<()> {
+    match group {
+        None => Ok(()),
+        Some(group) => {
+            put_numbers(out, group.first, group.last)?;
+            put_answer(out, &group.answer)
+        }
+    }
+}

@@ -1,0 +1,85 @@
+//! Named texts, and the lines that spell them.
+use anyhow::{Context, Result, bail};
+use std::alloc::Global;
+
+/// Bytes with a name.
+#[derive(Drop)]
+pub struct Text {
+    pub name: String,
+    pub bytes: Vec<u8>,
+}
+
+impl Text {
+    /// An empty text.
+    pub fn new(alloc: Global, name: &str) -> Result<Self> {
+        Ok(Text {
+            name: String::from_str(alloc, name)?,
+            bytes: Vec::new(alloc),
+        })
+    }
+
+    /// The same bytes under another name.
+    pub fn renamed(&self, alloc: Global, name: &str) -> Result<Self> {
+        Ok(Text {
+            name: String::from_str(alloc, name)?,
+            bytes: Vec::from_slice(alloc, self.bytes.as_slice())?,
+        })
+    }
+
+    /// Adds what a line stands for.
+    pub fn add(&mut self, alloc: Global, line: &str) -> Result<()> {
+        let (times, piece) = match line.strip_prefix("*") {
+            None => (1, line),
+            Some(rest) => repeated(rest)?,
+        };
+        for _ in 0..times {
+            self.add_piece(alloc, piece)?;
+        }
+        Ok(())
+    }
+
+    fn add_piece(&mut self, alloc: Global, piece: &str) -> Result<()> {
+        if let Some(line) = piece.strip_prefix("|") {
+            self.bytes.extend_from_slice(line.as_bytes())?;
+            self.bytes.push(b'\n')?;
+            return Ok(());
+        }
+        if let Some(text) = piece.strip_prefix(">") {
+            self.bytes.extend_from_slice(text.as_bytes())?;
+            return Ok(());
+        }
+        match piece.strip_prefix("=") {
+            None => bail!("not a line of a text"),
+            Some(spelled) => {
+                let bytes = hex::decode(alloc, spelled)?;
+                self.bytes.extend_from_slice(bytes.as_slice())?;
+                Ok(())
+            }
+        }
+    }
+
+    /// How many lines end in it.
+    pub fn lines(&self) -> usize {
+        self.bytes.iter().filter(|byte| **byte == b'\n').count()
+    }
+}
+
+/// The count and the line of `N LINE`.
+fn repeated(rest: &str) -> Result<(u32, &str)> {
+    let (count, piece) = rest.split_once(' ').context("a count without a line")?;
+    Ok((count.parse::<u32>()?, piece))
+}
+
+/// The front of so many lines, or all where there are no more.
+pub fn front(bytes: &[u8], lines: usize) -> &[u8] {
+    let mut left = lines;
+    for (at, byte) in bytes.iter().enumerate() {
+        if left == 0 {
+            return &bytes[..at];
+        }
+        if *byte == b'\n' {
+            left -= 1;
+        }
+    }
+    bytes
+}

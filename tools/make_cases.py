@@ -1,0 +1,339 @@
+#!/usr/bin/env python3
+"""Writes the input of the program of cases and the output that it must give.
+
+    tools/make_cases.py --reference COMMAND [--into FOLDER]
+
+COMMAND is a reference program that takes the words of `sdd1` and the files that they name, and prints
+what `sdd1` should; its environment is the caller's. FOLDER is crates/sdd_cases where it isn't given.
+No text comes from the program itself: what the reference can't answer (calls of a shelf or a sink that
+fail) follows from the rules at `Outside`, or stands in the case.
+
+What a person edits is tools/cases:
+
+catalogues/               texts that cases name, as those of crates/sdd1/data
+calls.txt                 a call a line: `plain own.toml put_and_query.work`
+workloads.txt             `NAME | CATALOGUE | COMMAND .. | LINE / LINE ..`, a case for each command
+catalogue_faults.txt      `NAME | CATALOGUE | FAULT | OLD => NEW`, the catalogue with its first OLD
+                          replaced, `NAME | CATALOGUE | FAULT | + LINE / LINE ..` with lines behind it,
+                          or `NAME | - | FAULT | LINE / LINE ..` with nothing else
+workload_faults.txt       `NAME | CATALOGUE | FAULT | LINE / LINE ..`
+*.cases                   cases as the program reads them; behind a case, lines `expect LINE` have the
+                          answer that is written by hand, LINE as the program prints it
+
+A FAULT is what is told, as `line 2: BadNumber`, or `accepted`; the script stops where the reference
+tells another. The format that the program reads is described in crates/sdd_cases/src/main.rt.
+"""
+import argparse
+import os
+import shlex
+import subprocess
+import sys
+import tempfile
+
+TOP = os.path.join(os.path.dirname(os.path.abspath(__file__)), "..")
+CASES = os.path.join(TOP, "tools", "cases")
+KEPT = [os.path.join(TOP, "crates", "sdd1", "data"), os.path.join(CASES, "catalogues")]
+NO_LIMIT = 2**64
+ROOM = 1 << 20
+READ_FAULT, WRITE_FAULT = (6, b"read fault\n"), (7, b"write fault\n")
+
+
+class Case:
+    """What a case asks, as the program reads it."""
+
+    def __init__(self, name):
+        self.name = name
+        self.lines = []         # as they stand in the input
+        self.words = []
+        self.files = {}         # name -> bytes
+        self.numbers = {}
+        self.each = ""
+        self.expected = []      # lines written by hand
+
+    def number(self, key, without):
+        return self.numbers.get(key, without)
+
+
+def piece(line):
+    """The bytes that a line of a text stands for."""
+    if line.startswith("*"):
+        times, rest = line[1:].split(" ", 1)
+        return piece(rest) * int(times)
+    if line.startswith("|"):
+        return line[1:].encode() + b"\n"
+    if line.startswith(">"):
+        return line[1:].encode()
+    if line.startswith("="):
+        return bytes.fromhex(line[1:])
+    raise ValueError(line)
+
+
+def text_lines(data):
+    """Lines that spell the bytes."""
+    try:
+        pieces = data.decode().split("\n")
+    except UnicodeDecodeError:
+        return ["=" + data.hex()]
+    whole = ["|" + x for x in pieces[:-1]]
+    return whole + ([">" + pieces[-1]] if pieces[-1] else [])
+
+
+def take(case, kept, line):
+    """Adds a line of a `.cases` file to the case."""
+    key, _, value = line.partition(" ")
+    if key == "expect":
+        case.expected.append(value)
+        return
+    case.lines.append(line)
+    if key == "words":
+        case.words = value.split(" ")
+    elif key == "text":
+        case.last = value
+        case.files[value] = b""
+    elif key == "file":
+        name, _, text = value.partition(" ")
+        case.files[name] = kept[text]
+    elif key == "each":
+        case.each = value
+    elif line[0] in "|>=*":
+        case.files[case.last] += piece(line)
+    else:
+        case.numbers[key] = int(value)
+
+
+def read_cases(path, kept):
+    cases = []
+    with open(path, encoding="utf-8") as f:
+        for line in f.read().split("\n"):
+            if not line or line.startswith("#"):
+                if cases and line:
+                    cases[-1].lines.append(line)
+            elif line.startswith("case "):
+                cases.append(Case(line[5:]))
+            else:
+                take(cases[-1], kept, line)
+    return cases
+
+
+def made(name, lines, kept, fault=None):
+    """The case of these lines, and what is told of it."""
+    case = Case(name)
+    for line in lines:
+        take(case, kept, line)
+    case.fault = fault
+    return case
+
+
+def read_calls(path, kept):
+    cases = []
+    with open(path, encoding="utf-8") as f:
+        for line in f.read().split("\n"):
+            if line and not line.startswith("#"):
+                names = [x for x in line.split(" ")[1:] if x in kept]
+                cases.append(made(line, ["words " + line] + ["file %s %s" % (x, x) for x in names], kept))
+    return cases
+
+
+def table(path):
+    with open(path, encoding="utf-8") as f:
+        for line in f.read().split("\n"):
+            if line and not line.startswith("#"):
+                yield line.split(" | ", 3)
+
+
+def joined(text):
+    """`LINE / LINE ..`, each with its newline; nothing where the text is empty."""
+    return "".join(x + "\n" for x in text.split(" / ")) if text else ""
+
+
+def read_catalogue_faults(path, kept):
+    cases = []
+    for name, base, fault, edit in table(path):
+        data = "" if base == "-" else kept[base].decode()
+        if base == "-" or edit.startswith("+ "):
+            data += joined(edit if base == "-" else edit[2:])
+        else:
+            old, new = edit.split(" => ")
+            if old not in data:
+                sys.exit("%s: %r doesn't stand in %s" % (name, old, base))
+            data = data.replace(old, new, 1)
+        lines = ["words check cat", "text cat"] + text_lines(data.encode())
+        cases.append(made("catalogue: " + name, lines, kept, "" if fault == "accepted" else "catalogue: " + fault))
+    return cases
+
+
+def read_workloads(path, kept):
+    cases = []
+    for name, base, commands, work in table(path):
+        for command in commands.split(" "):
+            lines = ["words %s cat work" % command, "file cat " + base, "text work"] + ["|" + x for x in work.split(" / ")]
+            cases.append(made("%s: %s" % (command, name), lines, kept))
+    return cases
+
+
+def read_workload_faults(path, kept):
+    cases = []
+    for name, base, fault, edit in table(path):
+        lines = ["words plain cat work", "file cat " + base, "text work"] + ["|" + x for x in edit.split(" / ")]
+        cases.append(made("workload: " + name, lines, kept, "" if fault == "accepted" else "workload: " + fault))
+    return cases
+
+
+class Outside:
+    """What a call answers: from the reference, and by the rules for calls that fail.
+
+    A file of n bytes takes n + 2 calls of a shelf that gives one byte a read: one opens it, and the last
+    finds its end. The catalogue is read first; where it has a fault, the workload isn't read. A sink that
+    takes m bytes a call takes the next m in each call, until one fails or takes none.
+    """
+
+    def __init__(self, command):
+        self.command = shlex.split(command)
+        self.known = {}
+
+    def reference(self, words, files):
+        key = (tuple(words), tuple(sorted(files.items())))
+        if key not in self.known:
+            with tempfile.TemporaryDirectory(prefix="make-cases-") as room:
+                for name, data in files.items():
+                    with open(os.path.join(room, name), "wb") as f:
+                        f.write(data)
+                p = subprocess.run(self.command + words, cwd=room, stdout=subprocess.PIPE, stderr=subprocess.PIPE)
+            self.known[key] = (p.returncode, p.stderr, p.stdout)
+        return self.known[key]
+
+    def answer(self, case, files, shelf_fails, out_fails):
+        status, told, text = self.reference(case.words, files)
+        if shelf_fails:
+            if case.number("reads", 0) != 1:
+                sys.exit("%s: what fails is known only where a read gives one byte" % case.name)
+            if shelf_fails <= shelf_calls(case.words, files, status):
+                (status, told), text = READ_FAULT, b""
+        taken = fed(text, case.number("out-takes", NO_LIMIT), case.number("out-room", ROOM), out_fails)
+        if taken != text:
+            status, told = WRITE_FAULT
+        told = fed(told, case.number("err-takes", NO_LIMIT), case.number("err-room", ROOM), case.number("err-fails", 0))
+        return status, told, taken
+
+
+def shelf_calls(words, files, status):
+    """How many calls of the shelf, one byte a read, come to the end of the files that are read."""
+    named = words[1:] if status != 3 else words[1:2]
+    return sum(len(files[x]) + 2 for x in named)
+
+
+def fed(text, most, room, fails):
+    """What a sink takes of a text."""
+    taken = call = 0
+    while taken < len(text):
+        call += 1
+        n = min(most, room - taken, len(text) - taken)
+        if call == fails or n == 0:
+            break
+        taken += n
+    return text[:taken]
+
+
+def front(data, lines):
+    """The first lines of the bytes."""
+    return b"".join(data.splitlines(keepends=True)[:lines]) if b"\r" not in data else sys.exit("a return in a file that is cut")
+
+
+def runs(outside, case):
+    """The number and the answer of each run."""
+    shelf_fails, out_fails = case.number("shelf-fails", 0), case.number("out-fails", 0)
+    if not case.each:
+        yield 0, outside.answer(case, case.files, shelf_fails, out_fails)
+    elif case.each.startswith("cut "):
+        name = case.each[4:]
+        data = case.files[name]
+        for k in range(data.count(b"\n") + 1):
+            files = dict(case.files)
+            files[name] = data if k == data.count(b"\n") else front(data, k)
+            yield k, outside.answer(case, files, shelf_fails, out_fails)
+    else:
+        for k in range(1, 10000):
+            if case.each == "shelf-call":
+                got = outside.answer(case, case.files, k, out_fails)
+                last = got[0] != 6
+            else:
+                got = outside.answer(case, case.files, shelf_fails, k)
+                last = got[0] != 7
+            yield k, got
+            if last:
+                return
+
+
+def answer_lines(answer):
+    status, told, text = answer
+    lines = ["status %d" % status]
+    for mark, data in (("!", told), ("|", text)):
+        pieces = data.decode().split("\n")
+        lines += [mark + x for x in pieces[:-1]]
+        if pieces[-1]:
+            lines.append(">" + pieces[-1])
+    return lines
+
+
+def expected_lines(outside, case):
+    if case.expected:
+        return case.expected
+    lines, group = [], []
+    for number, answer in list(runs(outside, case)) + [(None, None)]:
+        if group and group[0][1] != answer:
+            first, last = group[0][0], group[-1][0]
+            if case.each:
+                lines.append("run %d" % first if first == last else "runs %d to %d" % (first, last))
+            lines += answer_lines(group[0][1])
+            group = []
+        group.append((number, answer))
+    return lines
+
+
+def check_fault(case, lines):
+    """The fault that the table has is what the reference tells."""
+    fault = getattr(case, "fault", None)
+    if fault is None:
+        return
+    told = [x[1:] for x in lines if x.startswith("!")]
+    if told != ([fault] if fault else []):
+        sys.exit("%s: the table has %r, the reference %r" % (case.name, fault, told))
+
+
+def main():
+    asked = argparse.ArgumentParser(description=__doc__.split("\n\n")[0])
+    asked.add_argument("--reference", required=True)
+    asked.add_argument("--into", default=os.path.join(TOP, "crates", "sdd_cases"))
+    asked = asked.parse_args()
+    kept = {}
+    for folder in KEPT:
+        for name in sorted(os.listdir(folder)):
+            with open(os.path.join(folder, name), "rb") as f:
+                kept[name] = f.read()
+    cases = read_calls(os.path.join(CASES, "calls.txt"), kept)
+    cases += read_workloads(os.path.join(CASES, "workloads.txt"), kept)
+    cases += read_catalogue_faults(os.path.join(CASES, "catalogue_faults.txt"), kept)
+    cases += read_workload_faults(os.path.join(CASES, "workload_faults.txt"), kept)
+    for name in sorted(os.listdir(CASES)):
+        if name.endswith(".cases"):
+            cases += read_cases(os.path.join(CASES, name), kept)
+    outside = Outside(asked.reference)
+    given = ["# Made by tools/make_cases.py from tools/cases."]
+    want = []
+    used = {x.split(" ")[2] for case in cases for x in case.lines if x.startswith("file ")}
+    for name, data in kept.items():
+        if name in used:
+            given += ["", "keep " + name] + text_lines(data)
+    for case in cases:
+        lines = expected_lines(outside, case)
+        check_fault(case, lines)
+        given += ["", "case " + case.name] + case.lines
+        want += ["case " + case.name] + lines
+    for name, lines in (("stdin", given), ("stdout", want)):
+        with open(os.path.join(asked.into, name), "w", encoding="utf-8") as f:
+            f.write("".join(x + "\n" for x in lines))
+    print("%d cases, %d runs of the reference" % (len(cases), len(outside.known)))
+
+
+if __name__ == "__main__":
+    main()
