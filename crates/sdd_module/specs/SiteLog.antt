@@ -71,6 +71,12 @@ hands [] = 0
 hands (Handed from m ∷ log) = suc (hands log)
 hands (_ ∷ log) = hands log
 
+-- the numbers of the transactions that were given to the site
+abbrev pub submits : Log → List ℕ
+submits [] = []
+submits (Submits n txn ∷ log) = n ∷ submits log
+submits (_ ∷ log) = submits log
+
 -- whether a send answers hand n
 abbrev pub answers_hand : Option ℕ → ℕ → Bool
 answers_hand None n = false
