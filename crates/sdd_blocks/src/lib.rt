@@ -1,4 +1,8 @@
 //! The blocks of a multigraph: which edges simple cycles link.
+//!
+//! The one contract to the layer above is the list of block numbers, as `specs/Blocks.antt` defines it over
+//! the walks and simple cycles of `specs/Graph.antt`. What holds of all such lists stands in
+//! `specs/Laws.antt`.
 #![tactic(auto)]
 
 ghost use Rattle.std.specs.Prelude.{◌≡◌, ◌<◌, ◌≤◌, ◌^◌, IfOk, All, length};
@@ -6,16 +10,16 @@ ghost use Rattle.sdd_blocks.specs.Blocks.{AreBlocks};
 
 mod components;
 mod forest;
+mod law;
 mod marks;
 mod neighbours;
 mod numbers;
-#[cfg(test)]
-mod tests;
 
 use crate::components::components;
 use crate::marks::marks;
 use crate::neighbours::neighbour_pairs;
 use crate::numbers::numbers;
+pub use law::{law_closed_walks_are_cycles, law_one_number_a_cycle, law_one_numbering};
 use sdd_base::NoMemory;
 use std::alloc::Global;
 

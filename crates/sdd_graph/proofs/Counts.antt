@@ -1,5 +1,5 @@
 -- How long lists are that are made of others, and what holds of each item.
-use Rattle.std.proofs.Common.{ℕ, zero, suc, ◌≡◌, ◌≤◌, ◌<◌, ◌+◌, ◌*◌, Bool, true, false, ◌&&◌, cond, List, [], ◌∷◌, map, filter, length, get_or, refl, ap, sym, ◌∙◌, arith, inl, inr}
+use Rattle.std.proofs.Common.{ℕ, zero, suc, ◌≡◌, ◌≤◌, ◌<◌, ◌+◌, ◌*◌, Bool, true, false, cond, List, [], ◌∷◌, map, filter, length, get_or, ap, sym, ◌∙◌, arith, inl, inr}
 use Rattle.std.specs.List.{flat_map, range_with_len, All, AllByRecursion}
 use Rattle.std.proofs.lemmas.List.{length-append}
 use Rattle.std.proofs.lemmas.List.Elements.{All-filter, All-map, All-nil, All-append, recursion_from_All, filter_passes}
@@ -46,7 +46,3 @@ all_flat P Q f h xs all = each_flat P Q f h xs (recursion_from_All Q xs all)
 -- what holds of all that is made of items that pass
 pub all_kept : {X A : Type 0} (P : A → Type 0) (Q : X → Type 0) (g : X → A) (p : X → Bool) → ((x : X) → Q x → p x ≡ true → P (g x)) → (xs : List X) → All Q xs → All P (map g (filter p xs))
 all_kept P Q g p h xs all = All-map P g (filter p xs) (λ k d within. h (get_or (filter p xs) k d) (All-filter p Q xs all k d within) (filter_passes p xs k d within))
-
-pub both_true : (a b : Bool) → (a && b) ≡ true → (a ≡ true) × (b ≡ true)
-both_true true b e = (refl, e)
-both_true false b e = cc

@@ -5,7 +5,8 @@ use Rattle.std.proofs.lemmas.List.FromFn.{length-range_with_len}
 use Rattle.sdd_catalog.specs.Catalogue.{Catalogue, reads_at, writes}
 use Rattle.sdd_catalog.specs.Numbers.{IsWhole}
 use Rattle.sdd_graph.specs.declared.edge.Edge.TheVariants.{Vertical, Horizontal}
-use Rattle.sdd_graph.specs.Graph.{class_no, classes_of, fragments_of, vertical_edges, write_sets_meet, horizontals_from, horizontal_edges, diagonals_between, diagonals_from, diagonal_edges, conflict_graph}
+use Rattle.sdd_base.specs.Numbers.{class_no}
+use Rattle.sdd_graph.specs.Graph.{classes_of, fragments_of, vertical_edges, write_sets_meet, horizontals_from, horizontal_edges, diagonals_between, diagonals_from, diagonal_edges, conflict_graph}
 use Rattle.sdd_graph.proofs.Counts.{flat_bound, flat_bound_but_one, kept_bound}
 use Rattle.sdd_graph.proofs.Pairs.{diagonal, none_to_itself}
 

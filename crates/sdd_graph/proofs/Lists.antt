@@ -2,11 +2,13 @@
 use Rattle.std.proofs.Common.{ℕ, zero, suc, ◌≡◌, ◌≢◌, ◌≤◌, ◌-◌, ◌+◌, ◌==◌, Bool, true, false, ◌&&◌, ◌||◌, cond, List, [], ◌∷◌, ◌++◌, map, filter, set, Option, Some, None, is_some, refl, ap, sym, ◌∙◌, arith, append_assoc, eq-eqb}
 use Rattle.std.specs.List.{flat_map, list_any, range_with_len, zip}
 use Rattle.std.specs.Option.{option_map}
+use Rattle.std.proofs.Math.Bool.{or-false}
 use Rattle.std.proofs.lemmas.Bool.{ne_eqb}
 use Rattle.std.proofs.lemmas.List.{map-append, append-nil, flat_map_more}
 use Rattle.std.proofs.lemmas.List.Elements.{filter-append}
 use Rattle.std.proofs.lemmas.List.Folds.{list_any-append}
-use Rattle.sdd_catalog.specs.Catalogue.{numbers_to, has}
+use Rattle.sdd_base.specs.declared.number.FragNo.{FragNo}
+use Rattle.sdd_catalog.specs.Catalogue.{numbers_to}
 
 -- one number more, from a on
 range_more : (a n : ℕ) → range_with_len a (suc n) ≡ range_with_len a n ++ (a + n) ∷ []
@@ -25,6 +27,12 @@ up_to i some =
 -- the image of one more
 pub map_more : {X A : Type 0} (g : X → A) (xs more : List X) (x : X) → more ≡ xs ++ x ∷ [] → map g more ≡ map g xs ++ g x ∷ []
 map_more g xs more x e = ap (map g) e ∙ map-append g xs (x ∷ [])
+
+-- a list of images: one more
+pub collected_more : {X A : Type 0} (g : X → A) (xs more : List X) (x : X) (d : A) (items new : List A)
+    → more ≡ xs ++ x ∷ [] → items ≡ map g xs → d ≡ g x → new ≡ items ++ d ∷ [] → new ≡ map g more
+collected_more g xs more x d items new e before same now =
+    now ∙ ap (λ z. z ++ d ∷ []) before ∙ ap (λ z. map g xs ++ z ∷ []) same ∙ sym (map_more g xs more x e)
 
 -- what is made of each one, in order: one more
 pub each_more : {X A : Type 0} (f : X → List A) (xs more : List X) (x : X) (old items new : List A) → more ≡ xs ++ x ∷ [] → items ≡ old ++ flat_map f xs → new ≡ items ++ f x → new ≡ old ++ flat_map f more
@@ -105,16 +113,18 @@ mark_from p a (suc n) f (suc k) e =
     let rest : set (map p (range_with_len (a + 1) n)) k true ≡ map (λ x. p x || (f == x)) (range_with_len (a + 1) n) = mark_from p (a + 1) n f k (omega arith) in
     ap (λ b. b ∷ set (map p (range_with_len (a + 1) n)) k true) (sym head) ∙ ap (λ bs. (p a || (f == a)) ∷ bs) rest
 
-or_none : (b : Bool) → (b || false) ≡ b
-or_none true = refl
-or_none false = refl
+-- whether a number is that of one of the fragments
+abbrev pub is_among : List FragNo → ℕ → Bool
+is_among frags x = list_any (λ f. f.0 == x) frags
 
-has_more : (ws : List ℕ) (f x : ℕ) → has (ws ++ f ∷ []) x ≡ (has ws x || (f == x))
-has_more ws f x = list_any-append (λ y. y == x) ws (f ∷ []) ∙ ap (λ b. has ws x || b) (or_none (f == x))
+among_more : (frags : List FragNo) (f : FragNo) (x : ℕ) → is_among (frags ++ f ∷ []) x ≡ (is_among frags x || (f.0 == x))
+among_more frags f x =
+    list_any-append (λ y. y.0 == x) frags (f ∷ []) ∙ ap (λ b. is_among frags x || b) (or-false (f.0 == x))
 
--- a flag set at a number is that of a list with the number behind it
-pub mark_more : (ws more : List ℕ) (n f : ℕ) → more ≡ ws ++ f ∷ [] → 1 ≤ f → set (map (has ws) (numbers_to n)) (f - 1) true ≡ map (has more) (numbers_to n)
-mark_more ws more n f e some =
-    mark_from (has ws) 1 n f (f - 1) (omega arith)
-    ∙ map_agree (λ x. has ws x || (f == x)) (has (ws ++ f ∷ [])) 1 n (λ x h. sym (has_more ws f x))
-    ∙ ap (λ zs. map (has zs) (numbers_to n)) (sym e)
+-- a flag set at a fragment's number is that of a list with the fragment behind it
+pub mark_more : (frags more : List FragNo) (n : ℕ) (f : FragNo) → more ≡ frags ++ f ∷ [] → 1 ≤ f.0
+    → set (map (is_among frags) (numbers_to n)) (f.0 - 1) true ≡ map (is_among more) (numbers_to n)
+mark_more frags more n f e some =
+    mark_from (is_among frags) 1 n f.0 (f.0 - 1) (omega arith)
+    ∙ map_agree (λ x. is_among frags x || (f.0 == x)) (is_among (frags ++ f ∷ [])) 1 n (λ x h. sym (among_more frags f x))
+    ∙ ap (λ zs. map (is_among zs) (numbers_to n)) (sym e)

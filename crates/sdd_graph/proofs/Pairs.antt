@@ -5,7 +5,8 @@ use Rattle.std.proofs.lemmas.List.{take_all}
 use Rattle.sdd_catalog.specs.Catalogue.{Catalogue, reads_at, writes}
 use Rattle.sdd_graph.specs.declared.edge.Edge.{Edge}
 use Rattle.sdd_graph.specs.declared.edge.Edge.TheVariants.{Diagonal}
-use Rattle.sdd_graph.specs.Graph.{class_no, frag_no, fragments_of, diagonals_between}
+use Rattle.sdd_base.specs.Numbers.{class_no, frag_no}
+use Rattle.sdd_graph.specs.Graph.{fragments_of, diagonals_between}
 use Rattle.sdd_graph.specs.Uses.{reads_of}
 use Rattle.sdd_graph.proofs.Lists.{filter_both, filter_none}
 

@@ -3,6 +3,7 @@ use Rattle.std.proofs.Common.{ℕ, ◌≡◌, ◌≤◌, ◌<◌, ◌-◌, ◌+�
 use Rattle.std.specs.List.{list_any, zip, All}
 use Rattle.std.proofs.lemmas.List.Elements.{All-same, All-filter, All-weaker, All-from_recursion}
 use Rattle.std.proofs.lemmas.List.FromFn.{get_or-map-range_with_len, length-map-range_with_len}
+use Rattle.sdd_base.specs.declared.number.FragNo.{FragNo}
 use Rattle.sdd_catalog.specs.Catalogue.{Catalogue, numbers_to, class_at, reads_at, writes}
 use Rattle.sdd_catalog.specs.Numbers.{IsWhole, IsServedClass}
 use Rattle.sdd_catalog.proofs.Sound.{each_in_range}
@@ -44,9 +45,10 @@ pub flags_meet : (cat : Catalogue) (i j : ℕ) → list_any (λ (x : Bool × Boo
 flags_meet cat i j = any_both (writes cat i) (writes cat j) (fragments_of cat)
 
 -- what is written is there
-pub writes_within : (cat : Catalogue) (i : ℕ) (written : List ℕ) → IsWhole cat → IsClassOf cat i → written ≡ (class_at cat i).writes → All (λ f. (1 ≤ f) × (f ≤ length cat.fragments)) written
+pub writes_within : (cat : Catalogue) (i : ℕ) (written : List FragNo) → IsWhole cat → IsClassOf cat i
+    → written ≡ (class_at cat i).writes → All (λ f. (1 ≤ f.0) × (f.0 ≤ length cat.fragments)) written
 writes_within cat i written whole is e =
     let from : 1 ≤ i = is.from in
     let to : i ≤ length cat.classes = is.to in
     let served : IsServedClass cat (class_at cat i) = whole.classes (i - 1) _ (omega arith) in
-    All-same (λ f. (1 ≤ f) × (f ≤ length cat.fragments)) written _ e served.writes
+    All-same (λ f. (1 ≤ f.0) × (f.0 ≤ length cat.fragments)) written _ e served.writes

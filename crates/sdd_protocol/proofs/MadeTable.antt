@@ -7,12 +7,13 @@ use Rattle.std.proofs.lemmas.List.FromFn.{length-map-range_with_len}
 use Rattle.sdd_blocks.specs.Blocks.{AreBlocks}
 use Rattle.sdd_catalog.specs.Catalogue.{Catalogue}
 use Rattle.sdd_graph.specs.Edges.{IsEdgeOf, JoinsNodes}
-use Rattle.sdd_graph.specs.Graph.{class_no, vertical_edges, horizontal_edges, diagonal_edges, conflict_graph, ends}
+use Rattle.sdd_base.specs.Numbers.{class_no}
+use Rattle.sdd_graph.specs.Graph.{vertical_edges, horizontal_edges, diagonal_edges, conflict_graph, ends}
 use Rattle.sdd_graph.specs.declared.edge.Edge.{Edge}
 use Rattle.sdd_graph.specs.declared.edge.Edge.TheVariants.{Vertical, Horizontal, Diagonal}
 use Rattle.sdd_graph.proofs.Known.{edges_known}
 use Rattle.sdd_protocol.specs.Entries.{HasVertical, AreEntries, protocol_by}
-use Rattle.sdd_protocol.specs.Places.{HasCell}
+use Rattle.sdd_protocol.specs.DiagonalIndex.{HasCell}
 use Rattle.sdd_protocol.specs.Protocols.{IsTable, is_vertical_of, vertical_block, diagonal_protocol, protocol_in}
 use Rattle.sdd_protocol.specs.declared.entry.Entry.{Entry}
 use Rattle.sdd_protocol.proofs.Tables.{edges_of, blocks_of, first_block, vertical_block-lists, first_block-vertical}

@@ -4,8 +4,8 @@ ghost use Rattle.sdd_graph.specs.Edges.{NamesClasses, JoinsNodes};
 ghost use Rattle.sdd_graph.specs.Graph.{ends};
 ghost use Rattle.sdd_protocol.specs.Protocols.{IsTable};
 
+use crate::diagonal_index::DiagonalIndex;
 use crate::entries::entries;
-use crate::places::Places;
 use crate::protocol_table::Table;
 use sdd_base::NoMemory;
 use sdd_blocks::blocks;
@@ -25,8 +25,8 @@ pub fn table(alloc: Global, cat: &Catalogue) -> Result<Table, NoMemory>
     let edges = conflict_graph(alloc, cat)?;
     let numbers = block_numbers(alloc, &edges, cat.classes())?;
     let entries = entries(alloc, &edges, &numbers)?;
-    let places = Places::of(alloc, &entries, cat.classes() + 1)?;
-    Ok(Table::new(alloc, entries, places))
+    let index = DiagonalIndex::of(alloc, &entries, cat.classes() + 1)?;
+    Ok(Table::new(alloc, entries, index))
 }
 
 /// The block number of each edge of the graph of so many classes.
