@@ -137,6 +137,3 @@ impl Source for Plain {
         self.rows.matching(alloc, rel, conds)
     }
 }
-
-#[cfg(test)]
-mod tests;

@@ -165,11 +165,11 @@ impl Rows {
 
 /// The relation of a fragment, or 0 where the fragment isn't there. Number 0 stands for fragment 1.
 fn relation_of(cat: &Catalogue, frag: FragNo) -> u32
-    ensures { result ≡ (fragment_at cat.now frag.0).rel }
+    ensures { result ≡ (fragment_at cat.now frag.0).rel.0 }
 {
     let number = frag.0.max(1);
     if number <= cat.fragments() {
-        cat.fragment(FragNo(number)).rel
+        cat.fragment(FragNo(number)).rel.0
     } else {
         0
     }
