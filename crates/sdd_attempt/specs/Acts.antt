@@ -1,7 +1,7 @@
 -- How an attempt begins, asks and commits: the records that it makes and the messages that go out with them.
 use Rattle.std.specs.Prelude.{ℕ, suc, ◌==◌, not, ◌||◌, cond, if◌then◌else◌, List, [], ◌∷◌, map, filter, filter_map, Option, Some, None}
 use Rattle.sdd_base.specs.Words.{or_else, ascending, is_empty}
-use Rattle.sdd_base.specs.Numbers.{dm_no, class_no, txn_no, time_at}
+use Rattle.sdd_base.specs.Numbers.{dm_no, class_no, frag_no, txn_no, time_at}
 use Rattle.sdd_base.specs.Clock.{Ticking, ticked, timestamp, bound_of}
 use Rattle.sdd_base.specs.declared.site.Site.{Site}
 use Rattle.sdd_base.specs.declared.site.Site.TheVariants.{D}
@@ -15,7 +15,7 @@ use Rattle.sdd_protocol.specs.Conditions.{conditions, undeclared_conditions, is_
 use Rattle.sdd_protocol.specs.declared.entry.Entry as line
 use Rattle.sdd_lang.specs.declared.effect.Effect.{Effect}
 use Rattle.sdd_lang.specs.Effect.{effect}
-use Rattle.sdd_lang.specs.Uses.{uses_of, fragment_no}
+use Rattle.sdd_lang.specs.Uses.{uses_of}
 use Rattle.sdd_lang.specs.Classes.{fragments_in}
 use Rattle.sdd_history.specs.declared.record.Rec.TheVariants.{Start, Commit}
 use Rattle.sdd_wire.specs.declared.msg.Msg.{Msg}
@@ -31,7 +31,7 @@ use Rattle.sdd_attempt.specs.Attempts.{Attempt}
 -- its conditions at module d: by the protocol table, and undeclared on every class
 abbrev pub conditions_at : Catalogue → List line.Entry → ℕ → List ℕ → ℕ → ℕ → ℕ → List Cond
 conditions_at cat table c frags own p2 d =
-    if c == 0 then undeclared_conditions cat own else conditions cat table c d (map fragment_no frags) own p2
+    if c == 0 then undeclared_conditions cat own else conditions cat table c d (map frag_no frags) own p2
 
 abbrev pub with_frags : Use → List FragNo → Option Use
 with_frags u [] = None

@@ -8,7 +8,7 @@ use Rattle.sdd_base.specs.Order.{with_values}
 use Rattle.sdd_base.specs.declared.value.Value.{Value}
 use Rattle.sdd_base.specs.declared.site.Site.{Site}
 use Rattle.sdd_base.specs.declared.site.Site.TheVariants.{D}
-use Rattle.sdd_catalog.specs.Catalogue.{has}
+use Rattle.sdd_catalog.specs.Rules.{has}
 use Rattle.sdd_lang.specs.declared.condition.Ref.{Ref}
 use Rattle.sdd_lang.specs.declared.condition.Condition.{Condition}
 use Rattle.sdd_lang.specs.declared.statement.Stmt.{Stmt}

@@ -5,7 +5,7 @@ use Rattle.std.specs.List.{list_any, flat_map}
 use Rattle.sdd_base.specs.Words.{head_of}
 use Rattle.sdd_base.specs.Sites.{same_site, number_of}
 use Rattle.sdd_base.specs.declared.site.Site.{Site}
-use Rattle.sdd_catalog.specs.Catalogue.{has}
+use Rattle.sdd_catalog.specs.Rules.{has}
 use Rattle.sdd_lang.specs.Database.{Row}
 use Rattle.sdd_lang.specs.Sound.{IsDatabase}
 use Rattle.sdd_exec.specs.Serves.{Serves}

@@ -7,7 +7,8 @@ use Rattle.sdd_base.specs.declared.site.Site.{Site}
 use Rattle.sdd_base.specs.declared.condition.Cond.{Cond}
 use Rattle.sdd_base.specs.declared.usage.Use.{Use}
 use Rattle.sdd_base.specs.declared.change.Change.{Change}
-use Rattle.sdd_catalog.specs.Catalogue.{has, has_copy, fragment_at}
+use Rattle.sdd_catalog.specs.Catalogue.{has_copy, fragment_at}
+use Rattle.sdd_catalog.specs.Rules.{has}
 use Rattle.sdd_lang.specs.Database.{item_cmp, key_in}
 use Rattle.sdd_wire.specs.declared.msg.Msg.{Msg}
 use Rattle.sdd_wire.specs.declared.msg.Msg.TheVariants.{Read, Fetch, Reduce, Ship, Write, Null}
@@ -72,7 +73,7 @@ write_times (_ ∷ log) = write_times log
 -- the module has a copy of a change's fragment, and its row has the key in its key column
 pub record FitsChange (s : Setting) (x : Change) : Type 0 where
   pub here : has_copy s.catalogue (number_of s.site) x.frag.0 ≡ true
-  pub keyed : IfSome x.row (λ row. key_in s.catalogue (fragment_at s.catalogue x.frag.0).rel row ≡ x.key)
+  pub keyed : IfSome x.row (λ row. key_in s.catalogue (fragment_at s.catalogue x.frag.0).rel.0 row ≡ x.key)
 
 -- a WRITE's timestamp is above 0 and new, and its changes are of different items
 pub record FitsWrite (s : Setting) (log : Log) (from : Site) (class time : ℕ) (changes : List Change) : Type 0 where

@@ -2,7 +2,7 @@
 use Rattle.std.specs.Prelude.{ℕ, suc, Bool, false, List, [], ◌∷◌, ◌++◌, map, slice_index_or, Option, None}
 use Rattle.std.specs.List.{flat_map}
 use Rattle.sdd_base.specs.Sites.{number_of}
-use Rattle.sdd_base.specs.Numbers.{tm_no, dm_no}
+use Rattle.sdd_base.specs.Numbers.{dm_no}
 use Rattle.sdd_base.specs.declared.site.Site.{Site}
 use Rattle.sdd_base.specs.declared.site.Site.TheVariants.{U, T}
 use Rattle.sdd_base.specs.declared.number.DmNo.{DmNo}
@@ -20,7 +20,7 @@ pub record Home : Type 0 where
   pub sources : List Site
 
 abbrev pub home_of : Setting → Home
-home_of s = record { dm = dm_no (number_of s.site); sources = U ∷ map (λ k. T (tm_no k.tm)) s.catalogue.classes }
+home_of s = record { dm = dm_no (number_of s.site); sources = U ∷ map (λ k. T k.tm) s.catalogue.classes }
 
 -- the site that runs class c
 abbrev pub source_of : Home → ℕ → Site

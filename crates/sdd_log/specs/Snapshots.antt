@@ -32,7 +32,7 @@ is_at ts _ = false
 
 -- the copy of fragment f, by items
 abbrev pub items_of : Catalogue → Dated → ℕ → Database
-items_of cat xs f = map (λ e. (((fragment_at cat f).rel, e.0), e.1)) (contents f xs)
+items_of cat xs f = map (λ e. (((fragment_at cat f).rel.0, e.0), e.1)) (contents f xs)
 
 -- what the attempt with timestamp ts reads at one data module, by the module's log
 abbrev pub snapshots : Setting → ℕ → site.Log → Database

@@ -72,7 +72,7 @@ pub record View : Type 0 where
 
 -- the classes of the module, those that aren't in force too
 abbrev pub runs : Setting → List ℕ
-runs s = filter (λ c. (class_at s.catalogue c).tm == number_of s.site) (numbers_to (length s.catalogue.classes))
+runs s = filter (λ c. (class_at s.catalogue c).tm.0 == number_of s.site) (numbers_to (length s.catalogue.classes))
 
 abbrev pub class_view : Setting → Log → ℕ → ClassView
 class_view s log c = record { class = c; queue = queue s c log; active = active s c log }
