@@ -1,0 +1,6 @@
+pub mod Copies
+pub mod Due
+pub mod Fits
+pub mod Opens
+pub mod Pipes
+pub mod Views
