@@ -1,5 +1,5 @@
 -- The links between the sites: reliable and in order.
-use Rattle.std.specs.Prelude.{ℕ, ◌==◌, ◌&&◌, not, cond, List, [], ◌∷◌, ◌++◌, drop}
+use Rattle.std.specs.Prelude.{ℕ, ◌+◌, ◌*◌, ◌==◌, ◌&&◌, nat_lt, not, cond, List, [], ◌∷◌, ◌++◌, drop, slice_index_or}
 use Rattle.sdd_control.specs.declared.act.Act.{Act}
 use Rattle.sdd_control.specs.declared.act.Act.TheVariants.{Deliver}
 use Rattle.sdd_control.specs.declared.message.Message.{Message}
@@ -24,3 +24,15 @@ taken _ i j messages = messages
 abbrev pub link : Log → ℕ → ℕ → List Message
 link [] i j = []
 link (e ∷ log) i j = taken e.act i j (link log i j) ++ put e.note i j
+
+-- the place of a pair of sites in a table of all pairs
+abbrev pub pair : ℕ → ℕ → ℕ
+pair i j = 9 * i + j
+
+-- the messages of a link in such a table
+abbrev pub messages_at : List (List Message) → ℕ → ℕ → List Message
+messages_at links i j = slice_index_or links (pair i j) []
+
+-- a site that stops says so to the sites below n, itself apart
+abbrev pub gone_below : ℕ → ℕ → ℕ → ℕ → List Message
+gone_below n site i j = cond (((site == i) && nat_lt j n) && not (i == j)) (GONE ∷ []) []

@@ -7,9 +7,13 @@
 #![tactic(auto)]
 
 mod act;
+mod change;
 mod laws;
+mod links;
 mod message;
 mod note;
+mod state;
+mod table;
 mod value;
 
 pub use act::{Act, Acts};
