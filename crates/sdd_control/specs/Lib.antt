@@ -1,3 +1,4 @@
+pub mod Control
 pub mod Laws
 pub mod Links
 pub mod Log

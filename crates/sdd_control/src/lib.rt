@@ -8,6 +8,7 @@
 
 mod act;
 mod change;
+mod control;
 mod laws;
 mod links;
 mod message;
@@ -17,6 +18,7 @@ mod table;
 mod value;
 
 pub use act::{Act, Acts};
+pub use control::Control;
 pub use laws::{law_all_or_none, law_leader, law_one_value};
 pub use message::Message;
 pub use note::Note;
