@@ -1,0 +1,25 @@
+//! Transaction control: all writes of a transaction or none, though the sender stops between two.
+//!
+//! Site 0 is the committer, and the sites above it are its backups. The lowest site that hasn't
+//! stopped takes the commit to its end. `specs/` defines what stands for each event by the events
+//! before it: how a site stands (`Standing`), the messages on each link (`Links`), what a leader
+//! sends next (`Sends`), and the note of an event (`Steps`).
+#![tactic(auto)]
+
+mod act;
+mod change;
+mod control;
+mod laws;
+mod links;
+mod message;
+mod note;
+mod state;
+mod table;
+mod value;
+
+pub use act::{Act, Acts};
+pub use control::Control;
+pub use laws::{law_all_or_none, law_leader, law_one_value};
+pub use message::Message;
+pub use note::Note;
+pub use value::Val;
