@@ -3,6 +3,7 @@ ghost use Rattle.sdd_protocol.specs.DiagonalIndex.{range_of, no_diagonals, with_
 
 use crate::entry::Entry;
 use sdd_base::{ClassNo, NoMemory};
+use sdd_blocks::MAX_EDGES;
 use sdd_graph::Edge;
 use std::alloc::Global;
 use std::marker::Model;
@@ -32,7 +33,7 @@ impl DiagonalIndex {
         entries: &[Entry],
         width: u32,
     ) -> Result<DiagonalIndex, NoMemory>
-        requires few { length entries.now ≤ 2 ^ 20 }
+        requires few { length entries.now ≤ MAX_EDGES }
         requires width { width ≤ 65 }
         requires cells { All (λ e. HasCell width e.edge) entries.now }
         ensures { IfOk result (λ index. IsIndexOf entries.now (length entries.now) index) }
@@ -55,7 +56,7 @@ impl DiagonalIndex {
     /// Widens the range of a diagonal to its place.
     fn add(&mut self, edge: Edge, place: u32)
         requires cell { HasCell self.old.width edge }
-        requires few { place < 2 ^ 20 }
+        requires few { place < MAX_EDGES }
         ensures { self.new ≡ with_edge self.old edge place }
     {
         if let Edge::Diagonal(reader, writer, _) = edge {
