@@ -2,7 +2,7 @@ ghost use Rattle.std.specs.Prelude.{◌≡◌, ◌*◌, ◌+◌, ◌^◌, ◌<�
 ghost use Rattle.sdd_protocol.specs.DiagonalIndex.{range_of, no_diagonals, with_edge, IsIndexOf, HasCell};
 
 use crate::entry::Entry;
-use sdd_base::{ClassNo, NoMemory};
+use sdd_base::{MAX_CLASSES, ClassNo, NoMemory};
 use sdd_blocks::MAX_EDGES;
 use sdd_graph::Edge;
 use std::alloc::Global;
@@ -34,7 +34,7 @@ impl DiagonalIndex {
         width: u32,
     ) -> Result<DiagonalIndex, NoMemory>
         requires few { length entries.now ≤ MAX_EDGES }
-        requires width { width ≤ 65 }
+        requires width { width ≤ MAX_CLASSES + 1 }
         requires cells { All (λ e. HasCell width e.edge) entries.now }
         ensures { IfOk result (λ index. IsIndexOf entries.now (length entries.now) index) }
     {
@@ -46,7 +46,7 @@ impl DiagonalIndex {
     }
 
     fn none(alloc: Global, width: u32) -> Result<DiagonalIndex, NoMemory>
-        requires { width ≤ 65 }
+        requires { width ≤ MAX_CLASSES + 1 }
         ensures { IfOk result (λ index. index ≡ no_diagonals width) }
     {
         let ranges = vec![in alloc; (0, 0); width as usize * width as usize]?;
