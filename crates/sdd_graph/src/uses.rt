@@ -6,7 +6,7 @@ ghost use Rattle.sdd_graph.specs.Graph.{write_sets_meet};
 ghost use Rattle.sdd_graph.specs.Uses.{reads_of, class_uses};
 
 use crate::class_uses::{ClassUses, class_uses};
-use sdd_base::{MAX_CLASSES, ClassNo, NoMemory};
+use sdd_base::{ClassNo, MAX_CLASSES, NoMemory};
 use sdd_catalog::Catalogue;
 use std::alloc::Global;
 use std::marker::Model;

@@ -7,7 +7,7 @@ use crate::channel::Channel;
 use crate::channels::{deliver_at, put_at, repeat_at, resend_at, take_at};
 use crate::delivered::Delivered;
 use crate::sites::{all_links, index_of, is_link, pair_count};
-use sdd_base::{MAX_DMS, MAX_LINK_MESSAGES, MAX_TMS, Event, NoMemory, Parcel, Site};
+use sdd_base::{Event, MAX_DMS, MAX_LINK_MESSAGES, MAX_TMS, NoMemory, Parcel, Site};
 use std::alloc::Global;
 use std::marker::Model;
 

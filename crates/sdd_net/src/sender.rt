@@ -4,7 +4,7 @@ ghost use Rattle.sdd_net.specs.Links.{numbered};
 ghost use Rattle.sdd_net.specs.Parts.{nothing_sent, last_number, acknowledged};
 
 use crate::packet::{Packet, Packets};
-use sdd_base::{MAX_LINK_MESSAGES, Listed, NoMemory, Parcel};
+use sdd_base::{Listed, MAX_LINK_MESSAGES, NoMemory, Parcel};
 use std::alloc::Global;
 use std::collections::VecDeque;
 use std::marker::Model;

@@ -3,7 +3,7 @@ ghost use Rattle.std.specs.List.{filter_map};
 ghost use Rattle.sdd_base.specs.Sites as spec;
 ghost use Rattle.sdd_net.specs.Nets as net;
 
-use sdd_base::{MAX_DMS, MAX_TMS, DmNo, NoMemory, Site, TmNo};
+use sdd_base::{DmNo, MAX_DMS, MAX_TMS, NoMemory, Site, TmNo};
 use std::alloc::Global;
 
 /// The sites of a network, in their order.

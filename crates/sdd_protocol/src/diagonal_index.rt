@@ -2,7 +2,7 @@ ghost use Rattle.std.specs.Prelude.{◌≡◌, ◌*◌, ◌+◌, ◌^◌, ◌<�
 ghost use Rattle.sdd_protocol.specs.DiagonalIndex.{range_of, no_diagonals, with_edge, IsIndexOf, HasCell};
 
 use crate::entry::Entry;
-use sdd_base::{MAX_CLASSES, ClassNo, NoMemory};
+use sdd_base::{ClassNo, MAX_CLASSES, NoMemory};
 use sdd_blocks::MAX_EDGES;
 use sdd_graph::Edge;
 use std::alloc::Global;

@@ -13,7 +13,7 @@ use crate::condition::condition_on;
 use crate::diagonal_index::DiagonalIndex;
 use crate::entry::Entry;
 use crate::protocol::Protocol;
-use sdd_base::{MAX_CLASSES, ClassNo, Cond, DmNo, FragNo, NoMemory, Ts};
+use sdd_base::{ClassNo, Cond, DmNo, FragNo, MAX_CLASSES, NoMemory, Ts};
 use sdd_catalog::Catalogue;
 use sdd_graph::Edge;
 use std::alloc::Global;

@@ -4,7 +4,7 @@ ghost use Rattle.sdd_catalog.specs.Catalogue.{numbers_to};
 ghost use Rattle.sdd_graph.specs.Graph.{fragments_of};
 ghost use Rattle.sdd_protocol.specs.Conditions.{cond_of, undeclared_conditions};
 
-use sdd_base::{MAX_CLASSES, ClassNo, Cond, FragNo, Frags, NoMemory, Parcel, Ts};
+use sdd_base::{ClassNo, Cond, FragNo, Frags, MAX_CLASSES, NoMemory, Parcel, Ts};
 use sdd_catalog::Catalogue;
 use std::alloc::Global;
 
