@@ -1,6 +1,8 @@
 -- What the tables of a catalogue hold at a class and at a fragment.
-use Rattle.std.proofs.Common.{ℕ, ◌≡◌, ◌≤◌, ◌<◌, ◌-◌, ◌+◌, Bool, ◌&&◌, List, is_some, length, get_or, ap, ◌∙◌, arith}
+use Rattle.std.proofs.Common.{ℕ, ◌≡◌, ◌≤◌, ◌<◌, ◌-◌, ◌+◌, ◌==◌, Bool, true, false, cond, ◌&&◌, List, is_some, map, take, length, get_or, ap, sym, ◌∙◌, arith}
 use Rattle.std.specs.List.{list_any, zip, All}
+use Rattle.std.proofs.lemmas.Bool.{ne_eqb}
+use Rattle.std.proofs.lemmas.List.{take_all}
 use Rattle.std.proofs.lemmas.List.Elements.{All-same, All-filter, All-weaker, All-from_recursion}
 use Rattle.std.proofs.lemmas.List.FromFn.{get_or-map-range_with_len, length-map-range_with_len}
 use Rattle.sdd_base.specs.declared.number.FragNo.{FragNo}
@@ -11,7 +13,7 @@ use Rattle.sdd_graph.specs.declared.class_uses.ClassUses.{ClassUses}
 use Rattle.sdd_graph.specs.Graph.{fragments_of, write_sets_meet}
 use Rattle.sdd_graph.specs.Edges.{IsClassOf}
 use Rattle.sdd_graph.specs.Uses.{reads_of, written_by, class_uses, all_uses}
-use Rattle.sdd_graph.proofs.Lists.{any_both}
+use Rattle.sdd_graph.proofs.Lists.{any_both, is_among}
 
 -- so many classes
 pub all_uses_long : (cat : Catalogue) (uses : List ClassUses) → uses ≡ all_uses cat
@@ -58,3 +60,14 @@ writes_within cat i written whole is e =
     let to : i ≤ length cat.classes = is.to in
     let served : IsServedClass cat (class_at cat i) = whole.classes (i - 1) _ (omega arith) in
     All-same (λ f. (1 ≤ f.0) × (f.0 ≤ length cat.fragments)) written _ e served.writes
+
+-- the flags of all fragments that are written
+pub written_all : (cat : Catalogue) (i : ℕ) (written : List FragNo) (k : ℕ) (flags : List Bool) → IsClassOf cat i
+    → written ≡ (class_at cat i).writes → length written ≤ k
+    → flags ≡ map (is_among (take k written)) (fragments_of cat) → flags ≡ written_by cat i
+written_all cat i written k flags is e done made =
+    let from : 1 ≤ i = is.from in
+    let declared : (i == 0) ≡ false = ne_eqb i 0 (λ z. absurd (omega arith)) in
+    made
+    ∙ ap (λ ws. map (is_among ws) (fragments_of cat)) (take_all k written done ∙ e)
+    ∙ ap (λ b. map (λ f. cond b true (is_among (class_at cat i).writes f)) (fragments_of cat)) (sym declared)

@@ -8,8 +8,7 @@ use Rattle.sdd_catalog.specs.declared.resolved.Class.{Class}
 use Rattle.sdd_catalog.specs.Catalogue.{Catalogue}
 use Rattle.sdd_graph.specs.declared.edge.Edge.{Edge}
 use Rattle.sdd_graph.specs.declared.edge.Edge.TheVariants.{Vertical, Horizontal, Diagonal}
-use Rattle.sdd_base.specs.Numbers.{class_no, frag_no, dm_no, tm_no}
-use Rattle.sdd_base.specs.declared.number.RelNo.{RelNo}
+use Rattle.sdd_base.specs.Numbers.{class_no, frag_no, dm_no, tm_no, rel_no}
 use Rattle.sdd_graph.specs.Graph.{conflict_graph, ends}
 
 abbrev pub vertical : ℕ → Edge
@@ -20,9 +19,6 @@ horizontal i j = Horizontal (class_no i) (class_no j)
 
 abbrev pub diagonal : ℕ → ℕ → ℕ → Edge
 diagonal i j f = Diagonal (class_no i) (class_no j) (frag_no f)
-
-abbrev rel_no : ℕ → RelNo
-rel_no n = record { 0 = n }
 
 -- a relation of two columns, in two fragments at two modules: keys to 9, and from 10
 abbrev pub item : Relation

@@ -7,7 +7,8 @@ use Rattle.std.proofs.Math.Decide.{dec_le}
 use Rattle.std.proofs.lemmas.Bool.{eqb-true, eqb-false, eq-eqb, ne_eqb, le-leb, lt-leb}
 use Rattle.std.proofs.lemmas.List.{drop_all}
 use Rattle.sdd_base.specs.Kept.{Kept}
-use Rattle.sdd_net.specs.Links.{contains, top}
+use Rattle.sdd_base.specs.Words.{contains}
+use Rattle.sdd_net.specs.Links.{top}
 use Rattle.sdd_net.specs.Parts.{Receiving, Ascends, AreSent, numbers, IsEarly, HasReceived, in_turn, out_of_turn, handed_on, received}
 use Rattle.sdd_net.proofs.Lists.{by_order, drop-member, get-take}
 use Rattle.sdd_net.proofs.Tops.{top_is, stops, starts, counts_up, repeated}

@@ -1,7 +1,7 @@
 -- The links of the network, as a function of the calls that were made on them. Calls are listed newest first.
 use Rattle.sdd_base.specs.Numbers.{tm_no, dm_no}
 use Rattle.sdd_base.specs.Sites.{same_site}
-use Rattle.sdd_base.specs.Words.{is_empty}
+use Rattle.sdd_base.specs.Words.{is_empty, contains}
 use Rattle.std.specs.Prelude.{ℕ, zero, suc, ◌+◌, ◌-◌, nat_le, nat_lt, max, ◌==◌, Bool, true, false, ◌&&◌, cond, if◌then◌else◌, List, [], ◌∷◌, ◌++◌, length, take, drop, replicate, slice_get, Option, Some, None, ◌≡◌, refl}
 use Rattle.std.specs.List.{list_any, list_all, filter_map, flat_map}
 use Rattle.sdd_base.specs.declared.site.Site.{Site}
@@ -39,9 +39,6 @@ unused = record { sent = []; flight = []; arrived = []; acked = 0 }
 
 abbrev pub turned : {M : Type 0} → Link M → Link M
 turned l = record { there = l.back; back = l.there }
-
-abbrev pub contains : List ℕ → ℕ → Bool
-contains ns k = list_any (λ x. x == k) ns
 
 -- the greatest k + j, with j at most n, such that k + 1 to k + j are all among the numbers
 abbrev pub top_from : ℕ → ℕ → List ℕ → ℕ

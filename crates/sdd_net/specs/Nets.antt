@@ -1,6 +1,7 @@
 -- What contracts see of a network, and which calls it stands for.
 use Rattle.sdd_base.specs.Kept.{Kept}
 use Rattle.sdd_base.specs.Words.{is_empty}
+use Rattle.sdd_base.specs.declared.limits.TheConstants.{MAX_TMS, MAX_DMS}
 use Rattle.sdd_base.specs.Numbers.{tm_no, dm_no}
 use Rattle.sdd_base.specs.Sites.{are_linked, links}
 use Rattle.std.specs.Prelude.{ℕ, ◌+◌, ◌*◌, ◌≤◌, nat_le, cond, not, Bool, true, false, ◌&&◌, IsTrue, List, [], ◌∷◌, length, drop, slice_get, map, ◌≡◌, ◌≢◌, refl, Option, Some, None}
@@ -136,8 +137,8 @@ in_flight_on d a b = in_flight_at (channel_on d a b) (channel_on d b a)
 
 -- what holds of a network's fields: it stands for some calls while it is live
 pub record IsNet {M : Type 0} (tms dms : ℕ) (all : List (Site × Site)) (live : Bool) (channels : List (Channel M)) : Type 0 where
-  pub few_tms : tms ≤ 16
-  pub few_dms : dms ≤ 16
+  pub few_tms : tms ≤ MAX_TMS
+  pub few_dms : dms ≤ MAX_DMS
   pub all_links : all ≡ links tms dms
   pub stands : live ≡ true → (calls : List (Call M)) × Stands tms dms channels calls
 

@@ -2,7 +2,8 @@
 use Rattle.std.specs.Prelude.{ℕ, ◌+◌, ◌-◌, nat_le, max, ◌==◌, if◌then◌else◌, List, [], ◌∷◌, ◌≡◌, ◌-◌, ◌<◌, length, drop, map, slice_get, Some, refl}
 use Rattle.std.specs.Ordering.{nat_cmp}
 use Rattle.std.specs.BTreeMap.{insert_entry}
-use Rattle.sdd_net.specs.Links.{contains, top}
+use Rattle.sdd_base.specs.Words.{contains}
+use Rattle.sdd_net.specs.Links.{top}
 
 -- a sender: the messages 1 to `acked` are acknowledged and dropped, and those after them are kept in order
 pub record Sending (M : Type 0) : Type 0 where

@@ -7,7 +7,7 @@ use crate::flight::Flight;
 use crate::packet::{Packet, Parcels};
 use crate::receiver::Receiver;
 use crate::sender::Sender;
-use sdd_base::{NoMemory, Parcel};
+use sdd_base::{MAX_LINK_MESSAGES, NoMemory, Parcel};
 use std::alloc::Global;
 
 /// One direction of a link: its two ends, and what is in flight between them.
@@ -35,7 +35,7 @@ impl<M: Parcel> Channel<M> {
     pub fn put(&mut self, msg: M) -> Result<(), NoMemory>
         requires sender { IsTrue self.old.sender.live }
         requires flight { IsTrue self.old.flight.live }
-        requires room { last_number self.old.sender.value < 2 ^ 32 - 1 }
+        requires room { last_number self.old.sender.value < MAX_LINK_MESSAGES }
         ensures sender { OnOk result (
             self.new.sender
             ≡ record {

@@ -7,7 +7,7 @@ ghost use Rattle.sdd_net.specs.Nets.{Fits, IsLiveAt, Changes, ArePair, ChangesPa
 use crate::channel::Channel;
 use crate::delivered::Delivered;
 use crate::packet::{Packet, Parcels};
-use sdd_base::{NoMemory, Parcel};
+use sdd_base::{MAX_LINK_MESSAGES, NoMemory, Parcel};
 
 // Each function changes the channel at one place, and its clause says which way that channel
 // stands for afterwards.
@@ -16,7 +16,7 @@ use sdd_base::{NoMemory, Parcel};
 #[tactic(auto, using(crate::proofs::Places::live_places))]
 pub fn put_at<M: Parcel>(channels: &mut Vec<Channel<M>>, at: usize, msg: M) -> Result<(), NoMemory>
     requires live { IsLiveAt (slice_get channels.old.items at) }
-    requires room { sent_by (slice_get channels.old.items at) < 2 ^ 32 - 1 }
+    requires room { sent_by (slice_get channels.old.items at) < MAX_LINK_MESSAGES }
     ensures { OnOk result (
         (w : Way M) → w.acked ≤ length w.sent → Fits (slice_get channels.old.items at) w
         → Changes channels.old.items channels.new.items at (with_message msg w)) }

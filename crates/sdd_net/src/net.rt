@@ -7,7 +7,7 @@ use crate::channel::Channel;
 use crate::channels::{deliver_at, put_at, repeat_at, resend_at, take_at};
 use crate::delivered::Delivered;
 use crate::sites::{all_links, index_of, is_link, pair_count};
-use sdd_base::{Event, NoMemory, Parcel, Site};
+use sdd_base::{Event, MAX_DMS, MAX_LINK_MESSAGES, MAX_TMS, NoMemory, Parcel, Site};
 use std::alloc::Global;
 use std::marker::Model;
 
@@ -44,8 +44,8 @@ impl<M> Model for Net<M> {
 impl<M: Parcel> Net<M> {
     /// The links between U, so many transaction modules and so many data modules, all unused.
     pub fn new(alloc: Global, tms: u32, dms: u32) -> Result<Net<M>, NoMemory>
-        requires tms { tms ≤ 16 }
-        requires dms { dms ≤ 16 }
+        requires tms { tms ≤ MAX_TMS }
+        requires dms { dms ≤ MAX_DMS }
         ensures live { IfOk result (λ net. IsTrue net.live) }
         ensures tms { IfOk result (λ net. net.value.tms ≡ tms) }
         ensures dms { IfOk result (λ net. net.value.dms ≡ dms) }
@@ -95,7 +95,7 @@ impl<M: Parcel> Net<M> {
     pub fn send(&mut self, from: Site, to: Site, msg: M) -> Result<(), NoMemory>
         requires live { IsTrue self.old.live }
         requires exists { HasLink self.old from to }
-        requires room { sent_on self.old.value from to < 2 ^ 32 - 1 }
+        requires room { sent_on self.old.value from to < MAX_LINK_MESSAGES }
         ensures ok { OnOk result (Does self.old self.new (Puts from to msg)) }
         ensures err { OnErr result (self.new.live ≡ false) }
     {
