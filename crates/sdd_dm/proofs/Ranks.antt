@@ -13,13 +13,13 @@ use Rattle.sdd_base.specs.declared.number.ClassNo.{ClassNo}
 use Rattle.sdd_base.specs.declared.number.TxnNo.{TxnNo}
 use Rattle.sdd_wire.specs.declared.msg.Msg.{Msg}
 use Rattle.sdd_wire.specs.declared.msg.Msg.TheVariants.{Read, Fetch, Reduce, Ship, Write, Null}
-use Rattle.sdd_module.specs.SiteLog.{Act, Records, Sends}
+use Rattle.sdd_module.specs.SiteLog.{Act}
 use Rattle.sdd_pipe.specs.Pipe.{head}
 use Rattle.sdd_dm.specs.declared.step.Step.{Step}
 use Rattle.sdd_dm.specs.declared.step.Step.TheVariants.{Processes, Refuses, Waits}
 use Rattle.sdd_dm.specs.Opens.{Open, is_asked_of}
 use Rattle.sdd_dm.specs.Views.{Home, ClassView, View}
-use Rattle.sdd_dm.specs.Due.{answer_to, answer_of, open_due, is_met, is_held, judge, step_on, act_by, act_where, head_due, due, IsDue, by_open, by_head}
+use Rattle.sdd_dm.specs.Due.{answer_to, answer_of, open_due, is_met, is_held, judge, step_on, act_by, act_where, head_due, by_open, by_head}
 use Rattle.sdd_dm.specs.Ranks.{rank_of_act, IsLowest}
 
 same_rank : (x a : Act) (n : ℕ) → rank_of_act x ≡ n → Some x ≡ Some a → rank_of_act a ≡ n

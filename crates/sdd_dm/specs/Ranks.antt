@@ -1,5 +1,5 @@
 -- The ranks of what is due at a data module.
-use Rattle.std.specs.Prelude.{ℕ, ◌≤◌, ◌≡◌, Option, Some}
+use Rattle.std.specs.Prelude.{ℕ, ◌≤◌, ◌≡◌, Some}
 use Rattle.sdd_history.specs.declared.record.Rec.{Rec}
 use Rattle.sdd_history.specs.declared.record.Rec.TheVariants.{Arrive, Wait, Answer, Reject, Apply, Pass}
 use Rattle.sdd_module.specs.SiteLog.{Act, Records, Sends}

@@ -1,5 +1,5 @@
 -- Which log is the log of what is given.
-use Rattle.std.specs.Prelude.{ℕ, suc, ◌^◌, nat_le, ◌≡◌, Bool, true, false, ◌||◌, List, [], ◌∷◌, length, Option, Some, None}
+use Rattle.std.specs.Prelude.{ℕ, suc, ◌^◌, nat_le, ◌≡◌, Bool, true, false, ◌||◌, List, [], ◌∷◌, length, Some, None}
 use Rattle.sdd_base.specs.declared.site.Site.{Site}
 use Rattle.sdd_wire.specs.declared.msg.Msg.{Msg}
 use Rattle.sdd_module.specs.SiteLog.{sends_of_act}

@@ -8,7 +8,7 @@ use Rattle.sdd_base.specs.declared.event.Event.TheVariants.{Deliver, Lose, Repea
 use Rattle.sdd_wire.specs.declared.msg.Msg.{Msg}
 use Rattle.sdd_module.specs.SiteLog.{sends_of_act}
 use Rattle.sdd_net.specs.Links.{Call, Puts, Delivers, Loses, Repeats, Resends, Link, link}
-use Rattle.sdd_log.specs.Entries.{Log, Entry, Mark, Hand, Does, Given}
+use Rattle.sdd_log.specs.Entries.{Log, Mark, Hand, Does, Given}
 
 -- the calls on the links: an act puts its messages, and an event delivers, loses, repeats or resends
 

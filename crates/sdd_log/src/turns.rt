@@ -15,7 +15,12 @@ pub fn next_number(handed: u64, delivered: u64) -> Option<u64>
 
 /// The next entry of the log, of what a mark makes due, what is due at a site, what is to be handed over on a
 /// link, and the next mark.
-pub fn in_turn<E: Drop>(by_mark: Option<E>, at_site: Option<E>, on_link: Option<E>, mark: Option<E>) -> Option<E>
+pub fn in_turn<E: Drop>(
+    by_mark: Option<E>,
+    at_site: Option<E>,
+    on_link: Option<E>,
+    mark: Option<E>,
+) -> Option<E>
     ensures { result ≡ in_turn by_mark at_site on_link mark }
 {
     by_mark.or(at_site).or(on_link).or(mark)

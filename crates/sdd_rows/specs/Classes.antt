@@ -20,15 +20,15 @@ catalogue_of_further_classes = record {
   tms = 1;
   dms = 1;
   relations =
-    (record { name = []; columns = ((record { name = []; kind = kinds.Int }) ∷ (record { name = []; kind = kinds.Int }) ∷ []); key = 1 }) ∷
-    [];
+      (record { name = []; columns = ((record { name = []; kind = kinds.Int }) ∷ (record { name = []; kind = kinds.Int }) ∷ []); key = 1 }) ∷
+      [];
   fragments =
-    (record { name = []; rel = (record { 0 = 1 }); least = (negsuc 9223372036854775807); greatest = (pos 9223372036854775807); copies = ((dm_no 1) ∷ []) }) ∷
-    [];
+      (record { name = []; rel = (record { 0 = 1 }); least = (negsuc 9223372036854775807); greatest = (pos 9223372036854775807); copies = ((dm_no 1) ∷ []) }) ∷
+      [];
   classes =
-    (record { name = []; tm = (tm_no 1); reads = ((record { fragment = (frag_no 1); at = (dm_no 1) }) ∷ []); writes = ((frag_no 1) ∷ []) }) ∷
-    (record { name = []; tm = (tm_no 1); reads = ((record { fragment = (frag_no 1); at = (dm_no 1) }) ∷ []); writes = [] }) ∷
-    [];
+      (record { name = []; tm = (tm_no 1); reads = ((record { fragment = (frag_no 1); at = (dm_no 1) }) ∷ []); writes = ((frag_no 1) ∷ []) }) ∷
+      (record { name = []; tm = (tm_no 1); reads = ((record { fragment = (frag_no 1); at = (dm_no 1) }) ∷ []); writes = [] }) ∷
+      [];
 }
 
 abbrev pub classes_of_further_classes_0 : Catalogue
@@ -36,14 +36,14 @@ classes_of_further_classes_0 = record {
   tms = 1;
   dms = 1;
   relations =
-    (record { name = []; columns = ((record { name = []; kind = kinds.Int }) ∷ (record { name = []; kind = kinds.Int }) ∷ []); key = 1 }) ∷
-    [];
+      (record { name = []; columns = ((record { name = []; kind = kinds.Int }) ∷ (record { name = []; kind = kinds.Int }) ∷ []); key = 1 }) ∷
+      [];
   fragments =
-    (record { name = []; rel = (record { 0 = 1 }); least = (negsuc 9223372036854775807); greatest = (pos 9223372036854775807); copies = ((dm_no 1) ∷ []) }) ∷
-    [];
+      (record { name = []; rel = (record { 0 = 1 }); least = (negsuc 9223372036854775807); greatest = (pos 9223372036854775807); copies = ((dm_no 1) ∷ []) }) ∷
+      [];
   classes =
-    (record { name = []; tm = (tm_no 1); reads = ((record { fragment = (frag_no 1); at = (dm_no 1) }) ∷ []); writes = ((frag_no 1) ∷ []) }) ∷
-    [];
+      (record { name = []; tm = (tm_no 1); reads = ((record { fragment = (frag_no 1); at = (dm_no 1) }) ∷ []); writes = ((frag_no 1) ∷ []) }) ∷
+      [];
 }
 
 abbrev pub classes_of_further_classes_1 : Catalogue
@@ -51,15 +51,15 @@ classes_of_further_classes_1 = record {
   tms = 1;
   dms = 1;
   relations =
-    (record { name = []; columns = ((record { name = []; kind = kinds.Int }) ∷ (record { name = []; kind = kinds.Int }) ∷ []); key = 1 }) ∷
-    [];
+      (record { name = []; columns = ((record { name = []; kind = kinds.Int }) ∷ (record { name = []; kind = kinds.Int }) ∷ []); key = 1 }) ∷
+      [];
   fragments =
-    (record { name = []; rel = (record { 0 = 1 }); least = (negsuc 9223372036854775807); greatest = (pos 9223372036854775807); copies = ((dm_no 1) ∷ []) }) ∷
-    [];
+      (record { name = []; rel = (record { 0 = 1 }); least = (negsuc 9223372036854775807); greatest = (pos 9223372036854775807); copies = ((dm_no 1) ∷ []) }) ∷
+      [];
   classes =
-    (record { name = []; tm = (tm_no 1); reads = []; writes = [] }) ∷
-    (record { name = []; tm = (tm_no 1); reads = ((record { fragment = (frag_no 1); at = (dm_no 1) }) ∷ []); writes = [] }) ∷
-    [];
+      (record { name = []; tm = (tm_no 1); reads = []; writes = [] }) ∷
+      (record { name = []; tm = (tm_no 1); reads = ((record { fragment = (frag_no 1); at = (dm_no 1) }) ∷ []); writes = [] }) ∷
+      [];
 }
 
 abbrev pub given_further_classes : Given
@@ -69,28 +69,28 @@ given_further_classes = record {
       (record {
         catalogue = classes_of_further_classes_0;
         table =
-          (record { edge = (Vertical (class_no 1)); block = 0; protocol = P1 }) ∷
-          [];
+            (record { edge = (Vertical (class_no 1)); block = 0; protocol = P1 }) ∷
+            [];
       }) ∷
       (record {
         catalogue = classes_of_further_classes_1;
         table =
-          (record { edge = (Vertical (class_no 1)); block = 0; protocol = P1 }) ∷
-          (record { edge = (Vertical (class_no 2)); block = 0; protocol = P1 }) ∷
-          [];
+            (record { edge = (Vertical (class_no 1)); block = 0; protocol = P1 }) ∷
+            (record { edge = (Vertical (class_no 2)); block = 0; protocol = P1 }) ∷
+            [];
       }) ∷
       [];
   rows = ([] ∷ []);
   txns =
-    (record { name = []; tm = (tm_no 1); statements = ((Put (record { 0 = 1 }) ((Int (pos 5)) ∷ (Int (pos 10)) ∷ [])) ∷ []) }) ∷
-    (record { name = []; tm = (tm_no 1); statements = ((Query ((record { part = 1; column = 1 }) ∷ []) ((record { 0 = 1 }) ∷ []) []) ∷ []) }) ∷
-    [];
+      (record { name = []; tm = (tm_no 1); statements = ((Put (record { 0 = 1 }) ((Int (pos 5)) ∷ (Int (pos 10)) ∷ [])) ∷ []) }) ∷
+      (record { name = []; tm = (tm_no 1); statements = ((Query ((record { part = 1; column = 1 }) ∷ []) ((record { 0 = 1 }) ∷ []) []) ∷ []) }) ∷
+      [];
   events =
-    Submit (txn_no 1) ∷
-    Redeclare ∷
-    Submit (txn_no 2) ∷
-    Settle ∷
-    [];
+      Submit (txn_no 1) ∷
+      Redeclare ∷
+      Submit (txn_no 2) ∷
+      Settle ∷
+      [];
 }
 
 abbrev pub log_of_further_classes : Log

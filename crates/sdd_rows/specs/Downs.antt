@@ -21,14 +21,14 @@ catalogue_of_down_and_up = record {
   tms = 1;
   dms = 1;
   relations =
-    (record { name = []; columns = ((record { name = []; kind = kinds.Int }) ∷ (record { name = []; kind = kinds.Int }) ∷ []); key = 1 }) ∷
-    [];
+      (record { name = []; columns = ((record { name = []; kind = kinds.Int }) ∷ (record { name = []; kind = kinds.Int }) ∷ []); key = 1 }) ∷
+      [];
   fragments =
-    (record { name = []; rel = (record { 0 = 1 }); least = (negsuc 9223372036854775807); greatest = (pos 9223372036854775807); copies = ((dm_no 1) ∷ []) }) ∷
-    [];
+      (record { name = []; rel = (record { 0 = 1 }); least = (negsuc 9223372036854775807); greatest = (pos 9223372036854775807); copies = ((dm_no 1) ∷ []) }) ∷
+      [];
   classes =
-    (record { name = []; tm = (tm_no 1); reads = ((record { fragment = (frag_no 1); at = (dm_no 1) }) ∷ []); writes = ((frag_no 1) ∷ []) }) ∷
-    [];
+      (record { name = []; tm = (tm_no 1); reads = ((record { fragment = (frag_no 1); at = (dm_no 1) }) ∷ []); writes = ((frag_no 1) ∷ []) }) ∷
+      [];
 }
 
 abbrev pub given_down_and_up : Given
@@ -38,21 +38,21 @@ given_down_and_up = record {
       (record {
         catalogue = catalogue_of_down_and_up;
         table =
-          (record { edge = (Vertical (class_no 1)); block = 0; protocol = P1 }) ∷
-          [];
+            (record { edge = (Vertical (class_no 1)); block = 0; protocol = P1 }) ∷
+            [];
       }) ∷
       [];
   rows = ([] ∷ []);
   txns =
-    (record { name = []; tm = (tm_no 1); statements = ((Put (record { 0 = 1 }) ((Int (pos 5)) ∷ (Int (pos 10)) ∷ [])) ∷ []) }) ∷
-    [];
+      (record { name = []; tm = (tm_no 1); statements = ((Put (record { 0 = 1 }) ((Int (pos 5)) ∷ (Int (pos 10)) ∷ [])) ∷ []) }) ∷
+      [];
   events =
-    Submit (txn_no 1) ∷
-    Down (dm_no 1) ∷
-    Deliver (T (tm_no 1)) (D (dm_no 1)) 1 ∷
-    Deliver (D (dm_no 1)) (T (tm_no 1)) 1 ∷
-    Up (dm_no 1) ∷
-    [];
+      Submit (txn_no 1) ∷
+      Down (dm_no 1) ∷
+      Deliver (T (tm_no 1)) (D (dm_no 1)) 1 ∷
+      Deliver (D (dm_no 1)) (T (tm_no 1)) 1 ∷
+      Up (dm_no 1) ∷
+      [];
 }
 
 abbrev pub log_of_down_and_up : Log
@@ -77,14 +77,14 @@ catalogue_of_stays_down = record {
   tms = 1;
   dms = 1;
   relations =
-    (record { name = []; columns = ((record { name = []; kind = kinds.Int }) ∷ (record { name = []; kind = kinds.Int }) ∷ []); key = 1 }) ∷
-    [];
+      (record { name = []; columns = ((record { name = []; kind = kinds.Int }) ∷ (record { name = []; kind = kinds.Int }) ∷ []); key = 1 }) ∷
+      [];
   fragments =
-    (record { name = []; rel = (record { 0 = 1 }); least = (negsuc 9223372036854775807); greatest = (pos 9223372036854775807); copies = ((dm_no 1) ∷ []) }) ∷
-    [];
+      (record { name = []; rel = (record { 0 = 1 }); least = (negsuc 9223372036854775807); greatest = (pos 9223372036854775807); copies = ((dm_no 1) ∷ []) }) ∷
+      [];
   classes =
-    (record { name = []; tm = (tm_no 1); reads = ((record { fragment = (frag_no 1); at = (dm_no 1) }) ∷ []); writes = ((frag_no 1) ∷ []) }) ∷
-    [];
+      (record { name = []; tm = (tm_no 1); reads = ((record { fragment = (frag_no 1); at = (dm_no 1) }) ∷ []); writes = ((frag_no 1) ∷ []) }) ∷
+      [];
 }
 
 abbrev pub given_stays_down : Given
@@ -94,20 +94,20 @@ given_stays_down = record {
       (record {
         catalogue = catalogue_of_stays_down;
         table =
-          (record { edge = (Vertical (class_no 1)); block = 0; protocol = P1 }) ∷
-          [];
+            (record { edge = (Vertical (class_no 1)); block = 0; protocol = P1 }) ∷
+            [];
       }) ∷
       [];
   rows = ([] ∷ []);
   txns =
-    (record { name = []; tm = (tm_no 1); statements = ((Put (record { 0 = 1 }) ((Int (pos 5)) ∷ (Int (pos 10)) ∷ [])) ∷ []) }) ∷
-    [];
+      (record { name = []; tm = (tm_no 1); statements = ((Put (record { 0 = 1 }) ((Int (pos 5)) ∷ (Int (pos 10)) ∷ [])) ∷ []) }) ∷
+      [];
   events =
-    Submit (txn_no 1) ∷
-    Down (dm_no 1) ∷
-    Deliver (T (tm_no 1)) (D (dm_no 1)) 1 ∷
-    Deliver (D (dm_no 1)) (T (tm_no 1)) 1 ∷
-    [];
+      Submit (txn_no 1) ∷
+      Down (dm_no 1) ∷
+      Deliver (T (tm_no 1)) (D (dm_no 1)) 1 ∷
+      Deliver (D (dm_no 1)) (T (tm_no 1)) 1 ∷
+      [];
 }
 
 abbrev pub log_of_stays_down : Log
@@ -131,14 +131,14 @@ catalogue_of_down_twice = record {
   tms = 1;
   dms = 1;
   relations =
-    (record { name = []; columns = ((record { name = []; kind = kinds.Int }) ∷ (record { name = []; kind = kinds.Int }) ∷ []); key = 1 }) ∷
-    [];
+      (record { name = []; columns = ((record { name = []; kind = kinds.Int }) ∷ (record { name = []; kind = kinds.Int }) ∷ []); key = 1 }) ∷
+      [];
   fragments =
-    (record { name = []; rel = (record { 0 = 1 }); least = (negsuc 9223372036854775807); greatest = (pos 9223372036854775807); copies = ((dm_no 1) ∷ []) }) ∷
-    [];
+      (record { name = []; rel = (record { 0 = 1 }); least = (negsuc 9223372036854775807); greatest = (pos 9223372036854775807); copies = ((dm_no 1) ∷ []) }) ∷
+      [];
   classes =
-    (record { name = []; tm = (tm_no 1); reads = ((record { fragment = (frag_no 1); at = (dm_no 1) }) ∷ []); writes = ((frag_no 1) ∷ []) }) ∷
-    [];
+      (record { name = []; tm = (tm_no 1); reads = ((record { fragment = (frag_no 1); at = (dm_no 1) }) ∷ []); writes = ((frag_no 1) ∷ []) }) ∷
+      [];
 }
 
 abbrev pub given_down_twice : Given
@@ -148,18 +148,18 @@ given_down_twice = record {
       (record {
         catalogue = catalogue_of_down_twice;
         table =
-          (record { edge = (Vertical (class_no 1)); block = 0; protocol = P1 }) ∷
-          [];
+            (record { edge = (Vertical (class_no 1)); block = 0; protocol = P1 }) ∷
+            [];
       }) ∷
       [];
   rows = ([] ∷ []);
   txns =
-    [];
+      [];
   events =
-    Up (dm_no 1) ∷
-    Down (dm_no 1) ∷
-    Down (dm_no 1) ∷
-    [];
+      Up (dm_no 1) ∷
+      Down (dm_no 1) ∷
+      Down (dm_no 1) ∷
+      [];
 }
 
 abbrev pub log_of_down_twice : Log

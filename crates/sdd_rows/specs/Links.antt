@@ -21,14 +21,14 @@ catalogue_of_put_and_query = record {
   tms = 1;
   dms = 1;
   relations =
-    (record { name = []; columns = ((record { name = []; kind = kinds.Int }) ∷ (record { name = []; kind = kinds.Int }) ∷ []); key = 1 }) ∷
-    [];
+      (record { name = []; columns = ((record { name = []; kind = kinds.Int }) ∷ (record { name = []; kind = kinds.Int }) ∷ []); key = 1 }) ∷
+      [];
   fragments =
-    (record { name = []; rel = (record { 0 = 1 }); least = (negsuc 9223372036854775807); greatest = (pos 9223372036854775807); copies = ((dm_no 1) ∷ []) }) ∷
-    [];
+      (record { name = []; rel = (record { 0 = 1 }); least = (negsuc 9223372036854775807); greatest = (pos 9223372036854775807); copies = ((dm_no 1) ∷ []) }) ∷
+      [];
   classes =
-    (record { name = []; tm = (tm_no 1); reads = ((record { fragment = (frag_no 1); at = (dm_no 1) }) ∷ []); writes = ((frag_no 1) ∷ []) }) ∷
-    [];
+      (record { name = []; tm = (tm_no 1); reads = ((record { fragment = (frag_no 1); at = (dm_no 1) }) ∷ []); writes = ((frag_no 1) ∷ []) }) ∷
+      [];
 }
 
 abbrev pub given_put_and_query : Given
@@ -38,20 +38,20 @@ given_put_and_query = record {
       (record {
         catalogue = catalogue_of_put_and_query;
         table =
-          (record { edge = (Vertical (class_no 1)); block = 0; protocol = P1 }) ∷
-          [];
+            (record { edge = (Vertical (class_no 1)); block = 0; protocol = P1 }) ∷
+            [];
       }) ∷
       [];
   rows = ([] ∷ []);
   txns =
-    (record { name = []; tm = (tm_no 1); statements = ((Put (record { 0 = 1 }) ((Int (pos 5)) ∷ (Int (pos 10)) ∷ [])) ∷ []) }) ∷
-    (record { name = []; tm = (tm_no 1); statements = ((Query ((record { part = 1; column = 1 }) ∷ (record { part = 1; column = 2 }) ∷ []) ((record { 0 = 1 }) ∷ []) []) ∷ []) }) ∷
-    [];
+      (record { name = []; tm = (tm_no 1); statements = ((Put (record { 0 = 1 }) ((Int (pos 5)) ∷ (Int (pos 10)) ∷ [])) ∷ []) }) ∷
+      (record { name = []; tm = (tm_no 1); statements = ((Query ((record { part = 1; column = 1 }) ∷ (record { part = 1; column = 2 }) ∷ []) ((record { 0 = 1 }) ∷ []) []) ∷ []) }) ∷
+      [];
   events =
-    Submit (txn_no 1) ∷
-    Submit (txn_no 2) ∷
-    Settle ∷
-    [];
+      Submit (txn_no 1) ∷
+      Submit (txn_no 2) ∷
+      Settle ∷
+      [];
 }
 
 abbrev pub log_of_put_and_query : Log
@@ -81,14 +81,14 @@ catalogue_of_lost_and_repeated = record {
   tms = 1;
   dms = 1;
   relations =
-    (record { name = []; columns = ((record { name = []; kind = kinds.Int }) ∷ (record { name = []; kind = kinds.Int }) ∷ []); key = 1 }) ∷
-    [];
+      (record { name = []; columns = ((record { name = []; kind = kinds.Int }) ∷ (record { name = []; kind = kinds.Int }) ∷ []); key = 1 }) ∷
+      [];
   fragments =
-    (record { name = []; rel = (record { 0 = 1 }); least = (negsuc 9223372036854775807); greatest = (pos 9223372036854775807); copies = ((dm_no 1) ∷ []) }) ∷
-    [];
+      (record { name = []; rel = (record { 0 = 1 }); least = (negsuc 9223372036854775807); greatest = (pos 9223372036854775807); copies = ((dm_no 1) ∷ []) }) ∷
+      [];
   classes =
-    (record { name = []; tm = (tm_no 1); reads = ((record { fragment = (frag_no 1); at = (dm_no 1) }) ∷ []); writes = ((frag_no 1) ∷ []) }) ∷
-    [];
+      (record { name = []; tm = (tm_no 1); reads = ((record { fragment = (frag_no 1); at = (dm_no 1) }) ∷ []); writes = ((frag_no 1) ∷ []) }) ∷
+      [];
 }
 
 abbrev pub given_lost_and_repeated : Given
@@ -98,27 +98,27 @@ given_lost_and_repeated = record {
       (record {
         catalogue = catalogue_of_lost_and_repeated;
         table =
-          (record { edge = (Vertical (class_no 1)); block = 0; protocol = P1 }) ∷
-          [];
+            (record { edge = (Vertical (class_no 1)); block = 0; protocol = P1 }) ∷
+            [];
       }) ∷
       [];
   rows = ([] ∷ []);
   txns =
-    (record { name = []; tm = (tm_no 1); statements = ((Put (record { 0 = 1 }) ((Int (pos 5)) ∷ (Int (pos 10)) ∷ [])) ∷ []) }) ∷
-    (record { name = []; tm = (tm_no 1); statements = ((Put (record { 0 = 1 }) ((Int (pos 5)) ∷ (Int (pos 20)) ∷ [])) ∷ []) }) ∷
-    [];
+      (record { name = []; tm = (tm_no 1); statements = ((Put (record { 0 = 1 }) ((Int (pos 5)) ∷ (Int (pos 10)) ∷ [])) ∷ []) }) ∷
+      (record { name = []; tm = (tm_no 1); statements = ((Put (record { 0 = 1 }) ((Int (pos 5)) ∷ (Int (pos 20)) ∷ [])) ∷ []) }) ∷
+      [];
   events =
-    Submit (txn_no 1) ∷
-    Submit (txn_no 2) ∷
-    Lose (T (tm_no 1)) (D (dm_no 1)) 1 ∷
-    Repeat (T (tm_no 1)) (D (dm_no 1)) 1 ∷
-    Deliver (T (tm_no 1)) (D (dm_no 1)) 1 ∷
-    Resend (T (tm_no 1)) (D (dm_no 1)) ∷
-    Deliver (T (tm_no 1)) (D (dm_no 1)) 2 ∷
-    Deliver (T (tm_no 1)) (D (dm_no 1)) 1 ∷
-    Deliver (T (tm_no 1)) (D (dm_no 1)) 1 ∷
-    Deliver (T (tm_no 1)) (D (dm_no 1)) 1 ∷
-    [];
+      Submit (txn_no 1) ∷
+      Submit (txn_no 2) ∷
+      Lose (T (tm_no 1)) (D (dm_no 1)) 1 ∷
+      Repeat (T (tm_no 1)) (D (dm_no 1)) 1 ∷
+      Deliver (T (tm_no 1)) (D (dm_no 1)) 1 ∷
+      Resend (T (tm_no 1)) (D (dm_no 1)) ∷
+      Deliver (T (tm_no 1)) (D (dm_no 1)) 2 ∷
+      Deliver (T (tm_no 1)) (D (dm_no 1)) 1 ∷
+      Deliver (T (tm_no 1)) (D (dm_no 1)) 1 ∷
+      Deliver (T (tm_no 1)) (D (dm_no 1)) 1 ∷
+      [];
 }
 
 abbrev pub log_of_lost_and_repeated : Log
@@ -148,15 +148,15 @@ catalogue_of_two_copies = record {
   tms = 2;
   dms = 2;
   relations =
-    (record { name = []; columns = ((record { name = []; kind = kinds.Int }) ∷ (record { name = []; kind = kinds.Int }) ∷ []); key = 1 }) ∷
-    [];
+      (record { name = []; columns = ((record { name = []; kind = kinds.Int }) ∷ (record { name = []; kind = kinds.Int }) ∷ []); key = 1 }) ∷
+      [];
   fragments =
-    (record { name = []; rel = (record { 0 = 1 }); least = (negsuc 9223372036854775807); greatest = (pos 9223372036854775807); copies = ((dm_no 1) ∷ (dm_no 2) ∷ []) }) ∷
-    [];
+      (record { name = []; rel = (record { 0 = 1 }); least = (negsuc 9223372036854775807); greatest = (pos 9223372036854775807); copies = ((dm_no 1) ∷ (dm_no 2) ∷ []) }) ∷
+      [];
   classes =
-    (record { name = []; tm = (tm_no 1); reads = []; writes = ((frag_no 1) ∷ []) }) ∷
-    (record { name = []; tm = (tm_no 2); reads = []; writes = ((frag_no 1) ∷ []) }) ∷
-    [];
+      (record { name = []; tm = (tm_no 1); reads = []; writes = ((frag_no 1) ∷ []) }) ∷
+      (record { name = []; tm = (tm_no 2); reads = []; writes = ((frag_no 1) ∷ []) }) ∷
+      [];
 }
 
 abbrev pub given_two_copies : Given
@@ -166,25 +166,25 @@ given_two_copies = record {
       (record {
         catalogue = catalogue_of_two_copies;
         table =
-          (record { edge = (Vertical (class_no 1)); block = 0; protocol = P1 }) ∷
-          (record { edge = (Vertical (class_no 2)); block = 0; protocol = P1 }) ∷
-          (record { edge = (Horizontal (class_no 1) (class_no 2)); block = 0; protocol = P1 }) ∷
-          [];
+            (record { edge = (Vertical (class_no 1)); block = 0; protocol = P1 }) ∷
+            (record { edge = (Vertical (class_no 2)); block = 0; protocol = P1 }) ∷
+            (record { edge = (Horizontal (class_no 1) (class_no 2)); block = 0; protocol = P1 }) ∷
+            [];
       }) ∷
       [];
   rows = ([] ∷ [] ∷ []);
   txns =
-    (record { name = []; tm = (tm_no 1); statements = ((Put (record { 0 = 1 }) ((Int (pos 1)) ∷ (Int (pos 5)) ∷ [])) ∷ []) }) ∷
-    (record { name = []; tm = (tm_no 2); statements = ((Put (record { 0 = 1 }) ((Int (pos 1)) ∷ (Int (pos 6)) ∷ [])) ∷ []) }) ∷
-    [];
+      (record { name = []; tm = (tm_no 1); statements = ((Put (record { 0 = 1 }) ((Int (pos 1)) ∷ (Int (pos 5)) ∷ [])) ∷ []) }) ∷
+      (record { name = []; tm = (tm_no 2); statements = ((Put (record { 0 = 1 }) ((Int (pos 1)) ∷ (Int (pos 6)) ∷ [])) ∷ []) }) ∷
+      [];
   events =
-    Submit (txn_no 1) ∷
-    Submit (txn_no 2) ∷
-    Deliver (T (tm_no 1)) (D (dm_no 1)) 1 ∷
-    Deliver (T (tm_no 2)) (D (dm_no 1)) 1 ∷
-    Deliver (T (tm_no 2)) (D (dm_no 2)) 1 ∷
-    Deliver (T (tm_no 1)) (D (dm_no 2)) 1 ∷
-    [];
+      Submit (txn_no 1) ∷
+      Submit (txn_no 2) ∷
+      Deliver (T (tm_no 1)) (D (dm_no 1)) 1 ∷
+      Deliver (T (tm_no 2)) (D (dm_no 1)) 1 ∷
+      Deliver (T (tm_no 2)) (D (dm_no 2)) 1 ∷
+      Deliver (T (tm_no 1)) (D (dm_no 2)) 1 ∷
+      [];
 }
 
 abbrev pub log_of_two_copies : Log

@@ -23,16 +23,16 @@ catalogue_of_reads_before = record {
   tms = 2;
   dms = 1;
   relations =
-    (record { name = []; columns = ((record { name = []; kind = kinds.Int }) ∷ (record { name = []; kind = kinds.Int }) ∷ []); key = 1 }) ∷
-    [];
+      (record { name = []; columns = ((record { name = []; kind = kinds.Int }) ∷ (record { name = []; kind = kinds.Int }) ∷ []); key = 1 }) ∷
+      [];
   fragments =
-    (record { name = []; rel = (record { 0 = 1 }); least = (negsuc 9223372036854775807); greatest = (pos 9); copies = ((dm_no 1) ∷ []) }) ∷
-    (record { name = []; rel = (record { 0 = 1 }); least = (pos 10); greatest = (pos 9223372036854775807); copies = ((dm_no 1) ∷ []) }) ∷
-    [];
+      (record { name = []; rel = (record { 0 = 1 }); least = (negsuc 9223372036854775807); greatest = (pos 9); copies = ((dm_no 1) ∷ []) }) ∷
+      (record { name = []; rel = (record { 0 = 1 }); least = (pos 10); greatest = (pos 9223372036854775807); copies = ((dm_no 1) ∷ []) }) ∷
+      [];
   classes =
-    (record { name = []; tm = (tm_no 1); reads = []; writes = ((frag_no 1) ∷ []) }) ∷
-    (record { name = []; tm = (tm_no 2); reads = ((record { fragment = (frag_no 1); at = (dm_no 1) }) ∷ []); writes = [] }) ∷
-    [];
+      (record { name = []; tm = (tm_no 1); reads = []; writes = ((frag_no 1) ∷ []) }) ∷
+      (record { name = []; tm = (tm_no 2); reads = ((record { fragment = (frag_no 1); at = (dm_no 1) }) ∷ []); writes = [] }) ∷
+      [];
 }
 
 abbrev pub given_reads_before : Given
@@ -42,27 +42,27 @@ given_reads_before = record {
       (record {
         catalogue = catalogue_of_reads_before;
         table =
-          (record { edge = (Vertical (class_no 1)); block = 0; protocol = P1 }) ∷
-          (record { edge = (Vertical (class_no 2)); block = 0; protocol = P1 }) ∷
-          (record { edge = (Diagonal (class_no 2) (class_no 1) (frag_no 1)); block = 0; protocol = P1 }) ∷
-          [];
+            (record { edge = (Vertical (class_no 1)); block = 0; protocol = P1 }) ∷
+            (record { edge = (Vertical (class_no 2)); block = 0; protocol = P1 }) ∷
+            (record { edge = (Diagonal (class_no 2) (class_no 1) (frag_no 1)); block = 0; protocol = P1 }) ∷
+            [];
       }) ∷
       [];
   rows = ([] ∷ []);
   txns =
-    (record { name = []; tm = (tm_no 1); statements = ((Put (record { 0 = 1 }) ((Int (pos 1)) ∷ (Int (pos 7)) ∷ [])) ∷ []) }) ∷
-    (record { name = []; tm = (tm_no 2); statements = ((Query ((record { part = 1; column = 2 }) ∷ []) ((record { 0 = 1 }) ∷ []) ((Const (record { part = 1; column = 1 }) Le (Int (pos 9))) ∷ [])) ∷ []) }) ∷
-    [];
+      (record { name = []; tm = (tm_no 1); statements = ((Put (record { 0 = 1 }) ((Int (pos 1)) ∷ (Int (pos 7)) ∷ [])) ∷ []) }) ∷
+      (record { name = []; tm = (tm_no 2); statements = ((Query ((record { part = 1; column = 2 }) ∷ []) ((record { 0 = 1 }) ∷ []) ((Const (record { part = 1; column = 1 }) Le (Int (pos 9))) ∷ [])) ∷ []) }) ∷
+      [];
   events =
-    Submit (txn_no 1) ∷
-    Tick (tm_no 2) 5 ∷
-    Submit (txn_no 2) ∷
-    Deliver (T (tm_no 2)) (D (dm_no 1)) 1 ∷
-    Deliver (D (dm_no 1)) (T (tm_no 2)) 2 ∷
-    Deliver (T (tm_no 2)) (D (dm_no 1)) 2 ∷
-    Deliver (D (dm_no 1)) (T (tm_no 2)) 3 ∷
-    Deliver (T (tm_no 1)) (D (dm_no 1)) 1 ∷
-    [];
+      Submit (txn_no 1) ∷
+      Tick (tm_no 2) 5 ∷
+      Submit (txn_no 2) ∷
+      Deliver (T (tm_no 2)) (D (dm_no 1)) 1 ∷
+      Deliver (D (dm_no 1)) (T (tm_no 2)) 2 ∷
+      Deliver (T (tm_no 2)) (D (dm_no 1)) 2 ∷
+      Deliver (D (dm_no 1)) (T (tm_no 2)) 3 ∷
+      Deliver (T (tm_no 1)) (D (dm_no 1)) 1 ∷
+      [];
 }
 
 abbrev pub log_of_reads_before : Log
@@ -92,16 +92,16 @@ catalogue_of_one_time_at_two = record {
   tms = 2;
   dms = 2;
   relations =
-    (record { name = []; columns = ((record { name = []; kind = kinds.Int }) ∷ (record { name = []; kind = kinds.Int }) ∷ []); key = 1 }) ∷
-    [];
+      (record { name = []; columns = ((record { name = []; kind = kinds.Int }) ∷ (record { name = []; kind = kinds.Int }) ∷ []); key = 1 }) ∷
+      [];
   fragments =
-    (record { name = []; rel = (record { 0 = 1 }); least = (negsuc 9223372036854775807); greatest = (pos 9); copies = ((dm_no 1) ∷ []) }) ∷
-    (record { name = []; rel = (record { 0 = 1 }); least = (pos 10); greatest = (pos 9223372036854775807); copies = ((dm_no 2) ∷ []) }) ∷
-    [];
+      (record { name = []; rel = (record { 0 = 1 }); least = (negsuc 9223372036854775807); greatest = (pos 9); copies = ((dm_no 1) ∷ []) }) ∷
+      (record { name = []; rel = (record { 0 = 1 }); least = (pos 10); greatest = (pos 9223372036854775807); copies = ((dm_no 2) ∷ []) }) ∷
+      [];
   classes =
-    (record { name = []; tm = (tm_no 1); reads = []; writes = ((frag_no 1) ∷ (frag_no 2) ∷ []) }) ∷
-    (record { name = []; tm = (tm_no 2); reads = ((record { fragment = (frag_no 1); at = (dm_no 1) }) ∷ (record { fragment = (frag_no 2); at = (dm_no 2) }) ∷ []); writes = [] }) ∷
-    [];
+      (record { name = []; tm = (tm_no 1); reads = []; writes = ((frag_no 1) ∷ (frag_no 2) ∷ []) }) ∷
+      (record { name = []; tm = (tm_no 2); reads = ((record { fragment = (frag_no 1); at = (dm_no 1) }) ∷ (record { fragment = (frag_no 2); at = (dm_no 2) }) ∷ []); writes = [] }) ∷
+      [];
 }
 
 abbrev pub given_one_time_at_two : Given
@@ -111,27 +111,27 @@ given_one_time_at_two = record {
       (record {
         catalogue = catalogue_of_one_time_at_two;
         table =
-          (record { edge = (Vertical (class_no 1)); block = 0; protocol = P1 }) ∷
-          (record { edge = (Vertical (class_no 2)); block = 0; protocol = P1 }) ∷
-          (record { edge = (Diagonal (class_no 2) (class_no 1) (frag_no 1)); block = 1; protocol = P2 }) ∷
-          (record { edge = (Diagonal (class_no 2) (class_no 1) (frag_no 2)); block = 1; protocol = P2 }) ∷
-          [];
+            (record { edge = (Vertical (class_no 1)); block = 0; protocol = P1 }) ∷
+            (record { edge = (Vertical (class_no 2)); block = 0; protocol = P1 }) ∷
+            (record { edge = (Diagonal (class_no 2) (class_no 1) (frag_no 1)); block = 1; protocol = P2 }) ∷
+            (record { edge = (Diagonal (class_no 2) (class_no 1) (frag_no 2)); block = 1; protocol = P2 }) ∷
+            [];
       }) ∷
       [];
   rows = ((((record { 0 = 1 }), ((Int (pos 1)) ∷ (Int (pos 0)) ∷ [])) ∷ ((record { 0 = 1 }), ((Int (pos 11)) ∷ (Int (pos 0)) ∷ [])) ∷ []) ∷ (((record { 0 = 1 }), ((Int (pos 1)) ∷ (Int (pos 0)) ∷ [])) ∷ ((record { 0 = 1 }), ((Int (pos 11)) ∷ (Int (pos 0)) ∷ [])) ∷ []) ∷ []);
   txns =
-    (record { name = []; tm = (tm_no 1); statements = ((Put (record { 0 = 1 }) ((Int (pos 1)) ∷ (Int (pos 7)) ∷ [])) ∷ (Put (record { 0 = 1 }) ((Int (pos 11)) ∷ (Int (pos 7)) ∷ [])) ∷ []) }) ∷
-    (record { name = []; tm = (tm_no 2); statements = ((Query ((record { part = 1; column = 1 }) ∷ (record { part = 1; column = 2 }) ∷ []) ((record { 0 = 1 }) ∷ []) []) ∷ []) }) ∷
-    [];
+      (record { name = []; tm = (tm_no 1); statements = ((Put (record { 0 = 1 }) ((Int (pos 1)) ∷ (Int (pos 7)) ∷ [])) ∷ (Put (record { 0 = 1 }) ((Int (pos 11)) ∷ (Int (pos 7)) ∷ [])) ∷ []) }) ∷
+      (record { name = []; tm = (tm_no 2); statements = ((Query ((record { part = 1; column = 1 }) ∷ (record { part = 1; column = 2 }) ∷ []) ((record { 0 = 1 }) ∷ []) []) ∷ []) }) ∷
+      [];
   events =
-    Submit (txn_no 1) ∷
-    Tick (tm_no 2) 3 ∷
-    Submit (txn_no 2) ∷
-    Deliver (T (tm_no 1)) (D (dm_no 1)) 1 ∷
-    Deliver (T (tm_no 2)) (D (dm_no 1)) 1 ∷
-    Deliver (T (tm_no 2)) (D (dm_no 2)) 1 ∷
-    Settle ∷
-    [];
+      Submit (txn_no 1) ∷
+      Tick (tm_no 2) 3 ∷
+      Submit (txn_no 2) ∷
+      Deliver (T (tm_no 1)) (D (dm_no 1)) 1 ∷
+      Deliver (T (tm_no 2)) (D (dm_no 1)) 1 ∷
+      Deliver (T (tm_no 2)) (D (dm_no 2)) 1 ∷
+      Settle ∷
+      [];
 }
 
 abbrev pub log_of_one_time_at_two : Log
@@ -168,16 +168,16 @@ catalogue_of_up_to_its_own_time = record {
   tms = 2;
   dms = 1;
   relations =
-    (record { name = []; columns = ((record { name = []; kind = kinds.Int }) ∷ (record { name = []; kind = kinds.Int }) ∷ []); key = 1 }) ∷
-    [];
+      (record { name = []; columns = ((record { name = []; kind = kinds.Int }) ∷ (record { name = []; kind = kinds.Int }) ∷ []); key = 1 }) ∷
+      [];
   fragments =
-    (record { name = []; rel = (record { 0 = 1 }); least = (negsuc 9223372036854775807); greatest = (pos 9); copies = ((dm_no 1) ∷ []) }) ∷
-    (record { name = []; rel = (record { 0 = 1 }); least = (pos 10); greatest = (pos 9223372036854775807); copies = ((dm_no 1) ∷ []) }) ∷
-    [];
+      (record { name = []; rel = (record { 0 = 1 }); least = (negsuc 9223372036854775807); greatest = (pos 9); copies = ((dm_no 1) ∷ []) }) ∷
+      (record { name = []; rel = (record { 0 = 1 }); least = (pos 10); greatest = (pos 9223372036854775807); copies = ((dm_no 1) ∷ []) }) ∷
+      [];
   classes =
-    (record { name = []; tm = (tm_no 1); reads = ((record { fragment = (frag_no 1); at = (dm_no 1) }) ∷ []); writes = ((frag_no 2) ∷ []) }) ∷
-    (record { name = []; tm = (tm_no 2); reads = ((record { fragment = (frag_no 2); at = (dm_no 1) }) ∷ []); writes = ((frag_no 1) ∷ []) }) ∷
-    [];
+      (record { name = []; tm = (tm_no 1); reads = ((record { fragment = (frag_no 1); at = (dm_no 1) }) ∷ []); writes = ((frag_no 2) ∷ []) }) ∷
+      (record { name = []; tm = (tm_no 2); reads = ((record { fragment = (frag_no 2); at = (dm_no 1) }) ∷ []); writes = ((frag_no 1) ∷ []) }) ∷
+      [];
 }
 
 abbrev pub given_up_to_its_own_time : Given
@@ -187,33 +187,33 @@ given_up_to_its_own_time = record {
       (record {
         catalogue = catalogue_of_up_to_its_own_time;
         table =
-          (record { edge = (Vertical (class_no 1)); block = 1; protocol = P1 }) ∷
-          (record { edge = (Vertical (class_no 2)); block = 1; protocol = P1 }) ∷
-          (record { edge = (Diagonal (class_no 1) (class_no 2) (frag_no 1)); block = 1; protocol = P3 }) ∷
-          (record { edge = (Diagonal (class_no 2) (class_no 1) (frag_no 2)); block = 1; protocol = P3 }) ∷
-          [];
+            (record { edge = (Vertical (class_no 1)); block = 1; protocol = P1 }) ∷
+            (record { edge = (Vertical (class_no 2)); block = 1; protocol = P1 }) ∷
+            (record { edge = (Diagonal (class_no 1) (class_no 2) (frag_no 1)); block = 1; protocol = P3 }) ∷
+            (record { edge = (Diagonal (class_no 2) (class_no 1) (frag_no 2)); block = 1; protocol = P3 }) ∷
+            [];
       }) ∷
       [];
   rows = ([] ∷ []);
   txns =
-    (record { name = []; tm = (tm_no 1); statements = ((Query ((record { part = 1; column = 2 }) ∷ []) ((record { 0 = 1 }) ∷ []) ((Const (record { part = 1; column = 1 }) Le (Int (pos 9))) ∷ [])) ∷ (Put (record { 0 = 1 }) ((Int (pos 11)) ∷ (Int (pos 1)) ∷ [])) ∷ []) }) ∷
-    (record { name = []; tm = (tm_no 2); statements = ((Query ((record { part = 1; column = 2 }) ∷ []) ((record { 0 = 1 }) ∷ []) ((Const (record { part = 1; column = 1 }) Ge (Int (pos 10))) ∷ [])) ∷ (Put (record { 0 = 1 }) ((Int (pos 1)) ∷ (Int (pos 1)) ∷ [])) ∷ []) }) ∷
-    [];
+      (record { name = []; tm = (tm_no 1); statements = ((Query ((record { part = 1; column = 2 }) ∷ []) ((record { 0 = 1 }) ∷ []) ((Const (record { part = 1; column = 1 }) Le (Int (pos 9))) ∷ [])) ∷ (Put (record { 0 = 1 }) ((Int (pos 11)) ∷ (Int (pos 1)) ∷ [])) ∷ []) }) ∷
+      (record { name = []; tm = (tm_no 2); statements = ((Query ((record { part = 1; column = 2 }) ∷ []) ((record { 0 = 1 }) ∷ []) ((Const (record { part = 1; column = 1 }) Ge (Int (pos 10))) ∷ [])) ∷ (Put (record { 0 = 1 }) ((Int (pos 1)) ∷ (Int (pos 1)) ∷ [])) ∷ []) }) ∷
+      [];
   events =
-    Submit (txn_no 1) ∷
-    Submit (txn_no 2) ∷
-    Deliver (T (tm_no 2)) (D (dm_no 1)) 1 ∷
-    Deliver (D (dm_no 1)) (T (tm_no 1)) 1 ∷
-    Deliver (T (tm_no 1)) (D (dm_no 1)) 1 ∷
-    Deliver (D (dm_no 1)) (T (tm_no 1)) 2 ∷
-    Deliver (T (tm_no 1)) (D (dm_no 1)) 3 ∷
-    Deliver (D (dm_no 1)) (T (tm_no 1)) 3 ∷
-    Deliver (T (tm_no 1)) (D (dm_no 1)) 4 ∷
-    Deliver (T (tm_no 1)) (D (dm_no 1)) 4 ∷
-    Deliver (D (dm_no 1)) (T (tm_no 2)) 2 ∷
-    Deliver (T (tm_no 2)) (D (dm_no 1)) 2 ∷
-    Deliver (D (dm_no 1)) (T (tm_no 2)) 3 ∷
-    [];
+      Submit (txn_no 1) ∷
+      Submit (txn_no 2) ∷
+      Deliver (T (tm_no 2)) (D (dm_no 1)) 1 ∷
+      Deliver (D (dm_no 1)) (T (tm_no 1)) 1 ∷
+      Deliver (T (tm_no 1)) (D (dm_no 1)) 1 ∷
+      Deliver (D (dm_no 1)) (T (tm_no 1)) 2 ∷
+      Deliver (T (tm_no 1)) (D (dm_no 1)) 3 ∷
+      Deliver (D (dm_no 1)) (T (tm_no 1)) 3 ∷
+      Deliver (T (tm_no 1)) (D (dm_no 1)) 4 ∷
+      Deliver (T (tm_no 1)) (D (dm_no 1)) 4 ∷
+      Deliver (D (dm_no 1)) (T (tm_no 2)) 2 ∷
+      Deliver (T (tm_no 2)) (D (dm_no 1)) 2 ∷
+      Deliver (D (dm_no 1)) (T (tm_no 2)) 3 ∷
+      [];
 }
 
 abbrev pub log_of_up_to_its_own_time : Log

@@ -23,14 +23,14 @@ catalogue_of_overflow = record {
   tms = 1;
   dms = 1;
   relations =
-    (record { name = []; columns = ((record { name = []; kind = kinds.Int }) ∷ (record { name = []; kind = kinds.Int }) ∷ []); key = 1 }) ∷
-    [];
+      (record { name = []; columns = ((record { name = []; kind = kinds.Int }) ∷ (record { name = []; kind = kinds.Int }) ∷ []); key = 1 }) ∷
+      [];
   fragments =
-    (record { name = []; rel = (record { 0 = 1 }); least = (negsuc 9223372036854775807); greatest = (pos 9223372036854775807); copies = ((dm_no 1) ∷ []) }) ∷
-    [];
+      (record { name = []; rel = (record { 0 = 1 }); least = (negsuc 9223372036854775807); greatest = (pos 9223372036854775807); copies = ((dm_no 1) ∷ []) }) ∷
+      [];
   classes =
-    (record { name = []; tm = (tm_no 1); reads = ((record { fragment = (frag_no 1); at = (dm_no 1) }) ∷ []); writes = ((frag_no 1) ∷ []) }) ∷
-    [];
+      (record { name = []; tm = (tm_no 1); reads = ((record { fragment = (frag_no 1); at = (dm_no 1) }) ∷ []); writes = ((frag_no 1) ∷ []) }) ∷
+      [];
 }
 
 abbrev pub given_overflow : Given
@@ -40,18 +40,18 @@ given_overflow = record {
       (record {
         catalogue = catalogue_of_overflow;
         table =
-          (record { edge = (Vertical (class_no 1)); block = 0; protocol = P1 }) ∷
-          [];
+            (record { edge = (Vertical (class_no 1)); block = 0; protocol = P1 }) ∷
+            [];
       }) ∷
       [];
   rows = ((((record { 0 = 1 }), ((Int (pos 1)) ∷ (Int (pos 9223372036854775807)) ∷ [])) ∷ []) ∷ []);
   txns =
-    (record { name = []; tm = (tm_no 1); statements = ((Update (record { 0 = 1 }) ((Add 2 (pos 1)) ∷ []) []) ∷ []) }) ∷
-    [];
+      (record { name = []; tm = (tm_no 1); statements = ((Update (record { 0 = 1 }) ((Add 2 (pos 1)) ∷ []) []) ∷ []) }) ∷
+      [];
   events =
-    Submit (txn_no 1) ∷
-    Settle ∷
-    [];
+      Submit (txn_no 1) ∷
+      Settle ∷
+      [];
 }
 
 abbrev pub log_of_overflow : Log
@@ -77,18 +77,18 @@ catalogue_of_two_steps = record {
   tms = 1;
   dms = 3;
   relations =
-    (record { name = []; columns = ((record { name = []; kind = kinds.Int }) ∷ (record { name = []; kind = kinds.Int }) ∷ []); key = 1 }) ∷
-    (record { name = []; columns = ((record { name = []; kind = kinds.Int }) ∷ (record { name = []; kind = kinds.Int }) ∷ []); key = 1 }) ∷
-    (record { name = []; columns = ((record { name = []; kind = kinds.Int }) ∷ (record { name = []; kind = kinds.Int }) ∷ []); key = 1 }) ∷
-    [];
+      (record { name = []; columns = ((record { name = []; kind = kinds.Int }) ∷ (record { name = []; kind = kinds.Int }) ∷ []); key = 1 }) ∷
+      (record { name = []; columns = ((record { name = []; kind = kinds.Int }) ∷ (record { name = []; kind = kinds.Int }) ∷ []); key = 1 }) ∷
+      (record { name = []; columns = ((record { name = []; kind = kinds.Int }) ∷ (record { name = []; kind = kinds.Int }) ∷ []); key = 1 }) ∷
+      [];
   fragments =
-    (record { name = []; rel = (record { 0 = 1 }); least = (negsuc 9223372036854775807); greatest = (pos 9223372036854775807); copies = ((dm_no 1) ∷ []) }) ∷
-    (record { name = []; rel = (record { 0 = 2 }); least = (negsuc 9223372036854775807); greatest = (pos 9223372036854775807); copies = ((dm_no 2) ∷ []) }) ∷
-    (record { name = []; rel = (record { 0 = 3 }); least = (negsuc 9223372036854775807); greatest = (pos 9223372036854775807); copies = ((dm_no 3) ∷ []) }) ∷
-    [];
+      (record { name = []; rel = (record { 0 = 1 }); least = (negsuc 9223372036854775807); greatest = (pos 9223372036854775807); copies = ((dm_no 1) ∷ []) }) ∷
+      (record { name = []; rel = (record { 0 = 2 }); least = (negsuc 9223372036854775807); greatest = (pos 9223372036854775807); copies = ((dm_no 2) ∷ []) }) ∷
+      (record { name = []; rel = (record { 0 = 3 }); least = (negsuc 9223372036854775807); greatest = (pos 9223372036854775807); copies = ((dm_no 3) ∷ []) }) ∷
+      [];
   classes =
-    (record { name = []; tm = (tm_no 1); reads = ((record { fragment = (frag_no 1); at = (dm_no 1) }) ∷ (record { fragment = (frag_no 2); at = (dm_no 2) }) ∷ (record { fragment = (frag_no 3); at = (dm_no 3) }) ∷ []); writes = [] }) ∷
-    [];
+      (record { name = []; tm = (tm_no 1); reads = ((record { fragment = (frag_no 1); at = (dm_no 1) }) ∷ (record { fragment = (frag_no 2); at = (dm_no 2) }) ∷ (record { fragment = (frag_no 3); at = (dm_no 3) }) ∷ []); writes = [] }) ∷
+      [];
 }
 
 abbrev pub given_two_steps : Given
@@ -98,18 +98,18 @@ given_two_steps = record {
       (record {
         catalogue = catalogue_of_two_steps;
         table =
-          (record { edge = (Vertical (class_no 1)); block = 0; protocol = P1 }) ∷
-          [];
+            (record { edge = (Vertical (class_no 1)); block = 0; protocol = P1 }) ∷
+            [];
       }) ∷
       [];
   rows = ((((record { 0 = 1 }), ((Int (pos 1)) ∷ (Int (pos 1)) ∷ [])) ∷ ((record { 0 = 1 }), ((Int (pos 2)) ∷ (Int (pos 2)) ∷ [])) ∷ ((record { 0 = 1 }), ((Int (pos 3)) ∷ (Int (pos 3)) ∷ [])) ∷ ((record { 0 = 1 }), ((Int (pos 4)) ∷ (Int (pos 4)) ∷ [])) ∷ ((record { 0 = 2 }), ((Int (pos 1)) ∷ (Int (pos 1)) ∷ [])) ∷ ((record { 0 = 2 }), ((Int (pos 2)) ∷ (Int (pos 2)) ∷ [])) ∷ ((record { 0 = 3 }), ((Int (pos 1)) ∷ (Int (pos 0)) ∷ [])) ∷ []) ∷ (((record { 0 = 1 }), ((Int (pos 1)) ∷ (Int (pos 1)) ∷ [])) ∷ ((record { 0 = 1 }), ((Int (pos 2)) ∷ (Int (pos 2)) ∷ [])) ∷ ((record { 0 = 1 }), ((Int (pos 3)) ∷ (Int (pos 3)) ∷ [])) ∷ ((record { 0 = 1 }), ((Int (pos 4)) ∷ (Int (pos 4)) ∷ [])) ∷ ((record { 0 = 2 }), ((Int (pos 1)) ∷ (Int (pos 1)) ∷ [])) ∷ ((record { 0 = 2 }), ((Int (pos 2)) ∷ (Int (pos 2)) ∷ [])) ∷ ((record { 0 = 3 }), ((Int (pos 1)) ∷ (Int (pos 0)) ∷ [])) ∷ []) ∷ (((record { 0 = 1 }), ((Int (pos 1)) ∷ (Int (pos 1)) ∷ [])) ∷ ((record { 0 = 1 }), ((Int (pos 2)) ∷ (Int (pos 2)) ∷ [])) ∷ ((record { 0 = 1 }), ((Int (pos 3)) ∷ (Int (pos 3)) ∷ [])) ∷ ((record { 0 = 1 }), ((Int (pos 4)) ∷ (Int (pos 4)) ∷ [])) ∷ ((record { 0 = 2 }), ((Int (pos 1)) ∷ (Int (pos 1)) ∷ [])) ∷ ((record { 0 = 2 }), ((Int (pos 2)) ∷ (Int (pos 2)) ∷ [])) ∷ ((record { 0 = 3 }), ((Int (pos 1)) ∷ (Int (pos 0)) ∷ [])) ∷ []) ∷ []);
   txns =
-    (record { name = []; tm = (tm_no 1); statements = ((Query ((record { part = 1; column = 1 }) ∷ (record { part = 2; column = 1 }) ∷ (record { part = 3; column = 1 }) ∷ []) ((record { 0 = 1 }) ∷ (record { 0 = 2 }) ∷ (record { 0 = 3 }) ∷ []) ((Same (record { part = 1; column = 2 }) (record { part = 2; column = 1 })) ∷ (Same (record { part = 2; column = 2 }) (record { part = 3; column = 1 })) ∷ [])) ∷ []) }) ∷
-    [];
+      (record { name = []; tm = (tm_no 1); statements = ((Query ((record { part = 1; column = 1 }) ∷ (record { part = 2; column = 1 }) ∷ (record { part = 3; column = 1 }) ∷ []) ((record { 0 = 1 }) ∷ (record { 0 = 2 }) ∷ (record { 0 = 3 }) ∷ []) ((Same (record { part = 1; column = 2 }) (record { part = 2; column = 1 })) ∷ (Same (record { part = 2; column = 2 }) (record { part = 3; column = 1 })) ∷ [])) ∷ []) }) ∷
+      [];
   events =
-    Submit (txn_no 1) ∷
-    Settle ∷
-    [];
+      Submit (txn_no 1) ∷
+      Settle ∷
+      [];
 }
 
 abbrev pub log_of_two_steps : Log
@@ -139,14 +139,14 @@ catalogue_of_reads_nothing = record {
   tms = 1;
   dms = 1;
   relations =
-    (record { name = []; columns = ((record { name = []; kind = kinds.Int }) ∷ (record { name = []; kind = kinds.Int }) ∷ []); key = 1 }) ∷
-    [];
+      (record { name = []; columns = ((record { name = []; kind = kinds.Int }) ∷ (record { name = []; kind = kinds.Int }) ∷ []); key = 1 }) ∷
+      [];
   fragments =
-    (record { name = []; rel = (record { 0 = 1 }); least = (negsuc 9223372036854775807); greatest = (pos 9223372036854775807); copies = ((dm_no 1) ∷ []) }) ∷
-    [];
+      (record { name = []; rel = (record { 0 = 1 }); least = (negsuc 9223372036854775807); greatest = (pos 9223372036854775807); copies = ((dm_no 1) ∷ []) }) ∷
+      [];
   classes =
-    (record { name = []; tm = (tm_no 1); reads = ((record { fragment = (frag_no 1); at = (dm_no 1) }) ∷ []); writes = ((frag_no 1) ∷ []) }) ∷
-    [];
+      (record { name = []; tm = (tm_no 1); reads = ((record { fragment = (frag_no 1); at = (dm_no 1) }) ∷ []); writes = ((frag_no 1) ∷ []) }) ∷
+      [];
 }
 
 abbrev pub given_reads_nothing : Given
@@ -156,17 +156,17 @@ given_reads_nothing = record {
       (record {
         catalogue = catalogue_of_reads_nothing;
         table =
-          (record { edge = (Vertical (class_no 1)); block = 0; protocol = P1 }) ∷
-          [];
+            (record { edge = (Vertical (class_no 1)); block = 0; protocol = P1 }) ∷
+            [];
       }) ∷
       [];
   rows = ([] ∷ []);
   txns =
-    (record { name = []; tm = (tm_no 1); statements = ((Query ((record { part = 1; column = 1 }) ∷ []) ((record { 0 = 1 }) ∷ []) ((Const (record { part = 1; column = 1 }) Lt (Int (pos 1))) ∷ (Const (record { part = 1; column = 1 }) Gt (Int (pos 5))) ∷ [])) ∷ []) }) ∷
-    [];
+      (record { name = []; tm = (tm_no 1); statements = ((Query ((record { part = 1; column = 1 }) ∷ []) ((record { 0 = 1 }) ∷ []) ((Const (record { part = 1; column = 1 }) Lt (Int (pos 1))) ∷ (Const (record { part = 1; column = 1 }) Gt (Int (pos 5))) ∷ [])) ∷ []) }) ∷
+      [];
   events =
-    Submit (txn_no 1) ∷
-    [];
+      Submit (txn_no 1) ∷
+      [];
 }
 
 abbrev pub log_of_reads_nothing : Log

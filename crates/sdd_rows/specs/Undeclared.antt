@@ -21,15 +21,15 @@ catalogue_of_undeclared = record {
   tms = 2;
   dms = 2;
   relations =
-    (record { name = []; columns = ((record { name = []; kind = kinds.Int }) ∷ (record { name = []; kind = kinds.Int }) ∷ []); key = 1 }) ∷
-    [];
+      (record { name = []; columns = ((record { name = []; kind = kinds.Int }) ∷ (record { name = []; kind = kinds.Int }) ∷ []); key = 1 }) ∷
+      [];
   fragments =
-    (record { name = []; rel = (record { 0 = 1 }); least = (negsuc 9223372036854775807); greatest = (pos 9223372036854775807); copies = ((dm_no 1) ∷ (dm_no 2) ∷ []) }) ∷
-    [];
+      (record { name = []; rel = (record { 0 = 1 }); least = (negsuc 9223372036854775807); greatest = (pos 9223372036854775807); copies = ((dm_no 1) ∷ (dm_no 2) ∷ []) }) ∷
+      [];
   classes =
-    (record { name = []; tm = (tm_no 1); reads = []; writes = ((frag_no 1) ∷ []) }) ∷
-    (record { name = []; tm = (tm_no 2); reads = []; writes = ((frag_no 1) ∷ []) }) ∷
-    [];
+      (record { name = []; tm = (tm_no 1); reads = []; writes = ((frag_no 1) ∷ []) }) ∷
+      (record { name = []; tm = (tm_no 2); reads = []; writes = ((frag_no 1) ∷ []) }) ∷
+      [];
 }
 
 abbrev pub given_undeclared : Given
@@ -39,27 +39,27 @@ given_undeclared = record {
       (record {
         catalogue = catalogue_of_undeclared;
         table =
-          (record { edge = (Vertical (class_no 1)); block = 0; protocol = P1 }) ∷
-          (record { edge = (Vertical (class_no 2)); block = 0; protocol = P1 }) ∷
-          (record { edge = (Horizontal (class_no 1) (class_no 2)); block = 0; protocol = P1 }) ∷
-          [];
+            (record { edge = (Vertical (class_no 1)); block = 0; protocol = P1 }) ∷
+            (record { edge = (Vertical (class_no 2)); block = 0; protocol = P1 }) ∷
+            (record { edge = (Horizontal (class_no 1) (class_no 2)); block = 0; protocol = P1 }) ∷
+            [];
       }) ∷
       [];
   rows = ([] ∷ [] ∷ []);
   txns =
-    (record { name = []; tm = (tm_no 1); statements = ((Put (record { 0 = 1 }) ((Int (pos 1)) ∷ (Int (pos 5)) ∷ [])) ∷ []) }) ∷
-    (record { name = []; tm = (tm_no 1); statements = ((Query ((record { part = 1; column = 2 }) ∷ []) ((record { 0 = 1 }) ∷ []) []) ∷ []) }) ∷
-    [];
+      (record { name = []; tm = (tm_no 1); statements = ((Put (record { 0 = 1 }) ((Int (pos 1)) ∷ (Int (pos 5)) ∷ [])) ∷ []) }) ∷
+      (record { name = []; tm = (tm_no 1); statements = ((Query ((record { part = 1; column = 2 }) ∷ []) ((record { 0 = 1 }) ∷ []) []) ∷ []) }) ∷
+      [];
   events =
-    Submit (txn_no 1) ∷
-    Submit (txn_no 2) ∷
-    Deliver U (T (tm_no 1)) 1 ∷
-    Deliver U (T (tm_no 2)) 1 ∷
-    Deliver (T (tm_no 1)) U 2 ∷
-    Deliver (T (tm_no 2)) U 2 ∷
-    Deliver U (D (dm_no 1)) 1 ∷
-    Deliver (T (tm_no 1)) (D (dm_no 1)) 1 ∷
-    [];
+      Submit (txn_no 1) ∷
+      Submit (txn_no 2) ∷
+      Deliver U (T (tm_no 1)) 1 ∷
+      Deliver U (T (tm_no 2)) 1 ∷
+      Deliver (T (tm_no 1)) U 2 ∷
+      Deliver (T (tm_no 2)) U 2 ∷
+      Deliver U (D (dm_no 1)) 1 ∷
+      Deliver (T (tm_no 1)) (D (dm_no 1)) 1 ∷
+      [];
 }
 
 abbrev pub log_of_undeclared : Log

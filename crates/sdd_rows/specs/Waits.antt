@@ -23,16 +23,16 @@ catalogue_of_rejected = record {
   tms = 2;
   dms = 1;
   relations =
-    (record { name = []; columns = ((record { name = []; kind = kinds.Int }) ∷ (record { name = []; kind = kinds.Int }) ∷ []); key = 1 }) ∷
-    [];
+      (record { name = []; columns = ((record { name = []; kind = kinds.Int }) ∷ (record { name = []; kind = kinds.Int }) ∷ []); key = 1 }) ∷
+      [];
   fragments =
-    (record { name = []; rel = (record { 0 = 1 }); least = (negsuc 9223372036854775807); greatest = (pos 9); copies = ((dm_no 1) ∷ []) }) ∷
-    (record { name = []; rel = (record { 0 = 1 }); least = (pos 10); greatest = (pos 9223372036854775807); copies = ((dm_no 1) ∷ []) }) ∷
-    [];
+      (record { name = []; rel = (record { 0 = 1 }); least = (negsuc 9223372036854775807); greatest = (pos 9); copies = ((dm_no 1) ∷ []) }) ∷
+      (record { name = []; rel = (record { 0 = 1 }); least = (pos 10); greatest = (pos 9223372036854775807); copies = ((dm_no 1) ∷ []) }) ∷
+      [];
   classes =
-    (record { name = []; tm = (tm_no 1); reads = ((record { fragment = (frag_no 1); at = (dm_no 1) }) ∷ []); writes = ((frag_no 2) ∷ []) }) ∷
-    (record { name = []; tm = (tm_no 2); reads = ((record { fragment = (frag_no 2); at = (dm_no 1) }) ∷ []); writes = ((frag_no 1) ∷ []) }) ∷
-    [];
+      (record { name = []; tm = (tm_no 1); reads = ((record { fragment = (frag_no 1); at = (dm_no 1) }) ∷ []); writes = ((frag_no 2) ∷ []) }) ∷
+      (record { name = []; tm = (tm_no 2); reads = ((record { fragment = (frag_no 2); at = (dm_no 1) }) ∷ []); writes = ((frag_no 1) ∷ []) }) ∷
+      [];
 }
 
 abbrev pub given_rejected : Given
@@ -42,27 +42,27 @@ given_rejected = record {
       (record {
         catalogue = catalogue_of_rejected;
         table =
-          (record { edge = (Vertical (class_no 1)); block = 1; protocol = P1 }) ∷
-          (record { edge = (Vertical (class_no 2)); block = 1; protocol = P1 }) ∷
-          (record { edge = (Diagonal (class_no 1) (class_no 2) (frag_no 1)); block = 1; protocol = P3 }) ∷
-          (record { edge = (Diagonal (class_no 2) (class_no 1) (frag_no 2)); block = 1; protocol = P3 }) ∷
-          [];
+            (record { edge = (Vertical (class_no 1)); block = 1; protocol = P1 }) ∷
+            (record { edge = (Vertical (class_no 2)); block = 1; protocol = P1 }) ∷
+            (record { edge = (Diagonal (class_no 1) (class_no 2) (frag_no 1)); block = 1; protocol = P3 }) ∷
+            (record { edge = (Diagonal (class_no 2) (class_no 1) (frag_no 2)); block = 1; protocol = P3 }) ∷
+            [];
       }) ∷
       [];
   rows = ([] ∷ []);
   txns =
-    (record { name = []; tm = (tm_no 1); statements = ((Query ((record { part = 1; column = 2 }) ∷ []) ((record { 0 = 1 }) ∷ []) ((Const (record { part = 1; column = 1 }) Le (Int (pos 9))) ∷ [])) ∷ []) }) ∷
-    (record { name = []; tm = (tm_no 2); statements = ((Put (record { 0 = 1 }) ((Int (pos 1)) ∷ (Int (pos 1)) ∷ [])) ∷ []) }) ∷
-    [];
+      (record { name = []; tm = (tm_no 1); statements = ((Query ((record { part = 1; column = 2 }) ∷ []) ((record { 0 = 1 }) ∷ []) ((Const (record { part = 1; column = 1 }) Le (Int (pos 9))) ∷ [])) ∷ []) }) ∷
+      (record { name = []; tm = (tm_no 2); statements = ((Put (record { 0 = 1 }) ((Int (pos 1)) ∷ (Int (pos 1)) ∷ [])) ∷ []) }) ∷
+      [];
   events =
-    Submit (txn_no 1) ∷
-    Submit (txn_no 2) ∷
-    Deliver (T (tm_no 2)) (D (dm_no 1)) 1 ∷
-    Deliver (T (tm_no 1)) (D (dm_no 1)) 1 ∷
-    Deliver (D (dm_no 1)) (T (tm_no 1)) 2 ∷
-    Deliver (T (tm_no 1)) (D (dm_no 1)) 2 ∷
-    Settle ∷
-    [];
+      Submit (txn_no 1) ∷
+      Submit (txn_no 2) ∷
+      Deliver (T (tm_no 2)) (D (dm_no 1)) 1 ∷
+      Deliver (T (tm_no 1)) (D (dm_no 1)) 1 ∷
+      Deliver (D (dm_no 1)) (T (tm_no 1)) 2 ∷
+      Deliver (T (tm_no 1)) (D (dm_no 1)) 2 ∷
+      Settle ∷
+      [];
 }
 
 abbrev pub log_of_rejected : Log
@@ -97,16 +97,16 @@ catalogue_of_waits_for_two = record {
   tms = 3;
   dms = 1;
   relations =
-    (record { name = []; columns = ((record { name = []; kind = kinds.Int }) ∷ (record { name = []; kind = kinds.Int }) ∷ []); key = 1 }) ∷
-    [];
+      (record { name = []; columns = ((record { name = []; kind = kinds.Int }) ∷ (record { name = []; kind = kinds.Int }) ∷ []); key = 1 }) ∷
+      [];
   fragments =
-    (record { name = []; rel = (record { 0 = 1 }); least = (negsuc 9223372036854775807); greatest = (pos 9223372036854775807); copies = ((dm_no 1) ∷ []) }) ∷
-    [];
+      (record { name = []; rel = (record { 0 = 1 }); least = (negsuc 9223372036854775807); greatest = (pos 9223372036854775807); copies = ((dm_no 1) ∷ []) }) ∷
+      [];
   classes =
-    (record { name = []; tm = (tm_no 1); reads = ((record { fragment = (frag_no 1); at = (dm_no 1) }) ∷ []); writes = [] }) ∷
-    (record { name = []; tm = (tm_no 2); reads = []; writes = ((frag_no 1) ∷ []) }) ∷
-    (record { name = []; tm = (tm_no 3); reads = []; writes = ((frag_no 1) ∷ []) }) ∷
-    [];
+      (record { name = []; tm = (tm_no 1); reads = ((record { fragment = (frag_no 1); at = (dm_no 1) }) ∷ []); writes = [] }) ∷
+      (record { name = []; tm = (tm_no 2); reads = []; writes = ((frag_no 1) ∷ []) }) ∷
+      (record { name = []; tm = (tm_no 3); reads = []; writes = ((frag_no 1) ∷ []) }) ∷
+      [];
 }
 
 abbrev pub given_waits_for_two : Given
@@ -116,30 +116,30 @@ given_waits_for_two = record {
       (record {
         catalogue = catalogue_of_waits_for_two;
         table =
-          (record { edge = (Vertical (class_no 1)); block = 0; protocol = P1 }) ∷
-          (record { edge = (Vertical (class_no 2)); block = 0; protocol = P1 }) ∷
-          (record { edge = (Vertical (class_no 3)); block = 0; protocol = P1 }) ∷
-          (record { edge = (Horizontal (class_no 2) (class_no 3)); block = 1; protocol = P1 }) ∷
-          (record { edge = (Diagonal (class_no 1) (class_no 2) (frag_no 1)); block = 1; protocol = P2 }) ∷
-          (record { edge = (Diagonal (class_no 1) (class_no 3) (frag_no 1)); block = 1; protocol = P2 }) ∷
-          [];
+            (record { edge = (Vertical (class_no 1)); block = 0; protocol = P1 }) ∷
+            (record { edge = (Vertical (class_no 2)); block = 0; protocol = P1 }) ∷
+            (record { edge = (Vertical (class_no 3)); block = 0; protocol = P1 }) ∷
+            (record { edge = (Horizontal (class_no 2) (class_no 3)); block = 1; protocol = P1 }) ∷
+            (record { edge = (Diagonal (class_no 1) (class_no 2) (frag_no 1)); block = 1; protocol = P2 }) ∷
+            (record { edge = (Diagonal (class_no 1) (class_no 3) (frag_no 1)); block = 1; protocol = P2 }) ∷
+            [];
       }) ∷
       [];
   rows = ([] ∷ []);
   txns =
-    (record { name = []; tm = (tm_no 1); statements = ((Query ((record { part = 1; column = 2 }) ∷ []) ((record { 0 = 1 }) ∷ []) []) ∷ []) }) ∷
-    (record { name = []; tm = (tm_no 3); statements = ((Put (record { 0 = 1 }) ((Int (pos 1)) ∷ (Int (pos 5)) ∷ [])) ∷ []) }) ∷
-    [];
+      (record { name = []; tm = (tm_no 1); statements = ((Query ((record { part = 1; column = 2 }) ∷ []) ((record { 0 = 1 }) ∷ []) []) ∷ []) }) ∷
+      (record { name = []; tm = (tm_no 3); statements = ((Put (record { 0 = 1 }) ((Int (pos 1)) ∷ (Int (pos 5)) ∷ [])) ∷ []) }) ∷
+      [];
   events =
-    Tick (tm_no 1) 2 ∷
-    Submit (txn_no 1) ∷
-    Tick (tm_no 3) 3 ∷
-    Submit (txn_no 2) ∷
-    Deliver (T (tm_no 1)) (D (dm_no 1)) 1 ∷
-    Deliver (T (tm_no 3)) (D (dm_no 1)) 1 ∷
-    Deliver (D (dm_no 1)) (T (tm_no 2)) 1 ∷
-    Deliver (T (tm_no 2)) (D (dm_no 1)) 2 ∷
-    [];
+      Tick (tm_no 1) 2 ∷
+      Submit (txn_no 1) ∷
+      Tick (tm_no 3) 3 ∷
+      Submit (txn_no 2) ∷
+      Deliver (T (tm_no 1)) (D (dm_no 1)) 1 ∷
+      Deliver (T (tm_no 3)) (D (dm_no 1)) 1 ∷
+      Deliver (D (dm_no 1)) (T (tm_no 2)) 1 ∷
+      Deliver (T (tm_no 2)) (D (dm_no 1)) 2 ∷
+      [];
 }
 
 abbrev pub log_of_waits_for_two : Log
@@ -170,16 +170,16 @@ catalogue_of_earlier_and_later = record {
   tms = 3;
   dms = 1;
   relations =
-    (record { name = []; columns = ((record { name = []; kind = kinds.Int }) ∷ (record { name = []; kind = kinds.Int }) ∷ []); key = 1 }) ∷
-    [];
+      (record { name = []; columns = ((record { name = []; kind = kinds.Int }) ∷ (record { name = []; kind = kinds.Int }) ∷ []); key = 1 }) ∷
+      [];
   fragments =
-    (record { name = []; rel = (record { 0 = 1 }); least = (negsuc 9223372036854775807); greatest = (pos 9223372036854775807); copies = ((dm_no 1) ∷ []) }) ∷
-    [];
+      (record { name = []; rel = (record { 0 = 1 }); least = (negsuc 9223372036854775807); greatest = (pos 9223372036854775807); copies = ((dm_no 1) ∷ []) }) ∷
+      [];
   classes =
-    (record { name = []; tm = (tm_no 1); reads = ((record { fragment = (frag_no 1); at = (dm_no 1) }) ∷ []); writes = [] }) ∷
-    (record { name = []; tm = (tm_no 2); reads = []; writes = ((frag_no 1) ∷ []) }) ∷
-    (record { name = []; tm = (tm_no 3); reads = []; writes = ((frag_no 1) ∷ []) }) ∷
-    [];
+      (record { name = []; tm = (tm_no 1); reads = ((record { fragment = (frag_no 1); at = (dm_no 1) }) ∷ []); writes = [] }) ∷
+      (record { name = []; tm = (tm_no 2); reads = []; writes = ((frag_no 1) ∷ []) }) ∷
+      (record { name = []; tm = (tm_no 3); reads = []; writes = ((frag_no 1) ∷ []) }) ∷
+      [];
 }
 
 abbrev pub given_earlier_and_later : Given
@@ -189,30 +189,30 @@ given_earlier_and_later = record {
       (record {
         catalogue = catalogue_of_earlier_and_later;
         table =
-          (record { edge = (Vertical (class_no 1)); block = 0; protocol = P1 }) ∷
-          (record { edge = (Vertical (class_no 2)); block = 0; protocol = P1 }) ∷
-          (record { edge = (Vertical (class_no 3)); block = 0; protocol = P1 }) ∷
-          (record { edge = (Horizontal (class_no 2) (class_no 3)); block = 1; protocol = P1 }) ∷
-          (record { edge = (Diagonal (class_no 1) (class_no 2) (frag_no 1)); block = 1; protocol = P2 }) ∷
-          (record { edge = (Diagonal (class_no 1) (class_no 3) (frag_no 1)); block = 1; protocol = P2 }) ∷
-          [];
+            (record { edge = (Vertical (class_no 1)); block = 0; protocol = P1 }) ∷
+            (record { edge = (Vertical (class_no 2)); block = 0; protocol = P1 }) ∷
+            (record { edge = (Vertical (class_no 3)); block = 0; protocol = P1 }) ∷
+            (record { edge = (Horizontal (class_no 2) (class_no 3)); block = 1; protocol = P1 }) ∷
+            (record { edge = (Diagonal (class_no 1) (class_no 2) (frag_no 1)); block = 1; protocol = P2 }) ∷
+            (record { edge = (Diagonal (class_no 1) (class_no 3) (frag_no 1)); block = 1; protocol = P2 }) ∷
+            [];
       }) ∷
       [];
   rows = ([] ∷ []);
   txns =
-    (record { name = []; tm = (tm_no 2); statements = ((Put (record { 0 = 1 }) ((Int (pos 1)) ∷ (Int (pos 5)) ∷ [])) ∷ []) }) ∷
-    (record { name = []; tm = (tm_no 3); statements = ((Put (record { 0 = 1 }) ((Int (pos 1)) ∷ (Int (pos 6)) ∷ [])) ∷ []) }) ∷
-    (record { name = []; tm = (tm_no 1); statements = ((Query ((record { part = 1; column = 2 }) ∷ []) ((record { 0 = 1 }) ∷ []) []) ∷ []) }) ∷
-    [];
+      (record { name = []; tm = (tm_no 2); statements = ((Put (record { 0 = 1 }) ((Int (pos 1)) ∷ (Int (pos 5)) ∷ [])) ∷ []) }) ∷
+      (record { name = []; tm = (tm_no 3); statements = ((Put (record { 0 = 1 }) ((Int (pos 1)) ∷ (Int (pos 6)) ∷ [])) ∷ []) }) ∷
+      (record { name = []; tm = (tm_no 1); statements = ((Query ((record { part = 1; column = 2 }) ∷ []) ((record { 0 = 1 }) ∷ []) []) ∷ []) }) ∷
+      [];
   events =
-    Submit (txn_no 1) ∷
-    Submit (txn_no 2) ∷
-    Tick (tm_no 1) 1 ∷
-    Submit (txn_no 3) ∷
-    Deliver (T (tm_no 3)) (D (dm_no 1)) 1 ∷
-    Deliver (T (tm_no 1)) (D (dm_no 1)) 1 ∷
-    Deliver (T (tm_no 2)) (D (dm_no 1)) 1 ∷
-    [];
+      Submit (txn_no 1) ∷
+      Submit (txn_no 2) ∷
+      Tick (tm_no 1) 1 ∷
+      Submit (txn_no 3) ∷
+      Deliver (T (tm_no 3)) (D (dm_no 1)) 1 ∷
+      Deliver (T (tm_no 1)) (D (dm_no 1)) 1 ∷
+      Deliver (T (tm_no 2)) (D (dm_no 1)) 1 ∷
+      [];
 }
 
 abbrev pub log_of_earlier_and_later : Log
