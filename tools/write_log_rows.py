@@ -25,8 +25,7 @@ from log_rows import ROWS  # noqa: E402
 OPERATORS = {"=": "Eq", "!=": "Ne", "<": "Lt", "<=": "Le", ">": "Gt", ">=": "Ge"}
 IMPORTS = [
     ("Rattle.std.specs.Prelude", "ℕ ◌≡◌ pos negsuc true false List [] ◌∷◌ length Some None refl"),
-    ("Rattle.sdd_base.specs.Numbers", "tm_no dm_no class_no frag_no txn_no time_at"),
-    ("Rattle.sdd_base.specs.declared.number.RelNo", "RelNo"),
+    ("Rattle.sdd_base.specs.Numbers", "rel_no tm_no dm_no class_no frag_no txn_no time_at"),
     ("Rattle.sdd_base.specs.declared.value.Value.TheVariants", "Int Text"),
     ("Rattle.sdd_base.specs.declared.restriction.Op.TheVariants", "Eq Ne Lt Le Gt Ge"),
     ("Rattle.sdd_base.specs.declared.event.Event.TheVariants", "Submit Deliver Lose Repeat Resend Tick Settle Redeclare Down Up"),
@@ -76,7 +75,7 @@ def number(kind, n):
 
 
 def rel(n):
-    return "(record { 0 = %d })" % n
+    return number("rel_no", n)
 
 
 def ref(r):
@@ -220,7 +219,7 @@ def written(name, shows, log):
         name, name, whole_cat, lines(forces, 6), listed([listed(rows)] * log.whole.dms), lines(txns, 6), lines(map(event, work.events), 6))
     text += "\nabbrev pub log_of_%s : Log\nlog_of_%s = extended %d given_%s []\n" % (name, name, count, name)
     history = lines(["(%d, %s)" % (e, record(r)) for e, r in log.history()], 4)
-    text += "\npub history_of_%s :\n  history log_of_%s ≡\n%s\nhistory_of_%s = refl\n" % (name, name, history, name)
+    text += "\npub history_of_%s :\n    history log_of_%s ≡\n%s\nhistory_of_%s = refl\n" % (name, name, history, name)
     text += "\npub all_of_%s : (next given_%s log_of_%s ≡ None) × (length log_of_%s ≡ %d) × (marks log_of_%s ≡ %d)\nall_of_%s = (refl, refl, refl)\n" % (
         name, name, name, name, count, name, len(log.marks), name)
     return text, count

@@ -8,7 +8,8 @@ use Rattle.sdd_pipe.specs.Pipe.{Pipe, put, head_processed, one_or_none}
 use Rattle.sdd_wire.specs.Piped.{goes_through}
 use Rattle.sdd_dm.specs.Pipes.{pipe_acted, pipe}
 
-abbrev all_handed : ℕ → Log → List Msg
+-- the messages for the pipe of class c, in the order of their hands
+abbrev pub all_handed : ℕ → Log → List Msg
 all_handed c [] = []
 all_handed c (Handed from m ∷ log) = if goes_through c m then all_handed c log ++ m ∷ [] else all_handed c log
 all_handed c (_ ∷ log) = all_handed c log

@@ -1,6 +1,6 @@
 -- Worked logs, written by tools/write_log_rows.py.
 use Rattle.std.specs.Prelude.{◌≡◌, pos, negsuc, [], ◌∷◌, length, Some, None, refl}
-use Rattle.sdd_base.specs.Numbers.{tm_no, dm_no, class_no, frag_no, txn_no, time_at}
+use Rattle.sdd_base.specs.Numbers.{rel_no, tm_no, dm_no, class_no, frag_no, txn_no, time_at}
 use Rattle.sdd_base.specs.declared.value.Value.TheVariants.{Int}
 use Rattle.sdd_base.specs.declared.restriction.Op.TheVariants.{Le}
 use Rattle.sdd_base.specs.declared.event.Event.TheVariants.{Submit, Deliver, Tick}
@@ -26,8 +26,8 @@ catalogue_of_not_rejected = record {
       (record { name = []; columns = ((record { name = []; kind = kinds.Int }) ∷ (record { name = []; kind = kinds.Int }) ∷ []); key = 1 }) ∷
       [];
   fragments =
-      (record { name = []; rel = (record { 0 = 1 }); least = (negsuc 9223372036854775807); greatest = (pos 9); copies = ((dm_no 1) ∷ []) }) ∷
-      (record { name = []; rel = (record { 0 = 1 }); least = (pos 10); greatest = (pos 9223372036854775807); copies = ((dm_no 1) ∷ []) }) ∷
+      (record { name = []; rel = (rel_no 1); least = (negsuc 9223372036854775807); greatest = (pos 9); copies = ((dm_no 1) ∷ []) }) ∷
+      (record { name = []; rel = (rel_no 1); least = (pos 10); greatest = (pos 9223372036854775807); copies = ((dm_no 1) ∷ []) }) ∷
       [];
   classes =
       (record { name = []; tm = (tm_no 1); reads = ((record { fragment = (frag_no 1); at = (dm_no 1) }) ∷ []); writes = ((frag_no 2) ∷ []) }) ∷
@@ -52,8 +52,8 @@ given_not_rejected = record {
       [];
   rows = ([] ∷ []);
   txns =
-      (record { name = []; tm = (tm_no 1); statements = ((Query ((record { part = 1; column = 2 }) ∷ []) ((record { 0 = 1 }) ∷ []) ((Const (record { part = 1; column = 1 }) Le (Int (pos 9))) ∷ [])) ∷ []) }) ∷
-      (record { name = []; tm = (tm_no 2); statements = ((Put (record { 0 = 1 }) ((Int (pos 11)) ∷ (Int (pos 1)) ∷ [])) ∷ []) }) ∷
+      (record { name = []; tm = (tm_no 1); statements = ((Query ((record { part = 1; column = 2 }) ∷ []) ((rel_no 1) ∷ []) ((Const (record { part = 1; column = 1 }) Le (Int (pos 9))) ∷ [])) ∷ []) }) ∷
+      (record { name = []; tm = (tm_no 2); statements = ((Put (rel_no 1) ((Int (pos 11)) ∷ (Int (pos 1)) ∷ [])) ∷ []) }) ∷
       [];
   events =
       Submit (txn_no 1) ∷
@@ -70,9 +70,9 @@ abbrev pub log_of_not_rejected : Log
 log_of_not_rejected = extended 23 given_not_rejected []
 
 pub history_of_not_rejected :
-  history log_of_not_rejected ≡
+    history log_of_not_rejected ≡
     (1, Submission (txn_no 1)) ∷
-    (1, Start (txn_no 1) 1 (class_no 1) (time_at 65) (Some (time_at 63)) ((record { number = 1; rel = (record { 0 = 1 }); frags = ((frag_no 1) ∷ []); restrictions = ((record { column = 1; op = Le; value = (Int (pos 9)) }) ∷ []) }) ∷ [])) ∷
+    (1, Start (txn_no 1) 1 (class_no 1) (time_at 65) (Some (time_at 63)) ((record { number = 1; rel = (rel_no 1); frags = ((frag_no 1) ∷ []); restrictions = ((record { column = 1; op = Le; value = (Int (pos 9)) }) ∷ []) }) ∷ [])) ∷
     (2, Submission (txn_no 2)) ∷
     (2, Start (txn_no 2) 1 (class_no 2) (time_at 66) (Some (time_at 63)) []) ∷
     (2, Commit (txn_no 2) 1 (Rows []) ((record { frag = (frag_no 2); key = (pos 11); row = (Some ((Int (pos 11)) ∷ (Int (pos 1)) ∷ [])) }) ∷ []) 0 0) ∷
@@ -96,8 +96,8 @@ catalogue_of_not_held = record {
       (record { name = []; columns = ((record { name = []; kind = kinds.Int }) ∷ (record { name = []; kind = kinds.Int }) ∷ []); key = 1 }) ∷
       [];
   fragments =
-      (record { name = []; rel = (record { 0 = 1 }); least = (negsuc 9223372036854775807); greatest = (pos 9); copies = ((dm_no 1) ∷ []) }) ∷
-      (record { name = []; rel = (record { 0 = 1 }); least = (pos 10); greatest = (pos 9223372036854775807); copies = ((dm_no 1) ∷ []) }) ∷
+      (record { name = []; rel = (rel_no 1); least = (negsuc 9223372036854775807); greatest = (pos 9); copies = ((dm_no 1) ∷ []) }) ∷
+      (record { name = []; rel = (rel_no 1); least = (pos 10); greatest = (pos 9223372036854775807); copies = ((dm_no 1) ∷ []) }) ∷
       [];
   classes =
       (record { name = []; tm = (tm_no 1); reads = ((record { fragment = (frag_no 1); at = (dm_no 1) }) ∷ (record { fragment = (frag_no 2); at = (dm_no 1) }) ∷ []); writes = [] }) ∷
@@ -125,8 +125,8 @@ given_not_held = record {
       [];
   rows = ([] ∷ []);
   txns =
-      (record { name = []; tm = (tm_no 1); statements = ((Query ((record { part = 1; column = 2 }) ∷ []) ((record { 0 = 1 }) ∷ []) ((Const (record { part = 1; column = 1 }) Le (Int (pos 9))) ∷ [])) ∷ []) }) ∷
-      (record { name = []; tm = (tm_no 3); statements = ((Put (record { 0 = 1 }) ((Int (pos 11)) ∷ (Int (pos 5)) ∷ [])) ∷ []) }) ∷
+      (record { name = []; tm = (tm_no 1); statements = ((Query ((record { part = 1; column = 2 }) ∷ []) ((rel_no 1) ∷ []) ((Const (record { part = 1; column = 1 }) Le (Int (pos 9))) ∷ [])) ∷ []) }) ∷
+      (record { name = []; tm = (tm_no 3); statements = ((Put (rel_no 1) ((Int (pos 11)) ∷ (Int (pos 5)) ∷ [])) ∷ []) }) ∷
       [];
   events =
       Tick (tm_no 1) 2 ∷
@@ -144,9 +144,9 @@ abbrev pub log_of_not_held : Log
 log_of_not_held = extended 23 given_not_held []
 
 pub history_of_not_held :
-  history log_of_not_held ≡
+    history log_of_not_held ≡
     (2, Submission (txn_no 1)) ∷
-    (2, Start (txn_no 1) 1 (class_no 1) (time_at 193) (Some (time_at 191)) ((record { number = 1; rel = (record { 0 = 1 }); frags = ((frag_no 1) ∷ []); restrictions = ((record { column = 1; op = Le; value = (Int (pos 9)) }) ∷ []) }) ∷ [])) ∷
+    (2, Start (txn_no 1) 1 (class_no 1) (time_at 193) (Some (time_at 191)) ((record { number = 1; rel = (rel_no 1); frags = ((frag_no 1) ∷ []); restrictions = ((record { column = 1; op = Le; value = (Int (pos 9)) }) ∷ []) }) ∷ [])) ∷
     (4, Submission (txn_no 2)) ∷
     (4, Start (txn_no 2) 1 (class_no 3) (time_at 259) (Some (time_at 255)) []) ∷
     (4, Commit (txn_no 2) 1 (Rows []) ((record { frag = (frag_no 2); key = (pos 11); row = (Some ((Int (pos 11)) ∷ (Int (pos 5)) ∷ [])) }) ∷ []) 0 0) ∷

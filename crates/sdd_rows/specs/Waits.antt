@@ -1,6 +1,6 @@
 -- Worked logs, written by tools/write_log_rows.py.
 use Rattle.std.specs.Prelude.{◌≡◌, pos, negsuc, [], ◌∷◌, length, Some, None, refl}
-use Rattle.sdd_base.specs.Numbers.{tm_no, dm_no, class_no, frag_no, txn_no, time_at}
+use Rattle.sdd_base.specs.Numbers.{rel_no, tm_no, dm_no, class_no, frag_no, txn_no, time_at}
 use Rattle.sdd_base.specs.declared.value.Value.TheVariants.{Int}
 use Rattle.sdd_base.specs.declared.restriction.Op.TheVariants.{Le}
 use Rattle.sdd_base.specs.declared.event.Event.TheVariants.{Submit, Deliver, Tick, Settle}
@@ -26,8 +26,8 @@ catalogue_of_rejected = record {
       (record { name = []; columns = ((record { name = []; kind = kinds.Int }) ∷ (record { name = []; kind = kinds.Int }) ∷ []); key = 1 }) ∷
       [];
   fragments =
-      (record { name = []; rel = (record { 0 = 1 }); least = (negsuc 9223372036854775807); greatest = (pos 9); copies = ((dm_no 1) ∷ []) }) ∷
-      (record { name = []; rel = (record { 0 = 1 }); least = (pos 10); greatest = (pos 9223372036854775807); copies = ((dm_no 1) ∷ []) }) ∷
+      (record { name = []; rel = (rel_no 1); least = (negsuc 9223372036854775807); greatest = (pos 9); copies = ((dm_no 1) ∷ []) }) ∷
+      (record { name = []; rel = (rel_no 1); least = (pos 10); greatest = (pos 9223372036854775807); copies = ((dm_no 1) ∷ []) }) ∷
       [];
   classes =
       (record { name = []; tm = (tm_no 1); reads = ((record { fragment = (frag_no 1); at = (dm_no 1) }) ∷ []); writes = ((frag_no 2) ∷ []) }) ∷
@@ -51,8 +51,8 @@ given_rejected = record {
       [];
   rows = ([] ∷ []);
   txns =
-      (record { name = []; tm = (tm_no 1); statements = ((Query ((record { part = 1; column = 2 }) ∷ []) ((record { 0 = 1 }) ∷ []) ((Const (record { part = 1; column = 1 }) Le (Int (pos 9))) ∷ [])) ∷ []) }) ∷
-      (record { name = []; tm = (tm_no 2); statements = ((Put (record { 0 = 1 }) ((Int (pos 1)) ∷ (Int (pos 1)) ∷ [])) ∷ []) }) ∷
+      (record { name = []; tm = (tm_no 1); statements = ((Query ((record { part = 1; column = 2 }) ∷ []) ((rel_no 1) ∷ []) ((Const (record { part = 1; column = 1 }) Le (Int (pos 9))) ∷ [])) ∷ []) }) ∷
+      (record { name = []; tm = (tm_no 2); statements = ((Put (rel_no 1) ((Int (pos 1)) ∷ (Int (pos 1)) ∷ [])) ∷ []) }) ∷
       [];
   events =
       Submit (txn_no 1) ∷
@@ -69,16 +69,16 @@ abbrev pub log_of_rejected : Log
 log_of_rejected = extended 52 given_rejected []
 
 pub history_of_rejected :
-  history log_of_rejected ≡
+    history log_of_rejected ≡
     (1, Submission (txn_no 1)) ∷
-    (1, Start (txn_no 1) 1 (class_no 1) (time_at 65) (Some (time_at 63)) ((record { number = 1; rel = (record { 0 = 1 }); frags = ((frag_no 1) ∷ []); restrictions = ((record { column = 1; op = Le; value = (Int (pos 9)) }) ∷ []) }) ∷ [])) ∷
+    (1, Start (txn_no 1) 1 (class_no 1) (time_at 65) (Some (time_at 63)) ((record { number = 1; rel = (rel_no 1); frags = ((frag_no 1) ∷ []); restrictions = ((record { column = 1; op = Le; value = (Int (pos 9)) }) ∷ []) }) ∷ [])) ∷
     (2, Submission (txn_no 2)) ∷
     (2, Start (txn_no 2) 1 (class_no 2) (time_at 66) (Some (time_at 63)) []) ∷
     (2, Commit (txn_no 2) 1 (Rows []) ((record { frag = (frag_no 1); key = (pos 1); row = (Some ((Int (pos 1)) ∷ (Int (pos 1)) ∷ [])) }) ∷ []) 0 0) ∷
     (3, Apply (txn_no 2) (class_no 2) (dm_no 1) (time_at 66)) ∷
     (4, Arrive (txn_no 1) 1 (dm_no 1)) ∷
     (4, Reject (txn_no 1) 1 (dm_no 1) (class_no 2) (time_at 66)) ∷
-    (5, Start (txn_no 1) 2 (class_no 1) (time_at 129) (Some (time_at 127)) ((record { number = 1; rel = (record { 0 = 1 }); frags = ((frag_no 1) ∷ []); restrictions = ((record { column = 1; op = Le; value = (Int (pos 9)) }) ∷ []) }) ∷ [])) ∷
+    (5, Start (txn_no 1) 2 (class_no 1) (time_at 129) (Some (time_at 127)) ((record { number = 1; rel = (rel_no 1); frags = ((frag_no 1) ∷ []); restrictions = ((record { column = 1; op = Le; value = (Int (pos 9)) }) ∷ []) }) ∷ [])) ∷
     (6, Arrive (txn_no 1) 2 (dm_no 1)) ∷
     (6, Wait (txn_no 1) 2 (dm_no 1) ((record { class = (class_no 2); time = (time_at 129); frags = ((frag_no 1) ∷ []) }) ∷ [])) ∷
     (13, Answer (txn_no 1) 2 (dm_no 1)) ∷
@@ -100,7 +100,7 @@ catalogue_of_waits_for_two = record {
       (record { name = []; columns = ((record { name = []; kind = kinds.Int }) ∷ (record { name = []; kind = kinds.Int }) ∷ []); key = 1 }) ∷
       [];
   fragments =
-      (record { name = []; rel = (record { 0 = 1 }); least = (negsuc 9223372036854775807); greatest = (pos 9223372036854775807); copies = ((dm_no 1) ∷ []) }) ∷
+      (record { name = []; rel = (rel_no 1); least = (negsuc 9223372036854775807); greatest = (pos 9223372036854775807); copies = ((dm_no 1) ∷ []) }) ∷
       [];
   classes =
       (record { name = []; tm = (tm_no 1); reads = ((record { fragment = (frag_no 1); at = (dm_no 1) }) ∷ []); writes = [] }) ∷
@@ -127,8 +127,8 @@ given_waits_for_two = record {
       [];
   rows = ([] ∷ []);
   txns =
-      (record { name = []; tm = (tm_no 1); statements = ((Query ((record { part = 1; column = 2 }) ∷ []) ((record { 0 = 1 }) ∷ []) []) ∷ []) }) ∷
-      (record { name = []; tm = (tm_no 3); statements = ((Put (record { 0 = 1 }) ((Int (pos 1)) ∷ (Int (pos 5)) ∷ [])) ∷ []) }) ∷
+      (record { name = []; tm = (tm_no 1); statements = ((Query ((record { part = 1; column = 2 }) ∷ []) ((rel_no 1) ∷ []) []) ∷ []) }) ∷
+      (record { name = []; tm = (tm_no 3); statements = ((Put (rel_no 1) ((Int (pos 1)) ∷ (Int (pos 5)) ∷ [])) ∷ []) }) ∷
       [];
   events =
       Tick (tm_no 1) 2 ∷
@@ -146,9 +146,9 @@ abbrev pub log_of_waits_for_two : Log
 log_of_waits_for_two = extended 23 given_waits_for_two []
 
 pub history_of_waits_for_two :
-  history log_of_waits_for_two ≡
+    history log_of_waits_for_two ≡
     (2, Submission (txn_no 1)) ∷
-    (2, Start (txn_no 1) 1 (class_no 1) (time_at 193) (Some (time_at 191)) ((record { number = 1; rel = (record { 0 = 1 }); frags = ((frag_no 1) ∷ []); restrictions = [] }) ∷ [])) ∷
+    (2, Start (txn_no 1) 1 (class_no 1) (time_at 193) (Some (time_at 191)) ((record { number = 1; rel = (rel_no 1); frags = ((frag_no 1) ∷ []); restrictions = [] }) ∷ [])) ∷
     (4, Submission (txn_no 2)) ∷
     (4, Start (txn_no 2) 1 (class_no 3) (time_at 259) (Some (time_at 255)) []) ∷
     (4, Commit (txn_no 2) 1 (Rows []) ((record { frag = (frag_no 1); key = (pos 1); row = (Some ((Int (pos 1)) ∷ (Int (pos 5)) ∷ [])) }) ∷ []) 0 0) ∷
@@ -173,7 +173,7 @@ catalogue_of_earlier_and_later = record {
       (record { name = []; columns = ((record { name = []; kind = kinds.Int }) ∷ (record { name = []; kind = kinds.Int }) ∷ []); key = 1 }) ∷
       [];
   fragments =
-      (record { name = []; rel = (record { 0 = 1 }); least = (negsuc 9223372036854775807); greatest = (pos 9223372036854775807); copies = ((dm_no 1) ∷ []) }) ∷
+      (record { name = []; rel = (rel_no 1); least = (negsuc 9223372036854775807); greatest = (pos 9223372036854775807); copies = ((dm_no 1) ∷ []) }) ∷
       [];
   classes =
       (record { name = []; tm = (tm_no 1); reads = ((record { fragment = (frag_no 1); at = (dm_no 1) }) ∷ []); writes = [] }) ∷
@@ -200,9 +200,9 @@ given_earlier_and_later = record {
       [];
   rows = ([] ∷ []);
   txns =
-      (record { name = []; tm = (tm_no 2); statements = ((Put (record { 0 = 1 }) ((Int (pos 1)) ∷ (Int (pos 5)) ∷ [])) ∷ []) }) ∷
-      (record { name = []; tm = (tm_no 3); statements = ((Put (record { 0 = 1 }) ((Int (pos 1)) ∷ (Int (pos 6)) ∷ [])) ∷ []) }) ∷
-      (record { name = []; tm = (tm_no 1); statements = ((Query ((record { part = 1; column = 2 }) ∷ []) ((record { 0 = 1 }) ∷ []) []) ∷ []) }) ∷
+      (record { name = []; tm = (tm_no 2); statements = ((Put (rel_no 1) ((Int (pos 1)) ∷ (Int (pos 5)) ∷ [])) ∷ []) }) ∷
+      (record { name = []; tm = (tm_no 3); statements = ((Put (rel_no 1) ((Int (pos 1)) ∷ (Int (pos 6)) ∷ [])) ∷ []) }) ∷
+      (record { name = []; tm = (tm_no 1); statements = ((Query ((record { part = 1; column = 2 }) ∷ []) ((rel_no 1) ∷ []) []) ∷ []) }) ∷
       [];
   events =
       Submit (txn_no 1) ∷
@@ -219,7 +219,7 @@ abbrev pub log_of_earlier_and_later : Log
 log_of_earlier_and_later = extended 22 given_earlier_and_later []
 
 pub history_of_earlier_and_later :
-  history log_of_earlier_and_later ≡
+    history log_of_earlier_and_later ≡
     (1, Submission (txn_no 1)) ∷
     (1, Start (txn_no 1) 1 (class_no 2) (time_at 66) (Some (time_at 63)) []) ∷
     (1, Commit (txn_no 1) 1 (Rows []) ((record { frag = (frag_no 1); key = (pos 1); row = (Some ((Int (pos 1)) ∷ (Int (pos 5)) ∷ [])) }) ∷ []) 0 0) ∷
@@ -227,7 +227,7 @@ pub history_of_earlier_and_later :
     (2, Start (txn_no 2) 1 (class_no 3) (time_at 67) (Some (time_at 63)) []) ∷
     (2, Commit (txn_no 2) 1 (Rows []) ((record { frag = (frag_no 1); key = (pos 1); row = (Some ((Int (pos 1)) ∷ (Int (pos 6)) ∷ [])) }) ∷ []) 0 0) ∷
     (4, Submission (txn_no 3)) ∷
-    (4, Start (txn_no 3) 1 (class_no 1) (time_at 129) (Some (time_at 127)) ((record { number = 1; rel = (record { 0 = 1 }); frags = ((frag_no 1) ∷ []); restrictions = [] }) ∷ [])) ∷
+    (4, Start (txn_no 3) 1 (class_no 1) (time_at 129) (Some (time_at 127)) ((record { number = 1; rel = (rel_no 1); frags = ((frag_no 1) ∷ []); restrictions = [] }) ∷ [])) ∷
     (5, Apply (txn_no 2) (class_no 3) (dm_no 1) (time_at 67)) ∷
     (6, Arrive (txn_no 3) 1 (dm_no 1)) ∷
     (6, Wait (txn_no 3) 1 (dm_no 1) ((record { class = (class_no 2); time = (time_at 127); frags = ((frag_no 1) ∷ []) }) ∷ (record { class = (class_no 3); time = (time_at 127); frags = ((frag_no 1) ∷ []) }) ∷ [])) ∷
