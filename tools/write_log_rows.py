@@ -25,8 +25,7 @@ from log_rows import ROWS  # noqa: E402
 OPERATORS = {"=": "Eq", "!=": "Ne", "<": "Lt", "<=": "Le", ">": "Gt", ">=": "Ge"}
 IMPORTS = [
     ("Rattle.std.specs.Prelude", "ℕ ◌≡◌ pos negsuc true false List [] ◌∷◌ length Some None refl"),
-    ("Rattle.sdd_base.specs.Numbers", "tm_no dm_no class_no frag_no txn_no time_at"),
-    ("Rattle.sdd_base.specs.declared.number.RelNo", "RelNo"),
+    ("Rattle.sdd_base.specs.Numbers", "rel_no tm_no dm_no class_no frag_no txn_no time_at"),
     ("Rattle.sdd_base.specs.declared.value.Value.TheVariants", "Int Text"),
     ("Rattle.sdd_base.specs.declared.restriction.Op.TheVariants", "Eq Ne Lt Le Gt Ge"),
     ("Rattle.sdd_base.specs.declared.event.Event.TheVariants", "Submit Deliver Lose Repeat Resend Tick Settle Redeclare Down Up"),
@@ -76,7 +75,7 @@ def number(kind, n):
 
 
 def rel(n):
-    return "(record { 0 = %d })" % n
+    return number("rel_no", n)
 
 
 def ref(r):
@@ -185,7 +184,7 @@ def catalogue(c, name):
         for k in c.classes
     ]
     return "abbrev pub %s : Catalogue\n%s = record {\n  tms = %d;\n  dms = %d;\n  relations =\n%s;\n  fragments =\n%s;\n  classes =\n%s;\n}\n" % (
-        name, name, c.tms, c.dms, lines(relations, 4), lines(fragments, 4), lines(classes, 4))
+        name, name, c.tms, c.dms, lines(relations, 6), lines(fragments, 6), lines(classes, 6))
 
 
 def edge(e):
@@ -215,12 +214,12 @@ def written(name, shows, log):
         text += "".join("\n" + catalogue(era, n) for era, n in zip(log.eras, names))
     rows = ["(%s, %s)" % (rel(r), row(x)) for r, x in work.rows]
     txns = [fields(name="[]", tm=number("tm_no", t.tm), statements=listed(map(statement, t.stmts))) for t in work.txns]
-    forces = ["(record {\n        catalogue = %s;\n        table =\n%s;\n      })" % (n, lines(table(era), 10)) for n, era in zip(names, log.eras)]
+    forces = ["(record {\n        catalogue = %s;\n        table =\n%s;\n      })" % (n, lines(table(era), 12)) for n, era in zip(names, log.eras)]
     text += "\nabbrev pub given_%s : Given\ngiven_%s = record {\n  catalogue = %s;\n  forces =\n%s;\n  rows = %s;\n  txns =\n%s;\n  events =\n%s;\n}\n" % (
-        name, name, whole_cat, lines(forces, 6), listed([listed(rows)] * log.whole.dms), lines(txns, 4), lines(map(event, work.events), 4))
+        name, name, whole_cat, lines(forces, 6), listed([listed(rows)] * log.whole.dms), lines(txns, 6), lines(map(event, work.events), 6))
     text += "\nabbrev pub log_of_%s : Log\nlog_of_%s = extended %d given_%s []\n" % (name, name, count, name)
     history = lines(["(%d, %s)" % (e, record(r)) for e, r in log.history()], 4)
-    text += "\npub history_of_%s :\n  history log_of_%s ≡\n%s\nhistory_of_%s = refl\n" % (name, name, history, name)
+    text += "\npub history_of_%s :\n    history log_of_%s ≡\n%s\nhistory_of_%s = refl\n" % (name, name, history, name)
     text += "\npub all_of_%s : (next given_%s log_of_%s ≡ None) × (length log_of_%s ≡ %d) × (marks log_of_%s ≡ %d)\nall_of_%s = (refl, refl, refl)\n" % (
         name, name, name, name, count, name, len(log.marks), name)
     return text, count

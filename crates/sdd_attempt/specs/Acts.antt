@@ -61,7 +61,7 @@ start_act cat table c clock q =
     let own : ℕ = timestamp (ticked clock 1) in
     let p2 : ℕ = bound_of clock in
     Records c (Start (txn_no q.number) (suc q.tries) (class_no c) (time_at own) (p2_of c p2) uses)
-      (map (read_to cat table c q uses own p2) (modules_of cat c (ascending (fragments_in uses))))
+    (map (read_to cat table c q uses own p2) (modules_of cat c (ascending (fragments_in uses))))
 
 -- the WRITE to module d: where it has a copy of a changed fragment, and of an undeclared transaction in any case
 abbrev pub write_to : Catalogue → ℕ → Attempt → List Change → ℕ → Option (Site × Msg)

@@ -2,13 +2,12 @@
 -- reduced, step by step, by FETCH, VALUES, REDUCE and REDUCED; at last all rows are shipped.
 use Rattle.std.specs.Prelude.{ℕ, ◌+◌, ◌*◌, ◌==◌, Bool, true, false, not, ◌&&◌, cond, if◌then◌else◌, List, [], ◌∷◌, ◌++◌, map, filter, filter_map, length, sum, Option, Some, None}
 use Rattle.std.specs.List.{range_with_len}
-use Rattle.sdd_base.specs.Words.{tail_of}
+use Rattle.sdd_base.specs.Words.{tail_of, contains}
 use Rattle.sdd_base.specs.Numbers.{dm_no, class_no, time_at}
 use Rattle.sdd_base.specs.Order.{with_values}
 use Rattle.sdd_base.specs.declared.value.Value.{Value}
 use Rattle.sdd_base.specs.declared.site.Site.{Site}
 use Rattle.sdd_base.specs.declared.site.Site.TheVariants.{D}
-use Rattle.sdd_catalog.specs.Rules.{has}
 use Rattle.sdd_lang.specs.declared.condition.Ref.{Ref}
 use Rattle.sdd_lang.specs.declared.condition.Condition.{Condition}
 use Rattle.sdd_lang.specs.declared.statement.Stmt.{Stmt}
@@ -76,7 +75,7 @@ move_at before m = record m { source = use_at before m.source; target = use_at b
 
 -- the modules that read use u
 abbrev pub with_use : Exchange → ℕ → List ℕ
-with_use x u = filter_map (λ m. cond (has m.1 u) (Some m.0) None) x.modules
+with_use x u = filter_map (λ m. cond (contains m.1 u) (Some m.0) None) x.modules
 
 abbrev pub to_all : Msg → List ℕ → List (ℕ × Msg)
 to_all m ds = map (λ d. (d, m)) ds

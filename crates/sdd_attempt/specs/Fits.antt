@@ -2,10 +2,9 @@
 -- that the site sent to the one from which it comes, and is the first answer to it.
 use Rattle.std.specs.Prelude.{ℕ, ◌<◌, ◌^◌, ◌≡◌, ◌==◌, ◌&&◌, Bool, true, false, not, List, [], ◌∷◌, ◌++◌, map, filter, Option, Some, None}
 use Rattle.std.specs.List.{list_any, flat_map}
-use Rattle.sdd_base.specs.Words.{head_of}
+use Rattle.sdd_base.specs.Words.{head_of, contains}
 use Rattle.sdd_base.specs.Sites.{same_site, number_of}
 use Rattle.sdd_base.specs.declared.site.Site.{Site}
-use Rattle.sdd_catalog.specs.Rules.{has}
 use Rattle.sdd_lang.specs.Database.{Row}
 use Rattle.sdd_lang.specs.Sound.{IsDatabase}
 use Rattle.sdd_exec.specs.Serves.{Serves}
@@ -84,7 +83,7 @@ is_shipping _ = false
 pub record Awaits (is_phase : Phase → Bool) (a : Attempt) (from : Site) (ts : ℕ) : Type 0 where
   pub same : a.ts ≡ ts
   pub phase : is_phase a.exchange.phase ≡ true
-  pub lacks : has a.exchange.lacks (number_of from) ≡ true
+  pub lacks : contains a.exchange.lacks (number_of from) ≡ true
 
 abbrev pub AwaitsAt : (Phase → Bool) → Option Attempt → Site → ℕ → Type 0
 AwaitsAt is_phase None from ts = ⊥
@@ -102,7 +101,7 @@ uses_at modules d = flat_map (λ m. filter (λ u. m.0 == d) m.1) modules
 -- a ROWS has rows of uses that are read there alone
 pub record FitsRowsOf (s : Setting) (bases : Bases) (a : Attempt) (from : Site) (ts : ℕ) (rows : List (ℕ × Row)) : Type 0 where
   pub awaited : Awaits is_shipping a from ts
-  pub named : list_any (λ r. not (has (uses_at a.exchange.modules (number_of from)) r.0)) rows ≡ false
+  pub named : list_any (λ r. not (contains (uses_at a.exchange.modules (number_of from)) r.0)) rows ≡ false
   pub served : ServesIfLast s bases a rows (without a.exchange.lacks (number_of from))
 
 abbrev pub FitsRows : Setting → Bases → Option Attempt → Site → ℕ → List (ℕ × Row) → Type 0

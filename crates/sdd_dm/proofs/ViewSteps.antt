@@ -1,12 +1,11 @@
 -- The view after an entry is a function of the view before it, and what is next is due.
-use Rattle.std.proofs.Common.{ℕ, List, ◌∷◌, ◌++◌, map, ◌≡◌, refl, ap, ◌∙◌, sym, Option, Some, None}
+use Rattle.std.proofs.Common.{ℕ, ◌∷◌, ◌++◌, map, ◌≡◌, refl, ap, sym, Some}
 use Rattle.sdd_base.specs.Words.{first_some}
-use Rattle.sdd_base.specs.declared.site.Site.{Site}
 use Rattle.sdd_module.specs.SiteLog.{Setting, Log, Entry, Handed, Ticked, Submits, Redeclared, Did, Act}
 use Rattle.sdd_module.proofs.Finding.{map_twice, flat_map-map, found_at, one_of}
 use Rattle.sdd_dm.specs.Pipes.{pipe}
-use Rattle.sdd_dm.specs.Copies.{classes_of, first_rows, dated, applied, frozen, frozen_acted}
-use Rattle.sdd_dm.specs.Views.{Home, ClassView, View, class_view, view_of, dated_in, class_after, after}
+use Rattle.sdd_dm.specs.Copies.{classes_of, first_rows, dated, frozen, frozen_acted}
+use Rattle.sdd_dm.specs.Views.{Home, View, class_view, view_of, dated_in, class_after, after}
 use Rattle.sdd_dm.specs.Due.{due, open_due, head_due, IsDue, by_open, by_head}
 
 pub dated_is : (s : Setting) (log : Log) → dated_in (view_of s log) ≡ dated s log

@@ -3,7 +3,7 @@
 use Rattle.std.specs.Prelude.{ℕ, nat_le, ◌≡◌, ◌==◌, Bool, true, false, not, ◌&&◌, if◌then◌else◌, List, [], ◌∷◌, map, filter, length, slice_get, Option, Some, None}
 use Rattle.std.specs.List.{list_any, list_all}
 use Rattle.sdd_base.specs.Words.{head_of, or_else, first_some}
-use Rattle.sdd_base.specs.Numbers.{class_no, time_at}
+use Rattle.sdd_base.specs.Numbers.{time_at}
 use Rattle.sdd_base.specs.declared.site.Site.{Site}
 use Rattle.sdd_base.specs.declared.site.Site.TheVariants.{U}
 use Rattle.sdd_base.specs.declared.condition.Cond.{Cond}

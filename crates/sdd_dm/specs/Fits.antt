@@ -8,7 +8,7 @@ use Rattle.sdd_base.specs.declared.condition.Cond.{Cond}
 use Rattle.sdd_base.specs.declared.usage.Use.{Use}
 use Rattle.sdd_base.specs.declared.change.Change.{Change}
 use Rattle.sdd_catalog.specs.Catalogue.{has_copy, fragment_at}
-use Rattle.sdd_catalog.specs.Rules.{has}
+use Rattle.sdd_base.specs.Words.{contains}
 use Rattle.sdd_lang.specs.Database.{item_cmp, key_in}
 use Rattle.sdd_wire.specs.declared.msg.Msg.{Msg}
 use Rattle.sdd_wire.specs.declared.msg.Msg.TheVariants.{Read, Fetch, Reduce, Ship, Write, Null}
@@ -79,7 +79,7 @@ pub record FitsChange (s : Setting) (x : Change) : Type 0 where
 pub record FitsWrite (s : Setting) (log : Log) (from : Site) (class time : ℕ) (changes : List Change) : Type 0 where
   pub piped : FitsPipe s log from class time
   pub above : 0 < time
-  pub fresh : has (write_times log) time ≡ false
+  pub fresh : contains (write_times log) time ≡ false
   pub items : IsDistinct (λ x y. is_eq (item_cmp x y)) (map (λ x. (x.frag.0, x.key)) changes)
   pub each : All (FitsChange s) changes
 
@@ -91,7 +91,7 @@ AreFor ts (Some f) = f.ts ≡ ts
 -- of use u
 abbrev pub HaveUse : ℕ → Option Frozen → Type 0
 HaveUse u None = ⊥
-HaveUse u (Some f) = has (map (λ e. e.0) f.uses) u ≡ true
+HaveUse u (Some f) = contains (map (λ e. e.0) f.uses) u ≡ true
 
 -- FETCH, REDUCE and SHIP are for the READ of the class that was answered last; its rows weren't shipped
 pub record FitsShip (s : Setting) (log : Log) (from : Site) (class ts : ℕ) : Type 0 where

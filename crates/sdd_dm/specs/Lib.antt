@@ -3,4 +3,5 @@ pub mod Due
 pub mod Fits
 pub mod Opens
 pub mod Pipes
+pub mod Ranks
 pub mod Views

@@ -1,8 +1,16 @@
 //! The data module of a site D: it answers READs by frozen rows of its copies, holds back WRITEs that a
-//! waiting READ must not see, and applies the others. To the world it is a `Module` with the acts that are
-//! due at its site.
+//! waiting READ must not see, and applies the others.
+//!
+//! The one contract to the layer above: it is a `Module`, whose acts are those that `specs/Due.antt` makes due at
+//! its site.
 #![tactic(auto)]
 
+mod holding;
+mod law;
+mod rank;
 mod step;
 
+pub use holding::holds;
+pub use law::law_lowest_rank_is_next;
+pub use rank::rank_of;
 pub use step::Step;

@@ -1,5 +1,5 @@
 -- What holds of each entry of a site's log, wherever it may come, holds of the log that a permitted log gives the site.
-use Rattle.std.proofs.Common.{ℕ, suc, Bool, true, false, List, [], ◌∷◌, ◌≡◌, refl, sym, subst, Option, Some, None}
+use Rattle.std.proofs.Common.{ℕ, suc, Bool, true, false, [], ◌∷◌, ◌≡◌, refl, sym, subst, Option, Some, None}
 use Rattle.std.specs.Bool.{if◌then◌else◌}
 use Rattle.sdd_base.specs.Sites.{same_site}
 use Rattle.sdd_base.specs.declared.site.Site.{Site}
@@ -11,7 +11,7 @@ use Rattle.sdd_wire.specs.declared.msg.Msg.{Msg}
 use Rattle.sdd_module.specs.SiteLog.{Force, Handed, Ticked, Submits, Redeclared, Did, Act, Each}
 use Rattle.sdd_module.specs.SiteLog as site
 use Rattle.sdd_log.specs.Entries.{Given, Log, Entry, Mark, Round, Redeclares, Hand, Submitted, Notes, Does}
-use Rattle.sdd_log.specs.Locals.{redeclares, force_at, txn_at, beginning, with_force, with_tick, with_submit, local_of}
+use Rattle.sdd_log.specs.Locals.{redeclares, force_at, txn_at, beginning, with_force, with_submit, local_of}
 use Rattle.sdd_log.specs.Due.{mark_due, due_by, note_if}
 use Rattle.sdd_log.specs.Lawful.{IsLawful}
 use Rattle.sdd_log.specs.Permitted.{IsDueAt, IsAllowed, by_mark, by_round, by_redeclare, by_event, by_site, by_link, IsPermitted, AreSubmittedOnce}
@@ -121,7 +121,7 @@ each_local g at P c (Submitted to n ∷ log) h =
     let i = each_local g at P c log h.1 in
     each_if P (same_site at to) (with_submit n (txn_at g n) (local_of g at log)) (local_of g at log)
     (λ e. each_submit P n (txn_at g n) (local_of g at log)
-      (λ t q. c.submits log h.1 n t (subst (λ x. IsAllowed g log (Submitted x n)) (sym (same_is at to e)) h.0) q i) i) i
+    (λ t q. c.submits log h.1 n t (subst (λ x. IsAllowed g log (Submitted x n)) (sym (same_is at to e)) h.0) q i) i) i
 each_local g at P c (Hand from to n m ∷ log) h =
     let i = each_local g at P c log h.1 in
     each_if P (same_site at to) (Handed from m ∷ local_of g at log) (local_of g at log)

@@ -1,5 +1,5 @@
 -- Of what is given there is one log: it is complete, or the limit ends it, and not both.
-use Rattle.std.proofs.Common.{Bool, true, false, List, [], ◌∷◌, ◌≡◌, refl, ap, ◌∙◌, sym, subst, Option, Some, None, inl, inr}
+use Rattle.std.proofs.Common.{true, false, [], ◌∷◌, ◌≡◌, refl, ap, ◌∙◌, sym, subst, Some, None, inl, inr}
 use Rattle.std.specs.Prelude.{◌⊎◌}
 use Rattle.sdd_log.specs.Entries.{Given, Log, Entry}
 use Rattle.sdd_log.specs.Due.{next}
@@ -24,9 +24,9 @@ one_longer l [] h = inl (sym h)
 one_longer l (e ∷ m) h = elim h as (λ _. (e ∷ m ≡ l) ⊎ ((x : Entry) × IsBefore (x ∷ l) (e ∷ m))) [
   | inl p ↦ inl (sym p)
   | inr q ↦ elim (one_longer l m q) as (λ _. (e ∷ m ≡ l) ⊎ ((x : Entry) × IsBefore (x ∷ l) (e ∷ m))) [
-      | inl p ↦ inr (e, inl (ap (λ z. e ∷ z) (sym p)))
-      | inr p ↦ inr (p.0, inr p.1)
-    ]
+    | inl p ↦ inr (e, inl (ap (λ z. e ∷ z) (sym p)))
+    | inr p ↦ inr (p.0, inr p.1)
+  ]
 ]
 
 lawful_before : (g : Given) (l m : Log) → IsBefore l m → IsLawful g m → IsLawful g l
@@ -44,14 +44,14 @@ one_chain g m (e ∷ l) h k =
     elim (one_chain g m l h k.1) as (λ _. IsBefore m (e ∷ l) ⊎ IsBefore (e ∷ l) m) [
       | inl p ↦ inl (inr p)
       | inr q ↦ elim (one_longer l m q) as (λ _. IsBefore m (e ∷ l) ⊎ IsBefore (e ∷ l) m) [
-          | inl p ↦ inl (inr (subst (λ z. IsBefore z l) (sym p) (before_self l)))
-          | inr p ↦
+        | inl p ↦ inl (inr (subst (λ z. IsBefore z l) (sym p) (before_self l)))
+        | inr p ↦
             let w : IsLawful g (p.0 ∷ l) = lawful_before g (p.0 ∷ l) m p.1 h in
             let a : next g l ≡ Some p.0 = w.0 in let b : next g l ≡ Some e = k.0 in
             let c : Some p.0 ≡ Some e = sym a ∙ b in
             let same : p.0 ≡ e = cc in
             inr (subst (λ z. IsBefore (z ∷ l) m) same p.1)
-        ]
+      ]
     ]
 
 -- a log that is complete has no entry more
@@ -72,13 +72,13 @@ pub limit_or_complete : (g : Given) (m l : Log) → EndsByLimit g m → IsTheLog
 limit_or_complete g m l h k =
     elim (one_chain g m l h.lawful k.lawful) as (λ _. ⊥) [
       | inl p ↦ elim (one_longer m l p) as (λ _. ⊥) [
-          | inl q ↦ let a : next g l ≡ Some h.entry = ap (next g) q ∙ h.next_is in let c : None ≡ Some h.entry = sym k.complete ∙ a in cc
-          | inr q ↦
+        | inl q ↦ let a : next g l ≡ Some h.entry = ap (next g) q ∙ h.next_is in let c : None ≡ Some h.entry = sym k.complete ∙ a in cc
+        | inr q ↦
             let w : IsLawful g (q.0 ∷ m) = lawful_before g (q.0 ∷ m) l q.1 k.lawful in
             let v : IsWithin (q.0 ∷ m) = within_before (q.0 ∷ m) l q.1 k.within in
             let a : next g m ≡ Some q.0 = w.0 in let c : Some h.entry ≡ Some q.0 = sym h.next_is ∙ a in
             let same : h.entry ≡ q.0 = cc in
             let no : true ≡ false = sym h.past ∙ ap (is_past m) same ∙ v.0 in cc
-        ]
+      ]
       | inr p ↦ let e : m ≡ l = no_more g l m k.complete h.lawful p in let a : next g l ≡ Some h.entry = ap (next g) (sym e) ∙ h.next_is in let c : None ≡ Some h.entry = sym k.complete ∙ a in cc
     ]

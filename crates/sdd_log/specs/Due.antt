@@ -1,5 +1,5 @@
 -- The next entry of the log of everything.
-use Rattle.std.specs.Prelude.{ℕ, zero, suc, nat_lt, ◌==◌, Bool, not, if◌then◌else◌, List, [], ◌∷◌, is_none, Option, Some, None}
+use Rattle.std.specs.Prelude.{ℕ, zero, suc, nat_lt, ◌==◌, Bool, not, if◌then◌else◌, ◌∷◌, is_none, Option, Some, None}
 use Rattle.sdd_base.specs.Words.{is_empty, or_else, first_some}
 use Rattle.sdd_base.specs.Sites.{sites}
 use Rattle.sdd_base.specs.declared.site.Site.{Site}

@@ -1,6 +1,7 @@
 -- Which log is the log of what is given.
-use Rattle.std.specs.Prelude.{ℕ, suc, ◌^◌, nat_le, ◌≡◌, Bool, true, false, ◌||◌, List, [], ◌∷◌, length, Option, Some, None}
+use Rattle.std.specs.Prelude.{ℕ, suc, nat_lt, ◌≡◌, Bool, true, false, ◌||◌, List, [], ◌∷◌, length, Some, None}
 use Rattle.sdd_base.specs.declared.site.Site.{Site}
+use Rattle.sdd_base.specs.declared.limits.TheConstants.{MAX_RUN_EVENTS, MAX_LINK_MESSAGES}
 use Rattle.sdd_wire.specs.declared.msg.Msg.{Msg}
 use Rattle.sdd_module.specs.SiteLog.{sends_of_act}
 use Rattle.sdd_net.specs.Links.{Call, Puts, link}
@@ -13,19 +14,15 @@ abbrev pub IsLawful : Given → Log → Type 0
 IsLawful g [] = Unit {0}
 IsLawful g (e ∷ log) = (next g log ≡ Some e) × IsLawful g log
 
--- no event, and no message of a link, has this number or a greater one
-abbrev pub number_limit : ℕ
-number_limit = 2 ^ 32
-
--- whether a put of an act passes the limit; it counts the puts before it in the act
+-- whether a put of an act is one message more than a link may have in a run; it counts the puts before it in the act
 abbrev pub puts_past : List (Call Msg) → Site → List (Site × Msg) → Bool
 puts_past calls at [] = false
-puts_past calls at (s ∷ sends) = nat_le number_limit (suc (length (link at s.0 calls).there.sent)) || puts_past (Puts at s.0 s.1 ∷ calls) at sends
+puts_past calls at (s ∷ sends) = nat_lt MAX_LINK_MESSAGES (suc (length (link at s.0 calls).there.sent)) || puts_past (Puts at s.0 s.1 ∷ calls) at sends
 
--- whether an entry after the log passes the limit
+-- whether an entry after the log passes a limit: it would be one event more than a run may have, or puts such a message
 abbrev pub is_past : Log → Entry → Bool
-is_past log (Mark e) = nat_le number_limit (suc (marks log))
-is_past log (Redeclares t) = nat_le number_limit (suc (marks log))
+is_past log (Mark e) = nat_lt MAX_RUN_EVENTS (suc (marks log))
+is_past log (Redeclares t) = nat_lt MAX_RUN_EVENTS (suc (marks log))
 is_past log (Does at act) = puts_past (calls_of log) at (sends_of_act act)
 is_past log _ = false
 
@@ -33,13 +30,13 @@ abbrev pub IsWithin : Log → Type 0
 IsWithin [] = Unit {0}
 IsWithin (e ∷ log) = (is_past log e ≡ false) × IsWithin log
 
--- the log of what is given: lawful, within the limit, and complete
+-- the log of what is given: lawful, within the limits, and complete
 pub record IsTheLog (g : Given) (log : Log) : Type 0 where
   pub lawful : IsLawful g log
   pub within : IsWithin log
   pub complete : next g log ≡ None
 
--- the log of what is given where the limit ends it: the next entry would pass it
+-- the log of what is given where a limit ends it: the next entry would pass it
 pub record EndsByLimit (g : Given) (log : Log) : Type 0 where
   pub lawful : IsLawful g log
   pub within : IsWithin log

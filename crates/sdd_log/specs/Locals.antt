@@ -11,7 +11,7 @@ use Rattle.sdd_lang.specs.declared.transaction.Txn.{Txn}
 use Rattle.sdd_lang.specs.Database.{Row}
 use Rattle.sdd_module.specs.SiteLog.{Setting, Force, Handed, Ticked, Submits, Redeclared, Did}
 use Rattle.sdd_module.specs.SiteLog as site
-use Rattle.sdd_log.specs.Entries.{Given, Log, Entry, Mark, Redeclares, Hand, Submitted, Does}
+use Rattle.sdd_log.specs.Entries.{Given, Log, Mark, Redeclares, Hand, Submitted, Does}
 
 -- a list of classes is in force with the protocol table of its catalogue
 pub record IsForce (f : Force) : Type 0 where

@@ -1,6 +1,6 @@
 -- Permitted logs: each entry is due, in whatever order. What holds of all of them is easier to prove than what holds of
 -- lawful logs, which are among them.
-use Rattle.std.specs.Prelude.{ℕ, suc, ◌+◌, ◌≤◌, ◌≡◌, ◌==◌, Bool, true, false, not, ◌||◌, List, [], ◌∷◌, Option, Some}
+use Rattle.std.specs.Prelude.{ℕ, suc, ◌+◌, ◌≤◌, ◌≡◌, ◌==◌, Bool, true, false, not, ◌||◌, List, [], ◌∷◌, Some}
 use Rattle.sdd_base.specs.declared.site.Site.{Site}
 use Rattle.sdd_base.specs.declared.site.Site.TheVariants.{U, T, D}
 use Rattle.sdd_base.specs.declared.event.Event.{Event}

@@ -8,7 +8,7 @@ use Rattle.sdd_base.specs.declared.event.Event.TheVariants.{Deliver, Lose, Repea
 use Rattle.sdd_wire.specs.declared.msg.Msg.{Msg}
 use Rattle.sdd_module.specs.SiteLog.{sends_of_act}
 use Rattle.sdd_net.specs.Links.{Call, Puts, Delivers, Loses, Repeats, Resends, Link, link}
-use Rattle.sdd_log.specs.Entries.{Log, Entry, Mark, Hand, Does, Given}
+use Rattle.sdd_log.specs.Entries.{Log, Mark, Hand, Does, Given}
 
 -- the calls on the links: an act puts its messages, and an event delivers, loses, repeats or resends
 
@@ -32,17 +32,6 @@ calls_of (_ ∷ log) = calls_of log
 -- the link from a to b with the link back
 abbrev pub link_of : Site → Site → Log → Link Msg
 link_of a b log = link a b (calls_of log)
-
--- a network carries messages by their spellings: its calls are those of the log, each message spelled
-abbrev pub call_as : {A B : Type 0} → (A → B) → Call A → Call B
-call_as spell (Puts a b m) = Puts a b (spell m)
-call_as spell (Delivers a b k) = Delivers a b k
-call_as spell (Loses a b k) = Loses a b k
-call_as spell (Repeats a b k) = Repeats a b k
-call_as spell (Resends a b) = Resends a b
-
-abbrev pub spelled_calls : {B : Type 0} → (Msg → B) → Log → List (Call B)
-spelled_calls spell log = map (call_as spell) (calls_of log)
 
 -- the links of the network, in their order
 abbrev pub all_links : Given → List (Site × Site)

@@ -1,5 +1,7 @@
-//! What a site does by itself, as a log of it, and what a module promises of that log: it stands for the
-//! log of all that was handed to it and all that it did, and a call makes exactly the acts that are due.
+//! What a site does by itself, as a log of it.
+//!
+//! The one contract to the layer above: a `Module` stands for the log of all that was handed to its site and all
+//! that the site did, and a call makes exactly the acts that are due, one after the other, until none is.
 #![tactic(auto)]
 
 mod module;

@@ -1,6 +1,6 @@
 -- Worked logs, written by tools/write_log_rows.py.
 use Rattle.std.specs.Prelude.{◌≡◌, pos, negsuc, [], ◌∷◌, length, Some, None, refl}
-use Rattle.sdd_base.specs.Numbers.{tm_no, dm_no, class_no, frag_no, txn_no, time_at}
+use Rattle.sdd_base.specs.Numbers.{rel_no, tm_no, dm_no, class_no, frag_no, txn_no, time_at}
 use Rattle.sdd_base.specs.declared.value.Value.TheVariants.{Int}
 use Rattle.sdd_base.specs.declared.event.Event.TheVariants.{Submit, Deliver, Down, Up}
 use Rattle.sdd_base.specs.declared.site.Site.TheVariants.{T, D}
@@ -21,14 +21,14 @@ catalogue_of_down_and_up = record {
   tms = 1;
   dms = 1;
   relations =
-    (record { name = []; columns = ((record { name = []; kind = kinds.Int }) ∷ (record { name = []; kind = kinds.Int }) ∷ []); key = 1 }) ∷
-    [];
+      (record { name = []; columns = ((record { name = []; kind = kinds.Int }) ∷ (record { name = []; kind = kinds.Int }) ∷ []); key = 1 }) ∷
+      [];
   fragments =
-    (record { name = []; rel = (record { 0 = 1 }); least = (negsuc 9223372036854775807); greatest = (pos 9223372036854775807); copies = ((dm_no 1) ∷ []) }) ∷
-    [];
+      (record { name = []; rel = (rel_no 1); least = (negsuc 9223372036854775807); greatest = (pos 9223372036854775807); copies = ((dm_no 1) ∷ []) }) ∷
+      [];
   classes =
-    (record { name = []; tm = (tm_no 1); reads = ((record { fragment = (frag_no 1); at = (dm_no 1) }) ∷ []); writes = ((frag_no 1) ∷ []) }) ∷
-    [];
+      (record { name = []; tm = (tm_no 1); reads = ((record { fragment = (frag_no 1); at = (dm_no 1) }) ∷ []); writes = ((frag_no 1) ∷ []) }) ∷
+      [];
 }
 
 abbrev pub given_down_and_up : Given
@@ -38,28 +38,28 @@ given_down_and_up = record {
       (record {
         catalogue = catalogue_of_down_and_up;
         table =
-          (record { edge = (Vertical (class_no 1)); block = 0; protocol = P1 }) ∷
-          [];
+            (record { edge = (Vertical (class_no 1)); block = 0; protocol = P1 }) ∷
+            [];
       }) ∷
       [];
   rows = ([] ∷ []);
   txns =
-    (record { name = []; tm = (tm_no 1); statements = ((Put (record { 0 = 1 }) ((Int (pos 5)) ∷ (Int (pos 10)) ∷ [])) ∷ []) }) ∷
-    [];
+      (record { name = []; tm = (tm_no 1); statements = ((Put (rel_no 1) ((Int (pos 5)) ∷ (Int (pos 10)) ∷ [])) ∷ []) }) ∷
+      [];
   events =
-    Submit (txn_no 1) ∷
-    Down (dm_no 1) ∷
-    Deliver (T (tm_no 1)) (D (dm_no 1)) 1 ∷
-    Deliver (D (dm_no 1)) (T (tm_no 1)) 1 ∷
-    Up (dm_no 1) ∷
-    [];
+      Submit (txn_no 1) ∷
+      Down (dm_no 1) ∷
+      Deliver (T (tm_no 1)) (D (dm_no 1)) 1 ∷
+      Deliver (D (dm_no 1)) (T (tm_no 1)) 1 ∷
+      Up (dm_no 1) ∷
+      [];
 }
 
 abbrev pub log_of_down_and_up : Log
 log_of_down_and_up = extended 10 given_down_and_up []
 
 pub history_of_down_and_up :
-  history log_of_down_and_up ≡
+    history log_of_down_and_up ≡
     (1, Submission (txn_no 1)) ∷
     (1, Start (txn_no 1) 1 (class_no 1) (time_at 65) (Some (time_at 63)) []) ∷
     (1, Commit (txn_no 1) 1 (Rows []) ((record { frag = (frag_no 1); key = (pos 5); row = (Some ((Int (pos 5)) ∷ (Int (pos 10)) ∷ [])) }) ∷ []) 0 0) ∷
@@ -77,14 +77,14 @@ catalogue_of_stays_down = record {
   tms = 1;
   dms = 1;
   relations =
-    (record { name = []; columns = ((record { name = []; kind = kinds.Int }) ∷ (record { name = []; kind = kinds.Int }) ∷ []); key = 1 }) ∷
-    [];
+      (record { name = []; columns = ((record { name = []; kind = kinds.Int }) ∷ (record { name = []; kind = kinds.Int }) ∷ []); key = 1 }) ∷
+      [];
   fragments =
-    (record { name = []; rel = (record { 0 = 1 }); least = (negsuc 9223372036854775807); greatest = (pos 9223372036854775807); copies = ((dm_no 1) ∷ []) }) ∷
-    [];
+      (record { name = []; rel = (rel_no 1); least = (negsuc 9223372036854775807); greatest = (pos 9223372036854775807); copies = ((dm_no 1) ∷ []) }) ∷
+      [];
   classes =
-    (record { name = []; tm = (tm_no 1); reads = ((record { fragment = (frag_no 1); at = (dm_no 1) }) ∷ []); writes = ((frag_no 1) ∷ []) }) ∷
-    [];
+      (record { name = []; tm = (tm_no 1); reads = ((record { fragment = (frag_no 1); at = (dm_no 1) }) ∷ []); writes = ((frag_no 1) ∷ []) }) ∷
+      [];
 }
 
 abbrev pub given_stays_down : Given
@@ -94,27 +94,27 @@ given_stays_down = record {
       (record {
         catalogue = catalogue_of_stays_down;
         table =
-          (record { edge = (Vertical (class_no 1)); block = 0; protocol = P1 }) ∷
-          [];
+            (record { edge = (Vertical (class_no 1)); block = 0; protocol = P1 }) ∷
+            [];
       }) ∷
       [];
   rows = ([] ∷ []);
   txns =
-    (record { name = []; tm = (tm_no 1); statements = ((Put (record { 0 = 1 }) ((Int (pos 5)) ∷ (Int (pos 10)) ∷ [])) ∷ []) }) ∷
-    [];
+      (record { name = []; tm = (tm_no 1); statements = ((Put (rel_no 1) ((Int (pos 5)) ∷ (Int (pos 10)) ∷ [])) ∷ []) }) ∷
+      [];
   events =
-    Submit (txn_no 1) ∷
-    Down (dm_no 1) ∷
-    Deliver (T (tm_no 1)) (D (dm_no 1)) 1 ∷
-    Deliver (D (dm_no 1)) (T (tm_no 1)) 1 ∷
-    [];
+      Submit (txn_no 1) ∷
+      Down (dm_no 1) ∷
+      Deliver (T (tm_no 1)) (D (dm_no 1)) 1 ∷
+      Deliver (D (dm_no 1)) (T (tm_no 1)) 1 ∷
+      [];
 }
 
 abbrev pub log_of_stays_down : Log
 log_of_stays_down = extended 7 given_stays_down []
 
 pub history_of_stays_down :
-  history log_of_stays_down ≡
+    history log_of_stays_down ≡
     (1, Submission (txn_no 1)) ∷
     (1, Start (txn_no 1) 1 (class_no 1) (time_at 65) (Some (time_at 63)) []) ∷
     (1, Commit (txn_no 1) 1 (Rows []) ((record { frag = (frag_no 1); key = (pos 5); row = (Some ((Int (pos 5)) ∷ (Int (pos 10)) ∷ [])) }) ∷ []) 0 0) ∷
@@ -131,14 +131,14 @@ catalogue_of_down_twice = record {
   tms = 1;
   dms = 1;
   relations =
-    (record { name = []; columns = ((record { name = []; kind = kinds.Int }) ∷ (record { name = []; kind = kinds.Int }) ∷ []); key = 1 }) ∷
-    [];
+      (record { name = []; columns = ((record { name = []; kind = kinds.Int }) ∷ (record { name = []; kind = kinds.Int }) ∷ []); key = 1 }) ∷
+      [];
   fragments =
-    (record { name = []; rel = (record { 0 = 1 }); least = (negsuc 9223372036854775807); greatest = (pos 9223372036854775807); copies = ((dm_no 1) ∷ []) }) ∷
-    [];
+      (record { name = []; rel = (rel_no 1); least = (negsuc 9223372036854775807); greatest = (pos 9223372036854775807); copies = ((dm_no 1) ∷ []) }) ∷
+      [];
   classes =
-    (record { name = []; tm = (tm_no 1); reads = ((record { fragment = (frag_no 1); at = (dm_no 1) }) ∷ []); writes = ((frag_no 1) ∷ []) }) ∷
-    [];
+      (record { name = []; tm = (tm_no 1); reads = ((record { fragment = (frag_no 1); at = (dm_no 1) }) ∷ []); writes = ((frag_no 1) ∷ []) }) ∷
+      [];
 }
 
 abbrev pub given_down_twice : Given
@@ -148,25 +148,25 @@ given_down_twice = record {
       (record {
         catalogue = catalogue_of_down_twice;
         table =
-          (record { edge = (Vertical (class_no 1)); block = 0; protocol = P1 }) ∷
-          [];
+            (record { edge = (Vertical (class_no 1)); block = 0; protocol = P1 }) ∷
+            [];
       }) ∷
       [];
   rows = ([] ∷ []);
   txns =
-    [];
+      [];
   events =
-    Up (dm_no 1) ∷
-    Down (dm_no 1) ∷
-    Down (dm_no 1) ∷
-    [];
+      Up (dm_no 1) ∷
+      Down (dm_no 1) ∷
+      Down (dm_no 1) ∷
+      [];
 }
 
 abbrev pub log_of_down_twice : Log
 log_of_down_twice = extended 5 given_down_twice []
 
 pub history_of_down_twice :
-  history log_of_down_twice ≡
+    history log_of_down_twice ≡
     (1, Nothing) ∷
     (3, Nothing) ∷
     []

@@ -1,6 +1,6 @@
 -- The catalogues in force of the workload with a further list of classes: each list retires those before it, and the
 -- catalogue of the whole workload has the classes of all lists.
-use Rattle.std.specs.Prelude.{◌≡◌, [], ◌∷◌, List, map, refl}
+use Rattle.std.specs.Prelude.{◌≡◌, [], ◌∷◌, map, refl}
 use Rattle.sdd_base.specs.Numbers.{tm_no, dm_no, frag_no}
 use Rattle.sdd_catalog.specs.declared.resolved.Class.{Class}
 use Rattle.sdd_catalog.specs.Eras.{eras, whole}

@@ -1,6 +1,6 @@
 -- Worked logs, written by tools/write_log_rows.py.
 use Rattle.std.specs.Prelude.{◌≡◌, pos, negsuc, [], ◌∷◌, length, Some, None, refl}
-use Rattle.sdd_base.specs.Numbers.{tm_no, dm_no, class_no, frag_no, txn_no, time_at}
+use Rattle.sdd_base.specs.Numbers.{rel_no, tm_no, dm_no, class_no, frag_no, txn_no, time_at}
 use Rattle.sdd_base.specs.declared.value.Value.TheVariants.{Int}
 use Rattle.sdd_base.specs.declared.restriction.Op.TheVariants.{Lt, Gt}
 use Rattle.sdd_base.specs.declared.event.Event.TheVariants.{Submit, Settle}
@@ -23,14 +23,14 @@ catalogue_of_overflow = record {
   tms = 1;
   dms = 1;
   relations =
-    (record { name = []; columns = ((record { name = []; kind = kinds.Int }) ∷ (record { name = []; kind = kinds.Int }) ∷ []); key = 1 }) ∷
-    [];
+      (record { name = []; columns = ((record { name = []; kind = kinds.Int }) ∷ (record { name = []; kind = kinds.Int }) ∷ []); key = 1 }) ∷
+      [];
   fragments =
-    (record { name = []; rel = (record { 0 = 1 }); least = (negsuc 9223372036854775807); greatest = (pos 9223372036854775807); copies = ((dm_no 1) ∷ []) }) ∷
-    [];
+      (record { name = []; rel = (rel_no 1); least = (negsuc 9223372036854775807); greatest = (pos 9223372036854775807); copies = ((dm_no 1) ∷ []) }) ∷
+      [];
   classes =
-    (record { name = []; tm = (tm_no 1); reads = ((record { fragment = (frag_no 1); at = (dm_no 1) }) ∷ []); writes = ((frag_no 1) ∷ []) }) ∷
-    [];
+      (record { name = []; tm = (tm_no 1); reads = ((record { fragment = (frag_no 1); at = (dm_no 1) }) ∷ []); writes = ((frag_no 1) ∷ []) }) ∷
+      [];
 }
 
 abbrev pub given_overflow : Given
@@ -40,27 +40,27 @@ given_overflow = record {
       (record {
         catalogue = catalogue_of_overflow;
         table =
-          (record { edge = (Vertical (class_no 1)); block = 0; protocol = P1 }) ∷
-          [];
+            (record { edge = (Vertical (class_no 1)); block = 0; protocol = P1 }) ∷
+            [];
       }) ∷
       [];
-  rows = ((((record { 0 = 1 }), ((Int (pos 1)) ∷ (Int (pos 9223372036854775807)) ∷ [])) ∷ []) ∷ []);
+  rows = ((((rel_no 1), ((Int (pos 1)) ∷ (Int (pos 9223372036854775807)) ∷ [])) ∷ []) ∷ []);
   txns =
-    (record { name = []; tm = (tm_no 1); statements = ((Update (record { 0 = 1 }) ((Add 2 (pos 1)) ∷ []) []) ∷ []) }) ∷
-    [];
+      (record { name = []; tm = (tm_no 1); statements = ((Update (rel_no 1) ((Add 2 (pos 1)) ∷ []) []) ∷ []) }) ∷
+      [];
   events =
-    Submit (txn_no 1) ∷
-    Settle ∷
-    [];
+      Submit (txn_no 1) ∷
+      Settle ∷
+      [];
 }
 
 abbrev pub log_of_overflow : Log
 log_of_overflow = extended 25 given_overflow []
 
 pub history_of_overflow :
-  history log_of_overflow ≡
+    history log_of_overflow ≡
     (1, Submission (txn_no 1)) ∷
-    (1, Start (txn_no 1) 1 (class_no 1) (time_at 65) (Some (time_at 63)) ((record { number = 1; rel = (record { 0 = 1 }); frags = ((frag_no 1) ∷ []); restrictions = [] }) ∷ [])) ∷
+    (1, Start (txn_no 1) 1 (class_no 1) (time_at 65) (Some (time_at 63)) ((record { number = 1; rel = (rel_no 1); frags = ((frag_no 1) ∷ []); restrictions = [] }) ∷ [])) ∷
     (2, Arrive (txn_no 1) 1 (dm_no 1)) ∷
     (2, Answer (txn_no 1) 1 (dm_no 1)) ∷
     (8, Commit (txn_no 1) 1 Overflow [] 0 1) ∷
@@ -77,18 +77,18 @@ catalogue_of_two_steps = record {
   tms = 1;
   dms = 3;
   relations =
-    (record { name = []; columns = ((record { name = []; kind = kinds.Int }) ∷ (record { name = []; kind = kinds.Int }) ∷ []); key = 1 }) ∷
-    (record { name = []; columns = ((record { name = []; kind = kinds.Int }) ∷ (record { name = []; kind = kinds.Int }) ∷ []); key = 1 }) ∷
-    (record { name = []; columns = ((record { name = []; kind = kinds.Int }) ∷ (record { name = []; kind = kinds.Int }) ∷ []); key = 1 }) ∷
-    [];
+      (record { name = []; columns = ((record { name = []; kind = kinds.Int }) ∷ (record { name = []; kind = kinds.Int }) ∷ []); key = 1 }) ∷
+      (record { name = []; columns = ((record { name = []; kind = kinds.Int }) ∷ (record { name = []; kind = kinds.Int }) ∷ []); key = 1 }) ∷
+      (record { name = []; columns = ((record { name = []; kind = kinds.Int }) ∷ (record { name = []; kind = kinds.Int }) ∷ []); key = 1 }) ∷
+      [];
   fragments =
-    (record { name = []; rel = (record { 0 = 1 }); least = (negsuc 9223372036854775807); greatest = (pos 9223372036854775807); copies = ((dm_no 1) ∷ []) }) ∷
-    (record { name = []; rel = (record { 0 = 2 }); least = (negsuc 9223372036854775807); greatest = (pos 9223372036854775807); copies = ((dm_no 2) ∷ []) }) ∷
-    (record { name = []; rel = (record { 0 = 3 }); least = (negsuc 9223372036854775807); greatest = (pos 9223372036854775807); copies = ((dm_no 3) ∷ []) }) ∷
-    [];
+      (record { name = []; rel = (rel_no 1); least = (negsuc 9223372036854775807); greatest = (pos 9223372036854775807); copies = ((dm_no 1) ∷ []) }) ∷
+      (record { name = []; rel = (rel_no 2); least = (negsuc 9223372036854775807); greatest = (pos 9223372036854775807); copies = ((dm_no 2) ∷ []) }) ∷
+      (record { name = []; rel = (rel_no 3); least = (negsuc 9223372036854775807); greatest = (pos 9223372036854775807); copies = ((dm_no 3) ∷ []) }) ∷
+      [];
   classes =
-    (record { name = []; tm = (tm_no 1); reads = ((record { fragment = (frag_no 1); at = (dm_no 1) }) ∷ (record { fragment = (frag_no 2); at = (dm_no 2) }) ∷ (record { fragment = (frag_no 3); at = (dm_no 3) }) ∷ []); writes = [] }) ∷
-    [];
+      (record { name = []; tm = (tm_no 1); reads = ((record { fragment = (frag_no 1); at = (dm_no 1) }) ∷ (record { fragment = (frag_no 2); at = (dm_no 2) }) ∷ (record { fragment = (frag_no 3); at = (dm_no 3) }) ∷ []); writes = [] }) ∷
+      [];
 }
 
 abbrev pub given_two_steps : Given
@@ -98,27 +98,27 @@ given_two_steps = record {
       (record {
         catalogue = catalogue_of_two_steps;
         table =
-          (record { edge = (Vertical (class_no 1)); block = 0; protocol = P1 }) ∷
-          [];
+            (record { edge = (Vertical (class_no 1)); block = 0; protocol = P1 }) ∷
+            [];
       }) ∷
       [];
-  rows = ((((record { 0 = 1 }), ((Int (pos 1)) ∷ (Int (pos 1)) ∷ [])) ∷ ((record { 0 = 1 }), ((Int (pos 2)) ∷ (Int (pos 2)) ∷ [])) ∷ ((record { 0 = 1 }), ((Int (pos 3)) ∷ (Int (pos 3)) ∷ [])) ∷ ((record { 0 = 1 }), ((Int (pos 4)) ∷ (Int (pos 4)) ∷ [])) ∷ ((record { 0 = 2 }), ((Int (pos 1)) ∷ (Int (pos 1)) ∷ [])) ∷ ((record { 0 = 2 }), ((Int (pos 2)) ∷ (Int (pos 2)) ∷ [])) ∷ ((record { 0 = 3 }), ((Int (pos 1)) ∷ (Int (pos 0)) ∷ [])) ∷ []) ∷ (((record { 0 = 1 }), ((Int (pos 1)) ∷ (Int (pos 1)) ∷ [])) ∷ ((record { 0 = 1 }), ((Int (pos 2)) ∷ (Int (pos 2)) ∷ [])) ∷ ((record { 0 = 1 }), ((Int (pos 3)) ∷ (Int (pos 3)) ∷ [])) ∷ ((record { 0 = 1 }), ((Int (pos 4)) ∷ (Int (pos 4)) ∷ [])) ∷ ((record { 0 = 2 }), ((Int (pos 1)) ∷ (Int (pos 1)) ∷ [])) ∷ ((record { 0 = 2 }), ((Int (pos 2)) ∷ (Int (pos 2)) ∷ [])) ∷ ((record { 0 = 3 }), ((Int (pos 1)) ∷ (Int (pos 0)) ∷ [])) ∷ []) ∷ (((record { 0 = 1 }), ((Int (pos 1)) ∷ (Int (pos 1)) ∷ [])) ∷ ((record { 0 = 1 }), ((Int (pos 2)) ∷ (Int (pos 2)) ∷ [])) ∷ ((record { 0 = 1 }), ((Int (pos 3)) ∷ (Int (pos 3)) ∷ [])) ∷ ((record { 0 = 1 }), ((Int (pos 4)) ∷ (Int (pos 4)) ∷ [])) ∷ ((record { 0 = 2 }), ((Int (pos 1)) ∷ (Int (pos 1)) ∷ [])) ∷ ((record { 0 = 2 }), ((Int (pos 2)) ∷ (Int (pos 2)) ∷ [])) ∷ ((record { 0 = 3 }), ((Int (pos 1)) ∷ (Int (pos 0)) ∷ [])) ∷ []) ∷ []);
+  rows = ((((rel_no 1), ((Int (pos 1)) ∷ (Int (pos 1)) ∷ [])) ∷ ((rel_no 1), ((Int (pos 2)) ∷ (Int (pos 2)) ∷ [])) ∷ ((rel_no 1), ((Int (pos 3)) ∷ (Int (pos 3)) ∷ [])) ∷ ((rel_no 1), ((Int (pos 4)) ∷ (Int (pos 4)) ∷ [])) ∷ ((rel_no 2), ((Int (pos 1)) ∷ (Int (pos 1)) ∷ [])) ∷ ((rel_no 2), ((Int (pos 2)) ∷ (Int (pos 2)) ∷ [])) ∷ ((rel_no 3), ((Int (pos 1)) ∷ (Int (pos 0)) ∷ [])) ∷ []) ∷ (((rel_no 1), ((Int (pos 1)) ∷ (Int (pos 1)) ∷ [])) ∷ ((rel_no 1), ((Int (pos 2)) ∷ (Int (pos 2)) ∷ [])) ∷ ((rel_no 1), ((Int (pos 3)) ∷ (Int (pos 3)) ∷ [])) ∷ ((rel_no 1), ((Int (pos 4)) ∷ (Int (pos 4)) ∷ [])) ∷ ((rel_no 2), ((Int (pos 1)) ∷ (Int (pos 1)) ∷ [])) ∷ ((rel_no 2), ((Int (pos 2)) ∷ (Int (pos 2)) ∷ [])) ∷ ((rel_no 3), ((Int (pos 1)) ∷ (Int (pos 0)) ∷ [])) ∷ []) ∷ (((rel_no 1), ((Int (pos 1)) ∷ (Int (pos 1)) ∷ [])) ∷ ((rel_no 1), ((Int (pos 2)) ∷ (Int (pos 2)) ∷ [])) ∷ ((rel_no 1), ((Int (pos 3)) ∷ (Int (pos 3)) ∷ [])) ∷ ((rel_no 1), ((Int (pos 4)) ∷ (Int (pos 4)) ∷ [])) ∷ ((rel_no 2), ((Int (pos 1)) ∷ (Int (pos 1)) ∷ [])) ∷ ((rel_no 2), ((Int (pos 2)) ∷ (Int (pos 2)) ∷ [])) ∷ ((rel_no 3), ((Int (pos 1)) ∷ (Int (pos 0)) ∷ [])) ∷ []) ∷ []);
   txns =
-    (record { name = []; tm = (tm_no 1); statements = ((Query ((record { part = 1; column = 1 }) ∷ (record { part = 2; column = 1 }) ∷ (record { part = 3; column = 1 }) ∷ []) ((record { 0 = 1 }) ∷ (record { 0 = 2 }) ∷ (record { 0 = 3 }) ∷ []) ((Same (record { part = 1; column = 2 }) (record { part = 2; column = 1 })) ∷ (Same (record { part = 2; column = 2 }) (record { part = 3; column = 1 })) ∷ [])) ∷ []) }) ∷
-    [];
+      (record { name = []; tm = (tm_no 1); statements = ((Query ((record { part = 1; column = 1 }) ∷ (record { part = 2; column = 1 }) ∷ (record { part = 3; column = 1 }) ∷ []) ((rel_no 1) ∷ (rel_no 2) ∷ (rel_no 3) ∷ []) ((Same (record { part = 1; column = 2 }) (record { part = 2; column = 1 })) ∷ (Same (record { part = 2; column = 2 }) (record { part = 3; column = 1 })) ∷ [])) ∷ []) }) ∷
+      [];
   events =
-    Submit (txn_no 1) ∷
-    Settle ∷
-    [];
+      Submit (txn_no 1) ∷
+      Settle ∷
+      [];
 }
 
 abbrev pub log_of_two_steps : Log
 log_of_two_steps = extended 97 given_two_steps []
 
 pub history_of_two_steps :
-  history log_of_two_steps ≡
+    history log_of_two_steps ≡
     (1, Submission (txn_no 1)) ∷
-    (1, Start (txn_no 1) 1 (class_no 1) (time_at 65) (Some (time_at 63)) ((record { number = 1; rel = (record { 0 = 1 }); frags = ((frag_no 1) ∷ []); restrictions = [] }) ∷ (record { number = 2; rel = (record { 0 = 2 }); frags = ((frag_no 2) ∷ []); restrictions = [] }) ∷ (record { number = 3; rel = (record { 0 = 3 }); frags = ((frag_no 3) ∷ []); restrictions = [] }) ∷ [])) ∷
+    (1, Start (txn_no 1) 1 (class_no 1) (time_at 65) (Some (time_at 63)) ((record { number = 1; rel = (rel_no 1); frags = ((frag_no 1) ∷ []); restrictions = [] }) ∷ (record { number = 2; rel = (rel_no 2); frags = ((frag_no 2) ∷ []); restrictions = [] }) ∷ (record { number = 3; rel = (rel_no 3); frags = ((frag_no 3) ∷ []); restrictions = [] }) ∷ [])) ∷
     (2, Arrive (txn_no 1) 1 (dm_no 1)) ∷
     (2, Answer (txn_no 1) 1 (dm_no 1)) ∷
     (3, Arrive (txn_no 1) 1 (dm_no 2)) ∷
@@ -139,14 +139,14 @@ catalogue_of_reads_nothing = record {
   tms = 1;
   dms = 1;
   relations =
-    (record { name = []; columns = ((record { name = []; kind = kinds.Int }) ∷ (record { name = []; kind = kinds.Int }) ∷ []); key = 1 }) ∷
-    [];
+      (record { name = []; columns = ((record { name = []; kind = kinds.Int }) ∷ (record { name = []; kind = kinds.Int }) ∷ []); key = 1 }) ∷
+      [];
   fragments =
-    (record { name = []; rel = (record { 0 = 1 }); least = (negsuc 9223372036854775807); greatest = (pos 9223372036854775807); copies = ((dm_no 1) ∷ []) }) ∷
-    [];
+      (record { name = []; rel = (rel_no 1); least = (negsuc 9223372036854775807); greatest = (pos 9223372036854775807); copies = ((dm_no 1) ∷ []) }) ∷
+      [];
   classes =
-    (record { name = []; tm = (tm_no 1); reads = ((record { fragment = (frag_no 1); at = (dm_no 1) }) ∷ []); writes = ((frag_no 1) ∷ []) }) ∷
-    [];
+      (record { name = []; tm = (tm_no 1); reads = ((record { fragment = (frag_no 1); at = (dm_no 1) }) ∷ []); writes = ((frag_no 1) ∷ []) }) ∷
+      [];
 }
 
 abbrev pub given_reads_nothing : Given
@@ -156,26 +156,26 @@ given_reads_nothing = record {
       (record {
         catalogue = catalogue_of_reads_nothing;
         table =
-          (record { edge = (Vertical (class_no 1)); block = 0; protocol = P1 }) ∷
-          [];
+            (record { edge = (Vertical (class_no 1)); block = 0; protocol = P1 }) ∷
+            [];
       }) ∷
       [];
   rows = ([] ∷ []);
   txns =
-    (record { name = []; tm = (tm_no 1); statements = ((Query ((record { part = 1; column = 1 }) ∷ []) ((record { 0 = 1 }) ∷ []) ((Const (record { part = 1; column = 1 }) Lt (Int (pos 1))) ∷ (Const (record { part = 1; column = 1 }) Gt (Int (pos 5))) ∷ [])) ∷ []) }) ∷
-    [];
+      (record { name = []; tm = (tm_no 1); statements = ((Query ((record { part = 1; column = 1 }) ∷ []) ((rel_no 1) ∷ []) ((Const (record { part = 1; column = 1 }) Lt (Int (pos 1))) ∷ (Const (record { part = 1; column = 1 }) Gt (Int (pos 5))) ∷ [])) ∷ []) }) ∷
+      [];
   events =
-    Submit (txn_no 1) ∷
-    [];
+      Submit (txn_no 1) ∷
+      [];
 }
 
 abbrev pub log_of_reads_nothing : Log
 log_of_reads_nothing = extended 4 given_reads_nothing []
 
 pub history_of_reads_nothing :
-  history log_of_reads_nothing ≡
+    history log_of_reads_nothing ≡
     (1, Submission (txn_no 1)) ∷
-    (1, Start (txn_no 1) 1 (class_no 1) (time_at 65) (Some (time_at 63)) ((record { number = 1; rel = (record { 0 = 1 }); frags = []; restrictions = ((record { column = 1; op = Lt; value = (Int (pos 1)) }) ∷ (record { column = 1; op = Gt; value = (Int (pos 5)) }) ∷ []) }) ∷ [])) ∷
+    (1, Start (txn_no 1) 1 (class_no 1) (time_at 65) (Some (time_at 63)) ((record { number = 1; rel = (rel_no 1); frags = []; restrictions = ((record { column = 1; op = Lt; value = (Int (pos 1)) }) ∷ (record { column = 1; op = Gt; value = (Int (pos 5)) }) ∷ []) }) ∷ [])) ∷
     (1, Commit (txn_no 1) 1 (Rows ([] ∷ [])) [] 0 0) ∷
     []
 history_of_reads_nothing = refl

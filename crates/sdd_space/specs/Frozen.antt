@@ -4,7 +4,7 @@ use Rattle.std.specs.List.{list_all, list_any, flat_map}
 use Rattle.std.specs.Ordering.{int_cmp, is_eq}
 use Rattle.std.specs.BTreeMap.{insert_entry}
 use Rattle.sdd_base.specs.Order.{column, value_cmp, meets, with_values}
-use Rattle.sdd_base.specs.Words.{or_else, first_some}
+use Rattle.sdd_base.specs.Words.{first_some}
 use Rattle.sdd_base.specs.declared.value.Value.{Value}
 use Rattle.sdd_base.specs.declared.value.Value.TheVariants.{Int}
 use Rattle.sdd_base.specs.declared.usage.Use.{Use}

@@ -65,7 +65,10 @@ pub enum Msg {
         count: u64,
     },
     /// To a data module: send all rows that are held, and give them up.
-    Ship { ts: Ts, class: ClassNo },
+    Ship {
+        ts: Ts,
+        class: ClassNo,
+    },
     /// The rows that SHIP asks for.
     Rows {
         ts: Ts,
@@ -80,15 +83,27 @@ pub enum Msg {
         changes: Changes,
     },
     /// To a data module: what the class still sends there has a time of at least `time`.
-    Null { class: ClassNo, time: Ts },
+    Null {
+        class: ClassNo,
+        time: Ts,
+    },
     /// To a transaction module: send a NULL of the class once it can have this time or a later one.
-    Ask { class: ClassNo, time: Ts },
+    Ask {
+        class: ClassNo,
+        time: Ts,
+    },
     /// To a transaction module: let what is under way end, and start nothing.
     Hold,
     /// The module holds; its next timestamp is above this time.
-    Held { time: Ts },
+    Held {
+        time: Ts,
+    },
     /// The WRITE of an undeclared transaction is applied.
-    Done { ts: Ts },
+    Done {
+        ts: Ts,
+    },
     /// To a transaction module: the hold is over; the next timestamp is to be above this one.
-    Release { ts: Ts },
+    Release {
+        ts: Ts,
+    },
 }
