@@ -1,5 +1,7 @@
 pub mod Control
+pub mod Keys
 pub mod Laws
+pub mod LineRules
 pub mod Links
 pub mod Log
 pub mod NoteTests
@@ -8,3 +10,4 @@ pub mod Standing
 pub mod State
 pub mod Steps
 pub mod Stretches
+pub mod Walk
