@@ -5,6 +5,8 @@ pub mod LineRules
 pub mod Links
 pub mod Log
 pub mod NoteTests
+pub mod Report
+pub mod Script
 pub mod Sends
 pub mod Standing
 pub mod State
