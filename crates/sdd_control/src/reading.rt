@@ -1,5 +1,6 @@
 //! The lines of a control file, one after the other.
-ghost use Rattle.std.specs.Prelude.{◌≡◌, ◌≤◌, ◌^◌, [], Err, length};
+ghost use Rattle.std.specs.Prelude.{◌≡◌, ◌≤◌, ◌^◌, [], Err, length, IfOk};
+ghost use Rattle.sdd_control.specs.Script.{IsSound};
 ghost use Rattle.sdd_control.specs.declared.draft.Stage.TheVariants.{First};
 ghost use Rattle.sdd_script.specs.Rules.{Gives};
 ghost use Rattle.sdd_script.specs.Telling.{Tells};
@@ -90,6 +91,13 @@ fn read_lines(alloc: Global, draft: Draft, bytes: &[u8]) -> Result<ControlScript
 /// The script that a file gives, or its first fault: that of the first line at fault, and on it the
 /// first rule that is broken. Costs time and memory linear in the bytes.
 pub fn read_control(alloc: Global, bytes: &[u8]) -> Result<ControlScript, WorkError>
+    ensures exact { Tells result (control_script bytes.now) }
+    ensures sound { IfOk result IsSound }
+{
+    read_bytes(alloc, bytes)
+}
+
+fn read_bytes(alloc: Global, bytes: &[u8]) -> Result<ControlScript, WorkError>
     ensures { Tells result (control_script bytes.now) }
 {
     if bytes.len() > MOST_BYTES {
