@@ -22,7 +22,7 @@ log_after-append backups writes log [] act = refl
 log_after-append backups writes log (x ∷ acts) act =
     log_after-append backups writes (happened backups writes log x) acts act
 
-FitAll-append : (backups : ℕ) (acts : List Act) (act : Act)
+pub FitAll-append : (backups : ℕ) (acts : List Act) (act : Act)
     → FitAll backups acts → Fits backups act → FitAll backups (acts ++ act ∷ [])
 FitAll-append backups [] act f g = (g, tt)
 FitAll-append backups (x ∷ acts) act f g = (f.0, FitAll-append backups acts act f.1 g)
