@@ -5,7 +5,6 @@
 //! `sdd_lang/specs/Serial.antt`. What other ways of running transactions give is compared with it.
 #![tactic(auto)]
 
-mod narrowing;
 mod plain;
 mod rows;
 
