@@ -1,8 +1,8 @@
 //! The keys that restrictions allow.
 ghost use Rattle.std.specs.Prelude.{◌≡◌, ◌==◌, true, false, if◌then◌else◌, FitsSigned, MatchOption};
 ghost use Rattle.std.specs.Int.{w64};
+ghost use Rattle.sdd_base.specs.Order.{number_in};
 ghost use Rattle.sdd_lang.specs.Uses.{larger, smaller, common, holds_some, all_keys, keys_for, allowed_keys};
-ghost use Rattle.sdd_lang.specs.Database.{number_in};
 
 use sdd_base::{Op, Restriction, Value};
 use std::marker::Model;
