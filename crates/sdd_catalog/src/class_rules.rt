@@ -1,8 +1,7 @@
 ghost use Rattle.std.specs.Prelude.{◌≡◌, ◌≤◌, length, find, bytes_eq};
 ghost use Rattle.std.specs.Option.{option_copied};
 ghost use Rattle.sdd_base.specs.Words.{head_of};
-ghost use Rattle.sdd_catalog.specs.Catalogue.{has};
-ghost use Rattle.sdd_catalog.specs.Rules.{read_rules, write_rules, class_rules, faults_of_class, found_in, copies_of};
+ghost use Rattle.sdd_catalog.specs.Rules.{has, read_rules, write_rules, class_rules, faults_of_class, found_in, copies_of};
 
 use crate::fault::{CatFault, CatRule, Counted, Part};
 use crate::fragment_rules::{has, is_from_1_to};
@@ -111,7 +110,7 @@ fn fault_of_class(parts: &Parts, before: &[ClassPart], class: &ClassPart) -> Opt
         Some(rule) => Some(CatFault {
             rule,
             part: Part::Class,
-            no: before.len() as u32 + 1,
+            number: before.len() as u32 + 1,
         }),
         None => None,
     }

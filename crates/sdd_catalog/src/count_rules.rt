@@ -31,7 +31,7 @@ pub(crate) fn count_fault(parts: &Parts) -> Option<CatFault>
         Some(rule) => Some(CatFault {
             rule,
             part: Part::Top,
-            no: 0,
+            number: 0,
         }),
         None => None,
     }

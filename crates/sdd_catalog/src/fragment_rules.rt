@@ -1,7 +1,6 @@
 ghost use Rattle.std.specs.Prelude.{◌≡◌, ◌≤◌, length};
 ghost use Rattle.sdd_base.specs.Words.{head_of};
-ghost use Rattle.sdd_catalog.specs.Catalogue.{has};
-ghost use Rattle.sdd_catalog.specs.Rules.{is_from_1_to, copy_rules, fragment_rules, faults_of_fragment, found_in};
+ghost use Rattle.sdd_catalog.specs.Rules.{has, is_from_1_to, copy_rules, fragment_rules, faults_of_fragment, found_in};
 
 use crate::fault::{CatFault, CatRule, Counted, Part};
 use crate::named::has_name;
@@ -82,7 +81,7 @@ fn fault_of_fragment(
         Some(rule) => Some(CatFault {
             rule,
             part: Part::Fragment,
-            no: before.len() as u32 + 1,
+            number: before.len() as u32 + 1,
         }),
         None => None,
     }

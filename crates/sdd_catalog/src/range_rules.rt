@@ -22,12 +22,12 @@ fn broken_by_next(last: KeyRange, next: KeyRange) -> Option<CatRule>
 }
 
 fn range_fault_at(rule: CatRule, range: KeyRange) -> CatFault
-    ensures { result ≡ record { rule = rule; part = Part.Fragment; no = range.number } }
+    ensures { result ≡ record { rule = rule; part = Part.Fragment; number = range.number } }
 {
     CatFault {
         rule,
         part: Part::Fragment,
-        no: range.number,
+        number: range.number,
     }
 }
 
@@ -58,7 +58,7 @@ fn cover_fault(relation: u32, ranges: &[KeyRange]) -> Option<CatFault>
         [] => Some(CatFault {
             rule: CatRule::RangeGap,
             part: Part::Relation,
-            no: relation,
+            number: relation,
         }),
         [first, rest @ ..] => {
             if first.from > i64::MIN {

@@ -1,15 +1,15 @@
-ghost use Rattle.std.specs.Prelude.{◌≡◌, ◌<◌, ◌^◌, ◌-◌, length, map, IfOk};
-ghost use Rattle.std.specs.List.{AllByRecursion};
+ghost use Rattle.std.specs.Prelude.{◌≡◌, ◌<◌, ◌^◌, ◌-◌, length, map, IfOk, All};
 ghost use Rattle.sdd_catalog.specs.Names.{number_of};
 ghost use Rattle.sdd_catalog.specs.Catalogue.{column_of, relation_of, fragment_from, read_of, class_of, relation_names, fragment_names};
-ghost use Rattle.sdd_catalog.specs.Resolving.{HaveNumbers};
+ghost use Rattle.sdd_base.specs.Numbers.{dm_no, frag_no};
+ghost use Rattle.sdd_catalog.specs.Resolving.{HaveNumbers, IsModule, IsAtModules, RunsAtModules};
 
 use crate::named::number_of;
 use crate::parts::{ClassPart, ColumnPart, FragmentPart, ReadPart, RelationPart};
 use crate::resolved::{
-    Class, Classes, Column, Columns, Fragment, Fragments, Reads, Relation, Relations, Writes,
+    Class, Classes, Column, Columns, Copies, Fragment, Fragments, Read, Reads, Relation, Relations,
 };
-use sdd_base::{Listed, Name, NoMemory, Parcel};
+use sdd_base::{DmNo, FragNo, Frags, Listed, Name, NoMemory, Parcel, RelNo, TmNo};
 use std::alloc::Global;
 
 fn resolve_column(column: &ColumnPart) -> Result<Column, NoMemory>
@@ -58,19 +58,32 @@ pub(crate) fn resolve_relations(
     Ok(Listed::from_vec(resolved))
 }
 
+fn resolve_copies(alloc: Global, copies: &[u32]) -> Result<Copies, NoMemory>
+    requires { All IsModule copies.now }
+    ensures { IfOk result (λ resolved. resolved ≡ map dm_no copies.now) }
+{
+    let mut resolved = Vec::new(alloc);
+    for copy in copies {
+        resolved.push(DmNo(*copy as u8))?;
+    }
+    Ok(Listed::from_vec(resolved))
+}
+
 fn resolve_fragment(
+    alloc: Global,
     relations: &[RelationPart],
     fragment: &FragmentPart,
 ) -> Result<Fragment, NoMemory>
-    requires { length relations.now < 2 ^ 32 - 1 }
+    requires relations { length relations.now < 2 ^ 32 - 1 }
+    requires copies { IsAtModules fragment.now }
     ensures { IfOk result (λ resolved. resolved ≡ fragment_from (relation_names relations.now) fragment.now) }
 {
     Ok(Fragment {
         name: fragment.name.copy()?,
-        rel: number_of(&fragment.relation, relations),
+        rel: RelNo(number_of(&fragment.relation, relations)),
         least: fragment.from,
         greatest: fragment.to,
-        copies: fragment.copies.copy()?,
+        copies: resolve_copies(alloc, fragment.copies.as_slice())?,
     })
 }
 
@@ -80,14 +93,26 @@ pub(crate) fn resolve_fragments(
     relations: &[RelationPart],
     fragments: &[FragmentPart],
 ) -> Result<Fragments, NoMemory>
-    requires { length relations.now < 2 ^ 32 - 1 }
+    requires relations { length relations.now < 2 ^ 32 - 1 }
+    requires copies { All IsAtModules fragments.now }
     ensures { IfOk result (λ resolved. resolved ≡ map (fragment_from (relation_names relations.now)) fragments.now) }
 {
     let mut resolved = Vec::new(alloc);
     for fragment in fragments {
-        resolved.push(resolve_fragment(relations, fragment)?)?;
+        resolved.push(resolve_fragment(alloc, relations, fragment)?)?;
     }
     Ok(Listed::from_vec(resolved))
+}
+
+fn resolve_read(fragments: &[FragmentPart], read: &ReadPart) -> Read
+    requires fragments { length fragments.now < 2 ^ 32 - 1 }
+    requires module { IsModule read.now.at }
+    ensures { result ≡ read_of (fragment_names fragments.now) read.now }
+{
+    Read {
+        fragment: FragNo(number_of(&read.fragment, fragments)),
+        at: DmNo(read.at as u8),
+    }
 }
 
 fn resolve_reads(
@@ -95,12 +120,13 @@ fn resolve_reads(
     fragments: &[FragmentPart],
     reads: &[ReadPart],
 ) -> Result<Reads, NoMemory>
-    requires { length fragments.now < 2 ^ 32 - 1 }
+    requires fragments { length fragments.now < 2 ^ 32 - 1 }
+    requires modules { All (λ r. IsModule r.at) reads.now }
     ensures { IfOk result (λ resolved. resolved ≡ map (read_of (fragment_names fragments.now)) reads.now) }
 {
     let mut resolved = Vec::new(alloc);
     for read in reads {
-        resolved.push((number_of(&read.fragment, fragments), read.at))?;
+        resolved.push(resolve_read(fragments, read))?;
     }
     Ok(Listed::from_vec(resolved))
 }
@@ -109,13 +135,13 @@ fn resolve_writes(
     alloc: Global,
     fragments: &[FragmentPart],
     writes: &[Name],
-) -> Result<Writes, NoMemory>
+) -> Result<Frags, NoMemory>
     requires { length fragments.now < 2 ^ 32 - 1 }
-    ensures { IfOk result (λ resolved. resolved ≡ map (λ name. number_of name (fragment_names fragments.now)) writes.now) }
+    ensures { IfOk result (λ resolved. resolved ≡ map (λ name. frag_no (number_of name (fragment_names fragments.now))) writes.now) }
 {
     let mut resolved = Vec::new(alloc);
     for name in writes {
-        resolved.push(number_of(name, fragments))?;
+        resolved.push(FragNo(number_of(name, fragments)))?;
     }
     Ok(Listed::from_vec(resolved))
 }
@@ -125,12 +151,13 @@ fn resolve_class(
     fragments: &[FragmentPart],
     class: &ClassPart,
 ) -> Result<Class, NoMemory>
-    requires { length fragments.now < 2 ^ 32 - 1 }
+    requires fragments { length fragments.now < 2 ^ 32 - 1 }
+    requires modules { RunsAtModules class.now }
     ensures { IfOk result (λ resolved. resolved ≡ class_of (fragment_names fragments.now) class.now) }
 {
     Ok(Class {
         name: class.name.copy()?,
-        tm: class.tm,
+        tm: TmNo(class.tm as u8),
         reads: resolve_reads(alloc, fragments, class.reads.as_slice())?,
         writes: resolve_writes(alloc, fragments, class.writes.as_slice())?,
     })
@@ -142,7 +169,8 @@ pub(crate) fn resolve_classes(
     fragments: &[FragmentPart],
     classes: &[ClassPart],
 ) -> Result<Classes, NoMemory>
-    requires { length fragments.now < 2 ^ 32 - 1 }
+    requires fragments { length fragments.now < 2 ^ 32 - 1 }
+    requires modules { All RunsAtModules classes.now }
     ensures { IfOk result (λ resolved. resolved ≡ map (class_of (fragment_names fragments.now)) classes.now) }
 {
     let mut resolved = Vec::new(alloc);

@@ -98,7 +98,11 @@ fn split(alloc: Global, from: i64, at: u32) -> Result<Parts, Fail> {
 }
 
 fn fault(rule: CatRule, part: Part, no: u32) -> CatError {
-    CatError::Fault(CatFault { rule, part, no })
+    CatError::Fault(CatFault {
+        rule,
+        part,
+        number: no,
+    })
 }
 
 #[test]

@@ -15,10 +15,10 @@ abbrev pub ◌>>=◌ : {A B : Type 0} → Result A CatFault → (A → Result B 
 
 -- a rule that is broken at a place
 abbrev pub broken : Place → CatRule → CatFault
-broken place rule = record { rule = rule; part = place.part; no = place.no }
+broken place rule = record { rule = rule; part = place.part; number = place.number }
 
 abbrev pub numbered_place : Part → ℕ → Place
-numbered_place part number = record { part = part; no = number }
+numbered_place part number = record { part = part; number = number }
 
 -- a reading of each member in order, which is told the member's number, counted from one
 abbrev pub along : {A B : Type 0} → (ℕ → A → Result B CatFault) → ℕ → List A → Result (List B) CatFault

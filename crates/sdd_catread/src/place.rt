@@ -10,7 +10,7 @@ use sdd_catalog::{CatError, CatFault, CatRule, Part};
 pub(crate) struct Place {
     pub part: Part,
     /// The number of the relation, fragment or class, from 1, or 0 at the top.
-    pub no: u32,
+    pub number: u32,
 }
 
 impl Place {
@@ -22,7 +22,7 @@ impl Place {
         match u32::try_from(index) {
             Ok(before) if before < u32::MAX => Ok(Place {
                 part,
-                no: before + 1,
+                number: before + 1,
             }),
             _ => Err(NoMemory),
         }
@@ -35,7 +35,7 @@ impl Place {
         CatError::Fault(CatFault {
             rule,
             part: self.part,
-            no: self.no,
+            number: self.number,
         })
     }
 }

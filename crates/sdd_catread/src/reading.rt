@@ -21,7 +21,7 @@ fn parts(alloc: Global, fields: &Table) -> Result<Parts, CatError>
 {
     let top = Place {
         part: Part::Top,
-        no: 0,
+        number: 0,
     };
     only(
         top,
@@ -48,7 +48,7 @@ fn parts_in(alloc: Global, bytes: &[u8]) -> Result<Parts, CatError>
 {
     let top = Place {
         part: Part::Top,
-        no: 0,
+        number: 0,
     };
     if bytes.len() > MOST_BYTES {
         return Err(top.breaks(CatRule::TooLong));

@@ -21,7 +21,11 @@ fn fault_of(alloc: Global, bytes: &[u8]) -> Option<CatFault> {
 }
 
 fn at(part: Part, no: u32, rule: CatRule) -> Option<CatFault> {
-    Some(CatFault { rule, part, no })
+    Some(CatFault {
+        rule,
+        part,
+        number: no,
+    })
 }
 
 fn at_top(rule: CatRule) -> Option<CatFault> {
