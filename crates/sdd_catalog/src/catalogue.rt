@@ -73,8 +73,8 @@ impl Catalogue {
         })
     }
 
-    /// What holds of every catalogue: it is that of its own parts, which are valid, what its numbers
-    /// name is there, and its names are names. Takes no memory.
+    /// What holds of every catalogue: it is that of its own parts, which are valid, what its
+    /// numbers name is there, and its names are names. Takes no memory.
     #[tactic(auto, using(crate::proofs::Sound::sound_whole))]
     pub fn known(&self)
         ensures sound { IsSound self.now }
@@ -235,7 +235,7 @@ impl Parcel for Catalogue {
     }
 }
 
-#[tactic(auto, using(crate::proofs::FragmentOf::indexed, crate::proofs::RoundTrip::resolvable, crate::proofs::RoundTrip::have_numbers, crate::proofs::RoundTrip::at_modules, crate::proofs::RoundTrip::run_at_modules))]
+#[tactic(auto, using(crate::proofs::RoundTrip::resolvable, crate::proofs::RoundTrip::have_numbers, crate::proofs::RoundTrip::at_modules, crate::proofs::RoundTrip::run_at_modules))]
 fn resolve(alloc: Global, parts: &Parts) -> Result<Catalogue, NoMemory>
     requires { IsValid parts.now }
     ensures { IfOk result (λ built. built ≡ catalogue_of parts.now) }

@@ -1,4 +1,3 @@
-use Rattle.std.proofs.Common.{◌≡◌, ap, ◌∙◌, map}
 use Rattle.sdd_catalog.proofs.FragmentOf.{indexed_as}
 use Rattle.sdd_catalog.proofs.catalogue.resolve.Goals as goal
 
