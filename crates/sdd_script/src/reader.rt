@@ -60,10 +60,7 @@ fn open_txn(alloc: Global, state: &mut State, name: Name, tm: TmNo) -> Result<()
     ensures { Gives rule_in (λ _. state.new) result (opened state.old name tm) }
 {
     must(WorkRule::DuplicateTxn, !state.names.has(name.as_str()))?;
-    must(
-        WorkRule::TooMany(Counts::Txn),
-        state.names.len() < MAX_TXNS,
-    )?;
+    must(WorkRule::TooMany(Counts::Txn), state.names.len() < MAX_TXNS)?;
     state.names.add(alloc, name.as_str())?;
     state.place = Place::Inside(Header { name, tm });
     Ok(())
