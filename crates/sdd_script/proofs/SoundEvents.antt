@@ -6,7 +6,7 @@ use Rattle.std.proofs.lemmas.Bool.{ltb-true}
 use Rattle.std.proofs.lemmas.List.{map-append}
 use Rattle.std.proofs.lemmas.List.Elements.{filter_map-append}
 use Rattle.sdd_base.specs.declared.event.Event.{Event}
-use Rattle.sdd_base.specs.declared.event.Event.TheVariants.{Submit, Deliver, Lose, Repeat, Resend, Tick, Settle}
+use Rattle.sdd_base.specs.declared.event.Event.TheVariants.{Submit, Deliver, Lose, Repeat, Resend, Tick, Settle, Redeclare, Down, Up}
 use Rattle.sdd_base.specs.declared.number.TxnNo.{TxnNo}
 use Rattle.sdd_catalog.specs.Catalogue.{Catalogue}
 use Rattle.sdd_catalog.proofs.NameLemmas.{list_any-map}
@@ -65,6 +65,9 @@ submitted_more submitted events (Repeat from to place) h = h ∙ sym (append-nil
 submitted_more submitted events (Resend from to) h = h ∙ sym (append-nil (filter_map submitted_by events)) ∙ sym (filter_map-append submitted_by events (Resend from to ∷ []))
 submitted_more submitted events (Tick tm n) h = h ∙ sym (append-nil (filter_map submitted_by events)) ∙ sym (filter_map-append submitted_by events (Tick tm n ∷ []))
 submitted_more submitted events Settle h = h ∙ sym (append-nil (filter_map submitted_by events)) ∙ sym (filter_map-append submitted_by events (Settle ∷ []))
+submitted_more submitted events Redeclare h = h ∙ sym (append-nil (filter_map submitted_by events)) ∙ sym (filter_map-append submitted_by events (Redeclare ∷ []))
+submitted_more submitted events (Down dm) h = h ∙ sym (append-nil (filter_map submitted_by events)) ∙ sym (filter_map-append submitted_by events (Down dm ∷ []))
+submitted_more submitted events (Up dm) h = h ∙ sym (append-nil (filter_map submitted_by events)) ∙ sym (filter_map-append submitted_by events (Up dm ∷ []))
 
 same_distinct : (ns ms : List ℕ) → AreDistinct ns → ns ≡ ms → AreDistinct ms
 same_distinct ns ms h e = subst AreDistinct e h
@@ -79,6 +82,9 @@ once_more submitted events (Repeat from to place) h d other = same_distinct (fil
 once_more submitted events (Resend from to) h d other = same_distinct (filter_map submitted_by events) (filter_map submitted_by (events ++ Resend from to ∷ [])) d (sym (append-nil (filter_map submitted_by events)) ∙ sym (filter_map-append submitted_by events (Resend from to ∷ [])))
 once_more submitted events (Tick tm n) h d other = same_distinct (filter_map submitted_by events) (filter_map submitted_by (events ++ Tick tm n ∷ [])) d (sym (append-nil (filter_map submitted_by events)) ∙ sym (filter_map-append submitted_by events (Tick tm n ∷ [])))
 once_more submitted events Settle h d other = same_distinct (filter_map submitted_by events) (filter_map submitted_by (events ++ Settle ∷ [])) d (sym (append-nil (filter_map submitted_by events)) ∙ sym (filter_map-append submitted_by events (Settle ∷ [])))
+once_more submitted events Redeclare h d other = same_distinct (filter_map submitted_by events) (filter_map submitted_by (events ++ Redeclare ∷ [])) d (sym (append-nil (filter_map submitted_by events)) ∙ sym (filter_map-append submitted_by events (Redeclare ∷ [])))
+once_more submitted events (Down dm) h d other = same_distinct (filter_map submitted_by events) (filter_map submitted_by (events ++ Down dm ∷ [])) d (sym (append-nil (filter_map submitted_by events)) ∙ sym (filter_map-append submitted_by events (Down dm ∷ [])))
+once_more submitted events (Up dm) h d other = same_distinct (filter_map submitted_by events) (filter_map submitted_by (events ++ Up dm ∷ [])) d (sym (append-nil (filter_map submitted_by events)) ∙ sym (filter_map-append submitted_by events (Up dm ∷ [])))
 
 event_sound : (cat : Catalogue) (st : State) (e : Event) → Sound cat st → takes_events st.place ≡ true → IsValidEvent cat (length st.txns) e → is_submitted st.submitted e ≡ false → length st.events < most_events → Sound cat (with_occurrence st e)
 event_sound cat st e s t valid other room = record {

@@ -9,7 +9,7 @@ use Rattle.std.proofs.lemmas.List.{map-append, length-append, length-map, get_or
 use Rattle.std.proofs.lemmas.List.Elements.{recursion_from_All, All-get_or}
 use Rattle.sdd_base.specs.Name.{is_name}
 use Rattle.sdd_base.specs.declared.event.Event.{Event}
-use Rattle.sdd_base.specs.declared.event.Event.TheVariants.{Submit, Deliver, Lose, Repeat, Resend, Tick, Settle}
+use Rattle.sdd_base.specs.declared.event.Event.TheVariants.{Submit, Deliver, Lose, Repeat, Resend, Tick, Settle, Redeclare, Down, Up}
 use Rattle.sdd_base.specs.declared.number.RelNo.{RelNo}
 use Rattle.sdd_base.specs.declared.number.TxnNo.{TxnNo}
 use Rattle.sdd_base.specs.declared.site.Site.TheVariants.{T}
@@ -97,6 +97,9 @@ names_one cat txns (Repeat from to place) valid h = tt
 names_one cat txns (Resend from to) valid h = tt
 names_one cat txns (Tick tm n) valid h = tt
 names_one cat txns Settle valid h = tt
+names_one cat txns Redeclare valid h = tt
+names_one cat txns (Down dm) valid h = tt
+names_one cat txns (Up dm) valid h = tt
 
 record IsFresh (submitted : List TxnNo) (e : Event) (es : List Event) : Type 0 where
   new : is_submitted submitted e ≡ false
@@ -114,6 +117,9 @@ fresh submitted (Repeat from to place) es d = record { new = refl; distinct = d 
 fresh submitted (Resend from to) es d = record { new = refl; distinct = d }
 fresh submitted (Tick tm n) es d = record { new = refl; distinct = d }
 fresh submitted Settle es d = record { new = refl; distinct = d }
+fresh submitted Redeclare es d = record { new = refl; distinct = d }
+fresh submitted (Down dm) es d = record { new = refl; distinct = d }
+fresh submitted (Up dm) es d = record { new = refl; distinct = d }
 
 -- ---- events
 
@@ -176,6 +182,9 @@ event_step cat k place rows written txns submitted events (Tick tm n) valid diff
 event_step cat k place rows written txns submitted events Settle valid differ h c =
     line_step cat (scheduled place rows written txns submitted events) (scheduled places.Events rows written txns submitted (events ++ Settle ∷ [])) (keys.Event ekeys.Settle) [] (still place c.takes) (event_fine cat k txns Settle h tt)
     (event_rules_again place rows written txns submitted events Settle (settle_of []) refl c.takes c.new c.room)
+event_step cat k place rows written txns submitted events Redeclare valid differ h c = absurd h
+event_step cat k place rows written txns submitted events (Down dm) valid differ h c = absurd h
+event_step cat k place rows written txns submitted events (Up dm) valid differ h c = absurd h
 
 record AreEvents (cat : Catalogue) (st : State) (lines : List (List ℕ)) (rows : List (RelNo × List Value)) (written : ℕ) (txns : List Txn) (events : List Event) : Type 0 where
   place : Place

@@ -3,7 +3,7 @@ use Rattle.std.specs.Prelude.{ℕ, ◌-◌, List, [], ◌∷◌, ◌++◌, map, 
 use Rattle.std.specs.Option.{option_map_or}
 use Rattle.std.specs.Fmt.{decimal, signed_decimal}
 use Rattle.sdd_base.specs.declared.event.Event.{Event}
-use Rattle.sdd_base.specs.declared.event.Event.TheVariants.{Submit, Deliver, Lose, Repeat, Resend, Tick, Settle}
+use Rattle.sdd_base.specs.declared.event.Event.TheVariants.{Submit, Deliver, Lose, Repeat, Resend, Tick, Settle, Redeclare, Down, Up}
 use Rattle.sdd_base.specs.declared.number.RelNo.{RelNo}
 use Rattle.sdd_base.specs.declared.number.TmNo.{TmNo}
 use Rattle.sdd_base.specs.declared.restriction.Op.TheVariants.{Eq}
@@ -107,6 +107,9 @@ event_words txns (Repeat from to place) = Plain (codes "repeat") ∷ site_word f
 event_words txns (Resend from to) = Plain (codes "resend") ∷ site_word from ∷ site_word to ∷ []
 event_words txns (Tick tm n) = Plain (codes "tick") ∷ site_word (T tm) ∷ count_word n ∷ []
 event_words txns Settle = Plain (codes "settle") ∷ []
+event_words txns Redeclare = Plain (codes "redeclare") ∷ []
+event_words txns (Down dm) = Plain (codes "down") ∷ site_word (D dm) ∷ []
+event_words txns (Up dm) = Plain (codes "up") ∷ site_word (D dm) ∷ []
 
 abbrev pub start_words : Catalogue → RelNo × List Value → List Word
 start_words cat r = Plain (codes "row") ∷ row_words cat r.0 r.1

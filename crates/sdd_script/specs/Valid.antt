@@ -5,7 +5,7 @@ use Rattle.std.specs.List.{All, filter_map}
 use Rattle.sdd_base.specs.Name.{IsName}
 use Rattle.sdd_base.specs.Sites.{are_linked}
 use Rattle.sdd_base.specs.declared.event.Event.{Event}
-use Rattle.sdd_base.specs.declared.event.Event.TheVariants.{Submit, Deliver, Lose, Repeat, Resend, Tick, Settle}
+use Rattle.sdd_base.specs.declared.event.Event.TheVariants.{Submit, Deliver, Lose, Repeat, Resend, Tick, Settle, Redeclare, Down, Up}
 use Rattle.sdd_base.specs.declared.number.RelNo.{RelNo}
 use Rattle.sdd_base.specs.declared.site.Site.{Site}
 use Rattle.sdd_base.specs.declared.site.Site.TheVariants.{U, T, D}
@@ -77,6 +77,10 @@ IsValidEvent cat txns (Repeat from to place) = IsLink cat from to × IsFrom1To g
 IsValidEvent cat txns (Resend from to) = IsLink cat from to
 IsValidEvent cat txns (Tick tm n) = IsFrom1To cat.tms tm.0 × IsFrom1To greatest_count n
 IsValidEvent cat txns Settle = Unit {0}
+-- no line is read as one of these
+IsValidEvent cat txns Redeclare = ⊥
+IsValidEvent cat txns (Down dm) = ⊥
+IsValidEvent cat txns (Up dm) = ⊥
 
 abbrev pub is_put : Stmt → Bool
 is_put (statements.Put rel row) = true

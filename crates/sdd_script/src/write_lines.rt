@@ -14,7 +14,7 @@ use crate::write_words::{
     put_assigns, put_columns, put_conditions, put_count_word, put_plain, put_relation,
     put_relations, put_row, put_site,
 };
-use sdd_base::{Event, NoMemory, RelNo, Row, Site, TmNo, Value};
+use sdd_base::{DmNo, Event, NoMemory, RelNo, Row, Site, TmNo, Value};
 use sdd_catalog::Catalogue;
 use sdd_lang::{Assign, Condition, Ref, Stmt, Txn};
 use sdd_words::put;
@@ -229,6 +229,14 @@ fn put_tick(out: &mut Vec<u8>, tm: TmNo, n: u32) -> Result<(), NoMemory>
     put_count_word(out, n)
 }
 
+#[tactic(auto, using(crate::proofs::Pieces::key_one))]
+fn put_module(out: &mut Vec<u8>, key: &[u8], dm: DmNo) -> Result<(), NoMemory>
+    ensures { OnOk result (out.new.items ≡ out.old.items ++ line_bytes (Plain key.now ∷ site_word (Site.D dm) ∷ [])) }
+{
+    put(out, key)?;
+    put_site(out, Site::D(dm))
+}
+
 fn put_event_words(out: &mut Vec<u8>, txns: &[Txn], event: Event) -> Result<(), NoMemory>
     ensures { OnOk result (out.new.items ≡ out.old.items ++ line_bytes (event_words txns.now event)) }
 {
@@ -240,6 +248,9 @@ fn put_event_words(out: &mut Vec<u8>, txns: &[Txn], event: Event) -> Result<(), 
         Event::Resend { from, to } => put_resend(out, from, to),
         Event::Tick { tm, n } => put_tick(out, tm, n),
         Event::Settle => put(out, b"settle"),
+        Event::Redeclare => put(out, b"redeclare"),
+        Event::Down(dm) => put_module(out, b"down", dm),
+        Event::Up(dm) => put_module(out, b"up", dm),
     }
 }
 
