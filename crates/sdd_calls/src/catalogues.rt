@@ -2,39 +2,45 @@
 use crate::read::{catalogue, wanting, workload};
 use anyhow::{Result, anyhow};
 use sdd_base::Parcel;
-use sdd_catalog::Catalogue;
+use sdd_catalog::{Catalogue, Parts};
 use sdd_script::write_workload;
 use std::alloc::Global;
 use std::io::Write;
 use std::rt::Files;
 
 pub fn tell_catalogues<R: Files + AllocGlobal, W: Write>(rt: &R, out: &mut W) -> Result<()> {
-    for name in ["own.toml", "low_and_all.toml", "join.toml"] {
-        let cat = catalogue(rt, name)?;
-        tell_parts(rt.alloc(), out, name, &cat)?;
-    }
+    tell_parts(rt, out, "own.toml")?;
+    tell_parts(rt, out, "low_and_all.toml")?;
+    tell_parts(rt, out, "join.toml")?;
+    tell_spelling(rt, out)
+}
+
+fn tell_spelling<R: Files + AllocGlobal, W: Write>(rt: &R, out: &mut W) -> Result<()> {
     let cat = catalogue(rt, "owners.toml")?;
     let work = workload(rt, "every_line.work", &cat)?;
     let text = write_workload(rt.alloc(), &cat, &work).map_err(wanting)?;
-    let lines = text.as_slice().split(|byte| *byte == b'\n').count();
-    writeln!(
-        out,
-        "read_workload: {} rows, {} transactions, {} events; write_workload:",
-        work.rows.as_slice().len(),
-        work.txns.as_slice().len(),
-        work.events.as_slice().len()
-    )?;
+    let (rows, txns) = (work.rows.as_slice().len(), work.txns.as_slice().len());
+    let events = work.events.as_slice().len();
+    writeln!(out, "read_workload: {rows} rows, {txns} transactions, {events} events")?;
+    writeln!(out, "write_workload:")?;
     out.write_all(text.as_slice())?;
     Ok(())
 }
 
-/// Tells what the parts are, and whether the catalogue made of them and a copy have the same.
-fn tell_parts<W: Write>(alloc: Global, out: &mut W, name: &str, cat: &Catalogue) -> Result<()> {
+/// Tells what is counted in the parts, and whether the catalogue made of them and a copy have the same.
+fn tell_parts<R: Files + AllocGlobal, W: Write>(rt: &R, out: &mut W, name: &str) -> Result<()> {
+    let cat = catalogue(rt, name)?;
     let parts = cat.parts().map_err(wanting)?;
-    let built = Catalogue::build(alloc, &parts).map_err(|error| anyhow!("{error:?}"))?;
-    let again = built.parts().map_err(wanting)? == parts;
+    let again = built(rt.alloc(), &parts)?.parts().map_err(wanting)? == parts;
     let copied = cat.copy().map_err(wanting)?.parts().map_err(wanting)? == parts;
-    writeln!(out, "parts of {name}: {} relations", parts.relations.as_slice().len())?;
-    writeln!(out, "Catalogue::build of its parts: {again}; its copy: {copied}")?;
+    let relations = parts.relations.as_slice().len();
+    writeln!(out, "parts of {name}: {relations} relations; built again {again}, copied {copied}")?;
     Ok(())
+}
+
+fn built(alloc: Global, parts: &Parts) -> Result<Catalogue> {
+    match Catalogue::build(alloc, parts) {
+        Ok(cat) => Ok(cat),
+        Err(error) => Err(anyhow!("{error:?}")),
+    }
 }

@@ -1,4 +1,5 @@
 //! What transactions answer and change, from rows that were shipped, and on one database.
+ghost use Rattle.std.specs.Prelude.{IfOk, IsTrue};
 ghost use Rattle.sdd_script.specs.Valid.{IsValid};
 
 use crate::read::{catalogue, wanting, workload};
@@ -14,15 +15,18 @@ use std::io::Write;
 use std::rt::Files;
 
 pub fn tell_effects<R: Files + AllocGlobal, W: Write>(rt: &R, out: &mut W) -> Result<()> {
+    tell_work(rt, out, "joins.work")?;
+    tell_work(rt, out, "overflow.work")?;
+    tell_work(rt, out, "series.work")
+}
+
+fn tell_work<R: Files + AllocGlobal, W: Write>(rt: &R, out: &mut W, name: &str) -> Result<()> {
     let cat = catalogue(rt, "join.toml")?;
-    for name in ["joins.work", "overflow.work", "series.work"] {
-        let work = workload(rt, name, &cat)?;
-        for txn in work.txns.as_slice() {
-            tell_effect(rt.alloc(), out, &cat, txn, work.rows.as_slice())?;
-        }
-        tell_plain(rt.alloc(), out, &cat, &work)?;
+    let work = workload(rt, name, &cat)?;
+    for txn in work.txns.as_slice() {
+        tell_effect(rt.alloc(), out, &cat, txn, work.rows.as_slice())?;
     }
-    Ok(())
+    tell_plain(rt.alloc(), out, &cat, &work)
 }
 
 /// The effect of a transaction for whose uses all rows of their relations are shipped, each twice.
@@ -33,19 +37,28 @@ fn tell_effect<W: Write>(
     txn: &Txn,
     rows: &[(RelNo, Row)],
 ) -> Result<()> {
+    let snap = snapshot(alloc, cat, txn, rows)?;
+    ensure!(fits(cat, txn) && snap.live(), "a snapshot that is dead");
+    let effect = effect(alloc, cat, txn, &snap).map_err(wanting)?;
+    let copied = effect.copy().map_err(wanting)? == effect;
+    writeln!(out, "effect: {:?}, copied {copied}", effect.reply)?;
+    writeln!(out, "changes {:?}", effect.changes.as_slice())?;
+    Ok(())
+}
+
+fn snapshot(
+    alloc: Global,
+    cat: &Catalogue,
+    txn: &Txn,
+    rows: &[(RelNo, Row)],
+) -> Result<Snapshot> {
     ensure!(fits(cat, txn), "a transaction that doesn't fit");
     let mut snap = Snapshot::new(alloc);
     for one in uses(alloc, cat, txn).map_err(wanting)?.iter() {
         snap = shipped(snap, one.number, one.rel, rows)?;
         snap = shipped(snap, one.number, one.rel, rows)?;
     }
-    ensure!(snap.live(), "a snapshot that is dead");
-    let effect = effect(alloc, cat, txn, &snap).map_err(wanting)?;
-    let copied = effect.copy().map_err(wanting)? == effect;
-    let name = txn.name.as_str();
-    writeln!(out, "effect of {name}: {:?}", effect.reply)?;
-    writeln!(out, "changes {:?}; its copy: {copied}", effect.changes.as_slice())?;
-    Ok(())
+    Ok(snap)
 }
 
 /// Adds the rows of a relation, the last first.
@@ -70,14 +83,27 @@ fn added(snap: Snapshot, number: u32, row: Row) -> Result<Snapshot> {
 fn tell_plain<W: Write>(alloc: Global, out: &mut W, cat: &Catalogue, work: &Workload) -> Result<()>
     requires { IsValid cat.now work.now }
 {
-    let mut plain = Plain::new(alloc, cat, work.rows.as_slice()).map_err(wanting)?;
+    let mut plain = started(alloc, cat, work)?;
     for txn in work.txns.as_slice() {
         plain = run(out, cat, plain, txn)?;
     }
-    let mut plain = Plain::new(alloc, cat, work.rows.as_slice()).map_err(wanting)?;
-    let replies = plain
-        .run_all(cat, work.txns.as_slice())
-        .map_err(wanting)?;
+    tell_run_all(alloc, out, cat, work)
+}
+
+#[tactic(auto, using(crate::proofs::Fitting::rows_fit))]
+fn started(alloc: Global, cat: &Catalogue, work: &Workload) -> Result<Plain>
+    requires { IsValid cat.now work.now }
+    ensures { IfOk result (λ plain. IsTrue plain.live) }
+{
+    Plain::new(alloc, cat, work.rows.as_slice()).map_err(wanting)
+}
+
+#[tactic(auto, using(crate::proofs::Fitting::txns_fit))]
+fn tell_run_all<W: Write>(alloc: Global, out: &mut W, cat: &Catalogue, work: &Workload) -> Result<()>
+    requires { IsValid cat.now work.now }
+{
+    let mut plain = started(alloc, cat, work)?;
+    let replies = plain.run_all(cat, work.txns.as_slice()).map_err(wanting)?;
     writeln!(out, "Plain::run_all: {:?}", replies.as_slice())?;
     Ok(())
 }
@@ -86,6 +112,6 @@ fn run<W: Write>(out: &mut W, cat: &Catalogue, plain: Plain, txn: &Txn) -> Resul
     let mut plain = plain;
     ensure!(plain.live() && fits(cat, txn), "a database that is dead");
     let reply = plain.run(cat, txn).map_err(wanting)?;
-    writeln!(out, "Plain::run of {}: {reply:?}", txn.name.as_str())?;
+    writeln!(out, "Plain::run: {reply:?}")?;
     Ok(plain)
 }

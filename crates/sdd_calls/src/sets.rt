@@ -18,28 +18,34 @@ pub fn tell_sets<R: Files + AllocGlobal, W: Write>(rt: &R, out: &mut W) -> Resul
     }
     tell_replaced(rt.alloc(), out, i64::MAX)?;
     tell_replaced(rt.alloc(), out, i64::MAX - 1)?;
-    let (first, second) = (row(rt.alloc(), 1, 2)?, row(rt.alloc(), 3, 4)?);
-    let out_columns = [Ref { part: 2, column: 1 }, Ref { part: 1, column: 2 }];
-    let found = project(rt.alloc(), &out_columns, &[&first, &second]).map_err(wanting)?;
-    writeln!(out, "project: {:?}", found.as_slice())?;
-    Ok(())
+    tell_project(rt.alloc(), out)
 }
 
 fn tell_txn<W: Write>(alloc: Global, out: &mut W, cat: &Catalogue, txn: &Txn) -> Result<()> {
     ensure!(fits(cat, txn), "a transaction that doesn't fit");
-    let uses = uses(alloc, cat, txn).map_err(wanting)?;
     let reads = read_set(alloc, cat, txn).map_err(wanting)?;
     let writes = write_set(alloc, cat, txn).map_err(wanting)?;
     let class = class_for(alloc, cat, txn).map_err(wanting)?.0;
+    writeln!(out, "read_set {:?}, write_set {:?}", reads.as_slice(), writes.as_slice())?;
+    writeln!(out, "class_for {class}")?;
+    tell_uses(alloc, out, cat, txn)
+}
+
+fn tell_uses<W: Write>(alloc: Global, out: &mut W, cat: &Catalogue, txn: &Txn) -> Result<()> {
+    ensure!(fits(cat, txn), "a transaction that doesn't fit");
+    let uses = uses(alloc, cat, txn).map_err(wanting)?.len();
     let copied = txn.copy().map_err(wanting)? == *txn;
     let name = txn.name.as_str();
-    writeln!(
-        out,
-        "{name}: {} uses, read_set {:?}, write_set {:?}, class_for {class}; its copy: {copied}",
-        uses.len(),
-        reads.as_slice(),
-        writes.as_slice()
-    )?;
+    writeln!(out, "{name}: {uses} uses, copied {copied}")?;
+    Ok(())
+}
+
+/// A column of the second row, and one of the first.
+fn tell_project<W: Write>(alloc: Global, out: &mut W) -> Result<()> {
+    let (first, second) = (row(alloc, 1, 2)?, row(alloc, 3, 4)?);
+    let columns = [Ref { part: 2, column: 1 }, Ref { part: 1, column: 2 }];
+    let found = project(alloc, &columns, &[&first, &second]).map_err(wanting)?;
+    writeln!(out, "project: {:?}", found.as_slice())?;
     Ok(())
 }
 

@@ -8,28 +8,33 @@ use sdd_base::{
 use std::alloc::Global;
 use std::io::Write;
 
-const NAMES: &str = "acct A_9 sets from where and set 9a _a caf\u{e9}";
+/// Words of which some are names.
+const WORDS: &str = "acct A_9 sets from where and set 9a _a caf\u{e9}";
 
 pub fn tell_values<W: Write>(alloc: Global, out: &mut W) -> Result<()> {
-    for word in NAMES.split(' ') {
+    tell_names(alloc, out)?;
+    tell_texts(alloc, out)?;
+    tell_inputs(alloc, out)?;
+    tell_outputs(alloc, out)?;
+    tell_clock(out)
+}
+
+fn tell_names<W: Write>(alloc: Global, out: &mut W) -> Result<()> {
+    for word in WORDS.split(' ') {
         tell_name(alloc, out, word)?;
     }
     tell_name(alloc, out, "")?;
     tell_name(alloc, out, "a b")?;
-    for count in [32, 33] {
-        let text = letters(alloc, count)?;
-        let is_name = Name::new(alloc, text.as_str()).map_err(wanting)?.is_some();
-        writeln!(out, "Name::new of {count} letters: {is_name}")?;
-    }
-    for count in [0, 255, 256] {
-        let text = letters(alloc, count)?;
-        let is_text = Text::new(alloc, text.as_str()).map_err(wanting)?.is_some();
-        writeln!(out, "Text::new of {count} letters: {is_text}")?;
-    }
+    tell_long_name(alloc, out, 32)?;
+    tell_long_name(alloc, out, 33)
+}
+
+fn tell_texts<W: Write>(alloc: Global, out: &mut W) -> Result<()> {
     tell_text(alloc, out, "\n")?;
     tell_text(alloc, out, "a\"b")?;
-    tell_copies(alloc, out)?;
-    tell_clock(out)
+    tell_long_text(alloc, out, 0)?;
+    tell_long_text(alloc, out, 255)?;
+    tell_long_text(alloc, out, 256)
 }
 
 fn letters(alloc: Global, count: u32) -> Result<String> {
@@ -54,23 +59,45 @@ fn tell_text<W: Write>(alloc: Global, out: &mut W, text: &str) -> Result<()> {
     Ok(())
 }
 
-fn tell_copies<W: Write>(alloc: Global, out: &mut W) -> Result<()> {
+fn tell_long_name<W: Write>(alloc: Global, out: &mut W, count: u32) -> Result<()> {
+    let text = letters(alloc, count)?;
+    let is_name = Name::new(alloc, text.as_str()).map_err(wanting)?.is_some();
+    writeln!(out, "Name::new of {count} letters: {is_name}")?;
+    Ok(())
+}
+
+fn tell_long_text<W: Write>(alloc: Global, out: &mut W, count: u32) -> Result<()> {
+    let text = letters(alloc, count)?;
+    let is_text = Text::new(alloc, text.as_str()).map_err(wanting)?.is_some();
+    writeln!(out, "Text::new of {count} letters: {is_text}")?;
+    Ok(())
+}
+
+fn tell_inputs<W: Write>(alloc: Global, out: &mut W) -> Result<()> {
     tell_copy(out, "Use", &usage(alloc)?)?;
+    tell_copy(out, "Cond", &cond(alloc)?)?;
+    tell_copy(out, "Event", &event())
+}
+
+fn tell_outputs<W: Write>(alloc: Global, out: &mut W) -> Result<()> {
     tell_copy(out, "Change", &change(alloc)?)?;
-    tell_copy(out, "Reply", &reply(alloc)?)?;
-    let cond = Cond {
+    tell_copy(out, "Reply", &reply(alloc)?)
+}
+
+fn cond(alloc: Global) -> Result<Cond> {
+    Ok(Cond {
         class: ClassNo(1),
         time: Ts(65),
         frags: Frags::from_vec(vec![in alloc; FragNo(2)]?),
-    };
-    tell_copy(out, "Cond", &cond)?;
-    tell_copy(out, "a pair", &(FragNo(3), 7u64))?;
-    let event = Event::Deliver {
+    })
+}
+
+fn event() -> Event {
+    Event::Deliver {
         from: Site::U,
         to: Site::D(DmNo(2)),
         place: 1,
-    };
-    tell_copy(out, "Event", &event)
+    }
 }
 
 fn tell_copy<T: Parcel + PartialEq, W: Write>(out: &mut W, name: &str, value: &T) -> Result<()> {
@@ -81,17 +108,20 @@ fn tell_copy<T: Parcel + PartialEq, W: Write>(out: &mut W, name: &str, value: &T
 }
 
 fn usage(alloc: Global) -> Result<Use> {
-    let text = Text::new(alloc, "bike").map_err(wanting)?.context("no text")?;
-    let restriction = Restriction {
-        column: 2,
-        op: Op::Ne,
-        value: Value::Text(text),
-    };
     Ok(Use {
         number: 1,
         rel: RelNo(3),
         frags: Frags::from_vec(vec![in alloc; FragNo(1), FragNo(4)]?),
-        restrictions: Restrictions::from_vec(vec![in alloc; restriction]?),
+        restrictions: Restrictions::from_vec(vec![in alloc; restriction(alloc)?]?),
+    })
+}
+
+fn restriction(alloc: Global) -> Result<Restriction> {
+    let text = Text::new(alloc, "bike").map_err(wanting)?;
+    Ok(Restriction {
+        column: 2,
+        op: Op::Ne,
+        value: Value::Text(text.context("no text")?),
     })
 }
 
@@ -117,10 +147,8 @@ fn tell_clock<W: Write>(out: &mut W) -> Result<()> {
     let (bound, start) = (clock.bound().0, clock.start().0);
     writeln!(out, "Clock of module 1: bound {bound}, start {start}")?;
     clock.push(Ts(259));
-    let bound = clock.bound().0;
-    clock.push(Ts(66));
     clock.tick(2);
     let start = clock.start().0;
-    writeln!(out, "Clock pushed by 259: bound {bound}; and 2 ticks later: start {start}")?;
+    writeln!(out, "Clock pushed by 259 and 2 ticks later: start {start}")?;
     Ok(())
 }
