@@ -1,7 +1,8 @@
-ghost use Rattle.std.specs.Prelude.{◌≡◌, ◌≤◌, ◌<◌, ◌-◌, ◌^◌, ◌==◌, length, find, option_map, IfOk, IfErr};
+ghost use Rattle.std.specs.Prelude.{ℕ, ◌≡◌, ◌≤◌, ◌<◌, ◌-◌, ◌^◌, ◌==◌, length, find, option_map, IfOk, IfErr};
 ghost use Rattle.std.specs.List.{list_any};
-ghost use Rattle.sdd_catalog.specs.Catalogue.{catalogue_of, parts_of, relation_at, fragment_at, class_at, fragment_of, has_copy, writes, lowest_copy, reads_at, numbers_to};
+ghost use Rattle.sdd_catalog.specs.Catalogue.{catalogue_of, parts_of, relation_at, fragment_at, class_at, IsOf, HoldsKey, fragment_of, has_copy, writes, lowest_copy, reads_at, numbers_to};
 ghost use Rattle.sdd_catalog.specs.Cover.{Cover, ranges_for};
+ghost use Rattle.sdd_catalog.specs.Naming.{AreNamed};
 ghost use Rattle.sdd_catalog.specs.Numbers.{IsWhole};
 ghost use Rattle.sdd_catalog.specs.Rules.{IsValid, IsSound, TellsFirst, faults_of};
 
@@ -12,7 +13,7 @@ use crate::parts::Parts;
 use crate::ranges::{KeyRange, RangeTable, number_for, range_table};
 use crate::resolve::{resolve_classes, resolve_fragments, resolve_relations};
 use crate::resolved::{Class, Classes, Fragment, Fragments, Read, Relation, Relations};
-use sdd_base::{ClassNo, DmNo, FragNo, NoMemory, Parcel, RelNo};
+use sdd_base::{ClassNo, DmNo, FragNo, MAX_DMS, NoMemory, Parcel, RelNo};
 use std::alloc::Global;
 use std::marker::Model;
 
@@ -72,12 +73,13 @@ impl Catalogue {
         })
     }
 
-    /// What holds of every catalogue: it is that of its own parts, which are valid, and what its
-    /// numbers name is there. Takes no memory.
+    /// What holds of every catalogue: it is that of its own parts, which are valid, what its
+    /// numbers name is there, and its names are names. Takes no memory.
     #[tactic(auto, using(crate::proofs::Sound::sound_whole))]
     pub fn known(&self)
         ensures sound { IsSound self.now }
         ensures whole { IsWhole self.now }
+        ensures named { AreNamed self.now }
     {
         let _ = &self.tms;
     }
@@ -152,7 +154,10 @@ impl Catalogue {
     pub fn fragment_of(&self, rel: RelNo, key: i64) -> FragNo
         requires from { 1 ≤ rel.0 }
         requires to { rel.0 ≤ length self.now.relations }
-        ensures { result.0 ≡ fragment_of self.now rel.0 key }
+        ensures there { IsOf self.now rel.0 result.0 }
+        ensures holds { HoldsKey self.now result.0 key }
+        ensures only { (f : ℕ) → IsOf self.now rel.0 f → HoldsKey self.now f key → f ≡ result.0 }
+        ensures number { result.0 ≡ fragment_of self.now rel.0 key }
     {
         self.known();
         FragNo(number_for(self.ranges_of(rel), key))
@@ -230,7 +235,7 @@ impl Parcel for Catalogue {
     }
 }
 
-#[tactic(auto, using(crate::proofs::FragmentOf::indexed, crate::proofs::RoundTrip::resolvable, crate::proofs::RoundTrip::have_numbers, crate::proofs::RoundTrip::at_modules, crate::proofs::RoundTrip::run_at_modules))]
+#[tactic(auto, using(crate::proofs::RoundTrip::resolvable, crate::proofs::RoundTrip::have_numbers, crate::proofs::RoundTrip::at_modules, crate::proofs::RoundTrip::run_at_modules))]
 fn resolve(alloc: Global, parts: &Parts) -> Result<Catalogue, NoMemory>
     requires { IsValid parts.now }
     ensures { IfOk result (λ built. built ≡ catalogue_of parts.now) }
@@ -264,7 +269,7 @@ fn has_fragment(frags: &[FragNo], frag: FragNo) -> bool
 
 /// The lowest number of a module among the copies.
 fn lowest_among(copies: &[DmNo], dms: u32) -> Option<u32>
-    requires { dms ≤ 16 }
+    requires { dms ≤ MAX_DMS }
     ensures { result ≡ find (λ dm. list_any (λ d. d.0 == dm) copies.now) (numbers_to dms) }
 {
     (1..dms + 1).find(|dm| has_copy_at(copies, *dm))

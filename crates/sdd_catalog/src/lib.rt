@@ -25,6 +25,3 @@ pub use parts::{
 pub use resolved::{
     Class, Classes, Column, Columns, Copies, Fragment, Fragments, Read, Reads, Relation, Relations,
 };
-
-#[cfg(test)]
-mod tests;

@@ -113,11 +113,7 @@ fn name_read(fragments: &[Fragment], read: Read) -> Result<ReadPart, NoMemory>
     })
 }
 
-fn name_reads(
-    alloc: Global,
-    fragments: &[Fragment],
-    reads: &[Read],
-) -> Result<ReadParts, NoMemory>
+fn name_reads(alloc: Global, fragments: &[Fragment], reads: &[Read]) -> Result<ReadParts, NoMemory>
     requires { AreRead (length fragments.now) reads.now }
     ensures { IfOk result (λ parts. parts ≡ map (read_part (map (λ f. f.name) fragments.now)) reads.now) }
 {
@@ -128,11 +124,7 @@ fn name_reads(
     Ok(Listed::from_vec(parts))
 }
 
-fn name_writes(
-    alloc: Global,
-    fragments: &[Fragment],
-    writes: &[FragNo],
-) -> Result<Names, NoMemory>
+fn name_writes(alloc: Global, fragments: &[Fragment], writes: &[FragNo]) -> Result<Names, NoMemory>
     requires { AreWritten (length fragments.now) writes.now }
     ensures { IfOk result (λ names. names ≡ map (λ w. name_at (map (λ f. f.name) fragments.now) w.0) writes.now) }
 {

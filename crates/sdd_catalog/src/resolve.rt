@@ -1,28 +1,32 @@
 ghost use Rattle.std.specs.Prelude.{◌≡◌, ◌<◌, ◌^◌, ◌-◌, length, map, IfOk, All};
 ghost use Rattle.sdd_catalog.specs.Names.{number_of};
 ghost use Rattle.sdd_catalog.specs.Catalogue.{column_of, relation_of, fragment_from, read_of, class_of, relation_names, fragment_names};
+ghost use Rattle.sdd_base.specs.Name.{IsName};
 ghost use Rattle.sdd_base.specs.Numbers.{dm_no, frag_no};
+ghost use Rattle.sdd_catalog.specs.Naming.{IsNamed};
 ghost use Rattle.sdd_catalog.specs.Resolving.{HaveNumbers, IsModule, IsAtModules, RunsAtModules};
 
-use crate::named::number_of;
+use crate::named::{copied, number_of};
 use crate::parts::{ClassPart, ColumnPart, FragmentPart, ReadPart, RelationPart};
 use crate::resolved::{
     Class, Classes, Column, Columns, Copies, Fragment, Fragments, Read, Reads, Relation, Relations,
 };
-use sdd_base::{DmNo, FragNo, Frags, Listed, Name, NoMemory, Parcel, RelNo, TmNo};
+use sdd_base::{DmNo, FragNo, Frags, Listed, Name, NoMemory, RelNo, TmNo};
 use std::alloc::Global;
 
 fn resolve_column(column: &ColumnPart) -> Result<Column, NoMemory>
-    ensures { IfOk result (λ resolved. resolved ≡ column_of column.now) }
+    ensures value { IfOk result (λ resolved. resolved ≡ column_of column.now) }
+    ensures named { IfOk result (λ resolved. IsName resolved.name) }
 {
     Ok(Column {
-        name: column.name.copy()?,
+        name: copied(&column.name)?,
         kind: column.kind,
     })
 }
 
 fn resolve_columns(alloc: Global, columns: &[ColumnPart]) -> Result<Columns, NoMemory>
-    ensures { IfOk result (λ resolved. resolved ≡ map column_of columns.now) }
+    ensures value { IfOk result (λ resolved. resolved ≡ map column_of columns.now) }
+    ensures named { IfOk result (λ resolved. All (λ c. IsName c.name) resolved) }
 {
     let mut resolved = Vec::new(alloc);
     for column in columns {
@@ -33,11 +37,12 @@ fn resolve_columns(alloc: Global, columns: &[ColumnPart]) -> Result<Columns, NoM
 
 fn resolve_relation(alloc: Global, relation: &RelationPart) -> Result<Relation, NoMemory>
     requires { length relation.now.columns < 2 ^ 32 - 1 }
-    ensures { IfOk result (λ resolved. resolved ≡ relation_of relation.now) }
+    ensures value { IfOk result (λ resolved. resolved ≡ relation_of relation.now) }
+    ensures named { IfOk result (λ resolved. IsNamed resolved) }
 {
     let columns = relation.columns.as_slice();
     Ok(Relation {
-        name: relation.name.copy()?,
+        name: copied(&relation.name)?,
         columns: resolve_columns(alloc, columns)?,
         key: number_of(&relation.key, columns),
     })
@@ -49,7 +54,8 @@ pub(crate) fn resolve_relations(
     relations: &[RelationPart],
 ) -> Result<Relations, NoMemory>
     requires { HaveNumbers relations.now }
-    ensures { IfOk result (λ resolved. resolved ≡ map relation_of relations.now) }
+    ensures value { IfOk result (λ resolved. resolved ≡ map relation_of relations.now) }
+    ensures named { IfOk result (λ resolved. All IsNamed resolved) }
 {
     let mut resolved = Vec::new(alloc);
     for relation in relations {
@@ -76,10 +82,11 @@ fn resolve_fragment(
 ) -> Result<Fragment, NoMemory>
     requires relations { length relations.now < 2 ^ 32 - 1 }
     requires copies { IsAtModules fragment.now }
-    ensures { IfOk result (λ resolved. resolved ≡ fragment_from (relation_names relations.now) fragment.now) }
+    ensures value { IfOk result (λ resolved. resolved ≡ fragment_from (relation_names relations.now) fragment.now) }
+    ensures named { IfOk result (λ resolved. IsName resolved.name) }
 {
     Ok(Fragment {
-        name: fragment.name.copy()?,
+        name: copied(&fragment.name)?,
         rel: RelNo(number_of(&fragment.relation, relations)),
         least: fragment.from,
         greatest: fragment.to,
@@ -95,7 +102,8 @@ pub(crate) fn resolve_fragments(
 ) -> Result<Fragments, NoMemory>
     requires relations { length relations.now < 2 ^ 32 - 1 }
     requires copies { All IsAtModules fragments.now }
-    ensures { IfOk result (λ resolved. resolved ≡ map (fragment_from (relation_names relations.now)) fragments.now) }
+    ensures value { IfOk result (λ resolved. resolved ≡ map (fragment_from (relation_names relations.now)) fragments.now) }
+    ensures named { IfOk result (λ resolved. All (λ f. IsName f.name) resolved) }
 {
     let mut resolved = Vec::new(alloc);
     for fragment in fragments {
@@ -153,10 +161,11 @@ fn resolve_class(
 ) -> Result<Class, NoMemory>
     requires fragments { length fragments.now < 2 ^ 32 - 1 }
     requires modules { RunsAtModules class.now }
-    ensures { IfOk result (λ resolved. resolved ≡ class_of (fragment_names fragments.now) class.now) }
+    ensures value { IfOk result (λ resolved. resolved ≡ class_of (fragment_names fragments.now) class.now) }
+    ensures named { IfOk result (λ resolved. IsName resolved.name) }
 {
     Ok(Class {
-        name: class.name.copy()?,
+        name: copied(&class.name)?,
         tm: TmNo(class.tm as u8),
         reads: resolve_reads(alloc, fragments, class.reads.as_slice())?,
         writes: resolve_writes(alloc, fragments, class.writes.as_slice())?,
@@ -171,7 +180,8 @@ pub(crate) fn resolve_classes(
 ) -> Result<Classes, NoMemory>
     requires fragments { length fragments.now < 2 ^ 32 - 1 }
     requires modules { All RunsAtModules classes.now }
-    ensures { IfOk result (λ resolved. resolved ≡ map (class_of (fragment_names fragments.now)) classes.now) }
+    ensures value { IfOk result (λ resolved. resolved ≡ map (class_of (fragment_names fragments.now)) classes.now) }
+    ensures named { IfOk result (λ resolved. All (λ c. IsName c.name) resolved) }
 {
     let mut resolved = Vec::new(alloc);
     for class in classes {

@@ -1,4 +1,4 @@
--- What stands in the front of a list of places.
+-- What stands in the front of a list.
 use Rattle.std.proofs.Common.{◌≡◌, ℕ, ◌<◌, ◌≤◌, List, length, take, slice_get, Some, get_or, ◌∙◌, sym, ap, arith, set}
 use Rattle.std.proofs.lemmas.List.{get_or-take, length-take}
 use Rattle.std.proofs.lemmas.Option.{slice_get-get_or}
