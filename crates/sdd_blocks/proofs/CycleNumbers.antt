@@ -42,7 +42,8 @@ module _
         (not_zero_on_cycle j h)).1 (last (share j k h g))
 
     -- the number of an edge of the cycle is that of all
-    number_of_all : (j : ℕ) → Has (edges_of steps) j → HaveNumber blocks steps (slice_index blocks j)
+    number_of_all : (j : ℕ) → Has (edges_of steps) j
+        → HaveNumber blocks steps (slice_index blocks j)
     number_of_all j h k g = number_at k g ∙ ap (λ n. Some n) (same_on_cycle k j g h)
 
 pub one_number_a_cycle : OneNumberACycle

@@ -5,7 +5,7 @@
 //! `specs/Laws.antt`.
 #![tactic(auto)]
 
-ghost use Rattle.std.specs.Prelude.{◌≡◌, ◌<◌, ◌≤◌, ◌^◌, IfOk, All, length};
+ghost use Rattle.std.specs.Prelude.{◌≡◌, ◌<◌, ◌≤◌, IfOk, All, length};
 ghost use Rattle.sdd_blocks.specs.Blocks.{AreBlocks};
 
 mod components;
@@ -23,6 +23,12 @@ pub use law::{law_closed_walks_are_cycles, law_one_number_a_cycle, law_one_numbe
 use sdd_base::NoMemory;
 use std::alloc::Global;
 
+/// The most edges of a graph.
+pub const MAX_EDGES: usize = 1_048_576;
+
+/// The most nodes of a graph.
+pub const MAX_NODES: u32 = 4_096;
+
 /// The block number of each edge of a multigraph, in the order of the edges.
 ///
 /// A simple cycle is a closed walk of at least two different edges that meets no node twice: two
@@ -35,8 +41,8 @@ use std::alloc::Global;
 /// of the number of nodes, on average over a pass), and memory for a few numbers for each edge and node.
 pub fn blocks(alloc: Global, edges: &[(u32, u32)], nodes: u32) -> Result<Vec<u32>, NoMemory>
     requires ends { All (λ e. (e.0 < nodes) × (e.1 < nodes)) edges.now }
-    requires few_edges { length edges.now ≤ 2 ^ 20 }
-    requires few_nodes { nodes ≤ 4096 }
+    requires few_edges { length edges.now ≤ MAX_EDGES }
+    requires few_nodes { nodes ≤ MAX_NODES }
     ensures { IfOk result (λ blocks. AreBlocks edges.now blocks.items) }
 {
     let count = edges.len() as u32;

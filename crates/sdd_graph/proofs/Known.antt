@@ -20,16 +20,20 @@ each_class cat = All-weaker (λ i. (1 ≤ i) × (i ≤ length cat.classes)) (IsC
 verticals_known : (cat : Catalogue) → All (IsEdgeOf cat) (vertical_edges cat)
 verticals_known cat = All-map (IsEdgeOf cat) (λ i. Vertical (class_no i)) (classes_of cat) (each_class cat)
 
-joined_known : (cat : Catalogue) (i j : ℕ) → IsClassOf cat i → IsClassOf cat j → (nat_lt i j && write_sets_meet cat i j) ≡ true → WriteTogether cat i j
+joined_known : (cat : Catalogue) (i j : ℕ) → IsClassOf cat i → IsClassOf cat j
+    → (nat_lt i j && write_sets_meet cat i j) ≡ true → WriteTogether cat i j
 joined_known cat i j first second e =
     let both = and_parts (nat_lt i j) (write_sets_meet cat i j) e in
     record { first = first; second = second; before = ltb-true i j both.0; meet = both.1 }
 
-horizontals_known : (cat : Catalogue) (i : ℕ) → IsClassOf cat i → All (IsEdgeOf cat) (horizontals_from cat i)
+horizontals_known : (cat : Catalogue) (i : ℕ) → IsClassOf cat i
+    → All (IsEdgeOf cat) (horizontals_from cat i)
 horizontals_known cat i is =
     all_kept (IsEdgeOf cat) (IsClassOf cat) (λ j. Horizontal (class_no i) (class_no j)) (λ j. nat_lt i j && write_sets_meet cat i j) (λ j. joined_known cat i j is) (classes_of cat) (each_class cat)
 
-read_known : (cat : Catalogue) (i j f : ℕ) → IsClassOf cat i → IsClassOf cat j → (1 ≤ f) × (f ≤ length cat.fragments) → (not (i == j) && (is_some (reads_at cat i f) && writes cat j f)) ≡ true → ReadsFrom cat i j f
+read_known : (cat : Catalogue) (i j f : ℕ) → IsClassOf cat i → IsClassOf cat j
+    → (1 ≤ f) × (f ≤ length cat.fragments)
+    → (not (i == j) && (is_some (reads_at cat i f) && writes cat j f)) ≡ true → ReadsFrom cat i j f
 read_known cat i j f reader writer there e =
     let apart = and_parts (not (i == j)) (is_some (reads_at cat i f) && writes cat j f) e in
     let both = and_parts (is_some (reads_at cat i f)) (writes cat j f) apart.1 in
@@ -43,11 +47,13 @@ read_known cat i j f reader writer there e =
       written = both.1;
     }
 
-between_known : (cat : Catalogue) (i j : ℕ) → IsClassOf cat i → IsClassOf cat j → All (IsEdgeOf cat) (diagonals_between cat i j)
+between_known : (cat : Catalogue) (i j : ℕ) → IsClassOf cat i → IsClassOf cat j
+    → All (IsEdgeOf cat) (diagonals_between cat i j)
 between_known cat i j reader writer =
     all_kept (IsEdgeOf cat) (λ f. (1 ≤ f) × (f ≤ length cat.fragments)) (diagonal i j) (λ f. not (i == j) && (is_some (reads_at cat i f) && writes cat j f)) (λ f. read_known cat i j f reader writer) (fragments_of cat) (each_to (length cat.fragments))
 
-diagonals_known : (cat : Catalogue) (i : ℕ) → IsClassOf cat i → All (IsEdgeOf cat) (diagonals_from cat i)
+diagonals_known : (cat : Catalogue) (i : ℕ) → IsClassOf cat i
+    → All (IsEdgeOf cat) (diagonals_from cat i)
 diagonals_known cat i is = all_flat (IsEdgeOf cat) (IsClassOf cat) (diagonals_between cat i) (λ j. between_known cat i j is) (classes_of cat) (each_class cat)
 
 -- each edge is one of the catalogue
@@ -61,7 +67,8 @@ edges_known cat =
 class_number : (cat : Catalogue) (i : ℕ) → length cat.classes ≤ 64 → IsClassOf cat i → IsClassNo i
 class_number cat i few is = let to : i ≤ length cat.classes = is.to in record { from = is.from; to = omega arith }
 
-edge_named : (cat : Catalogue) → length cat.classes ≤ 64 → (e : Edge) → IsEdgeOf cat e → NamesClasses e
+edge_named : (cat : Catalogue) → length cat.classes ≤ 64 → (e : Edge) → IsEdgeOf cat e
+    → NamesClasses e
 edge_named cat few (Vertical i) is = class_number cat i.0 few is
 edge_named cat few (Horizontal i j) is = (class_number cat i.0 few is.first, class_number cat j.0 few is.second)
 edge_named cat few (Diagonal i j f) is = (class_number cat i.0 few is.reader, class_number cat j.0 few is.writer)

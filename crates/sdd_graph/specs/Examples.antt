@@ -8,8 +8,7 @@ use Rattle.sdd_catalog.specs.declared.resolved.Class.{Class}
 use Rattle.sdd_catalog.specs.Catalogue.{Catalogue}
 use Rattle.sdd_graph.specs.declared.edge.Edge.{Edge}
 use Rattle.sdd_graph.specs.declared.edge.Edge.TheVariants.{Vertical, Horizontal, Diagonal}
-use Rattle.sdd_base.specs.Numbers.{class_no, frag_no, dm_no, tm_no}
-use Rattle.sdd_base.specs.declared.number.RelNo.{RelNo}
+use Rattle.sdd_base.specs.Numbers.{class_no, frag_no, dm_no, tm_no, rel_no}
 use Rattle.sdd_graph.specs.Graph.{conflict_graph, ends}
 
 abbrev pub vertical : ℕ → Edge
@@ -21,12 +20,14 @@ horizontal i j = Horizontal (class_no i) (class_no j)
 abbrev pub diagonal : ℕ → ℕ → ℕ → Edge
 diagonal i j f = Diagonal (class_no i) (class_no j) (frag_no f)
 
-abbrev rel_no : ℕ → RelNo
-rel_no n = record { 0 = n }
-
 -- a relation of two columns, in two fragments at two modules: keys to 9, and from 10
 abbrev pub item : Relation
-item = record { name = []; columns = record { name = []; kind = kinds.Int } ∷ record { name = []; kind = kinds.Int } ∷ []; key = 1 }
+item =
+    record {
+      name = [];
+      columns = record { name = []; kind = kinds.Int } ∷ record { name = []; kind = kinds.Int } ∷ [];
+      key = 1;
+    }
 
 abbrev pub halves : List Fragment
 halves =
@@ -35,7 +36,8 @@ halves =
     ∷ []
 
 abbrev pub with_classes : List Class → Catalogue
-with_classes classes = record { tms = 2; dms = 2; relations = item ∷ []; fragments = halves; classes = classes }
+with_classes classes =
+    record { tms = 2; dms = 2; relations = item ∷ []; fragments = halves; classes = classes }
 
 abbrev read_from : ℕ × ℕ → Read
 read_from r = record { fragment = frag_no r.0; at = dm_no r.1 }

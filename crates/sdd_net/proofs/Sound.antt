@@ -14,29 +14,35 @@ use Rattle.sdd_net.proofs.Lists.{All-without_at, All-at, All-among, get-append, 
 use Rattle.sdd_net.proofs.Tops.{top_is, top_rises}
 
 -- what is delivered was sent
-pub top_le : (P : ℕ → Type 0) (ns : List ℕ) (b : ℕ) → ((n : ℕ) → P n → n ≤ b) → All P ns → top ns ≤ b
+pub top_le : (P : ℕ → Type 0) (ns : List ℕ) (b : ℕ) → ((n : ℕ) → P n → n ≤ b) → All P ns
+    → top ns ≤ b
 top_le P ns b f h =
     elim (top ns) as (λ k. top ns ≡ k → k ≤ b) [
       | zero ↦ λ e. omega arith
       | suc k ↦ λ e. f (suc k) (All-among P ns (suc k) ((top_is ns).0 k (omega arith)) h)
     ] refl
 
-pub delivered_le : {M : Type 0} (w : Way M) (back : ℕ) → IsSoundWay w back → delivered w ≤ length w.sent
+pub delivered_le : {M : Type 0} (w : Way M) (back : ℕ) → IsSoundWay w back
+    → delivered w ≤ length w.sent
 delivered_le w back h = top_le (IsNumber w.sent) w.arrived (length w.sent) (λ n i. i.1) h.numbers
 
 -- where more was sent and more is acknowledged, packets stay right
-more_packet : {M : Type 0} (sent more : List M) (j k : ℕ) → j ≤ k → (p : Packet M) → IsOf sent j p → IsOf (sent ++ more) k p
+more_packet : {M : Type 0} (sent more : List M) (j k : ℕ) → j ≤ k → (p : Packet M) → IsOf sent j p
+    → IsOf (sent ++ more) k p
 more_packet sent more j k l (Message n m) h = (h.0, get-append sent more (n - 1) m h.1)
 more_packet sent more j k l (Ack i) h = let b : i ≤ j = h in omega arith
 
-more_acks : {M : Type 0} (sent : List M) (j k : ℕ) → j ≤ k → (p : Packet M) → IsOf sent j p → IsOf sent k p
+more_acks : {M : Type 0} (sent : List M) (j k : ℕ) → j ≤ k → (p : Packet M) → IsOf sent j p
+    → IsOf sent k p
 more_acks sent j k l (Message n m) h = h
 more_acks sent j k l (Ack i) h = let b : i ≤ j = h in omega arith
 
-more_numbers : {M : Type 0} (sent : List M) (m : M) → (n : ℕ) → IsNumber sent n → IsNumber (sent ++ m ∷ []) n
+more_numbers : {M : Type 0} (sent : List M) (m : M) → (n : ℕ) → IsNumber sent n
+    → IsNumber (sent ++ m ∷ []) n
 more_numbers sent m n h = (h.0, grind (arith, length-append))
 
-with_flight : {M : Type 0} (w : Way M) (back : ℕ) (flight : List (Packet M)) → IsSoundWay w back → All (IsOf w.sent back) flight → IsSoundWay (record w { flight = flight }) back
+with_flight : {M : Type 0} (w : Way M) (back : ℕ) (flight : List (Packet M)) → IsSoundWay w back
+    → All (IsOf w.sent back) flight → IsSoundWay (record w { flight = flight }) back
 with_flight w back flight h k = record { packets = k; numbers = h.numbers; acked = h.acked }
 
 with_back : {M : Type 0} (w : Way M) (j k : ℕ) → j ≤ k → IsSoundWay w j → IsSoundWay w k
@@ -48,7 +54,9 @@ with_back w j k l h =
     }
 
 -- the packets of a resend
-numbered_of : {M : Type 0} (sent : List M) (j k : ℕ) (ms : List M) → ((i : ℕ) (x : M) → slice_get ms i ≡ Some x → slice_get sent (k + i) ≡ Some x) → All (IsOf sent j) (numbered k ms)
+numbered_of : {M : Type 0} (sent : List M) (j k : ℕ) (ms : List M)
+    → ((i : ℕ) (x : M) → slice_get ms i ≡ Some x → slice_get sent (k + i) ≡ Some x)
+    → All (IsOf sent j) (numbered k ms)
 numbered_of sent j k [] f = All-nil (IsOf sent j)
 numbered_of {M = M} sent j k (m ∷ ms) f =
     All-cons (IsOf sent j) (Message (k + 1) m) (numbered (k + 1) ms)
@@ -74,7 +82,8 @@ put_sound m l h = record {
 without_sound : {M : Type 0} (place : ℕ) (l : Link M) → IsSound l → IsSound (without_packet place l)
 without_sound place l h = record { there = with_flight l.there (delivered l.back) (without_at l.there.flight (place - 1)) h.there (All-without_at (IsOf l.there.sent (delivered l.back)) (place - 1) l.there.flight h.there.packets); back = h.back }
 
-arrives_sound : {M : Type 0} (p : Packet M) (l : Link M) → IsOf l.there.sent (delivered l.back) p → IsSound l → IsSound (arrives p l)
+arrives_sound : {M : Type 0} (p : Packet M) (l : Link M) → IsOf l.there.sent (delivered l.back) p
+    → IsSound l → IsSound (arrives p l)
 arrives_sound {M = M} (Message n m) l of h =
     let rises : delivered l.there ≤ top (n ∷ l.there.arrived) = top_rises n l.there.arrived in
     let within : n - 1 < length l.there.sent = slice_get_within l.there.sent (n - 1) m of.1 in
@@ -95,7 +104,9 @@ arrives_sound (Ack k) l of h =
     record { there = h.there; back = record { packets = h.back.packets; numbers = h.back.numbers; acked = omega (arith, h.back.acked) } }
 
 -- a call on a packet keeps it, if what is done with the packet does
-at_packet : {M : Type 0} (place : ℕ) (f : Packet M → Link M) (l : Link M) → IsSound l → ((p : Packet M) → IsOf l.there.sent (delivered l.back) p → IsSound (f p)) → IsSound (with_packet (packet_at place l) f l)
+at_packet : {M : Type 0} (place : ℕ) (f : Packet M → Link M) (l : Link M) → IsSound l
+    → ((p : Packet M) → IsOf l.there.sent (delivered l.back) p → IsSound (f p))
+    → IsSound (with_packet (packet_at place l) f l)
 at_packet {M = M} place f l h k =
     elim (packet_at place l) as (λ o. packet_at place l ≡ o → IsSound (with_packet o f l)) [
       | None ↦ λ e. h
@@ -125,12 +136,15 @@ resend_sound l h = record {
 turned_sound : {M : Type 0} (l : Link M) → IsSound l → IsSound (turned l)
 turned_sound l h = record { there = h.back; back = h.there }
 
-on_way : {M : Type 0} (c d : Bool) (f : Link M → Link M) (l : Link M) → ((k : Link M) → IsSound k → IsSound (f k)) → IsSound l → IsSound (if c then f l else if d then turned (f (turned l)) else l)
+on_way : {M : Type 0} (c d : Bool) (f : Link M → Link M) (l : Link M)
+    → ((k : Link M) → IsSound k → IsSound (f k)) → IsSound l
+    → IsSound (if c then f l else if d then turned (f (turned l)) else l)
 on_way true d f l h i = h l i
 on_way false true f l h i = turned_sound (f (turned l)) (h (turned l) (turned_sound l i))
 on_way false false f l h i = i
 
-on_link_sound : {M : Type 0} (a b from to : Site) (f : Link M → Link M) (l : Link M) → ((k : Link M) → IsSound k → IsSound (f k)) → IsSound l → IsSound (on_link a b from to f l)
+on_link_sound : {M : Type 0} (a b from to : Site) (f : Link M → Link M) (l : Link M)
+    → ((k : Link M) → IsSound k → IsSound (f k)) → IsSound l → IsSound (on_link a b from to f l)
 on_link_sound a b from to f l h i = on_way (same_site a from && same_site b to) (same_site a to && same_site b from) f l h i
 
 unused_sound : {M : Type 0} → IsSoundWay {M = M} unused 0

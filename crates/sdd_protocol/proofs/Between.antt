@@ -17,12 +17,15 @@ use Rattle.sdd_protocol.specs.declared.protocol.Protocol.TheVariants.{P2, P3}
 use Rattle.sdd_protocol.specs.declared.entry.Entry.{Entry}
 
 -- a filter that nothing passes
-filter_none : {X : Type 0} (p : X → Bool) (xs : List X) → All (λ x. p x ≡ false) xs → filter p xs ≡ []
+filter_none : {X : Type 0} (p : X → Bool) (xs : List X) → All (λ x. p x ≡ false) xs
+    → filter p xs ≡ []
 filter_none p [] h = refl
 filter_none p (x ∷ xs) h = rw (All-head (λ x. p x ≡ false) x xs h) (filter_none p xs (All-tail (λ x. p x ≡ false) x xs h))
 
 -- a range that has all that pass a filter
-pub filter_range : {X : Type 0} (p : X → Bool) (xs : List X) (a b : ℕ) → a ≤ b → ((k : ℕ) (d : X) → k < length xs → p (get_or xs k d) ≡ true → (a ≤ k) × (k < b)) → filter p (take (b - a) (drop a xs)) ≡ filter p xs
+pub filter_range : {X : Type 0} (p : X → Bool) (xs : List X) (a b : ℕ) → a ≤ b
+    → ((k : ℕ) (d : X) → k < length xs → p (get_or xs k d) ≡ true → (a ≤ k) × (k < b))
+    → filter p (take (b - a) (drop a xs)) ≡ filter p xs
 filter_range p xs a b le h =
     let fails : (k : ℕ) (d : _) → k < length xs → ((a ≤ k) × (k < b) → ⊥) → p (get_or xs k d) ≡ false =
     λ k d l n. elim (cases_Bool (p (get_or xs k d))) [ inl t ↦ absurd (n (h k d l t)) | inr f ↦ f ] in
@@ -44,7 +47,8 @@ filter_range p xs a b le h =
     ∙ ap (λ z. filter p z) (take-append-drop a xs)
 
 -- an edge that is covered and between two classes is in their range
-covered_within : (index : DiagonalIndex) (i j k : ℕ) (e : Edge) → Covers index k e → is_between i j e ≡ true → ((range_of index i j).0 ≤ k) × (k < (range_of index i j).1)
+covered_within : (index : DiagonalIndex) (i j k : ℕ) (e : Edge) → Covers index k e
+    → is_between i j e ≡ true → ((range_of index i j).0 ≤ k) × (k < (range_of index i j).1)
 covered_within index i j k (Vertical c) h t = cc
 covered_within index i j k (Horizontal c d) h t = cc
 covered_within index i j k (Diagonal a b f) h t =
@@ -54,7 +58,8 @@ covered_within index i j k (Diagonal a b f) h t =
     subst (λ z. ((range_of index i z).0 ≤ k) × (k < (range_of index i z).1)) writer (subst (λ z. ((range_of index z b.0).0 ≤ k) × (k < (range_of index z b.0).1)) reader h)
 
 -- no range ends before it begins
-range_in_order : (entries : List Entry) (count : ℕ) (index : DiagonalIndex) → IsIndexOf entries count index → (i j : ℕ) → (range_of index i j).0 ≤ (range_of index i j).1
+range_in_order : (entries : List Entry) (count : ℕ) (index : DiagonalIndex)
+    → IsIndexOf entries count index → (i j : ℕ) → (range_of index i j).0 ≤ (range_of index i j).1
 range_in_order entries count index h i j =
     elim (cases_lt (cell index i j) (length index.ranges)) [
       | inl l ↦ (h.within (cell index i j) (0, 0) l).0
@@ -62,14 +67,16 @@ range_in_order entries count index h i j =
     ]
 
 -- the range for two classes has the diagonals between them
-pub diagonals_in_range : (entries : List Entry) (index : DiagonalIndex) → IsIndexOf entries (length entries) index → (i j : ℕ)
+pub diagonals_in_range : (entries : List Entry) (index : DiagonalIndex)
+    → IsIndexOf entries (length entries) index → (i j : ℕ)
     → filter (λ e. is_between i j e.edge) (take ((range_of index i j).1 - (range_of index i j).0) (drop (range_of index i j).0 entries)) ≡ filter (λ e. is_between i j e.edge) entries
 diagonals_in_range entries index h i j =
     filter_range (λ e. is_between i j e.edge) entries (range_of index i j).0 (range_of index i j).1 (range_in_order entries (length entries) index h i j)
     (λ k d l t. covered_within index i j k (get_or entries k d).edge (h.covers k d l) t)
 
 -- what a diagonal asks for is between
-asked_between : (test : ℕ → Bool) (i j : ℕ) (e : Edge) → is_between i j e ≡ false → asked_on test i j e ≡ None
+asked_between : (test : ℕ → Bool) (i j : ℕ) (e : Edge) → is_between i j e ≡ false
+    → asked_on test i j e ≡ None
 asked_between test i j (Vertical c) t = refl
 asked_between test i j (Horizontal c d) t = refl
 asked_between test i j (Diagonal a c f) t =
@@ -88,7 +95,8 @@ nothing_between protocol test i j entry t =
     ]
 
 -- a list with the members that give something gives the same
-filter_map-filter : {A B : Type 0} (f : A → Option B) (p : A → Bool) (xs : List A) → ((x : A) → p x ≡ false → f x ≡ None) → filter_map f (filter p xs) ≡ filter_map f xs
+filter_map-filter : {A B : Type 0} (f : A → Option B) (p : A → Bool) (xs : List A)
+    → ((x : A) → p x ≡ false → f x ≡ None) → filter_map f (filter p xs) ≡ filter_map f xs
 filter_map-filter f p [] h = refl
 filter_map-filter f p (x ∷ xs) h =
     elim (p x) as (λ b. p x ≡ b → filter_map f (cond b (x ∷ filter p xs) (filter p xs)) ≡ filter_map f (x ∷ xs)) [

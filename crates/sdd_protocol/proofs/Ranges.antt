@@ -26,7 +26,8 @@ index_none entries width =
 widened_range : (p : ℕ × ℕ) (k : ℕ) → IsRange k p → IsRange (k + 1) (widened p k)
 widened_range p k h = elim (p.1 == 0) as (λ b. IsRange (k + 1) (cond b k p.0, k + 1)) [ true ↦ (omega arith, omega arith) | false ↦ (omega arith, omega arith) ]
 
-widened_keeps : (p : ℕ × ℕ) (k m : ℕ) → p.1 ≤ k → p.0 ≤ m → m < p.1 → ((widened p k).0 ≤ m) × (m < k + 1)
+widened_keeps : (p : ℕ × ℕ) (k m : ℕ) → p.1 ≤ k → p.0 ≤ m → m < p.1
+    → ((widened p k).0 ≤ m) × (m < k + 1)
 widened_keeps p k m h a b =
     elim (p.1 == 0) as (λ t. (p.1 == 0) ≡ t → (cond t k p.0 ≤ m) × (m < k + 1)) [
       | true ↦ λ e. let z = eqb-true p.1 0 e in absurd (omega arith)
@@ -45,7 +46,8 @@ module _ (entries : List Entry) (count : ℕ) (index : DiagonalIndex) (h : IsInd
   range_at i j p q = h.within (cell index i j) (0, 0) (cell_within i j p q)
 
   -- what is covered stays covered
-  covers_same : (e : Edge) → HasCell index.width e → (k : ℕ) (f : Edge) → Covers index k f → k < count → Covers (with_edge index e count) k f
+  covers_same : (e : Edge) → HasCell index.width e → (k : ℕ) (f : Edge) → Covers index k f
+      → k < count → Covers (with_edge index e count) k f
   covers_same (Vertical i) c k f p l = p
   covers_same (Horizontal i j) c k f p l = p
   covers_same (Diagonal i j g) c k (Vertical a) p l = tt
@@ -76,19 +78,23 @@ module _ (entries : List Entry) (count : ℕ) (index : DiagonalIndex) (h : IsInd
   within_later : All (IsRange (count + 1)) index.ranges
   within_later = All-weaker (IsRange count) (IsRange (count + 1)) (λ p q. (q.0, omega arith)) index.ranges h.within
 
-  within_more : (e : Edge) → HasCell index.width e → All (IsRange (count + 1)) (with_edge index e count).ranges
+  within_more : (e : Edge) → HasCell index.width e
+      → All (IsRange (count + 1)) (with_edge index e count).ranges
   within_more (Vertical i) c = within_later
   within_more (Horizontal i j) c = within_later
   within_more (Diagonal i j g) c =
       All-set (IsRange (count + 1)) index.ranges (cell index i.0 j.0) (widened (range_of index i.0 j.0) count)
       (widened_range (range_of index i.0 j.0) count (range_at i.0 j.0 c.0 c.1)) within_later
 
-  square_more : (e : Edge) → length (with_edge index e count).ranges ≡ (with_edge index e count).width * (with_edge index e count).width
+  square_more : (e : Edge)
+      → length (with_edge index e count).ranges ≡ (with_edge index e count).width * (with_edge index e count).width
   square_more (Vertical i) = h.square
   square_more (Horizontal i j) = h.square
   square_more (Diagonal i j g) = length-set index.ranges (cell index i.0 j.0) (widened (range_of index i.0 j.0) count) ∙ h.square
 
-  pub index_more : (d : Entry) → count < length entries → HasCell index.width (get_or entries count d).edge → IsIndexOf entries (count + 1) (with_edge index (get_or entries count d).edge count)
+  pub index_more : (d : Entry) → count < length entries
+      → HasCell index.width (get_or entries count d).edge
+      → IsIndexOf entries (count + 1) (with_edge index (get_or entries count d).edge count)
   index_more d l c =
       let e = (get_or entries count d).edge in
       record {
@@ -102,13 +108,18 @@ module _ (entries : List Entry) (count : ℕ) (index : DiagonalIndex) (h : IsInd
         ];
       }
 
-width-with_edge : (index : DiagonalIndex) (e : Edge) (k : ℕ) → (with_edge index e k).width ≡ index.width
+width-with_edge : (index : DiagonalIndex) (e : Edge) (k : ℕ)
+    → (with_edge index e k).width ≡ index.width
 width-with_edge index (Vertical i) k = refl
 width-with_edge index (Horizontal i j) k = refl
 width-with_edge index (Diagonal i j f) k = refl
 
 -- one more entry
-pub index_step : (entries : List Entry) (count width : ℕ) (index next : DiagonalIndex) (d : Entry) → next ≡ with_edge index (get_or entries count d).edge count → count < length entries → All (λ e. HasCell width e.edge) entries → (index.width ≡ width) × IsIndexOf entries count index → (next.width ≡ width) × IsIndexOf entries (count + 1) next
+pub index_step : (entries : List Entry) (count width : ℕ) (index next : DiagonalIndex) (d : Entry)
+    → next ≡ with_edge index (get_or entries count d).edge count → count < length entries
+    → All (λ e. HasCell width e.edge) entries
+    → (index.width ≡ width) × IsIndexOf entries count index
+    → (next.width ≡ width) × IsIndexOf entries (count + 1) next
 index_step entries count width index next d e l cells h =
     let edge = (get_or entries count d).edge in (
       ap (λ z. z.width) e ∙ width-with_edge index edge count ∙ h.0,

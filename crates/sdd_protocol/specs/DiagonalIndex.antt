@@ -1,5 +1,6 @@
 -- Where the diagonals of each reader and each writer stand among the entries of a table.
-use Rattle.std.specs.Prelude.{ℕ, ◌+◌, ◌*◌, ◌^◌, ◌<◌, ◌≤◌, ◌==◌, ◌≡◌, replicate, ◌&&◌, if◌then◌else◌, Bool, false, List, length, slice_index_or, slice_set, All}
+use Rattle.std.specs.Prelude.{ℕ, ◌+◌, ◌*◌, ◌<◌, ◌≤◌, ◌==◌, ◌≡◌, replicate, ◌&&◌, if◌then◌else◌, Bool, false, List, length, slice_index_or, slice_set, All}
+use Rattle.sdd_blocks.specs.declared.TheConstants.{MAX_EDGES}
 use Rattle.sdd_graph.specs.declared.edge.Edge.{Edge}
 use Rattle.sdd_graph.specs.declared.edge.Edge.TheVariants.{Vertical, Horizontal, Diagonal}
 use Rattle.sdd_protocol.specs.declared.entry.Entry.{Entry}
@@ -53,7 +54,7 @@ pub record IsIndexOf (entries : List Entry) (count : ℕ) (index : DiagonalIndex
 
 -- the ranges of a table's entries
 pub record IsIndexed (entries : List Entry) (index : DiagonalIndex) : Type 0 where
-  pub few : length entries ≤ 2 ^ 20
+  pub few : length entries ≤ MAX_EDGES
   pub indexed : IsIndexOf entries (length entries) index
 
 -- the classes of a diagonal have rows and columns

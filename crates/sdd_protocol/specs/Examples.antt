@@ -37,23 +37,26 @@ other_block = refl
 pub no_block : protocol_in lines (Diagonal (class_no 2) (class_no 1) (frag_no 1)) 0 ≡ P1
 no_block = refl
 
-pub reader_block : protocol_in (vertical 1 0 ∷ vertical 2 1 ∷ []) (Diagonal (class_no 2) (class_no 1) (frag_no 1)) 1 ≡ P3
+pub reader_block :
+    protocol_in (vertical 1 0 ∷ vertical 2 1 ∷ []) (Diagonal (class_no 2) (class_no 1) (frag_no 1)) 1 ≡ P3
 reader_block = refl
 
 -- at module 1 the reader of both fragments asks its one writer, up to the time of P2
-pub asks_once : conditions two lines 2 1 (frag_no 1 ∷ frag_no 2 ∷ []) 258 255 ≡ cond_of 1 255 (frag_no 1 ∷ []) ∷ []
+pub asks_once : conditions two lines 2 1 (frag_no 1 ∷ frag_no 2 ∷ []) 258 255
+    ≡ cond_of 1 255 (frag_no 1 ∷ []) ∷ []
 asks_once = refl
 
 -- fragment 2 is read at module 2
 pub asks_elsewhere : conditions two lines 2 1 (frag_no 2 ∷ []) 258 255 ≡ []
 asks_elsewhere = refl
 
--- where both fragments are read at one module it asks for both, ascending whatever the order of the given ones
+-- where both fragments are read at one module it asks for both, ascending in whatever order they are given
 abbrev at_one_module : Catalogue
 at_one_module =
     with_classes (class [] (1 ∷ 2 ∷ []) ∷ class ((1, 1) ∷ (2, 1) ∷ []) [] ∷ [])
 
-pub asks_for_both : conditions at_one_module lines 2 1 (frag_no 2 ∷ frag_no 1 ∷ []) 258 255 ≡ cond_of 1 255 (frag_no 1 ∷ frag_no 2 ∷ []) ∷ []
+pub asks_for_both : conditions at_one_module lines 2 1 (frag_no 2 ∷ frag_no 1 ∷ []) 258 255
+    ≡ cond_of 1 255 (frag_no 1 ∷ frag_no 2 ∷ []) ∷ []
 asks_for_both = refl
 
 -- the writer asks nothing of the reader, nor an attempt that reads nothing
@@ -64,12 +67,14 @@ pub reads_nothing : conditions two lines 2 1 [] 258 255 ≡ []
 reads_nothing = refl
 
 -- by P3 it would ask up to its own time
-pub asks_own : conditions two (diagonal 2 1 1 1 P3 ∷ []) 2 1 (frag_no 1 ∷ []) 258 255 ≡ cond_of 1 258 (frag_no 1 ∷ []) ∷ []
+pub asks_own : conditions two (diagonal 2 1 1 1 P3 ∷ []) 2 1 (frag_no 1 ∷ []) 258 255
+    ≡ cond_of 1 258 (frag_no 1 ∷ []) ∷ []
 asks_own = refl
 
 pub asks_nothing : conditions two (diagonal 2 1 1 0 P1 ∷ []) 2 1 (frag_no 1 ∷ []) 258 255 ≡ []
 asks_nothing = refl
 
 -- an attempt of no declared class asks every class for all fragments
-pub undeclared_row : undeclared_conditions two 258 ≡ cond_of 1 258 (frag_no 1 ∷ frag_no 2 ∷ []) ∷ cond_of 2 258 (frag_no 1 ∷ frag_no 2 ∷ []) ∷ []
+pub undeclared_row : undeclared_conditions two 258
+    ≡ cond_of 1 258 (frag_no 1 ∷ frag_no 2 ∷ []) ∷ cond_of 2 258 (frag_no 1 ∷ frag_no 2 ∷ []) ∷ []
 undeclared_row = refl

@@ -2,7 +2,8 @@ ghost use Rattle.std.specs.Prelude.{◌≡◌, ◌*◌, ◌+◌, ◌^◌, ◌<�
 ghost use Rattle.sdd_protocol.specs.DiagonalIndex.{range_of, no_diagonals, with_edge, IsIndexOf, HasCell};
 
 use crate::entry::Entry;
-use sdd_base::{ClassNo, NoMemory};
+use sdd_base::{ClassNo, MAX_CLASSES, NoMemory};
+use sdd_blocks::MAX_EDGES;
 use sdd_graph::Edge;
 use std::alloc::Global;
 use std::marker::Model;
@@ -32,8 +33,8 @@ impl DiagonalIndex {
         entries: &[Entry],
         width: u32,
     ) -> Result<DiagonalIndex, NoMemory>
-        requires few { length entries.now ≤ 2 ^ 20 }
-        requires width { width ≤ 65 }
+        requires few { length entries.now ≤ MAX_EDGES }
+        requires width { width ≤ MAX_CLASSES + 1 }
         requires cells { All (λ e. HasCell width e.edge) entries.now }
         ensures { IfOk result (λ index. IsIndexOf entries.now (length entries.now) index) }
     {
@@ -45,7 +46,7 @@ impl DiagonalIndex {
     }
 
     fn none(alloc: Global, width: u32) -> Result<DiagonalIndex, NoMemory>
-        requires { width ≤ 65 }
+        requires { width ≤ MAX_CLASSES + 1 }
         ensures { IfOk result (λ index. index ≡ no_diagonals width) }
     {
         let ranges = vec![in alloc; (0, 0); width as usize * width as usize]?;
@@ -55,7 +56,7 @@ impl DiagonalIndex {
     /// Widens the range of a diagonal to its place.
     fn add(&mut self, edge: Edge, place: u32)
         requires cell { HasCell self.old.width edge }
-        requires few { place < 2 ^ 20 }
+        requires few { place < MAX_EDGES }
         ensures { self.new ≡ with_edge self.old edge place }
     {
         if let Edge::Diagonal(reader, writer, _) = edge {

@@ -13,7 +13,7 @@ use crate::condition::condition_on;
 use crate::diagonal_index::DiagonalIndex;
 use crate::entry::Entry;
 use crate::protocol::Protocol;
-use sdd_base::{ClassNo, Cond, DmNo, FragNo, NoMemory, Ts};
+use sdd_base::{ClassNo, Cond, DmNo, FragNo, MAX_CLASSES, NoMemory, Ts};
 use sdd_catalog::Catalogue;
 use sdd_graph::Edge;
 use std::alloc::Global;
@@ -109,9 +109,10 @@ impl Table {
         attempt: Attempt,
         classes: u32,
     ) -> Result<Vec<Cond>, NoMemory>
-        requires { classes ≤ 64 }
+        requires { classes ≤ MAX_CLASSES }
         ensures { IfOk result (λ conds.
-            conds.items ≡ conditions_on (is_marked asked.now) self.now attempt (numbers_to classes)) }
+            conds.items
+            ≡ conditions_on (is_marked asked.now) self.now attempt (numbers_to classes)) }
     {
         let mut conds = Vec::new(self.alloc);
         for writer in 1..classes + 1 {
@@ -128,8 +129,10 @@ impl Table {
         attempt: Attempt,
         writer: ClassNo,
     ) -> Result<(), NoMemory>
-        ensures { OnOk result (conds.new.items
-            ≡ conds.old.items ++ conditions_on (is_marked asked.now) self.now attempt (writer.0 ∷ [])) }
+        ensures { OnOk result (
+            conds.new.items
+            ≡ conds.old.items
+            ++ conditions_on (is_marked asked.now) self.now attempt (writer.0 ∷ [])) }
     {
         if let Some(cond) = self.condition_on(asked, attempt, writer)? {
             conds.push(cond)?;

@@ -4,7 +4,7 @@ ghost use Rattle.sdd_catalog.specs.Catalogue.{numbers_to};
 ghost use Rattle.sdd_graph.specs.Graph.{fragments_of};
 ghost use Rattle.sdd_protocol.specs.Conditions.{cond_of, undeclared_conditions};
 
-use sdd_base::{ClassNo, Cond, FragNo, Frags, NoMemory, Parcel, Ts};
+use sdd_base::{ClassNo, Cond, FragNo, Frags, MAX_CLASSES, NoMemory, Parcel, Ts};
 use sdd_catalog::Catalogue;
 use std::alloc::Global;
 
@@ -22,7 +22,7 @@ pub fn undeclared(alloc: Global, cat: &Catalogue, own: Ts) -> Result<Vec<Cond>, 
 
 /// The conditions on so many classes, each for the fragments.
 fn conditions_on(alloc: Global, classes: u32, own: Ts, frags: &Frags) -> Result<Vec<Cond>, NoMemory>
-    requires { classes ≤ 64 }
+    requires { classes ≤ MAX_CLASSES }
     ensures { IfOk result (λ conds.
         conds.items ≡ map (λ c. cond_of c own.0 frags.now) (numbers_to classes)) }
 {

@@ -6,7 +6,7 @@ use Rattle.sdd_base.specs.Numbers.{frag_no}
 use Rattle.sdd_base.specs.declared.number.FragNo.{FragNo}
 use Rattle.sdd_catalog.specs.Catalogue.{numbers_to, class_at}
 use Rattle.sdd_graph.proofs.Lists.{is_among, mark_more}
-use Rattle.sdd_graph.proofs.Tables.{writes_within}
+use Rattle.sdd_graph.proofs.Tables.{writes_within, written_all}
 use Rattle.sdd_graph.proofs.class_uses.written_by.Goals as goal
 
 pub loop-frag-init : goal.loop-frag-init
@@ -43,3 +43,11 @@ loop-frag-preserved c =
     let within : (1 ≤ f.0) × (f.0 ≤ n) = writes_within cat class _ c.known.ensures.whole c.requires written k (frag_no 0) c.loop-frag-test.true in
     ap (λ bs. set bs (f.0 - 1) true) c.loop-frag.invariant
     ∙ mark_more (take k items) _ n f (take_more items k (frag_no 0) c.loop-frag-test.true) within.0
+
+pub returns : goal.returns
+returns c =
+    let cat = c.args.cat.now in
+    let class = c.args.class.0 in
+    c.from_vec.ensures
+    ∙ written_all cat class c.as_slice-frag-items.result.now c.loop-frag.frag-index c.loop-frag.written.items c.requires
+    (c.as_slice-frag-items.ensures ∙ ap (λ z. z.writes) c.class.ensures) c.loop-frag-test.false c.loop-frag.invariant
