@@ -1,11 +1,12 @@
 -- What is told of a sink and of files, by cases.
-use Rattle.std.proofs.Common.{◌≡◌, ℕ, zero, suc, flat_map, slice_index_or, ◌∷◌, [], ◌++◌, drop, None, refl, ap, append_assoc, append-nil, ◌+◌, ◌<◌, ◌≤◌, List, length, take, Option, Some, sym, ◌∙◌, arith, subst, inl, inr}
+use Rattle.std.proofs.Common.{◌≡◌, ℕ, zero, suc, flat_map, slice_index_or, ◌∷◌, [], ◌++◌, drop, None, refl, ap, append_assoc, append-nil, length-append, ◌+◌, ◌<◌, ◌≤◌, List, length, take, Option, Some, sym, ◌∙◌, arith, subst, inl, inr}
 use Rattle.std.proofs.lemmas.Bool.{cases_lt}
 use Rattle.std.specs.Prelude.{IfSome}
-use Rattle.std.proofs.lemmas.List.{take_all, take-append-drop}
+use Rattle.std.proofs.lemmas.Grind.{flat_map-append}
+use Rattle.std.proofs.lemmas.List.{take_all, take_more, take-append-drop}
 use Rattle.std.proofs.Math.Seq.{take-append_seam}
 use Rattle.sdd_base.specs.Outside.{ReadsTo, Rose, with_end}
-use Rattle.sdd_app.specs.Answer.{TakesOrFaults}
+use Rattle.sdd_app.specs.Taking.{TakesOrFaults}
 
 -- what a sink took grows by nothing, and by one text after another
 pub end_nothing : (told : Option (List ℕ)) → told ≡ with_end told []
@@ -17,8 +18,9 @@ end_more None a b = refl
 end_more (Some xs) a b = ap (λ (l : List ℕ). Some l) (append_assoc xs a b)
 
 -- all of it was taken
-pub took_all : (before now : Option (List ℕ)) (f g : ℕ) (text : List ℕ) → now ≡ with_end before text → f ≤ g → TakesOrFaults before now f g text
-took_all before now f g text done later = record { later = later; front = (length text, rw (take_all (length text) text (omega arith)) done, λ lt. absurd (omega arith)) }
+pub took_all : (sure : ℕ → Type 0) (before now : Option (List ℕ)) (f g : ℕ) (text : List ℕ) → now ≡ with_end before text → f ≤ g
+    → ((room : ℕ) → sure room → length text ≤ room → g ≡ f) → TakesOrFaults sure before now f g text
+took_all sure before now f g text done later still = record { later = later; still = still; front = (length text, rw (take_all (length text) text (omega arith)) done, λ lt. absurd (omega arith)) }
 
 rose_since : (f g h : ℕ) → f ≤ g → Rose g h → Rose f h
 rose_since f g h a b = omega arith
@@ -32,9 +34,11 @@ seam text front piece rest n e =
     rw parts (take-append_seam (front ++ take n piece) (drop n piece ++ rest))
 
 -- a front of it was taken, up to a part of a piece at which the sink failed
-pub took_front : (before middle now : Option (List ℕ)) (f g h : ℕ) (text front piece rest : List ℕ) (n : ℕ) → text ≡ (front ++ piece) ++ rest
-    → middle ≡ with_end before front → f ≤ g → now ≡ with_end middle (take n piece) → g ≤ h → Rose g h → TakesOrFaults before now f h text
-took_front before middle now f g h text front piece rest n e taken later more last rose = record {
+pub took_front : (sure : ℕ → Type 0) (before middle now : Option (List ℕ)) (f g h : ℕ) (text front piece rest : List ℕ) (n : ℕ) → text ≡ (front ++ piece) ++ rest
+    → middle ≡ with_end before front → f ≤ g → now ≡ with_end middle (take n piece) → g ≤ h → Rose g h
+    → ((room : ℕ) → sure room → length text ≤ room → ⊥) → TakesOrFaults sure before now f h text
+took_front sure before middle now f g h text front piece rest n e taken later more last rose unsure = record {
+  still = λ room s fits. absurd (unsure room s fits);
   later = omega arith;
   front = (length (front ++ take n piece), rw (seam text front piece rest n e, sym (end_more before front (take n piece))) (more ∙ ap (λ (t : Option (List ℕ)). with_end t (take n piece)) taken), λ lt. rose_since f g h later rose);
 }
@@ -64,3 +68,21 @@ reads_back limit file read bytes r e fits =
       | inl past ↦ let p : IfSome (Some bytes) (λ bs. (read ≡ take (limit + 1) bs) × (limit < length bs)) = subst (λ (o : Option (List ℕ)). IfSome o (λ bs. (read ≡ take (limit + 1) bs) × (limit < length bs))) e (r.past past) in absurd (omega (arith, p.1))
       | inr within ↦ one_told read bytes (sym (r.whole within) ∙ e)
     ]
+
+-- with one piece more, so much more is taken
+pub flat_more : {X : Type 0} (f : X → List ℕ) (xs : List X) (i : ℕ) (d : X) → i < length xs
+    → length (flat_map f (take (i + 1) xs)) ≡ length (flat_map f (take i xs)) + length (f (slice_index_or xs i d))
+flat_more f xs i d lt =
+    let front = flat_map f (take i xs) in
+    ap (λ ys. length (flat_map f ys)) (take_more xs i d lt)
+    ∙ ap (λ l. length l) (flat_map-append f (take i xs) (slice_index_or xs i d ∷ []))
+    ∙ length-append front (f (slice_index_or xs i d) ++ [])
+    ∙ ap (λ l. length front + length l) (append-nil (f (slice_index_or xs i d)))
+
+-- what is taken and one piece are no longer than all
+pub piece_fits : (text front piece rest : List ℕ) → text ≡ (front ++ piece) ++ rest → length front + length piece ≤ length text
+piece_fits text front piece rest e =
+    let whole = ap (λ (l : List ℕ). length l) e in
+    let parts = length-append (front ++ piece) rest in
+    let first = length-append front piece in
+    omega (arith, whole, parts, first)

@@ -25,6 +25,3 @@ mod workload_file;
 
 pub use run::run_sdd1;
 pub use status::Status;
-
-#[cfg(test)]
-mod tests;
