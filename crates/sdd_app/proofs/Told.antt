@@ -1,5 +1,5 @@
 -- What is told of a sink and of files, by cases.
-use Rattle.std.proofs.Common.{◌≡◌, ℕ, zero, suc, flat_map, slice_index_or, ◌∷◌, [], ◌++◌, drop, None, refl, ap, append_assoc, append-nil, length-append, ◌+◌, ◌<◌, ◌≤◌, List, length, take, Option, Some, sym, ◌∙◌, arith, subst, inl, inr}
+use Rattle.std.proofs.Common.{◌≡◌, ℕ, zero, suc, flat_map, slice_index_or, ◌∷◌, [], ◌++◌, drop, None, refl, ap, append_assoc, append-nil, length-append, ◌+◌, ◌-◌, ◌<◌, ◌≤◌, List, length, take, Option, Some, sym, ◌∙◌, arith, subst, inl, inr}
 use Rattle.std.proofs.lemmas.Bool.{cases_lt}
 use Rattle.std.specs.Prelude.{IfSome}
 use Rattle.std.proofs.lemmas.Grind.{flat_map-append}
@@ -83,3 +83,20 @@ pub flat_next : {X : Type 0} (f : X → List ℕ) (xs : List X) (i : ℕ) (d : X
 flat_next f xs i d lt =
     ap (λ ys. flat_map f ys) (take_more xs i d lt) ∙ flat_map-append f (take i xs) (slice_index_or xs i d ∷ [])
     ∙ ap (λ l. flat_map f (take i xs) ++ l) (append-nil (f (slice_index_or xs i d)))
+
+pub more_taken : (before middle now : Option (List ℕ)) (front piece next : List ℕ) → middle ≡ with_end before front → now ≡ with_end middle piece → next ≡ front ++ piece
+    → now ≡ with_end before next
+more_taken before middle now front piece next taken more e =
+    more ∙ ap (λ (t : Option (List ℕ)). with_end t piece) taken ∙ end_more before front piece ∙ ap (λ (l : List ℕ). with_end before l) (sym e)
+
+-- a sink that was sure to take all is sure to take what is left
+pub piece_more : (sure_middle sure_now : ℕ → Type 0) (before middle now room : ℕ) (text front piece next rest : List ℕ)
+    → ((left : ℕ) → length piece ≤ left → sure_middle left → sure_now (left - length piece)) → ((left : ℕ) → length piece ≤ left → sure_middle left → now ≡ middle)
+    → next ≡ front ++ piece → text ≡ (front ++ piece) ++ rest → length text ≤ room
+    → sure_middle (room - length front) × (middle ≡ before) → sure_now (room - length next) × (now ≡ before)
+piece_more sure_middle sure_now before middle now room text front piece next rest goes stands e whole fits was =
+    let within : length front + length piece ≤ length text = piece_fits text front piece rest whole in
+    let long : length next ≡ length front + length piece = ap (λ (l : List ℕ). length l) e ∙ length-append front piece in
+    let left : length piece ≤ room - length front = omega (arith, within, fits) in
+    let same : (room - length front) - length piece ≡ room - length next = omega (arith, long) in
+    (subst sure_now same (goes (room - length front) left was.0), stands (room - length front) left was.0 ∙ was.1)
