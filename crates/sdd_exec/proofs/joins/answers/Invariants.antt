@@ -1,7 +1,7 @@
 use Rattle.std.proofs.Common.{◌≡◌, ◌≤◌, length, take, filter_map}
 use Rattle.sdd_lang.specs.Query.{distinct}
 use Rattle.sdd_exec.specs.Choices.{row_from}
-use Rattle.sdd_exec.proofs.join.answers.Given as goal
+use Rattle.sdd_exec.proofs.joins.answers.Given as goal
 
 abbrev pub invariant-loop-choice : goal.invariant-loop-choice
 invariant-loop-choice l =

@@ -3,7 +3,7 @@ use Rattle.std.specs.List.{flat_map}
 use Rattle.std.specs.HashMap as hash
 use Rattle.std.specs.Option.{option_map_or}
 use Rattle.sdd_exec.specs.Choices.{same_row, key_for, picked, placed}
-use Rattle.sdd_exec.proofs.join.extend_all.Given as goal
+use Rattle.sdd_exec.proofs.joins.extend_all.Given as goal
 
 abbrev pub invariant-loop-choice : goal.invariant-loop-choice
 invariant-loop-choice l =

@@ -1,18 +1,19 @@
-ghost use Rattle.std.specs.Prelude.{◌≡◌, ◌<◌, ◌≤◌, ◌++◌, ◌∷◌, true, pos, ℕ, length, map, List, [], IfOk, MatchOption, slice_index_or, filter_map};
+//! The join of a query's parts.
+ghost use Rattle.std.specs.Prelude.{◌≡◌, ◌<◌, ◌≤◌, ◌++◌, ◌∷◌, true, ℕ, length, map, List, [], IfOk, MatchOption, slice_index_or, filter_map};
 ghost use Rattle.std.specs.List.{flat_map};
 ghost use Rattle.std.specs.HashMap as hash;
 ghost use Rattle.std.specs.Option.{option_map_or};
-ghost use Rattle.sdd_base.specs.declared.value.Value.{Value};
-ghost use Rattle.sdd_base.specs.declared.value.Value.TheVariants.{Int};
 ghost use Rattle.sdd_lang.specs.Query.{product, selection, projection, distinct};
 ghost use Rattle.sdd_lang.specs.Source.{within};
+ghost use Rattle.sdd_lang.specs.Tuples.{rows_lent};
 ghost use Rattle.sdd_exec.specs.Choices as joins;
 
-use crate::choice::{Choice, is_there, meets_all, placed, projected};
+use crate::choice::{Choice, placed, tuple_of};
 use crate::index::{Index, index, places_of};
+use crate::parts::Parts;
 use crate::tie::{Tie, key_for, ties};
-use sdd_base::{NoMemory, Row, RowList, Value};
-use sdd_lang::{Condition, Ref};
+use sdd_base::{NoMemory, Row, RowList};
+use sdd_lang::{Condition, Ref, meets_all, project};
 use std::alloc::Global;
 use std::collections::BTreeSet;
 
@@ -68,25 +69,23 @@ fn extend(
 /// The choices with each place of a part that the index has for them.
 fn extend_all(
     alloc: Global,
-    parts: &[RowList],
+    parts: &Parts,
     kept: &[Choice],
     part: usize,
     ties: &[Tie],
     index: &Index,
-    zero: &Value,
 ) -> Result<Vec<Choice>, NoMemory>
-    requires { zero.now ≡ Int (pos 0) }
     ensures { let found = λ (choice : List ℕ). option_map_or (λ v. v.items) (hash.get joins.same_row index.now (joins.key_for ties.now (joins.picked parts.now choice))) [] in
         IfOk result (λ extended. extended.items ≡ flat_map (λ (choice : List ℕ). map (joins.placed (length parts.now) choice part) (found choice)) kept.now) }
 {
     let mut made = Vec::new(alloc);
     for choice in kept {
-        let key = key_for(alloc, ties, parts, choice.as_slice(), zero)?;
+        let key = key_for(alloc, ties, parts, choice.as_slice())?;
         let places = places_of(index, &key);
         extend(
             alloc,
             &mut made,
-            parts.len(),
+            parts.count(),
             choice.as_slice(),
             part,
             places,
@@ -98,20 +97,18 @@ fn extend_all(
 /// The choices with the rows of one more part.
 fn take_part(
     alloc: Global,
-    parts: &[RowList],
+    parts: &Parts,
     conds: &[Condition],
     taken: &[usize],
     kept: &[Choice],
     part: usize,
-    zero: &Value,
 ) -> Result<Vec<Choice>, NoMemory>
-    requires zero { zero.now ≡ Int (pos 0) }
-    requires part { part < length parts.now }
+    requires { part < length parts.now }
     ensures { IfOk result (λ extended. extended.items ≡ flat_map (joins.extensions parts.now conds.now taken.now part) kept.now) }
 {
     let ties = ties(alloc, taken, part, conds)?;
-    let index = index(alloc, parts[part].as_slice(), part, conds, &ties, zero)?;
-    extend_all(alloc, parts, kept, part, &ties, &index, zero)
+    let index = index(alloc, parts.rows(part), part, conds, &ties)?;
+    extend_all(alloc, parts, kept, part, &ties, &index)
 }
 
 /// What a join has reached: the parts that it took, and choices that have places of these.
@@ -138,13 +135,11 @@ fn begin(alloc: Global) -> Result<Reached, NoMemory>
 #[tactic(auto, using(crate::proofs::Complete::take_steps))]
 fn take(
     alloc: Global,
-    parts: &[RowList],
+    parts: &Parts,
     conds: &[Condition],
     reached: Reached,
     part: usize,
-    zero: &Value,
 ) -> Result<Reached, NoMemory>
-    requires zero { zero.now ≡ Int (pos 0) }
     requires part { part < length parts.now }
     requires complete { joins.IsComplete parts.now conds.now reached.taken.items reached.kept.items }
     ensures complete { IfOk result (λ next. joins.IsComplete parts.now conds.now next.taken.items next.kept.items) }
@@ -155,7 +150,7 @@ fn take(
     if taken.contains(&part) {
         return Ok(Reached { taken, kept });
     }
-    let kept = take_part(alloc, parts, conds, &taken, &kept, part, zero)?;
+    let kept = take_part(alloc, parts, conds, &taken, &kept, part)?;
     taken.push(part)?;
     Ok(Reached { taken, kept })
 }
@@ -164,47 +159,55 @@ fn take(
 #[tactic(auto, using(crate::proofs::Complete::choice_steps))]
 fn choices(
     alloc: Global,
-    parts: &[RowList],
+    parts: &Parts,
     conds: &[Condition],
-    zero: &Value,
 ) -> Result<Vec<Choice>, NoMemory>
-    requires { zero.now ≡ Int (pos 0) }
     ensures { IfOk result (λ kept. joins.HasAll parts.now conds.now kept.items) }
 {
     let mut reached = begin(alloc)?;
-    for _step in 0..parts.len() {
-        let part = next_part(alloc, parts.len(), reached.taken.as_slice(), conds)?;
-        reached = take(alloc, parts, conds, reached, part, zero)?;
+    for _step in 0..parts.count() {
+        let part = next_part(alloc, parts.count(), reached.taken.as_slice(), conds)?;
+        reached = take(alloc, parts, conds, reached, part)?;
     }
-    for part in 0..parts.len() {
-        reached = take(alloc, parts, conds, reached, part, zero)?;
+    for part in 0..parts.count() {
+        reached = take(alloc, parts, conds, reached, part)?;
     }
     let Reached { taken: _, kept } = reached;
     Ok(kept)
 }
 
-/// Adds the listed columns of a choice, where its rows meet the conditions.
+/// Adds the listed columns of a tuple, where it meets the conditions.
+fn add_tuple(
+    alloc: Global,
+    rows: &mut BTreeSet<Row>,
+    conds: &[Condition],
+    out: &[Ref],
+    tuple: &[&Row],
+) -> Result<(), NoMemory>
+    ensures { IfOk result (λ _. rows.new.keys ≡ joins.with_found (joins.row_of_tuple out.now conds.now (rows_lent tuple.now)) rows.old.keys) }
+{
+    if !meets_all(conds, tuple) {
+        return Ok(());
+    }
+    rows.insert(project(alloc, out, tuple)?)?;
+    Ok(())
+}
+
+/// Adds the listed columns of a choice, where its rows are there and meet the conditions.
 fn add_answer(
     alloc: Global,
     rows: &mut BTreeSet<Row>,
-    parts: &[RowList],
+    parts: &Parts,
     conds: &[Condition],
     out: &[Ref],
     choice: &[usize],
-    zero: &Value,
 ) -> Result<(), NoMemory>
-    requires { zero.now ≡ Int (pos 0) }
     ensures { IfOk result (λ _. rows.new.keys ≡ joins.with_found (joins.row_from parts.now out.now conds.now choice.now) rows.old.keys) }
 {
-    if !is_there(parts, choice) {
-        return Ok(());
+    match tuple_of(alloc, parts, choice)? {
+        Some(tuple) => add_tuple(alloc, rows, conds, out, &tuple),
+        None => Ok(()),
     }
-    if !meets_all(parts, choice, conds, zero) {
-        return Ok(());
-    }
-    let row = projected(alloc, parts, choice, out, zero)?;
-    rows.insert(row)?;
-    Ok(())
 }
 
 /// The listed columns of the choices that meet the conditions, ascending, each once; None where
@@ -212,19 +215,17 @@ fn add_answer(
 #[tactic(auto, using(crate::proofs::Steps::answer_steps))]
 fn answers(
     alloc: Global,
-    parts: &[RowList],
+    parts: &Parts,
     conds: &[Condition],
     out: &[Ref],
     kept: &[Choice],
     room: usize,
-    zero: &Value,
 ) -> Result<Option<BTreeSet<Row>>, NoMemory>
-    requires { zero.now ≡ Int (pos 0) }
     ensures { let rows = distinct (filter_map (joins.row_from parts.now out.now conds.now) kept.now) in IfOk result (λ found. MatchOption found (room < length rows) (λ s. (s.keys ≡ rows) × (length rows ≤ room))) }
 {
     let mut rows = BTreeSet::new(alloc);
     for choice in kept {
-        add_answer(alloc, &mut rows, parts, conds, out, choice.as_slice(), zero)?;
+        add_answer(alloc, &mut rows, parts, conds, out, choice.as_slice())?;
         if rows.len() > room {
             return Ok(None);
         }
@@ -239,25 +240,6 @@ fn listed(alloc: Global, rows: BTreeSet<Row>) -> Result<RowList, NoMemory>
     Ok(RowList::from_vec(rows.into_iter().collect(alloc)?))
 }
 
-/// The answer of a query, where `zero` is the value of a column that isn't there.
-fn join_with(
-    alloc: Global,
-    parts: &[RowList],
-    out: &[Ref],
-    conds: &[Condition],
-    room: usize,
-    zero: &Value,
-) -> Result<Option<RowList>, NoMemory>
-    requires { zero.now ≡ Int (pos 0) }
-    ensures { IfOk result (λ rows. rows ≡ within room (distinct (projection out.now (selection conds.now (product parts.now))))) }
-{
-    let kept = choices(alloc, parts, conds, zero)?;
-    match answers(alloc, parts, conds, out, &kept, room, zero)? {
-        None => Ok(None),
-        Some(rows) => Ok(Some(listed(alloc, rows)?)),
-    }
-}
-
 /// The answer of a query over these rows of its parts, or None where it has more than `room` rows.
 ///
 /// Parts are taken one after the other, at each step one that an equality ties to those that were
@@ -266,13 +248,16 @@ fn join_with(
 /// step for each row of the answer.
 pub fn join(
     alloc: Global,
-    parts: &[RowList],
+    parts: &Parts,
     out: &[Ref],
     conds: &[Condition],
     room: usize,
 ) -> Result<Option<RowList>, NoMemory>
     ensures { IfOk result (λ rows. rows ≡ within room (distinct (projection out.now (selection conds.now (product parts.now))))) }
 {
-    let zero = Value::Int(0);
-    join_with(alloc, parts, out, conds, room, &zero)
+    let kept = choices(alloc, parts, conds)?;
+    match answers(alloc, parts, conds, out, &kept, room)? {
+        None => Ok(None),
+        Some(rows) => Ok(Some(listed(alloc, rows)?)),
+    }
 }

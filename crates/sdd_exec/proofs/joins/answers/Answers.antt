@@ -2,7 +2,7 @@ use Rattle.std.proofs.Common.{◌≡◌, ◌<◌, ◌+◌, length, take, arith, 
 use Rattle.sdd_lang.specs.Query.{distinct}
 use Rattle.sdd_exec.specs.Choices.{row_from}
 use Rattle.sdd_exec.proofs.Steps.{found_next, part_is_fewer}
-use Rattle.sdd_exec.proofs.join.answers.Goals as goal
+use Rattle.sdd_exec.proofs.joins.answers.Goals as goal
 
 pub returns-then-len-room : goal.returns-then-len-room
 returns-then-len-room c =

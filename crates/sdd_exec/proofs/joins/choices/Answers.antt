@@ -1,6 +1,6 @@
 use Rattle.std.proofs.Common.{arith}
 use Rattle.sdd_exec.proofs.Complete.{complete_end}
-use Rattle.sdd_exec.proofs.join.choices.Goals as goal
+use Rattle.sdd_exec.proofs.joins.choices.Goals as goal
 
 pub returns : goal.returns
 returns c =

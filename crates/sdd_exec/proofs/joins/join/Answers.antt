@@ -1,6 +1,6 @@
 use Rattle.std.proofs.Common.{◌∙◌}
 use Rattle.sdd_exec.proofs.Product.{join_is_answer, many_rows, few_rows}
-use Rattle.sdd_exec.proofs.join.join_with.Goals as goal
+use Rattle.sdd_exec.proofs.joins.join.Goals as goal
 
 pub returns-in-None : goal.returns-in-None
 returns-in-None c =
