@@ -1,8 +1,8 @@
 use Rattle.std.proofs.Common.{◌≡◌, ◌++◌, drop, flat_map}
-use Rattle.sdd_words.specs.Words.{spaced}
 use Rattle.sdd_base.specs.declared.value.Value.{Value}
-use Rattle.sdd_script.specs.Spelling.{value_word}
-use Rattle.sdd_script.proofs.write_words.put_values.Given as goal
+use Rattle.sdd_words.specs.Values.{value_word}
+use Rattle.sdd_words.specs.Words.{spaced}
+use Rattle.sdd_words.proofs.write.put_values.Given as goal
 
 -- what was written and what is left to write is all of it
 abbrev pub invariant-values : goal.invariant-values
