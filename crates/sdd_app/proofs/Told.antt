@@ -33,12 +33,20 @@ seam text front piece rest n e =
     ∙ append_assoc (front ++ take n piece) (drop n piece) rest in
     rw parts (take-append_seam (front ++ take n piece) (drop n piece ++ rest))
 
+-- what is taken and one piece are no longer than all
+pub piece_fits : (text front piece rest : List ℕ) → text ≡ (front ++ piece) ++ rest → length front + length piece ≤ length text
+piece_fits text front piece rest e =
+    let whole = ap (λ (l : List ℕ). length l) e in
+    let parts = length-append (front ++ piece) rest in
+    let first = length-append front piece in
+    omega (arith, whole, parts, first)
+
 -- a front of it was taken, up to a part of a piece at which the sink failed
 pub took_front : (sure : ℕ → Type 0) (before middle now : Option (List ℕ)) (f g h : ℕ) (text front piece rest : List ℕ) (n : ℕ) → text ≡ (front ++ piece) ++ rest
     → middle ≡ with_end before front → f ≤ g → now ≡ with_end middle (take n piece) → g ≤ h → Rose g h
-    → ((room : ℕ) → sure room → length text ≤ room → ⊥) → TakesOrFaults sure before now f h text
+    → ((room : ℕ) → sure room → length text ≤ room → length front + length piece ≤ room → ⊥) → TakesOrFaults sure before now f h text
 took_front sure before middle now f g h text front piece rest n e taken later more last rose unsure = record {
-  still = λ room s fits. absurd (unsure room s fits);
+  still = λ room s fits. absurd (unsure room s fits (omega (arith, fits, piece_fits text front piece rest e)));
   later = omega arith;
   front = (length (front ++ take n piece), rw (seam text front piece rest n e, sym (end_more before front (take n piece))) (more ∙ ap (λ (t : Option (List ℕ)). with_end t (take n piece)) taken), λ lt. rose_since f g h later rose);
 }
@@ -69,20 +77,9 @@ reads_back limit file read bytes r e fits =
       | inr within ↦ one_told read bytes (sym (r.whole within) ∙ e)
     ]
 
--- with one piece more, so much more is taken
-pub flat_more : {X : Type 0} (f : X → List ℕ) (xs : List X) (i : ℕ) (d : X) → i < length xs
-    → length (flat_map f (take (i + 1) xs)) ≡ length (flat_map f (take i xs)) + length (f (slice_index_or xs i d))
-flat_more f xs i d lt =
-    let front = flat_map f (take i xs) in
-    ap (λ ys. length (flat_map f ys)) (take_more xs i d lt)
-    ∙ ap (λ l. length l) (flat_map-append f (take i xs) (slice_index_or xs i d ∷ []))
-    ∙ length-append front (f (slice_index_or xs i d) ++ [])
-    ∙ ap (λ l. length front + length l) (append-nil (f (slice_index_or xs i d)))
-
--- what is taken and one piece are no longer than all
-pub piece_fits : (text front piece rest : List ℕ) → text ≡ (front ++ piece) ++ rest → length front + length piece ≤ length text
-piece_fits text front piece rest e =
-    let whole = ap (λ (l : List ℕ). length l) e in
-    let parts = length-append (front ++ piece) rest in
-    let first = length-append front piece in
-    omega (arith, whole, parts, first)
+-- one piece more
+pub flat_next : {X : Type 0} (f : X → List ℕ) (xs : List X) (i : ℕ) (d : X) → i < length xs
+    → flat_map f (take (i + 1) xs) ≡ flat_map f (take i xs) ++ f (slice_index_or xs i d)
+flat_next f xs i d lt =
+    ap (λ ys. flat_map f ys) (take_more xs i d lt) ∙ flat_map-append f (take i xs) (slice_index_or xs i d ∷ [])
+    ∙ ap (λ l. flat_map f (take i xs) ++ l) (append-nil (f (slice_index_or xs i d)))

@@ -16,7 +16,7 @@ use Rattle.sdd_app.specs.Endings.{FilesRead, IsRead, ToItsEnd}
 use Rattle.sdd_app.specs.Listing.{Tells}
 use Rattle.sdd_app.specs.Reach.{IsFirstCatalogue, is_first_workload}
 use Rattle.sdd_app.specs.Serially.{serial_text}
-use Rattle.sdd_app.specs.Verdict.{Verdict, NoForm, Prints, FaultyCatalogue, FaultyWorkload, NotBuilt, status_of, IsRefusal, Explains}
+use Rattle.sdd_app.specs.Verdict.{Verdict, NoForm, Prints, FaultyCatalogue, FaultyWorkload, NotBuilt, status_of, IsRefusal, Explains, Answers}
 use Rattle.sdd_app.specs.declared.listing.Listing.{Listing}
 use Rattle.sdd_app.specs.declared.listing.Listing.TheVariants as listings
 use Rattle.sdd_app.specs.declared.status.Status.{Status}
@@ -86,6 +86,15 @@ pub other_workload : (fs : List ShelfFile) (work : List ℕ) (cat : Catalogue) (
     → ComesToRun fs work cat NotBuilt
 other_workload fs work cat w first e takes =
     inl (first, ap (λ r. option_map (run_verdict cat) r) e ∙ ap (λ v. Some v) (run_takes cat w false takes))
+
+-- what a command tells, the call of its words tells
+comes_by : (fs : List ShelfFile) (ws : List (List ℕ)) (form : Form) (v : Verdict) → form_in ws ≡ Some form → FormComesTo fs form v → ComesTo fs ws v
+comes_by fs ws form v e p = subst (λ o. MatchOption o (v ≡ NoForm) (λ f. FormComesTo fs f v)) (sym e) p
+
+pub words_answer : {T : Type 0} (r : Result T Status) (text : T → List ℕ) (fs : List ShelfFile) (ws : List (List ℕ)) (form : Form) → form_in ws ≡ Some form
+    → Answers r text (FormComesTo fs form) → Answers r text (ComesTo fs ws)
+words_answer (Ok x) text fs ws form e p = comes_by fs ws form (Prints (text x)) e p
+words_answer (Err s) text fs ws form e p = explains_more s (FormComesTo fs form) (ComesTo fs ws) (λ v q. comes_by fs ws form v e q) p
 
 -- a call comes to one status
 

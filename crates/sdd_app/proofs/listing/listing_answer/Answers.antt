@@ -23,3 +23,13 @@ returns-clause-told g c = λ fs told.
 
 pub returns-clause-ended : goal.returns-clause-ended
 returns-clause-ended g c = let e = c.in_ok-catalogue.ensures.ended in one_ended _ _ _ e.0 e.1
+
+pub returns-in_err-listed-clause-surely : goal.returns-in_err-listed-clause-surely
+returns-in_err-listed-clause-surely g c = λ free fs sure told some.
+    let p = err_from_is_err_and c.from_residual-in_err-listed.result c.from_residual-in_err-listed.ensures.1 in
+    let k = c.in_ok-catalogue.ensures.surely free fs sure told some in
+    rw (p.1, p.2) (λ is. absurd cc, k.2)
+
+pub returns-clause-surely : goal.returns-clause-surely
+returns-clause-surely g c = λ free fs sure told some.
+    let k = c.in_ok-catalogue.ensures.surely free fs sure told some in (tt, k.2)

@@ -6,6 +6,7 @@ use Rattle.sdd_app.specs.Verdict.{ComesOfFiles}
 use Rattle.sdd_app.specs.declared.status.Status.TheVariants.{Done, WriteFault}
 use Rattle.sdd_app.proofs.FileReads.{if_err_more, not_usage}
 use Rattle.sdd_app.proofs.Forms.{no_form, found_form}
+use Rattle.sdd_app.proofs.Verdicts.{words_answer}
 use Rattle.sdd_app.proofs.run.answer.Goals as goal
 
 pub returns-in-None-clause-told : goal.returns-in-None-clause-told
@@ -14,7 +15,9 @@ returns-in-None-clause-told g c = λ fs told. rw (no_form (map string_bytes c.ar
 pub returns-in-Some-clause-told : goal.returns-in-Some-clause-told
 returns-in-Some-clause-told g c = λ fs told.
     let found = c.in-Some.ensures.found in
-    rw (found_form (map string_bytes c.args.words.now) (form_of c.in-Some.command) found.0 found.1) (c.carried_out.ensures.told fs told)
+    let words = map string_bytes c.args.words.now in
+    let form = form_of c.in-Some.command in
+    words_answer c.carried_out.result (λ v. v.items) fs words form (found_form words form found.0 found.1) (c.carried_out.ensures.told fs told)
 
 pub returns-in-Some-clause-ended : goal.returns-in-Some-clause-ended
 returns-in-Some-clause-ended g c =

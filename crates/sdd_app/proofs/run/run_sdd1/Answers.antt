@@ -51,7 +51,7 @@ returns-in-Ok-write_text-clause-shelf_still g c = λ free fs shelf told there. (
 
 pub returns-in-Ok-write_text-clause-out_still : goal.returns-in-Ok-write_text-clause-out_still
 returns-in-Ok-write_text-clause-out_still g c = λ room fs sure told fits.
-    (c.write_text.ensures.surely room (fits c.in-Ok.text.items (c.in-Ok.ensures.told fs told)) sure).1
+    (c.write_text.ensures.surely room (rw c.as_slice.ensures.value (fits c.in-Ok.text.items (c.in-Ok.ensures.told fs told))) sure).1
 
 pub returns-in-Ok-clause-refused : goal.returns-in-Ok-clause-refused
 returns-in-Ok-clause-refused g c = λ fs v told comes refusal shelf.
