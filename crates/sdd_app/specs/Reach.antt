@@ -2,6 +2,7 @@
 use Rattle.std.specs.Prelude.{◌^◌, ◌-◌, ◌≡◌, refl, pos, negsuc, IsTrue, Bool, true, false, ◌&&◌, ◌||◌, List, [], ◌∷◌, map, length}
 use Rattle.std.specs.List.{list_all}
 use Rattle.sdd_base.specs.Words.{is_empty}
+use Rattle.sdd_base.specs.Numbers.{dm_no, frag_no}
 use Rattle.sdd_base.specs.declared.number.TxnNo.{TxnNo}
 use Rattle.sdd_base.specs.declared.event.Event.{Event}
 use Rattle.sdd_base.specs.declared.event.Event.TheVariants.{Submit, Settle}
@@ -22,11 +23,11 @@ IsPairs r = (map (λ (c : Column). c.kind) r.columns ≡ Int ∷ Int ∷ []) × 
 
 -- all of the first relation, with one copy at the first data module
 abbrev pub IsWhole : Fragment → Type 0
-IsWhole f = (f.rel ≡ 1) × (f.least ≡ negsuc (2 ^ 63 - 1)) × (f.greatest ≡ pos (2 ^ 63 - 1)) × (f.copies ≡ 1 ∷ [])
+IsWhole f = (f.rel.0 ≡ 1) × (f.least ≡ negsuc (2 ^ 63 - 1)) × (f.greatest ≡ pos (2 ^ 63 - 1)) × (f.copies ≡ dm_no 1 ∷ [])
 
 -- a class at the first module that reads and writes the first fragment
 abbrev pub IsOwner : Class → Type 0
-IsOwner c = (c.tm ≡ 1) × (c.reads ≡ (1, 1) ∷ []) × (c.writes ≡ 1 ∷ [])
+IsOwner c = (c.tm.0 ≡ 1) × (c.reads ≡ record { fragment = frag_no 1; at = dm_no 1 } ∷ []) × (c.writes ≡ frag_no 1 ∷ [])
 
 -- one module of each kind, one relation of two numbers in one fragment, one class: `run` takes it under any names
 pub record IsFirstCatalogue (cat : Catalogue) : Type 0 where

@@ -13,7 +13,6 @@ mod check;
 mod command;
 mod edges;
 mod listing;
-mod number;
 mod reach;
 mod report;
 mod run;

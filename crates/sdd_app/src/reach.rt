@@ -3,12 +3,13 @@ ghost use Rattle.std.specs.Prelude.{◌≡◌, ◌↔◌, ◌||◌, ◌∷◌, [
 ghost use Rattle.std.specs.List.{list_all};
 ghost use Rattle.sdd_catalog.specs.declared.resolved.Column as shown;
 ghost use Rattle.sdd_catalog.specs.declared.parts.Kind.TheVariants.{Int};
+ghost use Rattle.sdd_base.specs.Numbers.{dm_no, frag_no};
 ghost use Rattle.sdd_base.specs.Words.{is_empty};
 ghost use Rattle.sdd_lang.specs.declared.transaction.Txn as transactions;
 ghost use Rattle.sdd_app.specs.Reach.{IsFirstCatalogue, IsPairs, IsWhole, IsOwner, is_first_workload, is_simple, are_settled};
 
-use sdd_base::{ClassNo, Event, FragNo, RelNo};
-use sdd_catalog::{Catalogue, Class, Column, Fragment, Kind, Relation};
+use sdd_base::{ClassNo, DmNo, Event, FragNo, RelNo, TmNo};
+use sdd_catalog::{Catalogue, Class, Column, Fragment, Kind, Read, Relation};
 use sdd_lang::{Stmt, Txn};
 use sdd_script::Workload;
 
@@ -42,12 +43,12 @@ fn is_pairs(relation: &Relation) -> bool
     relation.key == 1 && are_two_numbers(relation.columns.as_slice())
 }
 
-/// Whether the numbers are the number 1 alone.
-fn is_one(numbers: &[u32]) -> bool
-    ensures { IsTrue result ↔ (numbers.now ≡ 1 ∷ []) }
+/// Whether the first module alone has a copy.
+fn is_one_copy(copies: &[DmNo]) -> bool
+    ensures { IsTrue result ↔ (copies.now ≡ dm_no 1 ∷ []) }
 {
-    match numbers {
-        [number] => *number == 1,
+    match copies {
+        [copy] => *copy == DmNo(1),
         _ => false,
     }
 }
@@ -55,18 +56,28 @@ fn is_one(numbers: &[u32]) -> bool
 fn is_whole(fragment: &Fragment) -> bool
     ensures { IsTrue result ↔ IsWhole fragment.now }
 {
-    fragment.rel == 1
+    fragment.rel == RelNo(1)
         && fragment.least == i64::MIN
         && fragment.greatest == i64::MAX
-        && is_one(fragment.copies.as_slice())
+        && is_one_copy(fragment.copies.as_slice())
 }
 
 /// Whether the reads are that of the first fragment at the first module alone.
-fn is_one_read(reads: &[(u32, u32)]) -> bool
-    ensures { IsTrue result ↔ (reads.now ≡ (1, 1) ∷ []) }
+fn is_one_read(reads: &[Read]) -> bool
+    ensures { IsTrue result ↔ (reads.now ≡ record { fragment = frag_no 1; at = dm_no 1 } ∷ []) }
 {
     match reads {
-        [read] => read.0 == 1 && read.1 == 1,
+        [read] => read.fragment == FragNo(1) && read.at == DmNo(1),
+        _ => false,
+    }
+}
+
+/// Whether the first fragment alone is written.
+fn is_one_write(writes: &[FragNo]) -> bool
+    ensures { IsTrue result ↔ (writes.now ≡ frag_no 1 ∷ []) }
+{
+    match writes {
+        [write] => *write == FragNo(1),
         _ => false,
     }
 }
@@ -74,7 +85,9 @@ fn is_one_read(reads: &[(u32, u32)]) -> bool
 fn is_owner(class: &Class) -> bool
     ensures { IsTrue result ↔ IsOwner class.now }
 {
-    class.tm == 1 && is_one_read(class.reads.as_slice()) && is_one(class.writes.as_slice())
+    class.tm == TmNo(1)
+        && is_one_read(class.reads.as_slice())
+        && is_one_write(class.writes.as_slice())
 }
 
 fn is_simple(statement: &Stmt) -> bool

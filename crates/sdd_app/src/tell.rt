@@ -84,11 +84,11 @@ fn word_for_count(rule: CatRule) -> &'static [u8]
 
 /// The number of the part, where it has one.
 fn number_piece<'a>(buffer: &'a mut Buffer, fault: CatFault) -> &'a [u8]
-    ensures { result.now ≡ number_word fault.part fault.no }
+    ensures { result.now ≡ number_word fault.part fault.number }
 {
     match fault.part {
         Part::Top => b"",
-        _ => buffer.format(fault.no).as_bytes(),
+        _ => buffer.format(fault.number).as_bytes(),
     }
 }
 

@@ -16,7 +16,8 @@ IsBeside edges a x k = (p q : ℕ) → Joins edges k p q → p ≢ a → JoinedW
 
 module _ (edges : List (ℕ × ℕ)) (a x : ℕ) where
   -- where both edges meet at the node b, what is known of the one is known of the other
-  meet_beside : (j k b one other : ℕ) → Joins edges j b one → Joins edges k b other → JoinedWithout edges b one other → IsBeside edges a x j → IsBeside edges a x k
+  meet_beside : (j k b one other : ℕ) → Joins edges j b one → Joins edges k b other
+      → JoinedWithout edges b one other → IsBeside edges a x j → IsBeside edges a x k
   meet_beside j k b one other f g around beside p q h n =
       elim (cases_eq b a) [
         | inl e ↦
@@ -38,7 +39,8 @@ module _ (edges : List (ℕ × ℕ)) (a x : ℕ) where
       ]
 
   -- neighbours know the same of their ends
-  neighbours_beside : (j k : ℕ) → Neighbours edges j k → (IsBeside edges a x j → IsBeside edges a x k) × (IsBeside edges a x k → IsBeside edges a x j)
+  neighbours_beside : (j k : ℕ) → Neighbours edges j k
+      → (IsBeside edges a x j → IsBeside edges a x k) × (IsBeside edges a x k → IsBeside edges a x j)
   neighbours_beside j k h = (
     meet_beside j k h.node h.one h.other h.first h.second h.around,
     meet_beside k j h.node h.other h.one h.second h.first (joined_back edges h.node h.one h.other h.around),
@@ -50,7 +52,8 @@ module _ (edges : List (ℕ × ℕ)) (a x : ℕ) where
   linked_beside j k (more {k = l} c h) = λ b. linked_beside l k h (carried_on_cycle edges (IsBeside edges a x) neighbours_beside j l c b)
 
 -- the other ends of two linked edges at a node are joined by a walk without it
-pub linked_around : (edges : List (ℕ × ℕ)) (a j x k y : ℕ) → Linked edges j k → Joins edges j a x → x ≢ a → Joins edges k a y → y ≢ a → JoinedWithout edges a x y
+pub linked_around : (edges : List (ℕ × ℕ)) (a j x k y : ℕ) → Linked edges j k → Joins edges j a x
+    → x ≢ a → Joins edges k a y → y ≢ a → JoinedWithout edges a x y
 linked_around edges a j x k y h f n g m =
     let here : IsBeside edges a x j =
     λ p q d e. elim (same_ends edges j p q a x d f) [

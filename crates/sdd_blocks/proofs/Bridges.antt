@@ -8,12 +8,14 @@ use Rattle.sdd_blocks.proofs.Cycles.{same_ends, edges_differ}
 use Rattle.sdd_blocks.proofs.Around.{met_on_cycle}
 
 -- a walk between different nodes has a step
-at_least_two : (edges : List (ℕ × ℕ)) (a b : ℕ) (steps : List Step) (s : Step) → a ≢ b → IsWalk edges b steps a → 2 ≤ length (s ∷ steps)
+at_least_two : (edges : List (ℕ × ℕ)) (a b : ℕ) (steps : List Step) (s : Step) → a ≢ b
+    → IsWalk edges b steps a → 2 ≤ length (s ∷ steps)
 at_least_two edges a b [] s n w = absurd (n (sym w))
 at_least_two edges a b (t ∷ steps) s n w = omega arith
 
 -- an edge that is no loop, and a walk without it from one end to the other, form a simple cycle
-pub joined_on_cycle : (edges : List (ℕ × ℕ)) (k a b : ℕ) → Joins edges k a b → a ≢ b → JoinedWithoutEdge edges k b a → OnACycle edges k
+pub joined_on_cycle : (edges : List (ℕ × ℕ)) (k a b : ℕ) → Joins edges k a b → a ≢ b
+    → JoinedWithoutEdge edges k b a → OnACycle edges k
 joined_on_cycle edges k a b j n w =
     let r = shorten edges b w.steps a w.walk in
     record {
@@ -37,7 +39,9 @@ record IsCutAt (edges : List (ℕ × ℕ)) (start : ℕ) (k : ℕ) : Type 0 wher
   others : JoinedWithoutEdge edges k to from
 
 -- the walk from the start to here, and the steps to come, of which one goes along the edge
-cut : (edges : List (ℕ × ℕ)) (start here : ℕ) (before steps : List Step) (k : ℕ) → IsWalk edges start before here → IsWalk edges here steps start → (¬ Has (edges_of before) k) → Differ (edges_of steps) → Has (edges_of steps) k → IsCutAt edges start k
+cut : (edges : List (ℕ × ℕ)) (start here : ℕ) (before steps : List Step) (k : ℕ)
+    → IsWalk edges start before here → IsWalk edges here steps start → (¬ Has (edges_of before) k)
+    → Differ (edges_of steps) → Has (edges_of steps) k → IsCutAt edges start k
 cut edges start here before [] k v w away d h = absurd h
 cut edges start here before (s ∷ steps) k v w away d (inl e) =
     record {
@@ -62,19 +66,22 @@ cut edges start here before (s ∷ steps) k v w away d (inr h) =
     d.1 h
 
 -- the ends of an edge on a simple cycle are joined by a walk without it
-pub cycle_joined : (edges : List (ℕ × ℕ)) (k : ℕ) → OnACycle edges k → (a : ℕ) × (b : ℕ) × Joins edges k a b × JoinedWithoutEdge edges k b a
+pub cycle_joined : (edges : List (ℕ × ℕ)) (k : ℕ) → OnACycle edges k
+    → (a : ℕ) × (b : ℕ) × Joins edges k a b × JoinedWithoutEdge edges k b a
 cycle_joined edges k c =
     let r = cut edges c.start c.start [] c.steps k refl c.cycle.closed (λ h. h) c.cycle.edges_differ c.first in
     (r.from, r.to, r.edge, r.others)
 
 -- a walk without an edge turned round is one without it
-pub joined_edge_back : (edges : List (ℕ × ℕ)) (k a b : ℕ) → JoinedWithoutEdge edges k a b → JoinedWithoutEdge edges k b a
+pub joined_edge_back : (edges : List (ℕ × ℕ)) (k a b : ℕ) → JoinedWithoutEdge edges k a b
+    → JoinedWithoutEdge edges k b a
 joined_edge_back edges k a b w =
     let r = walk_back edges a w.steps b w.walk in
     record { steps = r.0; walk = r.1; avoids = λ h. w.avoids (r.3 k h) }
 
 -- whichever end comes first
-pub cycle_joined_ends : (edges : List (ℕ × ℕ)) (k a b : ℕ) → OnACycle edges k → Joins edges k a b → JoinedWithoutEdge edges k b a
+pub cycle_joined_ends : (edges : List (ℕ × ℕ)) (k a b : ℕ) → OnACycle edges k → Joins edges k a b
+    → JoinedWithoutEdge edges k b a
 cycle_joined_ends edges k a b c j =
     let r = cycle_joined edges k c in
     elim (same_ends edges k r.0 r.1 a b r.2 j) [
@@ -83,7 +90,8 @@ cycle_joined_ends edges k a b c j =
     ]
 
 -- an edge that meets a neighbour is no loop
-no_loop : (edges : List (ℕ × ℕ)) (k a node other : ℕ) → Joins edges k a a → Joins edges k node other → node ≡ other
+no_loop : (edges : List (ℕ × ℕ)) (k a node other : ℕ) → Joins edges k a a → Joins edges k node other
+    → node ≡ other
 no_loop edges k a node other l j = elim (same_ends edges k a a node other l j) [ inl e ↦ sym e.0 ∙ e.1 | inr e ↦ sym e.1 ∙ e.0 ]
 
 -- a loop is on no simple cycle

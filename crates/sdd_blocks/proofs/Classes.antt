@@ -25,7 +25,8 @@ module _ (edges pairs : List (ℕ × ℕ)) (ties : TieNeighbours edges pairs) wh
   pair_shares i j k (inr e) = share_back edges k j (neighbours_share edges k j (ties.sound i k j e))
 
   -- a walk over pairs links its ends
-  walk_links : (j : ℕ) (steps : List Step) (k : ℕ) → IsWalk pairs j steps k → OnACycle edges j → Linked edges j k
+  walk_links : (j : ℕ) (steps : List Step) (k : ℕ) → IsWalk pairs j steps k → OnACycle edges j
+      → Linked edges j k
   walk_links j [] k w c = subst (λ z. Linked edges j z) w (last c)
   walk_links j (s ∷ steps) k w c =
       let d = pair_shares s.edge j s.to w.0 in
@@ -52,7 +53,8 @@ module _ (edges pairs : List (ℕ × ℕ)) (ties : TieNeighbours edges pairs) wh
 
   module _ (labels : List ℕ) (components : AreComponents pairs (length edges) labels) where
     -- tied edges have one label
-    tied_label : (j k r : ℕ) → j < length edges → Tied pairs j r → slice_index labels j ≡ slice_index labels r
+    tied_label : (j k r : ℕ) → j < length edges → Tied pairs j r
+        → slice_index labels j ≡ slice_index labels r
     tied_label j k r h (inl e) = ap (λ z. slice_index labels z) e
     tied_label j k r h (inr p) =
         let q = ties.sound p.0 j r p.1 in
@@ -67,14 +69,16 @@ module _ (edges pairs : List (ℕ × ℕ)) (ties : TieNeighbours edges pairs) wh
         })
 
     -- neighbours have one label
-    neighbours_label : (j k : ℕ) → Neighbours edges j k → slice_index labels j ≡ slice_index labels k
+    neighbours_label : (j k : ℕ) → Neighbours edges j k
+        → slice_index labels j ≡ slice_index labels k
     neighbours_label j k h =
         let t = ties.whole j k h in
         tied_label j k t.0 (joins_within edges j h.node h.one h.first) t.1
         ∙ sym (tied_label k j t.0 (joins_within edges k h.node h.other h.second) t.2)
 
     -- edges with one label, of which the first is on a simple cycle, are linked
-    one_label_links : (j k : ℕ) → length labels ≡ length edges → j < length edges → k < length edges → slice_index labels j ≡ slice_index labels k → OnACycle edges j → Linked edges j k
+    one_label_links : (j k : ℕ) → length labels ≡ length edges → j < length edges → k < length edges
+        → slice_index labels j ≡ slice_index labels k → OnACycle edges j → Linked edges j k
     one_label_links j k n h g e c =
         let d = components.sound j k (omega arith) (omega arith) (omega arith) (omega arith) e in
         walk_links j d.steps k d.walk c
@@ -85,7 +89,8 @@ module _ (edges pairs : List (ℕ × ℕ)) (ties : TieNeighbours edges pairs) wh
 
     module _ (marks : List ℕ) (same_length : length labels ≡ length edges) (marked : AreMarked pairs labels marks) where
       -- a mark other than 0 is one more than the label of an edge on a simple cycle
-      mark_cycle : (k x : ℕ) → slice_get marks k ≡ Some x → x ≢ 0 → (suc (slice_index labels k) ≡ x) × OnACycle edges k
+      mark_cycle : (k x : ℕ) → slice_get marks k ≡ Some x → x ≢ 0
+          → (suc (slice_index labels k) ≡ x) × OnACycle edges k
       mark_cycle k zero e n = absurd (n refl)
       mark_cycle k (suc x) e n = let m = marked.some k x e in (ap suc m.0, paired_on_cycle k m.1)
 
@@ -98,7 +103,8 @@ module _ (edges pairs : List (ℕ × ℕ)) (ties : TieNeighbours edges pairs) wh
       marked_within k x e = let h = slice_get_within marks k x e in omega (arith, marked.one_each)
 
       -- equal marks other than 0 are those of linked edges
-      mark_links : (j k x y : ℕ) → slice_get marks j ≡ Some x → slice_get marks k ≡ Some y → x ≢ 0 → x ≡ y → Linked edges j k
+      mark_links : (j k x y : ℕ) → slice_get marks j ≡ Some x → slice_get marks k ≡ Some y → x ≢ 0
+          → x ≡ y → Linked edges j k
       mark_links j k x y p q n e =
           let c = mark_cycle j x p n in
           let d = mark_cycle k y q (λ z. n (e ∙ z)) in
@@ -106,7 +112,8 @@ module _ (edges pairs : List (ℕ × ℕ)) (ties : TieNeighbours edges pairs) wh
           one_label_links j k same_length (marked_within j x p) (marked_within k y q) l c.1
 
       -- linked edges have one mark
-      linked_mark : (j k x y : ℕ) → slice_get marks j ≡ Some x → slice_get marks k ≡ Some y → x ≢ 0 → Linked edges j k → x ≡ y
+      linked_mark : (j k x y : ℕ) → slice_get marks j ≡ Some x → slice_get marks k ≡ Some y → x ≢ 0
+          → Linked edges j k → x ≡ y
       linked_mark j k x y p q n h =
           let c = mark_cycle j x p n in
           let d = mark_cycle k y q (cycle_mark k y q (linked_second edges j k h)) in
@@ -114,7 +121,8 @@ module _ (edges pairs : List (ℕ × ℕ)) (ties : TieNeighbours edges pairs) wh
 
       module _ (numbers : List ℕ) (numbered : AreNumbered marks numbers) where
         -- where there is a number there is a mark
-        mark_at : (k b : ℕ) → slice_get numbers k ≡ Some b → slice_get marks k ≡ Some (get_or marks k 0)
+        mark_at : (k b : ℕ) → slice_get numbers k ≡ Some b
+            → slice_get marks k ≡ Some (get_or marks k 0)
         mark_at k b e = slice_get-get_or marks k 0 (let h = slice_get_within numbers k b e in omega (arith, numbered.one_each))
 
         -- an edge with the number 0 is on no simple cycle
@@ -132,13 +140,15 @@ module _ (edges pairs : List (ℕ × ℕ)) (ties : TieNeighbours edges pairs) wh
         mark_not_zero j a p n z = n ((numbered.none j a (get_or marks j 0) p (mark_at j a p)).1 z)
 
         -- edges with one number other than 0 are linked
-        number_links : (j k a b : ℕ) → slice_get numbers j ≡ Some a → slice_get numbers k ≡ Some b → a ≢ 0 → a ≡ b → Linked edges j k
+        number_links : (j k a b : ℕ) → slice_get numbers j ≡ Some a → slice_get numbers k ≡ Some b
+            → a ≢ 0 → a ≡ b → Linked edges j k
         number_links j k a b p q n e =
             mark_links j k (get_or marks j 0) (get_or marks k 0) (mark_at j a p) (mark_at k b q) (mark_not_zero j a p n)
             ((numbered.same j k a b (get_or marks j 0) (get_or marks k 0) p q (mark_at j a p) (mark_at k b q)).0 e)
 
         -- linked edges have one number
-        linked_number : (j k a b : ℕ) → slice_get numbers j ≡ Some a → slice_get numbers k ≡ Some b → a ≢ 0 → Linked edges j k → a ≡ b
+        linked_number : (j k a b : ℕ) → slice_get numbers j ≡ Some a → slice_get numbers k ≡ Some b
+            → a ≢ 0 → Linked edges j k → a ≡ b
         linked_number j k a b p q n h =
             (numbered.same j k a b (get_or marks j 0) (get_or marks k 0) p q (mark_at j a p) (mark_at k b q)).1
             (linked_mark j k (get_or marks j 0) (get_or marks k 0) (mark_at j a p) (mark_at k b q) (mark_not_zero j a p n) h)
@@ -155,7 +165,8 @@ module _ (edges pairs : List (ℕ × ℕ)) (ties : TieNeighbours edges pairs) wh
             }
 
 -- the pairs of edges are pairs of places in the list of edges
-pub pairs_within : (edges pairs : List (ℕ × ℕ)) → TieNeighbours edges pairs → (m : ℕ) → m ≡ length edges → All (λ p. (p.0 < m) × (p.1 < m)) pairs
+pub pairs_within : (edges pairs : List (ℕ × ℕ)) → TieNeighbours edges pairs → (m : ℕ)
+    → m ≡ length edges → All (λ p. (p.0 < m) × (p.1 < m)) pairs
 pairs_within edges pairs ties m e k d h =
     let p = get_or pairs k d in
     let n = ties.sound k p.0 p.1 (slice_get-get_or pairs k d h) in

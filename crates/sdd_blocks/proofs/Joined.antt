@@ -9,7 +9,8 @@ pub joined_self : (edges : List (ℕ × ℕ)) (w a : ℕ) → a ≢ w → Joined
 joined_self edges w a n = record { steps = []; walk = refl; avoids = λ m. elim m [ inl e ↦ n e | inr h ↦ h ] }
 
 -- an edge joins its ends
-pub joined_edge : (edges : List (ℕ × ℕ)) (w k a b : ℕ) → Joins edges k a b → a ≢ w → b ≢ w → JoinedWithout edges w a b
+pub joined_edge : (edges : List (ℕ × ℕ)) (w k a b : ℕ) → Joins edges k a b → a ≢ w → b ≢ w
+    → JoinedWithout edges w a b
 joined_edge edges w k a b j n m =
     record {
       steps = record { edge = k; to = b } ∷ [];
@@ -18,7 +19,8 @@ joined_edge edges w k a b j n m =
     }
 
 -- walks without a node follow one another
-pub joined_on : (edges : List (ℕ × ℕ)) (w a b c : ℕ) → JoinedWithout edges w a b → JoinedWithout edges w b c → JoinedWithout edges w a c
+pub joined_on : (edges : List (ℕ × ℕ)) (w a b c : ℕ) → JoinedWithout edges w a b
+    → JoinedWithout edges w b c → JoinedWithout edges w a c
 joined_on edges w a b c p q =
     record {
       steps = p.steps ++ q.steps;
@@ -32,7 +34,8 @@ joined_on edges w a b c p q =
     }
 
 -- a walk without a node turned round is one without it
-pub joined_back : (edges : List (ℕ × ℕ)) (w a b : ℕ) → JoinedWithout edges w a b → JoinedWithout edges w b a
+pub joined_back : (edges : List (ℕ × ℕ)) (w a b : ℕ) → JoinedWithout edges w a b
+    → JoinedWithout edges w b a
 joined_back edges w a b p =
     let r = walk_back edges a p.steps b p.walk in
     record { steps = r.0; walk = r.1; avoids = λ h. p.avoids (r.2 w h) }

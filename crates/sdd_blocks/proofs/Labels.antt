@@ -13,7 +13,9 @@ use Rattle.sdd_blocks.proofs.Joined.{joined_self, joined_edge, joined_on}
 use Rattle.sdd_blocks.proofs.Trees.{replaced-same, replaced-new, replaced-other}
 
 -- the ends of an edge of the list are nodes, where those of all edges are
-pub ends_within : (edges : List (ℕ × ℕ)) (nodes : ℕ) → All (λ e. (e.0 < nodes) × (e.1 < nodes)) edges → (k a b : ℕ) → slice_get edges k ≡ Some (a, b) → (a < nodes) × (b < nodes)
+pub ends_within : (edges : List (ℕ × ℕ)) (nodes : ℕ)
+    → All (λ e. (e.0 < nodes) × (e.1 < nodes)) edges → (k a b : ℕ) → slice_get edges k ≡ Some (a, b)
+    → (a < nodes) × (b < nodes)
 ends_within edges nodes ends k a b e =
     let h = slice_get_within edges k (a, b) e in
     subst (λ z. (z.0 < nodes) × (z.1 < nodes)) (get_or_from_slice_get edges k (a, b) (a, b) e) (ends k (a, b) h)
@@ -24,11 +26,15 @@ pub record AreLabelsSoFar (edges : List (ℕ × ℕ)) (without nodes : ℕ) (par
   pub forest : IsForest parents
   pub labels : List ℕ
   pub roots : AreRoots parents labels
-  pub sound : (a b : ℕ) → a < nodes → b < nodes → a ≢ without → b ≢ without → slice_index labels a ≡ slice_index labels b → JoinedWithout edges without a b
-  pub whole : (k a b : ℕ) → k < count → slice_get edges k ≡ Some (a, b) → a ≢ without → b ≢ without → slice_index labels a ≡ slice_index labels b
+  pub sound : (a b : ℕ) → a < nodes → b < nodes → a ≢ without → b ≢ without
+      → slice_index labels a ≡ slice_index labels b → JoinedWithout edges without a b
+  pub whole : (k a b : ℕ) → k < count → slice_get edges k ≡ Some (a, b) → a ≢ without → b ≢ without
+      → slice_index labels a ≡ slice_index labels b
 
 -- without edges each node is alone
-pub no_edges_yet : (edges : List (ℕ × ℕ)) (without nodes : ℕ) (parents : List ℕ) → length parents ≡ nodes → IsForest parents → AreRoots parents (range_with_len 0 nodes) → AreLabelsSoFar edges without nodes parents 0
+pub no_edges_yet : (edges : List (ℕ × ℕ)) (without nodes : ℕ) (parents : List ℕ)
+    → length parents ≡ nodes → IsForest parents → AreRoots parents (range_with_len 0 nodes)
+    → AreLabelsSoFar edges without nodes parents 0
 no_edges_yet edges without nodes parents n f r =
     record {
       one_each = n;
@@ -42,7 +48,9 @@ no_edges_yet edges without nodes parents n f r =
     }
 
 -- an edge at the node without changes nothing
-pub edge_left_out : (edges : List (ℕ × ℕ)) (without nodes : ℕ) (parents : List ℕ) (count a b : ℕ) → AreLabelsSoFar edges without nodes parents count → slice_get edges count ≡ Some (a, b) → (a ≡ without) ⊎ (b ≡ without) → AreLabelsSoFar edges without nodes parents (count + 1)
+pub edge_left_out : (edges : List (ℕ × ℕ)) (without nodes : ℕ) (parents : List ℕ) (count a b : ℕ)
+    → AreLabelsSoFar edges without nodes parents count → slice_get edges count ≡ Some (a, b)
+    → (a ≡ without) ⊎ (b ≡ without) → AreLabelsSoFar edges without nodes parents (count + 1)
 edge_left_out edges without nodes parents count a b s e o =
     record {
       one_each = s.one_each;
@@ -60,9 +68,12 @@ edge_left_out edges without nodes parents count a b s e o =
     }
 
 module _ (edges : List (ℕ × ℕ)) (without nodes x y k : ℕ) (j : Joins edges k x y) (x_other : x ≢ without) (y_other : y ≢ without) (x_within : x < nodes) (y_within : y < nodes) (before after : List ℕ) (n : length before ≡ nodes) (joined : AreJoined x y before after)
-    (sound : (a b : ℕ) → a < nodes → b < nodes → a ≢ without → b ≢ without → slice_index before a ≡ slice_index before b → JoinedWithout edges without a b) where
+    (sound : (a b : ℕ) → a < nodes → b < nodes → a ≢ without → b ≢ without
+    → slice_index before a ≡ slice_index before b → JoinedWithout edges without a b) where
   -- nodes with the two labels that became one are joined by way of the edge
-  by_the_edge : (a b : ℕ) → a < nodes → b < nodes → a ≢ without → b ≢ without → slice_index before a ≡ joined.old → slice_index before b ≡ joined.new → JoinedWithout edges without a b × JoinedWithout edges without b a
+  by_the_edge : (a b : ℕ) → a < nodes → b < nodes → a ≢ without → b ≢ without
+      → slice_index before a ≡ joined.old → slice_index before b ≡ joined.new
+      → JoinedWithout edges without a b × JoinedWithout edges without b a
   by_the_edge a b h g p q d e =
       elim joined.of_both [
         | inl o ↦ (
@@ -80,7 +91,8 @@ module _ (edges : List (ℕ × ℕ)) (without nodes x y k : ℕ) (j : Joins edge
       ]
 
   -- a label after the edge: the new one in place of the old one, or what it was
-  label_cases : (a : ℕ) → a < nodes → ((slice_index before a ≡ joined.old) × (slice_index after a ≡ joined.new)) ⊎ ((slice_index before a ≢ joined.old) × (slice_index after a ≡ slice_index before a))
+  label_cases : (a : ℕ) → a < nodes
+      → ((slice_index before a ≡ joined.old) × (slice_index after a ≡ joined.new)) ⊎ ((slice_index before a ≢ joined.old) × (slice_index after a ≡ slice_index before a))
   label_cases a h =
       let r = joined.replaced_at a (omega arith) in
       elim (cases_eq (slice_index before a) joined.old) [
@@ -89,7 +101,8 @@ module _ (edges : List (ℕ × ℕ)) (without nodes x y k : ℕ) (j : Joins edge
       ]
 
   -- equal labels after the edge are those of joined nodes
-  sound_after : (a b : ℕ) → a < nodes → b < nodes → a ≢ without → b ≢ without → slice_index after a ≡ slice_index after b → JoinedWithout edges without a b
+  sound_after : (a b : ℕ) → a < nodes → b < nodes → a ≢ without → b ≢ without
+      → slice_index after a ≡ slice_index after b → JoinedWithout edges without a b
   sound_after a b h g p q e =
       elim (label_cases a h) [
         | inl c ↦ elim (label_cases b g) [
@@ -103,7 +116,8 @@ module _ (edges : List (ℕ × ℕ)) (without nodes x y k : ℕ) (j : Joins edge
       ]
 
   -- nodes with one label keep one
-  kept_after : (a b : ℕ) → a < nodes → b < nodes → slice_index before a ≡ slice_index before b → slice_index after a ≡ slice_index after b
+  kept_after : (a b : ℕ) → a < nodes → b < nodes → slice_index before a ≡ slice_index before b
+      → slice_index after a ≡ slice_index after b
   kept_after a b h g e =
       joined.replaced_at a (omega arith) ∙ ap (λ z. replaced joined.old joined.new z) e ∙ sym (joined.replaced_at b (omega arith))
 
@@ -122,7 +136,8 @@ module _ (edges : List (ℕ × ℕ)) (without nodes x y k : ℕ) (j : Joins edge
       ]
 
 -- the labels after one edge more, whose ends are joined
-pub edge_joined : (edges : List (ℕ × ℕ)) (without nodes : ℕ) (parents next : List ℕ) (count x y : ℕ) → AreLabelsSoFar edges without nodes parents count
+pub edge_joined : (edges : List (ℕ × ℕ)) (without nodes : ℕ) (parents next : List ℕ) (count x y : ℕ)
+    → AreLabelsSoFar edges without nodes parents count
     → All (λ e. (e.0 < nodes) × (e.1 < nodes)) edges → slice_get edges count ≡ Some (x, y) → x ≢ without → y ≢ without → length next ≡ length parents → IsForest next
     → ((before : List ℕ) → AreRoots parents before → (after : List ℕ) × AreRoots next after × AreJoined x y before after) → AreLabelsSoFar edges without nodes next (count + 1)
 edge_joined edges without nodes parents next count x y s ends e p q n f joins =
@@ -149,7 +164,8 @@ edge_joined edges without nodes parents next count x y s ends e p q n f joins =
     }
 
 -- an edge gives its ends one label, and so does a walk
-walk_label : (edges : List (ℕ × ℕ)) (without : ℕ) (labels : List ℕ) → ((k a b : ℕ) → slice_get edges k ≡ Some (a, b) → a ≢ without → b ≢ without → slice_index labels a ≡ slice_index labels b)
+walk_label : (edges : List (ℕ × ℕ)) (without : ℕ) (labels : List ℕ)
+    → ((k a b : ℕ) → slice_get edges k ≡ Some (a, b) → a ≢ without → b ≢ without → slice_index labels a ≡ slice_index labels b)
     → (a : ℕ) (steps : List Step) (b : ℕ) → IsWalk edges a steps b → (¬ Has (a ∷ nodes_of steps) without) → slice_index labels a ≡ slice_index labels b
 walk_label edges without labels whole a [] b w away = ap (λ z. slice_index labels z) w
 walk_label edges without labels whole a (s ∷ steps) b w away =
@@ -160,7 +176,8 @@ walk_label edges without labels whole a (s ∷ steps) b w away =
     one ∙ walk_label edges without labels whole s.to steps b w.1 (λ h. away (inr h))
 
 -- after all edges the labels are those of the components
-pub components_done : (edges : List (ℕ × ℕ)) (without nodes : ℕ) (parents : List ℕ) (count : ℕ) (found : List ℕ) → AreLabelsSoFar edges without nodes parents count → length edges ≤ count
+pub components_done : (edges : List (ℕ × ℕ)) (without nodes : ℕ) (parents : List ℕ) (count : ℕ) (found : List ℕ)
+    → AreLabelsSoFar edges without nodes parents count → length edges ≤ count
     → All (λ label. label < length parents) found → ((labels : List ℕ) → AreRoots parents labels → found ≡ labels) → (length found ≡ nodes) × AreComponents edges without found
 components_done edges without nodes parents count found s done below is_labels =
     let e : found ≡ s.labels = is_labels s.labels s.roots in

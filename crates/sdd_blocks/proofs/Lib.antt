@@ -2,6 +2,8 @@ pub mod Around
 pub mod Beside
 pub mod Bridges
 pub mod Classes
+pub mod ClosedWalks
+pub mod CycleNumbers
 pub mod Cycles
 pub mod Joined
 pub mod Labels

@@ -15,7 +15,8 @@ pub record IsMarkingAt (pairs : List (ℕ × ℕ)) (labels marks : List ℕ) (co
   pub on : (k x : ℕ) → get_or marks k 0 ≡ suc x → (slice_index labels k ≡ x) × IsPaired pairs k
 
 -- before the first pair all marks are 0
-pub no_marks_yet : (pairs : List (ℕ × ℕ)) (labels marks : List ℕ) → length marks ≡ length labels → ((k : ℕ) → get_or marks k 0 ≡ 0) → IsMarkingAt pairs labels marks 0
+pub no_marks_yet : (pairs : List (ℕ × ℕ)) (labels marks : List ℕ) → length marks ≡ length labels
+    → ((k : ℕ) → get_or marks k 0 ≡ 0) → IsMarkingAt pairs labels marks 0
 no_marks_yet pairs labels marks n zeros =
     record {
       one_each = n;
@@ -24,7 +25,9 @@ no_marks_yet pairs labels marks n zeros =
     }
 
 -- a pair more, with both of its members marked
-pub pair_marked : (pairs : List (ℕ × ℕ)) (labels marks : List ℕ) (count a b : ℕ) → IsMarkingAt pairs labels marks count → slice_get pairs count ≡ Some (a, b) → a < length labels → b < length labels
+pub pair_marked : (pairs : List (ℕ × ℕ)) (labels marks : List ℕ) (count a b : ℕ)
+    → IsMarkingAt pairs labels marks count → slice_get pairs count ≡ Some (a, b) → a < length labels
+    → b < length labels
     → IsMarkingAt pairs labels (set (set marks a (slice_index labels a + 1)) b (slice_index labels b + 1)) (count + 1)
 pair_marked pairs labels marks count a b s here a_within b_within =
     let once = set marks a (slice_index labels a + 1) in
@@ -66,7 +69,8 @@ pair_marked pairs labels marks count a b s here a_within b_within =
     }
 
 -- after all pairs all their members are marked
-pub all_marked : (pairs : List (ℕ × ℕ)) (labels marks : List ℕ) (count : ℕ) → IsMarkingAt pairs labels marks count → length pairs ≤ count → AreMarked pairs labels marks
+pub all_marked : (pairs : List (ℕ × ℕ)) (labels marks : List ℕ) (count : ℕ)
+    → IsMarkingAt pairs labels marks count → length pairs ≤ count → AreMarked pairs labels marks
 all_marked pairs labels marks count s done =
     record {
       one_each = s.one_each;
@@ -77,12 +81,16 @@ all_marked pairs labels marks count s done =
     }
 
 -- a mark is at most one more than a label
-mark_below : (pairs : List (ℕ × ℕ)) (labels marks : List ℕ) (count : ℕ) → IsMarkingAt pairs labels marks count → All (λ label. label < length labels) labels → (k : ℕ) → k < length labels → (x : ℕ) → get_or marks k 0 ≡ x → x < length labels + 1
+mark_below : (pairs : List (ℕ × ℕ)) (labels marks : List ℕ) (count : ℕ)
+    → IsMarkingAt pairs labels marks count → All (λ label. label < length labels) labels → (k : ℕ)
+    → k < length labels → (x : ℕ) → get_or marks k 0 ≡ x → x < length labels + 1
 mark_below pairs labels marks count s below k h zero e = omega arith
 mark_below pairs labels marks count s below k h (suc x) e = let l = below k 0 h in let m = s.on k x e in omega (arith, m.0)
 
 -- the same of all marks
-pub marks_below : (pairs : List (ℕ × ℕ)) (labels marks : List ℕ) (count : ℕ) → IsMarkingAt pairs labels marks count → All (λ label. label < length labels) labels → All (λ mark. mark < length labels + 1) marks
+pub marks_below : (pairs : List (ℕ × ℕ)) (labels marks : List ℕ) (count : ℕ)
+    → IsMarkingAt pairs labels marks count → All (λ label. label < length labels) labels
+    → All (λ mark. mark < length labels + 1) marks
 marks_below pairs labels marks count s below k d h =
     let same : get_or marks k d ≡ get_or marks k 0 = get_or_default marks k d 0 h in
     let l = mark_below pairs labels marks count s below k (omega (arith, s.one_each)) (get_or marks k 0) refl in

@@ -17,10 +17,12 @@ pub record IsNumberingAt (marks given numbers : List ℕ) (last count : ℕ) : T
   pub number_is : (k : ℕ) → k < count → get_or numbers k 0 ≡ get_or given (get_or marks k 0) 0
   pub all_given : (k : ℕ) → k < count → get_or marks k 0 ≢ 0 → get_or given (get_or marks k 0) 0 ≢ 0
   pub reached : (b : ℕ) → b < last → (j : ℕ) × (j < count) × (get_or numbers j 0 ≡ suc b)
-  pub in_order : (k b : ℕ) → k < count → get_or numbers k 0 ≡ suc (suc b) → (j : ℕ) × (j < k) × (get_or numbers j 0 ≡ suc b)
+  pub in_order : (k b : ℕ) → k < count → get_or numbers k 0 ≡ suc (suc b)
+      → (j : ℕ) × (j < k) × (get_or numbers j 0 ≡ suc b)
 
 -- before the first mark no number is given
-pub no_numbers_yet : (marks given : List ℕ) → ((x : ℕ) → get_or given x 0 ≡ 0) → IsNumberingAt marks given [] 0 0
+pub no_numbers_yet : (marks given : List ℕ) → ((x : ℕ) → get_or given x 0 ≡ 0)
+    → IsNumberingAt marks given [] 0 0
 no_numbers_yet marks given zeros =
     record {
       one_each = refl;
@@ -44,17 +46,20 @@ module _ (marks given numbers : List ℕ) (last count : ℕ) (s : IsNumberingAt 
   new n = get_or_push numbers n 0 count s.one_each
 
   -- each number so far still has a place
-  reached_kept : (n b : ℕ) → b < last → (j : ℕ) × (j < count) × (get_or (numbers ++ n ∷ []) j 0 ≡ suc b)
+  reached_kept : (n b : ℕ) → b < last
+      → (j : ℕ) × (j < count) × (get_or (numbers ++ n ∷ []) j 0 ≡ suc b)
   reached_kept n b h = let r = s.reached b h in (r.0, r.1, kept n r.0 r.1 ∙ r.2)
 
   -- and still stands behind the number before it
-  in_order_kept : (n k b : ℕ) → k < count → get_or (numbers ++ n ∷ []) k 0 ≡ suc (suc b) → (j : ℕ) × (j < k) × (get_or (numbers ++ n ∷ []) j 0 ≡ suc b)
+  in_order_kept : (n k b : ℕ) → k < count → get_or (numbers ++ n ∷ []) k 0 ≡ suc (suc b)
+      → (j : ℕ) × (j < k) × (get_or (numbers ++ n ∷ []) j 0 ≡ suc b)
   in_order_kept n k b h e =
       let r = s.in_order k b h (sym (kept n k h) ∙ e) in
       (r.0, r.1, let l = r.1 in kept n r.0 (omega arith) ∙ r.2)
 
   -- a mark whose number is given
-  pub number_given : (get_or marks count 0 ≢ 0 → get_or given (get_or marks count 0) 0 ≢ 0) → IsNumberingAt marks given (numbers ++ get_or given (get_or marks count 0) 0 ∷ []) last (count + 1)
+  pub number_given : (get_or marks count 0 ≢ 0 → get_or given (get_or marks count 0) 0 ≢ 0)
+      → IsNumberingAt marks given (numbers ++ get_or given (get_or marks count 0) 0 ∷ []) last (count + 1)
   number_given known =
       let n = get_or given (get_or marks count 0) 0 in
       record {
@@ -84,7 +89,9 @@ module _ (marks given numbers : List ℕ) (last count : ℕ) (s : IsNumberingAt 
       }
 
   -- a mark that gets the next number
-  pub number_made : get_or marks count 0 ≢ 0 → get_or given (get_or marks count 0) 0 ≡ 0 → get_or marks count 0 < length given → IsNumberingAt marks (set given (get_or marks count 0) (last + 1)) (numbers ++ (last + 1) ∷ []) (last + 1) (count + 1)
+  pub number_made : get_or marks count 0 ≢ 0 → get_or given (get_or marks count 0) 0 ≡ 0
+      → get_or marks count 0 < length given
+      → IsNumberingAt marks (set given (get_or marks count 0) (last + 1)) (numbers ++ (last + 1) ∷ []) (last + 1) (count + 1)
   number_made not_zero not_given within =
       let mark = get_or marks count 0 in
       let n = last + 1 in
@@ -142,13 +149,15 @@ module _ (marks given numbers : List ℕ) (last count : ℕ) (s : IsNumberingAt 
 -- after all marks the numbers are those of the marks
 module _ (marks given numbers : List ℕ) (last count : ℕ) (s : IsNumberingAt marks given numbers last count) (n : length marks ≡ count) where
   -- a number is the one given for its mark
-  number_at : (k a x : ℕ) → slice_get numbers k ≡ Some a → slice_get marks k ≡ Some x → a ≡ get_or given x 0
+  number_at : (k a x : ℕ) → slice_get numbers k ≡ Some a → slice_get marks k ≡ Some x
+      → a ≡ get_or given x 0
   number_at k a x p q =
       let h = slice_get_within marks k x q in
       sym (get_or_from_slice_get numbers k a 0 p) ∙ s.number_is k (omega arith) ∙ ap (λ z. get_or given z 0) (get_or_from_slice_get marks k x 0 q)
 
   -- the number 0 is that of the mark 0 alone
-  zero_number : (k a x : ℕ) → slice_get numbers k ≡ Some a → slice_get marks k ≡ Some x → a ≡ 0 → x ≡ 0
+  zero_number : (k a x : ℕ) → slice_get numbers k ≡ Some a → slice_get marks k ≡ Some x → a ≡ 0
+      → x ≡ 0
   zero_number k a x p q e =
       let h = slice_get_within marks k x q in
       let is = get_or_from_slice_get marks k x 0 q in
@@ -158,7 +167,8 @@ module _ (marks given numbers : List ℕ) (last count : ℕ) (s : IsNumberingAt 
       ]
 
   -- equal numbers are those of equal marks
-  one_mark : (j k a b x y : ℕ) → slice_get numbers j ≡ Some a → slice_get numbers k ≡ Some b → slice_get marks j ≡ Some x → slice_get marks k ≡ Some y → a ≡ b → x ≡ y
+  one_mark : (j k a b x y : ℕ) → slice_get numbers j ≡ Some a → slice_get numbers k ≡ Some b
+      → slice_get marks j ≡ Some x → slice_get marks k ≡ Some y → a ≡ b → x ≡ y
   one_mark j k a b x y p q u v e =
       elim (cases_eq a 0) [
         | inl z ↦ zero_number j a x p u z ∙ sym (zero_number k b y q v (sym e ∙ z))
@@ -178,7 +188,8 @@ module _ (marks given numbers : List ℕ) (last count : ℕ) (s : IsNumberingAt 
       }
 
 -- one step of the loop over the marks, where the number of the mark was given before
-pub step_given : (marks given numbers next_given next_numbers : List ℕ) (last next_last count n : ℕ) → IsNumberingAt marks given numbers last count → next_given ≡ given → next_last ≡ last
+pub step_given : (marks given numbers next_given next_numbers : List ℕ) (last next_last count n : ℕ)
+    → IsNumberingAt marks given numbers last count → next_given ≡ given → next_last ≡ last
     → (get_or marks count 0 ≢ 0 → get_or given (get_or marks count 0) 0 ≢ 0) → n ≡ get_or next_given (get_or marks count 0) 0 → next_numbers ≡ numbers ++ n ∷ [] → IsNumberingAt marks next_given next_numbers next_last (count + 1)
 step_given marks given numbers next_given next_numbers last next_last count n s g l known is e =
     let now = number_given marks given numbers last count s known in
@@ -188,7 +199,9 @@ step_given marks given numbers next_given next_numbers last next_last count n s 
     (subst (λ z. IsNumberingAt marks given (numbers ++ get_or given (get_or marks count 0) 0 ∷ []) z (count + 1)) (sym l) now))
 
 -- one step where the mark gets the next number
-pub step_made : (marks given numbers next_given next_numbers : List ℕ) (last next_last count n : ℕ) → IsNumberingAt marks given numbers last count → next_given ≡ set given (get_or marks count 0) (last + 1) → next_last ≡ last + 1
+pub step_made : (marks given numbers next_given next_numbers : List ℕ) (last next_last count n : ℕ)
+    → IsNumberingAt marks given numbers last count
+    → next_given ≡ set given (get_or marks count 0) (last + 1) → next_last ≡ last + 1
     → get_or marks count 0 ≢ 0 → get_or given (get_or marks count 0) 0 ≡ 0 → get_or marks count 0 < length given → n ≡ get_or next_given (get_or marks count 0) 0 → next_numbers ≡ numbers ++ n ∷ [] → IsNumberingAt marks next_given next_numbers next_last (count + 1)
 step_made marks given numbers next_given next_numbers last next_last count n s g l not_zero not_given within is e =
     let mark = get_or marks count 0 in

@@ -6,7 +6,8 @@ use Rattle.std.proofs.lemmas.Bool.{cases_eq, cases_lt}
 use Rattle.std.proofs.lemmas.List.{get_or_append_left, get_or_push}
 
 -- a read at the place of a write gives what was written, and a read elsewhere what was there
-pub read_set : {A : Type 0} (xs : List A) (i : ℕ) (x : A) (v : ℕ) (d : A) → i < length xs → ((v ≡ i) × (get_or (set xs i x) v d ≡ x)) ⊎ ((v ≢ i) × (get_or (set xs i x) v d ≡ get_or xs v d))
+pub read_set : {A : Type 0} (xs : List A) (i : ℕ) (x : A) (v : ℕ) (d : A) → i < length xs
+    → ((v ≡ i) × (get_or (set xs i x) v d ≡ x)) ⊎ ((v ≢ i) × (get_or (set xs i x) v d ≡ get_or xs v d))
 read_set xs i x v d h =
     elim (cases_eq v i) [
       | inl e ↦ inl (e, ap (λ z. get_or (set xs i x) z d) e ∙ get_or-set_same xs i x d h)
@@ -14,7 +15,8 @@ read_set xs i x v d h =
     ]
 
 -- a read of a list with one more member gives that member at the end, and before it what was there
-pub read_push : {A : Type 0} (xs : List A) (x : A) (v : ℕ) (d : A) → v < length xs + 1 → ((v < length xs) × (get_or (xs ++ x ∷ []) v d ≡ get_or xs v d)) ⊎ ((v ≡ length xs) × (get_or (xs ++ x ∷ []) v d ≡ x))
+pub read_push : {A : Type 0} (xs : List A) (x : A) (v : ℕ) (d : A) → v < length xs + 1
+    → ((v < length xs) × (get_or (xs ++ x ∷ []) v d ≡ get_or xs v d)) ⊎ ((v ≡ length xs) × (get_or (xs ++ x ∷ []) v d ≡ x))
 read_push xs x v d h =
     elim (cases_lt v (length xs)) [
       | inl k ↦ inl (k, get_or_append_left xs (x ∷ []) d v k)
@@ -22,18 +24,21 @@ read_push xs x v d h =
     ]
 
 -- the members of a list stay where they are when one more comes
-pub get_push_kept : {A : Type 0} (xs : List A) (q : A) (i : ℕ) (p : A) → slice_get xs i ≡ Some p → slice_get (xs ++ q ∷ []) i ≡ Some p
+pub get_push_kept : {A : Type 0} (xs : List A) (q : A) (i : ℕ) (p : A) → slice_get xs i ≡ Some p
+    → slice_get (xs ++ q ∷ []) i ≡ Some p
 get_push_kept [] q i p e = absurd (none-some p e)
 get_push_kept (x ∷ xs) q zero p e = e
 get_push_kept (x ∷ xs) q (suc i) p e = get_push_kept xs q i p e
 
 -- the new one is the last
-pub get_push_last : {A : Type 0} (xs : List A) (q : A) → slice_get (xs ++ q ∷ []) (length xs) ≡ Some q
+pub get_push_last : {A : Type 0} (xs : List A) (q : A)
+    → slice_get (xs ++ q ∷ []) (length xs) ≡ Some q
 get_push_last [] q = refl
 get_push_last (x ∷ xs) q = get_push_last xs q
 
 -- a member is one that was there or the new one
-pub get_push_cases : {A : Type 0} (xs : List A) (q : A) (i : ℕ) (p : A) → slice_get (xs ++ q ∷ []) i ≡ Some p → (slice_get xs i ≡ Some p) ⊎ (q ≡ p)
+pub get_push_cases : {A : Type 0} (xs : List A) (q : A) (i : ℕ) (p : A)
+    → slice_get (xs ++ q ∷ []) i ≡ Some p → (slice_get xs i ≡ Some p) ⊎ (q ≡ p)
 get_push_cases [] q zero p e = inr (same_Some q p e)
 get_push_cases [] q (suc i) p e = inl e
 get_push_cases (x ∷ xs) q zero p e = inl e

@@ -13,7 +13,8 @@ use Rattle.sdd_blocks.proofs.Classes.{joins_within}
 use Rattle.sdd_blocks.proofs.Places.{read_set, get_push_kept, get_push_last, get_push_cases}
 
 -- the other end of an edge is one that it joins with the node
-pub other_end_joins : (edges : List (ℕ × ℕ)) (k a b w x : ℕ) → slice_get edges k ≡ Some (a, b) → other_end (a, b) w ≡ Some x → Joins edges k w x × (x ≢ w)
+pub other_end_joins : (edges : List (ℕ × ℕ)) (k a b w x : ℕ) → slice_get edges k ≡ Some (a, b)
+    → other_end (a, b) w ≡ Some x → Joins edges k w x × (x ≢ w)
 other_end_joins edges k a b w x e o =
     elim (cases_eq a b) [
       | inl d ↦ let n : other_end (a, b) w ≡ None = grind (arith, nat_tests) in absurd (none-some x (sym n ∙ o))
@@ -33,7 +34,8 @@ other_end_joins edges k a b w x e o =
     ]
 
 -- and the only one
-pub joins_other_end : (edges : List (ℕ × ℕ)) (k a b w x : ℕ) → slice_get edges k ≡ Some (a, b) → Joins edges k w x → x ≢ w → other_end (a, b) w ≡ Some x
+pub joins_other_end : (edges : List (ℕ × ℕ)) (k a b w x : ℕ) → slice_get edges k ≡ Some (a, b)
+    → Joins edges k w x → x ≢ w → other_end (a, b) w ≡ Some x
 joins_other_end edges k a b w x e (inl j) n =
     let s = some_pair_parts a w b x (sym e ∙ j) in
     let d : a ≢ b = λ f. n (sym s.1 ∙ sym f ∙ s.0) in
@@ -47,7 +49,8 @@ joins_other_end edges k a b w x e (inr j) n =
     o ∙ ap (λ z. Some z) s.0
 
 -- the second of the nodes that an edge joins is a node
-pub joins_end_within : (edges : List (ℕ × ℕ)) (nodes : ℕ) → All (λ e. (e.0 < nodes) × (e.1 < nodes)) edges → (k a b : ℕ) → Joins edges k a b → b < nodes
+pub joins_end_within : (edges : List (ℕ × ℕ)) (nodes : ℕ)
+    → All (λ e. (e.0 < nodes) × (e.1 < nodes)) edges → (k a b : ℕ) → Joins edges k a b → b < nodes
 joins_end_within edges nodes ends k a b (inl e) = (ends_within edges nodes ends k a b e).1
 joins_end_within edges nodes ends k a b (inr e) = (ends_within edges nodes ends k b a e).0
 
@@ -55,18 +58,24 @@ joins_end_within edges nodes ends k a b (inr e) = (ends_within edges nodes ends 
 pub record IsTyingAt (edges : List (ℕ × ℕ)) (node : ℕ) (labels : List ℕ) (before pairs : List (ℕ × ℕ)) (first : List (Option ℕ)) (count : ℕ) : Type 0 where
   pub one_each : length first ≡ length labels
   pub kept : (i : ℕ) (p : ℕ × ℕ) → slice_get before i ≡ Some p → slice_get pairs i ≡ Some p
-  pub sound : (i j k : ℕ) → slice_get pairs i ≡ Some (j, k) → (slice_get before i ≡ Some (j, k)) ⊎ Neighbours edges j k
-  pub first_is : (l r : ℕ) → get_or first l None ≡ Some r → (x : ℕ) × (r < count) × Joins edges r node x × (x ≢ node) × (slice_index labels x ≡ l)
-  pub whole : (k x : ℕ) → k < count → Joins edges k node x → x ≢ node → (r : ℕ) × (get_or first (slice_index labels x) None ≡ Some r) × Tied pairs k r
+  pub sound : (i j k : ℕ) → slice_get pairs i ≡ Some (j, k)
+      → (slice_get before i ≡ Some (j, k)) ⊎ Neighbours edges j k
+  pub first_is : (l r : ℕ) → get_or first l None ≡ Some r
+      → (x : ℕ) × (r < count) × Joins edges r node x × (x ≢ node) × (slice_index labels x ≡ l)
+  pub whole : (k x : ℕ) → k < count → Joins edges k node x → x ≢ node
+      → (r : ℕ) × (get_or first (slice_index labels x) None ≡ Some r) × Tied pairs k r
 
 -- what was tied stays tied when pairs are added
-pub tied_kept : (before after : List (ℕ × ℕ)) → ((i : ℕ) (p : ℕ × ℕ) → slice_get before i ≡ Some p → slice_get after i ≡ Some p) → (j k : ℕ) → Tied before j k → Tied after j k
+pub tied_kept : (before after : List (ℕ × ℕ))
+    → ((i : ℕ) (p : ℕ × ℕ) → slice_get before i ≡ Some p → slice_get after i ≡ Some p) → (j k : ℕ)
+    → Tied before j k → Tied after j k
 tied_kept before after kept j k (inl e) = inl e
 tied_kept before after kept j k (inr p) = inr (p.0, kept p.0 (j, k) p.1)
 
 module _ (edges : List (ℕ × ℕ)) (node : ℕ) (labels : List ℕ) (before : List (ℕ × ℕ)) where
   -- before the first edge no label has a first edge
-  pub nothing_tied : (first : List (Option ℕ)) → length first ≡ length labels → ((l : ℕ) → get_or first l None ≡ None) → IsTyingAt edges node labels before before first 0
+  pub nothing_tied : (first : List (Option ℕ)) → length first ≡ length labels
+      → ((l : ℕ) → get_or first l None ≡ None) → IsTyingAt edges node labels before before first 0
   nothing_tied first n none =
       record {
         one_each = n;
@@ -78,11 +87,13 @@ module _ (edges : List (ℕ × ℕ)) (node : ℕ) (labels : List ℕ) (before : 
 
   module _ (pairs : List (ℕ × ℕ)) (first : List (Option ℕ)) (count a b : ℕ) (so_far : IsTyingAt edges node labels before pairs first count) (here : slice_get edges count ≡ Some (a, b)) where
     -- the edge itself, where it is the one meant
-    at_count : (k x : ℕ) → count ≤ k → k < count + 1 → Joins edges k node x → Joins edges count node x
+    at_count : (k x : ℕ) → count ≤ k → k < count + 1 → Joins edges k node x
+        → Joins edges count node x
     at_count k x h g j = let e : k ≡ count = omega arith in subst (λ z. Joins edges z node x) e j
 
     -- an edge that leads to no other node
-    pub not_tied : other_end (a, b) node ≡ None → IsTyingAt edges node labels before pairs first (count + 1)
+    pub not_tied : other_end (a, b) node ≡ None
+        → IsTyingAt edges node labels before pairs first (count + 1)
     not_tied o =
         record {
           one_each = so_far.one_each;
@@ -101,7 +112,9 @@ module _ (edges : List (ℕ × ℕ)) (node : ℕ) (labels : List ℕ) (before : 
       same_end k y h g j n = same_Some x y (sym o ∙ joins_other_end edges count a b node y here (at_count k y h g j) n)
 
       -- an edge that is the first of its label
-      pub first_made : x < length labels → get_or first (slice_index labels x) None ≡ None → slice_index labels x < length first → IsTyingAt edges node labels before pairs (set first (slice_index labels x) (Some count)) (count + 1)
+      pub first_made : x < length labels → get_or first (slice_index labels x) None ≡ None
+          → slice_index labels x < length first
+          → IsTyingAt edges node labels before pairs (set first (slice_index labels x) (Some count)) (count + 1)
       first_made within none h =
           let label = slice_index labels x in
           let j = other_end_joins edges count a b node x here o in
@@ -132,7 +145,10 @@ module _ (edges : List (ℕ × ℕ)) (node : ℕ) (labels : List ℕ) (before : 
           }
 
       -- an edge that is tied to the first of its label
-      pub tied_to_first : AreComponents edges node labels → All (λ e. (e.0 < length labels) × (e.1 < length labels)) edges → (r : ℕ) → get_or first (slice_index labels x) None ≡ Some r → IsTyingAt edges node labels before (pairs ++ (count, r) ∷ []) first (count + 1)
+      pub tied_to_first : AreComponents edges node labels
+          → All (λ e. (e.0 < length labels) × (e.1 < length labels)) edges → (r : ℕ)
+          → get_or first (slice_index labels x) None ≡ Some r
+          → IsTyingAt edges node labels before (pairs ++ (count, r) ∷ []) first (count + 1)
       tied_to_first components ends r e =
           let j = other_end_joins edges count a b node x here o in
           let f = so_far.first_is (slice_index labels x) r e in
@@ -171,7 +187,9 @@ module _ (edges : List (ℕ × ℕ)) (node : ℕ) (labels : List ℕ) (before : 
           }
 
   -- an edge that leads to another node is tied to the first of its label, or is that
-  pub edge_tied : (pairs after : List (ℕ × ℕ)) (first next : List (Option ℕ)) (count a b x : ℕ) → IsTyingAt edges node labels before pairs first count → slice_get edges count ≡ Some (a, b) → other_end (a, b) node ≡ Some x
+  pub edge_tied : (pairs after : List (ℕ × ℕ)) (first next : List (Option ℕ)) (count a b x : ℕ)
+      → IsTyingAt edges node labels before pairs first count → slice_get edges count ≡ Some (a, b)
+      → other_end (a, b) node ≡ Some x
       → AreComponents edges node labels → All (λ e. (e.0 < length labels) × (e.1 < length labels)) edges
       → (get_or first (slice_index labels x) None ≡ None → (next ≡ set first (slice_index labels x) (Some count)) × (after ≡ pairs))
       → ((r : ℕ) → get_or first (slice_index labels x) None ≡ Some r → (next ≡ first) × (after ≡ pairs ++ (count, r) ∷ []))
@@ -189,7 +207,9 @@ module _ (edges : List (ℕ × ℕ)) (node : ℕ) (labels : List ℕ) (before : 
       (subst (λ z. IsTyingAt edges node labels before (pairs ++ (count, r) ∷ []) z (count + 1)) (sym n.0) (tied_to_first pairs first count a b s here x o components ends r e))
 
   -- after all edges the neighbours that meet at the node are tied
-  pub all_tied : (pairs : List (ℕ × ℕ)) (first : List (Option ℕ)) (count : ℕ) → IsTyingAt edges node labels before pairs first count → length edges ≤ count → AreComponents edges node labels → TieAt edges node before pairs
+  pub all_tied : (pairs : List (ℕ × ℕ)) (first : List (Option ℕ)) (count : ℕ)
+      → IsTyingAt edges node labels before pairs first count → length edges ≤ count
+      → AreComponents edges node labels → TieAt edges node before pairs
   all_tied pairs first count so_far done components =
       record {
         kept = so_far.kept;
@@ -209,14 +229,17 @@ module _ (edges : List (ℕ × ℕ)) (node : ℕ) (labels : List ℕ) (before : 
 -- the neighbours that meet at nodes below `count` are tied
 pub record IsTyingBelow (edges pairs : List (ℕ × ℕ)) (count : ℕ) : Type 0 where
   pub sound : (i j k : ℕ) → slice_get pairs i ≡ Some (j, k) → Neighbours edges j k
-  pub whole : (j k : ℕ) (h : Neighbours edges j k) → h.node < count → (r : ℕ) × Tied pairs j r × Tied pairs k r
+  pub whole : (j k : ℕ) (h : Neighbours edges j k) → h.node < count
+      → (r : ℕ) × Tied pairs j r × Tied pairs k r
 
 -- before the first node there are no pairs
 pub no_pairs_yet : (edges : List (ℕ × ℕ)) → IsTyingBelow edges [] 0
 no_pairs_yet edges = record { sound = λ i j k e. absurd (none-some (j, k) e); whole = λ j k h l. absurd (omega arith) }
 
 -- a node more, with the pairs of the edges that meet there
-pub one_more_node : (edges before after : List (ℕ × ℕ)) (count : ℕ) → IsTyingBelow edges before count → TieAt edges count before after → IsTyingBelow edges after (count + 1)
+pub one_more_node : (edges before after : List (ℕ × ℕ)) (count : ℕ)
+    → IsTyingBelow edges before count → TieAt edges count before after
+    → IsTyingBelow edges after (count + 1)
 one_more_node edges before after count s t =
     record {
       sound = λ i j k e. elim (t.sound i j k e) [ inl b ↦ s.sound i j k b | inr h ↦ h ];
@@ -229,7 +252,8 @@ one_more_node edges before after count s t =
     }
 
 -- after all nodes all neighbours are tied
-pub all_nodes : (edges pairs : List (ℕ × ℕ)) (nodes count : ℕ) → IsTyingBelow edges pairs count → nodes ≤ count → All (λ e. (e.0 < nodes) × (e.1 < nodes)) edges → TieNeighbours edges pairs
+pub all_nodes : (edges pairs : List (ℕ × ℕ)) (nodes count : ℕ) → IsTyingBelow edges pairs count
+    → nodes ≤ count → All (λ e. (e.0 < nodes) × (e.1 < nodes)) edges → TieNeighbours edges pairs
 all_nodes edges pairs nodes count s done ends =
     record {
       sound = s.sound;

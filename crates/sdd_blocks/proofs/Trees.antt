@@ -36,7 +36,8 @@ roots-singles nodes =
 
 module _ (parents : List ℕ) (forest : IsForest parents) (at : ℕ) (within : at < length parents) where
   -- where a node is no root, its parent's parent is below it
-  pub next_below : (next : ℕ) → slice_index parents at ≢ at → next ≡ slice_index parents (slice_index parents at) → next < at
+  pub next_below : (next : ℕ) → slice_index parents at ≢ at
+      → next ≡ slice_index parents (slice_index parents at) → next < at
   next_below next n e =
       let p = forest at within in
       let q = forest (slice_index parents at) (omega arith) in
@@ -51,7 +52,10 @@ module _ (parents : List ℕ) (forest : IsForest parents) (at : ℕ) (within : a
       ]
 
   -- a node that is no root may have its parent's parent as its parent
-  pub roots-halved : (next : ℕ) → slice_index parents at ≢ at → next ≡ slice_index parents (slice_index parents at) → (labels : List ℕ) → AreRoots parents labels → AreRoots (set parents at next) labels × (slice_index labels next ≡ slice_index labels at)
+  pub roots-halved : (next : ℕ) → slice_index parents at ≢ at
+      → next ≡ slice_index parents (slice_index parents at) → (labels : List ℕ)
+      → AreRoots parents labels
+      → AreRoots (set parents at next) labels × (slice_index labels next ≡ slice_index labels at)
   roots-halved next n e labels r =
       let p = forest at within in
       let low : next < at = next_below next n e in
@@ -72,7 +76,8 @@ module _ (parents : List ℕ) (forest : IsForest parents) (at : ℕ) (within : a
       )
 
   -- a root stays one where another node changes its parent
-  pub root-kept : (next v : ℕ) → slice_index parents at ≢ at → slice_index parents v ≡ v → slice_index (set parents at next) v ≡ v
+  pub root-kept : (next v : ℕ) → slice_index parents at ≢ at → slice_index parents v ≡ v
+      → slice_index (set parents at next) v ≡ v
   root-kept next v n e =
       elim (read_set parents at next v 0 within) [
         | inl d ↦ absurd (n (ap (λ z. slice_index parents z) (sym d.0) ∙ e ∙ d.0))
@@ -102,7 +107,8 @@ module _ (parents : List ℕ) (low high : ℕ) (forest : IsForest parents) (low_
   length-relabelled = length-map labels (replaced high low)
 
   -- each is replaced where it stands
-  relabelled-at : (v : ℕ) → v < length labels → slice_index (relabelled high low labels) v ≡ replaced high low (slice_index labels v)
+  relabelled-at : (v : ℕ) → v < length labels
+      → slice_index (relabelled high low labels) v ≡ replaced high low (slice_index labels v)
   unfolding relabelled
   relabelled-at v h = get_or-map (replaced high low) labels v 0 0 h
 
@@ -138,7 +144,8 @@ module _ (parents : List ℕ) (low high : ℕ) (forest : IsForest parents) (low_
       }
 
   -- the labels of two nodes whose roots are these have become one
-  pub linked_down : (a b : ℕ) → high ≡ slice_index labels a → low ≡ slice_index labels b → (after : List ℕ) × AreRoots (set parents high low) after × AreJoined a b labels after
+  pub linked_down : (a b : ℕ) → high ≡ slice_index labels a → low ≡ slice_index labels b
+      → (after : List ℕ) × AreRoots (set parents high low) after × AreJoined a b labels after
   linked_down a b p q = (
     relabelled high low labels,
     roots-linked,
@@ -146,7 +153,8 @@ module _ (parents : List ℕ) (low high : ℕ) (forest : IsForest parents) (low_
   )
 
   -- the same with the nodes in the other order
-  pub linked_up : (a b : ℕ) → low ≡ slice_index labels a → high ≡ slice_index labels b → (after : List ℕ) × AreRoots (set parents high low) after × AreJoined a b labels after
+  pub linked_up : (a b : ℕ) → low ≡ slice_index labels a → high ≡ slice_index labels b
+      → (after : List ℕ) × AreRoots (set parents high low) after × AreJoined a b labels after
   linked_up a b p q = (
     relabelled high low labels,
     roots-linked,
@@ -159,14 +167,18 @@ pub record IsOnTheWayUp (old new : List ℕ) (node at : ℕ) : Type 0 where
   pub forest : IsForest new
   pub within : at < length old
   pub kept : (v : ℕ) → slice_index old v ≡ v → slice_index new v ≡ v
-  pub labels : (labels : List ℕ) → AreRoots old labels → AreRoots new labels × (slice_index labels at ≡ slice_index labels node)
+  pub labels : (labels : List ℕ) → AreRoots old labels
+      → AreRoots new labels × (slice_index labels at ≡ slice_index labels node)
 
 -- at the node itself
-pub starts_up : (old : List ℕ) (node : ℕ) → IsForest old → node < length old → IsOnTheWayUp old old node node
+pub starts_up : (old : List ℕ) (node : ℕ) → IsForest old → node < length old
+    → IsOnTheWayUp old old node node
 starts_up old node f h = record { one_each = refl; forest = f; within = h; kept = λ v e. e; labels = λ labels r. (r, refl) }
 
 -- one step up
-pub climbs : (old new : List ℕ) (node at next : ℕ) → IsOnTheWayUp old new node at → slice_index new at ≢ at → next ≡ slice_index new (slice_index new at) → IsOnTheWayUp old (set new at next) node next
+pub climbs : (old new : List ℕ) (node at next : ℕ) → IsOnTheWayUp old new node at
+    → slice_index new at ≢ at → next ≡ slice_index new (slice_index new at)
+    → IsOnTheWayUp old (set new at next) node next
 climbs old new node at next w n e =
     let inside : at < length new = let h = w.within in omega (arith, w.one_each) in
     let low : next < at = next_below new w.forest at inside next n e in
@@ -182,13 +194,17 @@ climbs old new node at next w n e =
     }
 
 -- at the top the node is its label
-pub arrives : (old new : List ℕ) (node at : ℕ) → IsOnTheWayUp old new node at → slice_index new at ≡ at → (labels : List ℕ) → AreRoots old labels → AreRoots new labels × (at ≡ slice_index labels node)
+pub arrives : (old new : List ℕ) (node at : ℕ) → IsOnTheWayUp old new node at
+    → slice_index new at ≡ at → (labels : List ℕ) → AreRoots old labels
+    → AreRoots new labels × (at ≡ slice_index labels node)
 arrives old new node at w top labels r =
     let now = w.labels labels r in
     (now.0, sym (now.0.root at (let h = w.within in omega (arith, w.one_each)) top) ∙ now.1)
 
 -- joined where the first root is not above the second
-pub joined_down : (old mid : List ℕ) (new : List ℕ) (a b one other : ℕ) → IsForest new → one < length new → other < length new → slice_index new one ≡ one → slice_index new other ≡ other
+pub joined_down : (old mid : List ℕ) (new : List ℕ) (a b one other : ℕ) → IsForest new
+    → one < length new → other < length new → slice_index new one ≡ one
+    → slice_index new other ≡ other
     → ((labels : List ℕ) → AreRoots old labels → AreRoots mid labels × (one ≡ slice_index labels a)) → ((labels : List ℕ) → AreRoots mid labels → AreRoots new labels × (other ≡ slice_index labels b))
     → (before : List ℕ) → AreRoots old before → (after : List ℕ) × AreRoots (set new other one) after × AreJoined a b before after
 joined_down old mid new a b one other f h k s t p q before r =
@@ -197,7 +213,9 @@ joined_down old mid new a b one other f h k s t p q before r =
     linked_up new one other f h k s t before y.0 a b x.1 y.1
 
 -- the same where the second root is not above the first
-pub joined_up : (old mid : List ℕ) (new : List ℕ) (a b one other : ℕ) → IsForest new → one < length new → other < length new → slice_index new one ≡ one → slice_index new other ≡ other
+pub joined_up : (old mid : List ℕ) (new : List ℕ) (a b one other : ℕ) → IsForest new
+    → one < length new → other < length new → slice_index new one ≡ one
+    → slice_index new other ≡ other
     → ((labels : List ℕ) → AreRoots old labels → AreRoots mid labels × (one ≡ slice_index labels a)) → ((labels : List ℕ) → AreRoots mid labels → AreRoots new labels × (other ≡ slice_index labels b))
     → (before : List ℕ) → AreRoots old before → (after : List ℕ) × AreRoots (set new one other) after × AreJoined a b before after
 joined_up old mid new a b one other f h k s t p q before r =
@@ -211,14 +229,16 @@ pub record AreRootsSoFar (old now found : List ℕ) (node : ℕ) : Type 0 where
   pub forest : IsForest now
   pub count : length found ≡ node
   pub below : All (λ label. label < length old) found
-  pub labels : (labels : List ℕ) → AreRoots old labels → AreRoots now labels × ((v : ℕ) → v < node → get_or found v 0 ≡ get_or labels v 0)
+  pub labels : (labels : List ℕ) → AreRoots old labels
+      → AreRoots now labels × ((v : ℕ) → v < node → get_or found v 0 ≡ get_or labels v 0)
 
 -- before the first node
 pub none_so_far : (old : List ℕ) → IsForest old → AreRootsSoFar old old [] 0
 none_so_far old f = record { one_each = refl; forest = f; count = refl; below = All-nil (λ label. label < length old); labels = λ labels r. (r, λ v h. absurd (omega arith)) }
 
 -- one node more, with its root
-pub one_more_root : (old now next found : List ℕ) (node root : ℕ) → AreRootsSoFar old now found node → length next ≡ length now → IsForest next → root < length now
+pub one_more_root : (old now next found : List ℕ) (node root : ℕ) → AreRootsSoFar old now found node
+    → length next ≡ length now → IsForest next → root < length now
     → ((labels : List ℕ) → AreRoots now labels → AreRoots next labels × (root ≡ slice_index labels node)) → AreRootsSoFar old next (found ++ root ∷ []) (node + 1)
 one_more_root old now next found node root s n f h p =
     record {
@@ -238,6 +258,7 @@ one_more_root old now next found node root s n f h p =
     }
 
 -- after all nodes these are the labels
-pub all_roots : (old now found : List ℕ) (node : ℕ) → AreRootsSoFar old now found node → length old ≡ node → (labels : List ℕ) → AreRoots old labels → found ≡ labels
+pub all_roots : (old now found : List ℕ) (node : ℕ) → AreRootsSoFar old now found node
+    → length old ≡ node → (labels : List ℕ) → AreRoots old labels → found ≡ labels
 all_roots old now found node s n labels r =
     ext_get_or 0 found labels (s.count ∙ sym n ∙ sym r.one_each) (λ v h. (s.labels labels r).1 v (omega (arith, s.count)))

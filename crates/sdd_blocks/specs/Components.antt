@@ -6,5 +6,7 @@ use Rattle.sdd_blocks.specs.Graph.{JoinedWithout}
 -- exactly where a walk without that node joins them
 pub record AreComponents (edges : List (ℕ × ℕ)) (without : ℕ) (labels : List ℕ) : Type 0 where
   pub below : All (λ label. label < length labels) labels
-  pub sound : (a b : ℕ) → a < length labels → b < length labels → a ≢ without → b ≢ without → slice_index labels a ≡ slice_index labels b → JoinedWithout edges without a b
-  pub whole : (a b : ℕ) → JoinedWithout edges without a b → slice_index labels a ≡ slice_index labels b
+  pub sound : (a b : ℕ) → a < length labels → b < length labels → a ≢ without → b ≢ without
+      → slice_index labels a ≡ slice_index labels b → JoinedWithout edges without a b
+  pub whole : (a b : ℕ) → JoinedWithout edges without a b
+      → slice_index labels a ≡ slice_index labels b

@@ -10,4 +10,5 @@ IsPaired pairs k = (i : ℕ) × (j : ℕ) × Joins pairs i k j
 pub record AreMarked (pairs : List (ℕ × ℕ)) (labels marks : List ℕ) : Type 0 where
   pub one_each : length marks ≡ length labels
   pub none : (k : ℕ) → slice_get marks k ≡ Some 0 → ¬ IsPaired pairs k
-  pub some : (k x : ℕ) → slice_get marks k ≡ Some (suc x) → (slice_index labels k ≡ x) × IsPaired pairs k
+  pub some : (k x : ℕ) → slice_get marks k ≡ Some (suc x)
+      → (slice_index labels k ≡ x) × IsPaired pairs k

@@ -17,7 +17,8 @@ impl Forest {
     pub(crate) fn new(alloc: Global, nodes: u32) -> Result<Self, NoMemory>
         ensures length { IfOk result (λ forest. length forest.parents.items ≡ nodes) }
         ensures forest { IfOk result (λ forest. IsForest forest.parents.items) }
-        ensures roots { IfOk result (λ forest. AreRoots forest.parents.items (range_with_len 0 nodes)) }
+        ensures roots { IfOk result (λ forest.
+            AreRoots forest.parents.items (range_with_len 0 nodes)) }
     {
         let mut parents = Vec::with_capacity(alloc, nodes as usize)?;
         for node in 0..nodes {
@@ -36,8 +37,10 @@ impl Forest {
         ensures forest { IsForest self.new.parents.items }
         ensures within { result < length self.old.parents.items }
         ensures top { slice_index self.new.parents.items result ≡ result }
-        ensures kept { (v : ℕ) → slice_index self.old.parents.items v ≡ v → slice_index self.new.parents.items v ≡ v }
-        ensures labels { (labels : List ℕ) → AreRoots self.old.parents.items labels → AreRoots self.new.parents.items labels × (result ≡ slice_index labels node) }
+        ensures kept { (v : ℕ) → slice_index self.old.parents.items v ≡ v
+            → slice_index self.new.parents.items v ≡ v }
+        ensures labels { (labels : List ℕ) → AreRoots self.old.parents.items labels
+            → AreRoots self.new.parents.items labels × (result ≡ slice_index labels node) }
     {
         let mut at = node;
         while self.parents[at as usize] != at {
@@ -56,7 +59,8 @@ impl Forest {
         requires forest { IsForest self.old.parents.items }
         ensures length { length self.new.parents.items ≡ length self.old.parents.items }
         ensures forest { IsForest self.new.parents.items }
-        ensures joined { (before : List ℕ) → AreRoots self.old.parents.items before → (after : List ℕ) × AreRoots self.new.parents.items after × AreJoined a b before after }
+        ensures joined { (before : List ℕ) → AreRoots self.old.parents.items before
+            → (after : List ℕ) × AreRoots self.new.parents.items after × AreJoined a b before after }
     {
         let one = self.root(a);
         let other = self.root(b);
@@ -71,8 +75,10 @@ impl Forest {
     pub(crate) fn into_labels(mut self, alloc: Global) -> Result<Vec<u32>, NoMemory>
         requires few { length self.parents.items < 2 ^ 32 }
         requires forest { IsForest self.parents.items }
-        ensures below { IfOk result (λ found. All (λ label. label < length self.parents.items) found.items) }
-        ensures labels { IfOk result (λ found. (labels : List ℕ) → AreRoots self.parents.items labels → found.items ≡ labels) }
+        ensures below { IfOk result (λ found.
+            All (λ label. label < length self.parents.items) found.items) }
+        ensures labels { IfOk result (λ found.
+            (labels : List ℕ) → AreRoots self.parents.items labels → found.items ≡ labels) }
     {
         let nodes = self.parents.len() as u32;
         let mut labels = Vec::with_capacity(alloc, nodes as usize)?;

@@ -1,23 +1,33 @@
 //! The blocks of a multigraph: which edges simple cycles link.
+//!
+//! The one contract to the layer above is the list of block numbers, as `specs/Blocks.antt` defines it over
+//! the walks and simple cycles of `specs/Graph.antt`. What holds of all such lists stands in
+//! `specs/Laws.antt`.
 #![tactic(auto)]
 
-ghost use Rattle.std.specs.Prelude.{◌≡◌, ◌<◌, ◌≤◌, ◌^◌, IfOk, All, length};
+ghost use Rattle.std.specs.Prelude.{◌≡◌, ◌<◌, ◌≤◌, IfOk, All, length};
 ghost use Rattle.sdd_blocks.specs.Blocks.{AreBlocks};
 
 mod components;
 mod forest;
+mod law;
 mod marks;
 mod neighbours;
 mod numbers;
-#[cfg(test)]
-mod tests;
 
 use crate::components::components;
 use crate::marks::marks;
 use crate::neighbours::neighbour_pairs;
 use crate::numbers::numbers;
+pub use law::{law_closed_walks_are_cycles, law_one_number_a_cycle, law_one_numbering};
 use sdd_base::NoMemory;
 use std::alloc::Global;
+
+/// The most edges of a graph.
+pub const MAX_EDGES: usize = 1_048_576;
+
+/// The most nodes of a graph.
+pub const MAX_NODES: u32 = 4_096;
 
 /// The block number of each edge of a multigraph, in the order of the edges.
 ///
@@ -31,8 +41,8 @@ use std::alloc::Global;
 /// of the number of nodes, on average over a pass), and memory for a few numbers for each edge and node.
 pub fn blocks(alloc: Global, edges: &[(u32, u32)], nodes: u32) -> Result<Vec<u32>, NoMemory>
     requires ends { All (λ e. (e.0 < nodes) × (e.1 < nodes)) edges.now }
-    requires few_edges { length edges.now ≤ 2 ^ 20 }
-    requires few_nodes { nodes ≤ 4096 }
+    requires few_edges { length edges.now ≤ MAX_EDGES }
+    requires few_nodes { nodes ≤ MAX_NODES }
     ensures { IfOk result (λ blocks. AreBlocks edges.now blocks.items) }
 {
     let count = edges.len() as u32;

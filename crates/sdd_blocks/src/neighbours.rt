@@ -29,8 +29,14 @@ fn tie(
     pairs: &mut Vec<(u32, u32)>,
 ) -> Result<(), NoMemory>
     requires { label < length first.old.items }
-    ensures none { OnOk result (slice_index_or first.old.items label None ≡ None → (first.new.items ≡ slice_set first.old.items label (Some edge)) × (pairs.new.items ≡ pairs.old.items)) }
-    ensures some { OnOk result ((earlier : ℕ) → slice_index_or first.old.items label None ≡ Some earlier → (first.new.items ≡ first.old.items) × (pairs.new.items ≡ pairs.old.items ++ (edge, earlier) ∷ [])) }
+    ensures none { OnOk result (
+        slice_index_or first.old.items label None ≡ None
+        → (first.new.items ≡ slice_set first.old.items label (Some edge))
+        × (pairs.new.items ≡ pairs.old.items)) }
+    ensures some { OnOk result (
+        (earlier : ℕ) → slice_index_or first.old.items label None ≡ Some earlier
+        → (first.new.items ≡ first.old.items)
+        × (pairs.new.items ≡ pairs.old.items ++ (edge, earlier) ∷ [])) }
 {
     match first[label as usize] {
         Some(earlier) => pairs.push((edge, earlier))?,

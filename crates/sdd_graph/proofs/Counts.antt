@@ -1,12 +1,14 @@
 -- How long lists are that are made of others, and what holds of each item.
-use Rattle.std.proofs.Common.{ℕ, zero, suc, ◌≡◌, ◌≤◌, ◌<◌, ◌+◌, ◌*◌, Bool, true, false, ◌&&◌, cond, List, [], ◌∷◌, map, filter, length, get_or, refl, ap, sym, ◌∙◌, arith, inl, inr}
+use Rattle.std.proofs.Common.{ℕ, zero, suc, ◌≡◌, ◌≤◌, ◌<◌, ◌+◌, ◌*◌, Bool, true, false, cond, List, [], ◌∷◌, map, filter, length, get_or, ap, sym, ◌∙◌, arith, inl, inr}
 use Rattle.std.specs.List.{flat_map, range_with_len, All, AllByRecursion}
 use Rattle.std.proofs.lemmas.List.{length-append}
 use Rattle.std.proofs.lemmas.List.Elements.{All-filter, All-map, All-nil, All-append, recursion_from_All, filter_passes}
 use Rattle.std.proofs.lemmas.Bool.{cases_eq}
 
 -- where no list is longer than b, all together are at most b for each number
-pub flat_bound : {A : Type 0} (f : ℕ → List A) (b a n : ℕ) → ((i : ℕ) → a ≤ i → i < a + n → length (f i) ≤ b) → length (flat_map f (range_with_len a n)) ≤ n * b
+pub flat_bound : {A : Type 0} (f : ℕ → List A) (b a n : ℕ)
+    → ((i : ℕ) → a ≤ i → i < a + n → length (f i) ≤ b)
+    → length (flat_map f (range_with_len a n)) ≤ n * b
 flat_bound f b a zero each = omega arith
 flat_bound f b a (suc n) each =
     let here : length (f a) ≤ b = each a (omega arith) (omega arith) in
@@ -14,7 +16,8 @@ flat_bound f b a (suc n) each =
     simp length-append (omega arith)
 
 -- and b fewer where one list is empty
-pub flat_bound_but_one : {A : Type 0} (f : ℕ → List A) (b i a n : ℕ) → ((x : ℕ) → length (f x) ≤ b) → f i ≡ [] → a ≤ i → i < a + n → length (flat_map f (range_with_len a n)) + b ≤ n * b
+pub flat_bound_but_one : {A : Type 0} (f : ℕ → List A) (b i a n : ℕ) → ((x : ℕ) → length (f x) ≤ b)
+    → f i ≡ [] → a ≤ i → i < a + n → length (flat_map f (range_with_len a n)) + b ≤ n * b
 flat_bound_but_one f b i a zero each none from to = absurd (omega arith)
 flat_bound_but_one f b i a (suc n) each none from to =
     elim (cases_eq i a) [
@@ -29,24 +32,25 @@ flat_bound_but_one f b i a (suc n) each none from to =
     ]
 
 -- what is made of the items that pass is no longer than the items
-pub kept_bound : {X A : Type 0} (g : X → A) (p : X → Bool) (xs : List X) → length (map g (filter p xs)) ≤ length xs
+pub kept_bound : {X A : Type 0} (g : X → A) (p : X → Bool) (xs : List X)
+    → length (map g (filter p xs)) ≤ length xs
 kept_bound g p [] = omega arith
 kept_bound g p (x ∷ xs) =
     let rest : length (map g (filter p xs)) ≤ length xs = kept_bound g p xs in
     elim (p x) as (λ b. length (map g (cond b (x ∷ filter p xs) (filter p xs))) ≤ length (x ∷ xs)) [ true ↦ omega arith | false ↦ omega arith ]
 
-each_flat : {X A : Type 0} (P : A → Type 0) (Q : X → Type 0) (f : X → List A) → ((x : X) → Q x → All P (f x)) → (xs : List X) → AllByRecursion Q xs → All P (flat_map f xs)
+each_flat : {X A : Type 0} (P : A → Type 0) (Q : X → Type 0) (f : X → List A)
+    → ((x : X) → Q x → All P (f x)) → (xs : List X) → AllByRecursion Q xs → All P (flat_map f xs)
 each_flat P Q f h [] all = All-nil P
 each_flat P Q f h (x ∷ xs) all = All-append P (f x) (flat_map f xs) (h x all.0) (each_flat P Q f h xs all.1)
 
 -- what holds of each list's items holds of all items
-pub all_flat : {X A : Type 0} (P : A → Type 0) (Q : X → Type 0) (f : X → List A) → ((x : X) → Q x → All P (f x)) → (xs : List X) → All Q xs → All P (flat_map f xs)
+pub all_flat : {X A : Type 0} (P : A → Type 0) (Q : X → Type 0) (f : X → List A)
+    → ((x : X) → Q x → All P (f x)) → (xs : List X) → All Q xs → All P (flat_map f xs)
 all_flat P Q f h xs all = each_flat P Q f h xs (recursion_from_All Q xs all)
 
 -- what holds of all that is made of items that pass
-pub all_kept : {X A : Type 0} (P : A → Type 0) (Q : X → Type 0) (g : X → A) (p : X → Bool) → ((x : X) → Q x → p x ≡ true → P (g x)) → (xs : List X) → All Q xs → All P (map g (filter p xs))
+pub all_kept : {X A : Type 0} (P : A → Type 0) (Q : X → Type 0) (g : X → A) (p : X → Bool)
+    → ((x : X) → Q x → p x ≡ true → P (g x)) → (xs : List X) → All Q xs
+    → All P (map g (filter p xs))
 all_kept P Q g p h xs all = All-map P g (filter p xs) (λ k d within. h (get_or (filter p xs) k d) (All-filter p Q xs all k d within) (filter_passes p xs k d within))
-
-pub both_true : (a b : Bool) → (a && b) ≡ true → (a ≡ true) × (b ≡ true)
-both_true true b e = (refl, e)
-both_true false b e = cc

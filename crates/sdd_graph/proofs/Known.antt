@@ -1,16 +1,17 @@
 -- What is known of each edge of a conflict graph, and how many there are.
-use Rattle.std.proofs.Common.{ℕ, ◌≡◌, ◌≤◌, ◌<◌, ◌==◌, nat_lt, Bool, true, false, ◌&&◌, not, is_some, ◌++◌, length, refl, arith}
+use Rattle.std.proofs.Common.{ℕ, ◌≡◌, ◌≤◌, ◌<◌, ◌==◌, nat_lt, true, ◌&&◌, not, is_some, ◌++◌, length, arith}
 use Rattle.std.specs.List.{All}
-use Rattle.std.proofs.lemmas.Bool.{ltb-true, eqb-false}
+use Rattle.std.proofs.lemmas.Bool.{ltb-true, eqb-false, and_parts, not-true}
 use Rattle.std.proofs.lemmas.List.Elements.{All-map, All-append, All-weaker}
 use Rattle.sdd_catalog.specs.Catalogue.{Catalogue, reads_at, writes}
 use Rattle.sdd_catalog.specs.Numbers.{IsWhole}
 use Rattle.sdd_graph.specs.declared.edge.Edge.{Edge}
 use Rattle.sdd_graph.specs.declared.edge.Edge.TheVariants.{Vertical, Horizontal, Diagonal}
-use Rattle.sdd_graph.specs.Graph.{class_no, classes_of, fragments_of, vertical_edges, write_sets_meet, horizontals_from, horizontal_edges, diagonals_between, diagonals_from, diagonal_edges, conflict_graph}
+use Rattle.sdd_base.specs.Numbers.{class_no}
+use Rattle.sdd_graph.specs.Graph.{classes_of, fragments_of, vertical_edges, write_sets_meet, horizontals_from, horizontal_edges, diagonals_between, diagonals_from, diagonal_edges, conflict_graph}
 use Rattle.sdd_graph.specs.Edges.{IsClassOf, IsClassNo, WriteTogether, ReadsFrom, IsEdgeOf, NamesClasses, JoinsNodes}
 use Rattle.sdd_graph.proofs.Tables.{each_to}
-use Rattle.sdd_graph.proofs.Counts.{all_flat, all_kept, both_true}
+use Rattle.sdd_graph.proofs.Counts.{all_flat, all_kept}
 use Rattle.sdd_graph.proofs.Pairs.{diagonal}
 
 each_class : (cat : Catalogue) → All (IsClassOf cat) (classes_of cat)
@@ -19,38 +20,40 @@ each_class cat = All-weaker (λ i. (1 ≤ i) × (i ≤ length cat.classes)) (IsC
 verticals_known : (cat : Catalogue) → All (IsEdgeOf cat) (vertical_edges cat)
 verticals_known cat = All-map (IsEdgeOf cat) (λ i. Vertical (class_no i)) (classes_of cat) (each_class cat)
 
-joined_known : (cat : Catalogue) (i j : ℕ) → IsClassOf cat i → IsClassOf cat j → (nat_lt i j && write_sets_meet cat i j) ≡ true → WriteTogether cat i j
+joined_known : (cat : Catalogue) (i j : ℕ) → IsClassOf cat i → IsClassOf cat j
+    → (nat_lt i j && write_sets_meet cat i j) ≡ true → WriteTogether cat i j
 joined_known cat i j first second e =
-    let both = both_true (nat_lt i j) (write_sets_meet cat i j) e in
+    let both = and_parts (nat_lt i j) (write_sets_meet cat i j) e in
     record { first = first; second = second; before = ltb-true i j both.0; meet = both.1 }
 
-horizontals_known : (cat : Catalogue) (i : ℕ) → IsClassOf cat i → All (IsEdgeOf cat) (horizontals_from cat i)
+horizontals_known : (cat : Catalogue) (i : ℕ) → IsClassOf cat i
+    → All (IsEdgeOf cat) (horizontals_from cat i)
 horizontals_known cat i is =
     all_kept (IsEdgeOf cat) (IsClassOf cat) (λ j. Horizontal (class_no i) (class_no j)) (λ j. nat_lt i j && write_sets_meet cat i j) (λ j. joined_known cat i j is) (classes_of cat) (each_class cat)
 
-not_true : (b : Bool) → not b ≡ true → b ≡ false
-not_true true e = cc
-not_true false e = refl
-
-read_known : (cat : Catalogue) (i j f : ℕ) → IsClassOf cat i → IsClassOf cat j → (1 ≤ f) × (f ≤ length cat.fragments) → (not (i == j) && (is_some (reads_at cat i f) && writes cat j f)) ≡ true → ReadsFrom cat i j f
+read_known : (cat : Catalogue) (i j f : ℕ) → IsClassOf cat i → IsClassOf cat j
+    → (1 ≤ f) × (f ≤ length cat.fragments)
+    → (not (i == j) && (is_some (reads_at cat i f) && writes cat j f)) ≡ true → ReadsFrom cat i j f
 read_known cat i j f reader writer there e =
-    let apart = both_true (not (i == j)) (is_some (reads_at cat i f) && writes cat j f) e in
-    let both = both_true (is_some (reads_at cat i f)) (writes cat j f) apart.1 in
+    let apart = and_parts (not (i == j)) (is_some (reads_at cat i f) && writes cat j f) e in
+    let both = and_parts (is_some (reads_at cat i f)) (writes cat j f) apart.1 in
     record {
       reader = reader;
       writer = writer;
-      others = eqb-false i j (not_true (i == j) apart.0);
+      others = eqb-false i j (not-true (i == j) apart.0);
       from = there.0;
       to = there.1;
       read = both.0;
       written = both.1;
     }
 
-between_known : (cat : Catalogue) (i j : ℕ) → IsClassOf cat i → IsClassOf cat j → All (IsEdgeOf cat) (diagonals_between cat i j)
+between_known : (cat : Catalogue) (i j : ℕ) → IsClassOf cat i → IsClassOf cat j
+    → All (IsEdgeOf cat) (diagonals_between cat i j)
 between_known cat i j reader writer =
     all_kept (IsEdgeOf cat) (λ f. (1 ≤ f) × (f ≤ length cat.fragments)) (diagonal i j) (λ f. not (i == j) && (is_some (reads_at cat i f) && writes cat j f)) (λ f. read_known cat i j f reader writer) (fragments_of cat) (each_to (length cat.fragments))
 
-diagonals_known : (cat : Catalogue) (i : ℕ) → IsClassOf cat i → All (IsEdgeOf cat) (diagonals_from cat i)
+diagonals_known : (cat : Catalogue) (i : ℕ) → IsClassOf cat i
+    → All (IsEdgeOf cat) (diagonals_from cat i)
 diagonals_known cat i is = all_flat (IsEdgeOf cat) (IsClassOf cat) (diagonals_between cat i) (λ j. between_known cat i j is) (classes_of cat) (each_class cat)
 
 -- each edge is one of the catalogue
@@ -64,7 +67,8 @@ edges_known cat =
 class_number : (cat : Catalogue) (i : ℕ) → length cat.classes ≤ 64 → IsClassOf cat i → IsClassNo i
 class_number cat i few is = let to : i ≤ length cat.classes = is.to in record { from = is.from; to = omega arith }
 
-edge_named : (cat : Catalogue) → length cat.classes ≤ 64 → (e : Edge) → IsEdgeOf cat e → NamesClasses e
+edge_named : (cat : Catalogue) → length cat.classes ≤ 64 → (e : Edge) → IsEdgeOf cat e
+    → NamesClasses e
 edge_named cat few (Vertical i) is = class_number cat i.0 few is
 edge_named cat few (Horizontal i j) is = (class_number cat i.0 few is.first, class_number cat j.0 few is.second)
 edge_named cat few (Diagonal i j f) is = (class_number cat i.0 few is.reader, class_number cat j.0 few is.writer)

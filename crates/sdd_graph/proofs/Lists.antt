@@ -2,11 +2,13 @@
 use Rattle.std.proofs.Common.{ℕ, zero, suc, ◌≡◌, ◌≢◌, ◌≤◌, ◌-◌, ◌+◌, ◌==◌, Bool, true, false, ◌&&◌, ◌||◌, cond, List, [], ◌∷◌, ◌++◌, map, filter, set, Option, Some, None, is_some, refl, ap, sym, ◌∙◌, arith, append_assoc, eq-eqb}
 use Rattle.std.specs.List.{flat_map, list_any, range_with_len, zip}
 use Rattle.std.specs.Option.{option_map}
+use Rattle.std.proofs.Math.Bool.{or-false}
 use Rattle.std.proofs.lemmas.Bool.{ne_eqb}
 use Rattle.std.proofs.lemmas.List.{map-append, append-nil, flat_map_more}
 use Rattle.std.proofs.lemmas.List.Elements.{filter-append}
 use Rattle.std.proofs.lemmas.List.Folds.{list_any-append}
-use Rattle.sdd_catalog.specs.Catalogue.{numbers_to, has}
+use Rattle.sdd_base.specs.declared.number.FragNo.{FragNo}
+use Rattle.sdd_catalog.specs.Catalogue.{numbers_to}
 
 -- one number more, from a on
 range_more : (a n : ℕ) → range_with_len a (suc n) ≡ range_with_len a n ++ (a + n) ∷ []
@@ -23,36 +25,52 @@ up_to i some =
     ap numbers_to e ∙ range_more 1 (i - 1) ∙ ap (λ z. numbers_to (i - 1) ++ z ∷ []) f
 
 -- the image of one more
-pub map_more : {X A : Type 0} (g : X → A) (xs more : List X) (x : X) → more ≡ xs ++ x ∷ [] → map g more ≡ map g xs ++ g x ∷ []
+pub map_more : {X A : Type 0} (g : X → A) (xs more : List X) (x : X) → more ≡ xs ++ x ∷ []
+    → map g more ≡ map g xs ++ g x ∷ []
 map_more g xs more x e = ap (map g) e ∙ map-append g xs (x ∷ [])
 
+-- a list of images: one more
+pub collected_more : {X A : Type 0} (g : X → A) (xs more : List X) (x : X) (d : A) (items new : List A)
+    → more ≡ xs ++ x ∷ [] → items ≡ map g xs → d ≡ g x → new ≡ items ++ d ∷ [] → new ≡ map g more
+collected_more g xs more x d items new e before same now =
+    now ∙ ap (λ z. z ++ d ∷ []) before ∙ ap (λ z. map g xs ++ z ∷ []) same ∙ sym (map_more g xs more x e)
+
 -- what is made of each one, in order: one more
-pub each_more : {X A : Type 0} (f : X → List A) (xs more : List X) (x : X) (old items new : List A) → more ≡ xs ++ x ∷ [] → items ≡ old ++ flat_map f xs → new ≡ items ++ f x → new ≡ old ++ flat_map f more
+pub each_more : {X A : Type 0} (f : X → List A) (xs more : List X) (x : X) (old items new : List A)
+    → more ≡ xs ++ x ∷ [] → items ≡ old ++ flat_map f xs → new ≡ items ++ f x
+    → new ≡ old ++ flat_map f more
 each_more f xs more x old items new e before now =
     now ∙ ap (λ z. z ++ f x) before ∙ flat_map_more f old xs x ∙ ap (λ z. old ++ flat_map f z) (sym e)
 
 -- those that pass: one more that passes
-pub filter_takes : {X : Type 0} (p : X → Bool) (xs more : List X) (x : X) → more ≡ xs ++ x ∷ [] → p x ≡ true → filter p more ≡ filter p xs ++ x ∷ []
+pub filter_takes : {X : Type 0} (p : X → Bool) (xs more : List X) (x : X) → more ≡ xs ++ x ∷ []
+    → p x ≡ true → filter p more ≡ filter p xs ++ x ∷ []
 filter_takes p xs more x e passes =
     ap (filter p) e ∙ filter-append p xs (x ∷ []) ∙ ap (λ b. filter p xs ++ cond b (x ∷ []) []) passes
 
 -- and one that doesn't
-pub filter_leaves : {X : Type 0} (p : X → Bool) (xs more : List X) (x : X) → more ≡ xs ++ x ∷ [] → p x ≡ false → filter p more ≡ filter p xs
+pub filter_leaves : {X : Type 0} (p : X → Bool) (xs more : List X) (x : X) → more ≡ xs ++ x ∷ []
+    → p x ≡ false → filter p more ≡ filter p xs
 filter_leaves p xs more x e fails =
     ap (filter p) e ∙ filter-append p xs (x ∷ []) ∙ ap (λ b. filter p xs ++ cond b (x ∷ []) []) fails ∙ append-nil (filter p xs)
 
 -- what is made of each one that passes, in order: one more that passes
-pub kept_more : {X A : Type 0} (g : X → A) (p : X → Bool) (xs more : List X) (x : X) (old items new : List A) → more ≡ xs ++ x ∷ [] → items ≡ old ++ map g (filter p xs) → p x ≡ true → new ≡ items ++ g x ∷ [] → new ≡ old ++ map g (filter p more)
+pub kept_more : {X A : Type 0} (g : X → A) (p : X → Bool) (xs more : List X) (x : X) (old items new : List A)
+    → more ≡ xs ++ x ∷ [] → items ≡ old ++ map g (filter p xs) → p x ≡ true
+    → new ≡ items ++ g x ∷ [] → new ≡ old ++ map g (filter p more)
 kept_more g p xs more x old items new e before passes now =
     let kept = filter p xs in
     now ∙ ap (λ z. z ++ g x ∷ []) before ∙ append_assoc old (map g kept) (g x ∷ []) ∙ ap (λ z. old ++ z) (sym (map_more g kept (filter p more) x (filter_takes p xs more x e passes)))
 
 -- and one that doesn't
-pub left_more : {X A : Type 0} (g : X → A) (p : X → Bool) (xs more : List X) (x : X) (old items new : List A) → more ≡ xs ++ x ∷ [] → items ≡ old ++ map g (filter p xs) → p x ≡ false → new ≡ items → new ≡ old ++ map g (filter p more)
+pub left_more : {X A : Type 0} (g : X → A) (p : X → Bool) (xs more : List X) (x : X) (old items new : List A)
+    → more ≡ xs ++ x ∷ [] → items ≡ old ++ map g (filter p xs) → p x ≡ false → new ≡ items
+    → new ≡ old ++ map g (filter p more)
 left_more g p xs more x old items new e before fails now = now ∙ before ∙ ap (λ z. old ++ map g z) (sym (filter_leaves p xs more x e fails))
 
 -- of two tests one after the other
-pub filter_both : {A : Type 0} (p q : A → Bool) (xs : List A) → filter (λ x. p x && q x) xs ≡ filter q (filter p xs)
+pub filter_both : {A : Type 0} (p q : A → Bool) (xs : List A)
+    → filter (λ x. p x && q x) xs ≡ filter q (filter p xs)
 filter_both p q [] = refl
 filter_both p q (x ∷ xs) =
     elim (p x) as (λ b. cond (b && q x) (x ∷ filter (λ y. p y && q y) xs) (filter (λ y. p y && q y) xs) ≡ filter q (cond b (x ∷ filter p xs) (filter p xs))) [
@@ -69,17 +87,20 @@ filter_none [] = refl
 filter_none (x ∷ xs) = filter_none xs
 
 -- whether two tests hold at one item, from what they say of each
-pub any_both : {A : Type 0} (p q : A → Bool) (xs : List A) → list_any (λ (x : Bool × Bool). x.0 && x.1) (zip (map p xs) (map q xs)) ≡ list_any (λ x. p x && q x) xs
+pub any_both : {A : Type 0} (p q : A → Bool) (xs : List A)
+    → list_any (λ (x : Bool × Bool). x.0 && x.1) (zip (map p xs) (map q xs)) ≡ list_any (λ x. p x && q x) xs
 any_both p q [] = refl
 any_both p q (x ∷ xs) = ap (λ b. (p x && q x) || b) (any_both p q xs)
 
 -- a value is there where its image is
-pub is_some_mapped : {A B : Type 0} (f : A → B) (o : Option A) → is_some (option_map f o) ≡ is_some o
+pub is_some_mapped : {A B : Type 0} (f : A → B) (o : Option A)
+    → is_some (option_map f o) ≡ is_some o
 is_some_mapped f None = refl
 is_some_mapped f (Some x) = refl
 
 -- two tests that agree from a on say the same of the numbers from a on
-map_agree : (p q : ℕ → Bool) (a n : ℕ) → ((x : ℕ) → a ≤ x → p x ≡ q x) → map p (range_with_len a n) ≡ map q (range_with_len a n)
+map_agree : (p q : ℕ → Bool) (a n : ℕ) → ((x : ℕ) → a ≤ x → p x ≡ q x)
+    → map p (range_with_len a n) ≡ map q (range_with_len a n)
 map_agree p q a zero same = refl
 map_agree p q a (suc n) same =
     let head : p a ≡ q a = same a (omega arith) in
@@ -93,7 +114,8 @@ or_other : (b : Bool) (f x : ℕ) → f ≢ x → (b || (f == x)) ≡ b
 or_other b f x n = elim b as (λ b. (b || (f == x)) ≡ b) [ true ↦ refl | false ↦ ne_eqb f x n ]
 
 -- a number marked among those from a on
-mark_from : (p : ℕ → Bool) (a n f k : ℕ) → f ≡ a + k → set (map p (range_with_len a n)) k true ≡ map (λ x. p x || (f == x)) (range_with_len a n)
+mark_from : (p : ℕ → Bool) (a n f k : ℕ) → f ≡ a + k
+    → set (map p (range_with_len a n)) k true ≡ map (λ x. p x || (f == x)) (range_with_len a n)
 mark_from p a zero f k e = refl
 mark_from p a (suc n) f zero e =
     let head : (p a || (f == a)) ≡ true = or_equal (p a) f a (omega arith) in
@@ -105,16 +127,19 @@ mark_from p a (suc n) f (suc k) e =
     let rest : set (map p (range_with_len (a + 1) n)) k true ≡ map (λ x. p x || (f == x)) (range_with_len (a + 1) n) = mark_from p (a + 1) n f k (omega arith) in
     ap (λ b. b ∷ set (map p (range_with_len (a + 1) n)) k true) (sym head) ∙ ap (λ bs. (p a || (f == a)) ∷ bs) rest
 
-or_none : (b : Bool) → (b || false) ≡ b
-or_none true = refl
-or_none false = refl
+-- whether a number is that of one of the fragments
+abbrev pub is_among : List FragNo → ℕ → Bool
+is_among frags x = list_any (λ f. f.0 == x) frags
 
-has_more : (ws : List ℕ) (f x : ℕ) → has (ws ++ f ∷ []) x ≡ (has ws x || (f == x))
-has_more ws f x = list_any-append (λ y. y == x) ws (f ∷ []) ∙ ap (λ b. has ws x || b) (or_none (f == x))
+among_more : (frags : List FragNo) (f : FragNo) (x : ℕ)
+    → is_among (frags ++ f ∷ []) x ≡ (is_among frags x || (f.0 == x))
+among_more frags f x =
+    list_any-append (λ y. y.0 == x) frags (f ∷ []) ∙ ap (λ b. is_among frags x || b) (or-false (f.0 == x))
 
--- a flag set at a number is that of a list with the number behind it
-pub mark_more : (ws more : List ℕ) (n f : ℕ) → more ≡ ws ++ f ∷ [] → 1 ≤ f → set (map (has ws) (numbers_to n)) (f - 1) true ≡ map (has more) (numbers_to n)
-mark_more ws more n f e some =
-    mark_from (has ws) 1 n f (f - 1) (omega arith)
-    ∙ map_agree (λ x. has ws x || (f == x)) (has (ws ++ f ∷ [])) 1 n (λ x h. sym (has_more ws f x))
-    ∙ ap (λ zs. map (has zs) (numbers_to n)) (sym e)
+-- a flag set at a fragment's number is that of a list with the fragment behind it
+pub mark_more : (frags more : List FragNo) (n : ℕ) (f : FragNo) → more ≡ frags ++ f ∷ [] → 1 ≤ f.0
+    → set (map (is_among frags) (numbers_to n)) (f.0 - 1) true ≡ map (is_among more) (numbers_to n)
+mark_more frags more n f e some =
+    mark_from (is_among frags) 1 n f.0 (f.0 - 1) (omega arith)
+    ∙ map_agree (λ x. is_among frags x || (f.0 == x)) (is_among (frags ++ f ∷ [])) 1 n (λ x h. sym (among_more frags f x))
+    ∙ ap (λ zs. map (is_among zs) (numbers_to n)) (sym e)

@@ -5,7 +5,8 @@ use Rattle.std.proofs.lemmas.List.{take_all}
 use Rattle.sdd_catalog.specs.Catalogue.{Catalogue, reads_at, writes}
 use Rattle.sdd_graph.specs.declared.edge.Edge.{Edge}
 use Rattle.sdd_graph.specs.declared.edge.Edge.TheVariants.{Diagonal}
-use Rattle.sdd_graph.specs.Graph.{class_no, frag_no, fragments_of, diagonals_between}
+use Rattle.sdd_base.specs.Numbers.{class_no, frag_no}
+use Rattle.sdd_graph.specs.Graph.{fragments_of, diagonals_between}
 use Rattle.sdd_graph.specs.Uses.{reads_of}
 use Rattle.sdd_graph.proofs.Lists.{filter_both, filter_none}
 
@@ -20,7 +21,10 @@ none_to_itself cat i j e =
     ∙ ap (map (diagonal i j)) (filter_none (fragments_of cat))
 
 -- one leads to another class for each fragment that is read and that the other writes
-pub between_others : (cat : Catalogue) (i j : ℕ) (reads : List ℕ) (k : ℕ) (old edges : List Edge) → i ≢ j → reads ≡ reads_of cat i → length reads ≤ k → edges ≡ old ++ map (diagonal i j) (filter (writes cat j) (take k reads)) → edges ≡ old ++ diagonals_between cat i j
+pub between_others : (cat : Catalogue) (i j : ℕ) (reads : List ℕ) (k : ℕ) (old edges : List Edge)
+    → i ≢ j → reads ≡ reads_of cat i → length reads ≤ k
+    → edges ≡ old ++ map (diagonal i j) (filter (writes cat j) (take k reads))
+    → edges ≡ old ++ diagonals_between cat i j
 between_others cat i j reads k old edges others e done made =
     let all : filter (writes cat j) (take k reads) ≡ filter (λ f. is_some (reads_at cat i f) && writes cat j f) (fragments_of cat) =
     ap (filter (writes cat j)) (take_all k reads done ∙ e) ∙ sym (filter_both (λ f. is_some (reads_at cat i f)) (writes cat j) (fragments_of cat)) in

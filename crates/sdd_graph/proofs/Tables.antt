@@ -1,8 +1,11 @@
 -- What the tables of a catalogue hold at a class and at a fragment.
-use Rattle.std.proofs.Common.{ℕ, ◌≡◌, ◌≤◌, ◌<◌, ◌-◌, ◌+◌, Bool, ◌&&◌, List, is_some, length, get_or, ap, ◌∙◌, arith}
+use Rattle.std.proofs.Common.{ℕ, ◌≡◌, ◌≤◌, ◌<◌, ◌-◌, ◌+◌, ◌==◌, Bool, true, false, cond, ◌&&◌, List, is_some, map, take, length, get_or, ap, sym, ◌∙◌, arith}
 use Rattle.std.specs.List.{list_any, zip, All}
+use Rattle.std.proofs.lemmas.Bool.{ne_eqb}
+use Rattle.std.proofs.lemmas.List.{take_all}
 use Rattle.std.proofs.lemmas.List.Elements.{All-same, All-filter, All-weaker, All-from_recursion}
 use Rattle.std.proofs.lemmas.List.FromFn.{get_or-map-range_with_len, length-map-range_with_len}
+use Rattle.sdd_base.specs.declared.number.FragNo.{FragNo}
 use Rattle.sdd_catalog.specs.Catalogue.{Catalogue, numbers_to, class_at, reads_at, writes}
 use Rattle.sdd_catalog.specs.Numbers.{IsWhole, IsServedClass}
 use Rattle.sdd_catalog.proofs.Sound.{each_in_range}
@@ -10,14 +13,16 @@ use Rattle.sdd_graph.specs.declared.class_uses.ClassUses.{ClassUses}
 use Rattle.sdd_graph.specs.Graph.{fragments_of, write_sets_meet}
 use Rattle.sdd_graph.specs.Edges.{IsClassOf}
 use Rattle.sdd_graph.specs.Uses.{reads_of, written_by, class_uses, all_uses}
-use Rattle.sdd_graph.proofs.Lists.{any_both}
+use Rattle.sdd_graph.proofs.Lists.{any_both, is_among}
 
 -- so many classes
-pub all_uses_long : (cat : Catalogue) (uses : List ClassUses) → uses ≡ all_uses cat → length uses ≡ length cat.classes
+pub all_uses_long : (cat : Catalogue) (uses : List ClassUses) → uses ≡ all_uses cat
+    → length uses ≡ length cat.classes
 all_uses_long cat uses e = ap length e ∙ length-map-range_with_len (class_uses cat) 1 (length cat.classes)
 
 -- one of them
-pub uses_at : (cat : Catalogue) (uses : List ClassUses) (i : ℕ) (d : ClassUses) → uses ≡ all_uses cat → IsClassOf cat i → get_or uses (i - 1) d ≡ class_uses cat i
+pub uses_at : (cat : Catalogue) (uses : List ClassUses) (i : ℕ) (d : ClassUses)
+    → uses ≡ all_uses cat → IsClassOf cat i → get_or uses (i - 1) d ≡ class_uses cat i
 uses_at cat uses i d e is =
     let from : 1 ≤ i = is.from in
     let to : i ≤ length cat.classes = is.to in
@@ -28,7 +33,8 @@ pub written_long : (cat : Catalogue) (i : ℕ) → length (written_by cat i) ≡
 written_long cat i = length-map-range_with_len (writes cat i) 1 (length cat.fragments)
 
 -- one of them
-pub written_at : (cat : Catalogue) (i f : ℕ) (d : Bool) → 1 ≤ f → f ≤ length cat.fragments → get_or (written_by cat i) (f - 1) d ≡ writes cat i f
+pub written_at : (cat : Catalogue) (i f : ℕ) (d : Bool) → 1 ≤ f → f ≤ length cat.fragments
+    → get_or (written_by cat i) (f - 1) d ≡ writes cat i f
 written_at cat i f d from to = get_or-map-range_with_len (writes cat i) 1 (length cat.fragments) (f - 1) f d (omega arith) (omega arith)
 
 -- the numbers from 1 to n are such
@@ -36,17 +42,32 @@ pub each_to : (n : ℕ) → All (λ d. (1 ≤ d) × (d ≤ n)) (numbers_to n)
 each_to n = All-weaker (λ d. (1 ≤ d) × (d < 1 + n)) (λ d. (1 ≤ d) × (d ≤ n)) (λ d h. (h.0, omega (arith, h.1))) (numbers_to n) (All-from_recursion _ (numbers_to n) (each_in_range 1 n))
 
 -- what is read is there
-pub reads_within : (cat : Catalogue) (i : ℕ) → All (λ f. (1 ≤ f) × (f ≤ length cat.fragments)) (reads_of cat i)
+pub reads_within : (cat : Catalogue) (i : ℕ)
+    → All (λ f. (1 ≤ f) × (f ≤ length cat.fragments)) (reads_of cat i)
 reads_within cat i = All-filter (λ f. is_some (reads_at cat i f)) (λ f. (1 ≤ f) × (f ≤ length cat.fragments)) (fragments_of cat) (each_to (length cat.fragments))
 
 -- two write sets meet where their flags do
-pub flags_meet : (cat : Catalogue) (i j : ℕ) → list_any (λ (x : Bool × Bool). x.0 && x.1) (zip (written_by cat i) (written_by cat j)) ≡ write_sets_meet cat i j
+pub flags_meet : (cat : Catalogue) (i j : ℕ)
+    → list_any (λ (x : Bool × Bool). x.0 && x.1) (zip (written_by cat i) (written_by cat j)) ≡ write_sets_meet cat i j
 flags_meet cat i j = any_both (writes cat i) (writes cat j) (fragments_of cat)
 
 -- what is written is there
-pub writes_within : (cat : Catalogue) (i : ℕ) (written : List ℕ) → IsWhole cat → IsClassOf cat i → written ≡ (class_at cat i).writes → All (λ f. (1 ≤ f) × (f ≤ length cat.fragments)) written
+pub writes_within : (cat : Catalogue) (i : ℕ) (written : List FragNo) → IsWhole cat
+    → IsClassOf cat i
+    → written ≡ (class_at cat i).writes → All (λ f. (1 ≤ f.0) × (f.0 ≤ length cat.fragments)) written
 writes_within cat i written whole is e =
     let from : 1 ≤ i = is.from in
     let to : i ≤ length cat.classes = is.to in
     let served : IsServedClass cat (class_at cat i) = whole.classes (i - 1) _ (omega arith) in
-    All-same (λ f. (1 ≤ f) × (f ≤ length cat.fragments)) written _ e served.writes
+    All-same (λ f. (1 ≤ f.0) × (f.0 ≤ length cat.fragments)) written _ e served.writes
+
+-- the flags of all fragments that are written
+pub written_all : (cat : Catalogue) (i : ℕ) (written : List FragNo) (k : ℕ) (flags : List Bool) → IsClassOf cat i
+    → written ≡ (class_at cat i).writes → length written ≤ k
+    → flags ≡ map (is_among (take k written)) (fragments_of cat) → flags ≡ written_by cat i
+written_all cat i written k flags is e done made =
+    let from : 1 ≤ i = is.from in
+    let declared : (i == 0) ≡ false = ne_eqb i 0 (λ z. absurd (omega arith)) in
+    made
+    ∙ ap (λ ws. map (is_among ws) (fragments_of cat)) (take_all k written done ∙ e)
+    ∙ ap (λ b. map (λ f. cond b true (is_among (class_at cat i).writes f)) (fragments_of cat)) (sym declared)

@@ -1,13 +1,15 @@
 -- Worked rows of conflict graphs.
-use Rattle.std.specs.Prelude.{ℕ, pos, negsuc, ◌-◌, ◌^◌, ◌≡◌, List, [], ◌∷◌, refl}
+use Rattle.std.specs.Prelude.{ℕ, pos, negsuc, ◌-◌, ◌^◌, ◌≡◌, List, [], ◌∷◌, map, refl}
 use Rattle.sdd_catalog.specs.declared.parts.Kind.TheVariants as kinds
 use Rattle.sdd_catalog.specs.declared.resolved.Relation.{Relation}
 use Rattle.sdd_catalog.specs.declared.resolved.Fragment.{Fragment}
+use Rattle.sdd_catalog.specs.declared.resolved.Read.{Read}
 use Rattle.sdd_catalog.specs.declared.resolved.Class.{Class}
 use Rattle.sdd_catalog.specs.Catalogue.{Catalogue}
 use Rattle.sdd_graph.specs.declared.edge.Edge.{Edge}
 use Rattle.sdd_graph.specs.declared.edge.Edge.TheVariants.{Vertical, Horizontal, Diagonal}
-use Rattle.sdd_graph.specs.Graph.{class_no, frag_no, conflict_graph, ends}
+use Rattle.sdd_base.specs.Numbers.{class_no, frag_no, dm_no, tm_no, rel_no}
+use Rattle.sdd_graph.specs.Graph.{conflict_graph, ends}
 
 abbrev pub vertical : ℕ → Edge
 vertical i = Vertical (class_no i)
@@ -20,20 +22,30 @@ diagonal i j f = Diagonal (class_no i) (class_no j) (frag_no f)
 
 -- a relation of two columns, in two fragments at two modules: keys to 9, and from 10
 abbrev pub item : Relation
-item = record { name = []; columns = record { name = []; kind = kinds.Int } ∷ record { name = []; kind = kinds.Int } ∷ []; key = 1 }
+item =
+    record {
+      name = [];
+      columns = record { name = []; kind = kinds.Int } ∷ record { name = []; kind = kinds.Int } ∷ [];
+      key = 1;
+    }
 
 abbrev pub halves : List Fragment
 halves =
-    record { name = []; rel = 1; least = negsuc (2 ^ 63 - 1); greatest = pos 9; copies = 1 ∷ [] }
-    ∷ record { name = []; rel = 1; least = pos 10; greatest = pos (2 ^ 63 - 1); copies = 2 ∷ [] }
+    record { name = []; rel = rel_no 1; least = negsuc (2 ^ 63 - 1); greatest = pos 9; copies = dm_no 1 ∷ [] }
+    ∷ record { name = []; rel = rel_no 1; least = pos 10; greatest = pos (2 ^ 63 - 1); copies = dm_no 2 ∷ [] }
     ∷ []
 
 abbrev pub with_classes : List Class → Catalogue
-with_classes classes = record { tms = 2; dms = 2; relations = item ∷ []; fragments = halves; classes = classes }
+with_classes classes =
+    record { tms = 2; dms = 2; relations = item ∷ []; fragments = halves; classes = classes }
+
+abbrev read_from : ℕ × ℕ → Read
+read_from r = record { fragment = frag_no r.0; at = dm_no r.1 }
 
 -- a class that reads these fragments where they are, and writes those
 abbrev pub class : List (ℕ × ℕ) → List ℕ → Class
-class reads writes = record { name = []; tm = 1; reads = reads; writes = writes }
+class reads writes =
+    record { name = []; tm = tm_no 1; reads = map read_from reads; writes = map frag_no writes }
 
 -- one class writes both fragments, another reads both, in the other order
 pub writer_and_reader :
@@ -56,7 +68,7 @@ each_by_itself = refl
 pub ends_of_a_vertical : ends (vertical 2) ≡ (2, 3)
 ends_of_a_vertical = refl
 
-pub ends_of_a_horizontal : ends (horizontal 1 2) ≡ (1, 3)
+pub ends_of_a_horizontal : ends (horizontal 1 64) ≡ (1, 127)
 ends_of_a_horizontal = refl
 
 -- from the reader to the writer

@@ -52,8 +52,8 @@ fn written_by(alloc: Global, cat: &Catalogue, class: ClassNo) -> Result<Listed<b
 {
     cat.known();
     let mut written = vec![in alloc; false; cat.fragments() as usize]?;
-    for f in cat.class(class).writes.as_slice() {
-        written[*f as usize - 1] = true;
+    for frag in cat.class(class).writes.as_slice() {
+        written[frag.0 as usize - 1] = true;
     }
     Ok(Listed::from_vec(written))
 }

@@ -14,6 +14,3 @@ mod uses;
 pub use conflicts::conflict_graph;
 pub use edge::Edge;
 pub use nodes::{ends, law_nodes_differ};
-
-#[cfg(test)]
-mod tests;

@@ -6,7 +6,7 @@ ghost use Rattle.sdd_graph.specs.Graph.{write_sets_meet};
 ghost use Rattle.sdd_graph.specs.Uses.{reads_of, class_uses};
 
 use crate::class_uses::{ClassUses, class_uses};
-use sdd_base::{ClassNo, NoMemory};
+use sdd_base::{ClassNo, MAX_CLASSES, NoMemory};
 use sdd_catalog::Catalogue;
 use std::alloc::Global;
 use std::marker::Model;
@@ -47,7 +47,7 @@ impl<'a> Uses<'a> {
     /// How many classes there are.
     pub(crate) fn classes(&self) -> u32
         ensures count { result ≡ length self.now.classes }
-        ensures few { result ≤ 64 }
+        ensures few { result ≤ MAX_CLASSES }
     {
         self.cat.known();
         self.cat.classes()

@@ -9,7 +9,8 @@ use Rattle.sdd_net.specs.declared.channel.Channel.{Channel}
 use Rattle.sdd_net.specs.Links.{Call, Delivers, Loses, Repeats, Way, Link, link, unused, after_call, on_link, deliver, lose, repeat, packet_at, with_packet, without_at, with_flight}
 use Rattle.sdd_net.specs.Sound.{IsSound}
 use Rattle.sdd_net.specs.Nets.{Directions, is_link, site_count, index_of, unused_channel, Matches, Fits, Stands, StandsFor, Changes, ArePair, ChangesPair, IsNet, Does, HasLink}
-use Rattle.sdd_net.proofs.Lists.{without-past, get-within}
+use Rattle.std.proofs.lemmas.Option.{slice_get_within}
+use Rattle.sdd_net.proofs.Lists.{without-past}
 use Rattle.sdd_net.proofs.Directions.{link_parts, link_back, place_below, index_apart, back_is, step, one_way}
 use Rattle.sdd_net.proofs.Sound.{sound}
 
@@ -28,16 +29,20 @@ module _ {M : Type 0} where
   abbrev pub net_of : Bool → ℕ → ℕ → List (Channel M) → Kept (Directions M)
   net_of live tms dms channels = record { live = live; value = record { tms = tms; dms = dms; channels = channels } }
 
-  pub live_is : (net : Kept (Directions M)) (live : Bool) (tms dms : ℕ) (channels : List (Channel M)) → net_of live tms dms channels ≡ net → IsTrue net.live → live ≡ true
+  pub live_is : (net : Kept (Directions M)) (live : Bool) (tms dms : ℕ) (channels : List (Channel M))
+      → net_of live tms dms channels ≡ net → IsTrue net.live → live ≡ true
   live_is net live tms dms channels e h = ap (λ n. n.live) e ∙ h
 
-  pub stands_of : (net : Kept (Directions M)) (live : Bool) (tms dms : ℕ) (channels : List (Channel M)) (calls : List (Call M)) → net_of live tms dms channels ≡ net → StandsFor net calls → Stands tms dms channels calls
+  pub stands_of : (net : Kept (Directions M)) (live : Bool) (tms dms : ℕ) (channels : List (Channel M)) (calls : List (Call M))
+      → net_of live tms dms channels ≡ net → StandsFor net calls → Stands tms dms channels calls
   stands_of net live tms dms channels calls e h = subst (λ n. StandsFor n calls) (sym e) h
 
-  pub exists_of : (net : Kept (Directions M)) (live : Bool) (tms dms : ℕ) (channels : List (Channel M)) (a b : Site) → net_of live tms dms channels ≡ net → HasLink net a b → IsTrue (is_link tms dms a b)
+  pub exists_of : (net : Kept (Directions M)) (live : Bool) (tms dms : ℕ) (channels : List (Channel M)) (a b : Site)
+      → net_of live tms dms channels ≡ net → HasLink net a b → IsTrue (is_link tms dms a b)
   exists_of net live tms dms channels a b e h = subst (λ n. HasLink n a b) (sym e) h
 
-  pub does : (net : Kept (Directions M)) (live after : Bool) (tms dms : ℕ) (old new : List (Channel M)) (call : Call M) → net_of live tms dms old ≡ net → after ≡ true
+  pub does : (net : Kept (Directions M)) (live after : Bool) (tms dms : ℕ) (old new : List (Channel M)) (call : Call M)
+      → net_of live tms dms old ≡ net → after ≡ true
       → ((calls : List (Call M)) → Stands tms dms old calls → Stands tms dms new (call ∷ calls)) → Does net (net_of after tms dms new) call
   does net live after tms dms old new call e l h = record {
     live = l;
@@ -47,7 +52,8 @@ module _ {M : Type 0} where
   }
 
   -- the fields still make a network
-  pub still : (tms dms : ℕ) (all : List (Site × Site)) (live after : Bool) (old new : List (Channel M)) (call : Call M) → IsNet tms dms all live old → live ≡ true
+  pub still : (tms dms : ℕ) (all : List (Site × Site)) (live after : Bool) (old new : List (Channel M)) (call : Call M)
+      → IsNet tms dms all live old → live ≡ true
       → ((calls : List (Call M)) → Stands tms dms old calls → Stands tms dms new (call ∷ calls)) → IsNet tms dms all after new
   still tms dms all live after old new call n l h = record {
     few_tms = n.few_tms;
@@ -69,15 +75,18 @@ module _ {M : Type 0} where
       (subst (λ k. Fits (slice_get new k) (f l).there) e c.fits)
       (λ k ne. c.others k (λ x. ne (x ∙ e)))
 
-  back_kept : (o : Option (Packet M)) (f : Packet M → Way M) (l : Link M) → (with_packet o (λ p. record l { there = f p }) l).back ≡ l.back
+  back_kept : (o : Option (Packet M)) (f : Packet M → Way M) (l : Link M)
+      → (with_packet o (λ p. record l { there = f p }) l).back ≡ l.back
   back_kept None f l = refl
   back_kept (Some p) f l = refl
 
-  lost : (o : Option (Packet M)) (k : ℕ) (l : Link M) → slice_get l.there.flight k ≡ o → (with_packet o (λ p. record l { there = with_flight (without_at l.there.flight k) l.there }) l).there ≡ with_flight (without_at l.there.flight k) l.there
+  lost : (o : Option (Packet M)) (k : ℕ) (l : Link M) → slice_get l.there.flight k ≡ o
+      → (with_packet o (λ p. record l { there = with_flight (without_at l.there.flight k) l.there }) l).there ≡ with_flight (without_at l.there.flight k) l.there
   lost None k l e = ap (λ f. with_flight f l.there) (sym (without-past l.there.flight k e))
   lost (Some p) k l e = refl
 
-  pub lose_does : (tms dms : ℕ) (old new : List (Channel M)) (at place : ℕ) (from to : Site) → at ≡ index_of tms dms from to → IsTrue (is_link tms dms from to)
+  pub lose_does : (tms dms : ℕ) (old new : List (Channel M)) (at place : ℕ) (from to : Site)
+      → at ≡ index_of tms dms from to → IsTrue (is_link tms dms from to)
       → ((w : Way M) → Fits (slice_get old at) w → Changes old new at (with_flight (without_at w.flight (place - 1)) w))
       → (calls : List (Call M)) → Stands tms dms old calls → Stands tms dms new (Loses from to place ∷ calls)
   lose_does tms dms old new at place from to e exists change =
@@ -86,7 +95,8 @@ module _ {M : Type 0} where
       (λ l s h. subst (Changes old new at) (sym (lost (packet_at place l) (place - 1) l refl)) (change l.there h))
 
   -- a packet is there where its place is not past the end
-  pub repeated_way : {E : Type 0} (old new : List (Channel M)) (at place : ℕ) (there : Bool) (l : Link M) (o : Option (Packet M)) → 1 ≤ place → packet_at place l ≡ o
+  pub repeated_way : {E : Type 0} (old new : List (Channel M)) (at place : ℕ) (there : Bool) (l : Link M) (o : Option (Packet M))
+      → 1 ≤ place → packet_at place l ≡ o
       → (◌≡◌ {A = Result Bool E} (Ok there) (Ok true) → (w : Way M) (p : Packet M) → Fits (slice_get old at) w → slice_get w.flight (place - 1) ≡ Some p → Changes old new at (with_flight (w.flight ++ p ∷ []) w))
       → (◌≡◌ {A = Result Bool E} (Ok there) (Ok true) → (w : Way M) → Fits (slice_get old at) w → place ≤ length w.flight)
       → (◌≡◌ {A = Result Bool E} (Ok there) (Ok false) → (w : Way M) → Fits (slice_get old at) w → Changes old new at w × (length w.flight < place))
@@ -94,12 +104,13 @@ module _ {M : Type 0} where
       → Changes old new at (with_packet o (λ p. record l { there = with_flight (l.there.flight ++ p ∷ []) l.there }) l).there × (there ≡ is_some o)
   repeated_way old new at place true l (Some p) one e some inside none fits = (some refl l.there p fits e, refl)
   repeated_way old new at place false l (Some p) one e some inside none fits =
-      let b = (none refl l.there fits).1 in let w = get-within l.there.flight (place - 1) p e in absurd (omega (arith, b, w))
+      let b = (none refl l.there fits).1 in let w = slice_get_within l.there.flight (place - 1) p e in absurd (omega (arith, b, w))
   repeated_way old new at place true l None one e some inside none fits =
       absurd (past l.there.flight (place - 1) (omega (arith, inside refl l.there fits)) e)
   repeated_way old new at place false l None one e some inside none fits = ((none refl l.there fits).0, refl)
 
-  pub repeat_does : (tms dms : ℕ) (old new : List (Channel M)) (at place : ℕ) (from to : Site) → at ≡ index_of tms dms from to → IsTrue (is_link tms dms from to)
+  pub repeat_does : (tms dms : ℕ) (old new : List (Channel M)) (at place : ℕ) (from to : Site)
+      → at ≡ index_of tms dms from to → IsTrue (is_link tms dms from to)
       → ((l : Link M) → Fits (slice_get old at) l.there → Changes old new at (repeat place l).there)
       → (calls : List (Call M)) → Stands tms dms old calls → Stands tms dms new (Repeats from to place ∷ calls)
   repeat_does tms dms old new at place from to e exists change =
@@ -107,7 +118,9 @@ module _ {M : Type 0} where
       (λ l. back_kept (packet_at place l) (λ p. with_flight (l.there.flight ++ p ∷ []) l.there) l) e exists (λ l s h. change l h)
 
   -- the two directions of a link
-  pub pair_of : (tms dms : ℕ) (channels : List (Channel M)) (there back : ℕ) (from to : Site) (calls : List (Call M)) → there ≡ index_of tms dms from to → back ≡ index_of tms dms to from → IsTrue (is_link tms dms from to)
+  pub pair_of : (tms dms : ℕ) (channels : List (Channel M)) (there back : ℕ) (from to : Site) (calls : List (Call M))
+      → there ≡ index_of tms dms from to → back ≡ index_of tms dms to from
+      → IsTrue (is_link tms dms from to)
       → Stands tms dms channels calls → ArePair channels there back (link from to calls)
   pair_of tms dms channels there back from to calls e f exists stands = record {
     apart = λ x. index_apart tms dms from to exists (sym e ∙ x ∙ f);
@@ -116,7 +129,9 @@ module _ {M : Type 0} where
         (subst (λ w. Fits (slice_get channels (index_of tms dms to from)) w) (back_is tms dms from to calls exists) (stands to from (link_back tms dms from to exists)));
   }
 
-  pub deliver_does : (tms dms : ℕ) (old new : List (Channel M)) (there back place : ℕ) (from to : Site) → there ≡ index_of tms dms from to → back ≡ index_of tms dms to from → IsTrue (is_link tms dms from to)
+  pub deliver_does : (tms dms : ℕ) (old new : List (Channel M)) (there back place : ℕ) (from to : Site)
+      → there ≡ index_of tms dms from to → back ≡ index_of tms dms to from
+      → IsTrue (is_link tms dms from to)
       → ((l : Link M) → ArePair old there back l → IsSound l → ChangesPair old new there back (deliver place l))
       → (calls : List (Call M)) → Stands tms dms old calls → Stands tms dms new (Delivers from to place ∷ calls)
   deliver_does tms dms old new there back place from to e f exists change calls stands =
@@ -136,7 +151,9 @@ unused_matches M = record {
   received = record { count = refl; early = record { ascends = tt; are_sent = tt; same = λ n l. refl } };
 }
 
-pub unused_stands : (M : Type 0) (tms dms : ℕ) (channels : List (Channel M)) → channels ≡ replicate (site_count tms dms * site_count tms dms) unused_channel → Stands tms dms channels []
+pub unused_stands : (M : Type 0) (tms dms : ℕ) (channels : List (Channel M))
+    → channels ≡ replicate (site_count tms dms * site_count tms dms) unused_channel
+    → Stands tms dms channels []
 unused_stands M tms dms channels e a b exists =
     let p = link_parts tms dms a b exists in
     let below : index_of tms dms a b < site_count tms dms * site_count tms dms = mul-add-lt _ _ _ _ (place_below tms dms a p.from) (place_below tms dms b p.to) in

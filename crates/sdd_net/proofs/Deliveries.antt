@@ -8,7 +8,7 @@ use Rattle.sdd_net.specs.declared.channel.Channel.{Channel}
 use Rattle.sdd_net.specs.Links.{Way, Link, packet_at, deliver, arrives, with_packet, without_packet, without_at, with_flight, with_ack, with_arrival, delivered, newly_delivered, delivery}
 use Rattle.sdd_net.specs.Sound.{IsOf, IsSoundWay, IsSound}
 use Rattle.sdd_net.specs.Nets.{Matches, Fits, IsLive, IsLiveAt, Changes, ArePair, ChangesPair, sent_by}
-use Rattle.sdd_net.proofs.Lists.{every_get, without-past}
+use Rattle.sdd_net.proofs.Lists.{All-at, without-past}
 use Rattle.sdd_net.proofs.Matching.{last_number_is}
 use Rattle.sdd_net.proofs.Sound.{delivered_le}
 
@@ -20,28 +20,33 @@ module _ {M : Type 0} where
   fits_live None w h = h
   fits_live (Some c) w h = matches_live c w h
 
-  pub sent_of : (o : Option (Channel M)) (w : Way M) → w.acked ≤ length w.sent → Fits o w → sent_by o ≡ length w.sent
+  pub sent_of : (o : Option (Channel M)) (w : Way M) → w.acked ≤ length w.sent → Fits o w
+      → sent_by o ≡ length w.sent
   sent_of None w l h = absurd h
   sent_of (Some c) w l h = last_number_is c w l h
 
   -- what a change on one direction leaves of another
-  pub stays : (old new : List (Channel M)) (at other : ℕ) (w v : Way M) → Changes old new at w → other ≢ at → Fits (slice_get old other) v → Fits (slice_get new other) v
+  pub stays : (old new : List (Channel M)) (at other : ℕ) (w v : Way M) → Changes old new at w
+      → other ≢ at → Fits (slice_get old other) v → Fits (slice_get new other) v
   stays old new at other w v h ne f = subst (λ o. Fits o v) (sym (h.others other ne)) f
 
   -- a packet in flight is right
-  pub packet_is_of : (l : Link M) (k : ℕ) (p : Packet M) → slice_get l.there.flight k ≡ Some p → IsSound l → IsOf l.there.sent (delivered l.back) p
-  packet_is_of l k p e h = every_get (IsOf l.there.sent (delivered l.back)) l.there.flight k p e h.there.packets
+  pub packet_is_of : (l : Link M) (k : ℕ) (p : Packet M) → slice_get l.there.flight k ≡ Some p
+      → IsSound l → IsOf l.there.sent (delivered l.back) p
+  packet_is_of l k p e h = All-at (IsOf l.there.sent (delivered l.back)) l.there.flight k p e h.there.packets
 
   pub acked_le : (w : Way M) (back : ℕ) → IsSoundWay w back → w.acked ≤ length w.sent
   acked_le w back h = omega (arith, h.acked, delivered_le w back h)
 
   -- an acknowledgement is of what was sent
-  pub ack_known : (l : Link M) (k j : ℕ) (o : Option (Channel M)) → slice_get l.there.flight j ≡ Some (Ack k) → IsSound l → Fits o l.back → k ≤ sent_by o
+  pub ack_known : (l : Link M) (k j : ℕ) (o : Option (Channel M))
+      → slice_get l.there.flight j ≡ Some (Ack k) → IsSound l → Fits o l.back → k ≤ sent_by o
   ack_known l k j o e h f =
       let of : k ≤ delivered l.back = packet_is_of l j (Ack k) e h in
       omega (arith, delivered_le l.back (delivered l.there) h.back, sent_of o l.back (acked_le l.back (delivered l.there) h.back) f)
 
-  pub delivers_nothing : (old new : List (Channel M)) (there back place : ℕ) (l : Link M) → ArePair old there back l → packet_at place l ≡ None
+  pub delivers_nothing : (old new : List (Channel M)) (there back place : ℕ) (l : Link M)
+      → ArePair old there back l → packet_at place l ≡ None
       → Changes old new there (with_flight (without_at l.there.flight (place - 1)) l.there) → ChangesPair old new there back (deliver place l)
   delivers_nothing old new there back place l pair e h =
       subst (λ o. ChangesPair old new there back (with_packet o (λ p. arrives p (without_packet place l)) l)) (sym e) (record {
@@ -50,7 +55,8 @@ module _ {M : Type 0} where
         others = λ k a b. h.others k a;
       })
 
-  pub delivers_ack : (old mid new : List (Channel M)) (there back place k : ℕ) (l : Link M) → ArePair old there back l → packet_at place l ≡ Some (Ack k)
+  pub delivers_ack : (old mid new : List (Channel M)) (there back place k : ℕ) (l : Link M)
+      → ArePair old there back l → packet_at place l ≡ Some (Ack k)
       → Changes old mid there (with_flight (without_at l.there.flight (place - 1)) l.there) → Changes mid new back (with_ack k l.back) → ChangesPair old new there back (deliver place l)
   delivers_ack old mid new there back place k l pair e h i =
       subst (λ o. ChangesPair old new there back (with_packet o (λ p. arrives p (without_packet place l)) l)) (sym e) (record {
@@ -59,7 +65,8 @@ module _ {M : Type 0} where
         others = λ j a b. i.others j b ∙ h.others j a;
       })
 
-  pub delivers_message : (old mid more new : List (Channel M)) (there back place n : ℕ) (m : M) (l : Link M) → ArePair old there back l → packet_at place l ≡ Some (Message n m)
+  pub delivers_message : (old mid more new : List (Channel M)) (there back place n : ℕ) (m : M) (l : Link M)
+      → ArePair old there back l → packet_at place l ≡ Some (Message n m)
       → Changes old mid there (with_flight (without_at l.there.flight (place - 1)) l.there)
       → Changes mid more there (with_arrival n (with_flight (without_at l.there.flight (place - 1)) l.there))
       → Changes more new back (with_flight (l.back.flight ++ Ack (delivered (with_arrival n l.there)) ∷ []) l.back)
@@ -71,11 +78,16 @@ module _ {M : Type 0} where
         others = λ k a b. j.others k b ∙ (i.others k a ∙ h.others k a);
       })
 
-  pub gives_nothing : (place : ℕ) (l : Link M) → packet_at place l ≡ None → Nothing ≡ delivery place l
+  pub gives_nothing : (place : ℕ) (l : Link M) → packet_at place l ≡ None
+      → Nothing ≡ delivery place l
   gives_nothing place l e = rw e refl
 
-  pub gives_acked : (place k : ℕ) (l : Link M) → packet_at place l ≡ Some (Ack k) → Acked ≡ delivery place l
+  pub gives_acked : (place k : ℕ) (l : Link M) → packet_at place l ≡ Some (Ack k)
+      → Acked ≡ delivery place l
   gives_acked place k l e = rw e refl
 
-  pub gives_messages : (place n : ℕ) (m : M) (l : Link M) (messages : List M) → packet_at place l ≡ Some (Message n m) → messages ≡ newly_delivered l.there (with_arrival n l.there) → Messages messages ≡ delivery place l
+  pub gives_messages : (place n : ℕ) (m : M) (l : Link M) (messages : List M)
+      → packet_at place l ≡ Some (Message n m)
+      → messages ≡ newly_delivered l.there (with_arrival n l.there)
+      → Messages messages ≡ delivery place l
   gives_messages place n m l messages e f = rw e (ap Messages f)

@@ -60,7 +60,8 @@ link_parts tms dms a b h =
     let q = and_parts (is_site tms dms b) (are_linked a b) p.1 in
     record { from = p.0; to = q.0; linked = q.1 }
 
-pub link_back : (tms dms : ℕ) (a b : Site) → IsTrue (is_link tms dms a b) → IsTrue (is_link tms dms b a)
+pub link_back : (tms dms : ℕ) (a b : Site) → IsTrue (is_link tms dms a b)
+    → IsTrue (is_link tms dms b a)
 link_back tms dms a b h =
     let p = link_parts tms dms a b h in
     let back : are_linked b a ≡ true = linked_back a b p.linked in
@@ -69,12 +70,14 @@ link_back tms dms a b h =
 within : (n most : ℕ) → (nat_le 1 n && nat_le n most) ≡ true → (1 ≤ n) × (n ≤ most)
 within n most e = let p = and_parts (nat_le 1 n) (nat_le n most) e in (leb-true 1 n p.0, leb-true n most p.1)
 
-pub place_below : (tms dms : ℕ) (a : Site) → is_site tms dms a ≡ true → place_of tms a < site_count tms dms
+pub place_below : (tms dms : ℕ) (a : Site) → is_site tms dms a ≡ true
+    → place_of tms a < site_count tms dms
 place_below tms dms U e = omega arith
 place_below tms dms (T n) e = let w = within n.0 tms e in omega (arith, w.0, w.1)
 place_below tms dms (D n) e = let w = within n.0 dms e in omega (arith, w.0, w.1)
 
-place_is : (tms dms : ℕ) (a b : Site) → is_site tms dms a ≡ true → is_site tms dms b ≡ true → place_of tms a ≡ place_of tms b → a ≡ b
+place_is : (tms dms : ℕ) (a b : Site) → is_site tms dms a ≡ true → is_site tms dms b ≡ true
+    → place_of tms a ≡ place_of tms b → a ≡ b
 place_is tms dms U U d e p = refl
 place_is tms dms U (T n) d e p = let w = within n.0 tms e in absurd (omega (arith, w.0, w.1))
 place_is tms dms U (D n) d e p = let w = within n.0 dms e in absurd (omega (arith, w.0, w.1))
@@ -86,19 +89,22 @@ place_is tms dms (D m) (T n) d e p = let v = within m.0 dms d in let w = within 
 place_is tms dms (D m) (D n) d e p = let same : m.0 ≡ n.0 = omega arith in ap (λ k. D (record { 0 = k })) same
 
 -- two links have one index only if they are one
-pub index_is : (tms dms : ℕ) (a b c d : Site) → IsTrue (is_link tms dms a b) → IsTrue (is_link tms dms c d) → index_of tms dms a b ≡ index_of tms dms c d → (a ≡ c) × (b ≡ d)
+pub index_is : (tms dms : ℕ) (a b c d : Site) → IsTrue (is_link tms dms a b)
+    → IsTrue (is_link tms dms c d) → index_of tms dms a b ≡ index_of tms dms c d → (a ≡ c) × (b ≡ d)
 index_is tms dms a b c d h k e =
     let p = link_parts tms dms a b h in
     let q = link_parts tms dms c d k in
     let same = same_from_place (place_of tms a) (place_of tms b) (place_of tms c) (place_of tms d) (site_count tms dms) (place_below tms dms b p.to) (place_below tms dms d q.to) e in
     (place_is tms dms a c p.from q.from same.0, place_is tms dms b d p.to q.to same.1)
 
-pub index_apart : (tms dms : ℕ) (a b : Site) → IsTrue (is_link tms dms a b) → index_of tms dms a b ≢ index_of tms dms b a
+pub index_apart : (tms dms : ℕ) (a b : Site) → IsTrue (is_link tms dms a b)
+    → index_of tms dms a b ≢ index_of tms dms b a
 index_apart tms dms a b h e =
     linked_apart a b (link_parts tms dms a b h).linked (index_is tms dms a b b a h (link_back tms dms a b h) e).0
 
 -- the link back is the link, turned
-turned_on : {M : Type 0} (c d e g : Bool) (f : Link M → Link M) (l : Link M) → e ≡ d → g ≡ c → ((c ≡ true) → (d ≡ true) → ⊥)
+turned_on : {M : Type 0} (c d e g : Bool) (f : Link M → Link M) (l : Link M) → e ≡ d → g ≡ c
+    → ((c ≡ true) → (d ≡ true) → ⊥)
     → (if e then f (turned l) else if g then turned (f (turned (turned l))) else turned l) ≡ turned (if c then f l else if d then turned (f (turned l)) else l)
 turned_on true true e g f l p q not = absurd (not refl refl)
 turned_on true false e g f l p q not = rw (p, q) refl
@@ -111,13 +117,15 @@ and_swap true false = refl
 and_swap false true = refl
 and_swap false false = refl
 
-on_link_turned : {M : Type 0} (a b from to : Site) (f : Link M → Link M) (l : Link M) → a ≢ b → on_link b a from to f (turned l) ≡ turned (on_link a b from to f l)
+on_link_turned : {M : Type 0} (a b from to : Site) (f : Link M → Link M) (l : Link M) → a ≢ b
+    → on_link b a from to f (turned l) ≡ turned (on_link a b from to f l)
 on_link_turned a b from to f l ne =
     turned_on (same_site a from && same_site b to) (same_site a to && same_site b from) (same_site b from && same_site a to) (same_site b to && same_site a from) f l
     (and_swap (same_site b from) (same_site a to)) (and_swap (same_site b to) (same_site a from))
     (λ p q. ne (same_is a from (and_parts (same_site a from) (same_site b to) p).0 ∙ sym (same_is b from (and_parts (same_site a to) (same_site b from) q).1)))
 
-pub link_turned : {M : Type 0} (a b : Site) (calls : List (Call M)) → a ≢ b → link b a calls ≡ turned (link a b calls)
+pub link_turned : {M : Type 0} (a b : Site) (calls : List (Call M)) → a ≢ b
+    → link b a calls ≡ turned (link a b calls)
 link_turned a b [] ne = refl
 link_turned a b (Puts from to m ∷ calls) ne = ap (on_link b a from to (put m)) (link_turned a b calls ne) ∙ on_link_turned a b from to (put m) (link a b calls) ne
 link_turned a b (Delivers from to place ∷ calls) ne = ap (on_link b a from to (deliver place)) (link_turned a b calls ne) ∙ on_link_turned a b from to (deliver place) (link a b calls) ne
@@ -125,7 +133,8 @@ link_turned a b (Loses from to place ∷ calls) ne = ap (on_link b a from to (lo
 link_turned a b (Repeats from to place ∷ calls) ne = ap (on_link b a from to (repeat place)) (link_turned a b calls ne) ∙ on_link_turned a b from to (repeat place) (link a b calls) ne
 link_turned a b (Resends from to ∷ calls) ne = ap (on_link b a from to resend) (link_turned a b calls ne) ∙ on_link_turned a b from to resend (link a b calls) ne
 
-pub back_is : {M : Type 0} (tms dms : ℕ) (a b : Site) (calls : List (Call M)) → IsTrue (is_link tms dms a b) → (link b a calls).there ≡ (link a b calls).back
+pub back_is : {M : Type 0} (tms dms : ℕ) (a b : Site) (calls : List (Call M))
+    → IsTrue (is_link tms dms a b) → (link b a calls).there ≡ (link a b calls).back
 back_is tms dms a b calls h = ap (λ l. l.there) (link_turned a b calls (linked_apart a b (link_parts tms dms a b h).linked))
 
 -- what a call does to the channels of its link makes the network stand for the calls with it

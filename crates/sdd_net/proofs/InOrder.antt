@@ -23,7 +23,8 @@ take-on : {A : Type 0} (j k : ℕ) (xs : List A) → j ≤ k → take j xs ++ dr
 take-on j k xs l = ap (λ ys. ys ++ drop j (take k xs)) (sym (take-less j k xs l)) ∙ take-append-drop j (take k xs)
 
 module _ {M : Type 0} where
-  puts : (c d : Bool) (m : M) (l : Link M) (ms : List M) → delivered l.there ≤ length l.there.sent → ms ≡ due l.there
+  puts : (c d : Bool) (m : M) (l : Link M) (ms : List M) → delivered l.there ≤ length l.there.sent
+      → ms ≡ due l.there
       → ms ≡ due (if c then put m l else if d then turned (put m (turned l)) else l).there
   puts true d m l ms le e = e ∙ sym (take-append-le (delivered l.there) l.there.sent (m ∷ []) le)
   puts false true m l ms le e = e
@@ -36,7 +37,8 @@ module _ {M : Type 0} where
   hands (Some (Message n m)) place l ms e = ap (λ xs. xs ++ drop (top l.there.arrived) (take (top (n ∷ l.there.arrived)) l.there.sent)) e ∙ take-on (top l.there.arrived) (top (n ∷ l.there.arrived)) l.there.sent (top_rises n l.there.arrived)
 
   -- a delivery on the link back hands nothing on here
-  back_hands : (o : Option (Packet M)) (place : ℕ) (l : Link M) (ms : List M) → ms ≡ due l.back → ms ≡ due (with_packet o (λ p. arrives p (without_packet place l)) l).back
+  back_hands : (o : Option (Packet M)) (place : ℕ) (l : Link M) (ms : List M) → ms ≡ due l.back
+      → ms ≡ due (with_packet o (λ p. arrives p (without_packet place l)) l).back
   back_hands None place l ms e = e
   back_hands (Some (Ack k)) place l ms e = e
   back_hands (Some (Message n m)) place l ms e = e
@@ -48,30 +50,38 @@ module _ {M : Type 0} where
   delivers false false place l ms e = append-nil ms ∙ e
 
   -- a change of the flight alone
-  flies : (o : Option (Packet M)) (f : Packet M → List (Packet M)) (l : Link M) (ms : List M) → ms ≡ due l.there → ms ≡ due (with_packet o (λ p. record l { there = with_flight (f p) l.there }) l).there
+  flies : (o : Option (Packet M)) (f : Packet M → List (Packet M)) (l : Link M) (ms : List M)
+      → ms ≡ due l.there
+      → ms ≡ due (with_packet o (λ p. record l { there = with_flight (f p) l.there }) l).there
   flies None f l ms e = e
   flies (Some p) f l ms e = e
 
-  flies_back : (o : Option (Packet M)) (f : Packet M → List (Packet M)) (l : Link M) (ms : List M) → ms ≡ due l.back → ms ≡ due (with_packet o (λ p. record l { there = with_flight (f p) l.there }) l).back
+  flies_back : (o : Option (Packet M)) (f : Packet M → List (Packet M)) (l : Link M) (ms : List M)
+      → ms ≡ due l.back
+      → ms ≡ due (with_packet o (λ p. record l { there = with_flight (f p) l.there }) l).back
   flies_back None f l ms e = e
   flies_back (Some p) f l ms e = e
 
-  loses : (c d : Bool) (place : ℕ) (l : Link M) (ms : List M) → ms ≡ due l.there → ms ≡ due (if c then lose place l else if d then turned (lose place (turned l)) else l).there
+  loses : (c d : Bool) (place : ℕ) (l : Link M) (ms : List M) → ms ≡ due l.there
+      → ms ≡ due (if c then lose place l else if d then turned (lose place (turned l)) else l).there
   loses true d place l ms e = flies (packet_at place l) _ l ms e
   loses false true place l ms e = flies_back (packet_at place (turned l)) _ (turned l) ms e
   loses false false place l ms e = e
 
-  repeats : (c d : Bool) (place : ℕ) (l : Link M) (ms : List M) → ms ≡ due l.there → ms ≡ due (if c then repeat place l else if d then turned (repeat place (turned l)) else l).there
+  repeats : (c d : Bool) (place : ℕ) (l : Link M) (ms : List M) → ms ≡ due l.there
+      → ms ≡ due (if c then repeat place l else if d then turned (repeat place (turned l)) else l).there
   repeats true d place l ms e = flies (packet_at place l) (λ p. l.there.flight ++ p ∷ []) l ms e
   repeats false true place l ms e = flies_back (packet_at place (turned l)) (λ p. l.back.flight ++ p ∷ []) (turned l) ms e
   repeats false false place l ms e = e
 
-  resends : (c d : Bool) (l : Link M) (ms : List M) → ms ≡ due l.there → ms ≡ due (if c then resend l else if d then turned (resend (turned l)) else l).there
+  resends : (c d : Bool) (l : Link M) (ms : List M) → ms ≡ due l.there
+      → ms ≡ due (if c then resend l else if d then turned (resend (turned l)) else l).there
   resends true d l ms e = e
   resends false true l ms e = e
   resends false false l ms e = e
 
-pub in_order : {M : Type 0} (a b : Site) (calls : List (Call M)) → handed a b calls ≡ due (link a b calls).there
+pub in_order : {M : Type 0} (a b : Site) (calls : List (Call M))
+    → handed a b calls ≡ due (link a b calls).there
 in_order a b [] = refl
 in_order a b (Puts from to m ∷ calls) =
     puts (same_site a from && same_site b to) (same_site a to && same_site b from) m (link a b calls) (handed a b calls) (delivered_le (link a b calls).there (delivered (link a b calls).back) (sound a b calls).there) (in_order a b calls)
@@ -80,7 +90,8 @@ in_order a b (Loses from to place ∷ calls) = loses (same_site a from && same_s
 in_order a b (Repeats from to place ∷ calls) = repeats (same_site a from && same_site b to) (same_site a to && same_site b from) place (link a b calls) (handed a b calls) (in_order a b calls)
 in_order a b (Resends from to ∷ calls) = resends (same_site a from && same_site b to) (same_site a to && same_site b from) (link a b calls) (handed a b calls) (in_order a b calls)
 
-pub whole : {M : Type 0} (a b : Site) (calls : List (Call M)) → IsTrue (is_quiet_link (link a b calls)) → handed a b calls ≡ (link a b calls).there.sent
+pub whole : {M : Type 0} (a b : Site) (calls : List (Call M))
+    → IsTrue (is_quiet_link (link a b calls)) → handed a b calls ≡ (link a b calls).there.sent
 whole a b calls h =
     let w = (link a b calls).there in
     let s = (sound a b calls).there in

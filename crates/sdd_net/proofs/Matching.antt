@@ -19,19 +19,23 @@ module _ {M : Type 0} where
   pub acked_is : (c : Channel M) (w : Way M) → Matches c w → c.sender.value.acked ≡ w.acked
   acked_is c w h = ap (λ s. s.value.acked) h.sender
 
-  pub unacked_is : (c : Channel M) (w : Way M) → Matches c w → c.sender.value.unacked ≡ drop w.acked w.sent
+  pub unacked_is : (c : Channel M) (w : Way M) → Matches c w
+      → c.sender.value.unacked ≡ drop w.acked w.sent
   unacked_is c w h = ap (λ s. s.value.unacked) h.sender
 
   pub flight_is : (c : Channel M) (w : Way M) → Matches c w → c.flight.value ≡ w.flight
   flight_is c w h = ap (λ f. f.value) h.flight
 
-  pub unacked_count : (c : Channel M) (w : Way M) → Matches c w → length c.sender.value.unacked ≡ length w.sent - w.acked
+  pub unacked_count : (c : Channel M) (w : Way M) → Matches c w
+      → length c.sender.value.unacked ≡ length w.sent - w.acked
   unacked_count c w h = ap length (unacked_is c w h) ∙ length-drop w.acked w.sent
 
-  pub last_number_is : (c : Channel M) (w : Way M) → w.acked ≤ length w.sent → Matches c w → last_number c.sender.value ≡ length w.sent
+  pub last_number_is : (c : Channel M) (w : Way M) → w.acked ≤ length w.sent → Matches c w
+      → last_number c.sender.value ≡ length w.sent
   last_number_is c w l h = omega (arith, acked_is c w h, unacked_count c w h)
 
-  are_sent_more : (sent more : List M) (early : List (ℕ × M)) → AreSent sent early → AreSent (sent ++ more) early
+  are_sent_more : (sent more : List M) (early : List (ℕ × M)) → AreSent sent early
+      → AreSent (sent ++ more) early
   are_sent_more sent more [] h = tt
   are_sent_more sent more ((n, m) ∷ rest) h = (get-append sent more (n - 1) m h.0, are_sent_more sent more rest h.1)
 
@@ -49,7 +53,9 @@ module _ {M : Type 0} where
   }
 
   -- where only the flight changes
-  pub flight_matches : (c d : Channel M) (w : Way M) (flight : List (Packet M)) → Matches c w → d.sender ≡ c.sender → d.flight ≡ record { live = true; value = flight } → d.receiver ≡ c.receiver → Matches d (record w { flight = flight })
+  pub flight_matches : (c d : Channel M) (w : Way M) (flight : List (Packet M)) → Matches c w
+      → d.sender ≡ c.sender → d.flight ≡ record { live = true; value = flight }
+      → d.receiver ≡ c.receiver → Matches d (record w { flight = flight })
   flight_matches c d w flight h s f r = record {
     sender = s ∙ h.sender;
     flight = f;
@@ -63,14 +69,18 @@ module _ {M : Type 0} where
   numbered-drop (suc n) k (m ∷ ms) = numbered-drop n (k + 1) ms ∙ ap (λ j. numbered j (drop n ms)) (omega arith)
 
   -- the packets of a resend are those of what the sender keeps
-  pub resent_is : (c : Channel M) (w : Way M) → Matches c w → numbered c.sender.value.acked c.sender.value.unacked ≡ unacked w
+  pub resent_is : (c : Channel M) (w : Way M) → Matches c w
+      → numbered c.sender.value.acked c.sender.value.unacked ≡ unacked w
   resent_is c w h = rw (acked_is c w h, unacked_is c w h) (sym (numbered-drop w.acked 0 w.sent ∙ ap (λ j. numbered j (drop w.acked w.sent)) (omega arith)))
 
   pub not_empty : (xs : List M) (a n : ℕ) → length xs ≡ n - a → not (is_empty xs) ≡ nat_lt a n
   not_empty [] a n e = sym (le-ltb a n (omega (arith, e)))
   not_empty (x ∷ xs) a n e = sym (lt-ltb a n (omega (arith, e)))
 
-  pub acked_matches : (c d : Channel M) (w : Way M) (k : ℕ) → Matches c w → d.sender ≡ record { live = true; value = acknowledged k c.sender.value } → d.flight ≡ c.flight → d.receiver ≡ c.receiver → Matches d (record w { acked = max w.acked k })
+  pub acked_matches : (c d : Channel M) (w : Way M) (k : ℕ) → Matches c w
+      → d.sender ≡ record { live = true; value = acknowledged k c.sender.value }
+      → d.flight ≡ c.flight → d.receiver ≡ c.receiver
+      → Matches d (record w { acked = max w.acked k })
   acked_matches c d w k h s f r = record {
     sender = s ∙ rw (acked_is c w h, unacked_is c w h) (ap (λ xs. record { live = true; value = record { acked = max w.acked k; unacked = xs } }) (drop-drop (k - w.acked) w.acked w.sent ∙ ap (λ j. drop j w.sent) (omega arith)));
     flight = f ∙ h.flight;
@@ -78,10 +88,13 @@ module _ {M : Type 0} where
     received = subst (λ x. HasReceived x.value w.arrived w.sent) (sym r) h.received;
   }
 
-  pub message_received : (c : Channel M) (w : Way M) (n : ℕ) (m : M) → 1 ≤ n → slice_get w.sent (n - 1) ≡ Some m → Matches c w → Receives n m w.arrived w.sent c.receiver.value
+  pub message_received : (c : Channel M) (w : Way M) (n : ℕ) (m : M) → 1 ≤ n
+      → slice_get w.sent (n - 1) ≡ Some m → Matches c w
+      → Receives n m w.arrived w.sent c.receiver.value
   message_received c w n m one is h = receives n m w.arrived w.sent c.receiver.value one is h.received
 
-  pub received_matches : (c d : Channel M) (w : Way M) (n : ℕ) (m : M) → 1 ≤ n → slice_get w.sent (n - 1) ≡ Some m → Matches c w
+  pub received_matches : (c d : Channel M) (w : Way M) (n : ℕ) (m : M) → 1 ≤ n
+      → slice_get w.sent (n - 1) ≡ Some m → Matches c w
       → d.sender ≡ c.sender → d.flight ≡ c.flight → d.receiver ≡ record { live = true; value = received n m c.receiver.value }
       → Matches d (record w { arrived = n ∷ w.arrived })
   received_matches c d w n m one is h s f r =
@@ -94,7 +107,8 @@ module _ {M : Type 0} where
       }
 
   -- something is unacknowledged
-  pub some_unacked : (c : Channel M) (w : Way M) (some : Bool) → Matches c w → some ≡ not (is_empty c.sender.value.unacked) → some ≡ nat_lt w.acked (length w.sent)
+  pub some_unacked : (c : Channel M) (w : Way M) (some : Bool) → Matches c w
+      → some ≡ not (is_empty c.sender.value.unacked) → some ≡ nat_lt w.acked (length w.sent)
   some_unacked c w some h e = e ∙ not_empty c.sender.value.unacked w.acked (length w.sent) (unacked_count c w h)
 
   -- what is left of a flight, whether or not there was a packet at the place
@@ -105,14 +119,17 @@ module _ {M : Type 0} where
   left_is (Some p) old new k e some none live = some
 
 -- what two facts about a result that is Ok lead to
-pub on_both : {T E : Type 0} (r : Result T E) (A B C : Type 0) → OnOk r A → OnOk r B → (A → B → C) → OnOk r C
+pub on_both : {T E : Type 0} (r : Result T E) (A B C : Type 0) → OnOk r A → OnOk r B → (A → B → C)
+    → OnOk r C
 on_both (Ok x) A B C a b f = f a b
 on_both (Err e) A B C a b f = tt
 
-pub if_on : {T E : Type 0} (r : Result T E) (A : T → Type 0) (B : T → Type 0) → IfOk r A → ((x : T) → A x → B x) → IfOk r B
+pub if_on : {T E : Type 0} (r : Result T E) (A : T → Type 0) (B : T → Type 0) → IfOk r A
+    → ((x : T) → A x → B x) → IfOk r B
 if_on (Ok x) A B a f = f x a
 if_on (Err e) A B a f = tt
 
-pub if_both : {T E : Type 0} (r : Result T E) (A : T → Type 0) (B : Type 0) (C : T → Type 0) → IfOk r A → OnOk r B → ((x : T) → A x → B → C x) → IfOk r C
+pub if_both : {T E : Type 0} (r : Result T E) (A : T → Type 0) (B : Type 0) (C : T → Type 0)
+    → IfOk r A → OnOk r B → ((x : T) → A x → B → C x) → IfOk r C
 if_both (Ok x) A B C a b f = f x a b
 if_both (Err e) A B C a b f = tt

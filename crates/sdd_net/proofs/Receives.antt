@@ -7,25 +7,29 @@ use Rattle.std.proofs.Math.Decide.{dec_le}
 use Rattle.std.proofs.lemmas.Bool.{eqb-true, eqb-false, eq-eqb, ne_eqb, le-leb, lt-leb}
 use Rattle.std.proofs.lemmas.List.{drop_all}
 use Rattle.sdd_base.specs.Kept.{Kept}
-use Rattle.sdd_net.specs.Links.{has, top}
+use Rattle.sdd_base.specs.Words.{contains}
+use Rattle.sdd_net.specs.Links.{top}
 use Rattle.sdd_net.specs.Parts.{Receiving, Ascends, AreSent, numbers, IsEarly, HasReceived, in_turn, out_of_turn, handed_on, received}
 use Rattle.sdd_net.proofs.Lists.{by_order, drop-member, get-take}
 use Rattle.sdd_net.proofs.Tops.{top_is, stops, starts, counts_up, repeated}
 
 -- numbers that ascend above k have none at or below it
-none_below : {M : Type 0} (k j : ℕ) (early : List (ℕ × M)) → Ascends k early → j ≤ k → has (numbers early) j ≡ false
+none_below : {M : Type 0} (k j : ℕ) (early : List (ℕ × M)) → Ascends k early → j ≤ k
+    → contains (numbers early) j ≡ false
 none_below k j [] h l = refl
 none_below k j ((n, m) ∷ rest) h l =
     let ne : n ≢ j = λ e. omega (arith, h.0) in
     let test : (n == j) ≡ false = ne_eqb n j ne in
     rw test (none_below n j rest h.1 (omega (arith, h.0)))
 
-ascends_less : {M : Type 0} (j k : ℕ) (early : List (ℕ × M)) → j ≤ k → Ascends k early → Ascends j early
+ascends_less : {M : Type 0} (j k : ℕ) (early : List (ℕ × M)) → j ≤ k → Ascends k early
+    → Ascends j early
 ascends_less j k [] l h = tt
 ascends_less j k ((n, m) ∷ rest) l h = (omega (arith, h.0), h.1)
 
 -- a message that comes early goes to its place
-ascends_insert : {M : Type 0} (k n : ℕ) (m : M) (early : List (ℕ × M)) → Ascends k early → k < n → Ascends k (insert_entry nat_cmp early n m)
+ascends_insert : {M : Type 0} (k n : ℕ) (m : M) (early : List (ℕ × M)) → Ascends k early → k < n
+    → Ascends k (insert_entry nat_cmp early n m)
 ascends_insert k n m [] h l = (l, tt)
 ascends_insert k n m ((x, y) ∷ rest) h l =
     by_order n x (λ o. Ascends k (match_ordering o ((n, m) ∷ (x, y) ∷ rest) ((x, m) ∷ rest) ((x, y) ∷ insert_entry nat_cmp rest n m)))
@@ -33,7 +37,9 @@ ascends_insert k n m ((x, y) ∷ rest) h l =
     (λ same. (h.0, h.1))
     (λ more. (h.0, ascends_insert x n m rest h.1 more))
 
-are_sent_insert : {M : Type 0} (sent : List M) (n : ℕ) (m : M) (early : List (ℕ × M)) → AreSent sent early → slice_get sent (n - 1) ≡ Some m → AreSent sent (insert_entry nat_cmp early n m)
+are_sent_insert : {M : Type 0} (sent : List M) (n : ℕ) (m : M) (early : List (ℕ × M))
+    → AreSent sent early → slice_get sent (n - 1) ≡ Some m
+    → AreSent sent (insert_entry nat_cmp early n m)
 are_sent_insert sent n m [] h e = (e, tt)
 are_sent_insert sent n m ((x, y) ∷ rest) h e =
     by_order n x (λ o. AreSent sent (match_ordering o ((n, m) ∷ (x, y) ∷ rest) ((x, m) ∷ rest) ((x, y) ∷ insert_entry nat_cmp rest n m)))
@@ -50,15 +56,18 @@ or_again : (a c : Bool) → (a || c) ≡ (a || (a || c))
 or_again true c = refl
 or_again false c = refl
 
-has_insert : {M : Type 0} (j n : ℕ) (m : M) (early : List (ℕ × M)) → has (numbers (insert_entry nat_cmp early n m)) j ≡ ((n == j) || has (numbers early) j)
+has_insert : {M : Type 0} (j n : ℕ) (m : M) (early : List (ℕ × M))
+    → contains (numbers (insert_entry nat_cmp early n m)) j ≡ ((n == j) || contains (numbers early) j)
 has_insert j n m [] = refl
 has_insert j n m ((x, y) ∷ rest) =
-    by_order n x (λ o. has (numbers (match_ordering o ((n, m) ∷ (x, y) ∷ rest) ((x, m) ∷ rest) ((x, y) ∷ insert_entry nat_cmp rest n m))) j ≡ ((n == j) || ((x == j) || has (numbers rest) j)))
+    by_order n x (λ o. contains (numbers (match_ordering o ((n, m) ∷ (x, y) ∷ rest) ((x, m) ∷ rest) ((x, y) ∷ insert_entry nat_cmp rest n m))) j ≡ ((n == j) || ((x == j) || contains (numbers rest) j)))
     (λ less. refl)
-    (λ same. rw same (or_again (x == j) (has (numbers rest) j)))
-    (λ more. ap (λ b. (x == j) || b) (has_insert j n m rest) ∙ or_swap (x == j) (n == j) (has (numbers rest) j))
+    (λ same. rw same (or_again (x == j) (contains (numbers rest) j)))
+    (λ more. ap (λ b. (x == j) || b) (has_insert j n m rest) ∙ or_swap (x == j) (n == j) (contains (numbers rest) j))
 
-insert_early : {M : Type 0} (k : ℕ) (arrived : List ℕ) (sent : List M) (n : ℕ) (m : M) (early : List (ℕ × M)) → k < n → slice_get sent (n - 1) ≡ Some m → IsEarly k arrived sent early → IsEarly k (n ∷ arrived) sent (insert_entry nat_cmp early n m)
+insert_early : {M : Type 0} (k : ℕ) (arrived : List ℕ) (sent : List M) (n : ℕ) (m : M) (early : List (ℕ × M))
+    → k < n → slice_get sent (n - 1) ≡ Some m → IsEarly k arrived sent early
+    → IsEarly k (n ∷ arrived) sent (insert_entry nat_cmp early n m)
 insert_early k arrived sent n m early l e h = record {
   ascends = ascends_insert k n m early h.ascends l;
   are_sent = are_sent_insert sent n m early h.are_sent e;
@@ -71,28 +80,34 @@ pub record Turns {M : Type 0} (k : ℕ) (ns : List ℕ) (sent : List M) (early :
   pub handed : in_turn k early ≡ drop k (take (top ns) sent)
   pub waits : IsEarly (top ns) ns sent (out_of_turn k early)
 
-stays : {M : Type 0} (k : ℕ) (ns : List ℕ) (sent : List M) (early : List (ℕ × M)) → IsEarly k ns sent early → k ≡ top ns → in_turn k early ≡ [] → out_of_turn k early ≡ early → Turns k ns sent early
+stays : {M : Type 0} (k : ℕ) (ns : List ℕ) (sent : List M) (early : List (ℕ × M))
+    → IsEarly k ns sent early → k ≡ top ns → in_turn k early ≡ [] → out_of_turn k early ≡ early
+    → Turns k ns sent early
 stays {M = M} k ns sent early h e none rest = record {
   count = rw none (add-zero k ∙ e);
   handed = none ∙ sym (drop_all k (take (top ns) sent) (omega (arith, length-take (top ns) sent)));
   waits = rw rest (subst (λ j. IsEarly j ns sent early) e h);
 }
 
-next_early : {M : Type 0} (k : ℕ) (ns : List ℕ) (sent : List M) (m : M) (rest : List (ℕ × M)) → IsEarly k ns sent ((k + 1, m) ∷ rest) → IsEarly (k + 1) ns sent rest
+next_early : {M : Type 0} (k : ℕ) (ns : List ℕ) (sent : List M) (m : M) (rest : List (ℕ × M))
+    → IsEarly k ns sent ((k + 1, m) ∷ rest) → IsEarly (k + 1) ns sent rest
 next_early k ns sent m rest h = record {
   ascends = h.ascends.1;
   are_sent = h.are_sent.1;
-  same = λ n l. (let ne : k + 1 ≢ n = λ e. omega arith in let test : (k + 1 == n) ≡ false = ne_eqb (k + 1) n ne in let old : ((k + 1 == n) || has (numbers rest) n) ≡ has ns n = h.same n (omega arith) in rw test at old);
+  same = λ n l. (let ne : k + 1 ≢ n = λ e. omega arith in let test : (k + 1 == n) ≡ false = ne_eqb (k + 1) n ne in let old : ((k + 1 == n) || contains (numbers rest) n) ≡ contains ns n = h.same n (omega arith) in rw test at old);
 }
 
-next_there : {M : Type 0} (k : ℕ) (ns : List ℕ) (sent : List M) (m : M) (rest : List (ℕ × M)) → IsEarly k ns sent ((k + 1, m) ∷ rest) → has ns (suc k) ≡ true
+next_there : {M : Type 0} (k : ℕ) (ns : List ℕ) (sent : List M) (m : M) (rest : List (ℕ × M))
+    → IsEarly k ns sent ((k + 1, m) ∷ rest) → contains ns (suc k) ≡ true
 next_there k ns sent m rest h =
     let at : k + 1 ≡ suc k = omega arith in
     let test : (k + 1 == suc k) ≡ true = eq-eqb (k + 1) (suc k) at in
-    let old : ((k + 1 == suc k) || has (numbers rest) (suc k)) ≡ has ns (suc k) = h.same (suc k) (omega arith) in
+    let old : ((k + 1 == suc k) || contains (numbers rest) (suc k)) ≡ contains ns (suc k) = h.same (suc k) (omega arith) in
     sym (rw test at old)
 
-turn : {M : Type 0} (k : ℕ) (ns : List ℕ) (sent : List M) (m : M) (rest : List (ℕ × M)) → IsEarly k ns sent ((k + 1, m) ∷ rest) → Turns (k + 1) ns sent rest → Turns k ns sent ((k + 1, m) ∷ rest)
+turn : {M : Type 0} (k : ℕ) (ns : List ℕ) (sent : List M) (m : M) (rest : List (ℕ × M))
+    → IsEarly k ns sent ((k + 1, m) ∷ rest) → Turns (k + 1) ns sent rest
+    → Turns k ns sent ((k + 1, m) ∷ rest)
 turn {M = M} k ns sent m rest h t =
     let test : (k + 1 == k + 1) ≡ true = eq-eqb (k + 1) (k + 1) refl in
     let member : slice_get sent (k + 1 - 1) ≡ Some m = h.are_sent.0 in
@@ -105,17 +120,19 @@ turn {M = M} k ns sent m rest h t =
       waits = rw test t.waits;
     }
 
-pub turns_to : {M : Type 0} (k : ℕ) (ns : List ℕ) (sent : List M) (early : List (ℕ × M)) → IsEarly k ns sent early → ((j : ℕ) → j < k → has ns (suc j) ≡ true) → Turns k ns sent early
+pub turns_to : {M : Type 0} (k : ℕ) (ns : List ℕ) (sent : List M) (early : List (ℕ × M))
+    → IsEarly k ns sent early → ((j : ℕ) → j < k → contains ns (suc j) ≡ true)
+    → Turns k ns sent early
 turns_to k ns sent [] h below = stays k ns sent [] h (stops ns k below (sym (h.same (suc k) (omega arith)))) refl refl
 turns_to {M = M} k ns sent ((x, m) ∷ rest) h below = elim (x == k + 1) as (λ b. (x == k + 1) ≡ b → Turns k ns sent ((x, m) ∷ rest)) [
   | true ↦ λ p. (let same : x ≡ k + 1 = eqb-true x (k + 1) p in
       let h1 : IsEarly k ns sent ((k + 1, m) ∷ rest) = subst (λ z. IsEarly k ns sent ((z, m) ∷ rest)) same h in
       let one : suc k ≡ k + 1 = omega arith in
-      let below1 : (j : ℕ) → j < k + 1 → has ns (suc j) ≡ true = λ j l. counts_up ns k below (next_there k ns sent m rest h1) j (omega arith) in
+      let below1 : (j : ℕ) → j < k + 1 → contains ns (suc j) ≡ true = λ j l. counts_up ns k below (next_there k ns sent m rest h1) j (omega arith) in
       subst (λ z. Turns k ns sent ((z, m) ∷ rest)) (sym same) (turn k ns sent m rest h1 (turns_to (k + 1) ns sent rest (next_early k ns sent m rest h1) below1)))
   | false ↦ λ p. (let ne : x ≢ k + 1 = eqb-false x (k + 1) p in
       let above : k < x = h.ascends.0 in
-      let gap : has (numbers ((x, m) ∷ rest)) (suc k) ≡ false = none_below (suc k) (suc k) ((x, m) ∷ rest) (omega (arith, ne), h.ascends.1) (omega arith) in
+      let gap : contains (numbers ((x, m) ∷ rest)) (suc k) ≡ false = none_below (suc k) (suc k) ((x, m) ∷ rest) (omega (arith, ne), h.ascends.1) (omega arith) in
       stays k ns sent ((x, m) ∷ rest) h (stops ns k below (sym (h.same (suc k) (omega arith)) ∙ gap)) (rw p refl) (rw p refl))
 ] refl
 
@@ -124,10 +141,11 @@ pub record Receives {M : Type 0} (n : ℕ) (m : M) (arrived : List ℕ) (sent : 
   pub stands : HasReceived (received n m r) (n ∷ arrived) sent
   pub handed : handed_on n m r ≡ drop (top arrived) (take (top (n ∷ arrived)) sent)
 
-receives_old : {M : Type 0} (n : ℕ) (m : M) (arrived : List ℕ) (sent : List M) (r : Receiving M) → 1 ≤ n → n ≤ top arrived → HasReceived r arrived sent → Receives n m arrived sent r
+receives_old : {M : Type 0} (n : ℕ) (m : M) (arrived : List ℕ) (sent : List M) (r : Receiving M)
+    → 1 ≤ n → n ≤ top arrived → HasReceived r arrived sent → Receives n m arrived sent r
 receives_old {M = M} n m arrived sent r one old h =
     let at : suc (n - 1) ≡ n = omega arith in
-    let there : has arrived n ≡ true = subst (λ j. has arrived j ≡ true) at ((top_is arrived).0 (n - 1) (omega arith)) in
+    let there : contains arrived n ≡ true = subst (λ j. contains arrived j ≡ true) at ((top_is arrived).0 (n - 1) (omega arith)) in
     let same : top (n ∷ arrived) ≡ top arrived = repeated n arrived there in
     let test : nat_le n r.count ≡ true = le-leb n r.count (omega (arith, h.count)) in
     record {
@@ -142,7 +160,9 @@ receives_old {M = M} n m arrived sent r one old h =
       handed = rw (test, same) (sym (drop_all (top arrived) (take (top arrived) sent) (omega (arith, length-take (top arrived) sent))));
     }
 
-receives_new : {M : Type 0} (n : ℕ) (m : M) (arrived : List ℕ) (sent : List M) (r : Receiving M) → top arrived < n → slice_get sent (n - 1) ≡ Some m → HasReceived r arrived sent → Receives n m arrived sent r
+receives_new : {M : Type 0} (n : ℕ) (m : M) (arrived : List ℕ) (sent : List M) (r : Receiving M)
+    → top arrived < n → slice_get sent (n - 1) ≡ Some m → HasReceived r arrived sent
+    → Receives n m arrived sent r
 receives_new {M = M} n m arrived sent r new is h =
     let e : r.count ≡ top arrived = h.count in
     let test : nat_le n r.count ≡ false = lt-leb n r.count (omega arith) in
@@ -153,11 +173,14 @@ receives_new {M = M} n m arrived sent r new is h =
       handed = rw (test, e) t.handed;
     }
 
-pub receives : {M : Type 0} (n : ℕ) (m : M) (arrived : List ℕ) (sent : List M) (r : Receiving M) → 1 ≤ n → slice_get sent (n - 1) ≡ Some m → HasReceived r arrived sent → Receives n m arrived sent r
+pub receives : {M : Type 0} (n : ℕ) (m : M) (arrived : List ℕ) (sent : List M) (r : Receiving M)
+    → 1 ≤ n → slice_get sent (n - 1) ≡ Some m → HasReceived r arrived sent
+    → Receives n m arrived sent r
 receives n m arrived sent r one is h = elim (dec_le n (top arrived)) [ yes p ↦ receives_old n m arrived sent r one p h | no p ↦ receives_new n m arrived sent r (omega (arith, p)) is h ]
 
 -- what is exact of one arrival says what the receiver stands for after it
-pub arrival_stands : {M : Type 0} (n : ℕ) (m : M) (old : Receiving M) (new : Kept (Receiving M)) (handed : List M) → 1 ≤ n → new ≡ record { live = true; value = received n m old } → handed ≡ handed_on n m old
+pub arrival_stands : {M : Type 0} (n : ℕ) (m : M) (old : Receiving M) (new : Kept (Receiving M)) (handed : List M)
+    → 1 ≤ n → new ≡ record { live = true; value = received n m old } → handed ≡ handed_on n m old
     → (arrived : List ℕ) (sent : List M) → slice_get sent (n - 1) ≡ Some m → HasReceived old arrived sent
     → HasReceived new.value (n ∷ arrived) sent × (handed ≡ drop (top arrived) (take (top (n ∷ arrived)) sent))
 arrival_stands n m old new handed one e f arrived sent is h =
@@ -165,7 +188,9 @@ arrival_stands n m old new handed one e f arrived sent is h =
     (subst (λ k. HasReceived k.value (n ∷ arrived) sent) (sym e) got.stands, f ∙ got.handed)
 
 -- a message that was handed on before changes nothing
-pub old_arrival : {M : Type 0} (n : ℕ) (m : M) (r : Kept (Receiving M)) → IsTrue r.live → n ≤ r.value.count → (r ≡ record { live = true; value = received n m r.value }) × ([] ≡ handed_on n m r.value)
+pub old_arrival : {M : Type 0} (n : ℕ) (m : M) (r : Kept (Receiving M)) → IsTrue r.live
+    → n ≤ r.value.count
+    → (r ≡ record { live = true; value = received n m r.value }) × ([] ≡ handed_on n m r.value)
 old_arrival n m r live old =
     let test : nat_le n r.value.count ≡ true = le-leb n r.value.count old in
     (rw test (ap (λ b. record { live = b; value = r.value }) live), rw test refl)

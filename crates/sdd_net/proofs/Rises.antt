@@ -17,19 +17,24 @@ by_arrives : {M : Type 0} (p : Packet M) (l : Link M) → Rises l (arrives p l)
 by_arrives (Message n m) l = (top_rises n l.there.arrived, omega arith)
 by_arrives (Ack k) l = (omega arith, omega arith)
 
-by_packet : {M : Type 0} (o : Option (Packet M)) (f : Packet M → Link M) (l : Link M) → ((p : Packet M) → Rises l (f p)) → Rises l (with_packet o f l)
+by_packet : {M : Type 0} (o : Option (Packet M)) (f : Packet M → Link M) (l : Link M)
+    → ((p : Packet M) → Rises l (f p)) → Rises l (with_packet o f l)
 by_packet None f l h = (omega arith, omega arith)
 by_packet (Some p) f l h = h p
 
-by_way : {M : Type 0} (c d : Bool) (f : Link M → Link M) (l : Link M) → ((k : Link M) → Rises k (f k)) → Rises l (if c then f l else if d then turned (f (turned l)) else l)
+by_way : {M : Type 0} (c d : Bool) (f : Link M → Link M) (l : Link M)
+    → ((k : Link M) → Rises k (f k))
+    → Rises l (if c then f l else if d then turned (f (turned l)) else l)
 by_way true d f l h = h l
 by_way false true f l h = ((h (turned l)).1, (h (turned l)).0)
 by_way false false f l h = (omega arith, omega arith)
 
-on_link_rises : {M : Type 0} (a b from to : Site) (f : Link M → Link M) (l : Link M) → ((k : Link M) → Rises k (f k)) → Rises l (on_link a b from to f l)
+on_link_rises : {M : Type 0} (a b from to : Site) (f : Link M → Link M) (l : Link M)
+    → ((k : Link M) → Rises k (f k)) → Rises l (on_link a b from to f l)
 on_link_rises a b from to f l h = by_way (same_site a from && same_site b to) (same_site a to && same_site b from) f l h
 
-pub rises : {M : Type 0} (a b : Site) (c : Call M) (calls : List (Call M)) → delivered (link a b calls).there ≤ delivered (link a b (c ∷ calls)).there
+pub rises : {M : Type 0} (a b : Site) (c : Call M) (calls : List (Call M))
+    → delivered (link a b calls).there ≤ delivered (link a b (c ∷ calls)).there
 rises a b (Puts from to m) calls = (on_link_rises a b from to (put m) (link a b calls) (λ k. (omega arith, omega arith))).0
 rises a b (Delivers from to place) calls = (on_link_rises a b from to (deliver place) (link a b calls) (λ k. by_packet (packet_at place k) _ k (λ p. by_arrives p (without_packet place k)))).0
 rises a b (Loses from to place) calls = (on_link_rises a b from to (lose place) (link a b calls) (λ k. by_packet (packet_at place k) _ k (λ p. (omega arith, omega arith)))).0

@@ -8,7 +8,9 @@ use Rattle.std.proofs.lemmas.Grind.{flat_map-append}
 use Rattle.std.proofs.lemmas.List.{take_more}
 
 -- one site more of a kind
-pub sites_more : {A : Type 0} (f : ℕ → A) (n k : ℕ) (before old new : List A) → old ≡ before ++ map f (range_with_len 1 n) → k ≡ n + 1 → new ≡ old ++ f k ∷ [] → new ≡ before ++ map f (range_with_len 1 (n + 1))
+pub sites_more : {A : Type 0} (f : ℕ → A) (n k : ℕ) (before old new : List A)
+    → old ≡ before ++ map f (range_with_len 1 n) → k ≡ n + 1 → new ≡ old ++ f k ∷ []
+    → new ≡ before ++ map f (range_with_len 1 (n + 1))
 sites_more f n k before old new e same push =
     push ∙ ap (λ xs. xs ++ f k ∷ []) e ∙ append_assoc before (map f (range_with_len 1 n)) (f k ∷ []) ∙ ap (λ xs. before ++ xs) (sym (map-range_with_len_more f 1 n k (omega arith)))
 
@@ -22,5 +24,6 @@ pub links_no : {A B : Type 0} (f : A → Option B) (xs : List A) (i : ℕ) (d : 
 links_no f xs i d before old l e is = rw (take_more xs i d l, filter_map-append, is) (e ∙ ap (λ ys. before ++ ys) (sym (append-nil (filter_map f (take i xs)))))
 
 -- the links from one site more
-pub all_links_more : {A B : Type 0} (f : A → List B) (xs : List A) (x : A) (old new : List B) → old ≡ flat_map f xs → new ≡ old ++ f x → new ≡ flat_map f (xs ++ x ∷ [])
+pub all_links_more : {A B : Type 0} (f : A → List B) (xs : List A) (x : A) (old new : List B)
+    → old ≡ flat_map f xs → new ≡ old ++ f x → new ≡ flat_map f (xs ++ x ∷ [])
 all_links_more f xs x old new e push = rw (push, e, flat_map-append) (ap (λ ys. flat_map f xs ++ ys) (sym (append-nil (f x))))

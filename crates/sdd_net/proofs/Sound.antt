@@ -2,77 +2,99 @@
 use Rattle.sdd_base.specs.Sites.{same_site}
 use Rattle.std.proofs.Common.{ℕ, zero, suc, ◌+◌, ◌-◌, ◌<◌, ◌≤◌, Bool, true, false, List, [], ◌∷◌, ◌++◌, length, length-append, ◌≡◌, refl, arith}
 use Rattle.std.specs.Bool.{if◌then◌else◌}
-use Rattle.std.specs.Prelude.{◌&&◌, slice_get, Some, None}
+use Rattle.std.specs.Prelude.{◌&&◌, slice_get, Some, None, All}
 use Rattle.sdd_base.specs.declared.site.Site.{Site}
 use Rattle.sdd_net.specs.declared.packet.Packet.{Packet}
 use Rattle.sdd_net.specs.declared.packet.Packet.TheVariants.{Message, Ack}
-use Rattle.sdd_net.specs.Links.{Call, Puts, Delivers, Loses, Repeats, Resends, Way, Link, link, on_link, turned, put, deliver, lose, repeat, resend, arrives, packet_at, with_packet, without_packet, without_at, numbered, unacked, delivered, top}
-use Rattle.sdd_net.specs.Sound.{Every, IsOf, IsNumber, IsSoundWay, IsSound}
-use Rattle.sdd_net.proofs.Lists.{every_append, every_drop, every_without, every_get, every_more, every_has, get-append, get-last, get-within}
+use Rattle.sdd_net.specs.Links.{Call, Puts, Delivers, Loses, Repeats, Resends, Way, Link, link, unused, on_link, turned, put, deliver, lose, repeat, resend, arrives, packet_at, with_packet, without_packet, without_at, numbered, unacked, delivered, top}
+use Rattle.sdd_net.specs.Sound.{IsOf, IsNumber, IsSoundWay, IsSound}
+use Rattle.std.proofs.lemmas.List.Elements.{All-nil, All-cons, All-append, All-drop, All-push, All-weaker}
+use Rattle.std.proofs.lemmas.Option.{slice_get_within}
+use Rattle.sdd_net.proofs.Lists.{All-without_at, All-at, All-among, get-append, get-last}
 use Rattle.sdd_net.proofs.Tops.{top_is, top_rises}
 
 -- what is delivered was sent
-pub top_le : (P : ℕ → Type 0) (ns : List ℕ) (b : ℕ) → ((n : ℕ) → P n → n ≤ b) → Every P ns → top ns ≤ b
+pub top_le : (P : ℕ → Type 0) (ns : List ℕ) (b : ℕ) → ((n : ℕ) → P n → n ≤ b) → All P ns
+    → top ns ≤ b
 top_le P ns b f h =
     elim (top ns) as (λ k. top ns ≡ k → k ≤ b) [
       | zero ↦ λ e. omega arith
-      | suc k ↦ λ e. f (suc k) (every_has P ns (suc k) ((top_is ns).0 k (omega arith)) h)
+      | suc k ↦ λ e. f (suc k) (All-among P ns (suc k) ((top_is ns).0 k (omega arith)) h)
     ] refl
 
-pub delivered_le : {M : Type 0} (w : Way M) (back : ℕ) → IsSoundWay w back → delivered w ≤ length w.sent
+pub delivered_le : {M : Type 0} (w : Way M) (back : ℕ) → IsSoundWay w back
+    → delivered w ≤ length w.sent
 delivered_le w back h = top_le (IsNumber w.sent) w.arrived (length w.sent) (λ n i. i.1) h.numbers
 
 -- where more was sent and more is acknowledged, packets stay right
-more_packet : {M : Type 0} (sent more : List M) (j k : ℕ) → j ≤ k → (p : Packet M) → IsOf sent j p → IsOf (sent ++ more) k p
+more_packet : {M : Type 0} (sent more : List M) (j k : ℕ) → j ≤ k → (p : Packet M) → IsOf sent j p
+    → IsOf (sent ++ more) k p
 more_packet sent more j k l (Message n m) h = (h.0, get-append sent more (n - 1) m h.1)
 more_packet sent more j k l (Ack i) h = let b : i ≤ j = h in omega arith
 
-more_acks : {M : Type 0} (sent : List M) (j k : ℕ) → j ≤ k → (p : Packet M) → IsOf sent j p → IsOf sent k p
+more_acks : {M : Type 0} (sent : List M) (j k : ℕ) → j ≤ k → (p : Packet M) → IsOf sent j p
+    → IsOf sent k p
 more_acks sent j k l (Message n m) h = h
 more_acks sent j k l (Ack i) h = let b : i ≤ j = h in omega arith
 
-more_numbers : {M : Type 0} (sent : List M) (m : M) → (n : ℕ) → IsNumber sent n → IsNumber (sent ++ m ∷ []) n
+more_numbers : {M : Type 0} (sent : List M) (m : M) → (n : ℕ) → IsNumber sent n
+    → IsNumber (sent ++ m ∷ []) n
 more_numbers sent m n h = (h.0, grind (arith, length-append))
 
-with_flight : {M : Type 0} (w : Way M) (back : ℕ) (flight : List (Packet M)) → IsSoundWay w back → Every (IsOf w.sent back) flight → IsSoundWay (record w { flight = flight }) back
+with_flight : {M : Type 0} (w : Way M) (back : ℕ) (flight : List (Packet M)) → IsSoundWay w back
+    → All (IsOf w.sent back) flight → IsSoundWay (record w { flight = flight }) back
 with_flight w back flight h k = record { packets = k; numbers = h.numbers; acked = h.acked }
 
 with_back : {M : Type 0} (w : Way M) (j k : ℕ) → j ≤ k → IsSoundWay w j → IsSoundWay w k
-with_back w j k l h = record { packets = every_more (IsOf w.sent j) (IsOf w.sent k) w.flight (more_acks w.sent j k l) h.packets; numbers = h.numbers; acked = h.acked }
+with_back w j k l h =
+    record {
+      packets = All-weaker (IsOf w.sent j) (IsOf w.sent k) (more_acks w.sent j k l) w.flight h.packets;
+      numbers = h.numbers;
+      acked = h.acked;
+    }
 
 -- the packets of a resend
-numbered_of : {M : Type 0} (sent : List M) (j k : ℕ) (ms : List M) → ((i : ℕ) (x : M) → slice_get ms i ≡ Some x → slice_get sent (k + i) ≡ Some x) → Every (IsOf sent j) (numbered k ms)
-numbered_of sent j k [] f = tt
-numbered_of {M = M} sent j k (m ∷ ms) f = (
-  (omega arith, let at : k + 0 ≡ k + 1 - 1 = omega arith in rw at at (f 0 m refl)),
-  numbered_of sent j (k + 1) ms (λ i x e. let at : k + suc i ≡ k + 1 + i = omega arith in rw at at (f (suc i) x e)),
-)
+numbered_of : {M : Type 0} (sent : List M) (j k : ℕ) (ms : List M)
+    → ((i : ℕ) (x : M) → slice_get ms i ≡ Some x → slice_get sent (k + i) ≡ Some x)
+    → All (IsOf sent j) (numbered k ms)
+numbered_of sent j k [] f = All-nil (IsOf sent j)
+numbered_of {M = M} sent j k (m ∷ ms) f =
+    All-cons (IsOf sent j) (Message (k + 1) m) (numbered (k + 1) ms)
+    (omega arith, let at : k + 0 ≡ k + 1 - 1 = omega arith in rw at at (f 0 m refl))
+    (numbered_of sent j (k + 1) ms (λ i x e. let at : k + suc i ≡ k + 1 + i = omega arith in rw at at (f (suc i) x e)))
 
 put_sound : {M : Type 0} (m : M) (l : Link M) → IsSound l → IsSound (put m l)
 put_sound m l h = record {
   there = record {
-    packets = every_append (IsOf (l.there.sent ++ m ∷ []) (delivered l.back)) l.there.flight (Message (length l.there.sent + 1) m ∷ [])
-        (every_more (IsOf l.there.sent (delivered l.back)) (IsOf (l.there.sent ++ m ∷ []) (delivered l.back)) l.there.flight (more_packet l.there.sent (m ∷ []) (delivered l.back) (delivered l.back) (omega arith)) h.there.packets)
-        ((omega arith, let at : length l.there.sent ≡ length l.there.sent + 1 - 1 = omega arith in rw at at (get-last l.there.sent m)), tt);
-    numbers = every_more (IsNumber l.there.sent) (IsNumber (l.there.sent ++ m ∷ [])) l.there.arrived (more_numbers l.there.sent m) h.there.numbers;
+    packets =
+        All-push (IsOf (l.there.sent ++ m ∷ []) (delivered l.back)) l.there.flight (Message (length l.there.sent + 1) m)
+        (All-weaker (IsOf l.there.sent (delivered l.back)) (IsOf (l.there.sent ++ m ∷ []) (delivered l.back))
+        (more_packet l.there.sent (m ∷ []) (delivered l.back) (delivered l.back) (omega arith)) l.there.flight h.there.packets)
+        (omega arith, let at : length l.there.sent ≡ length l.there.sent + 1 - 1 = omega arith in rw at at (get-last l.there.sent m));
+    numbers =
+        All-weaker (IsNumber l.there.sent) (IsNumber (l.there.sent ++ m ∷ [])) (more_numbers l.there.sent m)
+        l.there.arrived h.there.numbers;
     acked = h.there.acked;
   };
   back = h.back;
 }
 
 without_sound : {M : Type 0} (place : ℕ) (l : Link M) → IsSound l → IsSound (without_packet place l)
-without_sound place l h = record { there = with_flight l.there (delivered l.back) (without_at l.there.flight (place - 1)) h.there (every_without (IsOf l.there.sent (delivered l.back)) (place - 1) l.there.flight h.there.packets); back = h.back }
+without_sound place l h = record { there = with_flight l.there (delivered l.back) (without_at l.there.flight (place - 1)) h.there (All-without_at (IsOf l.there.sent (delivered l.back)) (place - 1) l.there.flight h.there.packets); back = h.back }
 
-arrives_sound : {M : Type 0} (p : Packet M) (l : Link M) → IsOf l.there.sent (delivered l.back) p → IsSound l → IsSound (arrives p l)
+arrives_sound : {M : Type 0} (p : Packet M) (l : Link M) → IsOf l.there.sent (delivered l.back) p
+    → IsSound l → IsSound (arrives p l)
 arrives_sound {M = M} (Message n m) l of h =
     let rises : delivered l.there ≤ top (n ∷ l.there.arrived) = top_rises n l.there.arrived in
-    let within : n - 1 < length l.there.sent = get-within l.there.sent (n - 1) m of.1 in
+    let within : n - 1 < length l.there.sent = slice_get_within l.there.sent (n - 1) m of.1 in
     record {
-      there = record { packets = h.there.packets; numbers = ((of.0, omega arith), h.there.numbers); acked = omega (arith, h.there.acked) };
+      there = record { packets = h.there.packets; numbers = All-cons (IsNumber l.there.sent) n l.there.arrived (of.0, omega arith) h.there.numbers; acked = omega (arith, h.there.acked) };
       back = record {
-        packets = every_append (IsOf l.back.sent (top (n ∷ l.there.arrived))) l.back.flight (Ack (top (n ∷ l.there.arrived)) ∷ [])
-            (every_more (IsOf l.back.sent (delivered l.there)) (IsOf l.back.sent (top (n ∷ l.there.arrived))) l.back.flight (more_acks l.back.sent (delivered l.there) (top (n ∷ l.there.arrived)) rises) h.back.packets)
-            (omega arith, tt);
+        packets =
+            All-push (IsOf l.back.sent (top (n ∷ l.there.arrived))) l.back.flight (Ack (top (n ∷ l.there.arrived)))
+            (All-weaker (IsOf l.back.sent (delivered l.there)) (IsOf l.back.sent (top (n ∷ l.there.arrived)))
+            (more_acks l.back.sent (delivered l.there) (top (n ∷ l.there.arrived)) rises) l.back.flight h.back.packets)
+            (omega arith);
         numbers = h.back.numbers;
         acked = h.back.acked;
       };
@@ -82,11 +104,13 @@ arrives_sound (Ack k) l of h =
     record { there = h.there; back = record { packets = h.back.packets; numbers = h.back.numbers; acked = omega (arith, h.back.acked) } }
 
 -- a call on a packet keeps it, if what is done with the packet does
-at_packet : {M : Type 0} (place : ℕ) (f : Packet M → Link M) (l : Link M) → IsSound l → ((p : Packet M) → IsOf l.there.sent (delivered l.back) p → IsSound (f p)) → IsSound (with_packet (packet_at place l) f l)
+at_packet : {M : Type 0} (place : ℕ) (f : Packet M → Link M) (l : Link M) → IsSound l
+    → ((p : Packet M) → IsOf l.there.sent (delivered l.back) p → IsSound (f p))
+    → IsSound (with_packet (packet_at place l) f l)
 at_packet {M = M} place f l h k =
     elim (packet_at place l) as (λ o. packet_at place l ≡ o → IsSound (with_packet o f l)) [
       | None ↦ λ e. h
-      | Some p ↦ λ e. k p (every_get (IsOf l.there.sent (delivered l.back)) l.there.flight (place - 1) p e h.there.packets)
+      | Some p ↦ λ e. k p (All-at (IsOf l.there.sent (delivered l.back)) l.there.flight (place - 1) p e h.there.packets)
     ] refl
 
 deliver_sound : {M : Type 0} (place : ℕ) (l : Link M) → IsSound l → IsSound (deliver place l)
@@ -98,13 +122,13 @@ lose_sound place l h = at_packet place (λ p. without_packet place l) l h (λ p 
 repeat_sound : {M : Type 0} (place : ℕ) (l : Link M) → IsSound l → IsSound (repeat place l)
 repeat_sound place l h =
     at_packet place (λ p. record l { there = record l.there { flight = l.there.flight ++ p ∷ [] } }) l h
-    (λ p of. record { there = with_flight l.there (delivered l.back) (l.there.flight ++ p ∷ []) h.there (every_append (IsOf l.there.sent (delivered l.back)) l.there.flight (p ∷ []) h.there.packets (of, tt)); back = h.back })
+    (λ p of. record { there = with_flight l.there (delivered l.back) (l.there.flight ++ p ∷ []) h.there (All-push (IsOf l.there.sent (delivered l.back)) l.there.flight p h.there.packets of); back = h.back })
 
 resend_sound : {M : Type 0} (l : Link M) → IsSound l → IsSound (resend l)
 resend_sound l h = record {
   there = with_flight l.there (delivered l.back) (l.there.flight ++ unacked l.there) h.there
-      (every_append (IsOf l.there.sent (delivered l.back)) l.there.flight (unacked l.there) h.there.packets
-      (every_drop (IsOf l.there.sent (delivered l.back)) l.there.acked (numbered 0 l.there.sent)
+      (All-append (IsOf l.there.sent (delivered l.back)) l.there.flight (unacked l.there) h.there.packets
+      (All-drop (IsOf l.there.sent (delivered l.back)) l.there.acked (numbered 0 l.there.sent)
       (numbered_of l.there.sent (delivered l.back) 0 l.there.sent (λ i x e. let at : i ≡ 0 + i = omega arith in rw at at e))));
   back = h.back;
 }
@@ -112,16 +136,23 @@ resend_sound l h = record {
 turned_sound : {M : Type 0} (l : Link M) → IsSound l → IsSound (turned l)
 turned_sound l h = record { there = h.back; back = h.there }
 
-on_way : {M : Type 0} (c d : Bool) (f : Link M → Link M) (l : Link M) → ((k : Link M) → IsSound k → IsSound (f k)) → IsSound l → IsSound (if c then f l else if d then turned (f (turned l)) else l)
+on_way : {M : Type 0} (c d : Bool) (f : Link M → Link M) (l : Link M)
+    → ((k : Link M) → IsSound k → IsSound (f k)) → IsSound l
+    → IsSound (if c then f l else if d then turned (f (turned l)) else l)
 on_way true d f l h i = h l i
 on_way false true f l h i = turned_sound (f (turned l)) (h (turned l) (turned_sound l i))
 on_way false false f l h i = i
 
-on_link_sound : {M : Type 0} (a b from to : Site) (f : Link M → Link M) (l : Link M) → ((k : Link M) → IsSound k → IsSound (f k)) → IsSound l → IsSound (on_link a b from to f l)
+on_link_sound : {M : Type 0} (a b from to : Site) (f : Link M → Link M) (l : Link M)
+    → ((k : Link M) → IsSound k → IsSound (f k)) → IsSound l → IsSound (on_link a b from to f l)
 on_link_sound a b from to f l h i = on_way (same_site a from && same_site b to) (same_site a to && same_site b from) f l h i
 
+unused_sound : {M : Type 0} → IsSoundWay {M = M} unused 0
+unused_sound {M = M} =
+    record { packets = All-nil (IsOf {M = M} [] 0); numbers = All-nil (IsNumber {M = M} []); acked = omega arith }
+
 pub sound : {M : Type 0} (a b : Site) (calls : List (Call M)) → IsSound (link a b calls)
-sound a b [] = record { there = record { packets = tt; numbers = tt; acked = omega arith }; back = record { packets = tt; numbers = tt; acked = omega arith } }
+sound a b [] = record { there = unused_sound; back = unused_sound }
 sound a b (Puts from to m ∷ calls) = on_link_sound a b from to (put m) (link a b calls) (put_sound m) (sound a b calls)
 sound a b (Delivers from to place ∷ calls) = on_link_sound a b from to (deliver place) (link a b calls) (deliver_sound place) (sound a b calls)
 sound a b (Loses from to place ∷ calls) = on_link_sound a b from to (lose place) (link a b calls) (lose_sound place) (sound a b calls)

@@ -12,7 +12,8 @@ use Rattle.sdd_net.specs.Links.{numbered}
 use Rattle.sdd_net.specs.Parts.{in_turn, out_of_turn, handed_on, received}
 
 -- where the first message is not the next, none is in turn
-pub in_turn-none : {M : Type 0} (k n : ℕ) (m : M) (entries : List (ℕ × M)) → slice_get entries 0 ≡ Some (n, m) → n ≢ k + 1 → in_turn k entries ≡ []
+pub in_turn-none : {M : Type 0} (k n : ℕ) (m : M) (entries : List (ℕ × M))
+    → slice_get entries 0 ≡ Some (n, m) → n ≢ k + 1 → in_turn k entries ≡ []
 in_turn-none k n m [] e ne = cc
 in_turn-none {M = M} k n m ((x, y) ∷ rest) e ne =
     elim (x == k + 1) as (λ b. (x == k + 1) ≡ b → (if b then y ∷ in_turn (k + 1) rest else []) ≡ []) [
@@ -21,14 +22,17 @@ in_turn-none {M = M} k n m ((x, y) ∷ rest) e ne =
     ] refl
 
 -- where it is the next, it is
-pub in_turn-next : {M : Type 0} (k : ℕ) (m : M) (rest entries : List (ℕ × M)) → entries ≡ (k + 1, m) ∷ rest → in_turn k entries ≡ m ∷ in_turn (k + 1) rest
+pub in_turn-next : {M : Type 0} (k : ℕ) (m : M) (rest entries : List (ℕ × M))
+    → entries ≡ (k + 1, m) ∷ rest → in_turn k entries ≡ m ∷ in_turn (k + 1) rest
 in_turn-next k m rest entries e = rw (e, eq-eqb (k + 1) (k + 1) refl) refl
 
-pub out_of_turn-next : {M : Type 0} (k : ℕ) (m : M) (rest entries : List (ℕ × M)) → entries ≡ (k + 1, m) ∷ rest → out_of_turn k entries ≡ out_of_turn (k + 1) rest
+pub out_of_turn-next : {M : Type 0} (k : ℕ) (m : M) (rest entries : List (ℕ × M))
+    → entries ≡ (k + 1, m) ∷ rest → out_of_turn k entries ≡ out_of_turn (k + 1) rest
 out_of_turn-next k m rest entries e = rw (e, eq-eqb (k + 1) (k + 1) refl) refl
 
 -- where none is in turn, all wait
-pub out_of_turn-none : {M : Type 0} (k : ℕ) (entries : List (ℕ × M)) → in_turn k entries ≡ [] → out_of_turn k entries ≡ entries
+pub out_of_turn-none : {M : Type 0} (k : ℕ) (entries : List (ℕ × M)) → in_turn k entries ≡ []
+    → out_of_turn k entries ≡ entries
 out_of_turn-none k [] e = refl
 out_of_turn-none k ((x, y) ∷ rest) e =
     elim (x == k + 1) as (λ b. (if b then y ∷ in_turn (k + 1) rest else []) ≡ [] → (if b then out_of_turn (k + 1) rest else (x, y) ∷ rest) ≡ (x, y) ∷ rest) [
@@ -37,7 +41,8 @@ out_of_turn-none k ((x, y) ∷ rest) e =
     ] e
 
 -- one message more is one packet more
-pub numbered-append : {M : Type 0} (k : ℕ) (ms : List M) (m : M) → numbered k (ms ++ m ∷ []) ≡ numbered k ms ++ Message (k + length ms + 1) m ∷ []
+pub numbered-append : {M : Type 0} (k : ℕ) (ms : List M) (m : M)
+    → numbered k (ms ++ m ∷ []) ≡ numbered k ms ++ Message (k + length ms + 1) m ∷ []
 numbered-append k [] m = rw add-zero refl
 numbered-append k (x ∷ ms) m = ap (λ ps. Message (k + 1) x ∷ ps) (numbered-append (k + 1) ms m ∙ ap (λ n. numbered (k + 1) ms ++ Message n m ∷ []) (omega arith))
 

@@ -1,6 +1,7 @@
 -- The links of the network, as a function of the calls that were made on them. Calls are listed newest first.
+use Rattle.sdd_base.specs.Numbers.{tm_no, dm_no}
 use Rattle.sdd_base.specs.Sites.{same_site}
-use Rattle.sdd_base.specs.Words.{is_empty}
+use Rattle.sdd_base.specs.Words.{is_empty, contains}
 use Rattle.std.specs.Prelude.{ℕ, zero, suc, ◌+◌, ◌-◌, nat_le, nat_lt, max, ◌==◌, Bool, true, false, ◌&&◌, cond, if◌then◌else◌, List, [], ◌∷◌, ◌++◌, length, take, drop, replicate, slice_get, Option, Some, None, ◌≡◌, refl}
 use Rattle.std.specs.List.{list_any, list_all, filter_map, flat_map}
 use Rattle.sdd_base.specs.declared.site.Site.{Site}
@@ -39,13 +40,10 @@ unused = record { sent = []; flight = []; arrived = []; acked = 0 }
 abbrev pub turned : {M : Type 0} → Link M → Link M
 turned l = record { there = l.back; back = l.there }
 
-abbrev pub has : List ℕ → ℕ → Bool
-has ns k = list_any (λ x. x == k) ns
-
 -- the greatest k + j, with j at most n, such that k + 1 to k + j are all among the numbers
 abbrev pub top_from : ℕ → ℕ → List ℕ → ℕ
 top_from zero k ns = k
-top_from (suc n) k ns = elim (has ns (suc k)) [ true ↦ top_from n (suc k) ns | false ↦ k ]
+top_from (suc n) k ns = elim (contains ns (suc k)) [ true ↦ top_from n (suc k) ns | false ↦ k ]
 
 abbrev pub greatest : List ℕ → ℕ
 greatest [] = 0
@@ -74,7 +72,8 @@ without_at xs k = take k xs ++ drop (k + 1) xs
 
 -- a message that is put takes the next number, and its packet goes to the flight's end
 abbrev pub with_message : {M : Type 0} → M → Way M → Way M
-with_message m w = record w { sent = w.sent ++ m ∷ []; flight = w.flight ++ Message (length w.sent + 1) m ∷ [] }
+with_message m w =
+    record w { sent = w.sent ++ m ∷ []; flight = w.flight ++ Message (length w.sent + 1) m ∷ [] }
 
 abbrev pub with_flight : {M : Type 0} → List (Packet M) → Way M → Way M
 with_flight packets w = record w { flight = packets }
@@ -96,7 +95,11 @@ without_packet place l = record l { there = with_flight (without_at l.there.flig
 
 -- a message packet that arrives is acknowledged first of all; an acknowledgement concerns the link back
 abbrev pub arrives : {M : Type 0} → Packet M → Link M → Link M
-arrives (Message n m) l = record { there = with_arrival n l.there; back = with_flight (l.back.flight ++ Ack (delivered (with_arrival n l.there)) ∷ []) l.back }
+arrives (Message n m) l =
+    record {
+      there = with_arrival n l.there;
+      back = with_flight (l.back.flight ++ Ack (delivered (with_arrival n l.there)) ∷ []) l.back;
+    }
 arrives (Ack k) l = record l { back = with_ack k l.back }
 
 -- what is done with a packet, where it is there
@@ -111,7 +114,8 @@ abbrev pub lose : {M : Type 0} → ℕ → Link M → Link M
 lose place l = with_packet (packet_at place l) (λ p. without_packet place l) l
 
 abbrev pub repeat : {M : Type 0} → ℕ → Link M → Link M
-repeat place l = with_packet (packet_at place l) (λ p. record l { there = with_flight (l.there.flight ++ p ∷ []) l.there }) l
+repeat place l =
+    with_packet (packet_at place l) (λ p. record l { there = with_flight (l.there.flight ++ p ∷ []) l.there }) l
 
 abbrev pub resend : {M : Type 0} → Link M → Link M
 resend l = record l { there = with_flight (l.there.flight ++ unacked l.there) l.there }
@@ -154,7 +158,9 @@ messages_of _ = []
 -- all that the deliveries handed on at the end of the link from a to b, in order
 abbrev pub handed : {M : Type 0} → Site → Site → List (Call M) → List M
 handed a b [] = []
-handed a b (Delivers from to place ∷ calls) = handed a b calls ++ (if same_site a from && same_site b to then messages_of (delivery place (link a b calls)) else [])
+handed a b (Delivers from to place ∷ calls) =
+    handed a b calls
+    ++ (if same_site a from && same_site b to then messages_of (delivery place (link a b calls)) else [])
 handed a b (_ ∷ calls) = handed a b calls
 
 -- what a link should have handed on: what was put on it, from 1 to `delivered`, in order and each once
@@ -170,7 +176,8 @@ quiet ls calls = list_all (λ l. is_quiet_link (link l.0 l.1 calls)) ls
 
 -- a round resends where something is unacknowledged while both flights are empty
 abbrev pub resends_now : {M : Type 0} → Link M → Bool
-resends_now l = nat_lt l.there.acked (length l.there.sent) && (is_empty l.there.flight && is_empty l.back.flight)
+resends_now l =
+    nat_lt l.there.acked (length l.there.sent) && (is_empty l.there.flight && is_empty l.back.flight)
 
 -- how many packets are in flight once a round's resends are done
 abbrev pub in_flight : {M : Type 0} → Link M → ℕ
@@ -186,20 +193,23 @@ round ls calls =
 -- resent; the packet of 5 arrives, and then the other two of 6
 abbrev pub late_and_repeated : Site → Site → List (Call ℕ)
 late_and_repeated t d =
-    Delivers t d 1 ∷ Delivers t d 1 ∷ Delivers t d 2 ∷ Resends t d ∷ Delivers t d 1 ∷ Repeats t d 1 ∷ Loses t d 1 ∷ Puts t d 6 ∷ Puts t d 5 ∷ []
+    Delivers t d 1 ∷ Delivers t d 1 ∷ Delivers t d 2 ∷ Resends t d ∷ Delivers t d 1
+    ∷ Repeats t d 1 ∷ Loses t d 1 ∷ Puts t d 6 ∷ Puts t d 5 ∷ []
 
 abbrev pub t1 : Site
-t1 = T (record { 0 = 1 })
+t1 = T (tm_no 1)
 
 abbrev pub d1 : Site
-d1 = D (record { 0 = 1 })
+d1 = D (dm_no 1)
 
-pub worked_acks : (link t1 d1 (late_and_repeated t1 d1)).back.flight ≡ Ack 0 ∷ Ack 2 ∷ Ack 2 ∷ Ack 2 ∷ []
+pub worked_acks : (link t1 d1 (late_and_repeated t1 d1)).back.flight
+    ≡ Ack 0 ∷ Ack 2 ∷ Ack 2 ∷ Ack 2 ∷ []
 worked_acks = refl
 
 pub worked_handed : handed t1 d1 (late_and_repeated t1 d1) ≡ 5 ∷ 6 ∷ []
 worked_handed = refl
 
 -- once a message's packet is lost, a round resends it and delivers it
-pub worked_round : round {M = ℕ} ((t1, d1) ∷ (d1, t1) ∷ []) (Loses t1 d1 1 ∷ Puts t1 d1 5 ∷ []) ≡ Resend t1 d1 ∷ Deliver t1 d1 1 ∷ []
+pub worked_round : round {M = ℕ} ((t1, d1) ∷ (d1, t1) ∷ []) (Loses t1 d1 1 ∷ Puts t1 d1 5 ∷ [])
+    ≡ Resend t1 d1 ∷ Deliver t1 d1 1 ∷ []
 worked_round = refl

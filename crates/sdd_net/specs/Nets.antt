@@ -1,6 +1,8 @@
 -- What contracts see of a network, and which calls it stands for.
 use Rattle.sdd_base.specs.Kept.{Kept}
 use Rattle.sdd_base.specs.Words.{is_empty}
+use Rattle.sdd_base.specs.declared.limits.TheConstants.{MAX_TMS, MAX_DMS}
+use Rattle.sdd_base.specs.Numbers.{tm_no, dm_no}
 use Rattle.sdd_base.specs.Sites.{are_linked, links}
 use Rattle.std.specs.Prelude.{ℕ, ◌+◌, ◌*◌, ◌≤◌, nat_le, cond, not, Bool, true, false, ◌&&◌, IsTrue, List, [], ◌∷◌, length, drop, slice_get, map, ◌≡◌, ◌≢◌, refl, Option, Some, None}
 use Rattle.sdd_base.specs.declared.site.Site.{Site}
@@ -20,7 +22,9 @@ abbrev pub is_link : ℕ → ℕ → Site → Site → Bool
 is_link tms dms a b = is_site tms dms a && (is_site tms dms b && are_linked a b)
 
 -- worked: T1 is linked with U and D1, and not with T1 or with a site that is not there
-pub worked_links : map (λ b. is_link 1 1 (T (record { 0 = 1 })) b) (U ∷ T (record { 0 = 1 }) ∷ D (record { 0 = 1 }) ∷ D (record { 0 = 2 }) ∷ []) ≡ true ∷ false ∷ true ∷ false ∷ []
+pub worked_links :
+    map (λ b. is_link 1 1 (T (tm_no 1)) b) (U ∷ T (tm_no 1) ∷ D (dm_no 1) ∷ D (dm_no 2) ∷ [])
+    ≡ true ∷ false ∷ true ∷ false ∷ []
 worked_links = refl
 
 -- the place of a site in the order of sites, counted from 0
@@ -51,7 +55,8 @@ unused_channel = record {
 
 -- a channel stands for one direction of a link: it keeps what is unacknowledged, what is in flight, and what came early
 pub record Matches {M : Type 0} (c : Channel M) (w : Way M) : Type 0 where
-  pub sender : c.sender ≡ record { live = true; value = record { acked = w.acked; unacked = drop w.acked w.sent } }
+  pub sender : c.sender
+      ≡ record { live = true; value = record { acked = w.acked; unacked = drop w.acked w.sent } }
   pub flight : c.flight ≡ record { live = true; value = w.flight }
   pub receiver_live : c.receiver.live ≡ true
   pub received : HasReceived c.receiver.value w.arrived w.sent
@@ -62,7 +67,9 @@ Fits (Some c) w = Matches c w
 
 -- each direction of the network is what the calls, newest first, made of it
 abbrev pub Stands : {M : Type 0} → ℕ → ℕ → List (Channel M) → List (Call M) → Type 0
-Stands tms dms channels calls = (a b : Site) → IsTrue (is_link tms dms a b) → Fits (slice_get channels (index_of tms dms a b)) (link a b calls).there
+Stands tms dms channels calls =
+    (a b : Site) → IsTrue (is_link tms dms a b)
+    → Fits (slice_get channels (index_of tms dms a b)) (link a b calls).there
 
 abbrev pub StandsFor : {M : Type 0} → Kept (Directions M) → List (Call M) → Type 0
 StandsFor net calls = Stands net.value.tms net.value.dms net.value.channels calls
@@ -112,12 +119,14 @@ quiet_at (Some c) = is_empty c.flight.value && is_empty c.sender.value.unacked
 
 -- a round resends on the first of a channel and the channel back
 abbrev pub resends_at : {M : Type 0} → Option (Channel M) → Option (Channel M) → Bool
-resends_at (Some c) (Some d) = not (is_empty c.sender.value.unacked) && (is_empty c.flight.value && is_empty d.flight.value)
+resends_at (Some c) (Some d) =
+    not (is_empty c.sender.value.unacked) && (is_empty c.flight.value && is_empty d.flight.value)
 resends_at _ _ = false
 
 -- how many packets a round then delivers
 abbrev pub in_flight_at : {M : Type 0} → Option (Channel M) → Option (Channel M) → ℕ
-in_flight_at (Some c) o = length c.flight.value + cond (resends_at (Some c) o) (length c.sender.value.unacked) 0
+in_flight_at (Some c) o =
+    length c.flight.value + cond (resends_at (Some c) o) (length c.sender.value.unacked) 0
 in_flight_at None o = 0
 
 abbrev pub resends_on : {M : Type 0} → Directions M → Site → Site → Bool
@@ -128,8 +137,8 @@ in_flight_on d a b = in_flight_at (channel_on d a b) (channel_on d b a)
 
 -- what holds of a network's fields: it stands for some calls while it is live
 pub record IsNet {M : Type 0} (tms dms : ℕ) (all : List (Site × Site)) (live : Bool) (channels : List (Channel M)) : Type 0 where
-  pub few_tms : tms ≤ 16
-  pub few_dms : dms ≤ 16
+  pub few_tms : tms ≤ MAX_TMS
+  pub few_dms : dms ≤ MAX_DMS
   pub all_links : all ≡ links tms dms
   pub stands : live ≡ true → (calls : List (Call M)) × Stands tms dms channels calls
 

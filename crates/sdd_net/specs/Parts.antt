@@ -2,7 +2,8 @@
 use Rattle.std.specs.Prelude.{ℕ, ◌+◌, ◌-◌, nat_le, max, ◌==◌, if◌then◌else◌, List, [], ◌∷◌, ◌≡◌, ◌-◌, ◌<◌, length, drop, map, slice_get, Some, refl}
 use Rattle.std.specs.Ordering.{nat_cmp}
 use Rattle.std.specs.BTreeMap.{insert_entry}
-use Rattle.sdd_net.specs.Links.{has, top}
+use Rattle.sdd_base.specs.Words.{contains}
+use Rattle.sdd_net.specs.Links.{top}
 
 -- a sender: the messages 1 to `acked` are acknowledged and dropped, and those after them are kept in order
 pub record Sending (M : Type 0) : Type 0 where
@@ -50,7 +51,11 @@ handed_on n m r = if nat_le n r.count then [] else in_turn r.count (with_early n
 abbrev pub received : {M : Type 0} → ℕ → M → Receiving M → Receiving M
 received n m r =
     if nat_le n r.count then r
-    else record { count = r.count + length (in_turn r.count (with_early n m r)); early = out_of_turn r.count (with_early n m r) }
+    else
+    record {
+      count = r.count + length (in_turn r.count (with_early n m r));
+      early = out_of_turn r.count (with_early n m r);
+    }
 
 -- messages by ascending numbers above k
 abbrev pub Ascends : {M : Type 0} → ℕ → List (ℕ × M) → Type 0
@@ -69,7 +74,7 @@ numbers early = map (λ e. e.0) early
 pub record IsEarly {M : Type 0} (k : ℕ) (arrived : List ℕ) (sent : List M) (early : List (ℕ × M)) : Type 0 where
   pub ascends : Ascends k early
   pub are_sent : AreSent sent early
-  pub same : (n : ℕ) → k < n → has (numbers early) n ≡ has arrived n
+  pub same : (n : ℕ) → k < n → contains (numbers early) n ≡ contains arrived n
 
 -- a receiver stands for the numbers that arrived, where each message is the one that was sent with its number
 pub record HasReceived {M : Type 0} (r : Receiving M) (arrived : List ℕ) (sent : List M) : Type 0 where
@@ -77,8 +82,10 @@ pub record HasReceived {M : Type 0} (r : Receiving M) (arrived : List ℕ) (sent
   pub early : IsEarly (top arrived) arrived sent r.early
 
 -- worked: 2 and 3 came early, and the arrival of 1 hands on all three; 5 still waits
-pub worked_gap : handed_on {M = ℕ} 1 10 (record { count = 0; early = (2, 20) ∷ (3, 30) ∷ (5, 50) ∷ [] }) ≡ 10 ∷ 20 ∷ 30 ∷ []
+pub worked_gap : handed_on {M = ℕ} 1 10 (record { count = 0; early = (2, 20) ∷ (3, 30) ∷ (5, 50) ∷ [] })
+    ≡ 10 ∷ 20 ∷ 30 ∷ []
 worked_gap = refl
 
-pub worked_rest : received {M = ℕ} 1 10 (record { count = 0; early = (2, 20) ∷ (3, 30) ∷ (5, 50) ∷ [] }) ≡ record { count = 3; early = (5, 50) ∷ [] }
+pub worked_rest : received {M = ℕ} 1 10 (record { count = 0; early = (2, 20) ∷ (3, 30) ∷ (5, 50) ∷ [] })
+    ≡ record { count = 3; early = (5, 50) ∷ [] }
 worked_rest = refl

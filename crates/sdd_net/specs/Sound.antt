@@ -1,13 +1,8 @@
 -- What holds of every link, whatever calls were made.
-use Rattle.std.specs.Prelude.{ℕ, ◌-◌, ◌≤◌, List, [], ◌∷◌, length, slice_get, ◌≡◌, Some}
+use Rattle.std.specs.Prelude.{ℕ, ◌-◌, ◌≤◌, List, length, slice_get, ◌≡◌, Some, All}
 use Rattle.sdd_net.specs.declared.packet.Packet.{Packet}
 use Rattle.sdd_net.specs.declared.packet.Packet.TheVariants.{Message, Ack}
 use Rattle.sdd_net.specs.Links.{Way, Link, delivered}
-
--- P holds of each member
-abbrev pub Every : {A : Type 0} → (A → Type 0) → List A → Type 0
-Every P [] = Unit {0}
-Every P (x ∷ xs) = P x × Every P xs
 
 -- a message packet has the message that was sent with its number, and an acknowledgement is of at most k
 abbrev pub IsOf : {M : Type 0} → List M → ℕ → Packet M → Type 0
@@ -19,8 +14,8 @@ IsNumber sent n = (1 ≤ n) × (n ≤ length sent)
 
 -- one direction, where so much is delivered on the way back
 pub record IsSoundWay {M : Type 0} (w : Way M) (back : ℕ) : Type 0 where
-  pub packets : Every (IsOf w.sent back) w.flight
-  pub numbers : Every (IsNumber w.sent) w.arrived
+  pub packets : All (IsOf w.sent back) w.flight
+  pub numbers : All (IsNumber w.sent) w.arrived
   pub acked : w.acked ≤ delivered w
 
 pub record IsSound {M : Type 0} (l : Link M) : Type 0 where

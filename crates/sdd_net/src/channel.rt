@@ -7,7 +7,7 @@ use crate::flight::Flight;
 use crate::packet::{Packet, Parcels};
 use crate::receiver::Receiver;
 use crate::sender::Sender;
-use sdd_base::{NoMemory, Parcel};
+use sdd_base::{MAX_LINK_MESSAGES, NoMemory, Parcel};
 use std::alloc::Global;
 
 /// One direction of a link: its two ends, and what is in flight between them.
@@ -35,9 +35,22 @@ impl<M: Parcel> Channel<M> {
     pub fn put(&mut self, msg: M) -> Result<(), NoMemory>
         requires sender { IsTrue self.old.sender.live }
         requires flight { IsTrue self.old.flight.live }
-        requires room { last_number self.old.sender.value < 2 ^ 32 - 1 }
-        ensures sender { OnOk result (self.new.sender ≡ record { live = true; value = record self.old.sender.value { unacked = self.old.sender.value.unacked ++ msg ∷ [] } }) }
-        ensures flight { OnOk result (self.new.flight ≡ record { live = true; value = self.old.flight.value ++ Packet.Message (last_number self.old.sender.value + 1) msg ∷ [] }) }
+        requires room { last_number self.old.sender.value < MAX_LINK_MESSAGES }
+        ensures sender { OnOk result (
+            self.new.sender
+            ≡ record {
+              live = true;
+              value = record self.old.sender.value {
+                unacked = self.old.sender.value.unacked ++ msg ∷ [];
+              };
+            }) }
+        ensures flight { OnOk result (
+            self.new.flight
+            ≡ record {
+              live = true;
+              value = self.old.flight.value
+                  ++ Packet.Message (last_number self.old.sender.value + 1) msg ∷ [];
+            }) }
         ensures receiver { self.new.receiver ≡ self.old.receiver }
     {
         let number = self.sender.put(msg.copy()?)?;
@@ -49,7 +62,13 @@ impl<M: Parcel> Channel<M> {
         requires { IsTrue self.old.flight.live }
         ensures some { IfOk result (λ some. some ≡ not (is_empty self.old.sender.value.unacked)) }
         ensures sender { self.new.sender ≡ self.old.sender }
-        ensures flight { OnOk result (self.new.flight ≡ record { live = true; value = self.old.flight.value ++ numbered self.old.sender.value.acked self.old.sender.value.unacked }) }
+        ensures flight { OnOk result (
+            self.new.flight
+            ≡ record {
+              live = true;
+              value = self.old.flight.value
+                  ++ numbered self.old.sender.value.acked self.old.sender.value.unacked;
+            }) }
         ensures receiver { self.new.receiver ≡ self.old.receiver }
     {
         let packets = self.sender.resend()?.into_vec();
@@ -67,7 +86,9 @@ impl<M: Parcel> Channel<M> {
         ensures count { IfOk result (λ given. given.1 ≡ self.new.receiver.value.count) }
         ensures sender { self.new.sender ≡ self.old.sender }
         ensures flight { self.new.flight ≡ self.old.flight }
-        ensures receiver { OnOk result (self.new.receiver ≡ record { live = true; value = received no msg self.old.receiver.value }) }
+        ensures receiver { OnOk result (
+            self.new.receiver
+            ≡ record { live = true; value = received no msg self.old.receiver.value }) }
     {
         let handed = self.receiver.arrive(no, msg)?;
         Ok((handed, self.receiver.count()))

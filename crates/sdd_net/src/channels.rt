@@ -7,7 +7,7 @@ ghost use Rattle.sdd_net.specs.Nets.{Fits, IsLiveAt, Changes, ArePair, ChangesPa
 use crate::channel::Channel;
 use crate::delivered::Delivered;
 use crate::packet::{Packet, Parcels};
-use sdd_base::{NoMemory, Parcel};
+use sdd_base::{MAX_LINK_MESSAGES, NoMemory, Parcel};
 
 // Each function changes the channel at one place, and its clause says which way that channel
 // stands for afterwards.
@@ -16,8 +16,10 @@ use sdd_base::{NoMemory, Parcel};
 #[tactic(auto, using(crate::proofs::Places::live_places))]
 pub fn put_at<M: Parcel>(channels: &mut Vec<Channel<M>>, at: usize, msg: M) -> Result<(), NoMemory>
     requires live { IsLiveAt (slice_get channels.old.items at) }
-    requires room { sent_by (slice_get channels.old.items at) < 2 ^ 32 - 1 }
-    ensures { OnOk result ((w : Way M) → w.acked ≤ length w.sent → Fits (slice_get channels.old.items at) w → Changes channels.old.items channels.new.items at (with_message msg w)) }
+    requires room { sent_by (slice_get channels.old.items at) < MAX_LINK_MESSAGES }
+    ensures { OnOk result (
+        (w : Way M) → w.acked ≤ length w.sent → Fits (slice_get channels.old.items at) w
+        → Changes channels.old.items channels.new.items at (with_message msg w)) }
 {
     let channel = &mut channels[at];
     channel.put(msg)
@@ -32,8 +34,11 @@ pub fn take_at<M: Parcel>(
 ) -> Option<Packet<M>>
     requires live { IsLiveAt (slice_get channels.old.items at) }
     requires place { 1 ≤ place }
-    ensures packet { (w : Way M) → Fits (slice_get channels.old.items at) w → result ≡ slice_get w.flight (place - 1) }
-    ensures some { (w : Way M) → Fits (slice_get channels.old.items at) w → Changes channels.old.items channels.new.items at (with_flight (without_at w.flight (place - 1)) w) }
+    ensures packet { (w : Way M) → Fits (slice_get channels.old.items at) w
+        → result ≡ slice_get w.flight (place - 1) }
+    ensures some { (w : Way M) → Fits (slice_get channels.old.items at) w
+        → Changes channels.old.items channels.new.items at
+        (with_flight (without_at w.flight (place - 1)) w) }
 {
     let channel = &mut channels[at];
     channel.flight.take(place)
@@ -47,7 +52,9 @@ fn send_at<M: Parcel>(
     packet: Packet<M>,
 ) -> Result<(), NoMemory>
     requires live { IsLiveAt (slice_get channels.old.items at) }
-    ensures { OnOk result ((w : Way M) → Fits (slice_get channels.old.items at) w → Changes channels.old.items channels.new.items at (with_flight (w.flight ++ packet ∷ []) w)) }
+    ensures { OnOk result (
+        (w : Way M) → Fits (slice_get channels.old.items at) w
+        → Changes channels.old.items channels.new.items at (with_flight (w.flight ++ packet ∷ []) w)) }
 {
     let channel = &mut channels[at];
     channel.flight.send(packet)
@@ -62,9 +69,13 @@ pub fn repeat_at<M: Parcel>(
 ) -> Result<bool, NoMemory>
     requires live { IsLiveAt (slice_get channels.old.items at) }
     requires place { 1 ≤ place }
-    ensures some { result ≡ Ok true → (w : Way M) (packet : Packet M) → Fits (slice_get channels.old.items at) w → slice_get w.flight (place - 1) ≡ Some packet → Changes channels.old.items channels.new.items at (with_flight (w.flight ++ packet ∷ []) w) }
-    ensures there { result ≡ Ok true → (w : Way M) → Fits (slice_get channels.old.items at) w → place ≤ length w.flight }
-    ensures none { result ≡ Ok false → (w : Way M) → Fits (slice_get channels.old.items at) w → Changes channels.old.items channels.new.items at w × (length w.flight < place) }
+    ensures some { result ≡ Ok true → (w : Way M) (packet : Packet M)
+        → Fits (slice_get channels.old.items at) w → slice_get w.flight (place - 1) ≡ Some packet
+        → Changes channels.old.items channels.new.items at (with_flight (w.flight ++ packet ∷ []) w) }
+    ensures there { result ≡ Ok true → (w : Way M) → Fits (slice_get channels.old.items at) w
+        → place ≤ length w.flight }
+    ensures none { result ≡ Ok false → (w : Way M) → Fits (slice_get channels.old.items at) w
+        → Changes channels.old.items channels.new.items at w × (length w.flight < place) }
 {
     let channel = &mut channels[at];
     channel.flight.repeat(place)
@@ -74,8 +85,12 @@ pub fn repeat_at<M: Parcel>(
 #[tactic(auto, using(crate::proofs::Places::live_places))]
 pub fn resend_at<M: Parcel>(channels: &mut Vec<Channel<M>>, at: usize) -> Result<bool, NoMemory>
     requires live { IsLiveAt (slice_get channels.old.items at) }
-    ensures some { IfOk result (λ some. (w : Way M) → Fits (slice_get channels.old.items at) w → some ≡ nat_lt w.acked (length w.sent)) }
-    ensures law { OnOk result ((w : Way M) → Fits (slice_get channels.old.items at) w → Changes channels.old.items channels.new.items at (with_flight (w.flight ++ unacked w) w)) }
+    ensures some { IfOk result (λ some.
+        (w : Way M) → Fits (slice_get channels.old.items at) w
+        → some ≡ nat_lt w.acked (length w.sent)) }
+    ensures law { OnOk result (
+        (w : Way M) → Fits (slice_get channels.old.items at) w
+        → Changes channels.old.items channels.new.items at (with_flight (w.flight ++ unacked w) w)) }
 {
     let channel = &mut channels[at];
     channel.resend()
@@ -86,7 +101,8 @@ pub fn resend_at<M: Parcel>(channels: &mut Vec<Channel<M>>, at: usize) -> Result
 fn acknowledge_at<M: Parcel>(channels: &mut Vec<Channel<M>>, at: usize, k: u32)
     requires live { IsLiveAt (slice_get channels.old.items at) }
     requires known { k ≤ sent_by (slice_get channels.old.items at) }
-    ensures { (w : Way M) → Fits (slice_get channels.old.items at) w → Changes channels.old.items channels.new.items at (with_ack k w) }
+    ensures { (w : Way M) → Fits (slice_get channels.old.items at) w
+        → Changes channels.old.items channels.new.items at (with_ack k w) }
 {
     let channel = &mut channels[at];
     channel.sender.acked(k);
@@ -102,9 +118,16 @@ fn receive_at<M: Parcel>(
 ) -> Result<(Parcels<M>, u32), NoMemory>
     requires live { IsLiveAt (slice_get channels.old.items at) }
     requires number { 1 ≤ no }
-    ensures handed { IfOk result (λ given. (w : Way M) → slice_get w.sent (no - 1) ≡ Some msg → Fits (slice_get channels.old.items at) w → given.0 ≡ newly_delivered w (with_arrival no w)) }
-    ensures count { IfOk result (λ given. (w : Way M) → slice_get w.sent (no - 1) ≡ Some msg → Fits (slice_get channels.old.items at) w → given.1 ≡ delivered (with_arrival no w)) }
-    ensures law { OnOk result ((w : Way M) → slice_get w.sent (no - 1) ≡ Some msg → Fits (slice_get channels.old.items at) w → Changes channels.old.items channels.new.items at (with_arrival no w)) }
+    ensures handed { IfOk result (λ given.
+        (w : Way M) → slice_get w.sent (no - 1) ≡ Some msg
+        → Fits (slice_get channels.old.items at) w → given.0 ≡ newly_delivered w (with_arrival no w)) }
+    ensures count { IfOk result (λ given.
+        (w : Way M) → slice_get w.sent (no - 1) ≡ Some msg
+        → Fits (slice_get channels.old.items at) w → given.1 ≡ delivered (with_arrival no w)) }
+    ensures law { OnOk result (
+        (w : Way M) → slice_get w.sent (no - 1) ≡ Some msg
+        → Fits (slice_get channels.old.items at) w
+        → Changes channels.old.items channels.new.items at (with_arrival no w)) }
 {
     let channel = &mut channels[at];
     channel.receive(no, msg)
@@ -119,8 +142,12 @@ pub fn deliver_at<M: Parcel>(
 ) -> Result<Delivered<M>, NoMemory>
     requires place { 1 ≤ place }
     requires pair { (l : Link M) × ArePair channels.old.items there back l × IsSound l }
-    ensures given { IfOk result (λ given. (l : Link M) → ArePair channels.old.items there back l → IsSound l → given ≡ delivery place l) }
-    ensures law { OnOk result ((l : Link M) → ArePair channels.old.items there back l → IsSound l → ChangesPair channels.old.items channels.new.items there back (deliver place l)) }
+    ensures given { IfOk result (λ given.
+        (l : Link M) → ArePair channels.old.items there back l → IsSound l
+        → given ≡ delivery place l) }
+    ensures law { OnOk result (
+        (l : Link M) → ArePair channels.old.items there back l → IsSound l
+        → ChangesPair channels.old.items channels.new.items there back (deliver place l)) }
 {
     match take_at(channels, there, place) {
         None => Ok(Delivered::Nothing),

@@ -62,7 +62,8 @@ impl<M: Parcel> Flight<M> {
     /// Puts a packet at the end, in constant time but for growth.
     pub fn send(&mut self, packet: Packet<M>) -> Result<(), NoMemory>
         requires live { IsTrue self.old.live }
-        ensures ok { OnOk result (self.new ≡ record { live = true; value = self.old.value ++ packet ∷ [] }) }
+        ensures ok { OnOk result (
+            self.new ≡ record { live = true; value = self.old.value ++ packet ∷ [] }) }
         ensures err { OnErr result (self.new.live ≡ false) }
     {
         self.live = false;
@@ -78,7 +79,8 @@ impl<M: Parcel> Flight<M> {
         requires live { IsTrue self.old.live }
         requires place { 1 ≤ place }
         ensures packet { result ≡ slice_get self.old.value (place - 1) }
-        ensures some { OnSome result (self.new ≡ record { live = true; value = without_at self.old.value (place - 1) }) }
+        ensures some { OnSome result (
+            self.new ≡ record { live = true; value = without_at self.old.value (place - 1) }) }
         ensures none { result ≡ None → self.new ≡ self.old }
     {
         self.packets.remove((place - 1) as usize)
@@ -92,7 +94,9 @@ impl<M: Parcel> Flight<M> {
         requires live { IsTrue self.old.live }
         requires place { 1 ≤ place }
         ensures which { IfOk result (λ there. IsTrue there ↔ (place ≤ length self.old.value)) }
-        ensures some { (packet : Packet M) → result ≡ Ok true → slice_get self.old.value (place - 1) ≡ Some packet → self.new ≡ record { live = true; value = self.old.value ++ packet ∷ [] } }
+        ensures some { (packet : Packet M) → result ≡ Ok true
+            → slice_get self.old.value (place - 1) ≡ Some packet
+            → self.new ≡ record { live = true; value = self.old.value ++ packet ∷ [] } }
         ensures none { result ≡ Ok false → self.new ≡ self.old }
         ensures err { OnErr result (self.new.live ≡ false) }
     {

@@ -12,8 +12,6 @@ mod packet;
 mod receiver;
 mod sender;
 mod sites;
-#[cfg(test)]
-mod tests;
 
 pub use delivered::Delivered;
 pub use flight::Flight;

@@ -7,7 +7,7 @@ use crate::channel::Channel;
 use crate::channels::{deliver_at, put_at, repeat_at, resend_at, take_at};
 use crate::delivered::Delivered;
 use crate::sites::{all_links, index_of, is_link, pair_count};
-use sdd_base::{Event, NoMemory, Parcel, Site};
+use sdd_base::{Event, MAX_DMS, MAX_LINK_MESSAGES, MAX_TMS, NoMemory, Parcel, Site};
 use std::alloc::Global;
 use std::marker::Model;
 
@@ -44,8 +44,8 @@ impl<M> Model for Net<M> {
 impl<M: Parcel> Net<M> {
     /// The links between U, so many transaction modules and so many data modules, all unused.
     pub fn new(alloc: Global, tms: u32, dms: u32) -> Result<Net<M>, NoMemory>
-        requires tms { tms ≤ 16 }
-        requires dms { dms ≤ 16 }
+        requires tms { tms ≤ MAX_TMS }
+        requires dms { dms ≤ MAX_DMS }
         ensures live { IfOk result (λ net. IsTrue net.live) }
         ensures tms { IfOk result (λ net. net.value.tms ≡ tms) }
         ensures dms { IfOk result (λ net. net.value.dms ≡ dms) }
@@ -82,7 +82,8 @@ impl<M: Parcel> Net<M> {
         requires live { IsTrue self.now.live }
         requires exists { HasLink self.now from to }
         ensures count { result ≡ sent_on self.now.value from to }
-        ensures calls { (calls : List (Call M)) → StandsFor self.now calls → result ≡ length (link from to calls).there.sent }
+        ensures calls { (calls : List (Call M)) → StandsFor self.now calls
+            → result ≡ length (link from to calls).there.sent }
     {
         let channel = &self.channels[index_of(self.tms, self.dms, from, to)];
         channel.sender.count()
@@ -94,7 +95,7 @@ impl<M: Parcel> Net<M> {
     pub fn send(&mut self, from: Site, to: Site, msg: M) -> Result<(), NoMemory>
         requires live { IsTrue self.old.live }
         requires exists { HasLink self.old from to }
-        requires room { sent_on self.old.value from to < 2 ^ 32 - 1 }
+        requires room { sent_on self.old.value from to < MAX_LINK_MESSAGES }
         ensures ok { OnOk result (Does self.old self.new (Puts from to msg)) }
         ensures err { OnErr result (self.new.live ≡ false) }
     {
@@ -114,7 +115,9 @@ impl<M: Parcel> Net<M> {
         requires live { IsTrue self.old.live }
         requires exists { HasLink self.old from to }
         requires place { 1 ≤ place }
-        ensures given { IfOk result (λ given. (calls : List (Call M)) → StandsFor self.old calls → given ≡ delivery place (link from to calls)) }
+        ensures given { IfOk result (λ given.
+            (calls : List (Call M)) → StandsFor self.old calls
+            → given ≡ delivery place (link from to calls)) }
         ensures ok { OnOk result (Does self.old self.new (Delivers from to place)) }
         ensures err { OnErr result (self.new.live ≡ false) }
     {
@@ -134,7 +137,8 @@ impl<M: Parcel> Net<M> {
         requires live { IsTrue self.old.live }
         requires exists { HasLink self.old from to }
         requires place { 1 ≤ place }
-        ensures there { (calls : List (Call M)) → StandsFor self.old calls → result ≡ is_some (packet_at place (link from to calls)) }
+        ensures there { (calls : List (Call M)) → StandsFor self.old calls
+            → result ≡ is_some (packet_at place (link from to calls)) }
         ensures ok { Does self.old self.new (Loses from to place) }
     {
         let at = index_of(self.tms, self.dms, from, to);
@@ -147,7 +151,9 @@ impl<M: Parcel> Net<M> {
         requires live { IsTrue self.old.live }
         requires exists { HasLink self.old from to }
         requires place { 1 ≤ place }
-        ensures there { IfOk result (λ there. (calls : List (Call M)) → StandsFor self.old calls → there ≡ is_some (packet_at place (link from to calls))) }
+        ensures there { IfOk result (λ there.
+            (calls : List (Call M)) → StandsFor self.old calls
+            → there ≡ is_some (packet_at place (link from to calls))) }
         ensures ok { OnOk result (Does self.old self.new (Repeats from to place)) }
         ensures err { OnErr result (self.new.live ≡ false) }
     {
@@ -163,7 +169,10 @@ impl<M: Parcel> Net<M> {
     pub fn resend(&mut self, from: Site, to: Site) -> Result<bool, NoMemory>
         requires live { IsTrue self.old.live }
         requires exists { HasLink self.old from to }
-        ensures some { IfOk result (λ some. (calls : List (Call M)) → StandsFor self.old calls → some ≡ nat_lt (link from to calls).there.acked (length (link from to calls).there.sent)) }
+        ensures some { IfOk result (λ some.
+            (calls : List (Call M)) → StandsFor self.old calls
+            → some ≡ nat_lt (link from to calls).there.acked
+            (length (link from to calls).there.sent)) }
         ensures ok { OnOk result (Does self.old self.new (Resends from to)) }
         ensures err { OnErr result (self.new.live ≡ false) }
     {
@@ -179,7 +188,8 @@ impl<M: Parcel> Net<M> {
     /// Takes no memory, and constant time for each link.
     pub fn quiet(&self) -> bool
         requires { IsTrue self.now.live }
-        ensures { (calls : List (Call M)) → StandsFor self.now calls → result ≡ quiet (links self.now.value.tms self.now.value.dms) calls }
+        ensures { (calls : List (Call M)) → StandsFor self.now calls
+            → result ≡ quiet (links self.now.value.tms self.now.value.dms) calls }
     {
         for (from, to) in &self.links {
             if !self.is_quiet_link(*from, *to) {
@@ -197,7 +207,9 @@ impl<M: Parcel> Net<M> {
     /// Costs constant time for each link and for each event.
     pub fn round(&self) -> Result<Vec<Event>, NoMemory>
         requires { IsTrue self.now.live }
-        ensures { IfOk result (λ events. (calls : List (Call M)) → StandsFor self.now calls → events.items ≡ round (links self.now.value.tms self.now.value.dms) calls) }
+        ensures { IfOk result (λ events.
+            (calls : List (Call M)) → StandsFor self.now calls
+            → events.items ≡ round (links self.now.value.tms self.now.value.dms) calls) }
     {
         let mut events = Vec::new(self.alloc);
         for (from, to) in &self.links {
@@ -263,7 +275,8 @@ fn add_deliveries(
     to: Site,
     count: usize,
 ) -> Result<(), NoMemory>
-    ensures { OnOk result (events.new.items ≡ events.old.items ++ replicate count (Event.Deliver from to 1)) }
+    ensures { OnOk result (
+        events.new.items ≡ events.old.items ++ replicate count (Event.Deliver from to 1)) }
 {
     for _ in 0..count {
         events.push(Event::Deliver { from, to, place: 1 })?;

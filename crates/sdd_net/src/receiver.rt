@@ -63,11 +63,16 @@ impl<M: Parcel> Receiver<M> {
         requires live { IsTrue self.old.live }
         requires number { 1 ≤ no }
         ensures handed { IfOk result (λ handed. handed ≡ handed_on no msg self.old.value) }
-        ensures ok { OnOk result (self.new ≡ record { live = true; value = received no msg self.old.value }) }
+        ensures ok { OnOk result (
+            self.new ≡ record { live = true; value = received no msg self.old.value }) }
         ensures err { OnErr result (self.new.live ≡ false) }
 
         // Where the receiver stands for what arrived before, it stands for one arrival more.
-        ensures law { IfOk result (λ handed. (arrived : List ℕ) (sent : List M) → slice_get sent (no - 1) ≡ Some msg → HasReceived self.old.value arrived sent → HasReceived self.new.value (no ∷ arrived) sent × (handed ≡ drop (top arrived) (take (top (no ∷ arrived)) sent))) }
+        ensures law { IfOk result (λ handed.
+            (arrived : List ℕ) (sent : List M) → slice_get sent (no - 1) ≡ Some msg
+            → HasReceived self.old.value arrived sent
+            → HasReceived self.new.value (no ∷ arrived) sent
+            × (handed ≡ drop (top arrived) (take (top (no ∷ arrived)) sent))) }
     {
         let mut handed = Vec::new(self.alloc);
         if no <= self.count {
@@ -89,7 +94,8 @@ impl<M: Parcel> Receiver<M> {
 fn take_next<M: Parcel>(early: &mut BTreeMap<u32, M>, count: u32) -> Option<M>
     ensures some { IfSome result (λ m. early.old.entries ≡ (count + 1, m) ∷ early.new.entries) }
     ensures room { IfSome result (λ m. count + 1 < 2 ^ 32) }
-    ensures none { result ≡ None → (early.new.entries ≡ early.old.entries) × (in_turn count early.old.entries ≡ []) }
+    ensures none { result ≡ None
+        → (early.new.entries ≡ early.old.entries) × (in_turn count early.old.entries ≡ []) }
 {
     let Some((number, _)) = early.first_key_value() else {
         return None;

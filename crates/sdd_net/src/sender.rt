@@ -4,7 +4,7 @@ ghost use Rattle.sdd_net.specs.Links.{numbered};
 ghost use Rattle.sdd_net.specs.Parts.{nothing_sent, last_number, acknowledged};
 
 use crate::packet::{Packet, Packets};
-use sdd_base::{Listed, NoMemory, Parcel};
+use sdd_base::{Listed, MAX_LINK_MESSAGES, NoMemory, Parcel};
 use std::alloc::Global;
 use std::collections::VecDeque;
 use std::marker::Model;
@@ -74,9 +74,14 @@ impl<M: Parcel> Sender<M> {
     /// Keeps a message and gives its number, in constant time but for growth.
     pub fn put(&mut self, msg: M) -> Result<u32, NoMemory>
         requires live { IsTrue self.old.live }
-        requires room { last_number self.old.value < 2 ^ 32 - 1 }
+        requires room { last_number self.old.value < MAX_LINK_MESSAGES }
         ensures number { IfOk result (λ number. number ≡ last_number self.old.value + 1) }
-        ensures ok { OnOk result (self.new ≡ record { live = true; value = record self.old.value { unacked = self.old.value.unacked ++ msg ∷ [] } }) }
+        ensures ok { OnOk result (
+            self.new
+            ≡ record {
+              live = true;
+              value = record self.old.value { unacked = self.old.value.unacked ++ msg ∷ [] };
+            }) }
         ensures err { OnErr result (self.new.live ≡ false) }
     {
         self.live = false;
@@ -88,7 +93,8 @@ impl<M: Parcel> Sender<M> {
     /// A packet for each unacknowledged message, in order. Costs what their copies cost.
     #[tactic(auto, using(crate::proofs::Turns::numbering))]
     pub fn resend(&self) -> Result<Packets<M>, NoMemory>
-        ensures { IfOk result (λ packets. packets ≡ numbered self.now.value.acked self.now.value.unacked) }
+        ensures { IfOk result (λ packets.
+            packets ≡ numbered self.now.value.acked self.now.value.unacked) }
     {
         let mut packets = Vec::new(*self.unacked.allocator());
         let mut number = self.acked;

@@ -3,13 +3,13 @@ ghost use Rattle.std.specs.List.{filter_map};
 ghost use Rattle.sdd_base.specs.Sites as spec;
 ghost use Rattle.sdd_net.specs.Nets as net;
 
-use sdd_base::{DmNo, NoMemory, Site, TmNo};
+use sdd_base::{DmNo, MAX_DMS, MAX_TMS, NoMemory, Site, TmNo};
 use std::alloc::Global;
 
 /// The sites of a network, in their order.
 fn all_sites(alloc: Global, tms: u32, dms: u32) -> Result<Vec<Site>, NoMemory>
-    requires tms { tms ≤ 16 }
-    requires dms { dms ≤ 16 }
+    requires tms { tms ≤ MAX_TMS }
+    requires dms { dms ≤ MAX_DMS }
     ensures { IfOk result (λ all. all.items ≡ spec.sites tms dms) }
 {
     let mut sites = vec![in alloc; Site::U]?;
@@ -53,7 +53,10 @@ pub fn is_link(tms: u32, dms: u32, from: Site, to: Site) -> bool
 
 /// Adds the links from one site to those among the sites.
 fn add_links(links: &mut Vec<(Site, Site)>, from: Site, sites: &[Site]) -> Result<(), NoMemory>
-    ensures { OnOk result (links.new.items ≡ links.old.items ++ filter_map (λ to. cond (spec.are_linked from to) (Some (from, to)) None) sites.now) }
+    ensures { OnOk result (
+        links.new.items
+        ≡ links.old.items
+        ++ filter_map (λ to. cond (spec.are_linked from to) (Some (from, to)) None) sites.now) }
 {
     for to in sites {
         if are_linked(from, *to) {
@@ -66,8 +69,8 @@ fn add_links(links: &mut Vec<(Site, Site)>, from: Site, sites: &[Site]) -> Resul
 /// The links of a network, by the order of the site they come from and then of the site they go to.
 #[tactic(auto, using(crate::proofs::SiteLists::all_links_more))]
 pub fn all_links(alloc: Global, tms: u32, dms: u32) -> Result<Vec<(Site, Site)>, NoMemory>
-    requires tms { tms ≤ 16 }
-    requires dms { dms ≤ 16 }
+    requires tms { tms ≤ MAX_TMS }
+    requires dms { dms ≤ MAX_DMS }
     ensures { IfOk result (λ all. all.items ≡ spec.links tms dms) }
 {
     let sites = all_sites(alloc, tms, dms)?;
@@ -98,8 +101,8 @@ fn site_count(tms: u32, dms: u32) -> usize
 
 /// How many pairs of sites there are.
 pub fn pair_count(tms: u32, dms: u32) -> usize
-    requires tms { tms ≤ 16 }
-    requires dms { dms ≤ 16 }
+    requires tms { tms ≤ MAX_TMS }
+    requires dms { dms ≤ MAX_DMS }
     ensures { result ≡ net.site_count tms dms * net.site_count tms dms }
 {
     site_count(tms, dms) * site_count(tms, dms)
@@ -107,8 +110,8 @@ pub fn pair_count(tms: u32, dms: u32) -> usize
 
 /// The place of the direction from one site to another among all pairs of sites.
 pub fn index_of(tms: u32, dms: u32, from: Site, to: Site) -> usize
-    requires tms { tms ≤ 16 }
-    requires dms { dms ≤ 16 }
+    requires tms { tms ≤ MAX_TMS }
+    requires dms { dms ≤ MAX_DMS }
     ensures { result ≡ net.index_of tms dms from to }
 {
     place_of(tms, from) * site_count(tms, dms) + place_of(tms, to)

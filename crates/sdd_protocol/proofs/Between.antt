@@ -2,26 +2,31 @@
 use Rattle.std.proofs.Common.{ℕ, ◌-◌, ◌+◌, ◌<◌, ◌≤◌, ◌==◌, ◌≡◌, Bool, true, false, ◌&&◌, cond, List, [], ◌∷◌, ◌++◌, length, get_or, take, drop, Option, Some, None, refl, sym, ap, ◌∙◌, subst, arith, inl, inr}
 use Rattle.std.specs.Prelude.{All, filter}
 use Rattle.std.specs.List.{filter_map, cons_option}
-use Rattle.std.proofs.lemmas.Bool.{cases_Bool, cases_lt, eqb-true, and_parts, and_from}
+use Rattle.std.specs.Option.{option_or}
+use Rattle.std.proofs.lemmas.Bool.{cases_Bool, cases_lt, eqb-true, and_parts}
 use Rattle.std.proofs.lemmas.List.{append-nil, take-append-drop, get_or-take, get_or-drop, get_or_past, length-take, length-drop}
 use Rattle.std.proofs.lemmas.List.Elements.{All-head, All-tail, filter-append}
 use Rattle.std.proofs.lemmas.List.Folds.{drop_split}
 use Rattle.sdd_graph.specs.declared.edge.Edge.{Edge}
 use Rattle.sdd_graph.specs.declared.edge.Edge.TheVariants.{Vertical, Horizontal, Diagonal}
-use Rattle.sdd_base.specs.declared.number.FragNo.{FragNo}
-use Rattle.sdd_protocol.specs.Conditions.{is_p2, is_p3, asked_on, asked_by, cond_for, condition_on}
-use Rattle.sdd_protocol.specs.Places.{Places, ArePlaces, Covers, cell, part_of, is_between}
+use Rattle.sdd_protocol.specs.Conditions.{asked_on, asked_in, asked_by, cond_for, condition_on}
+use Rattle.sdd_protocol.specs.Protocols.{same_protocol}
+use Rattle.sdd_protocol.specs.DiagonalIndex.{DiagonalIndex, IsIndexOf, Covers, cell, range_of, is_between}
 use Rattle.sdd_protocol.specs.declared.protocol.Protocol.{Protocol}
+use Rattle.sdd_protocol.specs.declared.protocol.Protocol.TheVariants.{P2, P3}
 use Rattle.sdd_protocol.specs.declared.entry.Entry.{Entry}
 
 -- a filter that nothing passes
-filter_none : {X : Type 0} (p : X → Bool) (xs : List X) → All (λ x. p x ≡ false) xs → filter p xs ≡ []
+filter_none : {X : Type 0} (p : X → Bool) (xs : List X) → All (λ x. p x ≡ false) xs
+    → filter p xs ≡ []
 filter_none p [] h = refl
 filter_none p (x ∷ xs) h = rw (All-head (λ x. p x ≡ false) x xs h) (filter_none p xs (All-tail (λ x. p x ≡ false) x xs h))
 
--- a part that has all that pass a filter
-pub filter_part : {X : Type 0} (p : X → Bool) (xs : List X) (a b : ℕ) → a ≤ b → ((k : ℕ) (d : X) → k < length xs → p (get_or xs k d) ≡ true → (a ≤ k) × (k < b)) → filter p (take (b - a) (drop a xs)) ≡ filter p xs
-filter_part p xs a b le h =
+-- a range that has all that pass a filter
+pub filter_range : {X : Type 0} (p : X → Bool) (xs : List X) (a b : ℕ) → a ≤ b
+    → ((k : ℕ) (d : X) → k < length xs → p (get_or xs k d) ≡ true → (a ≤ k) × (k < b))
+    → filter p (take (b - a) (drop a xs)) ≡ filter p xs
+filter_range p xs a b le h =
     let fails : (k : ℕ) (d : _) → k < length xs → ((a ≤ k) × (k < b) → ⊥) → p (get_or xs k d) ≡ false =
     λ k d l n. elim (cases_Bool (p (get_or xs k d))) [ inl t ↦ absurd (n (h k d l t)) | inr f ↦ f ] in
     let front : filter p (take a xs) ≡ [] =
@@ -32,42 +37,46 @@ filter_part p xs a b le h =
     filter_none p (drop b xs) (λ k d l.
     let m = length-drop b xs in
     subst (λ z. p z ≡ false) (sym (get_or-drop b xs k d)) (fails (b + k) d (omega arith) (λ w. absurd (omega arith)))) in
-    let part = take (b - a) (drop a xs) in
-    sym (append-nil (filter p part))
-    ∙ ap (λ z. filter p part ++ z) (sym back)
-    ∙ sym (filter-append p part (drop b xs))
+    let range = take (b - a) (drop a xs) in
+    sym (append-nil (filter p range))
+    ∙ ap (λ z. filter p range ++ z) (sym back)
+    ∙ sym (filter-append p range (drop b xs))
     ∙ ap (λ z. filter p z) (sym (drop_split xs a b le))
     ∙ ap (λ z. z ++ filter p (drop a xs)) (sym front)
     ∙ sym (filter-append p (take a xs) (drop a xs))
     ∙ ap (λ z. filter p z) (take-append-drop a xs)
 
--- an edge that is covered and between two classes is in their part
-covered_within : (places : Places) (i j k : ℕ) (e : Edge) → Covers places k e → is_between i j e ≡ true → ((part_of places i j).0 ≤ k) × (k < (part_of places i j).1)
-covered_within places i j k (Vertical c) h t = cc
-covered_within places i j k (Horizontal c d) h t = cc
-covered_within places i j k (Diagonal a b f) h t =
+-- an edge that is covered and between two classes is in their range
+covered_within : (index : DiagonalIndex) (i j k : ℕ) (e : Edge) → Covers index k e
+    → is_between i j e ≡ true → ((range_of index i j).0 ≤ k) × (k < (range_of index i j).1)
+covered_within index i j k (Vertical c) h t = cc
+covered_within index i j k (Horizontal c d) h t = cc
+covered_within index i j k (Diagonal a b f) h t =
     let both = and_parts (a.0 == i) (b.0 == j) t in
     let reader : a.0 ≡ i = eqb-true a.0 i both.0 in
     let writer : b.0 ≡ j = eqb-true b.0 j both.1 in
-    subst (λ z. ((part_of places i z).0 ≤ k) × (k < (part_of places i z).1)) writer (subst (λ z. ((part_of places z b.0).0 ≤ k) × (k < (part_of places z b.0).1)) reader h)
+    subst (λ z. ((range_of index i z).0 ≤ k) × (k < (range_of index i z).1)) writer (subst (λ z. ((range_of index z b.0).0 ≤ k) × (k < (range_of index z b.0).1)) reader h)
 
--- no part ends before it begins
-part_in_order : (entries : List Entry) (count : ℕ) (places : Places) → ArePlaces entries count places → (i j : ℕ) → (part_of places i j).0 ≤ (part_of places i j).1
-part_in_order entries count places h i j =
-    elim (cases_lt (cell places i j) (length places.parts)) [
-      | inl l ↦ (h.within (cell places i j) (0, 0) l).0
-      | inr l ↦ subst (λ (z : ℕ × ℕ). z.0 ≤ z.1) (sym (get_or_past places.parts (cell places i j) (0, 0) l)) (omega arith)
+-- no range ends before it begins
+range_in_order : (entries : List Entry) (count : ℕ) (index : DiagonalIndex)
+    → IsIndexOf entries count index → (i j : ℕ) → (range_of index i j).0 ≤ (range_of index i j).1
+range_in_order entries count index h i j =
+    elim (cases_lt (cell index i j) (length index.ranges)) [
+      | inl l ↦ (h.within (cell index i j) (0, 0) l).0
+      | inr l ↦ subst (λ (z : ℕ × ℕ). z.0 ≤ z.1) (sym (get_or_past index.ranges (cell index i j) (0, 0) l)) (omega arith)
     ]
 
--- the part for two classes has the diagonals between them
-pub diagonals_in_part : (entries : List Entry) (places : Places) → ArePlaces entries (length entries) places → (i j : ℕ)
-    → filter (λ e. is_between i j e.edge) (take ((part_of places i j).1 - (part_of places i j).0) (drop (part_of places i j).0 entries)) ≡ filter (λ e. is_between i j e.edge) entries
-diagonals_in_part entries places h i j =
-    filter_part (λ e. is_between i j e.edge) entries (part_of places i j).0 (part_of places i j).1 (part_in_order entries (length entries) places h i j)
-    (λ k d l t. covered_within places i j k (get_or entries k d).edge (h.covers k d l) t)
+-- the range for two classes has the diagonals between them
+pub diagonals_in_range : (entries : List Entry) (index : DiagonalIndex)
+    → IsIndexOf entries (length entries) index → (i j : ℕ)
+    → filter (λ e. is_between i j e.edge) (take ((range_of index i j).1 - (range_of index i j).0) (drop (range_of index i j).0 entries)) ≡ filter (λ e. is_between i j e.edge) entries
+diagonals_in_range entries index h i j =
+    filter_range (λ e. is_between i j e.edge) entries (range_of index i j).0 (range_of index i j).1 (range_in_order entries (length entries) index h i j)
+    (λ k d l t. covered_within index i j k (get_or entries k d).edge (h.covers k d l) t)
 
 -- what a diagonal asks for is between
-asked_between : (test : ℕ → Bool) (i j : ℕ) (e : Edge) → is_between i j e ≡ false → asked_on test i j e ≡ None
+asked_between : (test : ℕ → Bool) (i j : ℕ) (e : Edge) → is_between i j e ≡ false
+    → asked_on test i j e ≡ None
 asked_between test i j (Vertical c) t = refl
 asked_between test i j (Horizontal c d) t = refl
 asked_between test i j (Diagonal a c f) t =
@@ -76,12 +85,18 @@ asked_between test i j (Diagonal a c f) t =
       | false ↦ λ p. refl
     ] t
 
-none_by : (b : Bool) (o : Option FragNo) → o ≡ None → cond b o None ≡ None
-none_by true o e = e
-none_by false o e = refl
+-- so is an entry that has the protocol
+nothing_between : (protocol : Protocol) (test : ℕ → Bool) (i j : ℕ) (entry : Entry)
+    → is_between i j entry.edge ≡ false → asked_in protocol test i j entry ≡ None
+nothing_between protocol test i j entry t =
+    elim (same_protocol entry.protocol protocol) as (λ b. cond b (asked_on test i j entry.edge) None ≡ None) [
+      | true ↦ asked_between test i j entry.edge t
+      | false ↦ refl
+    ]
 
 -- a list with the members that give something gives the same
-filter_map-filter : {A B : Type 0} (f : A → Option B) (p : A → Bool) (xs : List A) → ((x : A) → p x ≡ false → f x ≡ None) → filter_map f (filter p xs) ≡ filter_map f xs
+filter_map-filter : {A B : Type 0} (f : A → Option B) (p : A → Bool) (xs : List A)
+    → ((x : A) → p x ≡ false → f x ≡ None) → filter_map f (filter p xs) ≡ filter_map f xs
 filter_map-filter f p [] h = refl
 filter_map-filter f p (x ∷ xs) h =
     elim (p x) as (λ b. p x ≡ b → filter_map f (cond b (x ∷ filter p xs) (filter p xs)) ≡ filter_map f (x ∷ xs)) [
@@ -89,15 +104,21 @@ filter_map-filter f p (x ∷ xs) h =
       | false ↦ λ e. filter_map-filter f p xs h ∙ ap (λ o. cons_option o (filter_map f xs)) (sym (h x e))
     ] refl
 
-asked_by-between : (protocol : Protocol → Bool) (test : ℕ → Bool) (xs ys : List Entry) (i j : ℕ) → filter (λ e. is_between i j e.edge) xs ≡ filter (λ e. is_between i j e.edge) ys → asked_by protocol test xs i j ≡ asked_by protocol test ys i j
+-- lists with the same diagonals between the reader and the writer ask for the same fragments
+asked_by-between : (protocol : Protocol) (test : ℕ → Bool) (xs ys : List Entry) (i j : ℕ)
+    → filter (λ e. is_between i j e.edge) xs ≡ filter (λ e. is_between i j e.edge) ys
+    → asked_by protocol test xs i j ≡ asked_by protocol test ys i j
 asked_by-between protocol test xs ys i j e =
-    let asked : Entry → Option FragNo = λ z. cond (protocol z.protocol) (asked_on test i j z.edge) None in
     let between : Entry → Bool = λ z. is_between i j z.edge in
-    let nothing : (z : Entry) → between z ≡ false → asked z ≡ None = λ z t. none_by (protocol z.protocol) (asked_on test i j z.edge) (asked_between test i j z.edge t) in
-    sym (filter_map-filter asked between xs nothing) ∙ ap (λ z. filter_map asked z) e ∙ filter_map-filter asked between ys nothing
+    let nothing = nothing_between protocol test i j in
+    sym (filter_map-filter (asked_in protocol test i j) between xs nothing)
+    ∙ ap (λ z. filter_map (asked_in protocol test i j) z) e
+    ∙ filter_map-filter (asked_in protocol test i j) between ys nothing
 
--- lists with the same diagonals between the reader and the writer set one condition
-pub condition_on-between : (test : ℕ → Bool) (xs ys : List Entry) (i own p2 j : ℕ) → filter (λ e. is_between i j e.edge) xs ≡ filter (λ e. is_between i j e.edge) ys → condition_on test xs i own p2 j ≡ condition_on test ys i own p2 j
+-- and set one condition
+pub condition_on-between : (test : ℕ → Bool) (xs ys : List Entry) (i own p2 j : ℕ)
+    → filter (λ e. is_between i j e.edge) xs ≡ filter (λ e. is_between i j e.edge) ys
+    → condition_on test xs i own p2 j ≡ condition_on test ys i own p2 j
 condition_on-between test xs ys i own p2 j e =
-    ap (λ z. cond_for j own z (cond_for j p2 (asked_by is_p2 test xs i j) None)) (asked_by-between is_p3 test xs ys i j e)
-    ∙ ap (λ z. cond_for j own (asked_by is_p3 test ys i j) (cond_for j p2 z None)) (asked_by-between is_p2 test xs ys i j e)
+    ap (λ z. option_or (cond_for j own z) (cond_for j p2 (asked_by P2 test xs i j))) (asked_by-between P3 test xs ys i j e)
+    ∙ ap (λ z. option_or (cond_for j own (asked_by P3 test ys i j)) (cond_for j p2 z)) (asked_by-between P2 test xs ys i j e)

@@ -23,8 +23,9 @@ one_block cat blocks h j k a b reader writer f g p q x y =
     elim (cases_eq j k) [
       | inl e ↦ same_Some a b (sym x ∙ ap (λ z. slice_get blocks z) e ∙ y)
       | inr n ↦
-          (parallel_number (map ends edges) blocks h j k (read_node reader.0) (write_node writer.0) a b n apart
-          (slice_get-map ends edges j ∙ ap (λ z. option_map ends z) p) (slice_get-map ends edges k ∙ ap (λ z. option_map ends z) q) x y).0
+          parallel_number (map ends edges) blocks h j k (read_node reader.0) (write_node writer.0) a b n apart
+          (slice_get-map ends edges j ∙ ap (λ z. option_map ends z) p)
+          (slice_get-map ends edges k ∙ ap (λ z. option_map ends z) q) x y
     ]
 
 -- and have one protocol

@@ -4,5 +4,5 @@ pub mod Laws
 pub mod MadeTable
 pub mod Marks
 pub mod Parallel
-pub mod Parts
+pub mod Ranges
 pub mod Tables

@@ -7,18 +7,20 @@ use Rattle.std.proofs.lemmas.List.FromFn.{length-map-range_with_len}
 use Rattle.sdd_blocks.specs.Blocks.{AreBlocks}
 use Rattle.sdd_catalog.specs.Catalogue.{Catalogue}
 use Rattle.sdd_graph.specs.Edges.{IsEdgeOf, JoinsNodes}
-use Rattle.sdd_graph.specs.Graph.{class_no, vertical_edges, horizontal_edges, diagonal_edges, conflict_graph, ends}
+use Rattle.sdd_base.specs.Numbers.{class_no}
+use Rattle.sdd_graph.specs.Graph.{vertical_edges, horizontal_edges, diagonal_edges, conflict_graph, ends}
 use Rattle.sdd_graph.specs.declared.edge.Edge.{Edge}
 use Rattle.sdd_graph.specs.declared.edge.Edge.TheVariants.{Vertical, Horizontal, Diagonal}
 use Rattle.sdd_graph.proofs.Known.{edges_known}
 use Rattle.sdd_protocol.specs.Entries.{HasVertical, AreEntries, protocol_by}
-use Rattle.sdd_protocol.specs.Places.{HasCell}
+use Rattle.sdd_protocol.specs.DiagonalIndex.{HasCell}
 use Rattle.sdd_protocol.specs.Protocols.{IsTable, is_vertical_of, vertical_block, diagonal_protocol, protocol_in}
 use Rattle.sdd_protocol.specs.declared.entry.Entry.{Entry}
 use Rattle.sdd_protocol.proofs.Tables.{edges_of, blocks_of, first_block, vertical_block-lists, first_block-vertical}
 
 -- the ends of edges are nodes
-pub ends_below : (n : ℕ) (edges : List Edge) → All (JoinsNodes n) edges → All (λ p. (p.0 < 2 * n) × (p.1 < 2 * n)) (map ends edges)
+pub ends_below : (n : ℕ) (edges : List Edge) → All (JoinsNodes n) edges
+    → All (λ p. (p.0 < 2 * n) × (p.1 < 2 * n)) (map ends edges)
 ends_below n edges h = All-map (λ p. (p.0 < 2 * n) × (p.1 < 2 * n)) ends edges (All-weaker (JoinsNodes n) (λ e. ((ends e).0 < 2 * n) × ((ends e).1 < 2 * n)) (λ e j. (j.first, j.second)) edges h)
 
 -- there are at least the vertical edges
@@ -30,13 +32,15 @@ many_edges cat =
       length-map-range_with_len (λ i. Vertical (class_no i)) 1 (length cat.classes),
     )
 
-has_vertical : (cat : Catalogue) (count : ℕ) (e : Edge) → length cat.classes ≤ count → IsEdgeOf cat e → HasVertical count e
+has_vertical : (cat : Catalogue) (count : ℕ) (e : Edge) → length cat.classes ≤ count
+    → IsEdgeOf cat e → HasVertical count e
 has_vertical cat count (Vertical i) l h = tt
 has_vertical cat count (Horizontal i j) l h = tt
 has_vertical cat count (Diagonal i j f) l h = (h.reader.from, let to = h.reader.to in omega arith)
 
 -- the readers of the edges have vertical edges
-pub readers_there : (cat : Catalogue) (edges : List Edge) (count : ℕ) → edges ≡ conflict_graph cat → count ≡ length edges → All (HasVertical count) edges
+pub readers_there : (cat : Catalogue) (edges : List Edge) (count : ℕ) → edges ≡ conflict_graph cat
+    → count ≡ length edges → All (HasVertical count) edges
 readers_there cat edges count e n =
     let few = many_edges cat in
     let long : length cat.classes ≤ count = omega (arith, ap length e) in
@@ -48,35 +52,43 @@ has_cell cat (Horizontal i j) h = tt
 has_cell cat (Diagonal i j f) h = (let to = h.reader.to in omega arith, let to = h.writer.to in omega arith)
 
 -- all members of a list of entries are those of the edges
-entries_edges : (edges : List Edge) (blocks : List ℕ) (entries : List Entry) → AreEntries edges blocks (length edges) entries → edges_of entries ≡ edges
+entries_edges : (edges : List Edge) (blocks : List ℕ) (entries : List Entry)
+    → AreEntries edges blocks (length edges) entries → edges_of entries ≡ edges
 entries_edges edges blocks entries h = h.same_edges ∙ take_all (length edges) edges (omega arith)
 
-each_edge : (P : Edge → Type 0) (edges : List Edge) (entries : List Entry) → edges_of entries ≡ edges → All P edges → All (λ e. P e.edge) entries
+each_edge : (P : Edge → Type 0) (edges : List Edge) (entries : List Entry)
+    → edges_of entries ≡ edges → All P edges → All (λ e. P e.edge) entries
 each_edge P edges entries e h k d l =
     subst (λ z. P z) (get_or-map (λ z. z.edge) entries k d d.edge l) (subst (λ z. P (get_or z k d.edge)) (sym e) (h k d.edge (let m = length-map entries (λ z. z.edge) in omega (arith, ap length e))))
 
 -- the classes of the entries' edges have rows and columns
-pub cells_there : (cat : Catalogue) (edges : List Edge) (blocks : List ℕ) (entries : List Entry) → edges ≡ conflict_graph cat → AreEntries edges blocks (length edges) entries → All (λ e. HasCell (length cat.classes + 1) e.edge) entries
+pub cells_there : (cat : Catalogue) (edges : List Edge) (blocks : List ℕ) (entries : List Entry)
+    → edges ≡ conflict_graph cat → AreEntries edges blocks (length edges) entries
+    → All (λ e. HasCell (length cat.classes + 1) e.edge) entries
 cells_there cat edges blocks entries e h =
     each_edge (HasCell (length cat.classes + 1)) (conflict_graph cat) entries (entries_edges edges blocks entries h ∙ e)
     (All-weaker (IsEdgeOf cat) (HasCell (length cat.classes + 1)) (λ x g. has_cell cat x g) (conflict_graph cat) (edges_known cat))
 
 module _ (cat : Catalogue) (blocks : List ℕ) (entries : List Entry) (edges_are : edges_of entries ≡ conflict_graph cat) (blocks_are : blocks_of entries ≡ blocks) (long : length cat.classes ≤ length blocks) where
   -- the block of a vertical edge stands at the place of its class
-  vertical_at : (i : ℕ) → 1 ≤ i → i ≤ length cat.classes → vertical_block entries i ≡ get_or blocks (i - 1) 0
+  vertical_at : (i : ℕ) → 1 ≤ i → i ≤ length cat.classes
+      → vertical_block entries i ≡ get_or blocks (i - 1) 0
   vertical_at i low high =
       vertical_block-lists entries i
       ∙ ap (λ z. first_block (is_vertical_of i) z (blocks_of entries)) edges_are
       ∙ ap (λ z. first_block (is_vertical_of i) (conflict_graph cat) z) blocks_are
       ∙ first_block-vertical (length cat.classes) 1 (i - 1) i (horizontal_edges cat ++ diagonal_edges cat) blocks (omega arith) (omega arith) (omega arith)
 
-  same_protocol : (e : Edge) (block : ℕ) → IsEdgeOf cat e → protocol_by blocks e block ≡ protocol_in entries e block
+  same_protocol : (e : Edge) (block : ℕ) → IsEdgeOf cat e
+      → protocol_by blocks e block ≡ protocol_in entries e block
   same_protocol (Vertical i) block h = refl
   same_protocol (Horizontal i j) block h = refl
   same_protocol (Diagonal i j f) block h = ap (λ v. diagonal_protocol block v) (sym (vertical_at i.0 h.reader.from h.reader.to))
 
 -- the entries of the conflict graph with its blocks are the table
-pub is_table : (cat : Catalogue) (edges : List Edge) (blocks : List ℕ) (entries : List Entry) → edges ≡ conflict_graph cat → AreBlocks (map ends edges) blocks → AreEntries edges blocks (length edges) entries → IsTable cat entries
+pub is_table : (cat : Catalogue) (edges : List Edge) (blocks : List ℕ) (entries : List Entry)
+    → edges ≡ conflict_graph cat → AreBlocks (map ends edges) blocks
+    → AreEntries edges blocks (length edges) entries → IsTable cat entries
 is_table cat edges blocks entries e b h =
     let edges_are : edges_of entries ≡ conflict_graph cat = entries_edges edges blocks entries h ∙ e in
     let same_length : length blocks ≡ length edges = b.one_each ∙ length-map edges ends in

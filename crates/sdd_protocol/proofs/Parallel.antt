@@ -1,29 +1,29 @@
 -- Parallel edges: two edges between the same two nodes lie in one block.
-use Rattle.std.proofs.Common.{ℕ, zero, suc, ◌≡◌, ◌≢◌, List, [], ◌∷◌, Some, refl, sym, inl, inr, lit≤}
+use Rattle.std.proofs.Common.{ℕ, ◌≡◌, ◌≢◌, List, [], ◌∷◌, Some, refl, sym, ◌∙◌, inl, inr}
 use Rattle.std.specs.Prelude.{slice_get}
-use Rattle.sdd_blocks.specs.Blocks.{AreBlocks, ShareACycle}
-use Rattle.sdd_blocks.specs.Blocks.Linked.{last}
-use Rattle.sdd_blocks.proofs.Linked.{share_first}
+use Rattle.std.proofs.lemmas.Option.{same_Some}
+use Rattle.sdd_blocks.specs.Graph.{Step, IsSimpleCycle}
+use Rattle.sdd_blocks.specs.Blocks.{AreBlocks}
+use Rattle.sdd_blocks.proofs.ClosedWalks.{closed_walks_are_cycles}
+use Rattle.sdd_blocks.proofs.CycleNumbers.{one_number_a_cycle}
+
+-- there by one edge, and back by the other
+abbrev there_and_back : ℕ → ℕ → ℕ → ℕ → List Step
+there_and_back j k a b = record { edge = j; to = b } ∷ record { edge = k; to = a } ∷ []
 
 -- two edges between the same two nodes form a simple cycle
-pub parallel_share : (edges : List (ℕ × ℕ)) (j k a b : ℕ) → j ≢ k → a ≢ b → slice_get edges j ≡ Some (a, b) → slice_get edges k ≡ Some (a, b) → ShareACycle edges j k
-parallel_share edges j k a b n m p q =
-    record {
-      start = a;
-      steps = record { edge = j; to = b } ∷ record { edge = k; to = a } ∷ [];
-      cycle = record {
-        closed = (inl p, (inr q, refl));
-        long = lit≤ tt;
-        edges_differ = ((λ h. elim h [ inl e ↦ n (sym e) | inr x ↦ x ]), ((λ h. h), tt));
-        nodes_differ = ((λ h. elim h [ inl e ↦ m e | inr x ↦ x ]), ((λ h. h), tt));
-      };
-      first = inl refl;
-      second = inr (inl refl);
-    }
+parallel_cycle : (edges : List (ℕ × ℕ)) (j k a b : ℕ) → j ≢ k → a ≢ b
+    → slice_get edges j ≡ Some (a, b) → slice_get edges k ≡ Some (a, b)
+    → IsSimpleCycle edges a (there_and_back j k a b)
+parallel_cycle edges j k a b n m p q =
+    closed_walks_are_cycles edges a (record { edge = j; to = b }) (record { edge = k; to = a }) []
+    (inl p, (inr q, refl)) ((λ h. elim h [ inl e ↦ m e | inr x ↦ x ]), ((λ h. h), tt)) (λ e. n)
 
--- so they have one number, which is not 0
-pub parallel_number : (edges : List (ℕ × ℕ)) (blocks : List ℕ) → AreBlocks edges blocks → (j k a b x y : ℕ) → j ≢ k → a ≢ b → slice_get edges j ≡ Some (a, b) → slice_get edges k ≡ Some (a, b) → slice_get blocks j ≡ Some x → slice_get blocks k ≡ Some y → (x ≡ y) × (x ≢ 0)
-parallel_number edges blocks h j k a b zero y n m p q e f = absurd (h.none j e (share_first edges j k (parallel_share edges j k a b n m p q)))
-parallel_number edges blocks h j k a b (suc x) y n m p q e f =
-    let apart : suc x ≢ 0 = λ z. cc in
-    ((h.same j k (suc x) y e f apart).1 (last (parallel_share edges j k a b n m p q)), apart)
+-- so they have one number
+pub parallel_number : (edges : List (ℕ × ℕ)) (blocks : List ℕ) → AreBlocks edges blocks
+    → (j k a b x y : ℕ) → j ≢ k → a ≢ b
+    → slice_get edges j ≡ Some (a, b) → slice_get edges k ≡ Some (a, b)
+    → slice_get blocks j ≡ Some x → slice_get blocks k ≡ Some y → x ≡ y
+parallel_number edges blocks h j k a b x y n m p q e f =
+    let one = one_number_a_cycle edges blocks h a (there_and_back j k a b) (parallel_cycle edges j k a b n m p q) in
+    same_Some x one.0 (sym e ∙ one.2 j (inl refl)) ∙ same_Some one.0 y (sym (one.2 k (inr (inl refl))) ∙ f)

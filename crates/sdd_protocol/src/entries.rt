@@ -12,7 +12,8 @@ use std::alloc::Global;
 pub(crate) fn entries(alloc: Global, edges: &[Edge], blocks: &[u32]) -> Result<Vec<Entry>, NoMemory>
     requires one_each { length blocks.now ≡ length edges.now }
     requires readers { All (HasVertical (length blocks.now)) edges.now }
-    ensures { IfOk result (λ entries. AreEntries edges.now blocks.now (length edges.now) entries.items) }
+    ensures { IfOk result (λ entries.
+        AreEntries edges.now blocks.now (length edges.now) entries.items) }
 {
     let mut entries = Vec::with_capacity(alloc, edges.len())?;
     for (k, edge) in edges.iter().enumerate() {

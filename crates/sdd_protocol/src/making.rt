@@ -4,11 +4,11 @@ ghost use Rattle.sdd_graph.specs.Edges.{NamesClasses, JoinsNodes};
 ghost use Rattle.sdd_graph.specs.Graph.{ends};
 ghost use Rattle.sdd_protocol.specs.Protocols.{IsTable};
 
+use crate::diagonal_index::DiagonalIndex;
 use crate::entries::entries;
-use crate::places::Places;
 use crate::protocol_table::Table;
-use sdd_base::NoMemory;
-use sdd_blocks::blocks;
+use sdd_base::{MAX_CLASSES, NoMemory};
+use sdd_blocks::{MAX_EDGES, blocks};
 use sdd_catalog::Catalogue;
 use sdd_graph::{Edge, conflict_graph, ends};
 use std::alloc::Global;
@@ -25,14 +25,14 @@ pub fn table(alloc: Global, cat: &Catalogue) -> Result<Table, NoMemory>
     let edges = conflict_graph(alloc, cat)?;
     let numbers = block_numbers(alloc, &edges, cat.classes())?;
     let entries = entries(alloc, &edges, &numbers)?;
-    let places = Places::of(alloc, &entries, cat.classes() + 1)?;
-    Ok(Table::new(alloc, entries, places))
+    let index = DiagonalIndex::of(alloc, &entries, cat.classes() + 1)?;
+    Ok(Table::new(alloc, entries, index))
 }
 
 /// The block number of each edge of the graph of so many classes.
 fn block_numbers(alloc: Global, edges: &[Edge], classes: u32) -> Result<Vec<u32>, NoMemory>
-    requires few { length edges.now ≤ 2 ^ 20 }
-    requires classes { classes ≤ 64 }
+    requires few { length edges.now ≤ MAX_EDGES }
+    requires classes { classes ≤ MAX_CLASSES }
     requires named { All NamesClasses edges.now }
     requires nodes { All (JoinsNodes classes) edges.now }
     ensures { IfOk result (λ numbers. AreBlocks (map ends edges.now) numbers.items) }

@@ -1,5 +1,5 @@
 ghost use Rattle.std.specs.Prelude.{◌≡◌};
-ghost use Rattle.sdd_protocol.specs.Conditions.{is_p2, is_p3};
+ghost use Rattle.sdd_protocol.specs.Protocols.{same_protocol};
 
 /// What a reader does about a writer that may be ahead of it.
 #[derive(Clone, Copy, Debug, PartialEq, Eq)]
@@ -13,21 +13,10 @@ pub enum Protocol {
 }
 
 impl Protocol {
-    pub(crate) fn is_p2(self) -> bool
-        ensures { result ≡ is_p2 self }
+    /// Whether it is the other one.
+    pub(crate) fn is(self, other: Protocol) -> bool
+        ensures { result ≡ same_protocol self other }
     {
-        match self {
-            Protocol::P2 => true,
-            Protocol::P1 | Protocol::P3 => false,
-        }
-    }
-
-    pub(crate) fn is_p3(self) -> bool
-        ensures { result ≡ is_p3 self }
-    {
-        match self {
-            Protocol::P3 => true,
-            Protocol::P1 | Protocol::P2 => false,
-        }
+        self == other
     }
 }

@@ -8,7 +8,7 @@ use Rattle.std.proofs.lemmas.Str.{IsUtf8-from_ascii}
 use Rattle.std.proofs.lemmas.Str.Ascii.{IsAscii-cons, IsAscii-nil}
 use Rattle.std.proofs.lemmas.List.Elements.{recursion_from_All}
 use Rattle.sdd_base.specs.declared.event.Event.{Event}
-use Rattle.sdd_base.specs.declared.event.Event.TheVariants.{Submit, Deliver, Lose, Repeat, Resend, Tick, Settle}
+use Rattle.sdd_base.specs.declared.event.Event.TheVariants.{Submit, Deliver, Lose, Repeat, Resend, Tick, Settle, Redeclare, Down, Up}
 use Rattle.sdd_base.specs.declared.number.RelNo.{RelNo}
 use Rattle.sdd_base.specs.declared.restriction.Op.{Op}
 use Rattle.sdd_base.specs.declared.restriction.Op.TheVariants as ops
@@ -199,3 +199,6 @@ event_fine cat k txns (Repeat from to place) h n = (keyword_fine (keys.Event eke
 event_fine cat k txns (Resend from to) h n = (keyword_fine (keys.Event ekeys.Resend), (site_fine cat k from h.0, (site_fine cat k to h.1, tt)))
 event_fine cat k txns (Tick tm n) h m = (keyword_fine (keys.Event ekeys.Tick), (site_fine cat k (T tm) h.0, (place_fine n h.1, tt)))
 event_fine cat k txns Settle h n = (keyword_fine (keys.Event ekeys.Settle), tt)
+event_fine cat k txns Redeclare h n = absurd h
+event_fine cat k txns (Down dm) h n = absurd h
+event_fine cat k txns (Up dm) h n = absurd h

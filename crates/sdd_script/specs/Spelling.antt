@@ -3,7 +3,7 @@ use Rattle.std.specs.Prelude.{ℕ, ◌-◌, List, [], ◌∷◌, ◌++◌, map, 
 use Rattle.std.specs.Option.{option_map_or}
 use Rattle.std.specs.Fmt.{decimal, signed_decimal}
 use Rattle.sdd_base.specs.declared.event.Event.{Event}
-use Rattle.sdd_base.specs.declared.event.Event.TheVariants.{Submit, Deliver, Lose, Repeat, Resend, Tick, Settle}
+use Rattle.sdd_base.specs.declared.event.Event.TheVariants.{Submit, Deliver, Lose, Repeat, Resend, Tick, Settle, Redeclare, Down, Up}
 use Rattle.sdd_base.specs.declared.number.RelNo.{RelNo}
 use Rattle.sdd_base.specs.declared.number.TmNo.{TmNo}
 use Rattle.sdd_base.specs.declared.restriction.Op.TheVariants.{Eq}
@@ -22,16 +22,13 @@ use Rattle.sdd_lang.specs.declared.condition.Condition.TheVariants.{Const, Same}
 use Rattle.sdd_lang.specs.declared.statement.Stmt.{Stmt}
 use Rattle.sdd_lang.specs.declared.statement.Stmt.TheVariants as statements
 use Rattle.sdd_lang.specs.declared.transaction.Txn.{Txn}
+use Rattle.sdd_words.specs.Values.{value_word}
 use Rattle.sdd_words.specs.Keywords.{op_word}
 use Rattle.sdd_words.specs.Words.{line_bytes}
 use Rattle.sdd_words.specs.declared.word.Word.{Word}
 use Rattle.sdd_words.specs.declared.word.Word.TheVariants.{Plain, Quoted}
 use Rattle.sdd_script.specs.Naming.{columns_of, name_of_relation}
 use Rattle.sdd_script.specs.declared.workload.Workload.{Workload}
-
-abbrev pub value_word : Value → Word
-value_word (values.Int n) = Plain (signed_decimal n)
-value_word (values.Text text) = Quoted text
 
 abbrev pub relation_word : Catalogue → RelNo → Word
 relation_word cat rel = Plain (name_of_relation cat rel.0)
@@ -107,6 +104,9 @@ event_words txns (Repeat from to place) = Plain (codes "repeat") ∷ site_word f
 event_words txns (Resend from to) = Plain (codes "resend") ∷ site_word from ∷ site_word to ∷ []
 event_words txns (Tick tm n) = Plain (codes "tick") ∷ site_word (T tm) ∷ count_word n ∷ []
 event_words txns Settle = Plain (codes "settle") ∷ []
+event_words txns Redeclare = Plain (codes "redeclare") ∷ []
+event_words txns (Down dm) = Plain (codes "down") ∷ site_word (D dm) ∷ []
+event_words txns (Up dm) = Plain (codes "up") ∷ site_word (D dm) ∷ []
 
 abbrev pub start_words : Catalogue → RelNo × List Value → List Word
 start_words cat r = Plain (codes "row") ∷ row_words cat r.0 r.1

@@ -1,16 +1,22 @@
 //! How many there may be.
-ghost use Rattle.std.specs.Prelude.{◌≡◌, length};
-ghost use Rattle.sdd_script.specs.Rules.{Gives};
+ghost use Rattle.std.specs.Prelude.{◌≡◌, nat_le, length};
+ghost use Rattle.sdd_base.specs.Readings.{must};
+ghost use Rattle.sdd_script.specs.declared.fault.WorkRule.TheVariants.{TooMany};
+ghost use Rattle.sdd_base.specs.Readings.{Gives};
+ghost use Rattle.sdd_script.specs.Rules.{rule_in};
 ghost use Rattle.sdd_script.specs.LineRules.{one_more_row, written_with, statement_limits};
 
-use crate::fault::{Counts, LineError, WorkRule};
+use crate::fault::{Counts, LineError, WorkRule, must};
+use sdd_base::{
+    MAX_ASSIGNMENTS, MAX_CONDITIONS, MAX_OUTPUT_COLUMNS, MAX_ROWS, MAX_STATEMENTS, MAX_USES,
+};
 use sdd_lang::Stmt;
 
 /// How many rows there are with one more, or None exactly where there is no room for it.
 pub fn one_more_row(written: u32) -> Option<u32>
     ensures { result ≡ one_more_row written }
 {
-    if written < 65536 {
+    if (written as usize) < MAX_ROWS {
         Some(written + 1)
     } else {
         None
@@ -27,41 +33,33 @@ pub fn written_with(written: u32, statement: &Stmt) -> Option<u32>
     }
 }
 
+fn at_most(counts: Counts, number: usize, most: usize) -> Result<(), LineError>
+    ensures { Gives rule_in (λ u. u) result (must (TooMany counts) (nat_le number most)) }
+{
+    must(WorkRule::TooMany(counts), number <= most)
+}
+
 /// Whether there is room for the statement behind so many, and what it holds is within the limits.
 pub fn check_limits(before: usize, statement: &Stmt) -> Result<(), LineError>
-    ensures { Gives (λ u. u) result (statement_limits before statement.now) }
+    ensures { Gives rule_in (λ u. u) result (statement_limits before statement.now) }
 {
-    if before >= 32 {
-        return Err(LineError::Broken(WorkRule::TooMany(Counts::Statement)));
-    }
+    must(
+        WorkRule::TooMany(Counts::Statement),
+        before < MAX_STATEMENTS,
+    )?;
     match statement {
         Stmt::Put { .. } => Ok(()),
         Stmt::Query { out, rels, conds } => {
-            if rels.as_slice().len() > 6 {
-                return Err(LineError::Broken(WorkRule::TooMany(Counts::Part)));
-            }
-            if conds.as_slice().len() > 16 {
-                return Err(LineError::Broken(WorkRule::TooMany(Counts::Cond)));
-            }
-            if out.as_slice().len() > 16 {
-                return Err(LineError::Broken(WorkRule::TooMany(Counts::Column)));
-            }
-            Ok(())
+            at_most(Counts::Part, rels.as_slice().len(), MAX_USES)?;
+            at_most(Counts::Cond, conds.as_slice().len(), MAX_CONDITIONS)?;
+            at_most(Counts::Column, out.as_slice().len(), MAX_OUTPUT_COLUMNS)
         }
         Stmt::Update { sets, conds, .. } => {
-            if conds.as_slice().len() > 16 {
-                return Err(LineError::Broken(WorkRule::TooMany(Counts::Cond)));
-            }
-            if sets.as_slice().len() > 16 {
-                return Err(LineError::Broken(WorkRule::TooMany(Counts::Column)));
-            }
-            Ok(())
+            at_most(Counts::Cond, conds.as_slice().len(), MAX_CONDITIONS)?;
+            at_most(Counts::Column, sets.as_slice().len(), MAX_ASSIGNMENTS)
         }
         Stmt::Delete { conds, .. } => {
-            if conds.as_slice().len() > 16 {
-                return Err(LineError::Broken(WorkRule::TooMany(Counts::Cond)));
-            }
-            Ok(())
+            at_most(Counts::Cond, conds.as_slice().len(), MAX_CONDITIONS)
         }
     }
 }

@@ -1,10 +1,11 @@
 //! Statements, by the first words of their lines and the words behind them.
 ghost use Rattle.std.specs.Prelude.{◌≡◌};
-ghost use Rattle.sdd_script.specs.Rules.{Gives};
+ghost use Rattle.sdd_base.specs.Readings.{Gives};
+ghost use Rattle.sdd_script.specs.Rules.{rule_in};
 ghost use Rattle.sdd_script.specs.Statements.{put_of, statement_of};
 
 use crate::deletes::read_delete;
-use crate::fault::{LineError, WorkRule};
+use crate::fault::{LineError, WorkRule, broken, must};
 use crate::keyword::StatementKey;
 use crate::queries::read_query;
 use crate::updates::read_update;
@@ -16,18 +17,14 @@ use std::alloc::Global;
 
 /// A put, by a relation and values.
 fn read_put(alloc: Global, cat: &Catalogue, words: &[Word]) -> Result<Stmt, LineError>
-    ensures { Gives (λ s. s) result (put_of cat.now words.now) }
+    ensures { Gives rule_in (λ s. s) result (put_of cat.now words.now) }
 {
     match words {
-        [] => Err(LineError::Broken(WorkRule::BadLine)),
+        [] => broken(WorkRule::BadLine),
         [name, values @ ..] => {
-            if !(stands_free(name) && are_free(values)) {
-                return Err(LineError::Broken(WorkRule::BadLine));
-            }
-            match read_row(alloc, cat, name, values) {
-                Ok((rel, row)) => Ok(Stmt::Put { rel, row }),
-                Err(e) => Err(e),
-            }
+            must(WorkRule::BadLine, stands_free(name) && are_free(values))?;
+            let (rel, row) = read_row(alloc, cat, name, values)?;
+            Ok(Stmt::Put { rel, row })
         }
     }
 }
@@ -39,7 +36,7 @@ pub fn read_statement(
     key: StatementKey,
     words: &[Word],
 ) -> Result<Stmt, LineError>
-    ensures { Gives (λ s. s) result (statement_of key cat.now words.now) }
+    ensures { Gives rule_in (λ s. s) result (statement_of key cat.now words.now) }
 {
     match key {
         StatementKey::Put => read_put(alloc, cat, words),

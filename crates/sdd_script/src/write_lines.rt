@@ -14,7 +14,7 @@ use crate::write_words::{
     put_assigns, put_columns, put_conditions, put_count_word, put_plain, put_relation,
     put_relations, put_row, put_site,
 };
-use sdd_base::{Event, NoMemory, RelNo, Row, Site, TmNo, Value};
+use sdd_base::{DmNo, Event, NoMemory, RelNo, Row, Site, TmNo, Value};
 use sdd_catalog::Catalogue;
 use sdd_lang::{Assign, Condition, Ref, Stmt, Txn};
 use sdd_words::put;
@@ -33,10 +33,7 @@ fn put_starts(out: &mut Vec<u8>, cat: &Catalogue, rows: &[(RelNo, Row)]) -> Resu
     ensures { OnOk result (out.new.items ≡ out.old.items ++ flat_map (λ (r : RelNo × List Value). ended (start_words cat.now r)) rows.now) }
 {
     'rows: for row in rows {
-        match put_start(out, cat, row) {
-            Ok(()) => {}
-            Err(_) => return Err(NoMemory),
-        }
+        put_start(out, cat, row)?;
     }
     Ok(())
 }
@@ -132,10 +129,7 @@ fn put_statements(out: &mut Vec<u8>, cat: &Catalogue, statements: &[Stmt]) -> Re
     ensures { OnOk result (out.new.items ≡ out.old.items ++ flat_map (λ (s : Stmt). ended (statement_words cat.now s)) statements.now) }
 {
     'statements: for statement in statements {
-        match put_statement(out, cat, statement) {
-            Ok(()) => {}
-            Err(_) => return Err(NoMemory),
-        }
+        put_statement(out, cat, statement)?;
     }
     Ok(())
 }
@@ -163,10 +157,7 @@ fn put_txns(out: &mut Vec<u8>, cat: &Catalogue, txns: &[Txn]) -> Result<(), NoMe
     ensures { OnOk result (out.new.items ≡ out.old.items ++ flat_map (txn_bytes cat.now) txns.now) }
 {
     'txns: for txn in txns {
-        match put_txn(out, cat, txn) {
-            Ok(()) => {}
-            Err(_) => return Err(NoMemory),
-        }
+        put_txn(out, cat, txn)?;
     }
     Ok(())
 }
@@ -229,6 +220,14 @@ fn put_tick(out: &mut Vec<u8>, tm: TmNo, n: u32) -> Result<(), NoMemory>
     put_count_word(out, n)
 }
 
+#[tactic(auto, using(crate::proofs::Pieces::key_one))]
+fn put_module(out: &mut Vec<u8>, key: &[u8], dm: DmNo) -> Result<(), NoMemory>
+    ensures { OnOk result (out.new.items ≡ out.old.items ++ line_bytes (Plain key.now ∷ site_word (Site.D dm) ∷ [])) }
+{
+    put(out, key)?;
+    put_site(out, Site::D(dm))
+}
+
 fn put_event_words(out: &mut Vec<u8>, txns: &[Txn], event: Event) -> Result<(), NoMemory>
     ensures { OnOk result (out.new.items ≡ out.old.items ++ line_bytes (event_words txns.now event)) }
 {
@@ -240,6 +239,9 @@ fn put_event_words(out: &mut Vec<u8>, txns: &[Txn], event: Event) -> Result<(), 
         Event::Resend { from, to } => put_resend(out, from, to),
         Event::Tick { tm, n } => put_tick(out, tm, n),
         Event::Settle => put(out, b"settle"),
+        Event::Redeclare => put(out, b"redeclare"),
+        Event::Down(dm) => put_module(out, b"down", dm),
+        Event::Up(dm) => put_module(out, b"up", dm),
     }
 }
 
@@ -255,10 +257,7 @@ fn put_events(out: &mut Vec<u8>, txns: &[Txn], events: &[Event]) -> Result<(), N
     ensures { OnOk result (out.new.items ≡ out.old.items ++ flat_map (λ (e : Event). ended (event_words txns.now e)) events.now) }
 {
     'events: for event in events {
-        match put_event(out, txns, *event) {
-            Ok(()) => {}
-            Err(_) => return Err(NoMemory),
-        }
+        put_event(out, txns, *event)?;
     }
     Ok(())
 }

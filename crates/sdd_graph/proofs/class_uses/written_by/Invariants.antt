@@ -1,7 +1,9 @@
 use Rattle.std.proofs.Common.{◌≡◌, map, take, length}
-use Rattle.sdd_catalog.specs.Catalogue.{numbers_to, has}
+use Rattle.sdd_catalog.specs.Catalogue.{numbers_to}
+use Rattle.sdd_graph.proofs.Lists.{is_among}
 use Rattle.sdd_graph.proofs.class_uses.written_by.Given as goal
 
 -- the flags of the fragments so far are set
-abbrev pub invariant-loop-f : goal.invariant-loop-f
-invariant-loop-f l = l.written.items ≡ map (has (take l.f-index l.f-items)) (numbers_to (length l.cat.fragments))
+abbrev pub invariant-loop-frag : goal.invariant-loop-frag
+invariant-loop-frag l =
+    l.written.items ≡ map (is_among (take l.frag-index l.frag-items)) (numbers_to (length l.cat.fragments))

@@ -3,7 +3,7 @@ use Rattle.std.proofs.lemmas.List.{take_more, append-nil}
 use Rattle.sdd_catalog.specs.Catalogue.{writes}
 use Rattle.sdd_graph.specs.declared.edge.Edge.{Edge}
 use Rattle.sdd_graph.specs.declared.edge.Edge.TheVariants.{Diagonal}
-use Rattle.sdd_graph.specs.Graph.{class_no, frag_no}
+use Rattle.sdd_base.specs.Numbers.{class_no, frag_no}
 use Rattle.sdd_graph.proofs.Lists.{kept_more, left_more}
 use Rattle.sdd_graph.proofs.Pairs.{none_to_itself, between_others}
 use Rattle.sdd_graph.proofs.conflicts.push_diagonals_between.Goals as goal

@@ -1,7 +1,7 @@
 use Rattle.std.proofs.Common.{◌≡◌, ◌++◌, map, filter, take}
 use Rattle.sdd_catalog.specs.Catalogue.{writes}
 use Rattle.sdd_graph.specs.declared.edge.Edge.TheVariants.{Diagonal}
-use Rattle.sdd_graph.specs.Graph.{class_no, frag_no}
+use Rattle.sdd_base.specs.Numbers.{class_no, frag_no}
 use Rattle.sdd_graph.proofs.conflicts.push_diagonals_between.Given as goal
 
 -- the edges for the fragments so far are pushed

@@ -1,7 +1,8 @@
 use Rattle.std.proofs.Common.{◌&&◌, nat_lt, Vec, Global, sym, ◌∙◌, ap}
 use Rattle.sdd_graph.specs.declared.edge.Edge.{Edge}
 use Rattle.sdd_graph.specs.declared.edge.Edge.TheVariants.{Horizontal}
-use Rattle.sdd_graph.specs.Graph.{class_no, write_sets_meet}
+use Rattle.sdd_base.specs.Numbers.{class_no}
+use Rattle.sdd_graph.specs.Graph.{write_sets_meet}
 use Rattle.sdd_graph.proofs.Lists.{up_to, kept_more, left_more}
 use Rattle.sdd_graph.proofs.conflicts.push_horizontals_from.Goals as goal
 use Rattle.sdd_graph.proofs.conflicts.push_horizontals_from.Goals.{then-are_joined+in_ok-push, else-are_joined}

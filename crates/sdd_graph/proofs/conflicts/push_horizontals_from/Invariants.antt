@@ -1,7 +1,8 @@
 use Rattle.std.proofs.Common.{◌≡◌, ◌-◌, ◌++◌, ◌&&◌, nat_lt, map, filter}
 use Rattle.sdd_catalog.specs.Catalogue.{numbers_to}
 use Rattle.sdd_graph.specs.declared.edge.Edge.TheVariants.{Horizontal}
-use Rattle.sdd_graph.specs.Graph.{class_no, write_sets_meet}
+use Rattle.sdd_base.specs.Numbers.{class_no}
+use Rattle.sdd_graph.specs.Graph.{write_sets_meet}
 use Rattle.sdd_graph.proofs.conflicts.push_horizontals_from.Given as goal
 
 -- the edges to the classes so far are pushed

@@ -3,7 +3,7 @@ use Rattle.std.proofs.lemmas.List.{length-map}
 use Rattle.sdd_blocks.specs.Blocks.{AreBlocks}
 use Rattle.sdd_graph.specs.Graph.{ends}
 use Rattle.sdd_protocol.specs.Entries.{HasVertical, AreEntries}
-use Rattle.sdd_protocol.specs.Places.{HasCell}
+use Rattle.sdd_protocol.specs.DiagonalIndex.{HasCell}
 use Rattle.sdd_protocol.specs.Protocols.{IsTable}
 use Rattle.sdd_protocol.proofs.MadeTable.{readers_there, cells_there, is_table}
 use Rattle.sdd_protocol.proofs.making.table.Goals as goal

@@ -4,7 +4,8 @@ use Rattle.sdd_blocks.specs.Forest.{IsForest, AreRoots}
 use Rattle.sdd_blocks.proofs.Trees.{forest-singles, roots-singles, length-singles, singles-push}
 use Rattle.sdd_blocks.proofs.forest.Forest.new.Goals as goal
 
-singles : (node nodes : ℕ) (parents : List ℕ) → node ≡ nodes → parents ≡ range_with_len 0 node → parents ≡ range_with_len 0 nodes
+singles : (node nodes : ℕ) (parents : List ℕ) → node ≡ nodes → parents ≡ range_with_len 0 node
+    → parents ≡ range_with_len 0 nodes
 singles node nodes parents n e = e ∙ ap (λ z. range_with_len 0 z) n
 
 pub loop-node-preserved : goal.loop-node-preserved

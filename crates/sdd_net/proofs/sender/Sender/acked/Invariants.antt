@@ -7,8 +7,10 @@ invariant-loop-self g l = record {
   live : l.self-inside.live ≡ l.initial.self-inside.live;
   from : l.initial.self-inside.acked ≤ l.self-inside.acked;
   to : l.self-inside.acked ≤ max l.initial.self-inside.acked l.k;
-  sum : l.self-inside.acked + length l.self-inside.unacked.items ≡ l.initial.self-inside.acked + length l.initial.self-inside.unacked.items;
-  rest : l.self-inside.unacked.items ≡ drop (l.self-inside.acked - l.initial.self-inside.acked) l.initial.self-inside.unacked.items;
+  sum : l.self-inside.acked + length l.self-inside.unacked.items
+      ≡ l.initial.self-inside.acked + length l.initial.self-inside.unacked.items;
+  rest : l.self-inside.unacked.items
+      ≡ drop (l.self-inside.acked - l.initial.self-inside.acked) l.initial.self-inside.unacked.items;
 }
 
 abbrev pub decreases-loop-self : goal.decreases-loop-self

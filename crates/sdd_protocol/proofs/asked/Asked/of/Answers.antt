@@ -18,19 +18,19 @@ loop-frag-preserved c =
     let next = c.if-is_read_at.marks.items in
     let frag = (get_or frags k none).0 in
     let now : List Bool → Type 0 = AreMarks (is_asked cat i dm (take (k + 1) frags)) in
-    let places = c.loop-frag.invariant.0 in
+    let index = c.loop-frag.invariant.0 in
     let within : frag < length marks = let f = c.requires.frags k none c.loop-frag-test.true in omega arith in
     elim c.if-is_read_at.branch [
       | then-is_read_at w ↦
           let next_is : next ≡ set marks frag true = ap (λ z. z.items) w.marks-is in
           let read : is_read_at cat i dm frag ≡ true = sym c.is_read_at.ensures ∙ w.if-is_read_at.true in (
-            ap length next_is ∙ length-set marks frag true ∙ places,
+            ap length next_is ∙ length-set marks frag true ∙ index,
             subst (λ z. now z) (sym next_is) (marks_more cat i dm frags k none c.loop-frag-test.true marks c.loop-frag.invariant.1 read within),
           )
       | else-is_read_at w ↦
           let next_is : next ≡ marks = ap (λ z. z.items) w.marks-is in
           let read : is_read_at cat i dm frag ≡ false = sym c.is_read_at.ensures ∙ w.if-is_read_at.false in (
-            ap length next_is ∙ places,
+            ap length next_is ∙ index,
             subst (λ z. now z) (sym next_is) (marks_same cat i dm frags k none c.loop-frag-test.true marks c.loop-frag.invariant.1 read),
           )
     ]

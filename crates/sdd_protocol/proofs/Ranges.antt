@@ -1,0 +1,127 @@
+-- The ranges of a list of entries that have its diagonals, by one entry after another.
+use Rattle.std.proofs.Common.{ℕ, ◌+◌, ◌*◌, ◌<◌, ◌≤◌, ◌==◌, ◌≡◌, true, false, cond, List, length, get_or, set, refl, sym, ap, ◌∙◌, subst, arith, inl, inr, length-set}
+use Rattle.std.specs.Prelude.{All}
+use Rattle.std.proofs.lemmas.Bool.{cases_eq, eqb-true}
+use Rattle.std.proofs.lemmas.List.{get_or_default, get_or-set_same, get_or-set_other, length-replicate}
+use Rattle.std.proofs.lemmas.List.Elements.{All-replicate, All-set, All-weaker}
+use Rattle.std.proofs.lemmas.Nat.{mul-add-lt}
+use Rattle.sdd_graph.specs.declared.edge.Edge.{Edge}
+use Rattle.sdd_graph.specs.declared.edge.Edge.TheVariants.{Vertical, Horizontal, Diagonal}
+use Rattle.sdd_protocol.specs.DiagonalIndex.{DiagonalIndex, IsIndexOf, Covers, HasCell, cell, range_of, no_diagonals, widened, with_edge}
+use Rattle.sdd_protocol.specs.declared.entry.Entry.{Entry}
+
+-- a range up to here is in place
+abbrev IsRange : ℕ → ℕ × ℕ → Type 0
+IsRange count p = (p.0 ≤ p.1) × (p.1 ≤ count)
+
+pub index_none : (entries : List Entry) (width : ℕ) → IsIndexOf entries 0 (no_diagonals width)
+index_none entries width =
+    record {
+      square = length-replicate (width * width) (0, 0);
+      within = All-replicate (IsRange 0) (width * width) (0, 0) (omega arith, omega arith);
+      covers = λ k d l. absurd (omega arith);
+    }
+
+-- a widened range is in place, keeps the index that it had, and has the new one
+widened_range : (p : ℕ × ℕ) (k : ℕ) → IsRange k p → IsRange (k + 1) (widened p k)
+widened_range p k h = elim (p.1 == 0) as (λ b. IsRange (k + 1) (cond b k p.0, k + 1)) [ true ↦ (omega arith, omega arith) | false ↦ (omega arith, omega arith) ]
+
+widened_keeps : (p : ℕ × ℕ) (k m : ℕ) → p.1 ≤ k → p.0 ≤ m → m < p.1
+    → ((widened p k).0 ≤ m) × (m < k + 1)
+widened_keeps p k m h a b =
+    elim (p.1 == 0) as (λ t. (p.1 == 0) ≡ t → (cond t k p.0 ≤ m) × (m < k + 1)) [
+      | true ↦ λ e. let z = eqb-true p.1 0 e in absurd (omega arith)
+      | false ↦ λ e. (a, omega arith)
+    ] refl
+
+widened_has : (p : ℕ × ℕ) (k : ℕ) → IsRange k p → ((widened p k).0 ≤ k) × (k < k + 1)
+widened_has p k h = elim (p.1 == 0) as (λ b. (cond b k p.0 ≤ k) × (k < k + 1)) [ true ↦ (omega arith, omega arith) | false ↦ (omega arith, omega arith) ]
+
+module _ (entries : List Entry) (count : ℕ) (index : DiagonalIndex) (h : IsIndexOf entries count index) where
+  -- the cell of a reader and a writer is there
+  cell_within : (i j : ℕ) → i < index.width → j < index.width → cell index i j < length index.ranges
+  cell_within i j p q = subst (λ z. cell index i j < z) (sym h.square) (mul-add-lt i index.width j index.width p q)
+
+  range_at : (i j : ℕ) → i < index.width → j < index.width → IsRange count (range_of index i j)
+  range_at i j p q = h.within (cell index i j) (0, 0) (cell_within i j p q)
+
+  -- what is covered stays covered
+  covers_same : (e : Edge) → HasCell index.width e → (k : ℕ) (f : Edge) → Covers index k f
+      → k < count → Covers (with_edge index e count) k f
+  covers_same (Vertical i) c k f p l = p
+  covers_same (Horizontal i j) c k f p l = p
+  covers_same (Diagonal i j g) c k (Vertical a) p l = tt
+  covers_same (Diagonal i j g) c k (Horizontal a b) p l = tt
+  covers_same (Diagonal i j g) c k (Diagonal a b f) p l =
+      let n = cell index i.0 j.0 in
+      let m = cell index a.0 b.0 in
+      let old = range_of index i.0 j.0 in
+      let next = set index.ranges n (widened old count) in
+      elim (cases_eq m n) [
+        | inl e ↦
+            let here : get_or next m (0, 0) ≡ widened old count =
+            ap (λ z. get_or next z (0, 0)) e ∙ get_or-set_same index.ranges n (widened old count) (0, 0) (cell_within i.0 j.0 c.0 c.1) in
+            let was = subst (λ z. ((get_or index.ranges z (0, 0)).0 ≤ k) × (k < (get_or index.ranges z (0, 0)).1)) e p in
+            subst (λ z. (z.0 ≤ k) × (k < z.1)) (sym here) (widened_keeps old count k (range_at i.0 j.0 c.0 c.1).1 was.0 was.1)
+        | inr d ↦ subst (λ z. (z.0 ≤ k) × (k < z.1)) (sym (get_or-set_other index.ranges n m (widened old count) (0, 0) d)) p
+      ]
+
+  -- the new place is covered
+  covers_new : (e : Edge) → HasCell index.width e → Covers (with_edge index e count) count e
+  covers_new (Vertical i) c = tt
+  covers_new (Horizontal i j) c = tt
+  covers_new (Diagonal i j g) c =
+      let n = cell index i.0 j.0 in
+      let old = range_of index i.0 j.0 in
+      subst (λ z. (z.0 ≤ count) × (count < z.1)) (sym (get_or-set_same index.ranges n (widened old count) (0, 0) (cell_within i.0 j.0 c.0 c.1))) (widened_has old count (range_at i.0 j.0 c.0 c.1))
+
+  within_later : All (IsRange (count + 1)) index.ranges
+  within_later = All-weaker (IsRange count) (IsRange (count + 1)) (λ p q. (q.0, omega arith)) index.ranges h.within
+
+  within_more : (e : Edge) → HasCell index.width e
+      → All (IsRange (count + 1)) (with_edge index e count).ranges
+  within_more (Vertical i) c = within_later
+  within_more (Horizontal i j) c = within_later
+  within_more (Diagonal i j g) c =
+      All-set (IsRange (count + 1)) index.ranges (cell index i.0 j.0) (widened (range_of index i.0 j.0) count)
+      (widened_range (range_of index i.0 j.0) count (range_at i.0 j.0 c.0 c.1)) within_later
+
+  square_more : (e : Edge)
+      → length (with_edge index e count).ranges ≡ (with_edge index e count).width * (with_edge index e count).width
+  square_more (Vertical i) = h.square
+  square_more (Horizontal i j) = h.square
+  square_more (Diagonal i j g) = length-set index.ranges (cell index i.0 j.0) (widened (range_of index i.0 j.0) count) ∙ h.square
+
+  pub index_more : (d : Entry) → count < length entries
+      → HasCell index.width (get_or entries count d).edge
+      → IsIndexOf entries (count + 1) (with_edge index (get_or entries count d).edge count)
+  index_more d l c =
+      let e = (get_or entries count d).edge in
+      record {
+        square = square_more e;
+        within = within_more e c;
+        covers = λ k x m. elim (cases_eq k count) [
+          | inl s ↦
+              let same : (get_or entries k x).edge ≡ e = ap (λ z. (get_or entries z x).edge) s ∙ ap (λ z. z.edge) (get_or_default entries count x d l) in
+              subst (λ z. Covers (with_edge index e count) k z) (sym same) (subst (λ z. Covers (with_edge index e count) z e) (sym s) (covers_new e c))
+          | inr n ↦ covers_same e c k (get_or entries k x).edge (h.covers k x (omega arith)) (omega arith)
+        ];
+      }
+
+width-with_edge : (index : DiagonalIndex) (e : Edge) (k : ℕ)
+    → (with_edge index e k).width ≡ index.width
+width-with_edge index (Vertical i) k = refl
+width-with_edge index (Horizontal i j) k = refl
+width-with_edge index (Diagonal i j f) k = refl
+
+-- one more entry
+pub index_step : (entries : List Entry) (count width : ℕ) (index next : DiagonalIndex) (d : Entry)
+    → next ≡ with_edge index (get_or entries count d).edge count → count < length entries
+    → All (λ e. HasCell width e.edge) entries
+    → (index.width ≡ width) × IsIndexOf entries count index
+    → (next.width ≡ width) × IsIndexOf entries (count + 1) next
+index_step entries count width index next d e l cells h =
+    let edge = (get_or entries count d).edge in (
+      ap (λ z. z.width) e ∙ width-with_edge index edge count ∙ h.0,
+      subst (λ z. IsIndexOf entries (count + 1) z) (sym e) (index_more entries count index h.1 d l (subst (λ z. HasCell z edge) (sym h.0) (cells count d l))),
+    )

@@ -1,0 +1,5 @@
+use Rattle.sdd_protocol.proofs.Ranges.{index_step}
+use Rattle.sdd_protocol.proofs.diagonal_index.DiagonalIndex.of.Goals as goal
+
+pub loop-k-preserved : goal.loop-k-preserved
+loop-k-preserved c = index_step _ _ _ _ _ _ c.add.ensures c.loop-k-test.true c.requires.cells c.loop-k.invariant

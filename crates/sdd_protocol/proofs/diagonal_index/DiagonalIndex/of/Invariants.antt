@@ -1,0 +1,6 @@
+use Rattle.std.proofs.Common.{◌≡◌}
+use Rattle.sdd_protocol.specs.DiagonalIndex.{IsIndexOf}
+use Rattle.sdd_protocol.proofs.diagonal_index.DiagonalIndex.of.Given as goal
+
+abbrev pub invariant-loop-k : goal.invariant-loop-k
+invariant-loop-k l = (l.index.width ≡ l.width) × IsIndexOf l.entries l.k l.index
