@@ -1,4 +1,4 @@
--- Which catalogues and workloads the commands take today that run a workload.
+-- Which catalogues and workloads `run` takes today.
 use Rattle.std.specs.Prelude.{◌^◌, ◌-◌, ◌≡◌, refl, pos, negsuc, IsTrue, Bool, true, false, ◌&&◌, ◌||◌, List, [], ◌∷◌, map, length}
 use Rattle.std.specs.List.{list_all}
 use Rattle.sdd_base.specs.Words.{is_empty}
@@ -16,8 +16,6 @@ use Rattle.sdd_lang.specs.declared.statement.Stmt.{Stmt}
 use Rattle.sdd_lang.specs.declared.statement.Stmt.TheVariants.{Put, Query}
 use Rattle.sdd_lang.specs.declared.transaction.Txn.{Txn}
 use Rattle.sdd_script.specs.declared.workload.Workload.{Workload}
-use Rattle.sdd_app.specs.declared.reach.Reach.{Reach}
-use Rattle.sdd_app.specs.declared.reach.Reach.TheVariants as reaches
 
 -- a relation of two columns of whole numbers, of which the first is the key
 abbrev pub IsPairs : Relation → Type 0
@@ -66,12 +64,3 @@ settled_too_soon t u = refl
 abbrev pub is_first_workload : Workload → Bool
 is_first_workload w =
     is_empty w.rows && (list_all (λ (t : Txn). list_all is_simple t.statements) w.txns && (is_empty w.events || are_settled w.events))
-
--- `plain` takes all
-abbrev pub TakesCatalogue : Reach → Catalogue → Type 0
-TakesCatalogue reaches.Plain cat = Unit {0}
-TakesCatalogue reaches.Run cat = IsFirstCatalogue cat
-
-abbrev pub TakesWorkload : Reach → Workload → Type 0
-TakesWorkload reaches.Plain w = Unit {0}
-TakesWorkload reaches.Run w = IsTrue (is_first_workload w)

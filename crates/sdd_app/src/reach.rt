@@ -1,4 +1,4 @@
-//! Which catalogues and workloads the commands take today that run a workload.
+//! Which catalogues and workloads `run` takes today: one class at one module.
 ghost use Rattle.std.specs.Prelude.{◌≡◌, ◌↔◌, ◌||◌, ◌∷◌, [], map, IsTrue};
 ghost use Rattle.std.specs.List.{list_all};
 ghost use Rattle.sdd_catalog.specs.declared.resolved.Column as shown;
@@ -6,46 +6,16 @@ ghost use Rattle.sdd_catalog.specs.declared.parts.Kind.TheVariants.{Int};
 ghost use Rattle.sdd_base.specs.Numbers.{dm_no, frag_no};
 ghost use Rattle.sdd_base.specs.Words.{is_empty};
 ghost use Rattle.sdd_lang.specs.declared.transaction.Txn as transactions;
-ghost use Rattle.sdd_app.specs.Reach.{IsFirstCatalogue, IsPairs, IsWhole, IsOwner, is_first_workload, is_simple, are_settled, TakesCatalogue, TakesWorkload};
+ghost use Rattle.sdd_app.specs.Reach.{IsFirstCatalogue, IsPairs, IsWhole, IsOwner, is_first_workload, is_simple, are_settled};
 
 use sdd_base::{ClassNo, DmNo, Event, FragNo, RelNo, TmNo};
 use sdd_catalog::{Catalogue, Class, Column, Fragment, Kind, Read, Relation};
 use sdd_lang::{Stmt, Txn};
 use sdd_script::Workload;
 
-/// How far a command goes.
-#[derive(Clone, Copy)]
-pub enum Reach {
-    /// Everything, on one plain database.
-    Plain,
-    /// One class at one module: what the distributed system carries out today.
-    Run,
-}
-
-impl Reach {
-    /// Whether the command takes the catalogue.
-    pub fn takes_catalogue(self, catalogue: &Catalogue) -> bool
-        ensures { IsTrue result ↔ TakesCatalogue self catalogue.now }
-    {
-        match self {
-            Reach::Plain => true,
-            Reach::Run => is_first_catalogue(catalogue),
-        }
-    }
-
-    /// Whether the command takes the workload.
-    pub fn takes_workload(self, work: &Workload) -> bool
-        ensures { IsTrue result ↔ TakesWorkload self work.now }
-    {
-        match self {
-            Reach::Plain => true,
-            Reach::Run => is_first_workload(work),
-        }
-    }
-}
-
+/// Whether `run` takes the catalogue.
 #[tactic(auto, using(crate::proofs::Reaches::first_catalogue))]
-fn is_first_catalogue(catalogue: &Catalogue) -> bool
+pub fn is_first_catalogue(catalogue: &Catalogue) -> bool
     ensures { IsTrue result ↔ IsFirstCatalogue catalogue.now }
 {
     if catalogue.relations() != 1 || catalogue.fragments() != 1 || catalogue.classes() != 1 {
@@ -167,7 +137,8 @@ fn are_first_events(events: &[Event]) -> bool
     events.is_empty() || are_settled(events)
 }
 
-fn is_first_workload(work: &Workload) -> bool
+/// Whether `run` takes the workload.
+pub fn is_first_workload(work: &Workload) -> bool
     ensures { result ≡ is_first_workload work.now }
 {
     if !work.rows.as_slice().is_empty() {
