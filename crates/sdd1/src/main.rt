@@ -1,8 +1,14 @@
 //! The program: the words, files and streams of the system, handed to the top call.
 //!
-//! All that it does is proved at `run_sdd1`. The adapters over the system's files and streams are
-//! proved against the same traits with nothing told of their content: what a real file holds is trusted.
+//! What is read, printed and told is proved at `run_sdd1`; that the process's number is the status's,
+//! at `exit_code`. The adapters over the system's files and streams are proved against the same traits
+//! with nothing told of their content: what a real file holds, and that `main` hands over the words of
+//! the command line, is trusted.
 #![tactic(auto)]
+
+ghost use Rattle.std.specs.Prelude.{◌≡◌};
+ghost use Rattle.std.specs.Process.{exit_status};
+ghost use Rattle.sdd_app.specs.Status.{number_of_status};
 
 mod host_shelf;
 mod host_sink;
@@ -17,11 +23,18 @@ use std::process::ExitCode;
 /// no status. Nothing is written then.
 const NO_WORDS: u8 = 10;
 
+/// The number by which the process tells how the call ended.
+fn exit_code(status: Status) -> ExitCode
+    ensures { exit_status result ≡ number_of_status status }
+{
+    ExitCode::from(status.number())
+}
+
 fn main(rt: HostRuntime) -> ExitCode {
     let words: Vec<String> = match env::args(&rt) {
         Ok(words) => match words.skip(1).collect(rt.alloc()) {
             Ok(words) => words,
-            Err(_) => return ExitCode::from(Status::NoMemory.number()),
+            Err(_) => return exit_code(Status::NoMemory),
         },
         Err(_) => return ExitCode::from(NO_WORDS),
     };
@@ -29,5 +42,5 @@ fn main(rt: HostRuntime) -> ExitCode {
     let mut out = HostSink::new(rt.stdout());
     let mut err = HostSink::new(rt.stderr());
     let status = run_sdd1(rt.alloc(), words.as_slice(), &mut shelf, &mut out, &mut err);
-    ExitCode::from(status.number())
+    exit_code(status)
 }

@@ -1,11 +1,14 @@
 -- What reading a file says of what is in it.
-use Rattle.std.proofs.Common.{◌≡◌, ℕ, ◌^◌, ◌<◌, ◌≤◌, List, length, Option, Some, None, Result, Ok, Err, refl, ap, sym, ◌∙◌, arith, inl, inr}
+use Rattle.std.proofs.Common.{◌≡◌, ℕ, ◌^◌, ◌<◌, ◌≤◌, List, length, Option, Some, None, Result, Ok, Err, refl, ap, sym, subst, ◌∙◌, arith, inl, inr}
 use Rattle.std.proofs.lemmas.Bool.{cases_lt, lt-ltb}
-use Rattle.std.specs.Prelude.{IsSome, IfSome, IfOk, OnOk, IsErrOf, take, ◌+◌, nat_lt, true}
+use Rattle.std.specs.Prelude.{IsSome, IfSome, IfErr, IsErrOf, OnOk, MatchResult, take, ◌+◌, nat_lt, true}
 use Rattle.std.specs.Option.{option_map}
 use Rattle.sdd_base.specs.Outside.{ReadsTo, find_file}
 use Rattle.sdd_base.specs.declared.files.ShelfFile.{ShelfFile}
+use Rattle.sdd_app.specs.Answer.{BlamesCatalogue, BlamesWorkload, catalogue_named, workload_named}
+use Rattle.sdd_app.specs.Verdict.{ComesOfFiles, Explains}
 use Rattle.sdd_app.specs.declared.status.Status.{Status}
+use Rattle.sdd_app.specs.declared.status.Status.TheVariants.{Usage}
 use Rattle.sdd_catalog.specs.Catalogue.{Catalogue}
 use Rattle.sdd_catalog.specs.declared.fault.CatRule.TheVariants.{TooLong}
 use Rattle.sdd_catread.specs.Faults.{broken}
@@ -64,26 +67,35 @@ accepted_short cat bytes w ok =
       | inr within ↦ omega arith
     ]
 
--- a file that gives something is there
-pub named_found : {A : Type 0} (give : List ℕ → A) (file : Option (List ℕ)) (reading : A) → option_map give file ≡ Some reading → IsSome file
-named_found give None reading e = absurd cc
-named_found give (Some bytes) reading e = refl
+-- what the bytes were judged to give is what the file gives
 
--- what was accepted of the bytes is what the file gives
-pub accepted_gives : {A F : Type 0} (limit : ℕ) (give : List ℕ → Result A F) → ((a b : List ℕ) → limit < length a → limit < length b → give a ≡ give b)
-    → (r : Result A Status) (bytes : List ℕ) (told : Option (List ShelfFile)) (name : List ℕ) → IfOk r (λ x. give bytes ≡ Ok x)
-    → ((fs : List ShelfFile) → told ≡ Some fs → ReadsTo limit (find_file fs name) bytes) → IfOk r (λ x. (fs : List ShelfFile) → told ≡ Some fs → option_map give (find_file fs name) ≡ Some (Ok x))
-accepted_gives limit give alike (Ok x) bytes told name e reads = λ fs is. read_gives limit give alike (find_file fs name) bytes (reads fs is) ∙ ap (λ r. Some r) e
-accepted_gives limit give alike (Err s) bytes told name e reads = tt
+pub catalogue_gives : (result : Result Catalogue Status) (fs : List ShelfFile) (name bytes : List ℕ) → ReadsTo (2 ^ 20) (find_file fs name) bytes
+    → MatchResult result (λ cat. catalogue_in bytes ≡ Ok cat) (λ s. Explains s (BlamesCatalogue (Some (catalogue_in bytes))))
+    → MatchResult result (λ cat. catalogue_named fs name ≡ Some (Ok cat)) (λ s. Explains s (BlamesCatalogue (catalogue_named fs name)))
+catalogue_gives (Ok cat) fs name bytes reads e = read_gives (2 ^ 20) catalogue_in long_catalogues (find_file fs name) bytes reads ∙ ap (λ r. Some r) e
+catalogue_gives (Err s) fs name bytes reads e =
+    subst (λ r. Explains s (BlamesCatalogue r)) (sym (read_gives (2 ^ 20) catalogue_in long_catalogues (find_file fs name) bytes reads)) e
 
--- what follows from what each answer says
-pub on_ok_by : {T : Type 0} (r : Result T Status) (P : T → Type 0) (Q : Type 0) → IfOk r P → ((v : T) → P v → Q) → OnOk r Q
-on_ok_by (Ok v) P Q p f = f v p
-on_ok_by (Err s) P Q p f = tt
+pub workload_gives : (result : Result Workload Status) (fs : List ShelfFile) (cat : Catalogue) (name bytes : List ℕ) → ReadsTo (2 ^ 26) (find_file fs name) bytes
+    → MatchResult result (λ w. workload cat bytes ≡ Ok w) (λ s. Explains s (BlamesWorkload (Some (workload cat bytes))))
+    → MatchResult result (λ w. workload_named fs cat name ≡ Some (Ok w)) (λ s. Explains s (BlamesWorkload (workload_named fs cat name)))
+workload_gives (Ok w) fs cat name bytes reads e = read_gives (2 ^ 26) (workload cat) (long_workloads cat) (find_file fs name) bytes reads ∙ ap (λ r. Some r) e
+workload_gives (Err s) fs cat name bytes reads e =
+    subst (λ r. Explains s (BlamesWorkload r)) (sym (read_gives (2 ^ 26) (workload cat) (long_workloads cat) (find_file fs name) bytes reads)) e
+
+-- what follows where a call went well
+pub on_ok_by : {T : Type 0} (r : Result T Status) (P : T → Type 0) (Q : Status → Type 0) (R : Type 0) → MatchResult r P Q → ((v : T) → P v → R) → OnOk r R
+on_ok_by (Ok v) P Q R p f = f v p
+on_ok_by (Err s) P Q R p f = tt
+
+pub if_err_more : {T : Type 0} (r : Result T Status) (P Q : Status → Type 0) → IfErr r P → ((s : Status) → P s → Q s) → IfErr r Q
+if_err_more (Ok v) P Q p f = tt
+if_err_more (Err s) P Q p f = f s p
 
 one_error : {T : Type 0} (s t : Status) → IsErrOf {T = T} (Err s) t → s ≡ t
 one_error {T} s t e = cc
 
--- an error is the same beside another value
-pub err_again : {T U : Type 0} (s t : Status) → IsErrOf {T = T} (Err s) t → IsErrOf {T = U} (Err s) t
-err_again {T} {U} s t e = ap (λ (x : Status). Err x) (one_error {T = T} s t e)
+-- a status that comes of files isn't Usage
+pub not_usage : {T : Type 0} (r : Result T Status) → IfErr r ComesOfFiles → IsErrOf r Usage → ⊥
+not_usage (Ok v) p e = absurd cc
+not_usage {T} (Err s) p e = subst ComesOfFiles (one_error {T = T} s Usage e) p

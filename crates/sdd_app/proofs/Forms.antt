@@ -1,80 +1,81 @@
--- Words are those of one form.
-use Rattle.std.proofs.Common.{◌≡◌, ◌≢◌, ◌∷◌, ℕ, List, [], ap, sym, ◌∙◌, arith}
-use Rattle.sdd_app.specs.Command.{Form, Check, Graph, Table, Run, Plain, Make, words_of}
+-- The form that words have, and the words of a form.
+use Rattle.std.proofs.Common.{◌≡◌, ℕ, ◌^◌, ◌<◌, ◌≤◌, cond, List, [], ◌∷◌, Bool, true, false, Option, Some, None, refl, ap, sym, ◌∙◌, subst, arith}
+use Rattle.std.specs.Prelude.{codes}
+use Rattle.std.specs.Fmt.{decimal}
+use Rattle.std.specs.Str.{bytes_eq}
+use Rattle.std.proofs.lemmas.Slice.Eq.{bytes_eq-Decides}
+use Rattle.sdd_app.specs.Command.{Form, Check, Graph, Table, Run, Plain, Make, IsForm, IsNoForm, words_of, count_in, made, form_of_two, form_of_three, form_in}
+use Rattle.sdd_app.proofs.Counts.{counted, spelled}
 
-abbrev first_code : List (List ℕ) → ℕ
-first_code ((code ∷ codes) ∷ ws) = code
-first_code ([] ∷ ws) = 0
-first_code [] = 0
+-- the words of a form have it
+pub form_found : (form : Form) → IsForm form → form_in (words_of form) ≡ Some form
+unfolding form_in
+form_found (Check cat) is = refl
+form_found (Graph cat) is = refl
+form_found (Table cat) is = refl
+form_found (Run cat work) is = refl
+form_found (Plain cat work) is = refl
+form_found (Make seed count) is =
+    rw (counted (2 ^ 31) seed is.0 (omega (arith, is.0)), counted 2049 count (omega (arith, is.1)) (omega (arith, is.1))) refl
 
-abbrev second_word : List (List ℕ) → List ℕ
-second_word (a ∷ b ∷ ws) = b
-second_word (a ∷ []) = []
-second_word [] = []
+-- words that have a form are its words
+record Has (ws : List (List ℕ)) (form : Form) : Type 0 where
+  pub is : IsForm form
+  pub words : ws ≡ words_of form
 
-abbrev third_word : List (List ℕ) → List ℕ
-third_word (a ∷ b ∷ c ∷ ws) = c
-third_word (a ∷ b ∷ []) = []
-third_word (a ∷ []) = []
-third_word [] = []
+one_form : (x y : Form) → Some x ≡ Some y → x ≡ y
+one_form x y e = cc
 
-other_code : {A : Type 0} (a b : ℕ) → a ≡ b → a ≢ b → A
-other_code a b e differ = absurd (differ e)
+named : (word name : List ℕ) → bytes_eq word name ≡ true → word ≡ name
+named word name e = (bytes_eq-Decides word name).0 e
 
-pub check_form : (cat : List ℕ) (g : Form) → words_of (Check cat) ≡ words_of g → g ≡ Check cat
-check_form cat (Check c) e = ap (λ (x : List ℕ). Check x) (sym (ap second_word e))
-check_form cat (Graph c) e = other_code 99 103 (ap first_code e) (omega arith)
-check_form cat (Table c) e = other_code 99 116 (ap first_code e) (omega arith)
-check_form cat (Run c w) e = other_code 99 114 (ap first_code e) (omega arith)
-check_form cat (Plain c w) e = other_code 99 112 (ap first_code e) (omega arith)
-check_form cat (Make s n) e = other_code 99 109 (ap first_code e) (omega arith)
+-- where one of the tests holds, the words are those of its form
+has_so : (ws : List (List ℕ)) (x form : Form) → IsForm x → ws ≡ words_of x → Some x ≡ Some form → Has ws form
+has_so ws x form is words e = subst (λ f. Has ws f) (one_form x form e) (record { is = is; words = words })
 
-pub graph_form : (cat : List ℕ) (g : Form) → words_of (Graph cat) ≡ words_of g → g ≡ Graph cat
-graph_form cat (Check c) e = other_code 103 99 (ap first_code e) (omega arith)
-graph_form cat (Graph c) e = ap (λ (x : List ℕ). Graph x) (sym (ap second_word e))
-graph_form cat (Table c) e = other_code 103 116 (ap first_code e) (omega arith)
-graph_form cat (Run c w) e = other_code 103 114 (ap first_code e) (omega arith)
-graph_form cat (Plain c w) e = other_code 103 112 (ap first_code e) (omega arith)
-graph_form cat (Make s n) e = other_code 103 109 (ap first_code e) (omega arith)
+made_so : (first second : List ℕ) (seed count : Option ℕ) (form : Form) → count_in (2 ^ 31) first ≡ seed → count_in 2049 second ≡ count → made seed count ≡ Some form
+    → Has (codes "make" ∷ first ∷ second ∷ []) form
+made_so first second (Some s) (Some n) form p q e =
+    let seed = spelled (2 ^ 31) first s p in
+    let count = spelled 2049 second n q in
+    has_so (codes "make" ∷ first ∷ second ∷ []) (Make s n) form (seed.1, omega (arith, count.1)) (ap (λ w. codes "make" ∷ w ∷ second ∷ []) seed.0 ∙ ap (λ w. codes "make" ∷ decimal s ∷ w ∷ []) count.0) e
+made_so first second (Some s) None form p q e = absurd cc
+made_so first second None count form p q e = absurd cc
 
-pub table_form : (cat : List ℕ) (g : Form) → words_of (Table cat) ≡ words_of g → g ≡ Table cat
-table_form cat (Check c) e = other_code 116 99 (ap first_code e) (omega arith)
-table_form cat (Graph c) e = other_code 116 103 (ap first_code e) (omega arith)
-table_form cat (Table c) e = ap (λ (x : List ℕ). Table x) (sym (ap second_word e))
-table_form cat (Run c w) e = other_code 116 114 (ap first_code e) (omega arith)
-table_form cat (Plain c w) e = other_code 116 112 (ap first_code e) (omega arith)
-table_form cat (Make s n) e = other_code 116 109 (ap first_code e) (omega arith)
+two_so : (name cat : List ℕ) (form : Form) (x y z : Bool) → bytes_eq name (codes "check") ≡ x → bytes_eq name (codes "graph") ≡ y → bytes_eq name (codes "table") ≡ z
+    → cond x (Some (Check cat)) (cond y (Some (Graph cat)) (cond z (Some (Table cat)) None)) ≡ Some form → Has (name ∷ cat ∷ []) form
+two_so name cat form true y z p q r e = has_so (name ∷ cat ∷ []) (Check cat) form tt (ap (λ w. w ∷ cat ∷ []) (named name (codes "check") p)) e
+two_so name cat form false true z p q r e = has_so (name ∷ cat ∷ []) (Graph cat) form tt (ap (λ w. w ∷ cat ∷ []) (named name (codes "graph") q)) e
+two_so name cat form false false true p q r e = has_so (name ∷ cat ∷ []) (Table cat) form tt (ap (λ w. w ∷ cat ∷ []) (named name (codes "table") r)) e
+two_so name cat form false false false p q r e = absurd cc
 
-pub run_form : (cat work : List ℕ) (g : Form) → words_of (Run cat work) ≡ words_of g → g ≡ Run cat work
-run_form cat work (Check c) e = other_code 114 99 (ap first_code e) (omega arith)
-run_form cat work (Graph c) e = other_code 114 103 (ap first_code e) (omega arith)
-run_form cat work (Table c) e = other_code 114 116 (ap first_code e) (omega arith)
-run_form cat work (Run c w) e = ap (λ (x : List ℕ). Run x w) (sym (ap second_word e)) ∙ ap (λ (x : List ℕ). Run cat x) (sym (ap third_word e))
-run_form cat work (Plain c w) e = other_code 114 112 (ap first_code e) (omega arith)
-run_form cat work (Make s n) e = other_code 114 109 (ap first_code e) (omega arith)
+three_so : (name first second : List ℕ) (form : Form) (x y z : Bool) → bytes_eq name (codes "run") ≡ x → bytes_eq name (codes "plain") ≡ y → bytes_eq name (codes "make") ≡ z
+    → cond x (Some (Run first second)) (cond y (Some (Plain first second)) (cond z (made (count_in (2 ^ 31) first) (count_in 2049 second)) None)) ≡ Some form
+    → Has (name ∷ first ∷ second ∷ []) form
+three_so name first second form true y z p q r e = has_so (name ∷ first ∷ second ∷ []) (Run first second) form tt (ap (λ w. w ∷ first ∷ second ∷ []) (named name (codes "run") p)) e
+three_so name first second form false true z p q r e = has_so (name ∷ first ∷ second ∷ []) (Plain first second) form tt (ap (λ w. w ∷ first ∷ second ∷ []) (named name (codes "plain") q)) e
+three_so name first second form false false true p q r e =
+    subst (λ w. Has (w ∷ first ∷ second ∷ []) form) (sym (named name (codes "make") r)) (made_so first second (count_in (2 ^ 31) first) (count_in 2049 second) form refl refl e)
+three_so name first second form false false false p q r e = absurd cc
 
-pub plain_form : (cat work : List ℕ) (g : Form) → words_of (Plain cat work) ≡ words_of g → g ≡ Plain cat work
-plain_form cat work (Check c) e = other_code 112 99 (ap first_code e) (omega arith)
-plain_form cat work (Graph c) e = other_code 112 103 (ap first_code e) (omega arith)
-plain_form cat work (Table c) e = other_code 112 116 (ap first_code e) (omega arith)
-plain_form cat work (Run c w) e = other_code 112 114 (ap first_code e) (omega arith)
-plain_form cat work (Plain c w) e = ap (λ (x : List ℕ). Plain x w) (sym (ap second_word e)) ∙ ap (λ (x : List ℕ). Plain cat x) (sym (ap third_word e))
-plain_form cat work (Make s n) e = other_code 112 109 (ap first_code e) (omega arith)
+form_has : (ws : List (List ℕ)) (form : Form) → form_in ws ≡ Some form → Has ws form
+unfolding form_in
+form_has [] form e = absurd cc
+form_has (name ∷ []) form e = absurd cc
+form_has (name ∷ cat ∷ []) form e = two_so name cat form (bytes_eq name (codes "check")) (bytes_eq name (codes "graph")) (bytes_eq name (codes "table")) refl refl refl e
+form_has (name ∷ first ∷ second ∷ []) form e = three_so name first second form (bytes_eq name (codes "run")) (bytes_eq name (codes "plain")) (bytes_eq name (codes "make")) refl refl refl e
+form_has (name ∷ first ∷ second ∷ third ∷ rest) form e = absurd cc
 
--- whether a command of this form is built
-abbrev pub IsBuilt : Form → Type 0
-IsBuilt (Check cat) = Unit {0}
-IsBuilt (Graph cat) = Unit {0}
-IsBuilt (Table cat) = Unit {0}
-IsBuilt (Run cat work) = Unit {0}
-IsBuilt (Plain cat work) = Unit {0}
-IsBuilt (Make seed count) = ⊥
+pub form_spelled : (ws : List (List ℕ)) (form : Form) → form_in ws ≡ Some form → IsForm form × (ws ≡ words_of form)
+form_spelled ws form e = let h = form_has ws form e in (h.is, h.words)
 
--- the words of the one command that is not built are those of no other
-pub make_form : (seed count : ℕ) (g : Form) → words_of (Make seed count) ≡ words_of g → IsBuilt g → ⊥
-make_form seed count (Check c) e b = other_code 109 99 (ap first_code e) (omega arith)
-make_form seed count (Graph c) e b = other_code 109 103 (ap first_code e) (omega arith)
-make_form seed count (Table c) e b = other_code 109 116 (ap first_code e) (omega arith)
-make_form seed count (Run c w) e b = other_code 109 114 (ap first_code e) (omega arith)
-make_form seed count (Plain c w) e b = other_code 109 112 (ap first_code e) (omega arith)
-make_form seed count (Make s n) e b = b
+no_form_at : (ws : List (List ℕ)) (found : Option Form) → form_in ws ≡ found → IsNoForm ws → found ≡ None
+no_form_at ws None e none = refl
+no_form_at ws (Some form) e none = let h = form_has ws form e in absurd (none form h.is h.words)
+
+-- words of no form have none
+pub no_form : (ws : List (List ℕ)) → IsNoForm ws → form_in ws ≡ None
+no_form ws none = no_form_at ws (form_in ws) refl none
+
+pub found_form : (ws : List (List ℕ)) (form : Form) → IsForm form → ws ≡ words_of form → form_in ws ≡ Some form
+found_form ws form is words = rw words (form_found form is)

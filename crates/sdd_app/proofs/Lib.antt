@@ -1,9 +1,10 @@
+pub mod Counts
 pub mod Entries
 pub mod FileReads
 pub mod Forms
 pub mod Queries
 pub mod Reaches
-pub mod Runs
 pub mod Submissions
 pub mod TextPieces
 pub mod Told
+pub mod Verdicts

@@ -2,7 +2,7 @@
 use Rattle.std.proofs.Common.{◌≡◌, ℕ, zero, suc, ◌+◌, ◌-◌, ◌<◌, subst, slice_get, List, [], ◌∷◌, ◌++◌, length, map, take, get_or, Option, Some, None, refl, Bor}
 use Rattle.std.specs.List.{All, filter_map}
 use Rattle.sdd_base.specs.declared.event.Event.{Event}
-use Rattle.sdd_base.specs.declared.event.Event.TheVariants.{Submit, Deliver, Lose, Repeat, Resend, Tick, Settle}
+use Rattle.sdd_base.specs.declared.event.Event.TheVariants.{Submit, Deliver, Lose, Repeat, Resend, Tick, Settle, Redeclare, Down, Up}
 use Rattle.sdd_base.specs.declared.number.RelNo.{RelNo}
 use Rattle.sdd_base.specs.declared.value.Value.{Value}
 use Rattle.sdd_catalog.specs.Catalogue.{Catalogue}
@@ -36,6 +36,9 @@ event_fits cat txns (Repeat from to place) t all is = absurd cc
 event_fits cat txns (Resend from to) t all is = absurd cc
 event_fits cat txns (Tick tm n) t all is = absurd cc
 event_fits cat txns Settle t all is = absurd cc
+event_fits cat txns Redeclare t all is = absurd cc
+event_fits cat txns (Down dm) t all is = absurd cc
+event_fits cat txns (Up dm) t all is = absurd cc
 
 fits_given : (cat : Catalogue) (txns : List Txn) (e : Event) (events : List Event) (given : Option Txn) → All (IsValidTxn cat) txns → submitted_by txns e ≡ given
     → All (Fits cat) (filter_map (submitted_by txns) events) → All (Fits cat) (filter_map (submitted_by txns) (e ∷ events))

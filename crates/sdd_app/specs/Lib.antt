@@ -2,8 +2,11 @@ pub mod Answer
 pub mod Check
 pub mod Command
 pub mod Edges
+pub mod Endings
 pub mod Listing
 pub mod Reach
 pub mod Report
 pub mod Serially
 pub mod Status
+pub mod Taking
+pub mod Verdict

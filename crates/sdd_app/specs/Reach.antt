@@ -1,7 +1,8 @@
--- Which catalogues and workloads the commands take today that run a workload.
+-- Which catalogues and workloads `run` takes today.
 use Rattle.std.specs.Prelude.{◌^◌, ◌-◌, ◌≡◌, refl, pos, negsuc, IsTrue, Bool, true, false, ◌&&◌, ◌||◌, List, [], ◌∷◌, map, length}
 use Rattle.std.specs.List.{list_all}
 use Rattle.sdd_base.specs.Words.{is_empty}
+use Rattle.sdd_base.specs.Numbers.{dm_no, frag_no}
 use Rattle.sdd_base.specs.declared.number.TxnNo.{TxnNo}
 use Rattle.sdd_base.specs.declared.event.Event.{Event}
 use Rattle.sdd_base.specs.declared.event.Event.TheVariants.{Submit, Settle}
@@ -15,8 +16,6 @@ use Rattle.sdd_lang.specs.declared.statement.Stmt.{Stmt}
 use Rattle.sdd_lang.specs.declared.statement.Stmt.TheVariants.{Put, Query}
 use Rattle.sdd_lang.specs.declared.transaction.Txn.{Txn}
 use Rattle.sdd_script.specs.declared.workload.Workload.{Workload}
-use Rattle.sdd_app.specs.declared.reach.Reach.{Reach}
-use Rattle.sdd_app.specs.declared.reach.Reach.TheVariants as reaches
 
 -- a relation of two columns of whole numbers, of which the first is the key
 abbrev pub IsPairs : Relation → Type 0
@@ -24,11 +23,11 @@ IsPairs r = (map (λ (c : Column). c.kind) r.columns ≡ Int ∷ Int ∷ []) × 
 
 -- all of the first relation, with one copy at the first data module
 abbrev pub IsWhole : Fragment → Type 0
-IsWhole f = (f.rel ≡ 1) × (f.least ≡ negsuc (2 ^ 63 - 1)) × (f.greatest ≡ pos (2 ^ 63 - 1)) × (f.copies ≡ 1 ∷ [])
+IsWhole f = (f.rel.0 ≡ 1) × (f.least ≡ negsuc (2 ^ 63 - 1)) × (f.greatest ≡ pos (2 ^ 63 - 1)) × (f.copies ≡ dm_no 1 ∷ [])
 
 -- a class at the first module that reads and writes the first fragment
 abbrev pub IsOwner : Class → Type 0
-IsOwner c = (c.tm ≡ 1) × (c.reads ≡ (1, 1) ∷ []) × (c.writes ≡ 1 ∷ [])
+IsOwner c = (c.tm.0 ≡ 1) × (c.reads ≡ record { fragment = frag_no 1; at = dm_no 1 } ∷ []) × (c.writes ≡ frag_no 1 ∷ [])
 
 -- one module of each kind, one relation of two numbers in one fragment, one class: `run` takes it under any names
 pub record IsFirstCatalogue (cat : Catalogue) : Type 0 where
@@ -65,12 +64,3 @@ settled_too_soon t u = refl
 abbrev pub is_first_workload : Workload → Bool
 is_first_workload w =
     is_empty w.rows && (list_all (λ (t : Txn). list_all is_simple t.statements) w.txns && (is_empty w.events || are_settled w.events))
-
--- `plain` takes all
-abbrev pub TakesCatalogue : Reach → Catalogue → Type 0
-TakesCatalogue reaches.Plain cat = Unit {0}
-TakesCatalogue reaches.Run cat = IsFirstCatalogue cat
-
-abbrev pub TakesWorkload : Reach → Workload → Type 0
-TakesWorkload reaches.Plain w = Unit {0}
-TakesWorkload reaches.Run w = IsTrue (is_first_workload w)

@@ -5,7 +5,7 @@ use Rattle.sdd_base.specs.declared.value.Value.{Value}
 use Rattle.sdd_base.specs.declared.value.Value.TheVariants.{Text}
 use Rattle.sdd_base.specs.declared.reply.Reply.{Reply}
 use Rattle.sdd_base.specs.declared.reply.Reply.TheVariants.{Rows, Overflow, TooMany}
-use Rattle.sdd_script.specs.Spelling.{value_word}
+use Rattle.sdd_words.specs.Values.{value_word}
 use Rattle.sdd_words.specs.Words.{word_bytes}
 
 -- values are printed as a workload's file spells them

@@ -2,10 +2,9 @@
 ghost use Rattle.std.specs.Prelude.{◌≡◌, ◌++◌, IfOk, OnOk};
 ghost use Rattle.sdd_app.specs.Check.{check_line, module_counts, part_counts, class_count};
 
-use crate::report::put_count;
 use sdd_base::NoMemory;
 use sdd_catalog::Catalogue;
-use sdd_words::put;
+use sdd_words::{put, put_count};
 use std::alloc::Global;
 
 /// Adds how many modules there are of each sort.
@@ -13,9 +12,9 @@ fn put_modules(text: &mut Vec<u8>, tms: u32, dms: u32) -> Result<(), NoMemory>
     ensures { OnOk result (text.new.items ≡ text.old.items ++ module_counts tms dms) }
 {
     put(text, b"ok tms ")?;
-    put_count(text, tms as usize)?;
+    put_count(text, u64::from(tms))?;
     put(text, b" dms ")?;
-    put_count(text, dms as usize)
+    put_count(text, u64::from(dms))
 }
 
 /// Adds how many relations and fragments there are.
@@ -23,16 +22,16 @@ fn put_parts(text: &mut Vec<u8>, relations: u32, fragments: u32) -> Result<(), N
     ensures { OnOk result (text.new.items ≡ text.old.items ++ part_counts relations fragments) }
 {
     put(text, b" relations ")?;
-    put_count(text, relations as usize)?;
+    put_count(text, u64::from(relations))?;
     put(text, b" fragments ")?;
-    put_count(text, fragments as usize)
+    put_count(text, u64::from(fragments))
 }
 
 fn put_classes(text: &mut Vec<u8>, classes: u32) -> Result<(), NoMemory>
     ensures { OnOk result (text.new.items ≡ text.old.items ++ class_count classes) }
 {
     put(text, b" classes ")?;
-    put_count(text, classes as usize)?;
+    put_count(text, u64::from(classes))?;
     put(text, b"\n")
 }
 

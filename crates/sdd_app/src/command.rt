@@ -2,7 +2,7 @@ ghost use Rattle.std.specs.Prelude.{◌≡◌, ◌<◌, ◌≤◌, ◌^◌, List
 ghost use Rattle.std.specs.Fmt.{decimal};
 ghost use Rattle.sdd_app.specs.Command.{Form, IsForm, MakesBy, words_of, form_of};
 
-use crate::number::read_count;
+use sdd_words::read_count;
 
 /// What the words of the command line ask for. CAT and WORK are names of files.
 #[derive(Clone, Copy)]

@@ -4,12 +4,11 @@ ghost use Rattle.sdd_graph.specs.Edges.{IsEdgeOf};
 ghost use Rattle.sdd_protocol.specs.Protocols.{IsTable};
 ghost use Rattle.sdd_app.specs.Edges as shown;
 
-use crate::report::put_count;
 use sdd_base::{ClassNo, FragNo, NoMemory};
 use sdd_catalog::Catalogue;
 use sdd_graph::Edge;
 use sdd_protocol::{Entry, Protocol, Table};
-use sdd_words::put;
+use sdd_words::{put, put_count};
 use std::alloc::Global;
 
 fn put_class(text: &mut Vec<u8>, catalogue: &Catalogue, class: ClassNo) -> Result<(), NoMemory>
@@ -35,7 +34,7 @@ fn put_block(text: &mut Vec<u8>, block: u32) -> Result<(), NoMemory>
     if block == 0 {
         put(text, b"-")
     } else {
-        put_count(text, block as usize)
+        put_count(text, u64::from(block))
     }
 }
 
@@ -120,7 +119,7 @@ fn put_module(
     ensures { OnOk result (text.new.items ≡ text.old.items ++ shown.module_number catalogue.now class frag) }
 {
     match catalogue.reads_at(class, frag) {
-        Some(module) => put_count(text, module.0 as usize),
+        Some(module) => put_count(text, u64::from(module.0)),
         None => put_count(text, 0),
     }
 }

@@ -13,7 +13,6 @@ mod check;
 mod command;
 mod edges;
 mod listing;
-mod number;
 mod reach;
 mod report;
 mod run;
@@ -25,6 +24,3 @@ mod workload_file;
 
 pub use run::run_sdd1;
 pub use status::Status;
-
-#[cfg(test)]
-mod tests;

@@ -1,10 +1,11 @@
 //! The commands that tell what is in a catalogue.
-ghost use Rattle.std.specs.Prelude.{◌≡◌, ◌+◌, ℕ, List, IfOk, OnOk, IfErr, IsErrOf, IsSome, Some, Err};
+ghost use Rattle.std.specs.Prelude.{◌≡◌, ◌+◌, ◌∷◌, [], ℕ, List, IfOk, OnOk, IfErr, IsSome, Some};
 ghost use Rattle.sdd_base.specs.declared.files.ShelfFile.{ShelfFile};
 ghost use Rattle.sdd_base.specs.Outside.{Rose, find_file};
-ghost use Rattle.sdd_catalog.specs.declared.fault.CatFault.{CatFault};
-ghost use Rattle.sdd_app.specs.Answer.{AnswersListing, OneAtItsEnd, IsCatalogueError, catalogue_named};
+ghost use Rattle.sdd_app.specs.Answer.{ComesToListing, OverCatalogue};
+ghost use Rattle.sdd_app.specs.Endings.{FilesRead, ToItsEnd};
 ghost use Rattle.sdd_app.specs.Listing.{Tells};
+ghost use Rattle.sdd_app.specs.Verdict.{Answers, ComesOfFiles};
 
 use crate::catalogue_file::accepted_catalogue;
 use crate::check::counts;
@@ -50,20 +51,14 @@ pub fn listing_answer<S: Shelf>(
     catalogue: &str,
     listing: Listing,
 ) -> Result<Vec<u8>, Status>
-    ensures text { IfOk result (λ v. (fs : List ShelfFile) → S.files shelf.old ≡ Some fs → AnswersListing fs listing catalogue.now v.items) }
-    ensures bad { (f : CatFault) → IsErrOf result (Status.BadCatalogue f) → (fs : List ShelfFile) → S.files shelf.old ≡ Some fs → catalogue_named fs catalogue.now ≡ Some (Err f) }
-    ensures ended { OnOk result (OneAtItsEnd (S.is_open shelf.old) (S.is_open shelf.new) (S.unread shelf.new)) }
-    ensures fault { IsErrOf result Status.ReadFault → Rose (S.faults shelf.old) (S.faults shelf.new) }
-    ensures errors { IfErr result IsCatalogueError }
+    ensures told { (fs : List ShelfFile) → S.files shelf.old ≡ Some fs
+        → Answers result (λ v. v.items) (OverCatalogue fs catalogue.now (ComesToListing listing)) }
+    ensures ended { OnOk result (FilesRead (S.is_open shelf.old) (S.is_open shelf.new) (S.unread shelf.new) (ToItsEnd ∷ [])) }
+    ensures fault { IfErr result (λ s. s ≡ Status.ReadFault → Rose (S.faults shelf.old) (S.faults shelf.new)) }
+    ensures errors { IfErr result ComesOfFiles }
     ensures surely { (free : ℕ) (fs : List ShelfFile) → S.sure shelf.old (free + 1) → S.files shelf.old ≡ Some fs → IsSome (find_file fs catalogue.now)
-        → IsErrOf result Status.ReadFault → ⊥ }
+        → IfErr result (λ s. s ≡ Status.ReadFault → ⊥) × (S.faults shelf.new ≡ S.faults shelf.old) }
 {
-    let catalogue = match accepted_catalogue(alloc, shelf, catalogue) {
-        Ok(catalogue) => catalogue,
-        Err(status) => return Err(status),
-    };
-    match listed(alloc, &catalogue, listing) {
-        Ok(text) => Ok(text),
-        Err(_) => Err(Status::NoMemory),
-    }
+    let catalogue = accepted_catalogue(alloc, shelf, catalogue)?;
+    Ok(listed(alloc, &catalogue, listing)?)
 }

@@ -1,50 +1,21 @@
-//! Which catalogues and workloads the commands take today that run a workload.
+//! Which catalogues and workloads `run` takes today: one class at one module.
 ghost use Rattle.std.specs.Prelude.{◌≡◌, ◌↔◌, ◌||◌, ◌∷◌, [], map, IsTrue};
 ghost use Rattle.std.specs.List.{list_all};
 ghost use Rattle.sdd_catalog.specs.declared.resolved.Column as shown;
 ghost use Rattle.sdd_catalog.specs.declared.parts.Kind.TheVariants.{Int};
+ghost use Rattle.sdd_base.specs.Numbers.{dm_no, frag_no};
 ghost use Rattle.sdd_base.specs.Words.{is_empty};
 ghost use Rattle.sdd_lang.specs.declared.transaction.Txn as transactions;
-ghost use Rattle.sdd_app.specs.Reach.{IsFirstCatalogue, IsPairs, IsWhole, IsOwner, is_first_workload, is_simple, are_settled, TakesCatalogue, TakesWorkload};
+ghost use Rattle.sdd_app.specs.Reach.{IsFirstCatalogue, IsPairs, IsWhole, IsOwner, is_first_workload, is_simple, are_settled};
 
-use sdd_base::{ClassNo, Event, FragNo, RelNo};
-use sdd_catalog::{Catalogue, Class, Column, Fragment, Kind, Relation};
+use sdd_base::{ClassNo, DmNo, Event, FragNo, RelNo, TmNo};
+use sdd_catalog::{Catalogue, Class, Column, Fragment, Kind, Read, Relation};
 use sdd_lang::{Stmt, Txn};
 use sdd_script::Workload;
 
-/// How far a command goes.
-#[derive(Clone, Copy)]
-pub enum Reach {
-    /// Everything, on one plain database.
-    Plain,
-    /// One class at one module: what the distributed system carries out today.
-    Run,
-}
-
-impl Reach {
-    /// Whether the command takes the catalogue.
-    pub fn takes_catalogue(self, catalogue: &Catalogue) -> bool
-        ensures { IsTrue result ↔ TakesCatalogue self catalogue.now }
-    {
-        match self {
-            Reach::Plain => true,
-            Reach::Run => is_first_catalogue(catalogue),
-        }
-    }
-
-    /// Whether the command takes the workload.
-    pub fn takes_workload(self, work: &Workload) -> bool
-        ensures { IsTrue result ↔ TakesWorkload self work.now }
-    {
-        match self {
-            Reach::Plain => true,
-            Reach::Run => is_first_workload(work),
-        }
-    }
-}
-
+/// Whether `run` takes the catalogue.
 #[tactic(auto, using(crate::proofs::Reaches::first_catalogue))]
-fn is_first_catalogue(catalogue: &Catalogue) -> bool
+pub fn is_first_catalogue(catalogue: &Catalogue) -> bool
     ensures { IsTrue result ↔ IsFirstCatalogue catalogue.now }
 {
     if catalogue.relations() != 1 || catalogue.fragments() != 1 || catalogue.classes() != 1 {
@@ -72,12 +43,12 @@ fn is_pairs(relation: &Relation) -> bool
     relation.key == 1 && are_two_numbers(relation.columns.as_slice())
 }
 
-/// Whether the numbers are the number 1 alone.
-fn is_one(numbers: &[u32]) -> bool
-    ensures { IsTrue result ↔ (numbers.now ≡ 1 ∷ []) }
+/// Whether the first module alone has a copy.
+fn is_one_copy(copies: &[DmNo]) -> bool
+    ensures { IsTrue result ↔ (copies.now ≡ dm_no 1 ∷ []) }
 {
-    match numbers {
-        [number] => *number == 1,
+    match copies {
+        [copy] => *copy == DmNo(1),
         _ => false,
     }
 }
@@ -85,18 +56,28 @@ fn is_one(numbers: &[u32]) -> bool
 fn is_whole(fragment: &Fragment) -> bool
     ensures { IsTrue result ↔ IsWhole fragment.now }
 {
-    fragment.rel == 1
+    fragment.rel == RelNo(1)
         && fragment.least == i64::MIN
         && fragment.greatest == i64::MAX
-        && is_one(fragment.copies.as_slice())
+        && is_one_copy(fragment.copies.as_slice())
 }
 
 /// Whether the reads are that of the first fragment at the first module alone.
-fn is_one_read(reads: &[(u32, u32)]) -> bool
-    ensures { IsTrue result ↔ (reads.now ≡ (1, 1) ∷ []) }
+fn is_one_read(reads: &[Read]) -> bool
+    ensures { IsTrue result ↔ (reads.now ≡ record { fragment = frag_no 1; at = dm_no 1 } ∷ []) }
 {
     match reads {
-        [read] => read.0 == 1 && read.1 == 1,
+        [read] => read.fragment == FragNo(1) && read.at == DmNo(1),
+        _ => false,
+    }
+}
+
+/// Whether the first fragment alone is written.
+fn is_one_write(writes: &[FragNo]) -> bool
+    ensures { IsTrue result ↔ (writes.now ≡ frag_no 1 ∷ []) }
+{
+    match writes {
+        [write] => *write == FragNo(1),
         _ => false,
     }
 }
@@ -104,7 +85,9 @@ fn is_one_read(reads: &[(u32, u32)]) -> bool
 fn is_owner(class: &Class) -> bool
     ensures { IsTrue result ↔ IsOwner class.now }
 {
-    class.tm == 1 && is_one_read(class.reads.as_slice()) && is_one(class.writes.as_slice())
+    class.tm == TmNo(1)
+        && is_one_read(class.reads.as_slice())
+        && is_one_write(class.writes.as_slice())
 }
 
 fn is_simple(statement: &Stmt) -> bool
@@ -154,7 +137,8 @@ fn are_first_events(events: &[Event]) -> bool
     events.is_empty() || are_settled(events)
 }
 
-fn is_first_workload(work: &Workload) -> bool
+/// Whether `run` takes the workload.
+pub fn is_first_workload(work: &Workload) -> bool
     ensures { result ≡ is_first_workload work.now }
 {
     if !work.rows.as_slice().is_empty() {

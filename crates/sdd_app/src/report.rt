@@ -1,20 +1,9 @@
 //! The text of a report, piece by piece.
-ghost use Rattle.std.specs.Prelude.{◌≡◌, ◌+◌, ◌^◌, ◌<◌, ◌∷◌, ◌++◌, [], List, length, OnOk, flat_map};
-ghost use Rattle.sdd_app.specs.Report.{value_bytes, row_line, query_lines, queries_from, outcome_lines, reply_lines};
-ghost use Rattle.std.specs.Fmt.{decimal, signed_decimal};
+ghost use Rattle.std.specs.Prelude.{◌≡◌, ◌∷◌, ◌++◌, OnOk, flat_map};
+ghost use Rattle.sdd_app.specs.Report.{row_line, query_lines, queries_from, outcome_lines, reply_lines};
 
-use itoa::Buffer;
-use sdd_base::{Answers, Name, NoMemory, Reply, Row, RowList, Value};
-use sdd_words::{put, put_number, put_text};
-
-fn put_value(text: &mut Vec<u8>, value: &Value) -> Result<(), NoMemory>
-    ensures { OnOk result (text.new.items ≡ text.old.items ++ value_bytes value.now) }
-{
-    match value {
-        Value::Int(number) => put_number(text, number),
-        Value::Text(content) => put_text(text, content.as_str().as_bytes()),
-    }
-}
+use sdd_base::{Name, NoMemory, Reply, Row, RowList};
+use sdd_words::{put, put_count, put_values};
 
 fn put_row(text: &mut Vec<u8>, row: &Row) -> Result<(), NoMemory>
     ensures { OnOk result (text.new.items ≡ text.old.items ++ row_line row.now) }
@@ -22,24 +11,6 @@ fn put_row(text: &mut Vec<u8>, row: &Row) -> Result<(), NoMemory>
     put(text, b"row")?;
     put_values(text, row.as_slice())?;
     put(text, b"\n")
-}
-
-fn put_values(text: &mut Vec<u8>, values: &[Value]) -> Result<(), NoMemory>
-    ensures { OnOk result (text.new.items ≡ text.old.items ++ flat_map (λ v. 32 ∷ value_bytes v) values.now) }
-{
-    'values: for value in values {
-        put(text, b" ")?;
-        put_value(text, value)?;
-    }
-    Ok(())
-}
-
-/// Adds a number in decimal.
-pub fn put_count(text: &mut Vec<u8>, count: usize) -> Result<(), NoMemory>
-    ensures { OnOk result (text.new.items ≡ text.old.items ++ decimal count) }
-{
-    let mut buffer = Buffer::new();
-    put(text, buffer.format(count).as_bytes())
 }
 
 fn put_rows(text: &mut Vec<u8>, rows: &[Row]) -> Result<(), NoMemory>
@@ -56,9 +27,9 @@ fn put_query(text: &mut Vec<u8>, number: usize, rows: &RowList) -> Result<(), No
     ensures { OnOk result (text.new.items ≡ text.old.items ++ query_lines number rows.now) }
 {
     put(text, b"query ")?;
-    put_count(text, number)?;
+    put_count(text, number as u64)?;
     put(text, b" ")?;
-    put_count(text, rows.as_slice().len())?;
+    put_count(text, rows.as_slice().len() as u64)?;
     put(text, b"\n")?;
     put_rows(text, rows.as_slice())
 }

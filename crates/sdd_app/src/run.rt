@@ -1,49 +1,57 @@
-ghost use Rattle.std.specs.Prelude.{◌≡◌, ◌≢◌, ◌≤◌, ◌⊎◌, ◌↔◌, ◌+◌, ℕ, List, length, take, map, string_bytes, IfOk, OnOk, IsErrOf, Some};
+ghost use Rattle.std.specs.Prelude.{◌≡◌, ◌≢◌, ◌≤◌, ◌⊎◌, ◌↔◌, ◌+◌, ℕ, List, length, take, map, string_bytes, OnOk, IfErr, IsErrOf, Some};
 ghost use Rattle.sdd_base.specs.declared.files.ShelfFile.{ShelfFile};
 ghost use Rattle.sdd_base.specs.Outside.{Rose, with_end};
 ghost use Rattle.sdd_catalog.specs.declared.fault.CatFault.{CatFault};
 ghost use Rattle.sdd_script.specs.declared.fault.WorkFault.{WorkFault};
-ghost use Rattle.sdd_app.specs.Answer.{Answers, HasFault, HasWorkFault, IsUnbuilt, AtTheirEnds, FilesOf, TakesOrFaults};
-ghost use Rattle.sdd_app.specs.Command.{Form, IsNoForm, words_of};
+ghost use Rattle.sdd_app.specs.Answer.{ComesTo, FilesAreThere, FilesOf, FormComesTo};
+ghost use Rattle.sdd_app.specs.Command.{IsNoForm, form_of};
+ghost use Rattle.sdd_app.specs.Endings.{AtTheirEnds, FormEnds, IsWithoutFiles, OpensNoFile};
 ghost use Rattle.sdd_app.specs.Status.{line_of};
+ghost use Rattle.sdd_app.specs.Taking.{TakesOrFaults};
+ghost use Rattle.sdd_app.specs.Verdict.{Verdict, Prints, FaultyCatalogue, FaultyWorkload, NotBuilt, Answers, ComesOfFiles, IsRefusal, status_of};
 
 use crate::command::{Command, parse_words};
 use crate::listing::{Listing, listing_answer};
-use crate::reach::Reach;
 use crate::status::Status;
 use crate::tell::tell;
-use crate::workload_answer::workload_answer;
+use crate::workload_answer::{plain_answer, run_answer};
 use sdd_base::{Shelf, Sink, write_text};
 use std::alloc::Global;
 
-/// The text for the words, or the status of a call that has none.
+/// The text that the command prints, or the status of a call that prints none.
+fn carried_out<S: Shelf>(alloc: Global, command: Command, shelf: &mut S) -> Result<Vec<u8>, Status>
+    ensures told { (fs : List ShelfFile) → S.files shelf.old ≡ Some fs → Answers result (λ v. v.items) (FormComesTo fs (form_of command.entry)) }
+    ensures ended { OnOk result (FormEnds (S.is_open shelf.old) (S.is_open shelf.new) (S.unread shelf.new) (form_of command.entry)) }
+    ensures fault { IfErr result (λ s. s ≡ Status.ReadFault → Rose (S.faults shelf.old) (S.faults shelf.new)) }
+    ensures errors { IfErr result ComesOfFiles }
+    ensures untouched { IsWithoutFiles (form_of command.entry) → shelf.new ≡ shelf.old }
+    ensures surely { (free : ℕ) (fs : List ShelfFile) → S.sure shelf.old (free + 1 + 1) → S.files shelf.old ≡ Some fs → FilesOf fs (form_of command.entry)
+        → IfErr result (λ s. s ≡ Status.ReadFault → ⊥) × (S.faults shelf.new ≡ S.faults shelf.old) }
+{
+    match command {
+        Command::Check(catalogue) => listing_answer(alloc, shelf, catalogue, Listing::Counts),
+        Command::Graph(catalogue) => listing_answer(alloc, shelf, catalogue, Listing::Graph),
+        Command::Table(catalogue) => listing_answer(alloc, shelf, catalogue, Listing::Table),
+        Command::Run(catalogue, workload) => run_answer(alloc, shelf, catalogue, workload),
+        Command::Plain(catalogue, workload) => plain_answer(alloc, shelf, catalogue, workload),
+        Command::Make(_, _) => Err(Status::Unbuilt),
+    }
+}
+
+/// The text for the words, or the status of a call that prints none.
 fn answer<S: Shelf>(alloc: Global, words: &[String], shelf: &mut S) -> Result<Vec<u8>, Status>
-    ensures text { IfOk result (λ v. (fs : List ShelfFile) → S.files shelf.old ≡ Some fs → Answers fs (map string_bytes words.now) v.items) }
-    ensures bad { (f : CatFault) → IsErrOf result (Status.BadCatalogue f) → (fs : List ShelfFile) → S.files shelf.old ≡ Some fs → HasFault fs (map string_bytes words.now) f }
-    ensures bad_workload { (f : WorkFault) → IsErrOf result (Status.BadWorkload f) → (fs : List ShelfFile) → S.files shelf.old ≡ Some fs → HasWorkFault fs (map string_bytes words.now) f }
+    ensures told { (fs : List ShelfFile) → S.files shelf.old ≡ Some fs → Answers result (λ v. v.items) (ComesTo fs (map string_bytes words.now)) }
     ensures ended { OnOk result (AtTheirEnds (map string_bytes words.now) (S.is_open shelf.old) (S.is_open shelf.new) (S.unread shelf.new)) }
     ensures usage { IsErrOf result Status.Usage ↔ IsNoForm (map string_bytes words.now) }
-    ensures unbuilt { IsErrOf result Status.Unbuilt → (fs : List ShelfFile) → S.files shelf.old ≡ Some fs → IsUnbuilt fs (map string_bytes words.now) }
-    ensures fault { IsErrOf result Status.ReadFault → Rose (S.faults shelf.old) (S.faults shelf.new) }
-    ensures done { IsErrOf result Status.Done → ⊥ }
-    ensures write { IsErrOf result Status.WriteFault → ⊥ }
-    ensures surely { (free : ℕ) (fs : List ShelfFile) (form : Form) → S.sure shelf.old (free + 1 + 1) → S.files shelf.old ≡ Some fs
-        → map string_bytes words.now ≡ words_of form → FilesOf fs form → IsErrOf result Status.ReadFault → ⊥ }
+    ensures fault { IfErr result (λ s. s ≡ Status.ReadFault → Rose (S.faults shelf.old) (S.faults shelf.new)) }
+    ensures errors { IfErr result (λ s. (s ≡ Status.Done → ⊥) × (s ≡ Status.WriteFault → ⊥)) }
+    ensures untouched { OpensNoFile (map string_bytes words.now) → shelf.new ≡ shelf.old }
+    ensures surely { (free : ℕ) (fs : List ShelfFile) → S.sure shelf.old (free + 1 + 1) → S.files shelf.old ≡ Some fs → FilesAreThere fs (map string_bytes words.now)
+        → IfErr result (λ s. s ≡ Status.ReadFault → ⊥) × (S.faults shelf.new ≡ S.faults shelf.old) }
 {
     match parse_words(words) {
         None => Err(Status::Usage),
-        Some(Command::Check(catalogue)) => {
-            listing_answer(alloc, shelf, catalogue, Listing::Counts)
-        }
-        Some(Command::Graph(catalogue)) => listing_answer(alloc, shelf, catalogue, Listing::Graph),
-        Some(Command::Table(catalogue)) => listing_answer(alloc, shelf, catalogue, Listing::Table),
-        Some(Command::Run(catalogue, workload)) => {
-            workload_answer(alloc, shelf, catalogue, workload, Reach::Run)
-        }
-        Some(Command::Plain(catalogue, workload)) => {
-            workload_answer(alloc, shelf, catalogue, workload, Reach::Plain)
-        }
-        Some(Command::Make(_, _)) => Err(Status::Unbuilt),
+        Some(command) => carried_out(alloc, command, shelf),
     }
 }
 
@@ -63,39 +71,48 @@ pub fn run_sdd1<S: Shelf, O: Sink, E: Sink>(
 ) -> Status
     // All of the text was taken, and each file that the words name was read to its end.
     ensures done { result ≡ Status.Done → (fs : List ShelfFile) → S.files shelf.old ≡ Some fs → (text : List ℕ)
-        × Answers fs (map string_bytes words.now) text × (O.taken out.new ≡ with_end (O.taken out.old) text) }
-    ensures ended { result ≡ Status.Done → AtTheirEnds (map string_bytes words.now) (S.is_open shelf.old) (S.is_open shelf.new) (S.unread shelf.new) }
+        × ComesTo fs (map string_bytes words.now) (Prints text) × (O.taken out.new ≡ with_end (O.taken out.old) text) }
+    ensures ended { result ≡ Status.Done
+        → AtTheirEnds (map string_bytes words.now) (S.is_open shelf.old) (S.is_open shelf.new) (S.unread shelf.new) }
 
     // Why another status comes.
     ensures usage { (result ≡ Status.Usage) ↔ IsNoForm (map string_bytes words.now) }
-    ensures bad_catalogue { (f : CatFault) → result ≡ Status.BadCatalogue f → (fs : List ShelfFile) → S.files shelf.old ≡ Some fs → HasFault fs (map string_bytes words.now) f }
-    ensures bad_workload { (f : WorkFault) → result ≡ Status.BadWorkload f → (fs : List ShelfFile) → S.files shelf.old ≡ Some fs → HasWorkFault fs (map string_bytes words.now) f }
-    ensures unbuilt { result ≡ Status.Unbuilt → (fs : List ShelfFile) → S.files shelf.old ≡ Some fs → IsUnbuilt fs (map string_bytes words.now) }
+    ensures bad_catalogue { (f : CatFault) → result ≡ Status.BadCatalogue f → (fs : List ShelfFile) → S.files shelf.old ≡ Some fs
+        → ComesTo fs (map string_bytes words.now) (FaultyCatalogue f) }
+    ensures bad_workload { (f : WorkFault) → result ≡ Status.BadWorkload f → (fs : List ShelfFile) → S.files shelf.old ≡ Some fs
+        → ComesTo fs (map string_bytes words.now) (FaultyWorkload f) }
+    ensures unbuilt { result ≡ Status.Unbuilt → (fs : List ShelfFile) → S.files shelf.old ≡ Some fs
+        → ComesTo fs (map string_bytes words.now) NotBuilt }
     ensures read { result ≡ Status.ReadFault → Rose (S.faults shelf.old) (S.faults shelf.new) }
-    ensures write { result ≡ Status.WriteFault → Rose (O.faults out.old) (O.faults out.new) × ((fs : List ShelfFile) → S.files shelf.old ≡ Some fs → (text : List ℕ) × (n : ℕ)
-        × Answers fs (map string_bytes words.now) text × (O.taken out.new ≡ with_end (O.taken out.old) (take n text))) }
+    ensures write { result ≡ Status.WriteFault → Rose (O.faults out.old) (O.faults out.new)
+        × ((fs : List ShelfFile) → S.files shelf.old ≡ Some fs → (text : List ℕ) × (n : ℕ)
+        × ComesTo fs (map string_bytes words.now) (Prints text) × (O.taken out.new ≡ with_end (O.taken out.old) (take n text))) }
     ensures silent { result ≢ Status.Done → result ≢ Status.WriteFault → O.taken out.new ≡ O.taken out.old }
-    ensures line { TakesOrFaults (E.taken err.old) (E.taken err.new) (E.faults err.old) (E.faults err.new) (line_of result) }
+    ensures line { TakesOrFaults (E.sure err.old) (E.taken err.old) (E.taken err.new) (E.faults err.old) (E.faults err.new) (line_of result) }
 
-    // A call that has an answer gives it, unless memory runs out: where no count rose, and so over
-    // a shelf and a sink that are sure.
-    ensures complete { (fs : List ShelfFile) (text : List ℕ) → S.files shelf.old ≡ Some fs → Answers fs (map string_bytes words.now) text
+    // What the words and files come to is told, unless memory runs out: where no count rose, and so
+    // over a shelf and a sink that are sure.
+    ensures complete { (fs : List ShelfFile) (text : List ℕ) → S.files shelf.old ≡ Some fs → ComesTo fs (map string_bytes words.now) (Prints text)
         → (Rose (S.faults shelf.old) (S.faults shelf.new) → ⊥) → (Rose (O.faults out.old) (O.faults out.new) → ⊥)
         → (result ≡ Status.Done) ⊎ (result ≡ Status.NoMemory) }
-    ensures surely { (free room : ℕ) (fs : List ShelfFile) (text : List ℕ) → S.sure shelf.old (free + 1 + 1) → O.sure out.old room → S.files shelf.old ≡ Some fs
-        → ((each : List ℕ) → Answers fs (map string_bytes words.now) each → length each ≤ room) → Answers fs (map string_bytes words.now) text
-        → (result ≡ Status.Done) ⊎ (result ≡ Status.NoMemory) }
+    ensures refused { (fs : List ShelfFile) (v : Verdict) → S.files shelf.old ≡ Some fs → ComesTo fs (map string_bytes words.now) v → IsRefusal v
+        → (Rose (S.faults shelf.old) (S.faults shelf.new) → ⊥) → (result ≡ status_of v) ⊎ (result ≡ Status.NoMemory) }
+    ensures surely { (free room : ℕ) (fs : List ShelfFile) (text : List ℕ) → S.sure shelf.old (free + 1 + 1) → O.sure out.old room
+        → S.files shelf.old ≡ Some fs → ((each : List ℕ) → ComesTo fs (map string_bytes words.now) (Prints each) → length each ≤ room)
+        → ComesTo fs (map string_bytes words.now) (Prints text) → (result ≡ Status.Done) ⊎ (result ≡ Status.NoMemory) }
+    ensures surely_refused { (free : ℕ) (fs : List ShelfFile) (v : Verdict) → S.sure shelf.old (free + 1 + 1) → S.files shelf.old ≡ Some fs
+        → ComesTo fs (map string_bytes words.now) v → IsRefusal v → (result ≡ status_of v) ⊎ (result ≡ Status.NoMemory) }
 
-    // A fault of the catalogue or the workload is told, unless the shelf failed or memory ran out.
-    // A sure shelf doesn't fail.
-    ensures faulty { (fs : List ShelfFile) (f : CatFault) → S.files shelf.old ≡ Some fs → HasFault fs (map string_bytes words.now) f
-        → (Rose (S.faults shelf.old) (S.faults shelf.new) → ⊥) → (result ≡ Status.BadCatalogue f) ⊎ (result ≡ Status.NoMemory) }
-    ensures faulty_workload { (fs : List ShelfFile) (f : WorkFault) → S.files shelf.old ≡ Some fs → HasWorkFault fs (map string_bytes words.now) f
-        → (Rose (S.faults shelf.old) (S.faults shelf.new) → ⊥) → (result ≡ Status.BadWorkload f) ⊎ (result ≡ Status.NoMemory) }
-    ensures surely_faulty { (free : ℕ) (fs : List ShelfFile) (f : CatFault) → S.sure shelf.old (free + 1 + 1) → S.files shelf.old ≡ Some fs
-        → HasFault fs (map string_bytes words.now) f → (result ≡ Status.BadCatalogue f) ⊎ (result ≡ Status.NoMemory) }
-    ensures surely_faulty_workload { (free : ℕ) (fs : List ShelfFile) (f : WorkFault) → S.sure shelf.old (free + 1 + 1) → S.files shelf.old ≡ Some fs
-        → HasWorkFault fs (map string_bytes words.now) f → (result ≡ Status.BadWorkload f) ⊎ (result ≡ Status.NoMemory) }
+    // Words of no form, and those of a form that opens no file, leave the shelf as it was.
+    ensures untouched { OpensNoFile (map string_bytes words.now) → shelf.new ≡ shelf.old }
+
+    // Over a sure shelf that has the files, and sinks that are sure to take what is written, no count
+    // rises, whatever the answer.
+    ensures shelf_still { (free : ℕ) (fs : List ShelfFile) → S.sure shelf.old (free + 1 + 1) → S.files shelf.old ≡ Some fs
+        → FilesAreThere fs (map string_bytes words.now) → S.faults shelf.new ≡ S.faults shelf.old }
+    ensures out_still { (room : ℕ) (fs : List ShelfFile) → O.sure out.old room → S.files shelf.old ≡ Some fs
+        → ((each : List ℕ) → ComesTo fs (map string_bytes words.now) (Prints each) → length each ≤ room)
+        → O.faults out.new ≡ O.faults out.old }
 {
     match answer(alloc, words, shelf) {
         Ok(text) => match write_text(out, text.as_slice()) {

@@ -1,8 +1,9 @@
 ghost use Rattle.std.specs.Prelude.{◌≡◌};
 ghost use Rattle.sdd_app.specs.Status.{number_of_status};
 
-use sdd_catalog::CatFault;
-use sdd_script::WorkFault;
+use sdd_base::{NoMemory, ReadError};
+use sdd_catalog::{CatError, CatFault};
+use sdd_script::{WorkError, WorkFault};
 
 /// How a call ended.
 #[derive(Clone, Copy, Debug, PartialEq, Eq)]
@@ -38,6 +39,59 @@ impl Status {
             Status::WriteFault => 7,
             Status::NoMemory => 8,
             Status::Unbuilt => 9,
+        }
+    }
+}
+
+impl From<NoMemory> for Status {
+    ghost use Rattle.std.specs.Prelude.{◌≡◌};
+    ghost use Rattle.sdd_app.specs.declared.status.Status.TheVariants.{NoMemory};
+
+    ghost from_gives = { λ _ status. status ≡ NoMemory };
+
+    fn from(_error: NoMemory) -> Self {
+        Status::NoMemory
+    }
+}
+
+impl From<ReadError> for Status {
+    ghost use Rattle.std.specs.Prelude.{◌≡◌};
+    ghost use Rattle.sdd_app.specs.Verdict.{status_of_reading};
+
+    ghost from_gives = { λ error status. status ≡ status_of_reading error };
+
+    fn from(error: ReadError) -> Self {
+        match error {
+            ReadError::Fault => Status::ReadFault,
+            ReadError::NoMemory => Status::NoMemory,
+        }
+    }
+}
+
+impl From<CatError> for Status {
+    ghost use Rattle.std.specs.Prelude.{◌≡◌};
+    ghost use Rattle.sdd_app.specs.Verdict.{status_of_catalogue};
+
+    ghost from_gives = { λ error status. status ≡ status_of_catalogue error };
+
+    fn from(error: CatError) -> Self {
+        match error {
+            CatError::Fault(fault) => Status::BadCatalogue(fault),
+            CatError::NoMemory => Status::NoMemory,
+        }
+    }
+}
+
+impl From<WorkError> for Status {
+    ghost use Rattle.std.specs.Prelude.{◌≡◌};
+    ghost use Rattle.sdd_app.specs.Verdict.{status_of_workload};
+
+    ghost from_gives = { λ error status. status ≡ status_of_workload error };
+
+    fn from(error: WorkError) -> Self {
+        match error {
+            WorkError::Fault(fault) => Status::BadWorkload(fault),
+            WorkError::NoMemory => Status::NoMemory,
         }
     }
 }

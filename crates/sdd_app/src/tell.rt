@@ -1,6 +1,6 @@
 //! The line on standard error. Writing it takes no memory.
 ghost use Rattle.std.specs.Prelude.{◌≡◌, ◌++◌, flat_map};
-ghost use Rattle.sdd_app.specs.Answer.{TakesOrFaults};
+ghost use Rattle.sdd_app.specs.Taking.{TakesOrFaults};
 ghost use Rattle.sdd_app.specs.Status.{part_word, number_word, rule_word, counted_word, counted_words, work_rule_word, many_word, many_words, line_of, fault_line, work_fault_line};
 
 use crate::status::Status;
@@ -14,7 +14,7 @@ const USAGE: &[u8] =
 
 /// Writes pieces one after the other, until a call fails.
 fn tell_pieces<E: Sink>(err: &mut E, pieces: &[&[u8]])
-    ensures { TakesOrFaults (E.taken err.old) (E.taken err.new) (E.faults err.old) (E.faults err.new) (flat_map (λ p. p.now) pieces.now) }
+    ensures { TakesOrFaults (E.sure err.old) (E.taken err.old) (E.taken err.new) (E.faults err.old) (E.faults err.new) (flat_map (λ p. p.now) pieces.now) }
 {
     'pieces: for piece in pieces {
         match write_text(err, piece) {
@@ -84,16 +84,16 @@ fn word_for_count(rule: CatRule) -> &'static [u8]
 
 /// The number of the part, where it has one.
 fn number_piece<'a>(buffer: &'a mut Buffer, fault: CatFault) -> &'a [u8]
-    ensures { result.now ≡ number_word fault.part fault.no }
+    ensures { result.now ≡ number_word fault.part fault.number }
 {
     match fault.part {
         Part::Top => b"",
-        _ => buffer.format(fault.no).as_bytes(),
+        _ => buffer.format(fault.number).as_bytes(),
     }
 }
 
 fn tell_fault<E: Sink>(err: &mut E, fault: CatFault)
-    ensures { TakesOrFaults (E.taken err.old) (E.taken err.new) (E.faults err.old) (E.faults err.new) (fault_line fault) }
+    ensures { TakesOrFaults (E.sure err.old) (E.taken err.old) (E.taken err.new) (E.faults err.old) (E.faults err.new) (fault_line fault) }
 {
     let mut buffer = Buffer::new();
     tell_pieces(
@@ -154,7 +154,7 @@ fn word_for_work_count(rule: WorkRule) -> &'static [u8]
 }
 
 fn tell_work_fault<E: Sink>(err: &mut E, fault: WorkFault)
-    ensures { TakesOrFaults (E.taken err.old) (E.taken err.new) (E.faults err.old) (E.faults err.new) (work_fault_line fault) }
+    ensures { TakesOrFaults (E.sure err.old) (E.taken err.old) (E.taken err.new) (E.faults err.old) (E.faults err.new) (work_fault_line fault) }
 {
     let mut buffer = Buffer::new();
     tell_pieces(
@@ -172,7 +172,7 @@ fn tell_work_fault<E: Sink>(err: &mut E, fault: WorkFault)
 
 /// Writes the status's line.
 pub fn tell<E: Sink>(err: &mut E, status: Status)
-    ensures { TakesOrFaults (E.taken err.old) (E.taken err.new) (E.faults err.old) (E.faults err.new) (line_of status) }
+    ensures { TakesOrFaults (E.sure err.old) (E.taken err.old) (E.taken err.new) (E.faults err.old) (E.faults err.new) (line_of status) }
 {
     match status {
         Status::Done => tell_pieces(err, &[]),

@@ -1,54 +1,64 @@
 //! The commands that run a workload.
-ghost use Rattle.std.specs.Prelude.{◌≡◌, ◌+◌, ℕ, List, IfOk, OnOk, IfErr, IsErrOf, Some, Err};
+ghost use Rattle.std.specs.Prelude.{◌≡◌, ◌+◌, ◌∷◌, [], ℕ, List, OnOk, IfErr, Some};
 ghost use Rattle.sdd_base.specs.declared.files.ShelfFile.{ShelfFile};
 ghost use Rattle.sdd_base.specs.Outside.{Rose};
-ghost use Rattle.sdd_catalog.specs.declared.fault.CatFault.{CatFault};
-ghost use Rattle.sdd_script.specs.declared.fault.WorkFault.{WorkFault};
-ghost use Rattle.sdd_app.specs.Answer.{AnswersWorkload, HasFiles, HasFaultyWorkload, IsUnbuiltWorkload, TwoAtTheirEnds, IsSerialError, catalogue_named};
+ghost use Rattle.sdd_app.specs.Answer.{ComesToPlain, ComesToRun, HasFiles, OverCatalogue};
+ghost use Rattle.sdd_app.specs.Endings.{FilesRead, ToItsEnd};
+ghost use Rattle.sdd_app.specs.Reach.{IsFirstCatalogue};
+ghost use Rattle.sdd_app.specs.Verdict.{Answers, ComesOfFiles};
 
 use crate::catalogue_file::accepted_catalogue;
-use crate::reach::Reach;
+use crate::reach::{is_first_catalogue, is_first_workload};
 use crate::serially::serial_text;
 use crate::status::Status;
 use crate::workload_file::accepted_workload;
 use sdd_base::Shelf;
 use std::alloc::Global;
 
-/// What a command answers that goes so far, over the catalogue in the first file and the workload in
-/// the second.
-pub fn workload_answer<S: Shelf>(
+/// What `plain` answers over the catalogue in the first file and the workload in the second.
+pub fn plain_answer<S: Shelf>(
     alloc: Global,
     shelf: &mut S,
     catalogue: &str,
     workload: &str,
-    reach: Reach,
 ) -> Result<Vec<u8>, Status>
-    ensures text { IfOk result (λ v. (fs : List ShelfFile) → S.files shelf.old ≡ Some fs → AnswersWorkload fs reach catalogue.now workload.now v.items) }
-    ensures bad { (f : CatFault) → IsErrOf result (Status.BadCatalogue f) → (fs : List ShelfFile) → S.files shelf.old ≡ Some fs → catalogue_named fs catalogue.now ≡ Some (Err f) }
-    ensures bad_workload { (f : WorkFault) → IsErrOf result (Status.BadWorkload f) → (fs : List ShelfFile) → S.files shelf.old ≡ Some fs → HasFaultyWorkload fs reach catalogue.now workload.now f }
-    ensures ended { OnOk result (TwoAtTheirEnds (S.is_open shelf.old) (S.is_open shelf.new) (S.unread shelf.new)) }
-    ensures unbuilt { IsErrOf result Status.Unbuilt → (fs : List ShelfFile) → S.files shelf.old ≡ Some fs → IsUnbuiltWorkload fs reach catalogue.now workload.now }
-    ensures fault { IsErrOf result Status.ReadFault → Rose (S.faults shelf.old) (S.faults shelf.new) }
-    ensures errors { IfErr result IsSerialError }
-    ensures surely { (free : ℕ) (fs : List ShelfFile) → S.sure shelf.old (free + 1 + 1) → S.files shelf.old ≡ Some fs → HasFiles fs catalogue.now workload.now
-        → IsErrOf result Status.ReadFault → ⊥ }
+    ensures told { (fs : List ShelfFile) → S.files shelf.old ≡ Some fs
+        → Answers result (λ v. v.items) (OverCatalogue fs catalogue.now (ComesToPlain fs workload.now)) }
+    ensures ended { OnOk result (FilesRead (S.is_open shelf.old) (S.is_open shelf.new) (S.unread shelf.new) (ToItsEnd ∷ ToItsEnd ∷ [])) }
+    ensures fault { IfErr result (λ s. s ≡ Status.ReadFault → Rose (S.faults shelf.old) (S.faults shelf.new)) }
+    ensures errors { IfErr result ComesOfFiles }
+    ensures surely { (free : ℕ) (fs : List ShelfFile) → S.sure shelf.old (free + 1 + 1) → S.files shelf.old ≡ Some fs
+        → HasFiles fs catalogue.now workload.now (λ _. Unit {0})
+        → IfErr result (λ s. s ≡ Status.ReadFault → ⊥) × (S.faults shelf.new ≡ S.faults shelf.old) }
 {
-    let catalogue = match accepted_catalogue(alloc, shelf, catalogue) {
-        Ok(catalogue) => catalogue,
-        Err(status) => return Err(status),
-    };
-    if !reach.takes_catalogue(&catalogue) {
+    let catalogue = accepted_catalogue(alloc, shelf, catalogue)?;
+    let work = accepted_workload(alloc, shelf, workload, &catalogue)?;
+    Ok(serial_text(alloc, &catalogue, &work)?)
+}
+
+/// What `run` answers, which doesn't take all of them.
+pub fn run_answer<S: Shelf>(
+    alloc: Global,
+    shelf: &mut S,
+    catalogue: &str,
+    workload: &str,
+) -> Result<Vec<u8>, Status>
+    ensures told { (fs : List ShelfFile) → S.files shelf.old ≡ Some fs
+        → Answers result (λ v. v.items) (OverCatalogue fs catalogue.now (ComesToRun fs workload.now)) }
+    ensures ended { OnOk result (FilesRead (S.is_open shelf.old) (S.is_open shelf.new) (S.unread shelf.new) (ToItsEnd ∷ ToItsEnd ∷ [])) }
+    ensures fault { IfErr result (λ s. s ≡ Status.ReadFault → Rose (S.faults shelf.old) (S.faults shelf.new)) }
+    ensures errors { IfErr result ComesOfFiles }
+    ensures surely { (free : ℕ) (fs : List ShelfFile) → S.sure shelf.old (free + 1 + 1) → S.files shelf.old ≡ Some fs
+        → HasFiles fs catalogue.now workload.now IsFirstCatalogue
+        → IfErr result (λ s. s ≡ Status.ReadFault → ⊥) × (S.faults shelf.new ≡ S.faults shelf.old) }
+{
+    let catalogue = accepted_catalogue(alloc, shelf, catalogue)?;
+    if !is_first_catalogue(&catalogue) {
         return Err(Status::Unbuilt);
     }
-    let work = match accepted_workload(alloc, shelf, workload, &catalogue) {
-        Ok(work) => work,
-        Err(status) => return Err(status),
-    };
-    if !reach.takes_workload(&work) {
+    let work = accepted_workload(alloc, shelf, workload, &catalogue)?;
+    if !is_first_workload(&work) {
         return Err(Status::Unbuilt);
     }
-    match serial_text(alloc, &catalogue, &work) {
-        Ok(text) => Ok(text),
-        Err(_) => Err(Status::NoMemory),
-    }
+    Ok(serial_text(alloc, &catalogue, &work)?)
 }

@@ -1,4 +1,6 @@
 //! One call of the program, and what it answers.
+ghost use Rattle.std.specs.Prelude.{◌≡◌, IsTrue};
+
 use crate::case::{Case, Taking};
 use crate::text::{Text, front};
 use anyhow::{Result, anyhow};
@@ -24,7 +26,11 @@ pub struct Answer {
 
 impl Answer {
     /// Whether the other call ended with the same status and both sinks took the same.
-    pub fn is_same(&self, other: &Self) -> bool {
+    pub fn is_same(&self, other: &Self) -> bool
+        ensures status { IsTrue result → self.now.status ≡ other.now.status }
+        ensures out { IsTrue result → self.now.out.sink.taken ≡ other.now.out.sink.taken }
+        ensures err { IsTrue result → self.now.err.sink.taken ≡ other.now.err.sink.taken }
+    {
         self.status == other.status
             && self.out.taken() == other.out.taken()
             && self.err.taken() == other.err.taken()

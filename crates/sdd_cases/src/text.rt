@@ -1,4 +1,6 @@
 //! Named texts, and the lines that spell them.
+ghost use Rattle.std.specs.Prelude.{◌≡◌, ◌++◌, ◌∷◌, [], OnOk};
+
 use anyhow::{Context, Result, bail};
 use std::alloc::Global;
 
@@ -40,9 +42,7 @@ impl Text {
 
     fn add_piece(&mut self, alloc: Global, piece: &str) -> Result<()> {
         if let Some(line) = piece.strip_prefix("|") {
-            self.bytes.extend_from_slice(line.as_bytes())?;
-            self.bytes.push(b'\n')?;
-            return Ok(());
+            return add_line(&mut self.bytes, line);
         }
         if let Some(text) = piece.strip_prefix(">") {
             self.bytes.extend_from_slice(text.as_bytes())?;
@@ -62,6 +62,15 @@ impl Text {
     pub fn lines(&self) -> usize {
         self.bytes.iter().filter(|byte| **byte == b'\n').count()
     }
+}
+
+/// Adds a line with its end.
+fn add_line(bytes: &mut Vec<u8>, line: &str) -> Result<()>
+    ensures { OnOk result (bytes.new.items ≡ bytes.old.items ++ line.now ++ 10 ∷ []) }
+{
+    bytes.extend_from_slice(line.as_bytes())?;
+    bytes.push(b'\n')?;
+    Ok(())
 }
 
 /// The count and the line of `N LINE`.

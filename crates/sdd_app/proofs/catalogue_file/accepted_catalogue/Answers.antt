@@ -1,27 +1,38 @@
-use Rattle.std.proofs.Common.{◌≡◌, ◌∙◌, ◌^◌, Some, Ok, Result, ap}
-use Rattle.sdd_base.specs.Outside.{find_file}
-use Rattle.sdd_catalog.specs.Catalogue.{Catalogue}
-use Rattle.sdd_catalog.specs.declared.fault.CatFault.{CatFault}
+use Rattle.std.proofs.Common.{◌≡◌, ◌^◌, Ok, Some}
+use Rattle.std.proofs.lemmas.Result.{err_from_is_err_and}
 use Rattle.sdd_catread.specs.Reading.{catalogue_in}
+use Rattle.sdd_app.specs.Answer.{BlamesCatalogue, catalogue_named}
+use Rattle.sdd_app.specs.Verdict.{Explains}
 use Rattle.sdd_app.specs.declared.status.Status.TheVariants.{ReadFault}
-use Rattle.sdd_app.proofs.FileReads.{read_gives, accepted_gives, long_catalogues, accepted_small, on_ok_by, err_again}
+use Rattle.sdd_app.proofs.FileReads.{catalogue_gives, accepted_small, on_ok_by, if_err_more}
+use Rattle.sdd_app.proofs.Verdicts.{explains_more}
 use Rattle.sdd_app.proofs.catalogue_file.accepted_catalogue.Goals as goal
 
-pub returns-in-Err-clause-surely : goal.returns-in-Err-clause-surely
-returns-in-Err-clause-surely g c = λ free fs sure told some.
-    let k = c.in-Err.ensures.surely free fs sure told some in
-    (λ is. k.0 (err_again c.in-Err.status ReadFault is), k.1)
+pub returns-in_err-bytes-clause-told : goal.returns-in_err-bytes-clause-told
+returns-in_err-bytes-clause-told g c = λ fs told.
+    let p = err_from_is_err_and c.from_residual.result c.from_residual.ensures.1 in
+    rw (p.1, p.2) (explains_more c.in_err-bytes.field-0.0 (λ _. ⊥) (BlamesCatalogue (catalogue_named fs c.args.name.now)) (λ v no. absurd no) c.in_err-bytes.ensures.silent)
 
-pub returns-clause-accepted : goal.returns-clause-accepted
-returns-clause-accepted g c =
-    accepted_gives (2 ^ 20) catalogue_in long_catalogues c.judged.result c.as_slice.result.now (g.S.Shelf.files c.args.shelf.now) c.args.name.now c.judged.ensures.accepted (λ fs told. rw c.as_slice.ensures.value (c.in-Ok.ensures.read fs told))
+pub returns-in_err-bytes-clause-surely : goal.returns-in_err-bytes-clause-surely
+returns-in_err-bytes-clause-surely g c = λ free fs sure told some.
+    let p = err_from_is_err_and c.from_residual.result c.from_residual.ensures.1 in
+    rw (p.1, p.2) (c.in_err-bytes.ensures.surely free fs sure told some)
 
-pub returns-clause-bad : goal.returns-clause-bad
-returns-clause-bad g c = λ f is fs told.
-    read_gives (2 ^ 20) catalogue_in long_catalogues (find_file fs c.args.name.now) c.as_slice.result.now (rw c.as_slice.ensures.value (c.in-Ok.ensures.read fs told)) ∙ ap (λ (r : Result Catalogue CatFault). Some r) (c.judged.ensures.bad f is)
+pub returns-clause-told : goal.returns-clause-told
+returns-clause-told g c = λ fs told.
+    catalogue_gives c.judged.result fs c.args.name.now c.as_slice.result.now (rw c.as_slice.ensures.value (c.in_ok-bytes.ensures.read fs told)) c.judged.ensures.told
 
 pub returns-clause-ended : goal.returns-clause-ended
 returns-clause-ended g c =
-    let e = c.in-Ok.ensures.ended in
-    on_ok_by c.judged.result (λ cat. catalogue_in c.as_slice.result.now ≡ Ok cat) _ c.judged.ensures.accepted
-    (λ cat ok. record { file = e.0; fresh = e.1; opened = e.2; ended = e.3 (rw (← c.as_slice.ensures.value) (accepted_small c.as_slice.result.now cat ok)) })
+    let e = c.in_ok-bytes.ensures.ended in
+    let bytes = c.as_slice.result.now in
+    on_ok_by c.judged.result (λ cat. catalogue_in bytes ≡ Ok cat) (λ s. Explains s (BlamesCatalogue (Some (catalogue_in bytes)))) _ c.judged.ensures.told
+    (λ cat ok. (e.0, record { fresh = e.1; opened = e.2; ended = e.3 (rw (← c.as_slice.ensures.value) (accepted_small bytes cat ok)) }))
+
+pub returns-clause-fault : goal.returns-clause-fault
+returns-clause-fault g c = if_err_more c.judged.result (λ s. s ≡ ReadFault → ⊥) _ c.judged.ensures.read (λ s no is. absurd (no is))
+
+pub returns-clause-surely : goal.returns-clause-surely
+returns-clause-surely g c = λ free fs sure told some.
+    let k = c.in_ok-bytes.ensures.surely free fs sure told some in
+    (c.judged.ensures.read, k.1, k.2)

@@ -1,6 +1,35 @@
-use Rattle.sdd_app.specs.declared.status.Status.TheVariants.{ReadFault}
-use Rattle.sdd_app.proofs.FileReads.{err_again}
+use Rattle.std.proofs.lemmas.Result.{err_from_is_err_and}
+use Rattle.sdd_app.specs.Answer.{BlamesCatalogue, ComesToListing, OverCatalogue, catalogue_named}
+use Rattle.sdd_app.specs.Verdict.{Prints}
+use Rattle.sdd_app.proofs.Verdicts.{explains_more, blamed, goes_on, one_ended}
 use Rattle.sdd_app.proofs.listing.listing_answer.Goals as goal
 
-pub returns-in-Err-clause-surely : goal.returns-in-Err-clause-surely
-returns-in-Err-clause-surely g c = λ free fs sure told some is. (c.in-Err.ensures.surely free fs sure told some).0 (err_again c.in-Err.status ReadFault is)
+pub returns-in_err-catalogue-clause-told : goal.returns-in_err-catalogue-clause-told
+returns-in_err-catalogue-clause-told g c = λ fs told.
+    let p = err_from_is_err_and c.from_residual.result c.from_residual.ensures.1 in
+    let name = c.args.catalogue.now in
+    let lists = ComesToListing c.args.listing in
+    rw (p.1, p.2) (explains_more c.in_err-catalogue.field-0.0 (BlamesCatalogue (catalogue_named fs name)) (OverCatalogue fs name lists) (λ v is. blamed fs name lists v is) (c.in_err-catalogue.ensures.told fs told))
+
+pub returns-in_err-catalogue-clause-surely : goal.returns-in_err-catalogue-clause-surely
+returns-in_err-catalogue-clause-surely g c = λ free fs sure told some.
+    let p = err_from_is_err_and c.from_residual.result c.from_residual.ensures.1 in
+    let k = c.in_err-catalogue.ensures.surely free fs sure told some in
+    rw (p.1, p.2) (k.0, k.2)
+
+pub returns-clause-told : goal.returns-clause-told
+returns-clause-told g c = λ fs told.
+    goes_on fs c.args.catalogue.now (ComesToListing c.args.listing) c.in_ok-catalogue.catalogue (Prints c.in_ok-listed.field-0.items) (c.in_ok-catalogue.ensures.told fs told) c.in_ok-listed.ensures
+
+pub returns-clause-ended : goal.returns-clause-ended
+returns-clause-ended g c = let e = c.in_ok-catalogue.ensures.ended in one_ended _ _ _ e.0 e.1
+
+pub returns-in_err-listed-clause-surely : goal.returns-in_err-listed-clause-surely
+returns-in_err-listed-clause-surely g c = λ free fs sure told some.
+    let p = err_from_is_err_and c.from_residual-in_err-listed.result c.from_residual-in_err-listed.ensures.1 in
+    let k = c.in_ok-catalogue.ensures.surely free fs sure told some in
+    rw (p.1, p.2) (λ is. absurd cc, k.2)
+
+pub returns-clause-surely : goal.returns-clause-surely
+returns-clause-surely g c = λ free fs sure told some.
+    let k = c.in_ok-catalogue.ensures.surely free fs sure told some in (tt, k.2)

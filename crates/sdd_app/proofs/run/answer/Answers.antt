@@ -1,38 +1,44 @@
-use Rattle.std.proofs.Common.{◌+◌}
-use Rattle.sdd_app.proofs.Runs.{unbuilt_run, unbuilt_plain, check_files, graph_files, table_files, run_files, plain_files}
+use Rattle.std.proofs.Common.{◌≡◌, map, string_bytes, subst, refl, ap}
+use Rattle.sdd_app.specs.Answer.{ComesTo, FilesAreThere}
+use Rattle.sdd_app.specs.Command.{form_of}
+use Rattle.sdd_app.specs.Endings.{AtTheirEnds, OpensNoFile}
+use Rattle.sdd_app.specs.Verdict.{ComesOfFiles}
+use Rattle.sdd_app.specs.declared.status.Status.TheVariants.{Done, WriteFault}
+use Rattle.sdd_app.proofs.FileReads.{if_err_more, not_usage}
+use Rattle.sdd_app.proofs.Forms.{no_form, found_form}
+use Rattle.sdd_app.proofs.Verdicts.{words_answer}
 use Rattle.sdd_app.proofs.run.answer.Goals as goal
 
-pub returns-in-Some-Check-clause-surely : goal.returns-in-Some-Check-clause-surely
-returns-in-Some-Check-clause-surely g c = λ free fs form sure told is files fails.
-    let words = (rw c.in-Some-Check.field-0-is at c.in-Some-Check.ensures.found).1 in
-    c.listing_answer.ensures.surely (free + 1) fs sure told (check_files fs _ c.in-Some-Check.catalogue.now form words is files) fails
+pub returns-in-None-clause-told : goal.returns-in-None-clause-told
+returns-in-None-clause-told g c = λ fs told. rw (no_form (map string_bytes c.args.words.now) c.in-None.ensures.none) refl
 
-pub returns-in-Some-Graph-clause-surely : goal.returns-in-Some-Graph-clause-surely
-returns-in-Some-Graph-clause-surely g c = λ free fs form sure told is files fails.
-    let words = (rw c.in-Some-Graph.field-0-is at c.in-Some-Graph.ensures.found).1 in
-    c.listing_answer-in-Some-Graph.ensures.surely (free + 1) fs sure told (graph_files fs _ c.in-Some-Graph.catalogue.now form words is files) fails
+pub returns-in-Some-clause-told : goal.returns-in-Some-clause-told
+returns-in-Some-clause-told g c = λ fs told.
+    let found = c.in-Some.ensures.found in
+    let words = map string_bytes c.args.words.now in
+    let form = form_of c.in-Some.command in
+    words_answer c.carried_out.result (λ v. v.items) fs words form (found_form words form found.0 found.1) (c.carried_out.ensures.told fs told)
 
-pub returns-in-Some-Table-clause-surely : goal.returns-in-Some-Table-clause-surely
-returns-in-Some-Table-clause-surely g c = λ free fs form sure told is files fails.
-    let words = (rw c.in-Some-Table.field-0-is at c.in-Some-Table.ensures.found).1 in
-    c.listing_answer-in-Some-Table.ensures.surely (free + 1) fs sure told (table_files fs _ c.in-Some-Table.catalogue.now form words is files) fails
+pub returns-in-Some-clause-ended : goal.returns-in-Some-clause-ended
+returns-in-Some-clause-ended g c =
+    let found = c.in-Some.ensures.found in
+    rw (found_form (map string_bytes c.args.words.now) (form_of c.in-Some.command) found.0 found.1) c.carried_out.ensures.ended
 
-pub returns-in-Some-Run-clause-unbuilt : goal.returns-in-Some-Run-clause-unbuilt
-returns-in-Some-Run-clause-unbuilt g c = λ is fs told.
-    let words = (rw c.in-Some-Run.field-0-is at c.in-Some-Run.ensures.found).1 in
-    unbuilt_run fs _ c.in-Some-Run.catalogue.now c.in-Some-Run.workload.now words (c.workload_answer.ensures.unbuilt is fs told)
+pub returns-in-Some-clause-usage : goal.returns-in-Some-clause-usage
+returns-in-Some-clause-usage g c =
+    let found = c.in-Some.ensures.found in
+    (λ is. absurd (not_usage c.carried_out.result c.carried_out.ensures.errors is), λ none. absurd (none (form_of c.in-Some.command) found.0 found.1))
 
-pub returns-in-Some-Run-clause-surely : goal.returns-in-Some-Run-clause-surely
-returns-in-Some-Run-clause-surely g c = λ free fs form sure told is files fails.
-    let words = (rw c.in-Some-Run.field-0-is at c.in-Some-Run.ensures.found).1 in
-    c.workload_answer.ensures.surely free fs sure told (run_files fs _ c.in-Some-Run.catalogue.now c.in-Some-Run.workload.now form words is files) fails
+pub returns-in-Some-clause-errors : goal.returns-in-Some-clause-errors
+returns-in-Some-clause-errors g c =
+    if_err_more c.carried_out.result ComesOfFiles _ c.carried_out.ensures.errors (λ s files. (λ is. subst ComesOfFiles is files, λ is. subst ComesOfFiles is files))
 
-pub returns-in-Some-Plain-clause-unbuilt : goal.returns-in-Some-Plain-clause-unbuilt
-returns-in-Some-Plain-clause-unbuilt g c = λ is fs told.
-    let words = (rw c.in-Some-Plain.field-0-is at c.in-Some-Plain.ensures.found).1 in
-    unbuilt_plain fs _ c.in-Some-Plain.catalogue.now c.in-Some-Plain.workload.now words (c.workload_answer-in-Some-Plain.ensures.unbuilt is fs told)
+pub returns-in-Some-clause-untouched : goal.returns-in-Some-clause-untouched
+returns-in-Some-clause-untouched g c = λ none.
+    let found = c.in-Some.ensures.found in
+    c.carried_out.ensures.untouched (rw (found_form (map string_bytes c.args.words.now) (form_of c.in-Some.command) found.0 found.1) at none)
 
-pub returns-in-Some-Plain-clause-surely : goal.returns-in-Some-Plain-clause-surely
-returns-in-Some-Plain-clause-surely g c = λ free fs form sure told is files fails.
-    let words = (rw c.in-Some-Plain.field-0-is at c.in-Some-Plain.ensures.found).1 in
-    c.workload_answer-in-Some-Plain.ensures.surely free fs sure told (plain_files fs _ c.in-Some-Plain.catalogue.now c.in-Some-Plain.workload.now form words is files) fails
+pub returns-in-Some-clause-surely : goal.returns-in-Some-clause-surely
+returns-in-Some-clause-surely g c = λ free fs sure told there.
+    let found = c.in-Some.ensures.found in
+    c.carried_out.ensures.surely free fs sure told (rw (found_form (map string_bytes c.args.words.now) (form_of c.in-Some.command) found.0 found.1) at there)

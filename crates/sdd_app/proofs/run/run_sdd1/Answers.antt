@@ -1,65 +1,65 @@
-use Rattle.std.proofs.Common.{inr}
-use Rattle.sdd_app.proofs.Runs.{fails_by_memory, tells_fault, tells_work_fault, answered_without_fault, answered_without_work_fault, answer_files, fault_files, work_fault_files}
+use Rattle.std.proofs.Common.{◌≡◌, map, string_bytes, subst}
+use Rattle.sdd_app.specs.Answer.{ComesTo}
+use Rattle.sdd_app.specs.Verdict.{Prints, Explains}
+use Rattle.sdd_app.proofs.Verdicts.{told_status, files_there, prints_or_refuses}
 use Rattle.sdd_app.proofs.run.run_sdd1.Goals as goal
 
+pub returns-clause-bad_catalogue : goal.returns-clause-bad_catalogue
+returns-clause-bad_catalogue g c = λ f is fs told. subst (λ s. Explains s (ComesTo fs (map string_bytes c.args.words.now))) is (c.in-Err.ensures.told fs told)
+
+pub returns-clause-bad_workload : goal.returns-clause-bad_workload
+returns-clause-bad_workload g c = λ f is fs told. subst (λ s. Explains s (ComesTo fs (map string_bytes c.args.words.now))) is (c.in-Err.ensures.told fs told)
+
+pub returns-clause-unbuilt : goal.returns-clause-unbuilt
+returns-clause-unbuilt g c = λ is fs told. subst (λ s. Explains s (ComesTo fs (map string_bytes c.args.words.now))) is (c.in-Err.ensures.told fs told)
+
 pub returns-clause-complete : goal.returns-clause-complete
-returns-clause-complete g c = λ fs text told a shelf out.
+returns-clause-complete g c = λ fs text told comes shelf out.
     let e = c.in-Err.ensures in
-    inr (fails_by_memory _ c.in-Err.status fs _ text a (record { usage = e.usage.0; bad = λ f is. e.bad f is fs told; bad_workload = λ f is. e.bad_workload f is fs told; unbuilt = λ is. e.unbuilt is fs told; read = λ is. shelf (e.fault is); done = e.done; write = e.write }))
+    told_status c.in-Err.status fs (map string_bytes c.args.words.now) (Prints text) comes (e.told fs told) (λ is. shelf (e.fault is))
+
+pub returns-clause-refused : goal.returns-clause-refused
+returns-clause-refused g c = λ fs v told comes refusal shelf.
+    let e = c.in-Err.ensures in
+    told_status c.in-Err.status fs (map string_bytes c.args.words.now) v comes (e.told fs told) (λ is. shelf (e.fault is))
 
 pub returns-clause-surely : goal.returns-clause-surely
-returns-clause-surely g c = λ free room fs text shelf out told fits a.
+returns-clause-surely g c = λ free room fs text shelf out told fits comes.
     let e = c.in-Err.ensures in
-    inr (fails_by_memory _ c.in-Err.status fs _ text a (record { usage = e.usage.0; bad = λ f is. e.bad f is fs told; bad_workload = λ f is. e.bad_workload f is fs told; unbuilt = λ is. e.unbuilt is fs told; read = λ is. e.surely free fs a.form shelf told a.words (answer_files fs text a.form a.answers) is; done = e.done; write = e.write }))
+    let words = map string_bytes c.args.words.now in
+    told_status c.in-Err.status fs words (Prints text) comes (e.told fs told) (e.surely free fs shelf told (files_there fs words (Prints text) comes)).0
 
-pub returns-clause-faulty : goal.returns-clause-faulty
-returns-clause-faulty g c = λ fs f told h shelf.
+pub returns-clause-surely_refused : goal.returns-clause-surely_refused
+returns-clause-surely_refused g c = λ free fs v shelf told comes refusal.
     let e = c.in-Err.ensures in
-    tells_fault _ c.in-Err.status fs _ f h (record { usage = e.usage.0; bad = λ f is. e.bad f is fs told; bad_workload = λ f is. e.bad_workload f is fs told; unbuilt = λ is. e.unbuilt is fs told; read = λ is. shelf (e.fault is); done = e.done; write = e.write })
+    let words = map string_bytes c.args.words.now in
+    told_status c.in-Err.status fs words v comes (e.told fs told) (e.surely free fs shelf told (files_there fs words v comes)).0
 
-pub returns-clause-surely_faulty : goal.returns-clause-surely_faulty
-returns-clause-surely_faulty g c = λ free fs f shelf told h.
-    let e = c.in-Err.ensures in
-    tells_fault _ c.in-Err.status fs _ f h (record { usage = e.usage.0; bad = λ f is. e.bad f is fs told; bad_workload = λ f is. e.bad_workload f is fs told; unbuilt = λ is. e.unbuilt is fs told; read = λ is. e.surely free fs h.form shelf told h.words (fault_files fs f h.form h.has) is; done = e.done; write = e.write })
+pub returns-clause-shelf_still : goal.returns-clause-shelf_still
+returns-clause-shelf_still g c = λ free fs shelf told there. (c.in-Err.ensures.surely free fs shelf told there).1
 
-pub returns-clause-faulty_workload : goal.returns-clause-faulty_workload
-returns-clause-faulty_workload g c = λ fs f told h shelf.
-    let e = c.in-Err.ensures in
-    tells_work_fault _ c.in-Err.status fs _ f h (record { usage = e.usage.0; bad = λ f is. e.bad f is fs told; bad_workload = λ f is. e.bad_workload f is fs told; unbuilt = λ is. e.unbuilt is fs told; read = λ is. shelf (e.fault is); done = e.done; write = e.write })
+pub returns-in-Ok-write_text-clause-refused : goal.returns-in-Ok-write_text-clause-refused
+returns-in-Ok-write_text-clause-refused g c = λ fs v told comes refusal shelf.
+    absurd (prints_or_refuses fs (map string_bytes c.args.words.now) c.in-Ok.text.items v (c.in-Ok.ensures.told fs told) comes refusal)
 
-pub returns-clause-surely_faulty_workload : goal.returns-clause-surely_faulty_workload
-returns-clause-surely_faulty_workload g c = λ free fs f shelf told h.
-    let e = c.in-Err.ensures in
-    tells_work_fault _ c.in-Err.status fs _ f h (record { usage = e.usage.0; bad = λ f is. e.bad f is fs told; bad_workload = λ f is. e.bad_workload f is fs told; unbuilt = λ is. e.unbuilt is fs told; read = λ is. e.surely free fs h.form shelf told h.words (work_fault_files fs f h.form h.has) is; done = e.done; write = e.write })
+pub returns-in-Ok-write_text-clause-surely_refused : goal.returns-in-Ok-write_text-clause-surely_refused
+returns-in-Ok-write_text-clause-surely_refused g c = λ free fs v shelf told comes refusal.
+    absurd (prints_or_refuses fs (map string_bytes c.args.words.now) c.in-Ok.text.items v (c.in-Ok.ensures.told fs told) comes refusal)
 
-pub returns-in-Ok-write_text-clause-faulty : goal.returns-in-Ok-write_text-clause-faulty
-returns-in-Ok-write_text-clause-faulty g c = λ fs f told h shelf.
-    absurd (answered_without_fault fs _ c.in-Ok.text.items f (c.in-Ok.ensures.text fs told) h)
+pub returns-in-Ok-write_text-clause-shelf_still : goal.returns-in-Ok-write_text-clause-shelf_still
+returns-in-Ok-write_text-clause-shelf_still g c = λ free fs shelf told there. (c.in-Ok.ensures.surely free fs shelf told there).1
 
-pub returns-in-Ok-write_text-clause-surely_faulty : goal.returns-in-Ok-write_text-clause-surely_faulty
-returns-in-Ok-write_text-clause-surely_faulty g c = λ free fs f shelf told h.
-    absurd (answered_without_fault fs _ c.in-Ok.text.items f (c.in-Ok.ensures.text fs told) h)
+pub returns-in-Ok-write_text-clause-out_still : goal.returns-in-Ok-write_text-clause-out_still
+returns-in-Ok-write_text-clause-out_still g c = λ room fs sure told fits.
+    (c.write_text.ensures.surely room (rw c.as_slice.ensures.value (fits c.in-Ok.text.items (c.in-Ok.ensures.told fs told))) sure).1
 
-pub returns-in-Ok-write_text-clause-faulty_workload : goal.returns-in-Ok-write_text-clause-faulty_workload
-returns-in-Ok-write_text-clause-faulty_workload g c = λ fs f told h shelf.
-    absurd (answered_without_work_fault fs _ c.in-Ok.text.items f (c.in-Ok.ensures.text fs told) h)
+pub returns-in-Ok-clause-refused : goal.returns-in-Ok-clause-refused
+returns-in-Ok-clause-refused g c = λ fs v told comes refusal shelf.
+    absurd (prints_or_refuses fs (map string_bytes c.args.words.now) c.in-Ok.text.items v (c.in-Ok.ensures.told fs told) comes refusal)
 
-pub returns-in-Ok-write_text-clause-surely_faulty_workload : goal.returns-in-Ok-write_text-clause-surely_faulty_workload
-returns-in-Ok-write_text-clause-surely_faulty_workload g c = λ free fs f shelf told h.
-    absurd (answered_without_work_fault fs _ c.in-Ok.text.items f (c.in-Ok.ensures.text fs told) h)
+pub returns-in-Ok-clause-surely_refused : goal.returns-in-Ok-clause-surely_refused
+returns-in-Ok-clause-surely_refused g c = λ free fs v shelf told comes refusal.
+    absurd (prints_or_refuses fs (map string_bytes c.args.words.now) c.in-Ok.text.items v (c.in-Ok.ensures.told fs told) comes refusal)
 
-pub returns-in-Ok-clause-faulty : goal.returns-in-Ok-clause-faulty
-returns-in-Ok-clause-faulty g c = λ fs f told h shelf.
-    absurd (answered_without_fault fs _ c.in-Ok.text.items f (c.in-Ok.ensures.text fs told) h)
-
-pub returns-in-Ok-clause-surely_faulty : goal.returns-in-Ok-clause-surely_faulty
-returns-in-Ok-clause-surely_faulty g c = λ free fs f shelf told h.
-    absurd (answered_without_fault fs _ c.in-Ok.text.items f (c.in-Ok.ensures.text fs told) h)
-
-pub returns-in-Ok-clause-faulty_workload : goal.returns-in-Ok-clause-faulty_workload
-returns-in-Ok-clause-faulty_workload g c = λ fs f told h shelf.
-    absurd (answered_without_work_fault fs _ c.in-Ok.text.items f (c.in-Ok.ensures.text fs told) h)
-
-pub returns-in-Ok-clause-surely_faulty_workload : goal.returns-in-Ok-clause-surely_faulty_workload
-returns-in-Ok-clause-surely_faulty_workload g c = λ free fs f shelf told h.
-    absurd (answered_without_work_fault fs _ c.in-Ok.text.items f (c.in-Ok.ensures.text fs told) h)
+pub returns-in-Ok-clause-shelf_still : goal.returns-in-Ok-clause-shelf_still
+returns-in-Ok-clause-shelf_still g c = λ free fs shelf told there. (c.in-Ok.ensures.surely free fs shelf told there).1

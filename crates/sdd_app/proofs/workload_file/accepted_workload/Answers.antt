@@ -1,27 +1,39 @@
-use Rattle.std.proofs.Common.{◌≡◌, ◌∙◌, ◌^◌, Some, Ok, Result, ap}
-use Rattle.sdd_base.specs.Outside.{find_file}
+use Rattle.std.proofs.Common.{◌≡◌, ◌^◌, Ok, Some}
+use Rattle.std.proofs.lemmas.Result.{err_from_is_err_and}
 use Rattle.sdd_script.specs.Walk.{workload}
-use Rattle.sdd_script.specs.declared.fault.WorkFault.{WorkFault}
-use Rattle.sdd_script.specs.declared.workload.Workload.{Workload}
+use Rattle.sdd_app.specs.Answer.{BlamesWorkload, workload_named}
+use Rattle.sdd_app.specs.Verdict.{Explains}
 use Rattle.sdd_app.specs.declared.status.Status.TheVariants.{ReadFault}
-use Rattle.sdd_app.proofs.FileReads.{read_gives, accepted_gives, long_workloads, accepted_short, on_ok_by, err_again}
+use Rattle.sdd_app.proofs.FileReads.{workload_gives, accepted_short, on_ok_by, if_err_more}
+use Rattle.sdd_app.proofs.Verdicts.{explains_more}
 use Rattle.sdd_app.proofs.workload_file.accepted_workload.Goals as goal
 
-pub returns-in-Err-clause-surely : goal.returns-in-Err-clause-surely
-returns-in-Err-clause-surely g c = λ free fs sure told some is. (c.in-Err.ensures.surely free fs sure told some).0 (err_again c.in-Err.status ReadFault is)
+pub returns-in_err-bytes-clause-told : goal.returns-in_err-bytes-clause-told
+returns-in_err-bytes-clause-told g c = λ fs told.
+    let p = err_from_is_err_and c.from_residual.result c.from_residual.ensures.1 in
+    rw (p.1, p.2) (explains_more c.in_err-bytes.field-0.0 (λ _. ⊥) (BlamesWorkload (workload_named fs c.args.catalogue.now c.args.name.now)) (λ v no. absurd no) c.in_err-bytes.ensures.silent)
 
-pub returns-clause-accepted : goal.returns-clause-accepted
-returns-clause-accepted g c =
-    accepted_gives (2 ^ 26) (workload c.args.catalogue.now) (long_workloads c.args.catalogue.now) c.judged.result c.as_slice.result.now (g.S.Shelf.files c.args.shelf.now) c.args.name.now c.judged.ensures.accepted
-    (λ fs told. rw c.as_slice.ensures.value (c.in-Ok.ensures.read fs told))
+pub returns-in_err-bytes-clause-surely : goal.returns-in_err-bytes-clause-surely
+returns-in_err-bytes-clause-surely g c = λ free fs sure told some.
+    let p = err_from_is_err_and c.from_residual.result c.from_residual.ensures.1 in
+    rw (p.1, p.2) (c.in_err-bytes.ensures.surely free fs sure told some)
 
-pub returns-clause-bad : goal.returns-clause-bad
-returns-clause-bad g c = λ f is fs told.
-    read_gives (2 ^ 26) (workload c.args.catalogue.now) (long_workloads c.args.catalogue.now) (find_file fs c.args.name.now) c.as_slice.result.now (rw c.as_slice.ensures.value (c.in-Ok.ensures.read fs told))
-    ∙ ap (λ (r : Result Workload WorkFault). Some r) (c.judged.ensures.bad f is)
+pub returns-clause-told : goal.returns-clause-told
+returns-clause-told g c = λ fs told.
+    workload_gives c.judged.result fs c.args.catalogue.now c.args.name.now c.as_slice.result.now (rw c.as_slice.ensures.value (c.in_ok-bytes.ensures.read fs told)) c.judged.ensures.told
 
 pub returns-clause-ended : goal.returns-clause-ended
 returns-clause-ended g c =
-    let e = c.in-Ok.ensures.ended in
-    on_ok_by c.judged.result (λ w. workload c.args.catalogue.now c.as_slice.result.now ≡ Ok w) _ c.judged.ensures.accepted
-    (λ w ok. record { file = e.0; fresh = e.1; opened = e.2; ended = e.3 (rw (← c.as_slice.ensures.value) (accepted_short c.args.catalogue.now c.as_slice.result.now w ok)) })
+    let e = c.in_ok-bytes.ensures.ended in
+    let bytes = c.as_slice.result.now in
+    let cat = c.args.catalogue.now in
+    on_ok_by c.judged.result (λ w. workload cat bytes ≡ Ok w) (λ s. Explains s (BlamesWorkload (Some (workload cat bytes)))) _ c.judged.ensures.told
+    (λ w ok. (e.0, record { fresh = e.1; opened = e.2; ended = e.3 (rw (← c.as_slice.ensures.value) (accepted_short cat bytes w ok)) }))
+
+pub returns-clause-fault : goal.returns-clause-fault
+returns-clause-fault g c = if_err_more c.judged.result (λ s. s ≡ ReadFault → ⊥) _ c.judged.ensures.read (λ s no is. absurd (no is))
+
+pub returns-clause-surely : goal.returns-clause-surely
+returns-clause-surely g c = λ free fs sure told some.
+    let k = c.in_ok-bytes.ensures.surely free fs sure told some in
+    (c.judged.ensures.read, k.1, k.2)

@@ -1,0 +1,226 @@
+-- What a call comes to, from what was read of its files; that it comes to one status.
+use Rattle.std.proofs.Common.{◌≡◌, ℕ, List, [], ◌∷◌, Bool, true, false, cond, Option, Some, None, Result, Ok, Err, refl, ap, sym, ◌∙◌, subst, ◌⊎◌, inl, inr}
+use Rattle.std.specs.Prelude.{IsSome, IfSome, IsErrOf, IfErr, MatchOption, MatchResult}
+use Rattle.std.specs.Option.{option_map}
+use Rattle.sdd_base.specs.declared.files.ShelfFile.{ShelfFile}
+use Rattle.sdd_base.specs.Outside.{KeepsOpen, find_file}
+use Rattle.sdd_catalog.specs.Catalogue.{Catalogue}
+use Rattle.sdd_catalog.specs.declared.fault.CatFault.{CatFault}
+use Rattle.sdd_catread.specs.Reading.{catalogue_in}
+use Rattle.sdd_script.specs.Walk.{workload}
+use Rattle.sdd_script.specs.declared.fault.WorkFault.{WorkFault}
+use Rattle.sdd_script.specs.declared.workload.Workload.{Workload}
+use Rattle.sdd_app.specs.Answer.{catalogue_named, workload_named, OverCatalogue, ComesToListing, plain_verdict, ComesToPlain, run_verdict, ComesToRun, FormComesTo, ComesTo, HasFiles, FilesOf, FilesAreThere, BlamesCatalogue, BlamesWorkload}
+use Rattle.sdd_app.specs.Command.{Form, Check, Graph, Table, Run, Plain, Make, form_in}
+use Rattle.sdd_app.specs.Endings.{FilesRead, IsRead, ToItsEnd}
+use Rattle.sdd_app.specs.Listing.{Tells}
+use Rattle.sdd_app.specs.Reach.{IsFirstCatalogue, is_first_workload}
+use Rattle.sdd_app.specs.Serially.{serial_text}
+use Rattle.sdd_app.specs.Verdict.{Verdict, NoForm, Prints, FaultyCatalogue, FaultyWorkload, NotBuilt, status_of, IsRefusal, Explains, Answers}
+use Rattle.sdd_app.specs.declared.listing.Listing.{Listing}
+use Rattle.sdd_app.specs.declared.listing.Listing.TheVariants as listings
+use Rattle.sdd_app.specs.declared.status.Status.{Status}
+use Rattle.sdd_app.specs.declared.status.Status.TheVariants.{Done, Usage, BadCatalogue, BadWorkload, ReadFault, WriteFault, NoMemory, Unbuilt}
+
+-- a status tells what follows from what it tells
+pub explains_more : (s : Status) (P Q : Verdict → Type 0) → ((v : Verdict) → P v → Q v) → Explains s P → Explains s Q
+explains_more Done P Q more e = e
+explains_more Usage P Q more e = more NoForm e
+explains_more (BadCatalogue f) P Q more e = more (FaultyCatalogue f) e
+explains_more (BadWorkload f) P Q more e = more (FaultyWorkload f) e
+explains_more ReadFault P Q more e = tt
+explains_more WriteFault P Q more e = e
+explains_more NoMemory P Q more e = tt
+explains_more Unbuilt P Q more e = more NotBuilt e
+
+-- what is read of the catalogue's file is what the command comes to
+
+abbrev Over : Option (Result Catalogue CatFault) → (Catalogue → Verdict → Type 0) → Verdict → Type 0
+Over reading GoesOn verdict = MatchOption reading ⊥ (λ r. MatchResult r (λ cat. GoesOn cat verdict) (λ fault. verdict ≡ FaultyCatalogue fault))
+
+blamed_at : (reading : Option (Result Catalogue CatFault)) (G : Catalogue → Verdict → Type 0) (v : Verdict) → BlamesCatalogue reading v → Over reading G v
+blamed_at reading G (FaultyCatalogue f) e = subst (λ r. Over r G (FaultyCatalogue f)) (sym e) refl
+blamed_at reading G NoForm e = absurd e
+blamed_at reading G (Prints text) e = absurd e
+blamed_at reading G (FaultyWorkload f) e = absurd e
+blamed_at reading G NotBuilt e = absurd e
+
+pub blamed : (fs : List ShelfFile) (name : List ℕ) (G : Catalogue → Verdict → Type 0) (v : Verdict) → BlamesCatalogue (catalogue_named fs name) v → OverCatalogue fs name G v
+blamed fs name G v e = blamed_at (catalogue_named fs name) G v e
+
+pub goes_on : (fs : List ShelfFile) (name : List ℕ) (G : Catalogue → Verdict → Type 0) (cat : Catalogue) (v : Verdict) → catalogue_named fs name ≡ Some (Ok cat) → G cat v → OverCatalogue fs name G v
+goes_on fs name G cat v e g = subst (λ r. Over r G v) (sym e) g
+
+over_at : (reading : Option (Result Catalogue CatFault)) (G : Catalogue → Verdict → Type 0) (cat : Catalogue) (v : Verdict) → Over reading G v → reading ≡ Some (Ok cat) → G cat v
+over_at reading G cat v over e = subst (λ r. Over r G v) e over
+
+-- a faulty workload is what `plain` comes to, and `run`
+pub blamed_plain : (fs : List ShelfFile) (work : List ℕ) (cat : Catalogue) (v : Verdict) → BlamesWorkload (workload_named fs cat work) v → ComesToPlain fs work cat v
+blamed_plain fs work cat (FaultyWorkload f) e = ap (λ r. option_map (plain_verdict cat) r) e
+blamed_plain fs work cat NoForm e = absurd e
+blamed_plain fs work cat (Prints text) e = absurd e
+blamed_plain fs work cat (FaultyCatalogue f) e = absurd e
+blamed_plain fs work cat NotBuilt e = absurd e
+
+pub blamed_run : (fs : List ShelfFile) (work : List ℕ) (cat : Catalogue) (v : Verdict) → IsFirstCatalogue cat → BlamesWorkload (workload_named fs cat work) v → ComesToRun fs work cat v
+blamed_run fs work cat (FaultyWorkload f) first e = inl (first, ap (λ r. option_map (run_verdict cat) r) e)
+blamed_run fs work cat NoForm first e = absurd e
+blamed_run fs work cat (Prints text) first e = absurd e
+blamed_run fs work cat (FaultyCatalogue f) first e = absurd e
+blamed_run fs work cat NotBuilt first e = absurd e
+
+-- over a workload that was read
+pub replies_plain : (fs : List ShelfFile) (work : List ℕ) (cat : Catalogue) (w : Workload) (text : List ℕ) → workload_named fs cat work ≡ Some (Ok w) → text ≡ serial_text cat w
+    → ComesToPlain fs work cat (Prints text)
+replies_plain fs work cat w text e is = ap (λ r. option_map (plain_verdict cat) r) e ∙ ap (λ t. Some (Prints t)) (sym is)
+
+run_takes : (cat : Catalogue) (w : Workload) (b : Bool) → is_first_workload w ≡ b → run_verdict cat (Ok w) ≡ cond b (Prints (serial_text cat w)) NotBuilt
+run_takes cat w b e = rw e refl
+
+pub replies_run : (fs : List ShelfFile) (work : List ℕ) (cat : Catalogue) (w : Workload) (text : List ℕ) → IsFirstCatalogue cat → workload_named fs cat work ≡ Some (Ok w) → is_first_workload w ≡ true
+    → text ≡ serial_text cat w → ComesToRun fs work cat (Prints text)
+replies_run fs work cat w text first e takes is =
+    inl (first, ap (λ r. option_map (run_verdict cat) r) e ∙ ap (λ v. Some v) (run_takes cat w true takes) ∙ ap (λ t. Some (Prints t)) (sym is))
+
+pub other_workload : (fs : List ShelfFile) (work : List ℕ) (cat : Catalogue) (w : Workload) → IsFirstCatalogue cat → workload_named fs cat work ≡ Some (Ok w) → is_first_workload w ≡ false
+    → ComesToRun fs work cat NotBuilt
+other_workload fs work cat w first e takes =
+    inl (first, ap (λ r. option_map (run_verdict cat) r) e ∙ ap (λ v. Some v) (run_takes cat w false takes))
+
+-- what a command tells, the call of its words tells
+comes_by : (fs : List ShelfFile) (ws : List (List ℕ)) (form : Form) (v : Verdict) → form_in ws ≡ Some form → FormComesTo fs form v → ComesTo fs ws v
+comes_by fs ws form v e p = subst (λ o. MatchOption o (v ≡ NoForm) (λ f. FormComesTo fs f v)) (sym e) p
+
+pub words_answer : {T : Type 0} (r : Result T Status) (text : T → List ℕ) (fs : List ShelfFile) (ws : List (List ℕ)) (form : Form) → form_in ws ≡ Some form
+    → Answers r text (FormComesTo fs form) → Answers r text (ComesTo fs ws)
+words_answer (Ok x) text fs ws form e p = comes_by fs ws form (Prints (text x)) e p
+words_answer (Err s) text fs ws form e p = explains_more s (FormComesTo fs form) (ComesTo fs ws) (λ v q. comes_by fs ws form v e q) p
+
+-- a call comes to one status
+
+one_verdict : (told : Option Verdict) (v w : Verdict) → told ≡ Some v → told ≡ Some w → v ≡ w
+one_verdict told v w p q = cc
+
+one_listing : (listing : Listing) (cat : Catalogue) (v w : Verdict) → ComesToListing listing cat v → ComesToListing listing cat w → status_of v ≡ status_of w
+one_listing listing cat (Prints a) (Prints b) p q = refl
+one_listing listing cat (Prints a) NoForm p q = absurd q
+one_listing listing cat (Prints a) (FaultyCatalogue f) p q = absurd q
+one_listing listing cat (Prints a) (FaultyWorkload f) p q = absurd q
+one_listing listing cat (Prints a) NotBuilt p q = absurd q
+one_listing listing cat NoForm w p q = absurd p
+one_listing listing cat (FaultyCatalogue f) w p q = absurd p
+one_listing listing cat (FaultyWorkload f) w p q = absurd p
+one_listing listing cat NotBuilt w p q = absurd p
+
+one_plain : (fs : List ShelfFile) (work : List ℕ) (cat : Catalogue) (v w : Verdict) → ComesToPlain fs work cat v → ComesToPlain fs work cat w → status_of v ≡ status_of w
+one_plain fs work cat v w p q = ap status_of (one_verdict (option_map (plain_verdict cat) (workload_named fs cat work)) v w p q)
+
+one_run : (fs : List ShelfFile) (work : List ℕ) (cat : Catalogue) (v w : Verdict) → ComesToRun fs work cat v → ComesToRun fs work cat w → status_of v ≡ status_of w
+one_run fs work cat v w (inl p) (inl q) = ap status_of (one_verdict (option_map (run_verdict cat) (workload_named fs cat work)) v w p.1 q.1)
+one_run fs work cat v w (inl p) (inr q) = absurd (q.0 p.0)
+one_run fs work cat v w (inr p) (inl q) = absurd (p.0 q.0)
+one_run fs work cat v w (inr p) (inr q) = ap status_of (p.1 ∙ sym q.1)
+
+one_over : (reading : Option (Result Catalogue CatFault)) (G : Catalogue → Verdict → Type 0) (v w : Verdict) → ((cat : Catalogue) → G cat v → G cat w → status_of v ≡ status_of w)
+    → Over reading G v → Over reading G w → status_of v ≡ status_of w
+one_over None G v w one p q = absurd p
+one_over (Some (Ok cat)) G v w one p q = one cat p q
+one_over (Some (Err f)) G v w one p q = ap status_of (p ∙ sym q)
+
+one_of_form : (fs : List ShelfFile) (form : Form) (v w : Verdict) → FormComesTo fs form v → FormComesTo fs form w → status_of v ≡ status_of w
+one_of_form fs (Check cat) v w p q = one_over (catalogue_named fs cat) (ComesToListing listings.Counts) v w (λ c a b. one_listing listings.Counts c v w a b) p q
+one_of_form fs (Graph cat) v w p q = one_over (catalogue_named fs cat) (ComesToListing listings.Graph) v w (λ c a b. one_listing listings.Graph c v w a b) p q
+one_of_form fs (Table cat) v w p q = one_over (catalogue_named fs cat) (ComesToListing listings.Table) v w (λ c a b. one_listing listings.Table c v w a b) p q
+one_of_form fs (Run cat work) v w p q = one_over (catalogue_named fs cat) (ComesToRun fs work) v w (λ c a b. one_run fs work c v w a b) p q
+one_of_form fs (Plain cat work) v w p q = one_over (catalogue_named fs cat) (ComesToPlain fs work) v w (λ c a b. one_plain fs work c v w a b) p q
+one_of_form fs (Make seed count) v w p q = ap status_of (p ∙ sym q)
+
+one_of_words : (fs : List ShelfFile) (form : Option Form) (v w : Verdict) → MatchOption form (v ≡ NoForm) (λ f. FormComesTo fs f v) → MatchOption form (w ≡ NoForm) (λ f. FormComesTo fs f w)
+    → status_of v ≡ status_of w
+one_of_words fs None v w p q = ap status_of (p ∙ sym q)
+one_of_words fs (Some form) v w p q = one_of_form fs form v w p q
+
+pub one_status : (fs : List ShelfFile) (ws : List (List ℕ)) (v w : Verdict) → ComesTo fs ws v → ComesTo fs ws w → status_of v ≡ status_of w
+one_status fs ws v w p q = one_of_words fs (form_in ws) v w p q
+
+-- a call that printed no text told what it comes to, unless the shelf failed or memory ran out
+by_status : (s : Status) (P : Verdict → Type 0) (v : Verdict) → ((w : Verdict) → P w → status_of w ≡ status_of v) → Explains s P → (s ≡ ReadFault → ⊥) → (s ≡ status_of v) ⊎ (s ≡ NoMemory)
+by_status Done P v one e read = absurd e
+by_status Usage P v one e read = inl (one NoForm e)
+by_status (BadCatalogue f) P v one e read = inl (one (FaultyCatalogue f) e)
+by_status (BadWorkload f) P v one e read = inl (one (FaultyWorkload f) e)
+by_status ReadFault P v one e read = absurd (read refl)
+by_status WriteFault P v one e read = absurd e
+by_status NoMemory P v one e read = inr refl
+by_status Unbuilt P v one e read = inl (one NotBuilt e)
+
+pub told_status : (s : Status) (fs : List ShelfFile) (ws : List (List ℕ)) (v : Verdict) → ComesTo fs ws v → Explains s (ComesTo fs ws) → (s ≡ ReadFault → ⊥) → (s ≡ status_of v) ⊎ (s ≡ NoMemory)
+told_status s fs ws v comes e read = by_status s (ComesTo fs ws) v (λ w p. one_status fs ws w v p comes) e read
+
+done_refuses : (v : Verdict) → IsRefusal v → Done ≡ status_of v → ⊥
+done_refuses NoForm r e = absurd cc
+done_refuses (Prints text) r e = r
+done_refuses (FaultyCatalogue f) r e = absurd cc
+done_refuses (FaultyWorkload f) r e = absurd cc
+done_refuses NotBuilt r e = absurd cc
+
+-- a call that prints isn't refused
+pub prints_or_refuses : (fs : List ShelfFile) (ws : List (List ℕ)) (text : List ℕ) (v : Verdict) → ComesTo fs ws (Prints text) → ComesTo fs ws v → IsRefusal v → ⊥
+prints_or_refuses fs ws text v p q r = done_refuses v r (one_status fs ws (Prints text) v p q)
+
+-- the files of a call that comes to something are there
+
+file_there : {A : Type 0} (give : List ℕ → A) (G : A → Type 0) (file : Option (List ℕ)) → MatchOption (option_map give file) ⊥ G → IsSome file
+file_there give G None p = absurd p
+file_there give G (Some bytes) p = refl
+
+over_there : (fs : List ShelfFile) (name : List ℕ) (G : Catalogue → Verdict → Type 0) (v : Verdict) → OverCatalogue fs name G v → IsSome (find_file fs name)
+over_there fs name G v p = file_there catalogue_in (λ r. MatchResult r (λ cat. G cat v) (λ fault. v ≡ FaultyCatalogue fault)) (find_file fs name) p
+
+work_there : {A : Type 0} (give : List ℕ → A) (verdict : A → Verdict) (v : Verdict) (file : Option (List ℕ)) → option_map verdict (option_map give file) ≡ Some v → IsSome file
+work_there give verdict v None e = absurd cc
+work_there give verdict v (Some bytes) e = refl
+
+run_there : (fs : List ShelfFile) (work : List ℕ) (cat : Catalogue) (v : Verdict) → IsFirstCatalogue cat → ComesToRun fs work cat v → IsSome (find_file fs work)
+run_there fs work cat v first (inl p) = work_there (workload cat) (run_verdict cat) v (find_file fs work) p.1
+run_there fs work cat v first (inr p) = absurd (p.0 first)
+
+form_there : (fs : List ShelfFile) (form : Form) (v : Verdict) → FormComesTo fs form v → FilesOf fs form
+form_there fs (Check cat) v p = over_there fs cat (ComesToListing listings.Counts) v p
+form_there fs (Graph cat) v p = over_there fs cat (ComesToListing listings.Graph) v p
+form_there fs (Table cat) v p = over_there fs cat (ComesToListing listings.Table) v p
+form_there fs (Run cat work) v p = (
+      over_there fs cat (ComesToRun fs work) v p,
+      λ says e first. run_there fs work says v first (over_at (catalogue_named fs cat) (ComesToRun fs work) says v p e),
+    )
+form_there fs (Plain cat work) v p = (
+      over_there fs cat (ComesToPlain fs work) v p,
+      λ says e _. work_there (workload says) (plain_verdict says) v (find_file fs work) (over_at (catalogue_named fs cat) (ComesToPlain fs work) says v p e),
+    )
+form_there fs (Make seed count) v p = tt
+
+words_there : (fs : List ShelfFile) (form : Option Form) (v : Verdict) → MatchOption form (v ≡ NoForm) (λ f. FormComesTo fs f v) → MatchOption form (Unit {0}) (FilesOf fs)
+words_there fs None v p = tt
+words_there fs (Some form) v p = form_there fs form v p
+
+pub files_there : (fs : List ShelfFile) (ws : List (List ℕ)) (v : Verdict) → ComesTo fs ws v → FilesAreThere fs ws
+files_there fs ws v p = words_there fs (form_in ws) v p
+
+-- two files that were opened one after the other and read to their ends
+pub two_ended : (was between now : ℕ → Type 0) (unread_between unread_now was_unread : ℕ → Option (List ℕ)) (f g : ℕ)
+    → IsRead was between unread_between ToItsEnd f → KeepsOpen (λ _. Unit {0}) was between was_unread unread_between
+    → IsRead between now unread_now ToItsEnd g → KeepsOpen (λ _. Unit {0}) between now unread_between unread_now
+    → FilesRead was now unread_now (ToItsEnd ∷ ToItsEnd ∷ [])
+two_ended was between now unread_between unread_now was_unread f g first keep1 second keep2 =
+    let later = keep2 f tt first.opened in
+    record {
+      files = f ∷ g ∷ [];
+      read = (
+        record { fresh = first.fresh; opened = later.0; ended = rw later.1 first.ended },
+        ((λ same. second.fresh (subst between same first.opened)), tt),
+        (record { fresh = λ was_g. second.fresh (keep1 g tt was_g).0; opened = second.opened; ended = second.ended }, tt, tt),
+      );
+    }
+
+pub one_ended : (was now : ℕ → Type 0) (unread : ℕ → Option (List ℕ)) (f : ℕ) → IsRead was now unread ToItsEnd f → FilesRead was now unread (ToItsEnd ∷ [])
+one_ended was now unread f first = record { files = f ∷ []; read = (first, tt, tt) }

@@ -1,0 +1,25 @@
+use Rattle.std.proofs.Common.{◌≡◌, sym, subst}
+use Rattle.sdd_app.specs.Answer.{FormComesTo}
+use Rattle.sdd_app.specs.Command.{form_of}
+use Rattle.sdd_app.specs.Verdict.{Answers}
+use Rattle.sdd_app.proofs.run.carried_out.Goals as goal
+
+pub returns-in-Check-clause-told : goal.returns-in-Check-clause-told
+returns-in-Check-clause-told g c = λ fs told.
+    subst (λ command. Answers c.listing_answer.result (λ v. v.items) (FormComesTo fs (form_of command))) (sym c.in-Check.is) (c.listing_answer.ensures.told fs told)
+
+pub returns-in-Graph-clause-told : goal.returns-in-Graph-clause-told
+returns-in-Graph-clause-told g c = λ fs told.
+    subst (λ command. Answers c.listing_answer-in-Graph.result (λ v. v.items) (FormComesTo fs (form_of command))) (sym c.in-Graph.is) (c.listing_answer-in-Graph.ensures.told fs told)
+
+pub returns-in-Table-clause-told : goal.returns-in-Table-clause-told
+returns-in-Table-clause-told g c = λ fs told.
+    subst (λ command. Answers c.listing_answer-in-Table.result (λ v. v.items) (FormComesTo fs (form_of command))) (sym c.in-Table.is) (c.listing_answer-in-Table.ensures.told fs told)
+
+pub returns-in-Run-clause-told : goal.returns-in-Run-clause-told
+returns-in-Run-clause-told g c = λ fs told.
+    subst (λ command. Answers c.run_answer.result (λ v. v.items) (FormComesTo fs (form_of command))) (sym c.in-Run.is) (c.run_answer.ensures.told fs told)
+
+pub returns-in-Plain-clause-told : goal.returns-in-Plain-clause-told
+returns-in-Plain-clause-told g c = λ fs told.
+    subst (λ command. Answers c.plain_answer.result (λ v. v.items) (FormComesTo fs (form_of command))) (sym c.in-Plain.is) (c.plain_answer.ensures.told fs told)
