@@ -7,6 +7,7 @@ use Rattle.std.specs.Fmt.{decimal}
 use Rattle.std.proofs.lemmas.Bool.{eqb-true, ltb-true, lt-ltb}
 use Rattle.std.proofs.lemmas.Str.{IsUtf8-append, IsUtf8-from_ascii}
 use Rattle.std.proofs.lemmas.Str.Ascii.{IsAscii-cons, IsAscii-nil}
+use Rattle.sdd_base.specs.Numbers.{tm_no}
 use Rattle.sdd_base.specs.declared.limits.TheConstants.{MAX_PLACE, MAX_TICKS}
 use Rattle.sdd_base.specs.Sites.{are_linked}
 use Rattle.sdd_base.specs.declared.event.Event.{Event}
@@ -25,7 +26,7 @@ use Rattle.sdd_words.specs.Words.{HasNoSpace, IsPlain}
 use Rattle.sdd_words.specs.declared.word.Word.{Word}
 use Rattle.sdd_words.specs.declared.word.Word.TheVariants.{Plain, Quoted}
 use Rattle.sdd_words.proofs.Numbers.{number_takes, number_again}
-use Rattle.sdd_script.specs.Occurrences.{from_one, numbered, tm_no, site_in, site_of, module_of, tm_of, link_of, count_of, flight_place, resend_of, tick_of, settle_of}
+use Rattle.sdd_script.specs.Occurrences.{from_one, numbered, site_in, site_of, module_of, tm_of, link_of, count_of, flight_place, resend_of, tick_of, settle_of}
 use Rattle.sdd_script.specs.Spelling.{site_word, count_word}
 use Rattle.sdd_script.specs.Valid.{IsSite, IsLink}
 use Rattle.sdd_script.specs.declared.fault.WorkRule.{WorkRule}

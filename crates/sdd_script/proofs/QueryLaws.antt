@@ -4,6 +4,7 @@ use Rattle.std.specs.Prelude.{codes, nat_le, nat_lt}
 use Rattle.std.specs.List.{AllByRecursion, list_all}
 use Rattle.std.proofs.lemmas.Bool.{ltb-true, lt-ltb}
 use Rattle.std.proofs.lemmas.List.Elements.{All-from_recursion, recursion_from_All}
+use Rattle.sdd_base.specs.Numbers.{rel_no}
 use Rattle.sdd_base.specs.declared.limits.TheConstants.{MAX_STATEMENTS, MAX_USES, MAX_CONDITIONS, MAX_OUTPUT_COLUMNS, MAX_ASSIGNMENTS}
 use Rattle.sdd_base.specs.declared.number.RelNo.{RelNo}
 use Rattle.sdd_base.specs.declared.value.Value.{Value}
@@ -26,7 +27,7 @@ use Rattle.sdd_script.specs.Naming.{name_of_relation, relation_of}
 use Rattle.sdd_script.specs.Spelling.{relation_word, column_word, row_words, condition_words, conditions_words, where_words, statement_words}
 use Rattle.sdd_script.specs.Statements.{put_of, listed_column, part_in, parts_of, query_over, query_of_parts, query_behind_from, query_of}
 use Rattle.sdd_script.specs.Valid.{IsValue, HoldsValue, HoldsValues}
-use Rattle.sdd_script.specs.Values.{rel_no, row_of}
+use Rattle.sdd_script.specs.Values.{row_of}
 use Rattle.sdd_script.specs.declared.fault.Counts.TheVariants as counts
 use Rattle.sdd_script.specs.declared.fault.WorkRule.{WorkRule}
 use Rattle.sdd_script.specs.declared.fault.WorkRule.TheVariants.{BadLine, UnknownName, TooMany}

@@ -4,6 +4,7 @@ use Rattle.std.specs.Prelude.{◌==◌}
 use Rattle.std.specs.List.{AllByRecursion, list_all}
 use Rattle.std.proofs.lemmas.Bool.{eqb-true, eq-eqb}
 use Rattle.std.proofs.lemmas.List.{length-map}
+use Rattle.sdd_base.specs.Numbers.{rel_no}
 use Rattle.sdd_base.specs.declared.number.RelNo.{RelNo}
 use Rattle.sdd_base.specs.declared.value.Value.{Value}
 use Rattle.sdd_catalog.specs.Catalogue.{Catalogue}
@@ -16,7 +17,7 @@ use Rattle.sdd_words.specs.declared.word.Word.{Word}
 use Rattle.sdd_script.specs.Naming.{columns_of, name_of_relation, relation_of}
 use Rattle.sdd_script.specs.Spelling.{relation_word, row_words}
 use Rattle.sdd_script.specs.Valid.{IsValue}
-use Rattle.sdd_script.specs.Values.{rel_no, row_of, values_of}
+use Rattle.sdd_script.specs.Values.{row_of, values_of}
 use Rattle.sdd_script.specs.declared.fault.WorkRule.TheVariants.{UnknownName, WrongKind}
 use Rattle.sdd_base.proofs.ReadingLaws.{bind_ok, ok_is}
 use Rattle.sdd_script.proofs.StepLaws.{must_then, known_then, both_are, two_same}

@@ -4,6 +4,7 @@ use Rattle.std.specs.Prelude.{codes}
 use Rattle.std.specs.Fmt.{signed_decimal}
 use Rattle.std.specs.List.{AllByRecursion}
 use Rattle.std.proofs.lemmas.List.Elements.{All-from_recursion, recursion_from_All}
+use Rattle.sdd_base.specs.Numbers.{rel_no}
 use Rattle.sdd_base.specs.declared.number.RelNo.{RelNo}
 use Rattle.sdd_catalog.specs.Catalogue.{Catalogue}
 use Rattle.sdd_lang.specs.Fits.{IsRelation, FitsCondition, FitsAssign, FitsStatement}
@@ -25,7 +26,6 @@ use Rattle.sdd_script.specs.Naming.{name_of_relation, relation_of}
 use Rattle.sdd_script.specs.Spelling.{relation_word, column_word, own_column, where_words, sets_words}
 use Rattle.sdd_script.specs.Statements.{assign_of, update_of_parts, update_behind_set, update_of, delete_of}
 use Rattle.sdd_script.specs.Valid.{HoldsValue, AssignsValue, HoldsValues}
-use Rattle.sdd_script.specs.Values.{rel_no}
 use Rattle.sdd_script.specs.declared.fault.WorkRule.TheVariants.{BadLine, UnknownName}
 use Rattle.sdd_base.proofs.ReadingLaws.{bind_ok, ok_is}
 use Rattle.sdd_script.proofs.StepLaws.{must_then, known_then, both_hold, both_are, two_same}

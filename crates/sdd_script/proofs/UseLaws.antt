@@ -9,6 +9,7 @@ use Rattle.std.proofs.lemmas.Bool.{ltb-true, lt-ltb, ne_eqb}
 use Rattle.std.proofs.lemmas.Slice.Eq.{bytes_eq-Decides}
 use Rattle.std.proofs.lemmas.Option.{slice_get-get_or}
 use Rattle.std.proofs.lemmas.List.Quantifiers.{position-Some}
+use Rattle.sdd_base.specs.Numbers.{rel_no}
 use Rattle.sdd_base.specs.Name.{is_name}
 use Rattle.sdd_catalog.specs.Catalogue.{Catalogue, kind_at}
 use Rattle.sdd_catalog.specs.declared.parts.Kind.TheVariants.{Int}
@@ -25,7 +26,6 @@ use Rattle.sdd_words.proofs.Numbers.{number_takes, number_again}
 use Rattle.sdd_script.specs.Columns.{Parts, use_in, use_at, use_numbered, column_in, column_of_use}
 use Rattle.sdd_script.specs.Naming.{columns_of, name_of_relation, relation_named, relation_of, column_named, kind_of_place}
 use Rattle.sdd_script.specs.Spelling.{relation_word, name_of_column}
-use Rattle.sdd_script.specs.Values.{rel_no}
 use Rattle.sdd_script.specs.declared.fault.WorkRule.TheVariants.{BadNumber, UnknownName}
 use Rattle.sdd_script.specs.declared.found.Found.{Found}
 use Rattle.sdd_base.proofs.ReadingLaws.{ok_is}

@@ -7,6 +7,7 @@ use Rattle.std.specs.List.{All, AllByRecursion, position, filter_map, list_any}
 use Rattle.std.proofs.lemmas.Bool.{lt-ltb, le-ltb}
 use Rattle.std.proofs.lemmas.List.{map-append, length-append, length-map, get_or-map}
 use Rattle.std.proofs.lemmas.List.Elements.{recursion_from_All, All-get_or}
+use Rattle.sdd_base.specs.Numbers.{txn_no}
 use Rattle.sdd_base.specs.declared.limits.TheConstants.{MAX_EVENTS, MAX_WORKLOAD_BYTES}
 use Rattle.sdd_base.specs.Name.{is_name}
 use Rattle.sdd_base.specs.declared.event.Event.{Event}
@@ -29,7 +30,7 @@ use Rattle.sdd_words.specs.declared.word.Word.TheVariants.{Plain}
 use Rattle.sdd_words.proofs.Spelled.{cut_again}
 use Rattle.sdd_base.specs.declared.site.Site.{Site}
 use Rattle.sdd_script.specs.LineRules.{is_submitted, with_submitted, with_event, event_rules}
-use Rattle.sdd_script.specs.Occurrences.{txn_no, number_named, txn_named, submit_of, deliver_of, lose_of, repeat_of, resend_of, tick_of, settle_of}
+use Rattle.sdd_script.specs.Occurrences.{number_named, txn_named, submit_of, deliver_of, lose_of, repeat_of, resend_of, tick_of, settle_of}
 use Rattle.sdd_script.specs.Places.{takes_txns, takes_events, is_ended}
 use Rattle.sdd_script.specs.Spelling.{start_words, event_words, end_words, name_of_txn, txn_lines, site_word, count_word, lines_of, spelling}
 use Rattle.sdd_script.specs.Valid.{IsValidRow, IsValidTxn, IsValidEvent, IsValid, rows_put_by, submitted_by, AreDistinct}

@@ -2,19 +2,19 @@
 use Rattle.std.specs.Prelude.{◌≡◌, ℕ, pos, negsuc, [], ◌∷◌, codes, Ok, Err, Result, refl}
 use Rattle.std.specs.Fmt.{digits}
 use Rattle.std.specs.Str.{is_utf8, chars}
+use Rattle.sdd_base.specs.Numbers.{tm_no, dm_no, frag_no, rel_no}
 use Rattle.sdd_catalog.specs.Catalogue.{Catalogue}
 use Rattle.sdd_catalog.specs.declared.parts.Kind.TheVariants as kinds
 use Rattle.sdd_lang.specs.Uses.{all_keys}
 use Rattle.sdd_words.specs.Lines.{cut_lines}
 use Rattle.sdd_words.specs.Number.{number_of}
 use Rattle.sdd_words.specs.Scan.{scan}
-use Rattle.sdd_base.specs.Readings.{along}
 use Rattle.sdd_words.specs.Forms.{comparisons, settings}
 use Rattle.sdd_script.specs.LineRules.{line_rules}
 use Rattle.sdd_script.specs.Statements.{query_over, update_of_parts}
 use Rattle.sdd_base.specs.declared.value.Value.TheVariants.{Int}
 use Rattle.sdd_script.specs.Spelling.{spelling}
-use Rattle.sdd_script.specs.Values.{rel_no, row_of}
+use Rattle.sdd_script.specs.Values.{row_of}
 use Rattle.sdd_script.specs.Walk.{walk, workload}
 use Rattle.sdd_script.specs.declared.fault.WorkFault.{WorkFault}
 use Rattle.sdd_script.specs.declared.fault.WorkRule.{WorkRule}
@@ -31,8 +31,8 @@ accounts =
         columns = record { name = codes "id"; kind = kinds.Int } ∷ record { name = codes "bal"; kind = kinds.Int } ∷ [];
         key = 1;
       } ∷ [];
-      fragments = record { name = codes "all"; rel = 1; least = all_keys.0; greatest = all_keys.1; copies = 1 ∷ [] } ∷ [];
-      classes = record { name = codes "own"; tm = 1; reads = (1, 1) ∷ []; writes = 1 ∷ [] } ∷ [];
+      fragments = record { name = codes "all"; rel = rel_no 1; least = all_keys.0; greatest = all_keys.1; copies = dm_no 1 ∷ [] } ∷ [];
+      classes = record { name = codes "own"; tm = tm_no 1; reads = record { fragment = frag_no 1; at = dm_no 1 } ∷ []; writes = frag_no 1 ∷ [] } ∷ [];
     }
 
 abbrev pub at : ℕ → WorkRule → Result Workload WorkFault

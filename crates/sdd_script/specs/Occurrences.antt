@@ -1,8 +1,9 @@
 -- Events, by the words behind the first word of their lines.
-use Rattle.std.specs.Prelude.{ℕ, ◌+◌, ◌^◌, ℤ, pos, nat_lt, nat_le, ◌==◌, ◌&&◌, List, [], ◌∷◌, length, Option, Some, None, Result, Ok, Err, if◌then◌else◌}
+use Rattle.std.specs.Prelude.{ℕ, ◌+◌, ℤ, pos, nat_lt, nat_le, ◌==◌, ◌&&◌, List, [], ◌∷◌, length, Option, Some, None, Result, Ok, Err, if◌then◌else◌}
 use Rattle.std.specs.Option.{option_map}
 use Rattle.std.specs.List.{position}
 use Rattle.std.specs.Str.{bytes_eq}
+use Rattle.sdd_base.specs.Numbers.{tm_no, txn_no}
 use Rattle.sdd_base.specs.Sites.{are_linked}
 use Rattle.sdd_base.specs.declared.event.Event.{Event}
 use Rattle.sdd_base.specs.declared.event.Event.TheVariants.{Submit, Deliver, Lose, Repeat, Resend, Tick, Settle}
@@ -30,9 +31,6 @@ from_one most _ = None
 
 abbrev pub numbered : ℕ → List ℕ → Option ℕ
 numbered most digits = from_one most (number_of digits)
-
-abbrev pub tm_no : ℕ → TmNo
-tm_no n = record { 0 = n }
 
 -- U, T and a number, or D and a number: a site that is there
 abbrev pub site_in : Catalogue → List ℕ → Option Site
@@ -96,9 +94,6 @@ repeat_of cat words = do
 -- the number of the transaction with a name
 abbrev pub number_named : List (List ℕ) → List ℕ → Option ℕ
 number_named names name = option_map (λ place. place + 1) (position (bytes_eq name) names)
-
-abbrev pub txn_no : ℕ → TxnNo
-txn_no n = record { 0 = n }
 
 abbrev pub txn_named : List (List ℕ) → Word → Result TxnNo WorkRule
 txn_named names (Plain bytes) = do

@@ -10,7 +10,6 @@ use Rattle.sdd_base.specs.declared.restriction.Op.TheVariants.{Eq}
 use Rattle.sdd_base.specs.declared.site.Site.{Site}
 use Rattle.sdd_base.specs.declared.site.Site.TheVariants.{U, T, D}
 use Rattle.sdd_base.specs.declared.value.Value.{Value}
-use Rattle.sdd_base.specs.declared.value.Value.TheVariants as values
 use Rattle.sdd_catalog.specs.Catalogue.{Catalogue}
 use Rattle.sdd_catalog.specs.declared.resolved.Column.{Column}
 use Rattle.sdd_lang.specs.Fits.{rel_of}
@@ -26,7 +25,7 @@ use Rattle.sdd_words.specs.Values.{value_word}
 use Rattle.sdd_words.specs.Keywords.{op_word}
 use Rattle.sdd_words.specs.Words.{line_bytes}
 use Rattle.sdd_words.specs.declared.word.Word.{Word}
-use Rattle.sdd_words.specs.declared.word.Word.TheVariants.{Plain, Quoted}
+use Rattle.sdd_words.specs.declared.word.Word.TheVariants.{Plain}
 use Rattle.sdd_script.specs.Naming.{columns_of, name_of_relation}
 use Rattle.sdd_script.specs.declared.workload.Workload.{Workload}
 

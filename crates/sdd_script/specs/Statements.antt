@@ -1,5 +1,6 @@
 -- Statements, by the words behind the first word of their lines.
 use Rattle.std.specs.Prelude.{ℕ, ℤ, ◌==◌, ◌&&◌, not, List, [], ◌∷◌, map, codes, Some, Result, Ok, Err, if◌then◌else◌, Option}
+use Rattle.sdd_base.specs.Numbers.{rel_no}
 use Rattle.sdd_base.specs.declared.number.RelNo.{RelNo}
 use Rattle.sdd_base.specs.declared.value.Value.{Value}
 use Rattle.sdd_catalog.specs.Catalogue.{Catalogue}
@@ -18,7 +19,7 @@ use Rattle.sdd_words.specs.declared.form.Setting.{Setting}
 use Rattle.sdd_words.specs.declared.word.Word.{Word}
 use Rattle.sdd_words.specs.declared.word.Word.TheVariants.{Plain, Quoted}
 use Rattle.sdd_script.specs.Naming.{key_of, relation_of}
-use Rattle.sdd_script.specs.Values.{is_of_kind, value_of, rel_no, row_of}
+use Rattle.sdd_script.specs.Values.{is_of_kind, value_of, row_of}
 use Rattle.sdd_script.specs.Columns.{Parts, column_of_use, conditions_of}
 use Rattle.sdd_script.specs.declared.fault.WorkRule.{WorkRule}
 use Rattle.sdd_script.specs.declared.fault.WorkRule.TheVariants.{BadLine, BadNumber, UnknownName, WrongKind, KeyChanged}

@@ -1,5 +1,6 @@
 -- Values and rows, by their words.
-use Rattle.std.specs.Prelude.{ℕ, List, length, ◌==◌, Bool, true, false, Option, Some, None, Result, Ok}
+use Rattle.std.specs.Prelude.{List, length, ◌==◌, Bool, true, false, Option, Some, None, Result, Ok}
+use Rattle.sdd_base.specs.Numbers.{rel_no}
 use Rattle.sdd_base.specs.declared.number.RelNo.{RelNo}
 use Rattle.sdd_base.specs.declared.value.Value.{Value}
 use Rattle.sdd_base.specs.declared.value.Value.TheVariants as values
@@ -37,9 +38,6 @@ value_of kind (Quoted bytes) = do
 -- each value by its column; one past the last column may be of any kind
 abbrev pub values_of : List Column → List Word → Result (List Value) WorkRule
 values_of columns words = along (λ i w. value_of (kind_of_place columns i) w) 0 words
-
-abbrev pub rel_no : ℕ → RelNo
-rel_no n = record { 0 = n }
 
 -- a relation and a row of it: a value for each column
 unfoldable pub row_of : Catalogue → Word → List Word → Result (RelNo × List Value) WorkRule
