@@ -3,6 +3,7 @@ use Rattle.std.proofs.Common.{◌≡◌, ℕ, ◌^◌, ◌<◌, ◌≤◌, List,
 use Rattle.std.proofs.lemmas.Bool.{cases_lt, lt-ltb}
 use Rattle.std.specs.Prelude.{IsSome, IfSome, IfErr, IsErrOf, OnOk, MatchResult, take, ◌+◌, nat_lt, true}
 use Rattle.std.specs.Option.{option_map}
+use Rattle.sdd_base.specs.declared.limits.TheConstants.{MAX_CATALOGUE_BYTES, MAX_WORKLOAD_BYTES}
 use Rattle.sdd_base.specs.Outside.{ReadsTo, find_file}
 use Rattle.sdd_base.specs.declared.files.ShelfFile.{ShelfFile}
 use Rattle.sdd_app.specs.Answer.{BlamesCatalogue, BlamesWorkload, catalogue_named, workload_named}
@@ -19,16 +20,16 @@ use Rattle.sdd_script.specs.declared.fault.WorkRule.TheVariants as work_rules
 use Rattle.sdd_script.specs.declared.workload.Workload.{Workload}
 
 -- more than 1 MiB are too long
-pub too_long : (bytes : List ℕ) → 2 ^ 20 < length bytes → catalogue_in bytes ≡ Err (broken top TooLong)
+pub too_long : (bytes : List ℕ) → MAX_CATALOGUE_BYTES < length bytes → catalogue_in bytes ≡ Err (broken top TooLong)
 unfolding catalogue_in parts_in
 too_long bytes long =
-    let yes : nat_lt (2 ^ 20) (length bytes) ≡ true = lt-ltb (2 ^ 20) (length bytes) long in
+    let yes : nat_lt MAX_CATALOGUE_BYTES (length bytes) ≡ true = lt-ltb MAX_CATALOGUE_BYTES (length bytes) long in
     rw yes refl
 
 -- an accepted file has at most 1 MiB
-pub accepted_small : (bytes : List ℕ) (cat : Catalogue) → catalogue_in bytes ≡ Ok cat → length bytes ≤ 2 ^ 20
+pub accepted_small : (bytes : List ℕ) (cat : Catalogue) → catalogue_in bytes ≡ Ok cat → length bytes ≤ MAX_CATALOGUE_BYTES
 accepted_small bytes cat ok =
-    elim (cases_lt (2 ^ 20) (length bytes)) [
+    elim (cases_lt MAX_CATALOGUE_BYTES (length bytes)) [
       | inl past ↦ let bad = too_long bytes past in absurd cc
       | inr within ↦ omega arith
     ]
@@ -50,38 +51,38 @@ read_gives limit give alike file read r =
     ]
 
 -- catalogues past their limit are alike, and so are workloads
-pub long_catalogues : (a b : List ℕ) → 2 ^ 20 < length a → 2 ^ 20 < length b → catalogue_in a ≡ catalogue_in b
+pub long_catalogues : (a b : List ℕ) → MAX_CATALOGUE_BYTES < length a → MAX_CATALOGUE_BYTES < length b → catalogue_in a ≡ catalogue_in b
 long_catalogues a b la lb = too_long a la ∙ sym (too_long b lb)
 
-long_workload : (cat : Catalogue) (bytes : List ℕ) → 2 ^ 26 < length bytes → workload cat bytes ≡ Err (record { line = 0; rule = work_rules.TooLong })
-long_workload cat bytes long = let yes : nat_lt (2 ^ 26) (length bytes) ≡ true = lt-ltb (2 ^ 26) (length bytes) long in rw yes refl
+long_workload : (cat : Catalogue) (bytes : List ℕ) → MAX_WORKLOAD_BYTES < length bytes → workload cat bytes ≡ Err (record { line = 0; rule = work_rules.TooLong })
+long_workload cat bytes long = let yes : nat_lt MAX_WORKLOAD_BYTES (length bytes) ≡ true = lt-ltb MAX_WORKLOAD_BYTES (length bytes) long in rw yes refl
 
-pub long_workloads : (cat : Catalogue) (a b : List ℕ) → 2 ^ 26 < length a → 2 ^ 26 < length b → workload cat a ≡ workload cat b
+pub long_workloads : (cat : Catalogue) (a b : List ℕ) → MAX_WORKLOAD_BYTES < length a → MAX_WORKLOAD_BYTES < length b → workload cat a ≡ workload cat b
 long_workloads cat a b la lb = long_workload cat a la ∙ sym (long_workload cat b lb)
 
 -- an accepted workload has at most 64 MiB
-pub accepted_short : (cat : Catalogue) (bytes : List ℕ) (w : Workload) → workload cat bytes ≡ Ok w → length bytes ≤ 2 ^ 26
+pub accepted_short : (cat : Catalogue) (bytes : List ℕ) (w : Workload) → workload cat bytes ≡ Ok w → length bytes ≤ MAX_WORKLOAD_BYTES
 accepted_short cat bytes w ok =
-    elim (cases_lt (2 ^ 26) (length bytes)) [
+    elim (cases_lt MAX_WORKLOAD_BYTES (length bytes)) [
       | inl past ↦ let bad = long_workload cat bytes past in absurd cc
       | inr within ↦ omega arith
     ]
 
 -- what the bytes were judged to give is what the file gives
 
-pub catalogue_gives : (result : Result Catalogue Status) (fs : List ShelfFile) (name bytes : List ℕ) → ReadsTo (2 ^ 20) (find_file fs name) bytes
+pub catalogue_gives : (result : Result Catalogue Status) (fs : List ShelfFile) (name bytes : List ℕ) → ReadsTo MAX_CATALOGUE_BYTES (find_file fs name) bytes
     → MatchResult result (λ cat. catalogue_in bytes ≡ Ok cat) (λ s. Explains s (BlamesCatalogue (Some (catalogue_in bytes))))
     → MatchResult result (λ cat. catalogue_named fs name ≡ Some (Ok cat)) (λ s. Explains s (BlamesCatalogue (catalogue_named fs name)))
-catalogue_gives (Ok cat) fs name bytes reads e = read_gives (2 ^ 20) catalogue_in long_catalogues (find_file fs name) bytes reads ∙ ap (λ r. Some r) e
+catalogue_gives (Ok cat) fs name bytes reads e = read_gives MAX_CATALOGUE_BYTES catalogue_in long_catalogues (find_file fs name) bytes reads ∙ ap (λ r. Some r) e
 catalogue_gives (Err s) fs name bytes reads e =
-    subst (λ r. Explains s (BlamesCatalogue r)) (sym (read_gives (2 ^ 20) catalogue_in long_catalogues (find_file fs name) bytes reads)) e
+    subst (λ r. Explains s (BlamesCatalogue r)) (sym (read_gives MAX_CATALOGUE_BYTES catalogue_in long_catalogues (find_file fs name) bytes reads)) e
 
-pub workload_gives : (result : Result Workload Status) (fs : List ShelfFile) (cat : Catalogue) (name bytes : List ℕ) → ReadsTo (2 ^ 26) (find_file fs name) bytes
+pub workload_gives : (result : Result Workload Status) (fs : List ShelfFile) (cat : Catalogue) (name bytes : List ℕ) → ReadsTo MAX_WORKLOAD_BYTES (find_file fs name) bytes
     → MatchResult result (λ w. workload cat bytes ≡ Ok w) (λ s. Explains s (BlamesWorkload (Some (workload cat bytes))))
     → MatchResult result (λ w. workload_named fs cat name ≡ Some (Ok w)) (λ s. Explains s (BlamesWorkload (workload_named fs cat name)))
-workload_gives (Ok w) fs cat name bytes reads e = read_gives (2 ^ 26) (workload cat) (long_workloads cat) (find_file fs name) bytes reads ∙ ap (λ r. Some r) e
+workload_gives (Ok w) fs cat name bytes reads e = read_gives MAX_WORKLOAD_BYTES (workload cat) (long_workloads cat) (find_file fs name) bytes reads ∙ ap (λ r. Some r) e
 workload_gives (Err s) fs cat name bytes reads e =
-    subst (λ r. Explains s (BlamesWorkload r)) (sym (read_gives (2 ^ 26) (workload cat) (long_workloads cat) (find_file fs name) bytes reads)) e
+    subst (λ r. Explains s (BlamesWorkload r)) (sym (read_gives MAX_WORKLOAD_BYTES (workload cat) (long_workloads cat) (find_file fs name) bytes reads)) e
 
 -- what follows where a call went well
 pub on_ok_by : {T : Type 0} (r : Result T Status) (P : T → Type 0) (Q : Status → Type 0) (R : Type 0) → MatchResult r P Q → ((v : T) → P v → R) → OnOk r R

@@ -8,13 +8,10 @@ ghost use Rattle.sdd_app.specs.Endings.{IsRead, ToItsEnd};
 ghost use Rattle.sdd_app.specs.Verdict.{ComesOfFiles, Explains};
 
 use crate::status::Status;
-use sdd_base::{Shelf, read_file};
+use sdd_base::{MAX_CATALOGUE_BYTES, Shelf, read_file};
 use sdd_catalog::Catalogue;
 use sdd_catread::read_catalogue;
 use std::alloc::Global;
-
-/// The most bytes of a catalogue.
-const CATALOGUE_LIMIT: usize = 1 << 20;
 
 /// Reads a file to its end, or one byte past the limit.
 pub fn read_named<S: Shelf>(
@@ -65,6 +62,6 @@ pub fn accepted_catalogue<S: Shelf>(
     ensures surely { (free : ℕ) (fs : List ShelfFile) → S.sure shelf.old (free + 1) → S.files shelf.old ≡ Some fs → IsSome (find_file fs name.now)
         → IfErr result (λ s. s ≡ Status.ReadFault → ⊥) × S.sure shelf.new free × (S.faults shelf.new ≡ S.faults shelf.old) }
 {
-    let bytes = read_named(alloc, shelf, name, CATALOGUE_LIMIT)?;
+    let bytes = read_named(alloc, shelf, name, MAX_CATALOGUE_BYTES)?;
     judged(alloc, bytes.as_slice())
 }

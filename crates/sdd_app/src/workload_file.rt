@@ -10,13 +10,10 @@ ghost use Rattle.sdd_app.specs.Verdict.{ComesOfFiles, Explains};
 
 use crate::catalogue_file::read_named;
 use crate::status::Status;
-use sdd_base::Shelf;
+use sdd_base::{MAX_WORKLOAD_BYTES, Shelf};
 use sdd_catalog::Catalogue;
 use sdd_script::{Workload, read_workload};
 use std::alloc::Global;
-
-/// The most bytes of a workload.
-const WORKLOAD_LIMIT: usize = 1 << 26;
 
 /// The workload that the bytes give for the catalogue.
 fn judged(alloc: Global, bytes: &[u8], catalogue: &Catalogue) -> Result<Workload, Status>
@@ -48,6 +45,6 @@ pub fn accepted_workload<S: Shelf>(
     ensures surely { (free : ℕ) (fs : List ShelfFile) → S.sure shelf.old (free + 1) → S.files shelf.old ≡ Some fs → IsSome (find_file fs name.now)
         → IfErr result (λ s. s ≡ Status.ReadFault → ⊥) × S.sure shelf.new free × (S.faults shelf.new ≡ S.faults shelf.old) }
 {
-    let bytes = read_named(alloc, shelf, name, WORKLOAD_LIMIT)?;
+    let bytes = read_named(alloc, shelf, name, MAX_WORKLOAD_BYTES)?;
     judged(alloc, bytes.as_slice(), catalogue)
 }

@@ -31,11 +31,14 @@ fn tell_spelling<R: Files + AllocGlobal, W: Write>(rt: &R, out: &mut W) -> Resul
 fn tell_parts<R: Files + AllocGlobal, W: Write>(rt: &R, out: &mut W, name: &str) -> Result<()> {
     let cat = catalogue(rt, name)?;
     let parts = cat.parts().map_err(wanting)?;
-    let again = built(rt.alloc(), &parts)?.parts().map_err(wanting)? == parts;
-    let copied = cat.copy().map_err(wanting)?.parts().map_err(wanting)? == parts;
-    let relations = parts.relations.as_slice().len();
-    writeln!(out, "parts of {name}: {relations} relations; built again {again}, copied {copied}")?;
+    let again = has_parts(&built(rt.alloc(), &parts)?, &parts)?;
+    let copied = has_parts(&cat.copy().map_err(wanting)?, &parts)?;
+    writeln!(out, "parts of {name}: built again {again}, copied {copied}")?;
     Ok(())
+}
+
+fn has_parts(cat: &Catalogue, parts: &Parts) -> Result<bool> {
+    Ok(cat.parts().map_err(wanting)? == *parts)
 }
 
 fn built(alloc: Global, parts: &Parts) -> Result<Catalogue> {

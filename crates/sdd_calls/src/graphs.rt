@@ -65,7 +65,8 @@ fn is_within(edge: (u32, u32), nodes: u32) -> bool
 fn ring(alloc: Global, count: u32) -> Result<Vec<(u32, u32)>> {
     let mut edges = Vec::new(alloc);
     for node in 0..count {
-        edges.push((node, node.wrapping_add(1) % 1000))?;
+        let next = if node < 999 { node + 1 } else { 0 };
+        edges.push((node, next))?;
     }
     Ok(edges)
 }

@@ -3,7 +3,7 @@ ghost use Rattle.std.specs.Prelude.{◌≤◌, IsTrue};
 ghost use Rattle.sdd_net.specs.Nets.{HasLink};
 
 use crate::read::wanting;
-use anyhow::{Context, Result, bail, ensure};
+use anyhow::{Context, Result, ensure};
 use sdd_base::{DmNo, Site, TmNo};
 use sdd_net::{Flight, Net, Packet, Receiver, Sender};
 use std::alloc::Global;
@@ -12,53 +12,71 @@ use std::io::Write;
 use std::rt::Files;
 
 pub fn tell_links<R: Files + AllocGlobal, W: Write>(rt: &R, out: &mut W) -> Result<()> {
-    let text = fs::read_to_string(rt, "links.txt")?;
-    let mut net = Net::<u32>::new(rt.alloc(), 1, 1).map_err(wanting)?;
-    for line in text.as_str().lines() {
-        write!(out, "{line}: ")?;
-        net = called(rt.alloc(), out, net, line)?;
-    }
+    tell_calls(rt, out)?;
     tell_sender(rt.alloc(), out)?;
     tell_receiver(rt.alloc(), out)?;
     tell_flight(rt.alloc(), out)
 }
 
+fn tell_calls<R: Files + AllocGlobal, W: Write>(rt: &R, out: &mut W) -> Result<()> {
+    let text = fs::read_to_string(rt, "links.txt")?;
+    let mut net = Net::<u32>::new(rt.alloc(), 1, 1).map_err(wanting)?;
+    for line in text.as_str().lines() {
+        writeln!(out, "{line}")?;
+        net = called(rt.alloc(), out, net, line)?;
+    }
+    Ok(())
+}
+
 /// The net after the call of a line.
 fn called<W: Write>(alloc: Global, out: &mut W, net: Net<u32>, line: &str) -> Result<Net<u32>> {
-    ensure!(net.live(), "a net that is dead");
-    match line {
-        "new" => {
-            let net = Net::<u32>::new(alloc, 2, 1).map_err(wanting)?;
-            writeln!(out, "quiet {}", net.live() && net.quiet())?;
-            Ok(net)
-        }
-        "quiet" => {
-            writeln!(out, "{}", net.quiet())?;
-            Ok(net)
-        }
-        "round" => {
-            let events = net.round().map_err(wanting)?;
-            writeln!(out, "{:?}", events.as_slice())?;
-            Ok(net)
-        }
-        _ => on_link(out, net, line),
+    if line == "new" {
+        return Net::<u32>::new(alloc, 2, 1).map_err(wanting);
+    }
+    match line.split_once(' ') {
+        None => whole(out, net, line),
+        Some((call, rest)) => on_link(out, net, call, rest),
     }
 }
 
-fn on_link<W: Write>(out: &mut W, net: Net<u32>, line: &str) -> Result<Net<u32>> {
-    let (call, rest) = line.split_once(' ').context("no call")?;
-    let (from, rest) = rest.split_once(' ').context("no site")?;
-    let (to, number) = rest.split_once(' ').unwrap_or((rest, "1"));
-    let (from, to, number) = (site(from)?, site(to)?, number.parse::<u32>()?);
+/// A call on the whole net.
+fn whole<W: Write>(out: &mut W, net: Net<u32>, line: &str) -> Result<Net<u32>> {
+    ensure!(net.live(), "a net that is dead");
+    if line == "quiet" {
+        writeln!(out, "{}", net.quiet())?;
+    } else {
+        let events = net.round().map_err(wanting)?;
+        writeln!(out, "{:?}", events.as_slice())?;
+    }
+    Ok(net)
+}
+
+/// A call on the link between two sites, with a message or a place behind them.
+fn on_link<W: Write>(out: &mut W, net: Net<u32>, call: &str, rest: &str) -> Result<Net<u32>> {
+    let (from, to, number) = link(rest)?;
     ensure!(net.live() && net.has_link(from, to), "no link");
     ensure!(number > 0, "no place");
-    match call {
-        "send" => sent(out, net, from, to, number),
-        "deliver" => delivered(out, net, from, to, number),
-        "lose" => lost(out, net, from, to, number),
-        "repeat" => repeated(out, net, from, to, number),
-        "resend" => resent(out, net, from, to),
-        _ => bail!("no such call"),
+    if call == "send" {
+        return sent(out, net, from, to, number);
+    }
+    if call == "deliver" {
+        return delivered(out, net, from, to, number);
+    }
+    if call == "lose" {
+        return lost(out, net, from, to, number);
+    }
+    if call == "repeat" {
+        return repeated(out, net, from, to, number);
+    }
+    resent(out, net, from, to)
+}
+
+/// The sites of a link, and the number behind them, 1 where there is none.
+fn link(rest: &str) -> Result<(Site, Site, u32)> {
+    let (from, rest) = rest.split_once(' ').context("no site")?;
+    match rest.split_once(' ') {
+        None => Ok((site(from)?, site(rest)?, 1)),
+        Some((to, number)) => Ok((site(from)?, site(to)?, number.parse::<u32>()?)),
     }
 }
 
@@ -141,12 +159,14 @@ fn resent<W: Write>(out: &mut W, net: Net<u32>, from: Site, to: Site) -> Result<
 }
 
 fn site(word: &str) -> Result<Site> {
-    match word {
-        "U" => Ok(Site::U),
-        "T1" => Ok(Site::T(TmNo(1))),
-        "T2" => Ok(Site::T(TmNo(2))),
-        "D1" => Ok(Site::D(DmNo(1))),
-        _ => bail!("no site"),
+    if word == "U" {
+        return Ok(Site::U);
+    }
+    let number = word.get(1..).context("no site")?.parse::<u8>()?;
+    if word.starts_with("T") {
+        Ok(Site::T(TmNo(number)))
+    } else {
+        Ok(Site::D(DmNo(number)))
     }
 }
 
