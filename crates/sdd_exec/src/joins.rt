@@ -157,11 +157,7 @@ fn take(
 
 /// Choices among which are all whose rows meet the conditions.
 #[tactic(auto, using(crate::proofs::Complete::choice_steps))]
-fn choices(
-    alloc: Global,
-    parts: &Parts,
-    conds: &[Condition],
-) -> Result<Vec<Choice>, NoMemory>
+fn choices(alloc: Global, parts: &Parts, conds: &[Condition]) -> Result<Vec<Choice>, NoMemory>
     ensures { IfOk result (λ kept. joins.HasAll parts.now conds.now kept.items) }
 {
     let mut reached = begin(alloc)?;

@@ -1,4 +1,5 @@
 pub mod Answering
 pub mod Changing
 pub mod Chosen
+pub mod Near
 pub mod Ranges

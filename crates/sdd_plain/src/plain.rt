@@ -61,8 +61,10 @@ impl Plain {
     /// Runs the transaction on the database and answers the user. A transaction that fails changes
     /// nothing.
     ///
-    /// A query costs time in the product of the rows that may stand in its parts, an update or a
-    /// delete in the rows of its relation, and a change a logarithmic step.
+    /// A query costs what `sdd_exec::join` costs over the rows that may stand in its parts. To find
+    /// these costs time in the rows of each part's relation, as it does for an update or a delete;
+    /// where a key is restricted, in the rows alone whose keys are allowed. A change costs a
+    /// logarithmic step.
     #[tactic(auto, using(sdd_lang::proofs::Sources::effect_over_database))]
     pub fn run(&mut self, cat: &Catalogue, txn: &Txn) -> Result<Reply, NoMemory>
         requires live { IsTrue self.old.live }

@@ -1,18 +1,21 @@
 //! The rows of all relations in memory.
-ghost use Rattle.std.specs.Prelude.{◌≡◌, ◌==◌, ◌+◌, [], All, IfOk, OnOk, filter};
+ghost use Rattle.std.specs.Prelude.{◌≡◌, ◌==◌, ◌&&◌, ◌-◌, [], All, IsTrue, IfOk, OnOk, filter, slice_index};
 ghost use Rattle.sdd_catalog.specs.Catalogue.{fragment_at};
-ghost use Rattle.sdd_lang.specs.Database.{with_row, without_row, rows_of, database_of};
+ghost use Rattle.sdd_lang.specs.Database.{Item, Row as OfRow, with_row, without_row, rows_of, database_of};
 ghost use Rattle.sdd_lang.specs.Serial.{changed_by, after_changes};
 ghost use Rattle.sdd_lang.specs.Source.{entries_of};
 ghost use Rattle.sdd_lang.specs.Fits.{FitsStart};
 ghost use Rattle.sdd_lang.specs.Tuples.{rows_lent, may_stand};
 ghost use Rattle.sdd_lang.specs.Update.{chosen};
+ghost use Rattle.sdd_lang.specs.Uses.{common, all_keys};
+ghost use Rattle.sdd_plain.specs.Held.{HasKey, AreNear, is_within};
 ghost use Rattle.sdd_plain.specs.Parts.{standing};
 
-use sdd_base::{Change, FragNo, NoMemory, Parcel, RelNo, Row};
+use crate::narrowing::keys_of_part;
+use sdd_base::{Change, FragNo, NoMemory, Parcel, RelNo, Row, Value};
 use sdd_catalog::Catalogue;
 use sdd_exec::Parts;
-use sdd_lang::{Condition, Entries, Entry, key_of, may_stand, meets_all};
+use sdd_lang::{Condition, Entries, Entry, Keys, key_of, may_stand, meets_all, value_in};
 use std::alloc::Global;
 use std::collections::BTreeMap;
 use std::collections::btree_map::Range;
@@ -22,25 +25,33 @@ use std::marker::Model;
 #[derive(Drop)]
 pub(crate) struct Rows {
     rows: BTreeMap<(u32, i64), Row>,
+    /// The key columns of the relations, as they were told at first.
+    columns: Vec<u32>,
+    /// Whether each row has its key in its relation's column of these. It has, unless a caller goes
+    /// on with another catalogue.
+    keyed: bool,
 }
 
 impl Model for Rows {
     ghost use Rattle.sdd_lang.specs.Database.{Database};
-    ghost use Rattle.sdd_plain.specs.Held.{AreHeld};
+    ghost use Rattle.sdd_plain.specs.Held.{AreHeld, AreKeyed};
 
     ghost Value = { Database };
 
     ghost view = { λ r. r.rows.entries };
 
-    ghost invariant = { λ r. AreHeld r.rows.entries };
+    ghost invariant = { λ r. AreHeld r.rows.entries × AreKeyed r.keyed r.columns.items r.rows.entries };
 }
 
 impl Rows {
-    pub(crate) fn new(alloc: Global) -> Self
+    /// No row, of relations with these key columns.
+    fn new(alloc: Global, columns: Vec<u32>) -> Self
         ensures { result ≡ [] }
     {
         Rows {
             rows: BTreeMap::new(alloc),
+            columns,
+            keyed: true,
         }
     }
 
@@ -48,6 +59,7 @@ impl Rows {
     pub(crate) fn put(&mut self, item: (u32, i64), row: Row) -> Result<(), NoMemory>
         ensures { OnOk result (self.new ≡ with_row self.old item row) }
     {
+        self.keyed = keyed_with(self.keyed, self.columns.as_slice(), &item, &row);
         self.rows.insert(item, row)?;
         Ok(())
     }
@@ -73,11 +85,47 @@ impl Rows {
         }
     }
 
-    /// The rows of the relation with their items, ascending by key.
-    fn of(&self, rel: RelNo) -> Range<'_, (u32, i64), Row>
-        ensures { result ≡ filter (λ e. e.0.0 == rel.0) self.now }
+    /// The rows of the relation that have these keys, with their items, ascending by key.
+    fn within(&self, rel: RelNo, keys: &Keys) -> Range<'_, (u32, i64), Row>
+        ensures { result ≡ filter (λ e. (e.0.0 == rel.0) && is_within (common keys.now all_keys) e.0.1) self.now }
     {
-        self.rows.range((rel.0, i64::MIN)..=(rel.0, i64::MAX))
+        match keys.ends() {
+            Some((from, to)) => self.rows.range((rel.0, from)..=(rel.0, to)),
+            None => self.rows.range((rel.0, 0)..(rel.0, 0)),
+        }
+    }
+
+    /// Keys among which is that of each row of the relation that may stand in the part.
+    fn keys_near(
+        &self,
+        alloc: Global,
+        rel: RelNo,
+        part: usize,
+        conds: &[Condition],
+    ) -> Result<Keys, NoMemory>
+        ensures { IfOk result (AreNear self.now rel.0 part conds.now) }
+    {
+        if !self.keyed {
+            return Ok(Keys::all());
+        }
+        let column = key_column(self.columns.as_slice(), rel.0);
+        keys_of_part(alloc, column, part, conds)
+    }
+
+    /// Rows of the relation with their items, ascending by key, among them all that may stand in the
+    /// part. Where the part's restrictions are on the key, these are the rows whose keys they allow.
+    fn near(
+        &self,
+        alloc: Global,
+        rel: RelNo,
+        part: usize,
+        conds: &[Condition],
+    ) -> Result<Range<'_, (u32, i64), Row>, NoMemory>
+        ensures { let stands = λ (e : Item × OfRow). may_stand conds.now part e.1 in
+            IfOk result (λ rows. filter stands rows ≡ filter (λ e. (e.0.0 == rel.0) && stands e) self.now) }
+    {
+        let keys = self.keys_near(alloc, rel, part, conds)?;
+        Ok(self.within(rel, &keys))
     }
 
     /// The rows of the relation that meet the conditions, with their keys, ascending by key.
@@ -90,7 +138,7 @@ impl Rows {
         ensures { IfOk result (λ entries. entries_of rel.0 entries ≡ chosen self.now rel.0 conds.now) }
     {
         let mut entries = Vec::new(alloc);
-        'rows: for (item, row) in self.of(rel) {
+        'rows: for (item, row) in self.near(alloc, rel, 1, conds)? {
             if meets_all(conds, &[row]) {
                 entries.push(Entry {
                     key: item.1,
@@ -112,7 +160,7 @@ impl Rows {
         ensures { IfOk result (λ rows. rows_lent rows.items ≡ filter (may_stand conds.now part) (rows_of self.now rel.0)) }
     {
         let mut rows = Vec::new(alloc);
-        'rows: for (_, row) in self.of(rel) {
+        'rows: for (_, row) in self.near(alloc, rel, part, conds)? {
             if may_stand(conds, part, row) {
                 rows.push(row)?;
             }
@@ -155,7 +203,7 @@ impl Rows {
         requires { All (FitsStart cat.now) rows.now }
         ensures { IfOk result (λ built. built ≡ database_of cat.now rows.now) }
     {
-        let mut built = Rows::new(alloc);
+        let mut built = Rows::new(alloc, key_columns(alloc, cat)?);
         'rows: for (rel, row) in rows {
             let key = key_of(cat, *rel, row);
             built.put((rel.0, key), row.copy()?)?;
@@ -174,4 +222,41 @@ fn relation_of(cat: &Catalogue, frag: FragNo) -> u32
     } else {
         0
     }
+}
+
+/// The key columns of the relations, in their order.
+fn key_columns(alloc: Global, cat: &Catalogue) -> Result<Vec<u32>, NoMemory> {
+    cat.known();
+    let mut columns = Vec::new(alloc);
+    for number in 1..cat.relations() + 1 {
+        columns.push(cat.relation(RelNo(number)).key)?;
+    }
+    Ok(columns)
+}
+
+/// The key column of a relation, where these are the relations' key columns; 0 where it isn't told.
+fn key_column(columns: &[u32], rel: u32) -> u32
+    ensures { result ≡ slice_index columns.now (rel - 1) }
+{
+    columns
+        .get(rel.saturating_sub(1) as usize)
+        .copied()
+        .unwrap_or(0)
+}
+
+/// Whether the row has its item's key in its relation's key column.
+fn has_key(columns: &[u32], item: &(u32, i64), row: &Row) -> bool
+    ensures { IsTrue result → HasKey columns.now (item.now, row.now) }
+{
+    match value_in(row, key_column(columns, item.0)) {
+        Some(Value::Int(number)) => *number == item.1,
+        _ => false,
+    }
+}
+
+/// Whether all rows have their keys there, where all had before.
+fn keyed_with(keyed: bool, columns: &[u32], item: &(u32, i64), row: &Row) -> bool
+    ensures { IsTrue result → IsTrue keyed × HasKey columns.now (item.now, row.now) }
+{
+    keyed && has_key(columns, item, row)
 }

@@ -5,13 +5,13 @@ use Rattle.std.proofs.lemmas.Map.Iter.{iter_end}
 use Rattle.sdd_lang.specs.Condition.{meets_all}
 use Rattle.sdd_lang.specs.Source.{entries_of}
 use Rattle.sdd_plain.specs.Lent.{as_of}
-use Rattle.sdd_plain.proofs.Chosen.{chosen_of_relation}
+use Rattle.sdd_plain.proofs.Near.{matching_rows}
 use Rattle.sdd_plain.proofs.rows.Rows.matching.Goals as goal
 
 pub returns : goal.returns
 returns c =
-    let all = (iter_end deref_pair _ c.rows.yielded _ _ _ _ (c.into_iter-item-iterator.ensures.into_iter_gives ∙ c.of-item-items.ensures) c.rows.yielded_by c.in-None.is c.next.ensures.steps).0 in
+    let all = (iter_end deref_pair _ c.rows.yielded _ _ _ _ c.into_iter-item-iterator.ensures.into_iter_gives c.rows.yielded_by c.in-None.is c.next.ensures.steps).0 in
     ap (entries_of c.args.rel.0) c.from_vec.ensures
     ∙ c.rows.invariant
     ∙ ap (λ es. map (as_of c.args.rel.0) (filter (λ e. meets_all c.args.conds.now (e.1 ∷ [])) es)) all
-    ∙ chosen_of_relation c.args.rel.0 c.args.conds.now c.args.self.now
+    ∙ matching_rows c.args.rel.0 c.args.conds.now c.args.self.now _ c.in_ok-items.ensures

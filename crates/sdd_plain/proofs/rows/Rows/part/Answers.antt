@@ -3,12 +3,12 @@ use Rattle.std.specs.List.{filter}
 use Rattle.std.specs.Map.Iter.{deref_pair}
 use Rattle.std.proofs.lemmas.Map.Iter.{iter_end}
 use Rattle.sdd_lang.specs.Tuples.{may_stand}
-use Rattle.sdd_plain.proofs.Ranges.{rows_of_entries}
+use Rattle.sdd_plain.proofs.Near.{part_rows}
 use Rattle.sdd_plain.proofs.rows.Rows.part.Goals as goal
 
 pub returns : goal.returns
 returns c =
-    let all = (iter_end deref_pair _ c.rows.yielded _ _ _ _ (c.into_iter-row-iterator.ensures.into_iter_gives ∙ c.of-row-items.ensures) c.rows.yielded_by c.in-None.is c.next.ensures.steps).0 in
+    let all = (iter_end deref_pair _ c.rows.yielded _ _ _ _ c.into_iter-row-iterator.ensures.into_iter_gives c.rows.yielded_by c.in-None.is c.next.ensures.steps).0 in
     c.rows.invariant
     ∙ ap (λ es. filter (may_stand c.args.conds.now c.args.part) (map (λ e. e.1) es)) all
-    ∙ ap (filter (may_stand c.args.conds.now c.args.part)) (rows_of_entries c.args.rel.0 c.args.self.now)
+    ∙ part_rows c.args.rel.0 c.args.part c.args.conds.now c.args.self.now _ c.in_ok-items.ensures

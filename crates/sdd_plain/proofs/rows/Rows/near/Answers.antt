@@ -1,0 +1,10 @@
+use Rattle.std.proofs.Common.{◌∙◌, ap}
+use Rattle.std.specs.Prelude.{filter}
+use Rattle.sdd_lang.specs.Tuples.{may_stand}
+use Rattle.sdd_plain.proofs.Near.{near_rows}
+use Rattle.sdd_plain.proofs.rows.Rows.near.Goals as goal
+
+pub returns : goal.returns
+returns c =
+    ap (filter (λ e. may_stand c.args.conds.now c.args.part e.1)) c.within.ensures
+    ∙ near_rows c.args.rel.0 c.args.part c.args.conds.now c.in_ok-keys.keys c.args.self.now c.in_ok-keys.ensures
