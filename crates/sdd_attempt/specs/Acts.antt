@@ -52,7 +52,8 @@ p2_of c p2 = if c == 0 then None else Some (time_at p2)
 -- the READ to module d
 abbrev pub read_to : Catalogue → List line.Entry → ℕ → Queued → List Use → ℕ → ℕ → ℕ → Site × Msg
 read_to cat table c q uses own p2 d =
-    (D (dm_no d), Read (time_at own) (class_no c) (txn_no q.number) (suc q.tries) (conditions_at cat table c (ascending (fragments_in uses)) own p2 d) (filter_map (use_there cat c d) uses))
+    let conds : List Cond = conditions_at cat table c (ascending (fragments_in uses)) own p2 d in
+    (D (dm_no d), Read (time_at own) (class_no c) (txn_no q.number) (suc q.tries) conds (filter_map (use_there cat c d) uses))
 
 -- the Start of the next attempt of a transaction, where the clock stands so and this table is in force
 abbrev pub start_act : Catalogue → List line.Entry → ℕ → Ticking → Queued → Act
@@ -73,7 +74,8 @@ write_to cat c a changes d =
 abbrev pub commit_act : Catalogue → Bases → ℕ → Attempt → Act
 commit_act cat bases c a =
     let e : Effect = effect cat (bases a.ts) a.text in
-    Records c (Commit (txn_no a.txn) a.attempt e.reply e.changes a.exchange.values a.exchange.rows) (filter_map (write_to cat c a e.changes) (numbers_to cat.dms))
+    Records c (Commit (txn_no a.txn) a.attempt e.reply e.changes a.exchange.values a.exchange.rows)
+    (filter_map (write_to cat c a e.changes) (numbers_to cat.dms))
 
 -- what an active attempt makes due: the next message of its exchange, or, once that is over, its Commit
 abbrev pub attempt_due : Catalogue → Bases → ℕ → Option Attempt → Option Act

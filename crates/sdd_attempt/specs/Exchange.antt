@@ -84,12 +84,22 @@ to_all m ds = map (λ d. (d, m)) ds
 abbrev pub reduces : ℕ → ℕ → Move → Exchange → Exchange
 reduces ts c m x =
     let ds : List ℕ = with_use x m.target.part in
-    record x { phase = Reducing m; to_send = to_all (Reduce (time_at ts) (class_no c) m.target.part m.target.column x.union) ds; lacks = ds; values = x.values + length x.union * length ds }
+    record x {
+      phase = Reducing m;
+      to_send = to_all (Reduce (time_at ts) (class_no c) m.target.part m.target.column x.union) ds;
+      lacks = ds;
+      values = x.values + length x.union * length ds;
+    }
 
 -- FETCH goes to these modules of the source; where there is none, no value comes
 abbrev pub fetches_from : ℕ → ℕ → Move → Exchange → List ℕ → Exchange
 fetches_from ts c m x [] = reduces ts c m (record x { union = [] })
-fetches_from ts c m x (d ∷ ds) = record x { phase = Fetching m; to_send = to_all (Fetch (time_at ts) (class_no c) m.source.part m.source.column) (d ∷ ds); lacks = d ∷ ds; union = [] }
+fetches_from ts c m x (d ∷ ds) = record x {
+  phase = Fetching m;
+  to_send = to_all (Fetch (time_at ts) (class_no c) m.source.part m.source.column) (d ∷ ds);
+  lacks = d ∷ ds;
+  union = [];
+}
 
 abbrev pub fetches : ℕ → ℕ → Move → Exchange → Exchange
 fetches ts c m x = fetches_from ts c m x (with_use x m.source.part)
@@ -133,10 +143,14 @@ counted d (n ∷ ns) counts = counted d ns (filter (λ e. not ((e.0.0 == n.0) &&
 -- the exchange of the attempt of class c with timestamp ts, once a message of module d came: the answers to another
 -- attempt change nothing
 abbrev pub after_hand : ℕ → ℕ → ℕ → Msg → Exchange → Exchange
-after_hand ts c d (Ready t k counts) x = if (t.0 == ts) && (k.0 == c) then answered ts c d (record x { counts = counted d counts x.counts }) else x
-after_hand ts c d (Values t k u values) x = if (t.0 == ts) && (k.0 == c) then answered ts c d (record x { union = with_values x.union values; values = x.values + length values }) else x
-after_hand ts c d (Reduced t k u n) x = if (t.0 == ts) && (k.0 == c) then answered ts c d (record x { counts = counted d ((u, n) ∷ []) x.counts }) else x
-after_hand ts c d (Rows t k rows) x = if (t.0 == ts) && (k.0 == c) then answered ts c d (record x { found = x.found ++ rows; rows = x.rows + length rows }) else x
+after_hand ts c d (Ready t k counts) x =
+    if (t.0 == ts) && (k.0 == c) then answered ts c d (record x { counts = counted d counts x.counts }) else x
+after_hand ts c d (Values t k u values) x =
+    if (t.0 == ts) && (k.0 == c) then answered ts c d (record x { union = with_values x.union values; values = x.values + length values }) else x
+after_hand ts c d (Reduced t k u n) x =
+    if (t.0 == ts) && (k.0 == c) then answered ts c d (record x { counts = counted d ((u, n) ∷ []) x.counts }) else x
+after_hand ts c d (Rows t k rows) x =
+    if (t.0 == ts) && (k.0 == c) then answered ts c d (record x { found = x.found ++ rows; rows = x.rows + length rows }) else x
 after_hand ts c d _ x = x
 
 -- once one of its messages is sent

@@ -26,7 +26,8 @@ tried n q = cond (q.number == n) (record q { tries = suc q.tries }) q
 -- in the queue of its class a Start counts as a try, and a Commit takes its transaction away
 abbrev pub queue_after : ℕ → Act → List Queued → List Queued
 queue_after c (Records k (Start txn attempt class ts p2 uses) sends) queue = if k == c then map (tried txn.0) queue else queue
-queue_after c (Records k (Commit txn attempt reply changes values rows) sends) queue = if k == c then filter (λ q. not (q.number == txn.0)) queue else queue
+queue_after c (Records k (Commit txn attempt reply changes values rows) sends) queue =
+    if k == c then filter (λ q. not (q.number == txn.0)) queue else queue
 queue_after c _ queue = queue
 
 -- the queue of class c; a transaction's class is that of the catalogue in force when it is submitted

@@ -70,6 +70,10 @@ class_after (Did act) v k = record {
 class_after _ v k = k
 
 abbrev pub after : Entry → View → View
-after (Handed from m) v = record v { hands = suc v.hands; opens = opens_handed (suc v.hands) from m v.opens; classes = map (class_after (Handed from m) v) v.classes }
+after (Handed from m) v = record v {
+  hands = suc v.hands;
+  opens = opens_handed (suc v.hands) from m v.opens;
+  classes = map (class_after (Handed from m) v) v.classes;
+}
 after (Did act) v = record v { opens = opens_acted act v.opens; classes = map (class_after (Did act) v) v.classes }
 after _ v = v

@@ -35,8 +35,8 @@ pub enum Rec {
         attempt: u64,
         dm: DmNo,
     },
-    /// The READ is rejected there: a WRITE of the class with this timestamp, which one of its conditions
-    /// puts after it, has been processed.
+    /// The READ is rejected there: a WRITE of the class with this timestamp, which one of its
+    /// conditions puts after it, has been processed.
     Reject {
         txn: TxnNo,
         attempt: u64,

@@ -46,9 +46,9 @@ module _ {A B : Type 0} (f : A → B) where
   put_map : (m : A) (l : Link A) → put (f m) (link_as f l) ≡ link_as f (put m l)
   put_map m l =
       ap (λ w. record (link_as f l) { there = w })
-        (way_of (map f l.there.sent ++ f m ∷ []) (map f (l.there.sent ++ m ∷ [])) (map (packet_as f) l.there.flight ++ Message (length (map f l.there.sent) + 1) (f m) ∷ []) (map (packet_as f) (l.there.flight ++ Message (length l.there.sent + 1) m ∷ [])) l.there.arrived l.there.acked
-          (sym (map-append f l.there.sent (m ∷ [])))
-          (ap (λ n. map (packet_as f) l.there.flight ++ Message (n + 1) (f m) ∷ []) (length-map l.there.sent f) ∙ sym (map-append (packet_as f) l.there.flight (Message (length l.there.sent + 1) m ∷ []))))
+      (way_of (map f l.there.sent ++ f m ∷ []) (map f (l.there.sent ++ m ∷ [])) (map (packet_as f) l.there.flight ++ Message (length (map f l.there.sent) + 1) (f m) ∷ []) (map (packet_as f) (l.there.flight ++ Message (length l.there.sent + 1) m ∷ [])) l.there.arrived l.there.acked
+      (sym (map-append f l.there.sent (m ∷ [])))
+      (ap (λ n. map (packet_as f) l.there.flight ++ Message (n + 1) (f m) ∷ []) (length-map l.there.sent f) ∙ sym (map-append (packet_as f) l.there.flight (Message (length l.there.sent + 1) m ∷ []))))
 
   flown : (p q : List (Packet B)) (w : Way B) (back : Way B) → p ≡ q → ◌≡◌ {A = Link B} (record { there = with_flight p w; back = back }) (record { there = with_flight q w; back = back })
   flown p q w back e = ap (λ x. record { there = with_flight x w; back = back }) e
@@ -59,7 +59,7 @@ module _ {A B : Type 0} (f : A → B) where
   arrives_map : (p : Packet A) (l : Link A) → arrives (packet_as f p) (link_as f l) ≡ link_as f (arrives p l)
   arrives_map (Message n m) l =
       ap (λ x. record { there = record (way_as f l.there) { arrived = n ∷ l.there.arrived }; back = with_flight x (way_as f l.back) })
-        (sym (map-append (packet_as f) l.back.flight (Ack (delivered (record l.there { arrived = n ∷ l.there.arrived })) ∷ [])))
+      (sym (map-append (packet_as f) l.back.flight (Ack (delivered (record l.there { arrived = n ∷ l.there.arrived })) ∷ [])))
   arrives_map (Ack k) l = refl
 
   at_packet_map : (o : Option (Packet A)) (h : Packet B → Link B) (j : Packet A → Link A) (l : Link A) → ((p : Packet A) → h (packet_as f p) ≡ link_as f (j p)) → with_packet (map_option (packet_as f) o) h (link_as f l) ≡ link_as f (with_packet o j l)
@@ -70,7 +70,7 @@ module _ {A B : Type 0} (f : A → B) where
   deliver_map k l =
       ap (λ o. with_packet o (λ p. arrives p (without_packet k (link_as f l))) (link_as f l)) (get_map (packet_as f) l.there.flight (k - 1))
       ∙ at_packet_map (packet_at k l) (λ p. arrives p (without_packet k (link_as f l))) (λ p. arrives p (without_packet k l)) l
-          (λ p. ap (λ z. arrives (packet_as f p) z) (without_packet_map k l) ∙ arrives_map p (without_packet k l))
+      (λ p. ap (λ z. arrives (packet_as f p) z) (without_packet_map k l) ∙ arrives_map p (without_packet k l))
 
   lose_map : (k : ℕ) (l : Link A) → lose k (link_as f l) ≡ link_as f (lose k l)
   lose_map k l =
@@ -81,7 +81,7 @@ module _ {A B : Type 0} (f : A → B) where
   repeat_map k l =
       ap (λ o. with_packet o (λ p. record (link_as f l) { there = with_flight (map (packet_as f) l.there.flight ++ p ∷ []) (way_as f l.there) }) (link_as f l)) (get_map (packet_as f) l.there.flight (k - 1))
       ∙ at_packet_map (packet_at k l) (λ p. record (link_as f l) { there = with_flight (map (packet_as f) l.there.flight ++ p ∷ []) (way_as f l.there) }) (λ p. record l { there = with_flight (l.there.flight ++ p ∷ []) l.there }) l
-          (λ p. flown (map (packet_as f) l.there.flight ++ packet_as f p ∷ []) (map (packet_as f) (l.there.flight ++ p ∷ [])) (way_as f l.there) (way_as f l.back) (sym (map-append (packet_as f) l.there.flight (p ∷ []))))
+      (λ p. flown (map (packet_as f) l.there.flight ++ packet_as f p ∷ []) (map (packet_as f) (l.there.flight ++ p ∷ [])) (way_as f l.there) (way_as f l.back) (sym (map-append (packet_as f) l.there.flight (p ∷ []))))
 
   resend_map : (l : Link A) → resend (link_as f l) ≡ link_as f (resend l)
   resend_map l = flown (map (packet_as f) l.there.flight ++ unacked (way_as f l.there)) (map (packet_as f) (l.there.flight ++ unacked l.there)) (way_as f l.there) (way_as f l.back)

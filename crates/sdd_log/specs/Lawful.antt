@@ -1,5 +1,5 @@
 -- Which log is the log of what is given.
-use Rattle.std.specs.Prelude.{ℕ, suc, nat_lt, ◌≡◌, Bool, true, false, ◌||◌, List, [], ◌∷◌, length, Some, None}
+use Rattle.std.specs.Prelude.{suc, nat_lt, ◌≡◌, Bool, true, false, ◌||◌, List, [], ◌∷◌, length, Some, None}
 use Rattle.sdd_base.specs.declared.site.Site.{Site}
 use Rattle.sdd_base.specs.declared.limits.TheConstants.{MAX_RUN_EVENTS, MAX_LINK_MESSAGES}
 use Rattle.sdd_wire.specs.declared.msg.Msg.{Msg}

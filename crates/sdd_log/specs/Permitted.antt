@@ -44,7 +44,9 @@ pub data IsAllowed (g : Given) (log : Log) : Entry → Type 0 where
   by_redeclare : (t : ℕ) → IsAllowed g log (Redeclares t)
   by_event : {e : Entry} → mark_due g log ≡ Some e → IsAllowed g log e
   by_site : (at : Site) (act : Act) → IsDueAt g log at act → IsAllowed g log (Does at act)
-  by_link : (a b : Site) (n : ℕ) (m : Msg) → n ≡ suc (handed a b log) → n ≤ delivered (link_of a b log).there → takes_part b log ≡ true → message_at a b n log ≡ Some m → IsAllowed g log (Hand a b n m)
+  by_link : (a b : Site) (n : ℕ) (m : Msg)
+      → n ≡ suc (handed a b log) → n ≤ delivered (link_of a b log).there → takes_part b log ≡ true → message_at a b n log ≡ Some m
+      → IsAllowed g log (Hand a b n m)
 
 abbrev pub IsPermitted : Given → Log → Type 0
 IsPermitted g [] = Unit {0}

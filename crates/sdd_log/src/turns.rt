@@ -1,8 +1,8 @@
 ghost use Rattle.std.specs.Prelude.{◌≡◌};
 ghost use Rattle.sdd_log.specs.Due.{next_number, in_turn};
 
-/// The number of the message that is handed over next on a link, where messages 1 to `delivered` have come to
-/// its end and 1 to `handed` are handed over.
+/// The number of the message that is handed over next on a link, where messages 1 to `delivered`
+/// have come to its end and 1 to `handed` are handed over.
 pub fn next_number(handed: u64, delivered: u64) -> Option<u64>
     ensures { result ≡ next_number handed delivered }
 {
@@ -13,8 +13,8 @@ pub fn next_number(handed: u64, delivered: u64) -> Option<u64>
     }
 }
 
-/// The next entry of the log, of what a mark makes due, what is due at a site, what is to be handed over on a
-/// link, and the next mark.
+/// The next entry of the log, of what a mark makes due, what is due at a site, what is to be
+/// handed over on a link, and the next mark.
 pub fn in_turn<E: Drop>(
     by_mark: Option<E>,
     at_site: Option<E>,

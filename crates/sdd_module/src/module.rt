@@ -6,8 +6,8 @@ ghost use Rattle.sdd_base.specs.declared.site.Site.{Site};
 use sdd_base::{NoMemory, Site};
 use sdd_wire::{Msg, Outcome};
 
-/// A module of a site. It stands for a log of what was handed to the site and what the site did, newest
-/// first.
+/// A module of a site. It stands for a log of what was handed to the site and what the site did,
+/// newest first.
 pub trait Module: Drop {
     /// Made in this setting, the module stands for this log.
     ghost stands: { Self → Setting → Log → Type 0 };
@@ -24,13 +24,17 @@ pub trait Module: Drop {
     fn live(&self) -> bool
         ensures { result ≡ is_live self.now };
 
-    /// Takes a message from another site, and then makes each act that is due, one after the other, until
-    /// none is: it answers what these send and record. After want of memory it takes nothing more.
+    /// Takes a message from another site, and then makes each act that is due, one after the
+    /// other, until none is: it answers what these send and record. After want of memory it takes
+    /// nothing more.
     fn take(&mut self, from: Site, msg: Msg) -> Result<Outcome, NoMemory>
         requires lives { IsTrue (is_live self.old) }
-        requires stands { (setting : Setting) × (bases : Bases) × (log : Log) × stands self.old setting log × fits setting bases log from msg }
-        ensures law { IfOk result (λ outcome. (setting : Setting) (bases : Bases) (log : Log) → stands self.old setting log → fits setting bases log from msg →
-            Does (next setting bases) (Handed from msg ∷ log) outcome.recs outcome.out (stands self.new setting)) }
+        requires stands { (setting : Setting) × (bases : Bases) × (log : Log)
+            × stands self.old setting log × fits setting bases log from msg }
+        ensures law { IfOk result (λ outcome. (setting : Setting) (bases : Bases) (log : Log)
+            → stands self.old setting log → fits setting bases log from msg
+            → Does (next setting bases) (Handed from msg ∷ log) outcome.recs outcome.out
+            (stands self.new setting)) }
         ensures lives_on { IfOk result (λ _. IsTrue (is_live self.new)) }
         ensures dies { OnErr result (¬ IsTrue (is_live self.new)) };
 }

@@ -4,7 +4,8 @@ ghost use Rattle.sdd_pipe.specs.Pipe.{touches};
 
 use sdd_base::{Change, FragNo};
 
-/// Whether some of the changes is of one of the fragments. Costs time in the changes times the fragments.
+/// Whether some of the changes is of one of the fragments. Costs time in the changes times the
+/// fragments.
 pub fn touches(frags: &[FragNo], changes: &[Change]) -> bool
     ensures { result ≡ touches frags.now changes.now }
 {

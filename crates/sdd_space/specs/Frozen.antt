@@ -52,7 +52,8 @@ is_among values v = list_any (λ x. is_eq (value_cmp x v)) values
 
 -- of the rows of a use those stay whose column is among the values
 abbrev pub reduced : ℕ → ℕ → List Value → Frozen → Frozen
-reduced number col values f = record f { uses = map (λ e. if e.0 == number then (e.0, filter (λ row. is_among values (column row col)) e.1) else e) f.uses }
+reduced number col values f =
+    record f { uses = map (λ e. if e.0 == number then (e.0, filter (λ row. is_among values (column row col)) e.1) else e) f.uses }
 
 -- how many rows are held for each use
 abbrev pub counts_of : Frozen → List (ℕ × ℕ)

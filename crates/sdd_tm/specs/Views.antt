@@ -78,7 +78,14 @@ abbrev pub class_view : Setting → Log → ℕ → ClassView
 class_view s log c = record { class = c; queue = queue s c log; active = active s c log }
 
 abbrev pub view_of : Setting → Log → View
-view_of s log = record { hands = hands log; clock = clock s.site log; force = in_force s log; holds = holds log; asks = asks log; classes = map (class_view s log) (runs s) }
+view_of s log = record {
+  hands = hands log;
+  clock = clock s.site log;
+  force = in_force s log;
+  holds = holds log;
+  asks = asks log;
+  classes = map (class_view s log) (runs s);
+}
 
 -- the module is on hold: more HOLDs were handed than RELEASEs
 abbrev pub on_hold : View → Bool
@@ -108,4 +115,9 @@ after (Handed from m) v = record {
 after (Submits n txn) v = record v { classes = map (class_after (Submits n txn) v) v.classes }
 after (Ticked n) v = record v { clock = ticked v.clock n }
 after (Redeclared force t) v = record v { clock = pushed v.clock t; force = force }
-after (Did act) v = record v { clock = ticked_by act v.clock; holds = holds_acted act v.holds; asks = asks_acted act v.asks; classes = map (class_after (Did act) v) v.classes }
+after (Did act) v = record v {
+  clock = ticked_by act v.clock;
+  holds = holds_acted act v.holds;
+  asks = asks_acted act v.asks;
+  classes = map (class_after (Did act) v) v.classes;
+}

@@ -67,12 +67,30 @@ pub record View : Type 0 where
   pub counts : List TmCounts
 
 abbrev pub view_of : Setting → Log → View
-view_of s log = record { clock = clock s.site log; queue = queue s 0 log; active = active s 0 log; served = last_served s log; counts = map (λ t. counts t log) (numbers_to s.catalogue.tms) }
+view_of s log = record {
+  clock = clock s.site log;
+  queue = queue s 0 log;
+  active = active s 0 log;
+  served = last_served s log;
+  counts = map (λ t. counts t log) (numbers_to s.catalogue.tms);
+}
 
 -- the view after an entry
 abbrev pub after : Entry → View → View
-after (Handed from m) v = record { clock = pushed_by m v.clock; queue = v.queue; active = active_handed 0 from m v.active; served = served_handed m v.served; counts = map (counts_handed from m) v.counts }
+after (Handed from m) v = record {
+  clock = pushed_by m v.clock;
+  queue = v.queue;
+  active = active_handed 0 from m v.active;
+  served = served_handed m v.served;
+  counts = map (counts_handed from m) v.counts;
+}
 after (Submits n txn) v = record v { queue = v.queue ++ record { number = n; text = txn; tries = 0 } ∷ [] }
 after (Ticked n) v = record v { clock = ticked v.clock n }
 after (Redeclared force t) v = record v { clock = pushed v.clock t }
-after (Did act) v = record { clock = ticked_by act v.clock; queue = queue_after 0 act v.queue; active = active_after 0 act v.queue v.active; served = served_acted act v.active v.served; counts = map (counts_acted act) v.counts }
+after (Did act) v = record {
+  clock = ticked_by act v.clock;
+  queue = queue_after 0 act v.queue;
+  active = active_after 0 act v.queue v.active;
+  served = served_acted act v.active v.served;
+  counts = map (counts_acted act) v.counts;
+}

@@ -9,8 +9,9 @@ pub type ValueList = Listed<Value>;
 /// Rows, each with the number of the use that it is held for: by use, and then by key.
 pub type UseRows = Listed<(u32, Row)>;
 
-/// A message from one site to another. `ts` is the timestamp of the attempt that it concerns, and `class`
-/// the class of that attempt. READ, WRITE and NULL go through the pipe of their class at a data module.
+/// A message from one site to another. `ts` is the timestamp of the attempt that it concerns, and
+/// `class` the class of that attempt. READ, WRITE and NULL go through the pipe of their class at
+/// a data module.
 #[derive(Drop, Debug, PartialEq, Eq)]
 pub enum Msg {
     /// To a data module: freeze the rows of these uses, once the conditions are met.
@@ -35,7 +36,8 @@ pub enum Msg {
         by: ClassNo,
         write: Ts,
     },
-    /// To a data module: tell the values of a column of the rows of a use. Columns are counted from 1.
+    /// To a data module: tell the values of a column of the rows of a use. Columns are counted
+    /// from 1.
     Fetch {
         ts: Ts,
         class: ClassNo,
