@@ -1,4 +1,6 @@
 pub mod Finding
+pub mod Fronts
+pub mod Membership
 pub mod Opened
-pub mod PlaceLists
+pub mod ReadingLaws
 pub mod Taken

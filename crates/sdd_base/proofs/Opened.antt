@@ -5,7 +5,7 @@ use Rattle.std.specs.Option.{option_map}
 use Rattle.std.proofs.lemmas.List.{map-append, map-set, length-map}
 use Rattle.std.proofs.lemmas.Option.{slice_get-map, slice_get_within}
 use Rattle.sdd_base.specs.declared.files.ShelfFile.{ShelfFile}
-use Rattle.sdd_base.specs.declared.places.Place.{Place}
+use Rattle.sdd_base.specs.declared.open_files.OpenFile.{OpenFile}
 use Rattle.sdd_base.specs.Memory.{rest_at, file_at, ShelfState}
 use Rattle.sdd_base.specs.Outside.{GivesBytes}
 use Rattle.sdd_base.proofs.Taken.{gives_part}
@@ -30,19 +30,19 @@ slice_get-set_other (x ∷ xs) zero (suc g) y other = refl
 slice_get-set_other (x ∷ xs) (suc f) zero y other = refl
 slice_get-set_other (x ∷ xs) (suc f) (suc g) y other = slice_get-set_other xs f g y (λ e. other (ap suc e))
 
-pub length-opened : (files : List ShelfFile) (places : List Place) (old : ShelfState) (faults : ℕ)
-    → record { files = files; opened = map (rest_at files) places; faults = faults } ≡ old → length places ≡ length old.opened
-length-opened files places old faults is = sym (length-map places (rest_at files)) ∙ ap (λ (s : ShelfState). length s.opened) is
+pub length-opened : (files : List ShelfFile) (opened_files : List OpenFile) (old : ShelfState) (faults : ℕ)
+    → record { files = files; opened = map (rest_at files) opened_files; faults = faults } ≡ old → length opened_files ≡ length old.opened
+length-opened files opened_files old faults is = sym (length-map opened_files (rest_at files)) ∙ ap (λ (s : ShelfState). length s.opened) is
 
 -- the files that were open stay so when one more is
-pub stay_open : (files : List ShelfFile) (places after : List Place) (place : Place) (old : ShelfState) (faults g : ℕ)
-    → record { files = files; opened = map (rest_at files) places; faults = faults } ≡ old → after ≡ places ++ place ∷ []
+pub stay_open : (files : List ShelfFile) (opened_files after : List OpenFile) (opened : OpenFile) (old : ShelfState) (faults g : ℕ)
+    → record { files = files; opened = map (rest_at files) opened_files; faults = faults } ≡ old → after ≡ opened_files ++ opened ∷ []
     → g < length old.opened → (g < length (map (rest_at files) after)) × (slice_get (map (rest_at files) after) g ≡ slice_get old.opened g)
-stay_open files places after place old faults g is pushed within =
-    let e : map (rest_at files) after ≡ map (rest_at files) places ++ rest_at files place ∷ [] = ap (map (rest_at files)) pushed ∙ map-append (rest_at files) places (place ∷ []) in
-    let was : map (rest_at files) places ≡ old.opened = ap (λ (s : ShelfState). s.opened) is in
-    let below : g < length (map (rest_at files) places) = rw was within in
-    (rw e (omega (arith, length-append (map (rest_at files) places) (rest_at files place ∷ []))), rw e (slice_get-append (map (rest_at files) places) (rest_at files place ∷ []) g below ∙ ap (λ (xs : List (List ℕ)). slice_get xs g) was))
+stay_open files opened_files after opened old faults g is pushed within =
+    let e : map (rest_at files) after ≡ map (rest_at files) opened_files ++ rest_at files opened ∷ [] = ap (map (rest_at files)) pushed ∙ map-append (rest_at files) opened_files (opened ∷ []) in
+    let was : map (rest_at files) opened_files ≡ old.opened = ap (λ (s : ShelfState). s.opened) is in
+    let below : g < length (map (rest_at files) opened_files) = rw was within in
+    (rw e (omega (arith, length-append (map (rest_at files) opened_files) (rest_at files opened ∷ []))), rw e (slice_get-append (map (rest_at files) opened_files) (rest_at files opened ∷ []) g below ∙ ap (λ (xs : List (List ℕ)). slice_get xs g) was))
 
 -- what a read of one opened file leaves
 pub record Reads (old : List (List ℕ)) (now : List (List ℕ)) (f n : ℕ) (buf : List ℕ) : Type 0 where
@@ -55,20 +55,20 @@ none_left : (n : ℕ) (buf rest : List ℕ) → n ≡ min (length buf) (length r
 none_left n buf [] count none room = refl
 none_left n buf (x ∷ rest) count none room = absurd (omega arith)
 
-pub reads : (files : List ShelfFile) (places after : List Place) (place next : Place) (old : ShelfState) (faults f n : ℕ) (buf : List ℕ)
-    → record { files = files; opened = map (rest_at files) places; faults = faults } ≡ old → slice_get places f ≡ Some place → after ≡ set places f next
-    → next ≡ record place { at = place.at + n } → take n buf ≡ take n (rest_at files place) → n ≡ min (length buf) (length (rest_at files place))
+pub reads : (files : List ShelfFile) (opened_files after : List OpenFile) (opened next : OpenFile) (old : ShelfState) (faults f n : ℕ) (buf : List ℕ)
+    → record { files = files; opened = map (rest_at files) opened_files; faults = faults } ≡ old → slice_get opened_files f ≡ Some opened → after ≡ set opened_files f next
+    → next ≡ record opened { at = opened.at + n } → take n buf ≡ take n (rest_at files opened) → n ≡ min (length buf) (length (rest_at files opened))
     → Reads old.opened (map (rest_at files) after) f n buf
-reads files places after place next old faults f n buf is there put moved front count =
-    let was : old.opened ≡ map (rest_at files) places = sym (ap (λ (s : ShelfState). s.opened) is) in
-    let now : map (rest_at files) after ≡ set (map (rest_at files) places) f (rest_at files next) = ap (map (rest_at files)) put ∙ map-set (rest_at files) places f next in
-    let before : slice_get (map (rest_at files) places) f ≡ Some (rest_at files place) = slice_get-map (rest_at files) places f ∙ ap (option_map (rest_at files)) there in
-    let within : f < length (map (rest_at files) places) = slice_get_within (map (rest_at files) places) f (rest_at files place) before in
-    let written : slice_get (set (map (rest_at files) places) f (rest_at files next)) f ≡ Some (rest_at files next) = slice_get-set_same (map (rest_at files) places) f (rest_at files next) within in
-    let left : rest_at files next ≡ drop (place.at + n) (file_at files place.file) = ap (rest_at files) moved in
+reads files opened_files after opened next old faults f n buf is there put moved front count =
+    let was : old.opened ≡ map (rest_at files) opened_files = sym (ap (λ (s : ShelfState). s.opened) is) in
+    let now : map (rest_at files) after ≡ set (map (rest_at files) opened_files) f (rest_at files next) = ap (map (rest_at files)) put ∙ map-set (rest_at files) opened_files f next in
+    let before : slice_get (map (rest_at files) opened_files) f ≡ Some (rest_at files opened) = slice_get-map (rest_at files) opened_files f ∙ ap (option_map (rest_at files)) there in
+    let within : f < length (map (rest_at files) opened_files) = slice_get_within (map (rest_at files) opened_files) f (rest_at files opened) before in
+    let written : slice_get (set (map (rest_at files) opened_files) f (rest_at files next)) f ≡ Some (rest_at files next) = slice_get-set_same (map (rest_at files) opened_files) f (rest_at files next) within in
+    let left : rest_at files next ≡ drop (opened.at + n) (file_at files opened.file) = ap (rest_at files) moved in
     rw (was, now) (record {
-      gives = rw (before, written, left) (gives_part (file_at files place.file) buf place.at n front (none_left n buf (rest_at files place) count));
-      others = λ g other below. (omega (arith, length-set (map (rest_at files) places) f (rest_at files next)), slice_get-set_other (map (rest_at files) places) f g (rest_at files next) other);
-      stays = omega (arith, length-set (map (rest_at files) places) f (rest_at files next));
+      gives = rw (before, written, left) (gives_part (file_at files opened.file) buf opened.at n front (none_left n buf (rest_at files opened) count));
+      others = λ g other below. (omega (arith, length-set (map (rest_at files) opened_files) f (rest_at files next)), slice_get-set_other (map (rest_at files) opened_files) f g (rest_at files next) other);
+      stays = omega (arith, length-set (map (rest_at files) opened_files) f (rest_at files next));
       count = rw before count;
     })

@@ -8,14 +8,15 @@ mod event;
 mod exact;
 mod failures;
 mod files;
+mod limits;
 mod listed;
 mod memory_shelf;
 mod memory_sink;
 mod name;
 mod no_memory;
 mod number;
+mod open_files;
 mod parcel;
-mod places;
 mod reading;
 mod reply;
 mod restriction;
@@ -33,6 +34,12 @@ pub use condition::{Cond, Conds};
 pub use event::{Event, Events};
 pub use exact::{Exact, is_same};
 pub use files::{CallNos, Files, ShelfFile};
+pub use limits::{
+    MAX_ASSIGNMENTS, MAX_CATALOGUE_BYTES, MAX_CLASSES, MAX_COLUMNS, MAX_CONDITIONS, MAX_DMS,
+    MAX_EVENTS, MAX_FRAGMENTS, MAX_LINK_MESSAGES, MAX_NAME_BYTES, MAX_OUTPUT_COLUMNS, MAX_PLACE,
+    MAX_READS, MAX_RELATIONS, MAX_REPLY_ROWS, MAX_ROWS, MAX_RUN_EVENTS, MAX_STATEMENTS,
+    MAX_TEXT_BYTES, MAX_TICKS, MAX_TMS, MAX_TXNS, MAX_USES, MAX_WORKLOAD_BYTES,
+};
 pub use listed::{Bytes, Listed};
 pub use memory_shelf::{MemShelf, SureShelf};
 pub use memory_sink::{MemSink, SureSink};
@@ -50,6 +57,3 @@ pub use text::Text;
 pub use usage::{Frags, Use, Uses};
 pub use value::{Answers, Row, RowList, Value};
 pub use writing::write_text;
-
-#[cfg(test)]
-mod tests;

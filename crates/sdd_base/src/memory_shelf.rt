@@ -4,7 +4,7 @@ ghost use Rattle.sdd_base.specs.Memory.{CannotOpen, RefusesToOpen, IsListed, cal
 
 use crate::failures::Failures;
 use crate::files::{CallNos, Files, ShelfFile};
-use crate::places::{PLACES, Place, Places};
+use crate::open_files::{MAX_OPEN_FILES, OpenFile, OpenFiles};
 use crate::shelf::{Failed, FileNo, Shelf};
 use std::marker::Model;
 
@@ -13,7 +13,7 @@ use std::marker::Model;
 #[derive(Drop, Debug)]
 pub struct SureShelf {
     files: Files,
-    places: Places,
+    opened: OpenFiles,
     faults: u64,
 }
 
@@ -23,7 +23,7 @@ impl Model for SureShelf {
 
     ghost Value = { ShelfState };
 
-    ghost view = { λ s. record { files = s.files; opened = map (rest_at s.files) s.places; faults = s.faults } };
+    ghost view = { λ s. record { files = s.files; opened = map (rest_at s.files) s.opened; faults = s.faults } };
 }
 
 impl SureShelf {
@@ -33,7 +33,7 @@ impl SureShelf {
     {
         SureShelf {
             files,
-            places: Places::new(),
+            opened: OpenFiles::new(),
             faults: 0,
         }
     }
@@ -48,6 +48,8 @@ impl SureShelf {
 }
 
 impl Shelf for SureShelf {
+    ghost use Rattle.sdd_base.specs.declared.open_files.TheConstants.{MAX_OPEN_FILES};
+
     ghost files = { λ s. Some s.files };
 
     ghost is_open = { λ s f. f < length s.opened };
@@ -56,23 +58,23 @@ impl Shelf for SureShelf {
 
     ghost faults = { λ s. s.faults };
 
-    ghost sure = { λ s free. length s.opened + free ≤ 4 };
+    ghost sure = { λ s free. length s.opened + free ≤ MAX_OPEN_FILES };
 
     fn open_file(&mut self, name: &str) -> Result<FileNo, Failed>
         ensures files { Some self.new.files ≡ Some self.old.files }
         ensures opens { Opens (Some self.old.files) (λ f. f < length self.old.opened) (λ f. f < length self.new.opened) (slice_get self.new.opened) name.now result }
         ensures others { KeepsOpen (λ _. Unit {0}) (λ f. f < length self.old.opened) (λ f. f < length self.new.opened) (slice_get self.old.opened) (slice_get self.new.opened) }
         ensures cause { HasCause self.old.faults self.new.faults result }
-        ensures surely { (free : ℕ) → length self.old.opened + (free + 1) ≤ 4 → IfSome (Some self.old.files) (λ fs. IfSome (find_file fs name.now) (λ _.
-            IsOk result × (length self.new.opened + free ≤ 4) × (self.new.faults ≡ self.old.faults))) }
+        ensures surely { (free : ℕ) → length self.old.opened + (free + 1) ≤ MAX_OPEN_FILES → IfSome (Some self.old.files) (λ fs. IfSome (find_file fs name.now) (λ _.
+            IsOk result × (length self.new.opened + free ≤ MAX_OPEN_FILES) × (self.new.faults ≡ self.old.faults))) }
 
         // It fails exactly for an absent name or a fifth file.
         ensures fails { IsErr result ↔ CannotOpen self.old name.now }
     {
-        if self.places.len() < PLACES {
+        if self.opened.len() < MAX_OPEN_FILES {
             if let Some(file) = find(self.files.as_slice(), name) {
-                let number = self.places.len() as u32;
-                self.places.push(Place { file, at: 0 });
+                let number = self.opened.len() as u32;
+                self.opened.push(OpenFile { file, at: 0 });
                 return Ok(FileNo(number));
             }
         }
@@ -88,15 +90,15 @@ impl Shelf for SureShelf {
         ensures others { KeepsOpen (λ g. g ≡ f.0 → ⊥) (λ g. g < length self.old.opened) (λ g. g < length self.new.opened) (slice_get self.old.opened) (slice_get self.new.opened) }
         ensures open { f.0 < length self.new.opened }
         ensures cause { HasCause self.old.faults self.new.faults result }
-        ensures surely { (free : ℕ) → length self.old.opened + free ≤ 4 → IsOk result × (length self.new.opened + free ≤ 4) × (self.new.faults ≡ self.old.faults) }
+        ensures surely { (free : ℕ) → length self.old.opened + free ≤ MAX_OPEN_FILES → IsOk result × (length self.new.opened + free ≤ MAX_OPEN_FILES) × (self.new.faults ≡ self.old.faults) }
 
         // It never fails, and gives all that fits.
         ensures succeeds { IsOk result }
         ensures count { IfOk result (λ n. IfSome (slice_get self.old.opened f.0) (λ rest. n ≡ min (length buf.new) (length rest))) }
     {
-        let place = self.places.at(f.0);
-        let (n, next) = read_at(self.files.as_slice(), place, buf);
-        self.places.put(f.0, next);
+        let opened = self.opened.at(f.0);
+        let (n, next) = read_at(self.files.as_slice(), opened, buf);
+        self.opened.put(f.0, next);
         Ok(n)
     }
 }
@@ -113,21 +115,21 @@ fn find(files: &[ShelfFile], name: &str) -> Option<usize>
     None
 }
 
-/// Copies what is unread at a place into the front of the buffer, as far as there is room. How much
-/// that was, and the place behind it.
-fn read_at(files: &[ShelfFile], place: Place, buf: &mut [u8]) -> (usize, Place)
-    ensures next { result.1 ≡ record place { at = place.at + result.0 } }
-    ensures front { take result.0 buf.new ≡ take result.0 (rest_at files.now place) }
-    ensures count { result.0 ≡ min (length buf.new) (length (rest_at files.now place)) }
+/// Copies what is unread of an opened file into the front of the buffer, as far as there is room.
+/// How much that was, and what is opened then.
+fn read_at(files: &[ShelfFile], opened: OpenFile, buf: &mut [u8]) -> (usize, OpenFile)
+    ensures next { result.1 ≡ record opened { at = opened.at + result.0 } }
+    ensures front { take result.0 buf.new ≡ take result.0 (rest_at files.now opened) }
+    ensures count { result.0 ≡ min (length buf.new) (length (rest_at files.now opened)) }
 {
-    match files.get(place.file) {
-        None => (0, place),
+    match files.get(opened.file) {
+        None => (0, opened),
         Some(file) => {
-            let (n, at) = copy_from(file.bytes.as_slice(), place.at, buf);
+            let (n, at) = copy_from(file.bytes.as_slice(), opened.at, buf);
             (
                 n,
-                Place {
-                    file: place.file,
+                OpenFile {
+                    file: opened.file,
                     at,
                 },
             )
@@ -135,7 +137,8 @@ fn read_at(files: &[ShelfFile], place: Place, buf: &mut [u8]) -> (usize, Place)
     }
 }
 
-/// Copies what stands from a place on, as far as there is room. How much that was, and the place behind it.
+/// Copies what stands from an index on, as far as there is room. How much that was, and the index
+/// behind it.
 fn copy_from(bytes: &[u8], at: usize, buf: &mut [u8]) -> (usize, usize)
     ensures next { result.1 ≡ at + result.0 }
     ensures front { take result.0 buf.new ≡ take result.0 (drop at bytes.now) }
@@ -184,6 +187,8 @@ impl MemShelf {
 }
 
 impl Shelf for MemShelf {
+    ghost use Rattle.sdd_base.specs.declared.open_files.TheConstants.{MAX_OPEN_FILES};
+
     ghost files = { λ s. Some s.shelf.files };
 
     ghost is_open = { λ s f. f < length s.shelf.opened };
@@ -192,15 +197,15 @@ impl Shelf for MemShelf {
 
     ghost faults = { λ s. s.shelf.faults };
 
-    ghost sure = { λ s free. (s.failing.fails ≡ []) × (length s.shelf.opened + free ≤ 4) };
+    ghost sure = { λ s free. (s.failing.fails ≡ []) × (length s.shelf.opened + free ≤ MAX_OPEN_FILES) };
 
     fn open_file(&mut self, name: &str) -> Result<FileNo, Failed>
         ensures files { Some self.new.shelf.files ≡ Some self.old.shelf.files }
         ensures opens { Opens (Some self.old.shelf.files) (λ f. f < length self.old.shelf.opened) (λ f. f < length self.new.shelf.opened) (slice_get self.new.shelf.opened) name.now result }
         ensures others { KeepsOpen (λ _. Unit {0}) (λ f. f < length self.old.shelf.opened) (λ f. f < length self.new.shelf.opened) (slice_get self.old.shelf.opened) (slice_get self.new.shelf.opened) }
         ensures cause { HasCause self.old.shelf.faults self.new.shelf.faults result }
-        ensures surely { (free : ℕ) → (self.old.failing.fails ≡ []) × (length self.old.shelf.opened + (free + 1) ≤ 4) → IfSome (Some self.old.shelf.files) (λ fs. IfSome (find_file fs name.now) (λ _.
-            IsOk result × ((self.new.failing.fails ≡ []) × (length self.new.shelf.opened + free ≤ 4)) × (self.new.shelf.faults ≡ self.old.shelf.faults))) }
+        ensures surely { (free : ℕ) → (self.old.failing.fails ≡ []) × (length self.old.shelf.opened + (free + 1) ≤ MAX_OPEN_FILES) → IfSome (Some self.old.shelf.files) (λ fs. IfSome (find_file fs name.now) (λ _.
+            IsOk result × ((self.new.failing.fails ≡ []) × (length self.new.shelf.opened + free ≤ MAX_OPEN_FILES)) × (self.new.shelf.faults ≡ self.old.shelf.faults))) }
 
         // It fails exactly where it is listed, for an absent name and for a fifth file.
         ensures fails { IsErr result ↔ RefusesToOpen self.old name.now }
@@ -221,7 +226,7 @@ impl Shelf for MemShelf {
         ensures others { KeepsOpen (λ g. g ≡ f.0 → ⊥) (λ g. g < length self.old.shelf.opened) (λ g. g < length self.new.shelf.opened) (slice_get self.old.shelf.opened) (slice_get self.new.shelf.opened) }
         ensures open { f.0 < length self.new.shelf.opened }
         ensures cause { HasCause self.old.shelf.faults self.new.shelf.faults result }
-        ensures surely { (free : ℕ) → (self.old.failing.fails ≡ []) × (length self.old.shelf.opened + free ≤ 4) → IsOk result × ((self.new.failing.fails ≡ []) × (length self.new.shelf.opened + free ≤ 4)) × (self.new.shelf.faults ≡ self.old.shelf.faults) }
+        ensures surely { (free : ℕ) → (self.old.failing.fails ≡ []) × (length self.old.shelf.opened + free ≤ MAX_OPEN_FILES) → IsOk result × ((self.new.failing.fails ≡ []) × (length self.new.shelf.opened + free ≤ MAX_OPEN_FILES)) × (self.new.shelf.faults ≡ self.old.shelf.faults) }
 
         // It fails exactly where it is listed, and else gives all that it may.
         ensures fails { IsErr result ↔ IsListed self.old.failing }

@@ -10,6 +10,7 @@ ghost use Rattle.std.proofs.lemmas.Cmp.{nat_list_eq_equiv, nat_list_cmp_total};
 ghost use Rattle.sdd_base.specs.Name.{IsName, is_name, begins_with_letter, is_name_byte, is_keyword};
 
 use crate::exact::Exact;
+use crate::limits::MAX_NAME_BYTES;
 use crate::no_memory::NoMemory;
 use crate::parcel::Parcel;
 use std::alloc::Global;
@@ -62,7 +63,7 @@ fn spells_name(text: &str) -> bool
     ensures { result ≡ is_name text.now }
 {
     starts_as_name(text.as_bytes())
-        && text.len() <= 32
+        && text.len() <= MAX_NAME_BYTES
         && all_name_bytes(text.as_bytes())
         && !spells_keyword(text)
 }

@@ -19,7 +19,7 @@ pub enum ReadError {
 
 /// Reads a file to its end, or one byte past the limit, by which a caller tells that it is too long.
 ///
-/// Takes time linear in the bytes read, and one of the shelf's places.
+/// Takes time linear in the bytes read, and one of the shelf's numbers of open files.
 pub fn read_file<S: Shelf>(
     alloc: Global,
     shelf: &mut S,

@@ -9,6 +9,7 @@ ghost use Rattle.std.proofs.lemmas.Cmp.{nat_list_eq_equiv, nat_list_cmp_total};
 ghost use Rattle.sdd_base.specs.Text.{IsText};
 
 use crate::exact::Exact;
+use crate::limits::MAX_TEXT_BYTES;
 use crate::no_memory::NoMemory;
 use crate::parcel::Parcel;
 use std::alloc::Global;
@@ -16,7 +17,8 @@ use std::cmp::Ordering;
 use std::hash::{Hash, Hasher};
 use std::marker::Model;
 
-/// A text of a column, which contracts see as its bytes. Texts are ordered by their bytes.
+/// A text of a column: at most 255 bytes of UTF-8, none of them a newline. Contracts see its bytes,
+/// by which texts are ordered.
 #[derive(Drop, Debug)]
 pub struct Text {
     text: String,
@@ -29,6 +31,8 @@ impl Model for Text {
     ghost Value = { List ℕ };
 
     ghost view = { λ t. string_bytes t.text };
+
+    ghost invariant = { λ t. IsText (string_bytes t.text) };
 }
 
 impl Text {
@@ -37,7 +41,7 @@ impl Text {
         ensures which { IfOk result (λ found. IsSome found ↔ IsText text.now) }
         ensures value { IfOk result (λ found. IfSome found (λ t. t ≡ text.now)) }
     {
-        if text.len() > 255 || text.as_bytes().contains(&b'\n') {
+        if text.len() > MAX_TEXT_BYTES || text.as_bytes().contains(&b'\n') {
             return Ok(None);
         }
         Ok(Some(Text {
@@ -47,7 +51,8 @@ impl Text {
 
     /// Its text. Takes no memory.
     pub fn as_str(&self) -> &str
-        ensures { result.now ≡ self.now }
+        ensures value { result.now ≡ self.now }
+        ensures text { IsText result.now }
     {
         self.text.as_str()
     }

@@ -10,6 +10,7 @@ pub fn write_text<O: Sink>(out: &mut O, text: &[u8]) -> Result<(), Failed>
     ensures front { OnErr result ((n : ℕ) × (O.taken out.new ≡ with_end (O.taken out.old) (take n text.now))) }
     ensures cause { HasCause (O.faults out.old) (O.faults out.new) result }
     ensures surely { (room : ℕ) → length text.now ≤ room → O.sure out.old room → IsOk result × (O.faults out.new ≡ O.faults out.old) }
+    ensures room { (room : ℕ) → length text.now ≤ room → O.sure out.old room → O.sure out.new (room - length text.now) }
 {
     let mut at = 0;
     'put: while at < text.len() {

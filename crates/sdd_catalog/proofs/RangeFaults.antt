@@ -23,7 +23,7 @@ after_next all last items i x is within e known =
     ∙ ap (λ o. or_else o (head_of (faults_after x (drop (i + 1) items)))) (head_of_map _ (next_rules last.to x.from) ∙ ap (option_map _) (sym e))
 
 -- one that breaks a rule is the first fault
-pub after_fault : (all : Option CatFault) (last : KeyRange) (items : List KeyRange) (i : ℕ) (x : KeyRange) (rule : CatRule) → x ≡ get_or items i x → i < length items → Some rule ≡ head_of (next_rules last.to x.from) → all ≡ head_of (faults_after last (drop i items)) → Some (record { rule = rule; part = Fragment; no = x.number }) ≡ all
+pub after_fault : (all : Option CatFault) (last : KeyRange) (items : List KeyRange) (i : ℕ) (x : KeyRange) (rule : CatRule) → x ≡ get_or items i x → i < length items → Some rule ≡ head_of (next_rules last.to x.from) → all ≡ head_of (faults_after last (drop i items)) → Some (record { rule = rule; part = Fragment; number = x.number }) ≡ all
 after_fault all last items i x rule is within e known =
     sym (known ∙ after_split last items i x is within
     ∙ ap (λ o. or_else o (head_of (faults_after x (drop (i + 1) items)))) (head_of_map _ (next_rules last.to x.from) ∙ ap (option_map _) (sym e)))

@@ -1,18 +1,19 @@
-ghost use Rattle.std.specs.Prelude.{◌≡◌, ◌≤◌, ◌<◌, ◌-◌, ◌^◌, ◌==◌, length, find, option_map, IfOk, IfErr};
-ghost use Rattle.sdd_catalog.specs.Catalogue.{catalogue_of, parts_of, relation_at, fragment_at, class_at, fragment_of, has, has_copy, writes, reads_at, numbers_to};
+ghost use Rattle.std.specs.Prelude.{ℕ, ◌≡◌, ◌≤◌, ◌<◌, ◌-◌, ◌^◌, ◌==◌, length, find, option_map, IfOk, IfErr};
+ghost use Rattle.std.specs.List.{list_any};
+ghost use Rattle.sdd_catalog.specs.Catalogue.{catalogue_of, parts_of, relation_at, fragment_at, class_at, IsOf, HoldsKey, fragment_of, has_copy, writes, lowest_copy, reads_at, numbers_to};
 ghost use Rattle.sdd_catalog.specs.Cover.{Cover, ranges_for};
+ghost use Rattle.sdd_catalog.specs.Naming.{AreNamed};
 ghost use Rattle.sdd_catalog.specs.Numbers.{IsWhole};
 ghost use Rattle.sdd_catalog.specs.Rules.{IsValid, IsSound, TellsFirst, faults_of};
 
 use crate::fault::CatError;
 use crate::first_fault::first_fault;
-use crate::fragment_rules::has;
 use crate::naming::{name_classes, name_fragments, name_relations};
 use crate::parts::Parts;
 use crate::ranges::{KeyRange, RangeTable, number_for, range_table};
 use crate::resolve::{resolve_classes, resolve_fragments, resolve_relations};
-use crate::resolved::{Class, Classes, Fragment, Fragments, Relation, Relations};
-use sdd_base::{ClassNo, DmNo, FragNo, NoMemory, Parcel, RelNo};
+use crate::resolved::{Class, Classes, Fragment, Fragments, Read, Relation, Relations};
+use sdd_base::{ClassNo, DmNo, FragNo, MAX_DMS, NoMemory, Parcel, RelNo};
 use std::alloc::Global;
 use std::marker::Model;
 
@@ -72,12 +73,13 @@ impl Catalogue {
         })
     }
 
-    /// What holds of every catalogue: it is that of its own parts, which are valid, and what its
-    /// numbers name is there. Takes no memory.
+    /// What holds of every catalogue: it is that of its own parts, which are valid, what its
+    /// numbers name is there, and its names are names. Takes no memory.
     #[tactic(auto, using(crate::proofs::Sound::sound_whole))]
     pub fn known(&self)
         ensures sound { IsSound self.now }
         ensures whole { IsWhole self.now }
+        ensures named { AreNamed self.now }
     {
         let _ = &self.tms;
     }
@@ -152,7 +154,10 @@ impl Catalogue {
     pub fn fragment_of(&self, rel: RelNo, key: i64) -> FragNo
         requires from { 1 ≤ rel.0 }
         requires to { rel.0 ≤ length self.now.relations }
-        ensures { result.0 ≡ fragment_of self.now rel.0 key }
+        ensures there { IsOf self.now rel.0 result.0 }
+        ensures holds { HoldsKey self.now result.0 key }
+        ensures only { (f : ℕ) → IsOf self.now rel.0 f → HoldsKey self.now f key → f ≡ result.0 }
+        ensures number { result.0 ≡ fragment_of self.now rel.0 key }
     {
         self.known();
         FragNo(number_for(self.ranges_of(rel), key))
@@ -174,7 +179,7 @@ impl Catalogue {
         requires to { frag.0 ≤ length self.now.fragments }
         ensures { result ≡ has_copy self.now dm.0 frag.0 }
     {
-        has(self.fragment(frag).copies.as_slice(), dm.0 as u32)
+        has_copy_at(self.fragment(frag).copies.as_slice(), u32::from(dm.0))
     }
 
     /// Whether the class writes the fragment. Class 0 may write every fragment. Takes no memory.
@@ -182,37 +187,36 @@ impl Catalogue {
         requires class { class.0 ≤ length self.now.classes }
         ensures { result ≡ writes self.now class.0 frag.0 }
     {
-        class.0 == 0 || has(self.class(class).writes.as_slice(), frag.0)
+        class.0 == 0 || has_fragment(self.class(class).writes.as_slice(), frag)
     }
 
     /// The module at which the class reads the fragment, or None exactly where it doesn't read it.
     /// Class 0 reads each fragment at the lowest module with a copy. Takes no memory.
-    #[tactic(auto, using(crate::proofs::Sound::few_modules))]
+    #[tactic(auto, using(crate::proofs::Sound::number_of_module))]
     pub fn reads_at(&self, class: ClassNo, frag: FragNo) -> Option<DmNo>
         requires class { class.0 ≤ length self.now.classes }
         requires from { 1 ≤ frag.0 }
         requires to { frag.0 ≤ length self.now.fragments }
         ensures { option_map (λ dm. dm.0) result ≡ reads_at self.now class.0 frag.0 }
     {
-        self.known();
-        match self.module_of_read(class, frag) {
-            Some(dm) => Some(DmNo(dm as u8)),
-            None => None,
+        if class.0 == 0 {
+            self.lowest_copy(frag)
+        } else {
+            module_of_read(self.class(class).reads.as_slice(), frag)
         }
     }
 
-    #[tactic(auto, using(crate::proofs::Sound::few_dms))]
-    fn module_of_read(&self, class: ClassNo, frag: FragNo) -> Option<u32>
-        requires class { class.0 ≤ length self.now.classes }
+    /// The lowest module with a copy of the fragment.
+    #[tactic(auto, using(crate::proofs::Sound::lowest_is_few, crate::proofs::Sound::few_dms))]
+    fn lowest_copy(&self, frag: FragNo) -> Option<DmNo>
         requires from { 1 ≤ frag.0 }
         requires to { frag.0 ≤ length self.now.fragments }
-        ensures { result ≡ reads_at self.now class.0 frag.0 }
+        ensures { option_map (λ dm. dm.0) result ≡ lowest_copy self.now frag.0 }
     {
         self.known();
-        if class.0 == 0 {
-            lowest_copy(self.fragment(frag).copies.as_slice(), self.dms())
-        } else {
-            place_of_read(self.class(class).reads.as_slice(), frag.0)
+        match lowest_among(self.fragment(frag).copies.as_slice(), self.dms()) {
+            Some(dm) => Some(DmNo(dm as u8)),
+            None => None,
         }
     }
 }
@@ -231,7 +235,7 @@ impl Parcel for Catalogue {
     }
 }
 
-#[tactic(auto, using(crate::proofs::FragmentOf::indexed, crate::proofs::RoundTrip::resolvable, crate::proofs::RoundTrip::have_numbers))]
+#[tactic(auto, using(crate::proofs::RoundTrip::resolvable, crate::proofs::RoundTrip::have_numbers, crate::proofs::RoundTrip::at_modules, crate::proofs::RoundTrip::run_at_modules))]
 fn resolve(alloc: Global, parts: &Parts) -> Result<Catalogue, NoMemory>
     requires { IsValid parts.now }
     ensures { IfOk result (λ built. built ≡ catalogue_of parts.now) }
@@ -250,17 +254,33 @@ fn resolve(alloc: Global, parts: &Parts) -> Result<Catalogue, NoMemory>
     })
 }
 
-/// The lowest module among the copies.
-fn lowest_copy(copies: &[u32], dms: u32) -> Option<u32>
-    requires { dms ≤ 16 }
-    ensures { result ≡ find (has copies.now) (numbers_to dms) }
+/// Whether one of the copies is at the module with this number.
+fn has_copy_at(copies: &[DmNo], dm: u32) -> bool
+    ensures { result ≡ list_any (λ d. d.0 == dm) copies.now }
 {
-    (1..dms + 1).find(|dm| has(copies, *dm))
+    copies.iter().any(|copy| u32::from(copy.0) == dm)
+}
+
+fn has_fragment(frags: &[FragNo], frag: FragNo) -> bool
+    ensures { result ≡ list_any (λ f. f.0 == frag.0) frags.now }
+{
+    frags.iter().any(|other| other.0 == frag.0)
+}
+
+/// The lowest number of a module among the copies.
+fn lowest_among(copies: &[DmNo], dms: u32) -> Option<u32>
+    requires { dms ≤ MAX_DMS }
+    ensures { result ≡ find (λ dm. list_any (λ d. d.0 == dm) copies.now) (numbers_to dms) }
+{
+    (1..dms + 1).find(|dm| has_copy_at(copies, *dm))
 }
 
 /// The module of the first read of the fragment.
-fn place_of_read(reads: &[(u32, u32)], frag: u32) -> Option<u32>
-    ensures { result ≡ option_map (λ r. r.1) (find (λ r. r.0 == frag) reads.now) }
+fn module_of_read(reads: &[Read], frag: FragNo) -> Option<DmNo>
+    ensures { result ≡ option_map (λ r. r.at) (find (λ r. r.fragment.0 == frag.0) reads.now) }
 {
-    reads.iter().find(|read| read.0 == frag).map(|read| read.1)
+    reads
+        .iter()
+        .find(|read| read.fragment.0 == frag.0)
+        .map(|read| read.at)
 }

@@ -1,14 +1,13 @@
 ghost use Rattle.std.specs.Prelude.{◌≡◌, ◌≤◌, length, find, bytes_eq};
 ghost use Rattle.std.specs.Option.{option_copied};
-ghost use Rattle.sdd_base.specs.Words.{head_of};
-ghost use Rattle.sdd_catalog.specs.Catalogue.{has};
+ghost use Rattle.sdd_base.specs.Words.{contains, head_of};
 ghost use Rattle.sdd_catalog.specs.Rules.{read_rules, write_rules, class_rules, faults_of_class, found_in, copies_of};
 
 use crate::fault::{CatFault, CatRule, Counted, Part};
-use crate::fragment_rules::{has, is_from_1_to};
+use crate::fragment_rules::is_from_1_to;
 use crate::named::has_name;
 use crate::parts::{ClassPart, FragmentPart, Parts, ReadPart};
-use sdd_base::Name;
+use sdd_base::{MAX_CLASSES, MAX_READS, Name};
 
 fn fragment_named<'a>(name: &Name, fragments: &'a [FragmentPart]) -> Option<&'a FragmentPart>
     ensures { option_copied result ≡ find (λ f. bytes_eq name.now f.name) fragments.now }
@@ -18,10 +17,10 @@ fn fragment_named<'a>(name: &Name, fragments: &'a [FragmentPart]) -> Option<&'a 
 
 /// Whether the fragment with the name has a copy at the module.
 fn has_copy_at(fragments: &[FragmentPart], name: &Name, at: u32) -> bool
-    ensures { result ≡ has (copies_of name.now fragments.now) at }
+    ensures { result ≡ contains (copies_of name.now fragments.now) at }
 {
     match fragment_named(name, fragments) {
-        Some(fragment) => has(fragment.copies.as_slice(), at),
+        Some(fragment) => fragment.copies.as_slice().contains(&at),
         None => false,
     }
 }
@@ -84,7 +83,7 @@ fn broken_by_writes(parts: &Parts, writes: &[Name]) -> Option<CatRule>
 fn broken_by_class(parts: &Parts, before: &[ClassPart], class: &ClassPart) -> Option<CatRule>
     ensures { result ≡ head_of (class_rules parts.now before.now class.now) }
 {
-    if before.len() >= 64 {
+    if before.len() >= MAX_CLASSES {
         return Some(CatRule::TooMany(Counted::Class));
     }
     if has_name(before, &class.name) {
@@ -93,7 +92,7 @@ fn broken_by_class(parts: &Parts, before: &[ClassPart], class: &ClassPart) -> Op
     if !is_from_1_to(parts.tms, class.tm) {
         return Some(CatRule::UnknownName);
     }
-    if class.reads.as_slice().len() > 32 {
+    if class.reads.as_slice().len() > MAX_READS {
         return Some(CatRule::TooMany(Counted::Read));
     }
     if let Some(rule) = broken_by_reads(parts, class.reads.as_slice()) {
@@ -104,14 +103,14 @@ fn broken_by_class(parts: &Parts, before: &[ClassPart], class: &ClassPart) -> Op
 
 #[tactic(auto, using(crate::proofs::Firsts::head_of_map))]
 fn fault_of_class(parts: &Parts, before: &[ClassPart], class: &ClassPart) -> Option<CatFault>
-    requires { length before.now ≤ 64 }
+    requires { length before.now ≤ MAX_CLASSES }
     ensures { result ≡ head_of (faults_of_class parts.now before.now class.now) }
 {
     match broken_by_class(parts, before, class) {
         Some(rule) => Some(CatFault {
             rule,
             part: Part::Class,
-            no: before.len() as u32 + 1,
+            number: before.len() as u32 + 1,
         }),
         None => None,
     }

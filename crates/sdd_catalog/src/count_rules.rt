@@ -4,6 +4,7 @@ ghost use Rattle.sdd_catalog.specs.Rules.{count_rules, count_faults};
 
 use crate::fault::{CatFault, CatRule, Counted, Part};
 use crate::parts::Parts;
+use sdd_base::{MAX_DMS, MAX_TMS};
 
 /// The first rule on the numbers of modules that is broken.
 fn broken_count(parts: &Parts) -> Option<CatRule>
@@ -11,11 +12,11 @@ fn broken_count(parts: &Parts) -> Option<CatRule>
 {
     if parts.tms == 0 {
         Some(CatRule::TooFew(Counted::Tm))
-    } else if parts.tms > 16 {
+    } else if parts.tms > MAX_TMS {
         Some(CatRule::TooMany(Counted::Tm))
     } else if parts.dms == 0 {
         Some(CatRule::TooFew(Counted::Dm))
-    } else if parts.dms > 16 {
+    } else if parts.dms > MAX_DMS {
         Some(CatRule::TooMany(Counted::Dm))
     } else {
         None
@@ -31,7 +32,7 @@ pub(crate) fn count_fault(parts: &Parts) -> Option<CatFault>
         Some(rule) => Some(CatFault {
             rule,
             part: Part::Top,
-            no: 0,
+            number: 0,
         }),
         None => None,
     }

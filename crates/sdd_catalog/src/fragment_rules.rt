@@ -1,11 +1,11 @@
 ghost use Rattle.std.specs.Prelude.{◌≡◌, ◌≤◌, length};
 ghost use Rattle.sdd_base.specs.Words.{head_of};
-ghost use Rattle.sdd_catalog.specs.Catalogue.{has};
 ghost use Rattle.sdd_catalog.specs.Rules.{is_from_1_to, copy_rules, fragment_rules, faults_of_fragment, found_in};
 
 use crate::fault::{CatFault, CatRule, Counted, Part};
 use crate::named::has_name;
 use crate::parts::{FragmentPart, Parts};
+use sdd_base::MAX_FRAGMENTS;
 
 /// Whether a number is from 1 to the greatest one.
 pub(crate) fn is_from_1_to(most: u32, number: u32) -> bool
@@ -14,20 +14,13 @@ pub(crate) fn is_from_1_to(most: u32, number: u32) -> bool
     1 <= number && number <= most
 }
 
-/// Whether a number is one of these.
-pub(crate) fn has(numbers: &[u32], number: u32) -> bool
-    ensures { result ≡ has numbers.now number }
-{
-    numbers.iter().any(|other| *other == number)
-}
-
 /// The first rule on a copy that is broken, where these stand before it.
 fn broken_by_copy(dms: u32, before: &[u32], copy: u32) -> Option<CatRule>
     ensures { result ≡ head_of (copy_rules dms before.now copy) }
 {
     if !is_from_1_to(dms, copy) {
         Some(CatRule::UnknownName)
-    } else if has(before, copy) {
+    } else if before.contains(&copy) {
         Some(CatRule::DuplicateName)
     } else {
         None
@@ -54,7 +47,7 @@ fn broken_by_fragment(
 ) -> Option<CatRule>
     ensures { result ≡ head_of (fragment_rules parts.now before.now fragment.now) }
 {
-    if before.len() >= 256 {
+    if before.len() >= MAX_FRAGMENTS {
         Some(CatRule::TooMany(Counted::Fragment))
     } else if has_name(before, &fragment.name) {
         Some(CatRule::DuplicateName)
@@ -75,14 +68,14 @@ fn fault_of_fragment(
     before: &[FragmentPart],
     fragment: &FragmentPart,
 ) -> Option<CatFault>
-    requires { length before.now ≤ 256 }
+    requires { length before.now ≤ MAX_FRAGMENTS }
     ensures { result ≡ head_of (faults_of_fragment parts.now before.now fragment.now) }
 {
     match broken_by_fragment(parts, before, fragment) {
         Some(rule) => Some(CatFault {
             rule,
             part: Part::Fragment,
-            no: before.len() as u32 + 1,
+            number: before.len() as u32 + 1,
         }),
         None => None,
     }

@@ -23,9 +23,5 @@ pub use parts::{
     Names, Parts, ReadPart, ReadParts, RelationPart, RelationParts,
 };
 pub use resolved::{
-    Class, Classes, Column, Columns, Fragment, Fragments, Places, Reads, Relation, Relations,
-    Writes,
+    Class, Classes, Column, Columns, Copies, Fragment, Fragments, Read, Reads, Relation, Relations,
 };
-
-#[cfg(test)]
-mod tests;

@@ -1,5 +1,6 @@
 ghost use Rattle.std.specs.Prelude.{◌≡◌, ◌<◌, ◌≤◌, ◌^◌, ◌-◌, ℕ, List, length, map, IfOk, IfSome, bytes_eq};
 ghost use Rattle.std.specs.List.{position_from, list_any};
+ghost use Rattle.sdd_base.specs.Name.{IsName};
 ghost use Rattle.sdd_catalog.specs.Names.{number_of, name_at};
 ghost use Rattle.sdd_catalog.specs.Rules.{has_name, repeats};
 
@@ -43,6 +44,15 @@ pub(crate) fn name_at<T: Named>(items: &[T], number: u32) -> Result<Name, NoMemo
     ensures { IfOk result (λ name. name ≡ name_at (map T.name_of items.now) number) }
 {
     items[number as usize - 1].name().copy()
+}
+
+/// A copy of a name.
+pub(crate) fn copied(name: &Name) -> Result<Name, NoMemory>
+    ensures value { IfOk result (λ copy. copy ≡ name.now) }
+    ensures name { IsName name.now }
+{
+    let _ = name.as_str();
+    name.copy()
 }
 
 /// Whether one of the items has the name.

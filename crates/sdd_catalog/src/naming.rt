@@ -6,11 +6,11 @@ ghost use Rattle.sdd_catalog.specs.Numbers.{HasKey, NamesRelation, NamesFragment
 
 use crate::named::name_at;
 use crate::parts::{
-    ClassPart, ClassParts, ColumnPart, ColumnParts, FragmentPart, FragmentParts, Names, ReadPart,
-    ReadParts, RelationPart, RelationParts,
+    ClassPart, ClassParts, ColumnPart, ColumnParts, CopyNos, FragmentPart, FragmentParts, Names,
+    ReadPart, ReadParts, RelationPart, RelationParts,
 };
-use crate::resolved::{Class, Column, Fragment, Relation};
-use sdd_base::{Listed, NoMemory, Parcel};
+use crate::resolved::{Class, Column, Fragment, Read, Relation};
+use sdd_base::{DmNo, FragNo, Listed, NoMemory, Parcel};
 use std::alloc::Global;
 
 fn name_column(column: &Column) -> Result<ColumnPart, NoMemory>
@@ -59,16 +59,30 @@ pub(crate) fn name_relations(
     Ok(Listed::from_vec(parts))
 }
 
-fn name_fragment(relations: &[Relation], fragment: &Fragment) -> Result<FragmentPart, NoMemory>
+fn number_copies(alloc: Global, copies: &[DmNo]) -> Result<CopyNos, NoMemory>
+    ensures { IfOk result (λ numbers. numbers ≡ map (λ d. d.0) copies.now) }
+{
+    let mut numbers = Vec::new(alloc);
+    for copy in copies {
+        numbers.push(u32::from(copy.0))?;
+    }
+    Ok(Listed::from_vec(numbers))
+}
+
+fn name_fragment(
+    alloc: Global,
+    relations: &[Relation],
+    fragment: &Fragment,
+) -> Result<FragmentPart, NoMemory>
     requires { NamesRelation (length relations.now) fragment.now }
     ensures { IfOk result (λ part. part ≡ fragment_part (map (λ r. r.name) relations.now) fragment.now) }
 {
     Ok(FragmentPart {
         name: fragment.name.copy()?,
-        relation: name_at(relations, fragment.rel)?,
+        relation: name_at(relations, fragment.rel.0)?,
         from: fragment.least,
         to: fragment.greatest,
-        copies: fragment.copies.copy()?,
+        copies: number_copies(alloc, fragment.copies.as_slice())?,
     })
 }
 
@@ -83,27 +97,23 @@ pub(crate) fn name_fragments(
 {
     let mut parts = Vec::new(alloc);
     for fragment in fragments {
-        parts.push(name_fragment(relations, fragment)?)?;
+        parts.push(name_fragment(alloc, relations, fragment)?)?;
     }
     Ok(Listed::from_vec(parts))
 }
 
-fn name_read(fragments: &[Fragment], read: (u32, u32)) -> Result<ReadPart, NoMemory>
-    requires from { 1 ≤ read.0 }
-    requires to { read.0 ≤ length fragments.now }
+fn name_read(fragments: &[Fragment], read: Read) -> Result<ReadPart, NoMemory>
+    requires from { 1 ≤ read.fragment.0 }
+    requires to { read.fragment.0 ≤ length fragments.now }
     ensures { IfOk result (λ part. part ≡ read_part (map (λ f. f.name) fragments.now) read) }
 {
     Ok(ReadPart {
-        fragment: name_at(fragments, read.0)?,
-        at: read.1,
+        fragment: name_at(fragments, read.fragment.0)?,
+        at: u32::from(read.at.0),
     })
 }
 
-fn name_reads(
-    alloc: Global,
-    fragments: &[Fragment],
-    reads: &[(u32, u32)],
-) -> Result<ReadParts, NoMemory>
+fn name_reads(alloc: Global, fragments: &[Fragment], reads: &[Read]) -> Result<ReadParts, NoMemory>
     requires { AreRead (length fragments.now) reads.now }
     ensures { IfOk result (λ parts. parts ≡ map (read_part (map (λ f. f.name) fragments.now)) reads.now) }
 {
@@ -114,13 +124,13 @@ fn name_reads(
     Ok(Listed::from_vec(parts))
 }
 
-fn name_writes(alloc: Global, fragments: &[Fragment], writes: &[u32]) -> Result<Names, NoMemory>
+fn name_writes(alloc: Global, fragments: &[Fragment], writes: &[FragNo]) -> Result<Names, NoMemory>
     requires { AreWritten (length fragments.now) writes.now }
-    ensures { IfOk result (λ names. names ≡ map (name_at (map (λ f. f.name) fragments.now)) writes.now) }
+    ensures { IfOk result (λ names. names ≡ map (λ w. name_at (map (λ f. f.name) fragments.now) w.0) writes.now) }
 {
     let mut names = Vec::new(alloc);
     for frag in writes {
-        names.push(name_at(fragments, *frag)?)?;
+        names.push(name_at(fragments, frag.0)?)?;
     }
     Ok(Listed::from_vec(names))
 }
@@ -131,7 +141,7 @@ fn name_class(alloc: Global, fragments: &[Fragment], class: &Class) -> Result<Cl
 {
     Ok(ClassPart {
         name: class.name.copy()?,
-        tm: class.tm,
+        tm: u32::from(class.tm.0),
         reads: name_reads(alloc, fragments, class.reads.as_slice())?,
         writes: name_writes(alloc, fragments, class.writes.as_slice())?,
     })

@@ -5,7 +5,7 @@ ghost use Rattle.sdd_catalog.specs.Rules.{next_rules, faults_after, cover_faults
 use crate::fault::{CatFault, CatRule, Part};
 use crate::parts::{FragmentPart, RelationPart};
 use crate::ranges::{KeyRange, sorted_ranges};
-use sdd_base::NoMemory;
+use sdd_base::{MAX_FRAGMENTS, MAX_RELATIONS, NoMemory};
 use std::alloc::Global;
 
 /// The rule that a range breaks where it comes next after another one.
@@ -22,12 +22,12 @@ fn broken_by_next(last: KeyRange, next: KeyRange) -> Option<CatRule>
 }
 
 fn range_fault_at(rule: CatRule, range: KeyRange) -> CatFault
-    ensures { result ≡ record { rule = rule; part = Part.Fragment; no = range.number } }
+    ensures { result ≡ record { rule = rule; part = Part.Fragment; number = range.number } }
 {
     CatFault {
         rule,
         part: Part::Fragment,
-        no: range.number,
+        number: range.number,
     }
 }
 
@@ -58,7 +58,7 @@ fn cover_fault(relation: u32, ranges: &[KeyRange]) -> Option<CatFault>
         [] => Some(CatFault {
             rule: CatRule::RangeGap,
             part: Part::Relation,
-            no: relation,
+            number: relation,
         }),
         [first, rest @ ..] => {
             if first.from > i64::MIN {
@@ -77,8 +77,8 @@ pub(crate) fn range_fault(
     relations: &[RelationPart],
     fragments: &[FragmentPart],
 ) -> Result<Option<CatFault>, NoMemory>
-    requires few_relations { length relations.now ≤ 64 }
-    requires few_fragments { length fragments.now ≤ 256 }
+    requires few_relations { length relations.now ≤ MAX_RELATIONS }
+    requires few_fragments { length fragments.now ≤ MAX_FRAGMENTS }
     ensures { IfOk result (λ found. found ≡ head_of (found_in (faults_of_ranges fragments.now) relations.now)) }
 {
     for (index, relation) in relations.iter().enumerate() {

@@ -6,7 +6,7 @@ ghost use Rattle.sdd_catalog.specs.Rules.{column_named, key_rules, relation_rule
 use crate::fault::{CatFault, CatRule, Counted, Part};
 use crate::named::{has_name, repeats};
 use crate::parts::{ColumnPart, Kind, RelationPart};
-use sdd_base::Name;
+use sdd_base::{MAX_COLUMNS, MAX_RELATIONS, Name};
 
 fn column_named<'a>(name: &Name, columns: &'a [ColumnPart]) -> Option<&'a ColumnPart>
     ensures { option_copied result ≡ column_named name.now columns.now }
@@ -31,11 +31,11 @@ fn broken_key(relation: &RelationPart) -> Option<CatRule>
 fn broken_by_relation(before: &[RelationPart], relation: &RelationPart) -> Option<CatRule>
     ensures { result ≡ head_of (relation_rules before.now relation.now) }
 {
-    if before.len() >= 64 {
+    if before.len() >= MAX_RELATIONS {
         Some(CatRule::TooMany(Counted::Relation))
     } else if has_name(before, &relation.name) {
         Some(CatRule::DuplicateName)
-    } else if relation.columns.as_slice().len() > 16 {
+    } else if relation.columns.as_slice().len() > MAX_COLUMNS {
         Some(CatRule::TooMany(Counted::Column))
     } else if repeats(relation.columns.as_slice()) {
         Some(CatRule::DuplicateName)
@@ -46,14 +46,14 @@ fn broken_by_relation(before: &[RelationPart], relation: &RelationPart) -> Optio
 
 #[tactic(auto, using(crate::proofs::Firsts::head_of_map))]
 fn fault_of_relation(before: &[RelationPart], relation: &RelationPart) -> Option<CatFault>
-    requires { length before.now ≤ 64 }
+    requires { length before.now ≤ MAX_RELATIONS }
     ensures { result ≡ head_of (faults_of_relation before.now relation.now) }
 {
     match broken_by_relation(before, relation) {
         Some(rule) => Some(CatFault {
             rule,
             part: Part::Relation,
-            no: before.len() as u32 + 1,
+            number: before.len() as u32 + 1,
         }),
         None => None,
     }

@@ -1,28 +1,32 @@
-ghost use Rattle.std.specs.Prelude.{◌≡◌, ◌<◌, ◌^◌, ◌-◌, length, map, IfOk};
-ghost use Rattle.std.specs.List.{AllByRecursion};
+ghost use Rattle.std.specs.Prelude.{◌≡◌, ◌<◌, ◌^◌, ◌-◌, length, map, IfOk, All};
 ghost use Rattle.sdd_catalog.specs.Names.{number_of};
 ghost use Rattle.sdd_catalog.specs.Catalogue.{column_of, relation_of, fragment_from, read_of, class_of, relation_names, fragment_names};
-ghost use Rattle.sdd_catalog.specs.Resolving.{HaveNumbers};
+ghost use Rattle.sdd_base.specs.Name.{IsName};
+ghost use Rattle.sdd_base.specs.Numbers.{dm_no, frag_no};
+ghost use Rattle.sdd_catalog.specs.Naming.{IsNamed};
+ghost use Rattle.sdd_catalog.specs.Resolving.{HaveNumbers, IsModule, IsAtModules, RunsAtModules};
 
-use crate::named::number_of;
+use crate::named::{copied, number_of};
 use crate::parts::{ClassPart, ColumnPart, FragmentPart, ReadPart, RelationPart};
 use crate::resolved::{
-    Class, Classes, Column, Columns, Fragment, Fragments, Reads, Relation, Relations, Writes,
+    Class, Classes, Column, Columns, Copies, Fragment, Fragments, Read, Reads, Relation, Relations,
 };
-use sdd_base::{Listed, Name, NoMemory, Parcel};
+use sdd_base::{DmNo, FragNo, Frags, Listed, Name, NoMemory, RelNo, TmNo};
 use std::alloc::Global;
 
 fn resolve_column(column: &ColumnPart) -> Result<Column, NoMemory>
-    ensures { IfOk result (λ resolved. resolved ≡ column_of column.now) }
+    ensures value { IfOk result (λ resolved. resolved ≡ column_of column.now) }
+    ensures named { IfOk result (λ resolved. IsName resolved.name) }
 {
     Ok(Column {
-        name: column.name.copy()?,
+        name: copied(&column.name)?,
         kind: column.kind,
     })
 }
 
 fn resolve_columns(alloc: Global, columns: &[ColumnPart]) -> Result<Columns, NoMemory>
-    ensures { IfOk result (λ resolved. resolved ≡ map column_of columns.now) }
+    ensures value { IfOk result (λ resolved. resolved ≡ map column_of columns.now) }
+    ensures named { IfOk result (λ resolved. All (λ c. IsName c.name) resolved) }
 {
     let mut resolved = Vec::new(alloc);
     for column in columns {
@@ -33,11 +37,12 @@ fn resolve_columns(alloc: Global, columns: &[ColumnPart]) -> Result<Columns, NoM
 
 fn resolve_relation(alloc: Global, relation: &RelationPart) -> Result<Relation, NoMemory>
     requires { length relation.now.columns < 2 ^ 32 - 1 }
-    ensures { IfOk result (λ resolved. resolved ≡ relation_of relation.now) }
+    ensures value { IfOk result (λ resolved. resolved ≡ relation_of relation.now) }
+    ensures named { IfOk result (λ resolved. IsNamed resolved) }
 {
     let columns = relation.columns.as_slice();
     Ok(Relation {
-        name: relation.name.copy()?,
+        name: copied(&relation.name)?,
         columns: resolve_columns(alloc, columns)?,
         key: number_of(&relation.key, columns),
     })
@@ -49,7 +54,8 @@ pub(crate) fn resolve_relations(
     relations: &[RelationPart],
 ) -> Result<Relations, NoMemory>
     requires { HaveNumbers relations.now }
-    ensures { IfOk result (λ resolved. resolved ≡ map relation_of relations.now) }
+    ensures value { IfOk result (λ resolved. resolved ≡ map relation_of relations.now) }
+    ensures named { IfOk result (λ resolved. All IsNamed resolved) }
 {
     let mut resolved = Vec::new(alloc);
     for relation in relations {
@@ -58,19 +64,33 @@ pub(crate) fn resolve_relations(
     Ok(Listed::from_vec(resolved))
 }
 
+fn resolve_copies(alloc: Global, copies: &[u32]) -> Result<Copies, NoMemory>
+    requires { All IsModule copies.now }
+    ensures { IfOk result (λ resolved. resolved ≡ map dm_no copies.now) }
+{
+    let mut resolved = Vec::new(alloc);
+    for copy in copies {
+        resolved.push(DmNo(*copy as u8))?;
+    }
+    Ok(Listed::from_vec(resolved))
+}
+
 fn resolve_fragment(
+    alloc: Global,
     relations: &[RelationPart],
     fragment: &FragmentPart,
 ) -> Result<Fragment, NoMemory>
-    requires { length relations.now < 2 ^ 32 - 1 }
-    ensures { IfOk result (λ resolved. resolved ≡ fragment_from (relation_names relations.now) fragment.now) }
+    requires relations { length relations.now < 2 ^ 32 - 1 }
+    requires copies { IsAtModules fragment.now }
+    ensures value { IfOk result (λ resolved. resolved ≡ fragment_from (relation_names relations.now) fragment.now) }
+    ensures named { IfOk result (λ resolved. IsName resolved.name) }
 {
     Ok(Fragment {
-        name: fragment.name.copy()?,
-        rel: number_of(&fragment.relation, relations),
+        name: copied(&fragment.name)?,
+        rel: RelNo(number_of(&fragment.relation, relations)),
         least: fragment.from,
         greatest: fragment.to,
-        copies: fragment.copies.copy()?,
+        copies: resolve_copies(alloc, fragment.copies.as_slice())?,
     })
 }
 
@@ -80,14 +100,27 @@ pub(crate) fn resolve_fragments(
     relations: &[RelationPart],
     fragments: &[FragmentPart],
 ) -> Result<Fragments, NoMemory>
-    requires { length relations.now < 2 ^ 32 - 1 }
-    ensures { IfOk result (λ resolved. resolved ≡ map (fragment_from (relation_names relations.now)) fragments.now) }
+    requires relations { length relations.now < 2 ^ 32 - 1 }
+    requires copies { All IsAtModules fragments.now }
+    ensures value { IfOk result (λ resolved. resolved ≡ map (fragment_from (relation_names relations.now)) fragments.now) }
+    ensures named { IfOk result (λ resolved. All (λ f. IsName f.name) resolved) }
 {
     let mut resolved = Vec::new(alloc);
     for fragment in fragments {
-        resolved.push(resolve_fragment(relations, fragment)?)?;
+        resolved.push(resolve_fragment(alloc, relations, fragment)?)?;
     }
     Ok(Listed::from_vec(resolved))
+}
+
+fn resolve_read(fragments: &[FragmentPart], read: &ReadPart) -> Read
+    requires fragments { length fragments.now < 2 ^ 32 - 1 }
+    requires module { IsModule read.now.at }
+    ensures { result ≡ read_of (fragment_names fragments.now) read.now }
+{
+    Read {
+        fragment: FragNo(number_of(&read.fragment, fragments)),
+        at: DmNo(read.at as u8),
+    }
 }
 
 fn resolve_reads(
@@ -95,12 +128,13 @@ fn resolve_reads(
     fragments: &[FragmentPart],
     reads: &[ReadPart],
 ) -> Result<Reads, NoMemory>
-    requires { length fragments.now < 2 ^ 32 - 1 }
+    requires fragments { length fragments.now < 2 ^ 32 - 1 }
+    requires modules { All (λ r. IsModule r.at) reads.now }
     ensures { IfOk result (λ resolved. resolved ≡ map (read_of (fragment_names fragments.now)) reads.now) }
 {
     let mut resolved = Vec::new(alloc);
     for read in reads {
-        resolved.push((number_of(&read.fragment, fragments), read.at))?;
+        resolved.push(resolve_read(fragments, read))?;
     }
     Ok(Listed::from_vec(resolved))
 }
@@ -109,13 +143,13 @@ fn resolve_writes(
     alloc: Global,
     fragments: &[FragmentPart],
     writes: &[Name],
-) -> Result<Writes, NoMemory>
+) -> Result<Frags, NoMemory>
     requires { length fragments.now < 2 ^ 32 - 1 }
-    ensures { IfOk result (λ resolved. resolved ≡ map (λ name. number_of name (fragment_names fragments.now)) writes.now) }
+    ensures { IfOk result (λ resolved. resolved ≡ map (λ name. frag_no (number_of name (fragment_names fragments.now))) writes.now) }
 {
     let mut resolved = Vec::new(alloc);
     for name in writes {
-        resolved.push(number_of(name, fragments))?;
+        resolved.push(FragNo(number_of(name, fragments)))?;
     }
     Ok(Listed::from_vec(resolved))
 }
@@ -125,12 +159,14 @@ fn resolve_class(
     fragments: &[FragmentPart],
     class: &ClassPart,
 ) -> Result<Class, NoMemory>
-    requires { length fragments.now < 2 ^ 32 - 1 }
-    ensures { IfOk result (λ resolved. resolved ≡ class_of (fragment_names fragments.now) class.now) }
+    requires fragments { length fragments.now < 2 ^ 32 - 1 }
+    requires modules { RunsAtModules class.now }
+    ensures value { IfOk result (λ resolved. resolved ≡ class_of (fragment_names fragments.now) class.now) }
+    ensures named { IfOk result (λ resolved. IsName resolved.name) }
 {
     Ok(Class {
-        name: class.name.copy()?,
-        tm: class.tm,
+        name: copied(&class.name)?,
+        tm: TmNo(class.tm as u8),
         reads: resolve_reads(alloc, fragments, class.reads.as_slice())?,
         writes: resolve_writes(alloc, fragments, class.writes.as_slice())?,
     })
@@ -142,8 +178,10 @@ pub(crate) fn resolve_classes(
     fragments: &[FragmentPart],
     classes: &[ClassPart],
 ) -> Result<Classes, NoMemory>
-    requires { length fragments.now < 2 ^ 32 - 1 }
-    ensures { IfOk result (λ resolved. resolved ≡ map (class_of (fragment_names fragments.now)) classes.now) }
+    requires fragments { length fragments.now < 2 ^ 32 - 1 }
+    requires modules { All RunsAtModules classes.now }
+    ensures value { IfOk result (λ resolved. resolved ≡ map (class_of (fragment_names fragments.now)) classes.now) }
+    ensures named { IfOk result (λ resolved. All (λ c. IsName c.name) resolved) }
 {
     let mut resolved = Vec::new(alloc);
     for class in classes {

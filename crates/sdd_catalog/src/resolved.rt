@@ -1,5 +1,7 @@
+ghost use Rattle.std.proofs.Common.{rules};
+
 use crate::parts::Kind;
-use sdd_base::{Listed, Name, NoMemory, Parcel};
+use sdd_base::{DmNo, Exact, FragNo, Frags, Listed, Name, NoMemory, Parcel, RelNo, TmNo};
 
 /// A column of a relation.
 #[derive(Drop, Debug, PartialEq, Eq)]
@@ -27,16 +29,15 @@ pub type Relations = Listed<Relation>;
 #[derive(Drop, Debug, PartialEq, Eq)]
 pub struct Fragment {
     pub name: Name,
-    /// The number of its relation.
-    pub rel: u32,
+    /// Its relation.
+    pub rel: RelNo,
     pub least: i64,
     pub greatest: i64,
-    /// The numbers of the data modules that have a copy, as they were written down.
-    pub copies: Places,
+    pub copies: Copies,
 }
 
-/// Numbers of data modules.
-pub type Places = Listed<u32>;
+/// The data modules that have a copy of a fragment, in the order in which they were written down.
+pub type Copies = Listed<DmNo>;
 
 /// The fragments of a catalogue, which are numbered from 1.
 pub type Fragments = Listed<Fragment>;
@@ -45,21 +46,35 @@ pub type Fragments = Listed<Fragment>;
 #[derive(Drop, Debug, PartialEq, Eq)]
 pub struct Class {
     pub name: Name,
-    /// The number of the transaction module that runs it.
-    pub tm: u32,
+    /// The transaction module that runs it.
+    pub tm: TmNo,
     pub reads: Reads,
-    /// The numbers of the fragments that it writes.
-    pub writes: Writes,
+    /// The fragments that it writes, in the order in which they were written down.
+    pub writes: Frags,
 }
 
-/// The reads of a class: the number of each fragment, and that of the data module at which it is read.
-pub type Reads = Listed<(u32, u32)>;
+/// A fragment that a class reads, and the data module at which it reads it.
+#[derive(Clone, Copy, Debug, PartialEq, Eq)]
+pub struct Read {
+    pub fragment: FragNo,
+    pub at: DmNo,
+}
 
-/// Numbers of fragments.
-pub type Writes = Listed<u32>;
+/// The reads of a class, in the order in which they were written down.
+pub type Reads = Listed<Read>;
 
 /// The classes of a catalogue, which are numbered from 1.
 pub type Classes = Listed<Class>;
+
+impl Exact for Read {
+    ghost exact = { Prim.search rules };
+}
+
+impl Parcel for Read {
+    fn copy(&self) -> Result<Self, NoMemory> {
+        Ok(*self)
+    }
+}
 
 impl Parcel for Column {
     fn copy(&self) -> Result<Self, NoMemory> {

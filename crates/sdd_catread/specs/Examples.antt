@@ -6,7 +6,7 @@ use Rattle.toml.specs.Data.{Data, string, integer, array, table, no_items, item,
 use Rattle.sdd_catalog.specs.Rules.{faults_of, least_key, greatest_key}
 use Rattle.sdd_catalog.specs.declared.fault.CatRule.TheVariants.{NotToml, MissingField, WrongKind, UnknownField}
 use Rattle.sdd_catalog.specs.declared.fault.Part.TheVariants.{Relation, Fragment}
-use Rattle.sdd_catread.specs.Faults.{broken, numbered_place}
+use Rattle.sdd_catread.specs.Faults.{broken, numbered_location}
 use Rattle.sdd_catread.specs.Form.{top, fragment_at, relation_at, parts_at}
 use Rattle.sdd_catread.specs.Reading.{parts_in, catalogue_in}
 
@@ -25,12 +25,12 @@ unfolding parts_at
 shape_first = refl
 
 -- the second relation has no name
-second_relation : parts_at (file (array no_items) (array (item (table (member (codes "columns") (array no_items) (member (codes "key") (string (codes "a")) (member (codes "name") (string (codes "r")) no_members)))) (item (table no_members) no_items)))) ≡ Err (broken (numbered_place Relation 2) MissingField)
+second_relation : parts_at (file (array no_items) (array (item (table (member (codes "columns") (array no_items) (member (codes "key") (string (codes "a")) (member (codes "name") (string (codes "r")) no_members)))) (item (table no_members) no_items)))) ≡ Err (broken (numbered_location Relation 2) MissingField)
 unfolding parts_at relation_at
 second_relation = refl
 
 -- a fragment without bounds has every key
-no_bounds : fragment_at (numbered_place Fragment 1) (table (member (codes "copies") (array (item (integer (pos 1)) no_items)) (member (codes "name") (string (codes "f")) (member (codes "relation") (string (codes "r")) no_members))))
+no_bounds : fragment_at (numbered_location Fragment 1) (table (member (codes "copies") (array (item (integer (pos 1)) no_items)) (member (codes "name") (string (codes "f")) (member (codes "relation") (string (codes "r")) no_members))))
     ≡ Ok (record { name = codes "f"; relation = codes "r"; from = least_key; to = greatest_key; copies = 1 ∷ [] })
 unfolding fragment_at
 no_bounds = refl

@@ -3,12 +3,9 @@
 
 mod fields;
 mod lists;
-mod place;
+mod location;
 mod reading;
 mod spelled;
 mod tables;
 
 pub use reading::read_catalogue;
-
-#[cfg(test)]
-mod tests;

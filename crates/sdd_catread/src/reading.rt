@@ -1,27 +1,26 @@
 ghost use Rattle.std.specs.Prelude.{◌≡◌, IfOk, Ok};
 ghost use Rattle.toml.specs.View.{table_view};
 ghost use Rattle.sdd_catalog.specs.Catalogue.{parts_of};
-ghost use Rattle.sdd_catread.specs.Faults.{Gives};
+ghost use Rattle.sdd_base.specs.Readings.{Gives};
+ghost use Rattle.sdd_catalog.specs.Rules.{fault_in};
 ghost use Rattle.sdd_catread.specs.Form.{parts_at};
 ghost use Rattle.sdd_catread.specs.Reading.{parts_in, catalogue_in};
 
 use crate::fields::{field, only, tables, whole};
 use crate::lists::read_parts;
-use crate::place::Place;
+use crate::location::Location;
+use sdd_base::MAX_CATALOGUE_BYTES;
 use sdd_catalog::{CatError, CatRule, Catalogue, Part, Parts};
 use std::alloc::Global;
 use toml::Table;
 
-/// The most bytes that a file may have: 1 MiB.
-const MOST_BYTES: usize = 1 << 20;
-
 #[tactic(auto, unfolding(crate::specs::Form::parts_at))]
 fn parts(alloc: Global, fields: &Table) -> Result<Parts, CatError>
-    ensures { Gives (λ p. p) result (parts_at (table_view fields.now)) }
+    ensures { Gives fault_in (λ p. p) result (parts_at (table_view fields.now)) }
 {
-    let top = Place {
+    let top = Location {
         part: Part::Top,
-        no: 0,
+        number: 0,
     };
     only(
         top,
@@ -44,13 +43,13 @@ fn parts(alloc: Global, fields: &Table) -> Result<Parts, CatError>
 
 #[tactic(auto, unfolding(crate::specs::Reading::parts_in), using(crate::proofs::Views::document_of_slice, crate::proofs::Views::no_document))]
 fn parts_in(alloc: Global, bytes: &[u8]) -> Result<Parts, CatError>
-    ensures { Gives (λ p. p) result (parts_in bytes.now) }
+    ensures { Gives fault_in (λ p. p) result (parts_in bytes.now) }
 {
-    let top = Place {
+    let top = Location {
         part: Part::Top,
-        no: 0,
+        number: 0,
     };
-    if bytes.len() > MOST_BYTES {
+    if bytes.len() > MAX_CATALOGUE_BYTES {
         return Err(top.breaks(CatRule::TooLong));
     }
     match toml::table_from_slice(alloc, bytes) {
@@ -66,7 +65,7 @@ fn parts_in(alloc: Global, bytes: &[u8]) -> Result<Parts, CatError>
 /// Costs time in the square of what there is.
 #[tactic(auto, unfolding(crate::specs::Reading::catalogue_in))]
 pub fn read_catalogue(alloc: Global, bytes: &[u8]) -> Result<Catalogue, CatError>
-    ensures exact { Gives (λ built. built) result (catalogue_in bytes.now) }
+    ensures exact { Gives fault_in (λ built. built) result (catalogue_in bytes.now) }
     ensures parts { IfOk result (λ built. parts_in bytes.now ≡ Ok (parts_of built)) }
 {
     let parts = parts_in(alloc, bytes)?;

@@ -1,7 +1,12 @@
 use Rattle.std.proofs.Common.{◌≡◌, map, take}
+use Rattle.std.specs.List.{All}
+use Rattle.sdd_catalog.specs.Naming.{IsNamed}
 use Rattle.sdd_catalog.specs.Catalogue.{relation_of}
 use Rattle.sdd_catalog.proofs.resolve.resolve_relations.Given as goal
 
--- what is resolved are the parts so far
+-- what is resolved are the parts so far, whose names are names
 abbrev pub invariant-loop-relation : goal.invariant-loop-relation
-invariant-loop-relation l = l.resolved.items ≡ map (relation_of) (take l.relation-index l.relations)
+invariant-loop-relation l = record {
+  value : l.resolved.items ≡ map (relation_of) (take l.relation-index l.relations);
+  named : All IsNamed l.resolved.items;
+}

@@ -1,11 +1,12 @@
 use Rattle.std.proofs.Common.{List, subst, to_z-of_z}
 use Rattle.sdd_catalog.specs.Cover.{IsNumberFor}
 use Rattle.sdd_catalog.specs.declared.ranges.KeyRange.{KeyRange}
-use Rattle.sdd_catalog.proofs.FragmentOf.{fragment_of_number}
+use Rattle.sdd_catalog.proofs.FragmentOf.{one_holder}
 use Rattle.sdd_catalog.proofs.catalogue.Catalogue.fragment_of.Goals as goal
 
 pub returns : goal.returns
 returns c =
     let number = rw (to_z-of_z c.ranges.key) at c.number_for.ensures in
-    fragment_of_number c.args.self.now c.known.ensures.sound c.args.rel.0 c.args.key c.number_for.result c.requires.from c.requires.to
-    (subst (λ (ranges : List KeyRange). IsNumberFor ranges c.args.key c.number_for.result) c.ranges_of.ensures.is number)
+    let one = one_holder c.args.self.now c.known.ensures.sound c.args.rel.0 c.args.key c.number_for.result c.requires.from c.requires.to
+    (subst (λ (ranges : List KeyRange). IsNumberFor ranges c.args.key c.number_for.result) c.ranges_of.ensures.is number) in
+    record { there = one.there; holds = one.holds; only = one.only; number = one.number }

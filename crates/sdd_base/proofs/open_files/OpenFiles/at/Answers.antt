@@ -1,0 +1,8 @@
+use Rattle.std.proofs.Common.{◌≡◌, ◌<◌, length, take}
+use Rattle.sdd_base.proofs.Fronts.{slice_get-front}
+use Rattle.sdd_base.proofs.open_files.OpenFiles.at.Goals as goal
+
+pub returns : goal.returns
+returns c =
+    let within : c.args.number < length (take c.self.inside.count c.self.inside.slots) = rw c.self.view_is c.requires in
+    rw (← c.self.view_is) (slice_get-front c.self.inside.count c.self.inside.slots c.args.number _ within)

@@ -1,8 +1,0 @@
-use Rattle.std.proofs.Common.{◌≡◌, ◌<◌, length, take}
-use Rattle.sdd_base.proofs.PlaceLists.{front-set}
-use Rattle.sdd_base.proofs.places.Places.put.Goals as goal
-
-pub returns : goal.returns
-returns c =
-    let within : c.args.number < length (take c.self.inside.count c.self.inside.slots) = rw c.self.view_is c.requires in
-    rw (← c.self.view_is) (front-set c.self.inside.count c.self.inside.slots c.args.number c.args.place within)

@@ -1,0 +1,7 @@
+use Rattle.std.proofs.Common.{◌≡◌, map, take}
+use Rattle.sdd_base.specs.Numbers.{dm_no}
+use Rattle.sdd_catalog.proofs.resolve.resolve_copies.Given as goal
+
+-- what is resolved are the numbers so far
+abbrev pub invariant-loop-copy : goal.invariant-loop-copy
+invariant-loop-copy l = l.resolved.items ≡ map dm_no (take l.copy-index l.copies)
