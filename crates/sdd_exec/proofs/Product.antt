@@ -1,5 +1,5 @@
 -- The tuples of a product are the rows of the choices that are there; so a join finds the answer.
-use Rattle.std.specs.Prelude.{ℕ, ◌<◌, ◌≤◌, ◌≡◌, nat_lt, Bool, true, false, ◌&&◌, cond, List, [], ◌∷◌, length, Some, None, map, filter_map, drop, slice_index, slice_index_or, refl}
+use Rattle.std.specs.Prelude.{ℕ, ◌<◌, ◌≤◌, ◌≡◌, nat_lt, Bool, true, false, cond, List, [], ◌∷◌, length, Some, None, map, filter_map, drop, slice_index, slice_index_or, refl}
 use Rattle.std.proofs.Common.{◌∙◌, inl, ⊎_elim}
 use Rattle.std.proofs.lemmas.Bool.{ltb-true, lt-ltb, le-ltb}
 use Rattle.sdd_lang.specs.declared.condition.Ref.{Ref}
@@ -33,9 +33,10 @@ choice_of (rows ∷ parts) u h =
     let there : nat_lt place.0 (length rows) ≡ true = lt-ltb _ _ place.1 in
     (place.0 ∷ rest.0, rw there rest.1, rw (place.2, rest.2) two.2)
 
-found_row : (b : Bool) (row x : Row) → cond b (Some row) None ≡ Some x → (b ≡ true) × (row ≡ x)
-found_row true row x e = (refl, cc)
-found_row false row x e = absurd cc
+found_row : (there met : Bool) (row x : Row) → cond there (cond met (Some row) None) None ≡ Some x → (there ≡ true) × (met ≡ true) × (row ≡ x)
+found_row true true row x e = (refl, refl, cc)
+found_row true false row x e = absurd cc
+found_row false met row x e = absurd cc
 
 pub join_is_answer : (parts : List (List Row)) (out : List Ref) (conds : List Condition) (kept : List Choice) → HasAll parts conds kept
     → distinct (filter_map (row_from parts out conds) kept) ≡ distinct (projection out (selection conds (product parts)))
@@ -44,11 +45,10 @@ join_is_answer parts out conds kept all =
     (λ x h.
     let one = Has-filter_map_from (row_from parts out conds) kept x h in
     let c : Choice = one.0 in
-    let f = found_row (is_there parts c && meets_all conds (picked parts c)) (map (value_at (picked parts c)) out) x one.2 in
-    let b = both _ _ f.0 in
-    let in_all : Has (selection conds (product parts)) (picked parts c) = Has-filter (meets_all conds) (product parts) (picked parts c) (picked_in_product parts c b.0) b.1 in
+    let f = found_row (is_there parts c) (meets_all conds (picked parts c)) (map (value_at (picked parts c)) out) x one.2 in
+    let in_all : Has (selection conds (product parts)) (picked parts c) = Has-filter (meets_all conds) (product parts) (picked parts c) (picked_in_product parts c f.0) f.1 in
     let projected : Has (projection out (selection conds (product parts))) (map (value_at (picked parts c)) out) = Has-map (λ (tuple : Tuple). map (value_at tuple) out) _ (picked parts c) in_all in
-    rw f.1 at projected)
+    rw f.2 at projected)
     (λ x h.
     let one = Has-map_from (λ (tuple : Tuple). map (value_at tuple) out) (selection conds (product parts)) x h in
     let two = Has-filter_from (meets_all conds) (product parts) one.0 one.1 in

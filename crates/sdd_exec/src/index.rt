@@ -1,14 +1,14 @@
-ghost use Rattle.std.specs.Prelude.{◌≡◌, cond, ◌++◌, ◌∷◌, pos, List, [], IfOk};
+//! The rows of a part by their values in some of their columns.
+ghost use Rattle.std.specs.Prelude.{◌≡◌, cond, ◌++◌, ◌∷◌, List, [], IfOk};
 ghost use Rattle.std.specs.HashMap as hash;
 ghost use Rattle.std.specs.Option.{option_map_or};
 ghost use Rattle.sdd_base.specs.declared.value.Value.{Value};
-ghost use Rattle.sdd_base.specs.declared.value.Value.TheVariants.{Int};
+ghost use Rattle.sdd_lang.specs.Tuples.{rows_lent};
 ghost use Rattle.sdd_exec.specs.Choices as joins;
 
-use crate::choice::column_of;
 use crate::tie::{Tie, key_of};
-use sdd_base::{NoMemory, Parcel, Row, Value};
-use sdd_lang::Condition;
+use sdd_base::{NoMemory, Parcel, Row};
+use sdd_lang::{Condition, compare, value_in};
 use std::alloc::Global;
 use std::collections::HashMap;
 
@@ -16,31 +16,27 @@ use std::collections::HashMap;
 pub type Index = HashMap<Row, Vec<usize>>;
 
 /// Whether a row of a part meets the condition, where it names no other part.
-fn passes_one(part: usize, row: &Row, cond: &Condition, zero: &Value) -> bool
-    requires { zero.now ≡ Int (pos 0) }
+fn passes_one(part: usize, row: &Row, cond: &Condition) -> bool
     ensures { result ≡ joins.passes_one part row.now cond.now }
 {
     match cond {
         Condition::Const { left, op, value } => {
             left.part.saturating_sub(1) as usize != part
-                || op.admits(column_of(row, left.column, zero).cmp(value))
+                || op.admits(compare(value_in(row, left.column), Some(value)))
         }
         Condition::Same { left, right } => {
             left.part.saturating_sub(1) as usize != part
                 || right.part.saturating_sub(1) as usize != part
-                || column_of(row, left.column, zero)
-                    .cmp(column_of(row, right.column, zero))
-                    .is_eq()
+                || compare(value_in(row, left.column), value_in(row, right.column)).is_eq()
         }
     }
 }
 
 /// Whether a row of a part meets the conditions that name no other part.
-fn passes(part: usize, row: &Row, conds: &[Condition], zero: &Value) -> bool
-    requires { zero.now ≡ Int (pos 0) }
+fn passes(part: usize, row: &Row, conds: &[Condition]) -> bool
     ensures { result ≡ joins.passes part conds.now row.now }
 {
-    conds.iter().all(|cond| passes_one(part, row, cond, zero))
+    conds.iter().all(|cond| passes_one(part, row, cond))
 }
 
 /// Adds the place of a row with its values in the tied columns, where it meets the conditions that
@@ -53,15 +49,13 @@ fn add_keyed(
     ties: &[Tie],
     place: usize,
     row: &Row,
-    zero: &Value,
 ) -> Result<(), NoMemory>
-    requires { zero.now ≡ Int (pos 0) }
     ensures { IfOk result (λ _. keyed.new.items ≡ keyed.old.items ++ joins.keyed part conds.now ties.now place (row.now ∷ [])) }
 {
-    if !passes(part, row, conds, zero) {
+    if !passes(part, row, conds) {
         return Ok(());
     }
-    let key = key_of(alloc, ties, row, zero)?;
+    let key = key_of(alloc, ties, row)?;
     keyed.push((key, place))?;
     Ok(())
 }
@@ -71,18 +65,16 @@ fn add_keyed(
 #[tactic(auto, using(crate::proofs::Steps::key_steps))]
 fn keyed(
     alloc: Global,
-    rows: &[Row],
+    rows: &[&Row],
     part: usize,
     conds: &[Condition],
     ties: &[Tie],
-    zero: &Value,
 ) -> Result<Vec<(Row, usize)>, NoMemory>
-    requires { zero.now ≡ Int (pos 0) }
-    ensures { IfOk result (λ pairs. pairs.items ≡ joins.keyed part conds.now ties.now 0 rows.now) }
+    ensures { IfOk result (λ pairs. pairs.items ≡ joins.keyed part conds.now ties.now 0 (rows_lent rows.now)) }
 {
     let mut keyed = Vec::new(alloc);
     for (place, row) in rows.iter().enumerate() {
-        add_keyed(alloc, &mut keyed, part, conds, ties, place, row, zero)?;
+        add_keyed(alloc, &mut keyed, part, conds, ties, place, row)?;
     }
     Ok(keyed)
 }
@@ -136,14 +128,12 @@ pub fn places_of<'a>(index: &'a Index, key: &Row) -> &'a [usize]
 /// conditions which name no other part.
 pub fn index(
     alloc: Global,
-    rows: &[Row],
+    rows: &[&Row],
     part: usize,
     conds: &[Condition],
     ties: &[Tie],
-    zero: &Value,
 ) -> Result<Index, NoMemory>
-    requires { zero.now ≡ Int (pos 0) }
-    ensures { IfOk result (λ m. (q : List Value) → option_map_or (λ v. v.items) (hash.get joins.same_row m q) [] ≡ joins.places (joins.keyed part conds.now ties.now 0 rows.now) q) }
+    ensures { IfOk result (λ m. (q : List Value) → option_map_or (λ v. v.items) (hash.get joins.same_row m q) [] ≡ joins.places (joins.keyed part conds.now ties.now 0 (rows_lent rows.now)) q) }
 {
-    grouped(alloc, &keyed(alloc, rows, part, conds, ties, zero)?)
+    grouped(alloc, &keyed(alloc, rows, part, conds, ties)?)
 }

@@ -1,7 +1,8 @@
 ghost use Rattle.std.specs.Prelude.{◌≡◌, true, false, [], ◌∷◌, ◌++◌, OnOk, OnErr, IfOk, IsTrue};
+ghost use Rattle.sdd_lang.specs.Tuples.{rows_lent};
 ghost use Rattle.sdd_exec.specs.Snapshots.{rows_for};
 
-use sdd_base::{NoMemory, Parcel, Row, RowList};
+use sdd_base::{NoMemory, Row};
 use std::alloc::Global;
 use std::marker::Model;
 
@@ -52,32 +53,35 @@ impl Snapshot {
     }
 
     /// The rows of a use, in the order in which they were added. Costs time with all rows.
-    pub(crate) fn rows_for(&self, alloc: Global, use_no: u64) -> Result<RowList, NoMemory>
-        ensures { IfOk result (λ rows. rows ≡ rows_for self.now.value use_no) }
+    pub(crate) fn rows_for(&self, alloc: Global, use_no: u64) -> Result<Vec<&Row>, NoMemory>
+        ensures { IfOk result (λ rows. rows_lent rows.items ≡ rows_for self.now.value use_no) }
     {
         rows_of(alloc, self.rows.as_slice(), use_no)
     }
 }
 
 /// Adds the row, where it is of the use.
-fn add_row(rows: &mut Vec<Row>, shipped: &(u32, Row), use_no: u64) -> Result<(), NoMemory>
-    ensures { IfOk result (λ _. rows.new.items ≡ rows.old.items ++ rows_for (shipped.now ∷ []) use_no) }
+fn add_row<'a>(
+    rows: &mut Vec<&'a Row>,
+    shipped: &'a (u32, Row),
+    use_no: u64,
+) -> Result<(), NoMemory>
+    ensures { OnOk result (rows_lent rows.new.items ≡ rows_lent rows.old.items ++ rows_for (shipped.now ∷ []) use_no) }
 {
-    if u64::from(shipped.0) != use_no {
-        return Ok(());
+    if u64::from(shipped.0) == use_no {
+        rows.push(&shipped.1)?;
     }
-    rows.push(shipped.1.copy()?)?;
     Ok(())
 }
 
 /// The rows of a use.
 #[tactic(auto, using(crate::proofs::Shipping::rows_for_more))]
-fn rows_of(alloc: Global, shipped: &[(u32, Row)], use_no: u64) -> Result<RowList, NoMemory>
-    ensures { IfOk result (λ rows. rows ≡ rows_for shipped.now use_no) }
+fn rows_of(alloc: Global, shipped: &[(u32, Row)], use_no: u64) -> Result<Vec<&Row>, NoMemory>
+    ensures { IfOk result (λ rows. rows_lent rows.items ≡ rows_for shipped.now use_no) }
 {
     let mut rows = Vec::new(alloc);
     for one in shipped {
         add_row(&mut rows, one, use_no)?;
     }
-    Ok(RowList::from_vec(rows))
+    Ok(rows)
 }

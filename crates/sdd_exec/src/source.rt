@@ -1,15 +1,18 @@
+//! What statements find in the rows of a snapshot.
 ghost use Rattle.std.specs.Prelude.{◌≡◌, ◌+◌, ◌∷◌, [], ℕ, length, List, fold, IfOk};
 ghost use Rattle.sdd_catalog.specs.Catalogue.{key_column};
 ghost use Rattle.sdd_lang.specs.Condition as of_tuples;
 ghost use Rattle.sdd_lang.specs.Database.{key_in};
 ghost use Rattle.sdd_lang.specs.Source.{entries_of};
+ghost use Rattle.sdd_lang.specs.Tuples.{rows_lent};
 ghost use Rattle.sdd_exec.specs.Snapshots.{parts_for, found_for, chosen_for, with_chosen, of_relation};
 
-use crate::join::join;
+use crate::joins::join;
+use crate::parts::Parts;
 use crate::snapshot::Snapshot;
 use sdd_base::{NoMemory, Parcel, RelNo, Row, RowList, Value};
 use sdd_catalog::Catalogue;
-use sdd_lang::{Condition, Entries, Entry, Ref, Source, meets_all};
+use sdd_lang::{Condition, Entries, Entry, Ref, Source, meets_all, value_in};
 use std::alloc::Global;
 use std::collections::BTreeMap;
 
@@ -35,8 +38,7 @@ fn key_column(cat: &Catalogue, rel: RelNo) -> u32
 fn key_of(cat: &Catalogue, rel: RelNo, row: &Row) -> i64
     ensures { result ≡ key_in cat.now rel.0 row.now }
 {
-    let column = key_column(cat, rel).saturating_sub(1) as usize;
-    match row.as_slice().get(column) {
+    match value_in(row, key_column(cat, rel)) {
         Some(Value::Int(number)) => *number,
         _ => 0,
     }
@@ -67,9 +69,9 @@ fn entries_by_key(
     cat: &Catalogue,
     rel: RelNo,
     conds: &[Condition],
-    rows: &[Row],
+    rows: &[&Row],
 ) -> Result<BTreeMap<i64, Row>, NoMemory>
-    ensures { IfOk result (λ entries. of_relation rel.0 entries.entries ≡ fold (with_chosen cat.now rel.0 conds.now) [] rows.now) }
+    ensures { IfOk result (λ entries. of_relation rel.0 entries.entries ≡ fold (with_chosen cat.now rel.0 conds.now) [] (rows_lent rows.now)) }
 {
     let mut entries = BTreeMap::new(alloc);
     for row in rows {
@@ -90,15 +92,15 @@ fn listed(alloc: Global, entries: BTreeMap<i64, Row>) -> Result<Entries, NoMemor
 }
 
 /// The rows of the uses of a query.
-fn parts(
+fn parts<'a>(
     alloc: Global,
-    snap: &Snapshot,
+    snap: &'a Snapshot,
     before: u32,
     rels: &[RelNo],
-) -> Result<Vec<RowList>, NoMemory>
-    ensures { IfOk result (λ parts. parts.items ≡ parts_for snap.now.value before (length rels.now)) }
+) -> Result<Parts<'a>, NoMemory>
+    ensures { IfOk result (λ parts. parts ≡ parts_for snap.now.value before (length rels.now)) }
 {
-    let mut parts = Vec::new(alloc);
+    let mut parts = Parts::new(alloc);
     for part in 0..rels.len() {
         parts.push(snap.rows_for(alloc, u64::from(before) + part as u64 + 1)?)?;
     }

@@ -1,10 +1,11 @@
-ghost use Rattle.std.specs.Prelude.{◌≡◌, ◌-◌, pos, IfOk};
-ghost use Rattle.sdd_base.specs.declared.value.Value.TheVariants.{Int};
+//! Equalities that tie a part to those that were taken before it.
+ghost use Rattle.std.specs.Prelude.{◌≡◌, ◌-◌, IfOk};
 ghost use Rattle.sdd_exec.specs.Choices as joins;
 
-use crate::choice::{column_of, value_in};
-use sdd_base::{NoMemory, Parcel, Row, RowList, Value};
-use sdd_lang::{Condition, Ref};
+use crate::choice::value_at;
+use crate::parts::Parts;
+use sdd_base::{NoMemory, Row};
+use sdd_lang::{Condition, Ref, copied, value_in};
 use std::alloc::Global;
 
 /// A column of a part that is to equal a column of a part that was taken before it.
@@ -72,13 +73,12 @@ pub fn ties(
 }
 
 /// The values of a row in the columns of its ties.
-pub fn key_of(alloc: Global, ties: &[Tie], row: &Row, zero: &Value) -> Result<Row, NoMemory>
-    requires { zero.now ≡ Int (pos 0) }
+pub fn key_of(alloc: Global, ties: &[Tie], row: &Row) -> Result<Row, NoMemory>
     ensures { IfOk result (λ key. key ≡ joins.key_of ties.now row.now) }
 {
     let mut key = Vec::with_capacity(alloc, ties.len())?;
     for tie in ties {
-        key.push(column_of(row, tie.column, zero).copy()?)?;
+        key.push(copied(value_in(row, tie.column))?)?;
     }
     Ok(Row::from_vec(key))
 }
@@ -87,16 +87,14 @@ pub fn key_of(alloc: Global, ties: &[Tie], row: &Row, zero: &Value) -> Result<Ro
 pub fn key_for(
     alloc: Global,
     ties: &[Tie],
-    parts: &[RowList],
+    parts: &Parts,
     choice: &[usize],
-    zero: &Value,
 ) -> Result<Row, NoMemory>
-    requires { zero.now ≡ Int (pos 0) }
     ensures { IfOk result (λ key. key ≡ joins.key_for ties.now (joins.picked parts.now choice.now)) }
 {
     let mut key = Vec::with_capacity(alloc, ties.len())?;
     for tie in ties {
-        key.push(value_in(parts, choice, tie.to, zero).copy()?)?;
+        key.push(copied(value_at(parts, choice, tie.to))?)?;
     }
     Ok(Row::from_vec(key))
 }

@@ -226,7 +226,7 @@ set_stays cat db rel key (Some row) is there held has = with_row_stays cat db (r
 pub change_stays : (cat : Catalogue) → IsSound cat → (db : Database) (c : Change) → IsDatabase cat db → IsChange cat ((c.frag.0, c.key), c.row) → IsDatabase cat (changed_by cat db c)
 change_stays cat sound db c is change =
     let holder = fragment_holds cat sound change.rel c.key change.there.0 change.there.1 (key_in_range c.key change.held) in
-    let rel : (fragment_at cat c.frag.0).rel ≡ change.rel = ap (λ f. (fragment_at cat f).rel) change.frag ∙ holder.holds.rel_is in
+    let rel : (fragment_at cat c.frag.0).rel.0 ≡ change.rel = ap (λ f. (fragment_at cat f).rel.0) change.frag ∙ holder.holds.rel_is in
     subst (λ r. IsDatabase cat (set_to db (r, c.key) c.row)) (sym rel) (set_stays cat db change.rel c.key c.row is change.there change.held change.row)
 
 pub changes_stay : (cat : Catalogue) → IsSound cat → (db : Database) (changes : List Change) → IsDatabase cat db → AllByRecursion (λ (c : Change). IsChange cat ((c.frag.0, c.key), c.row)) changes → IsDatabase cat (after_changes cat db changes)

@@ -36,10 +36,5 @@ pub use replace::replaced;
 pub use source::{Entries, Entry, Source};
 pub use statement::{Rels, Statements, Stmt};
 pub use transaction::Txn;
-pub use tuple::{key_of, may_stand, meets_all, project, value_at};
+pub use tuple::{compare, copied, key_of, may_stand, meets_all, project, value_at, value_in};
 pub use usage::uses;
-
-#[cfg(test)]
-mod set_tests;
-#[cfg(test)]
-mod tests;

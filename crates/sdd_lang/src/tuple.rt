@@ -13,8 +13,9 @@ use sdd_catalog::Catalogue;
 use std::alloc::Global;
 use std::cmp::Ordering;
 
-/// The value of a row's column, or None where the column isn't there. Takes no memory.
-pub(crate) fn value_in(row: &Row, number: u32) -> Option<&Value>
+/// The value of a row's column, or None where the column isn't there: then it counts as the number 0.
+/// Takes no memory.
+pub fn value_in(row: &Row, number: u32) -> Option<&Value>
     ensures { held result ≡ column row.now number }
 {
     row.as_slice().get((number as usize).saturating_sub(1))
@@ -42,8 +43,8 @@ pub fn key_of(cat: &Catalogue, rel: RelNo, row: &Row) -> i64
     }
 }
 
-/// Compares two values, of which one that isn't there counts as the number 0.
-fn compare(left: Option<&Value>, right: Option<&Value>) -> Ordering
+/// Compares two values, of which one that isn't there counts as the number 0. Takes no memory.
+pub fn compare(left: Option<&Value>, right: Option<&Value>) -> Ordering
     ensures { result ≡ value_cmp (held left.entry) (held right.entry) }
 {
     let zero = Value::Int(0);
@@ -99,7 +100,8 @@ pub fn may_stand(conds: &[Condition], part: usize, row: &Row) -> bool
     each_lets_stand(conds, part, row)
 }
 
-fn copied(value: Option<&Value>) -> Result<Value, NoMemory>
+/// A copy of the value, or the number 0 where it isn't there.
+pub fn copied(value: Option<&Value>) -> Result<Value, NoMemory>
     ensures { IfOk result (λ copy. copy ≡ held value.entry) }
 {
     match value {

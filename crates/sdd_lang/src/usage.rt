@@ -125,7 +125,7 @@ fn meets_keys(cat: &Catalogue, rel: RelNo, keys: &Keys, frag: FragNo) -> bool
     ensures { result ≡ meets_keys cat.now rel.0 keys.now frag.0 }
 {
     let fragment = cat.fragment(frag);
-    fragment.rel == rel.0 && keys.meets(&fragment.least, &fragment.greatest)
+    fragment.rel == rel && keys.meets(&fragment.least, &fragment.greatest)
 }
 
 /// The conditions that compare a column of the part with a constant, as restrictions of the part.

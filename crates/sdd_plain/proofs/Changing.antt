@@ -5,5 +5,5 @@ use Rattle.sdd_catalog.specs.Catalogue.{Catalogue, fragment_at}
 use Rattle.sdd_lang.specs.Database.{Database, without_row}
 use Rattle.sdd_lang.specs.Serial.{set_to, changed_by}
 
-pub change_to_none : (cat : Catalogue) (db : Database) (c : Change) (rel : ℕ) → rel ≡ (fragment_at cat c.frag.0).rel → c.row ≡ None → without_row db (rel, c.key) ≡ changed_by cat db c
-change_to_none cat db c rel is none = ap (λ n. without_row db (n, c.key)) is ∙ ap (set_to db ((fragment_at cat c.frag.0).rel, c.key)) (sym none)
+pub change_to_none : (cat : Catalogue) (db : Database) (c : Change) (rel : ℕ) → rel ≡ (fragment_at cat c.frag.0).rel.0 → c.row ≡ None → without_row db (rel, c.key) ≡ changed_by cat db c
+change_to_none cat db c rel is none = ap (λ n. without_row db (n, c.key)) is ∙ ap (set_to db ((fragment_at cat c.frag.0).rel.0, c.key)) (sym none)

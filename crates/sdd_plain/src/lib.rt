@@ -6,7 +6,6 @@
 #![tactic(auto)]
 
 mod plain;
-mod product;
 mod rows;
 
 pub use plain::{Plain, Replies};

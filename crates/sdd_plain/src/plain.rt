@@ -5,13 +5,12 @@ ghost use Rattle.sdd_lang.specs.Fits.{Fits, FitsStart};
 ghost use Rattle.sdd_lang.specs.Serial.{after_changes, serial};
 ghost use Rattle.sdd_lang.specs.Source.{found_in, chosen_in};
 
-use crate::product::{Asked, gather};
 use crate::rows::Rows;
 use sdd_base::{Listed, NoMemory, RelNo, Reply, Row, RowList};
 use sdd_catalog::Catalogue;
+use sdd_exec::join;
 use sdd_lang::{Condition, Effect, Entries, Ref, Source, Txn, effect_over};
 use std::alloc::Global;
-use std::collections::BTreeSet;
 use std::marker::Model;
 
 /// The replies of transactions, in their order.
@@ -103,6 +102,7 @@ impl Source for Plain {
 
     ghost chosen = { λ plain. chosen_in plain.value };
 
+    #[tactic(auto, using(crate::proofs::Answering::answer_standing))]
     fn query(
         &self,
         alloc: Global,
@@ -113,18 +113,7 @@ impl Source for Plain {
         room: usize,
     ) -> Result<Option<RowList>, NoMemory> {
         let parts = self.rows.parts(alloc, rels, conds)?;
-        let asked = Asked { out, conds, room };
-        let mut found = BTreeSet::new(alloc);
-        match gather(
-            alloc,
-            &asked,
-            &mut Vec::new(alloc),
-            parts.as_slice(),
-            &mut found,
-        )? {
-            true => Ok(Some(RowList::from_vec(found.into_iter().collect(alloc)?))),
-            false => Ok(None),
-        }
+        join(alloc, &parts, out, conds, room)
     }
 
     fn matching(
@@ -137,6 +126,3 @@ impl Source for Plain {
         self.rows.matching(alloc, rel, conds)
     }
 }
-
-#[cfg(test)]
-mod tests;

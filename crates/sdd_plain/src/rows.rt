@@ -1,5 +1,5 @@
 //! The rows of all relations in memory.
-ghost use Rattle.std.specs.Prelude.{◌≡◌, ◌==◌, ◌+◌, [], All, IfOk, OnOk, filter, map};
+ghost use Rattle.std.specs.Prelude.{◌≡◌, ◌==◌, ◌+◌, [], All, IfOk, OnOk, filter};
 ghost use Rattle.sdd_catalog.specs.Catalogue.{fragment_at};
 ghost use Rattle.sdd_lang.specs.Database.{with_row, without_row, rows_of, database_of};
 ghost use Rattle.sdd_lang.specs.Serial.{changed_by, after_changes};
@@ -11,6 +11,7 @@ ghost use Rattle.sdd_plain.specs.Parts.{standing};
 
 use sdd_base::{Change, FragNo, NoMemory, Parcel, RelNo, Row};
 use sdd_catalog::Catalogue;
+use sdd_exec::Parts;
 use sdd_lang::{Condition, Entries, Entry, key_of, may_stand, meets_all};
 use std::alloc::Global;
 use std::collections::BTreeMap;
@@ -125,10 +126,10 @@ impl Rows {
         alloc: Global,
         rels: &[RelNo],
         conds: &[Condition],
-    ) -> Result<Vec<Vec<&Row>>, NoMemory>
-        ensures { IfOk result (λ parts. map (λ rows. rows_lent rows.items) parts.items ≡ standing self.now conds.now 1 rels.now) }
+    ) -> Result<Parts<'_>, NoMemory>
+        ensures { IfOk result (λ parts. parts ≡ standing self.now conds.now 1 rels.now) }
     {
-        let mut parts = Vec::new(alloc);
+        let mut parts = Parts::new(alloc);
         'rels: for i in 0..rels.len() {
             parts.push(self.part(alloc, rels[i], i + 1, conds)?)?;
         }
@@ -165,11 +166,11 @@ impl Rows {
 
 /// The relation of a fragment, or 0 where the fragment isn't there. Number 0 stands for fragment 1.
 fn relation_of(cat: &Catalogue, frag: FragNo) -> u32
-    ensures { result ≡ (fragment_at cat.now frag.0).rel }
+    ensures { result ≡ (fragment_at cat.now frag.0).rel.0 }
 {
     let number = frag.0.max(1);
     if number <= cat.fragments() {
-        cat.fragment(FragNo(number)).rel
+        cat.fragment(FragNo(number)).rel.0
     } else {
         0
     }

@@ -1,6 +1,6 @@
 -- A loop that asks each item of a list.
 use Rattle.std.proofs.Common.{◌≡◌, ℕ, suc, ◌+◌, ◌<◌, ◌≤◌, List, [], ◌∷◌, ◌++◌, length, get_or, drop, Result, Ok, Err, refl, sym, ap, ◌∙◌, append_assoc, append-nil, drop-cons, add-one}
-use Rattle.std.proofs.lemmas.List.{drop_all}
+use Rattle.std.proofs.lemmas.List.{drop_all, get_or_default}
 use Rattle.sdd_words.specs.Steps.{◌>>=◌, each_at}
 use Rattle.sdd_script.specs.declared.fault.WorkRule.{WorkRule}
 use Rattle.sdd_script.specs.declared.fault.LineError.{LineError}
@@ -32,6 +32,15 @@ pub is_done : {A B : Type 0} (f : ℕ → A → Result B WorkRule) (xs : List A)
     → with_front front (each_at f i (drop i xs)) ≡ total → total ≡ Ok front
 unfolding each_at
 is_done f xs front i total past so_far = sym so_far ∙ ap (λ l. with_front front (each_at f i l)) (drop_all i xs past) ∙ ap (λ l. Ok l) (append-nil front)
+
+-- the same of an item by its index, with any default
+pub goes_on_at : {A B : Type 0} (f : ℕ → A → Result B WorkRule) (xs : List A) (d : A) (y : B) (front : List B) (i : ℕ) (total : Result (List B) WorkRule) → i < length xs → f i (get_or xs i d) ≡ Ok y
+    → with_front front (each_at f i (drop i xs)) ≡ total → with_front (front ++ y ∷ []) (each_at f (i + 1) (drop (i + 1) xs)) ≡ total
+goes_on_at f xs d y front i total lt e so_far = goes_on f xs (get_or xs i d) y front i total lt (get_or_default xs i d (get_or xs i d) lt) e so_far
+
+pub ends_at : {A B : Type 0} (f : ℕ → A → Result B WorkRule) (xs : List A) (d : A) (err : LineError) (front : List B) (i : ℕ) (total : Result (List B) WorkRule) → i < length xs → Fails err (f i (get_or xs i d))
+    → with_front front (each_at f i (drop i xs)) ≡ total → Fails err total
+ends_at f xs d err front i total lt e so_far = ends f xs (get_or xs i d) err front i total lt (get_or_default xs i d (get_or xs i d) lt) e so_far
 
 pub fails_bind : {A B : Type 0} (err : LineError) (read : Result A WorkRule) (f : A → Result B WorkRule) → Fails err read → Fails err (read >>= f)
 fails_bind errors.NoMemory read f h = tt

@@ -3,7 +3,6 @@ pub mod AssignLaws
 pub mod ConditionLaws
 pub mod Each
 pub mod EventLaws
-pub mod Exits
 pub mod FewColumns
 pub mod FineLines
 pub mod KnownCatalogues

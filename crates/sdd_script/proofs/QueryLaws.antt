@@ -1,5 +1,5 @@
 -- Statements: what is read is spelled and fits, and what is spelled and fits is read.
-use Rattle.std.proofs.Common.{◌≡◌, ℕ, suc, ◌<◌, ◌≤◌, List, [], ◌∷◌, ◌++◌, length, map, Bool, true, false, ◌&&◌, ltb, Option, Some, Ok, refl, sym, ap, subst, ◌∙◌, arith, append-nil}
+use Rattle.std.proofs.Common.{◌≡◌, ℕ, suc, ◌<◌, ◌≤◌, List, [], ◌∷◌, ◌++◌, length, map, Bool, true, false, ◌&&◌, ltb, Option, Some, Result, Ok, refl, sym, ap, subst, ◌∙◌, arith, append-nil}
 use Rattle.std.specs.Prelude.{codes, nat_le, nat_lt}
 use Rattle.std.specs.List.{AllByRecursion, list_all}
 use Rattle.std.proofs.lemmas.Bool.{ltb-true, lt-ltb}
@@ -23,10 +23,11 @@ use Rattle.sdd_script.specs.Columns.{Parts, column_of_use, conditions_of}
 use Rattle.sdd_script.specs.LineRules.{statement_limits, most_statements, most_parts, most_conditions, most_columns}
 use Rattle.sdd_script.specs.Naming.{name_of_relation, relation_of}
 use Rattle.sdd_script.specs.Spelling.{relation_word, column_word, row_words, condition_words, conditions_words, where_words, statement_words}
-use Rattle.sdd_script.specs.Statements.{put_of, listed_column, part_of, parts_of, query_of_parts, query_behind_from, query_of}
+use Rattle.sdd_script.specs.Statements.{put_of, listed_column, part_in, parts_of, query_over, query_of_parts, query_behind_from, query_of}
 use Rattle.sdd_script.specs.Valid.{IsValue, HoldsValue, HoldsValues}
 use Rattle.sdd_script.specs.Values.{rel_no, row_of}
 use Rattle.sdd_script.specs.declared.fault.Counts.TheVariants as counts
+use Rattle.sdd_script.specs.declared.fault.WorkRule.{WorkRule}
 use Rattle.sdd_script.specs.declared.fault.WorkRule.TheVariants.{BadLine, UnknownName, TooMany}
 use Rattle.sdd_script.specs.declared.found.Found.{Found}
 use Rattle.sdd_script.proofs.StepLaws.{bind_ok, ok_is, must_then, must_ok, known_then, both_hold, both_are, Answer, each_ok, ok_each, le_of, of_le, two_same}
@@ -111,6 +112,21 @@ put_again cat k rel row h =
 
 -- ---- the relations and columns of a query
 
+abbrev part_of : Catalogue → Word → Result RelNo WorkRule
+part_of cat word = part_in (relation_of cat word)
+
+-- the relations of the parts are those of the words
+parts_named : (cat : Catalogue) (i : ℕ) (words : List Word) → each_at (λ i p. part_in p) i (parts_of cat words) ≡ each_at (λ i w. part_of cat w) i words
+unfolding each_at
+parts_named cat i [] = refl
+parts_named cat i (w ∷ ws) = ap (λ (r : Result (List RelNo) WorkRule). part_of cat w >>= λ y. r >>= λ ys. Ok (y ∷ ys)) (parts_named cat (suc i) ws)
+
+by_words : (cat : Catalogue) (columns rels : List Word) (cs : List Comparison) → query_of_parts cat columns rels cs
+    ≡ (each_at (λ i w. listed_column cat (parts_of cat rels) w) 0 columns >>= λ out. each_at (λ i w. part_of cat w) 0 rels >>= λ found. conditions_of cat (parts_of cat rels) cs >>= λ conds. Ok (Query out found conds))
+unfolding query_over
+by_words cat columns rels cs =
+    ap (λ (r : Result (List RelNo) WorkRule). each_at (λ i w. listed_column cat (parts_of cat rels) w) 0 columns >>= λ out. r >>= λ found. conditions_of cat (parts_of cat rels) cs >>= λ conds. Ok (Query out found conds)) (parts_named cat 0 rels)
+
 two_parts : (a b : Option ℕ) (xs ys : Parts) → a ≡ b → xs ≡ ys → a ∷ xs ≡ b ∷ ys
 two_parts a b xs ys p q = cc
 
@@ -194,9 +210,8 @@ not_empty_again f (x ∷ xs) h = refl
 
 query_parts_take : (cat : Catalogue) (columns rels rest : List Word) (cs : List Comparison) (s : Stmt) → look_like_columns columns ≡ true → are_free rels ≡ true → comparisons (codes "where") rest ≡ Some cs
     → query_of_parts cat columns rels cs ≡ Ok s → IsStatement cat (codes "query") (columns ++ Plain (codes "from") ∷ (rels ++ rest)) s
-unfolding query_of_parts
 query_parts_take cat columns rels rest cs s look free form e =
-    let a = bind_ok (each_at (λ i w. listed_column cat (parts_of cat rels) w) 0 columns) (λ out. each_at (λ i w. part_of cat w) 0 rels >>= λ found. conditions_of cat (parts_of cat rels) cs >>= λ conds. Ok (Query out found conds)) s e in
+    let a = bind_ok (each_at (λ i w. listed_column cat (parts_of cat rels) w) 0 columns) (λ out. each_at (λ i w. part_of cat w) 0 rels >>= λ found. conditions_of cat (parts_of cat rels) cs >>= λ conds. Ok (Query out found conds)) s (sym (by_words cat columns rels cs) ∙ e) in
     let b = bind_ok (each_at (λ i w. part_of cat w) 0 rels) (λ found. conditions_of cat (parts_of cat rels) cs >>= λ conds. Ok (Query a.0 found conds)) s a.2 in
     let c = bind_ok (conditions_of cat (parts_of cat rels) cs) (λ conds. Ok (Query a.0 b.0 conds)) s b.2 in
     let p = parts_take cat 0 rels b.0 (each_ok (λ i w. part_of cat w) 0 rels b.0 b.1) in
@@ -247,13 +262,13 @@ query_fits cat out rels conds h v = record {
 
 query_parts_again : (cat : Catalogue) → IsKnown cat → (out : List Ref) (rels : List RelNo) (conds : List Condition) → FitsQuery cat out rels conds
     → query_of_parts cat (map (column_word cat rels) out) (map (relation_word cat) rels) (map (comparison_for cat rels) conds) ≡ Ok (Query out rels conds)
-unfolding query_of_parts
 query_parts_again cat k out rels conds h =
     let p = parts_are cat k rels h.relations in
     let a : each_at (λ i w. listed_column cat (parts_for rels) w) 0 (map (column_word cat rels) out) ≡ Ok out = ok_each (λ i w. listed_column cat (parts_for rels) w) 0 (map (column_word cat rels) out) out (columns_again cat k rels h.parts 0 out h.columns) in
     let b : each_at (λ i w. part_of cat w) 0 (map (relation_word cat) rels) ≡ Ok rels = ok_each (λ i w. part_of cat w) 0 (map (relation_word cat) rels) rels (parts_again cat k rels h.relations 0) in
     let c = conditions_again cat k rels h.parts conds h.conds_fit h.conds_hold in
-    ap (λ (q : Parts). each_at (λ i w. listed_column cat q w) 0 (map (column_word cat rels) out) >>= λ o. each_at (λ i w. part_of cat w) 0 (map (relation_word cat) rels) >>= λ found. conditions_of cat q (map (comparison_for cat rels) conds) >>= λ cs. Ok (Query o found cs)) p
+    by_words cat (map (column_word cat rels) out) (map (relation_word cat) rels) (map (comparison_for cat rels) conds)
+    ∙ ap (λ (q : Parts). each_at (λ i w. listed_column cat q w) 0 (map (column_word cat rels) out) >>= λ o. each_at (λ i w. part_of cat w) 0 (map (relation_word cat) rels) >>= λ found. conditions_of cat q (map (comparison_for cat rels) conds) >>= λ cs. Ok (Query o found cs)) p
     ∙ rw (a, b, c) refl
 
 all_free_names : (cat : Catalogue) → IsKnown cat → (rels : List RelNo) → AllByRecursion (λ (r : RelNo). IsRelation cat r.0) rels → list_all is_free (map (relation_word cat) rels) ≡ true

@@ -1,5 +1,5 @@
 -- Statements, by the words behind the first word of their lines.
-use Rattle.std.specs.Prelude.{ℕ, ℤ, ◌==◌, ◌&&◌, not, List, [], ◌∷◌, map, codes, Some, Result, Ok, Err, if◌then◌else◌}
+use Rattle.std.specs.Prelude.{ℕ, ℤ, ◌==◌, ◌&&◌, not, List, [], ◌∷◌, map, codes, Some, Result, Ok, Err, if◌then◌else◌, Option}
 use Rattle.sdd_base.specs.declared.number.RelNo.{RelNo}
 use Rattle.sdd_base.specs.declared.value.Value.{Value}
 use Rattle.sdd_catalog.specs.Catalogue.{Catalogue}
@@ -37,20 +37,24 @@ put_of cat (name ∷ words) =
 abbrev pub listed_column : Catalogue → Parts → Word → Result Ref WorkRule
 listed_column cat parts word = column_of_use cat parts word >>= λ (f : Found). Ok f.at
 
-abbrev pub part_of : Catalogue → Word → Result RelNo WorkRule
-part_of cat word = known UnknownName (relation_of cat word) >>= λ rel. Ok (rel_no rel)
+-- the relation of a part, which has to be there
+abbrev pub part_in : Option ℕ → Result RelNo WorkRule
+part_in part = known UnknownName part >>= λ rel. Ok (rel_no rel)
 
 -- the relations of words by their places
 abbrev pub parts_of : Catalogue → List Word → Parts
 parts_of cat words = map (λ w. relation_of cat w) words
 
 -- the columns, which may name the relations behind them, then the relations, then the conditions
-unfoldable pub query_of_parts : Catalogue → List Word → List Word → List Comparison → Result Stmt WorkRule
-query_of_parts cat columns rels comparisons =
-    each_at (λ i w. listed_column cat (parts_of cat rels) w) 0 columns >>= λ out.
-    each_at (λ i w. part_of cat w) 0 rels >>= λ found.
-    conditions_of cat (parts_of cat rels) comparisons >>= λ conds.
-    Ok (Query out found conds)
+unfoldable pub query_over : Catalogue → Parts → List Word → List Comparison → Result Stmt WorkRule
+query_over cat parts columns comparisons =
+    each_at (λ i w. listed_column cat parts w) 0 columns >>= λ out.
+    each_at (λ i p. part_in p) 0 parts >>= λ rels.
+    conditions_of cat parts comparisons >>= λ conds.
+    Ok (Query out rels conds)
+
+abbrev pub query_of_parts : Catalogue → List Word → List Word → List Comparison → Result Stmt WorkRule
+query_of_parts cat columns rels comparisons = query_over cat (parts_of cat rels) columns comparisons
 
 abbrev pub query_behind_from : Catalogue → List Word → List Word → List Word → Result Stmt WorkRule
 query_behind_from cat columns rels rest =

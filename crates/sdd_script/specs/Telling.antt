@@ -1,5 +1,8 @@
 -- What a function that reads a file returned, by the reading that its definition is.
-use Rattle.std.specs.Prelude.{◌≡◌, Result, Ok, Err}
+use Rattle.std.specs.Prelude.{◌≡◌, ℕ, Result, Ok, Err}
+use Rattle.sdd_script.specs.declared.fault.LineError.{LineError}
+use Rattle.sdd_script.specs.declared.fault.LineError.TheVariants.{Broken}
+use Rattle.sdd_script.specs.declared.fault.LineError.TheVariants as errors
 use Rattle.sdd_script.specs.declared.fault.WorkFault.{WorkFault}
 use Rattle.sdd_script.specs.declared.fault.WorkError.{WorkError}
 use Rattle.sdd_script.specs.declared.fault.WorkError.TheVariants.{Fault, NoMemory}
@@ -9,3 +12,8 @@ abbrev pub Tells : {X : Type 0} → Result X WorkError → Result X WorkFault �
 Tells (Ok x) reading = reading ≡ Ok x
 Tells (Err (Fault fault)) reading = reading ≡ Err fault
 Tells (Err NoMemory) reading = Unit {0}
+
+-- what went wrong on a line, told with the line's number
+abbrev pub told_at : ℕ → LineError → WorkError
+told_at line (Broken rule) = Fault (record { line = line; rule = rule })
+told_at line errors.NoMemory = NoMemory

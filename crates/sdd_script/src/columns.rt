@@ -5,7 +5,7 @@ ghost use Rattle.sdd_words.specs.declared.word.Word.TheVariants.{Plain};
 ghost use Rattle.sdd_script.specs.Rules.{Gives};
 ghost use Rattle.sdd_script.specs.Columns.{use_in, use_at, use_numbered, column_in, column_of_use, same_of, const_of, condition_of, conditions_of};
 
-use crate::fault::{LineError, WorkRule};
+use crate::fault::{LineError, WorkRule, broken, known, must};
 use crate::found::Found;
 use crate::naming::{column_named, columns_of, kind_of_place};
 use crate::values::{is_of_kind, read_value};
@@ -19,46 +19,31 @@ use std::alloc::Global;
 fn use_at(parts: &[Option<u32>], part: i64) -> Option<(u32, u32)>
     ensures { result ≡ use_at parts.now part }
 {
-    match u32::try_from(part) {
-        Ok(part) => {
-            if part == 0 {
-                return None;
-            }
-            match parts.get(part as usize - 1) {
-                Some(Some(rel)) => Some((part, *rel)),
-                _ => None,
-            }
-        }
-        Err(_) => None,
+    let part = u32::try_from(part).ok()?;
+    let place = part.checked_sub(1)?;
+    match parts.get(place as usize) {
+        Some(Some(rel)) => Some((part, *rel)),
+        _ => None,
     }
 }
 
 fn use_numbered(parts: &[Option<u32>], part: Option<i64>) -> Option<(u32, u32)>
     ensures { result ≡ use_numbered parts.now part }
 {
-    match part {
-        Some(part) => use_at(parts, part),
-        None => None,
-    }
+    use_at(parts, part?)
 }
 
 fn column_in(columns: &[Column], part: u32, name: &[u8]) -> Result<Found, LineError>
     requires { length columns.now < 2 ^ 32 - 1 }
     ensures { Gives (λ f. f) result (column_in columns.now part name.now) }
 {
-    match column_named(columns, name) {
-        None => Err(LineError::Broken(WorkRule::UnknownName)),
-        Some(place) => match kind_of_place(columns, place) {
-            None => Err(LineError::Broken(WorkRule::UnknownName)),
-            Some(kind) => Ok(Found {
-                at: Ref {
-                    part,
-                    column: place as u32 + 1,
-                },
-                kind,
-            }),
-        },
-    }
+    let place = known(WorkRule::UnknownName, column_named(columns, name))?;
+    let kind = known(WorkRule::UnknownName, kind_of_place(columns, place))?;
+    let column = place as u32 + 1;
+    Ok(Found {
+        at: Ref { part, column },
+        kind,
+    })
 }
 
 /// The column of a use that bytes name.
@@ -71,16 +56,13 @@ fn column_of_use_in(
     ensures { Gives (λ f. f) result (column_of_use cat.now parts.now (Plain bytes.now)) }
 {
     let (number, name) = parts_at_point(bytes);
-    if !is_whole_number(number) {
-        return Err(LineError::Broken(WorkRule::BadNumber));
-    }
-    match use_numbered(parts, number_in(number)) {
-        None => Err(LineError::Broken(WorkRule::UnknownName)),
-        Some((part, rel)) => {
-            cat.known();
-            column_in(columns_of(cat, rel), part, name)
-        }
-    }
+    must(WorkRule::BadNumber, is_whole_number(number))?;
+    let (part, rel) = known(
+        WorkRule::UnknownName,
+        use_numbered(parts, number_in(number)),
+    )?;
+    cat.known();
+    column_in(columns_of(cat, rel), part, name)
 }
 
 /// The column of a use that a word names.
@@ -88,7 +70,7 @@ pub fn read_column(cat: &Catalogue, parts: &[Option<u32>], word: &Word) -> Resul
     ensures { Gives (λ f. f) result (column_of_use cat.now parts.now word.now) }
 {
     match word {
-        Word::Quoted(_) => Err(LineError::Broken(WorkRule::BadNumber)),
+        Word::Quoted(_) => broken(WorkRule::BadNumber),
         Word::Plain(bytes) => column_of_use_in(cat, parts, bytes.as_slice()),
     }
 }
@@ -96,14 +78,12 @@ pub fn read_column(cat: &Catalogue, parts: &[Option<u32>], word: &Word) -> Resul
 fn read_const(alloc: Global, left: Found, op: Op, right: &Word) -> Result<Condition, LineError>
     ensures { Gives (λ c. c) result (const_of left op right.now) }
 {
-    match read_value(alloc, Some(left.kind), right) {
-        Ok(value) => Ok(Condition::Const {
-            left: left.at,
-            op,
-            value,
-        }),
-        Err(e) => Err(e),
-    }
+    let value = read_value(alloc, Some(left.kind), right)?;
+    Ok(Condition::Const {
+        left: left.at,
+        op,
+        value,
+    })
 }
 
 fn read_same(
@@ -114,19 +94,12 @@ fn read_same(
 ) -> Result<Condition, LineError>
     ensures { Gives (λ c. c) result (same_of cat.now parts.now left right.now) }
 {
-    match read_column(cat, parts, right) {
-        Ok(right) => {
-            if is_of_kind(Some(left.kind), right.kind) {
-                Ok(Condition::Same {
-                    left: left.at,
-                    right: right.at,
-                })
-            } else {
-                Err(LineError::Broken(WorkRule::WrongKind))
-            }
-        }
-        Err(e) => Err(e),
-    }
+    let right = read_column(cat, parts, right)?;
+    must(WorkRule::WrongKind, is_of_kind(Some(left.kind), right.kind))?;
+    Ok(Condition::Same {
+        left: left.at,
+        right: right.at,
+    })
 }
 
 fn read_condition(
@@ -137,18 +110,11 @@ fn read_condition(
 ) -> Result<Condition, LineError>
     ensures { Gives (λ c. c) result (condition_of cat.now parts.now words.now) }
 {
-    match read_column(cat, parts, &words.left) {
-        Ok(left) => match names_column(alloc, words.op, &words.right) {
-            Ok(names) => {
-                if names {
-                    read_same(cat, parts, left, &words.right)
-                } else {
-                    read_const(alloc, left, words.op, &words.right)
-                }
-            }
-            Err(_) => Err(LineError::NoMemory),
-        },
-        Err(e) => Err(e),
+    let left = read_column(cat, parts, &words.left)?;
+    if names_column(alloc, words.op, &words.right)? {
+        read_same(cat, parts, left, &words.right)
+    } else {
+        read_const(alloc, left, words.op, &words.right)
     }
 }
 
@@ -164,13 +130,7 @@ pub fn read_conditions(
 {
     let mut conds = Vec::new(alloc);
     'words: for (i, one) in words.iter().enumerate() {
-        match read_condition(alloc, cat, parts, one) {
-            Ok(cond) => match conds.push(cond) {
-                Ok(()) => {}
-                Err(_) => return Err(LineError::NoMemory),
-            },
-            Err(e) => return Err(e),
-        }
+        conds.push(read_condition(alloc, cat, parts, one)?)?;
     }
     Ok(conds)
 }

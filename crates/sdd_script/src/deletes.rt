@@ -4,7 +4,7 @@ ghost use Rattle.sdd_script.specs.Rules.{Gives};
 ghost use Rattle.sdd_script.specs.Statements.{delete_of_parts, delete_of};
 
 use crate::columns::read_conditions;
-use crate::fault::{LineError, WorkRule};
+use crate::fault::{LineError, WorkRule, broken, known, must};
 use crate::naming::relation_of;
 use sdd_base::{Listed, RelNo};
 use sdd_catalog::Catalogue;
@@ -20,17 +20,12 @@ fn read_delete_parts(
 ) -> Result<Stmt, LineError>
     ensures { Gives (λ s. s) result (delete_of_parts cat.now name.now words.now) }
 {
-    let rel = match relation_of(cat, name) {
-        Some(rel) => rel,
-        None => return Err(LineError::Broken(WorkRule::UnknownName)),
-    };
-    match read_conditions(alloc, cat, &[Some(rel)], words) {
-        Ok(conds) => Ok(Stmt::Delete {
-            rel: RelNo(rel),
-            conds: Listed::from_vec(conds),
-        }),
-        Err(e) => Err(e),
-    }
+    let rel = known(WorkRule::UnknownName, relation_of(cat, name))?;
+    let conds = read_conditions(alloc, cat, &[Some(rel)], words)?;
+    Ok(Stmt::Delete {
+        rel: RelNo(rel),
+        conds: Listed::from_vec(conds),
+    })
 }
 
 /// A delete, by its relation and its conditions.
@@ -38,18 +33,11 @@ pub fn read_delete(alloc: Global, cat: &Catalogue, words: &[Word]) -> Result<Stm
     ensures { Gives (λ s. s) result (delete_of cat.now words.now) }
 {
     match words {
-        [] => Err(LineError::Broken(WorkRule::BadLine)),
+        [] => broken(WorkRule::BadLine),
         [name, rest @ ..] => {
-            if !stands_free(name) {
-                return Err(LineError::Broken(WorkRule::BadLine));
-            }
-            match read_comparisons(alloc, rest) {
-                Ok(found) => match found {
-                    Some(words) => read_delete_parts(alloc, cat, name, words.as_slice()),
-                    None => Err(LineError::Broken(WorkRule::BadLine)),
-                },
-                Err(_) => Err(LineError::NoMemory),
-            }
+            must(WorkRule::BadLine, stands_free(name))?;
+            let words = known(WorkRule::BadLine, read_comparisons(alloc, rest)?)?;
+            read_delete_parts(alloc, cat, name, words.as_slice())
         }
     }
 }

@@ -1,3 +1,9 @@
+ghost use Rattle.std.specs.Prelude.{◌≡◌, Ok, Err, MatchResult};
+ghost use Rattle.sdd_script.specs.Telling.{told_at};
+ghost use Rattle.sdd_words.specs.Steps.{known, must};
+ghost use Rattle.sdd_script.specs.declared.fault.LineError.TheVariants.{Broken};
+ghost use Rattle.sdd_script.specs.Rules.{Gives};
+
 use sdd_base::{NoMemory, Parcel};
 use std::alloc::{AllocError, AllocFailed};
 use thiserror::Error;
@@ -74,6 +80,41 @@ pub enum LineError {
     Broken(WorkRule),
     /// Want of memory.
     NoMemory,
+}
+
+/// The answer to a line that breaks the rule.
+pub(crate) fn broken<T>(rule: WorkRule) -> Result<T, LineError>
+    ensures { result ≡ Err (Broken rule) }
+{
+    Err(LineError::Broken(rule))
+}
+
+/// The value, or the rule that is broken where it isn't there.
+pub(crate) fn known<T>(rule: WorkRule, value: Option<T>) -> Result<T, LineError>
+    ensures { Gives (λ x. x) result (known rule value) }
+{
+    match value {
+        Some(value) => Ok(value),
+        None => broken(rule),
+    }
+}
+
+/// The rule is broken where the test fails.
+pub(crate) fn must(rule: WorkRule, holds: bool) -> Result<(), LineError>
+    ensures { Gives (λ u. u) result (must rule holds) }
+{
+    if holds { Ok(()) } else { broken(rule) }
+}
+
+/// What a line answered, its fault told at the line's number.
+pub(crate) fn at_line<T>(line: u32, read: Result<T, LineError>) -> Result<T, WorkError>
+    ensures { MatchResult read (λ x. result ≡ Ok x) (λ e. result ≡ Err (told_at line e)) }
+{
+    match read {
+        Ok(value) => Ok(value),
+        Err(LineError::Broken(rule)) => Err(WorkError::Fault(WorkFault { line, rule })),
+        Err(LineError::NoMemory) => Err(WorkError::NoMemory),
+    }
 }
 
 impl From<AllocError> for LineError {

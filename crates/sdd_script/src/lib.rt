@@ -30,17 +30,8 @@ mod workload;
 mod write_lines;
 mod write_words;
 
-pub use fault::{Counts, LineError, WorkError, WorkFault, WorkRule};
-pub use found::Found;
-pub use grown::Grown;
-pub use keyword::{EventKey, Keyword, StatementKey};
+pub use fault::{Counts, WorkError, WorkFault, WorkRule};
 pub use laws::law_round_trip;
-pub use names::Names;
-pub use place::{Header, Place};
-pub use state::State;
 pub use walk::read_workload;
 pub use workload::{StartRows, Txns, Workload};
 pub use write_lines::write_workload;
-
-#[cfg(test)]
-mod tests;

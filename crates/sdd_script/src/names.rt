@@ -60,10 +60,8 @@ impl Names {
     pub fn number_of(&self, name: &str) -> Option<u32>
         ensures { result ≡ number_named self.now name.now }
     {
-        match self.find(name) {
-            Some(place) => Some(place as u32 + 1),
-            None => None,
-        }
+        let place = self.find(name)?;
+        Some(place as u32 + 1)
     }
 
     /// Puts a name at the end where it isn't there yet, and tells whether it did so.

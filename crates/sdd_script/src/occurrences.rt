@@ -2,10 +2,10 @@
 ghost use Rattle.std.specs.Prelude.{◌≡◌, ◌≤◌};
 ghost use Rattle.sdd_base.specs.Sites.{are_linked};
 ghost use Rattle.sdd_script.specs.Rules.{Gives};
-ghost use Rattle.sdd_script.specs.Occurrences.{numbered, site_in, site_of, module_of, tm_of, link_of, count_of, flight_place, deliver_of, lose_of, repeat_of, txn_named, submit_of, resend_of, tick_of, settle_of, event_of};
+ghost use Rattle.sdd_script.specs.Occurrences.{numbered, site_in, site_of, module_of, tm_of, link_of, greatest_count, count_of, flight_place, deliver_of, lose_of, repeat_of, txn_named, submit_of, resend_of, tick_of, settle_of, event_of};
 ghost use Rattle.sdd_words.specs.declared.word.Word.TheVariants.{Plain};
 
-use crate::fault::{LineError, WorkRule};
+use crate::fault::{LineError, WorkRule, broken, known, must};
 use crate::keyword::EventKey;
 use crate::names::Names;
 use sdd_base::{DmNo, Event, Site, TmNo, TxnNo};
@@ -13,22 +13,16 @@ use sdd_catalog::Catalogue;
 use sdd_words::{Word, number_in, read_name, stands_free};
 use std::alloc::Global;
 
+/// The greatest place in a flight, and the most that a clock goes on by.
+const GREATEST_COUNT: u32 = 1_048_576;
+
 /// The number of a module, from 1 to the most.
 fn module_number(most: u8, digits: &[u8]) -> Option<u8>
     ensures { result ≡ numbered most digits.now }
 {
-    match number_in(digits) {
-        None => None,
-        Some(number) => match u8::try_from(number) {
-            Err(_) => None,
-            Ok(number) => {
-                if 0 < number && number <= most {
-                    Some(number)
-                } else {
-                    None
-                }
-            }
-        },
+    match u8::try_from(number_in(digits)?) {
+        Ok(number) if 0 < number && number <= most => Some(number),
+        _ => None,
     }
 }
 
@@ -69,11 +63,8 @@ fn read_site(cat: &Catalogue, word: &Word) -> Result<Site, LineError>
     ensures { Gives (λ s. s) result (site_of cat.now word.now) }
 {
     match word {
-        Word::Quoted(_) => Err(LineError::Broken(WorkRule::BadEvent)),
-        Word::Plain(bytes) => match site_in(cat, bytes.as_slice()) {
-            Some(site) => Ok(site),
-            None => Err(LineError::Broken(WorkRule::BadEvent)),
-        },
+        Word::Quoted(_) => broken(WorkRule::BadEvent),
+        Word::Plain(bytes) => known(WorkRule::BadEvent, site_in(cat, bytes.as_slice())),
     }
 }
 
@@ -82,7 +73,7 @@ fn module_of(site: Site) -> Result<TmNo, LineError>
 {
     match site {
         Site::T(tm) => Ok(tm),
-        _ => Err(LineError::Broken(WorkRule::BadEvent)),
+        _ => broken(WorkRule::BadEvent),
     }
 }
 
@@ -90,10 +81,7 @@ fn module_of(site: Site) -> Result<TmNo, LineError>
 pub fn read_tm(cat: &Catalogue, word: &Word) -> Result<TmNo, LineError>
     ensures { Gives (λ t. t) result (tm_of cat.now word.now) }
 {
-    match read_site(cat, word) {
-        Ok(site) => module_of(site),
-        Err(e) => Err(e),
-    }
+    module_of(read_site(cat, word)?)
 }
 
 fn are_linked(from: Site, to: Site) -> bool
@@ -108,18 +96,18 @@ fn are_linked(from: Site, to: Site) -> bool
 fn read_link(cat: &Catalogue, from: &Word, to: &Word) -> Result<(Site, Site), LineError>
     ensures { Gives (λ l. l) result (link_of cat.now from.now to.now) }
 {
-    match read_site(cat, from) {
-        Err(e) => Err(e),
-        Ok(from) => match read_site(cat, to) {
-            Err(e) => Err(e),
-            Ok(to) => {
-                if are_linked(from, to) {
-                    Ok((from, to))
-                } else {
-                    Err(LineError::Broken(WorkRule::BadEvent))
-                }
-            }
-        },
+    let from = read_site(cat, from)?;
+    let to = read_site(cat, to)?;
+    must(WorkRule::BadEvent, are_linked(from, to))?;
+    Ok((from, to))
+}
+
+fn count_in(digits: &[u8]) -> Option<u32>
+    ensures { result ≡ numbered greatest_count digits.now }
+{
+    match u32::try_from(number_in(digits)?) {
+        Ok(number) if 0 < number && number <= GREATEST_COUNT => Some(number),
+        _ => None,
     }
 }
 
@@ -127,20 +115,8 @@ fn read_count(word: &Word) -> Result<u32, LineError>
     ensures { Gives (λ n. n) result (count_of word.now) }
 {
     match word {
-        Word::Quoted(_) => Err(LineError::Broken(WorkRule::BadNumber)),
-        Word::Plain(bytes) => match number_in(bytes.as_slice()) {
-            None => Err(LineError::Broken(WorkRule::BadNumber)),
-            Some(number) => match u32::try_from(number) {
-                Err(_) => Err(LineError::Broken(WorkRule::BadNumber)),
-                Ok(number) => {
-                    if 0 < number && number <= 1048576 {
-                        Ok(number)
-                    } else {
-                        Err(LineError::Broken(WorkRule::BadNumber))
-                    }
-                }
-            },
-        },
+        Word::Quoted(_) => broken(WorkRule::BadNumber),
+        Word::Plain(bytes) => known(WorkRule::BadNumber, count_in(bytes.as_slice())),
     }
 }
 
@@ -149,61 +125,45 @@ fn read_flight_place(cat: &Catalogue, words: &[Word]) -> Result<(Site, Site, u32
 {
     match words {
         [from, to, place] => {
-            if !(stands_free(from) && stands_free(to) && stands_free(place)) {
-                return Err(LineError::Broken(WorkRule::BadLine));
-            }
-            match read_link(cat, from, to) {
-                Err(e) => Err(e),
-                Ok((from, to)) => match read_count(place) {
-                    Err(e) => Err(e),
-                    Ok(place) => Ok((from, to, place)),
-                },
-            }
+            must(
+                WorkRule::BadLine,
+                stands_free(from) && stands_free(to) && stands_free(place),
+            )?;
+            let (from, to) = read_link(cat, from, to)?;
+            let place = read_count(place)?;
+            Ok((from, to, place))
         }
-        _ => Err(LineError::Broken(WorkRule::BadLine)),
+        _ => broken(WorkRule::BadLine),
     }
 }
 
 fn read_deliver(cat: &Catalogue, words: &[Word]) -> Result<Event, LineError>
     ensures { Gives (λ e. e) result (deliver_of cat.now words.now) }
 {
-    match read_flight_place(cat, words) {
-        Ok((from, to, place)) => Ok(Event::Deliver { from, to, place }),
-        Err(e) => Err(e),
-    }
+    let (from, to, place) = read_flight_place(cat, words)?;
+    Ok(Event::Deliver { from, to, place })
 }
 
 fn read_lose(cat: &Catalogue, words: &[Word]) -> Result<Event, LineError>
     ensures { Gives (λ e. e) result (lose_of cat.now words.now) }
 {
-    match read_flight_place(cat, words) {
-        Ok((from, to, place)) => Ok(Event::Lose { from, to, place }),
-        Err(e) => Err(e),
-    }
+    let (from, to, place) = read_flight_place(cat, words)?;
+    Ok(Event::Lose { from, to, place })
 }
 
 fn read_repeat(cat: &Catalogue, words: &[Word]) -> Result<Event, LineError>
     ensures { Gives (λ e. e) result (repeat_of cat.now words.now) }
 {
-    match read_flight_place(cat, words) {
-        Ok((from, to, place)) => Ok(Event::Repeat { from, to, place }),
-        Err(e) => Err(e),
-    }
+    let (from, to, place) = read_flight_place(cat, words)?;
+    Ok(Event::Repeat { from, to, place })
 }
 
 fn txn_in(alloc: Global, names: &Names, bytes: &[u8]) -> Result<TxnNo, LineError>
     ensures { Gives (λ t. t) result (txn_named names.now (Plain bytes.now)) }
 {
-    match read_name(alloc, bytes) {
-        Ok(found) => match found {
-            Some(name) => match names.number_of(name.as_str()) {
-                Some(number) => Ok(TxnNo(number)),
-                None => Err(LineError::Broken(WorkRule::UnknownName)),
-            },
-            None => Err(LineError::Broken(WorkRule::UnknownName)),
-        },
-        Err(_) => Err(LineError::NoMemory),
-    }
+    let name = known(WorkRule::UnknownName, read_name(alloc, bytes)?)?;
+    let number = known(WorkRule::UnknownName, names.number_of(name.as_str()))?;
+    Ok(TxnNo(number))
 }
 
 fn read_txn(alloc: Global, names: &Names, word: &Word) -> Result<TxnNo, LineError>
@@ -211,7 +171,7 @@ fn read_txn(alloc: Global, names: &Names, word: &Word) -> Result<TxnNo, LineErro
 {
     match word {
         Word::Plain(bytes) => txn_in(alloc, names, bytes.as_slice()),
-        Word::Quoted(_) => Err(LineError::Broken(WorkRule::UnknownName)),
+        Word::Quoted(_) => broken(WorkRule::UnknownName),
     }
 }
 
@@ -220,15 +180,11 @@ fn read_submit(alloc: Global, names: &Names, words: &[Word]) -> Result<Event, Li
 {
     match words {
         [name] => {
-            if !stands_free(name) {
-                return Err(LineError::Broken(WorkRule::BadLine));
-            }
-            match read_txn(alloc, names, name) {
-                Ok(txn) => Ok(Event::Submit(txn)),
-                Err(e) => Err(e),
-            }
+            must(WorkRule::BadLine, stands_free(name))?;
+            let txn = read_txn(alloc, names, name)?;
+            Ok(Event::Submit(txn))
         }
-        _ => Err(LineError::Broken(WorkRule::BadLine)),
+        _ => broken(WorkRule::BadLine),
     }
 }
 
@@ -237,15 +193,11 @@ fn read_resend(cat: &Catalogue, words: &[Word]) -> Result<Event, LineError>
 {
     match words {
         [from, to] => {
-            if !(stands_free(from) && stands_free(to)) {
-                return Err(LineError::Broken(WorkRule::BadLine));
-            }
-            match read_link(cat, from, to) {
-                Ok((from, to)) => Ok(Event::Resend { from, to }),
-                Err(e) => Err(e),
-            }
+            must(WorkRule::BadLine, stands_free(from) && stands_free(to))?;
+            let (from, to) = read_link(cat, from, to)?;
+            Ok(Event::Resend { from, to })
         }
-        _ => Err(LineError::Broken(WorkRule::BadLine)),
+        _ => broken(WorkRule::BadLine),
     }
 }
 
@@ -254,18 +206,12 @@ fn read_tick(cat: &Catalogue, words: &[Word]) -> Result<Event, LineError>
 {
     match words {
         [tm, n] => {
-            if !(stands_free(tm) && stands_free(n)) {
-                return Err(LineError::Broken(WorkRule::BadLine));
-            }
-            match read_tm(cat, tm) {
-                Err(e) => Err(e),
-                Ok(tm) => match read_count(n) {
-                    Ok(n) => Ok(Event::Tick { tm, n }),
-                    Err(e) => Err(e),
-                },
-            }
+            must(WorkRule::BadLine, stands_free(tm) && stands_free(n))?;
+            let tm = read_tm(cat, tm)?;
+            let n = read_count(n)?;
+            Ok(Event::Tick { tm, n })
         }
-        _ => Err(LineError::Broken(WorkRule::BadLine)),
+        _ => broken(WorkRule::BadLine),
     }
 }
 
@@ -274,7 +220,7 @@ fn read_settle(words: &[Word]) -> Result<Event, LineError>
 {
     match words {
         [] => Ok(Event::Settle),
-        _ => Err(LineError::Broken(WorkRule::BadLine)),
+        _ => broken(WorkRule::BadLine),
     }
 }
 

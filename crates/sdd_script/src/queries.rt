@@ -2,10 +2,10 @@
 ghost use Rattle.std.specs.Prelude.{◌≡◌, map, IfOk, codes};
 ghost use Rattle.sdd_words.specs.Steps.{each_at};
 ghost use Rattle.sdd_script.specs.Rules.{Gives};
-ghost use Rattle.sdd_script.specs.Statements.{listed_column, part_of, parts_of, query_of_parts, query_behind_from, query_with, query_of};
+ghost use Rattle.sdd_script.specs.Statements.{listed_column, part_in, parts_of, query_over, query_of_parts, query_behind_from, query_with, query_of};
 
 use crate::columns::{read_column, read_conditions};
-use crate::fault::{LineError, WorkRule};
+use crate::fault::{LineError, WorkRule, broken, known, must};
 use crate::naming::relation_of;
 use sdd_base::{Listed, NoMemory, RelNo};
 use sdd_catalog::Catalogue;
@@ -19,14 +19,18 @@ use std::alloc::Global;
 fn read_parts(alloc: Global, cat: &Catalogue, rels: &[Word]) -> Result<Vec<Option<u32>>, NoMemory>
     ensures { IfOk result (λ v. v.items ≡ parts_of cat.now rels.now) }
 {
-    match rels
+    let parts = rels
         .iter()
         .map(|word| relation_of(cat, word))
-        .collect(alloc)
-    {
-        Ok(parts) => Ok(parts),
-        Err(_) => Err(NoMemory),
-    }
+        .collect(alloc)?;
+    Ok(parts)
+}
+
+fn read_listed_column(cat: &Catalogue, parts: &[Option<u32>], word: &Word) -> Result<Ref, LineError>
+    ensures { Gives (λ r. r) result (listed_column cat.now parts.now word.now) }
+{
+    let found = read_column(cat, parts, word)?;
+    Ok(found.at)
 }
 
 #[tactic(auto, using(crate::proofs::Each::each_loop))]
@@ -40,41 +44,48 @@ fn read_listed(
 {
     let mut out = Vec::new(alloc);
     'words: for (i, word) in words.iter().enumerate() {
-        match read_column(cat, parts, word) {
-            Ok(found) => match out.push(found.at) {
-                Ok(()) => {}
-                Err(_) => return Err(LineError::NoMemory),
-            },
-            Err(e) => return Err(e),
-        }
+        out.push(read_listed_column(cat, parts, word)?)?;
     }
     Ok(out)
 }
 
-fn read_part(cat: &Catalogue, word: &Word) -> Result<RelNo, LineError>
-    ensures { Gives (λ r. r) result (part_of cat.now word.now) }
+fn read_part(part: &Option<u32>) -> Result<RelNo, LineError>
+    ensures { Gives (λ r. r) result (part_in part.now) }
 {
-    match relation_of(cat, word) {
-        Some(rel) => Ok(RelNo(rel)),
-        None => Err(LineError::Broken(WorkRule::UnknownName)),
-    }
+    let rel = known(WorkRule::UnknownName, *part)?;
+    Ok(RelNo(rel))
 }
 
 #[tactic(auto, using(crate::proofs::Each::each_loop))]
-fn read_relations(alloc: Global, cat: &Catalogue, words: &[Word]) -> Result<Vec<RelNo>, LineError>
-    ensures { Gives (λ v. v.items) result (each_at (λ i w. part_of cat.now w) 0 words.now) }
+fn read_relations(alloc: Global, parts: &[Option<u32>]) -> Result<Vec<RelNo>, LineError>
+    ensures { Gives (λ v. v.items) result (each_at (λ i p. part_in p) 0 parts.now) }
 {
     let mut rels = Vec::new(alloc);
-    'words: for (i, word) in words.iter().enumerate() {
-        match read_part(cat, word) {
-            Ok(rel) => match rels.push(rel) {
-                Ok(()) => {}
-                Err(_) => return Err(LineError::NoMemory),
-            },
-            Err(e) => return Err(e),
-        }
+    'parts: for (i, part) in parts.iter().enumerate() {
+        rels.push(read_part(part)?)?;
     }
     Ok(rels)
+}
+
+/// A query over relations that stand at these places.
+#[tactic(auto, using(crate::proofs::Each::fails_bind), unfolding(crate::specs::Statements::query_over))]
+fn read_query_of(
+    alloc: Global,
+    cat: &Catalogue,
+    parts: &[Option<u32>],
+    columns: &[Word],
+    words: &[Comparison],
+) -> Result<Stmt, LineError>
+    ensures { Gives (λ s. s) result (query_over cat.now parts.now columns.now words.now) }
+{
+    let out = read_listed(alloc, cat, parts, columns)?;
+    let rels = read_relations(alloc, parts)?;
+    let conds = read_conditions(alloc, cat, parts, words)?;
+    Ok(Stmt::Query {
+        out: Listed::from_vec(out),
+        rels: Listed::from_vec(rels),
+        conds: Listed::from_vec(conds),
+    })
 }
 
 #[tactic(auto, using(crate::proofs::Each::fails_bind), unfolding(crate::specs::Statements::query_of_parts))]
@@ -88,23 +99,7 @@ fn read_query_parts(
     ensures { Gives (λ s. s) result (query_of_parts cat.now columns.now rels.now words.now) }
 {
     let parts = read_parts(alloc, cat, rels)?;
-    let out = match read_listed(alloc, cat, parts.as_slice(), columns) {
-        Ok(out) => out,
-        Err(e) => return Err(e),
-    };
-    let found = match read_relations(alloc, cat, rels) {
-        Ok(found) => found,
-        Err(e) => return Err(e),
-    };
-    let conds = match read_conditions(alloc, cat, parts.as_slice(), words) {
-        Ok(conds) => conds,
-        Err(e) => return Err(e),
-    };
-    Ok(Stmt::Query {
-        out: Listed::from_vec(out),
-        rels: Listed::from_vec(found),
-        conds: Listed::from_vec(conds),
-    })
+    read_query_of(alloc, cat, parts.as_slice(), columns, words)
 }
 
 fn read_query_behind_from(
@@ -116,16 +111,12 @@ fn read_query_behind_from(
 ) -> Result<Stmt, LineError>
     ensures { Gives (λ s. s) result (query_behind_from cat.now columns.now rels.now rest.now) }
 {
-    if !(look_like_columns(columns) && are_free(rels)) {
-        return Err(LineError::Broken(WorkRule::BadLine));
-    }
-    match read_comparisons(alloc, rest) {
-        Ok(found) => match found {
-            Some(words) => read_query_parts(alloc, cat, columns, rels, words.as_slice()),
-            None => Err(LineError::Broken(WorkRule::BadLine)),
-        },
-        Err(_) => Err(LineError::NoMemory),
-    }
+    must(
+        WorkRule::BadLine,
+        look_like_columns(columns) && are_free(rels),
+    )?;
+    let words = known(WorkRule::BadLine, read_comparisons(alloc, rest)?)?;
+    read_query_parts(alloc, cat, columns, rels, words.as_slice())
 }
 
 fn read_query_with(
@@ -147,6 +138,6 @@ pub fn read_query(alloc: Global, cat: &Catalogue, words: &[Word]) -> Result<Stmt
 {
     match cut_at(words, b"from".as_slice()) {
         Some((columns, behind)) => read_query_with(alloc, cat, columns, behind),
-        None => Err(LineError::Broken(WorkRule::BadLine)),
+        None => broken(WorkRule::BadLine),
     }
 }

@@ -7,10 +7,10 @@ ghost use Rattle.sdd_script.specs.LineRules.{row_rules, name_of, opened, txn_rul
 ghost use Rattle.sdd_script.specs.Occurrences.{event_of};
 ghost use Rattle.sdd_script.specs.Statements.{statement_of};
 
-use crate::fault::{Counts, LineError, WorkRule};
+use crate::fault::{Counts, LineError, WorkRule, broken, known, must};
 use crate::grown::Grown;
 use crate::keyword::{EventKey, Keyword, StatementKey, keyword_of};
-use crate::limits::{check_limits, one_more_row, written_with};
+use crate::limits::{MOST_EVENTS, MOST_TXNS, check_limits, one_more_row, written_with};
 use crate::occurrences::{read_event, read_tm};
 use crate::place::{Header, Place};
 use crate::state::State;
@@ -32,24 +32,16 @@ fn row_line(
     ensures { Gives (λ _. state.new) result (row_rules cat.now state.old words.now) }
 {
     match words {
-        [] => Err(LineError::Broken(WorkRule::BadLine)),
+        [] => broken(WorkRule::BadLine),
         [name, values @ ..] => {
-            if !(state.place.takes_rows() && (stands_free(name) && are_free(values))) {
-                return Err(LineError::Broken(WorkRule::BadLine));
-            }
-            match read_row(alloc, cat, name, values) {
-                Err(e) => Err(e),
-                Ok(row) => match one_more_row(state.written) {
-                    None => Err(LineError::Broken(WorkRule::TooMany(Counts::Row))),
-                    Some(written) => {
-                        state.written = written;
-                        match state.rows.push(row) {
-                            Ok(()) => Ok(()),
-                            Err(_) => Err(LineError::NoMemory),
-                        }
-                    }
-                },
-            }
+            must(
+                WorkRule::BadLine,
+                state.place.takes_rows() && (stands_free(name) && are_free(values)),
+            )?;
+            let row = read_row(alloc, cat, name, values)?;
+            state.written = known(WorkRule::TooMany(Counts::Row), one_more_row(state.written))?;
+            state.rows.push(row)?;
+            Ok(())
         }
     }
 }
@@ -58,34 +50,22 @@ fn name_in_word(alloc: Global, word: &Word) -> Result<Name, LineError>
     ensures { Gives (λ n. n) result (name_of word.now) }
 {
     match word {
-        Word::Plain(bytes) => match read_name(alloc, bytes.as_slice()) {
-            Ok(found) => match found {
-                Some(name) => Ok(name),
-                None => Err(LineError::Broken(WorkRule::UnknownName)),
-            },
-            Err(_) => Err(LineError::NoMemory),
-        },
-        Word::Quoted(_) => Err(LineError::Broken(WorkRule::UnknownName)),
+        Word::Plain(bytes) => known(WorkRule::UnknownName, read_name(alloc, bytes.as_slice())?),
+        Word::Quoted(_) => broken(WorkRule::UnknownName),
     }
 }
 
 fn open_txn(alloc: Global, state: &mut State, name: Name, tm: TmNo) -> Result<(), LineError>
     ensures { Gives (λ _. state.new) result (opened state.old name tm) }
 {
-    if state.names.len() >= 2048 {
-        if state.names.has(name.as_str()) {
-            return Err(LineError::Broken(WorkRule::DuplicateTxn));
-        }
-        return Err(LineError::Broken(WorkRule::TooMany(Counts::Txn)));
-    }
-    match state.names.add(alloc, name.as_str()) {
-        Ok(true) => {
-            state.place = Place::Inside(Header { name, tm });
-            Ok(())
-        }
-        Ok(false) => Err(LineError::Broken(WorkRule::DuplicateTxn)),
-        Err(_) => Err(LineError::NoMemory),
-    }
+    must(WorkRule::DuplicateTxn, !state.names.has(name.as_str()))?;
+    must(
+        WorkRule::TooMany(Counts::Txn),
+        state.names.len() < MOST_TXNS,
+    )?;
+    state.names.add(alloc, name.as_str())?;
+    state.place = Place::Inside(Header { name, tm });
+    Ok(())
 }
 
 fn txn_line(
@@ -98,37 +78,29 @@ fn txn_line(
 {
     match words {
         [word, tm] => {
-            if !(state.place.takes_txns() && (stands_free(word) && stands_free(tm))) {
-                return Err(LineError::Broken(WorkRule::BadLine));
-            }
-            match name_in_word(alloc, word) {
-                Err(e) => Err(e),
-                Ok(name) => match read_tm(cat, tm) {
-                    Err(e) => Err(e),
-                    Ok(tm) => open_txn(alloc, state, name, tm),
-                },
-            }
+            must(
+                WorkRule::BadLine,
+                state.place.takes_txns() && (stands_free(word) && stands_free(tm)),
+            )?;
+            let name = name_in_word(alloc, word)?;
+            let tm = read_tm(cat, tm)?;
+            open_txn(alloc, state, name, tm)
         }
-        _ => Err(LineError::Broken(WorkRule::BadLine)),
+        _ => broken(WorkRule::BadLine),
     }
 }
 
 fn add_statement(state: &mut State, statement: Stmt) -> Result<(), LineError>
     ensures { Gives (λ _. state.new) result (with_statement state.old statement) }
 {
-    match written_with(state.written, &statement) {
-        None => Err(LineError::Broken(WorkRule::TooMany(Counts::Row))),
-        Some(written) => match check_limits(state.statements.len(), &statement) {
-            Err(e) => Err(e),
-            Ok(()) => {
-                state.written = written;
-                match state.statements.push(statement) {
-                    Ok(()) => Ok(()),
-                    Err(_) => Err(LineError::NoMemory),
-                }
-            }
-        },
-    }
+    let written = known(
+        WorkRule::TooMany(Counts::Row),
+        written_with(state.written, &statement),
+    )?;
+    check_limits(state.statements.len(), &statement)?;
+    state.written = written;
+    state.statements.push(statement)?;
+    Ok(())
 }
 
 fn statement_line(
@@ -140,13 +112,8 @@ fn statement_line(
 ) -> Result<(), LineError>
     ensures { Gives (λ _. state.new) result (statement_rules state.old (statement_of key cat.now words.now)) }
 {
-    if !state.place.takes_statements() {
-        return Err(LineError::Broken(WorkRule::BadLine));
-    }
-    match read_statement(alloc, cat, key, words) {
-        Ok(statement) => add_statement(state, statement),
-        Err(e) => Err(e),
-    }
+    must(WorkRule::BadLine, state.place.takes_statements())?;
+    add_statement(state, read_statement(alloc, cat, key, words)?)
 }
 
 fn close_txn(alloc: Global, state: &mut State) -> Result<(), LineError>
@@ -155,16 +122,14 @@ fn close_txn(alloc: Global, state: &mut State) -> Result<(), LineError>
     match mem::replace(&mut state.place, Place::Between) {
         Place::Inside(Header { name, tm }) => {
             let statements = mem::replace(&mut state.statements, Grown::new(alloc));
-            match state.txns.push(Txn {
+            state.txns.push(Txn {
                 name,
                 tm,
                 statements: statements.into_listed(),
-            }) {
-                Ok(()) => Ok(()),
-                Err(_) => Err(LineError::NoMemory),
-            }
+            })?;
+            Ok(())
         }
-        _ => Err(LineError::Broken(WorkRule::BadLine)),
+        _ => broken(WorkRule::BadLine),
     }
 }
 
@@ -173,7 +138,7 @@ fn done_line(alloc: Global, state: &mut State, words: &[Word]) -> Result<(), Lin
 {
     match words {
         [] => close_txn(alloc, state),
-        _ => Err(LineError::Broken(WorkRule::BadLine)),
+        _ => broken(WorkRule::BadLine),
     }
 }
 
@@ -204,20 +169,18 @@ fn note_submitted(submitted: &mut Grown<TxnNo>, event: Event) -> Result<(), NoMe
 fn add_event(state: &mut State, event: Event) -> Result<(), LineError>
     ensures { Gives (λ _. state.new) result (with_event state.old event) }
 {
-    if is_submitted(state.submitted.as_slice(), event) {
-        return Err(LineError::Broken(WorkRule::SubmittedTwice));
-    }
-    if state.events.len() >= 262144 {
-        return Err(LineError::Broken(WorkRule::TooMany(Counts::Event)));
-    }
+    must(
+        WorkRule::SubmittedTwice,
+        !is_submitted(state.submitted.as_slice(), event),
+    )?;
+    must(
+        WorkRule::TooMany(Counts::Event),
+        state.events.len() < MOST_EVENTS,
+    )?;
     state.place = Place::Events;
-    match note_submitted(&mut state.submitted, event) {
-        Ok(()) => match state.events.push(event) {
-            Ok(()) => Ok(()),
-            Err(_) => Err(LineError::NoMemory),
-        },
-        Err(_) => Err(LineError::NoMemory),
-    }
+    note_submitted(&mut state.submitted, event)?;
+    state.events.push(event)?;
+    Ok(())
 }
 
 fn event_line(
@@ -229,13 +192,9 @@ fn event_line(
 ) -> Result<(), LineError>
     ensures { Gives (λ _. state.new) result (event_rules state.old (event_of key cat.now state.old.names words.now)) }
 {
-    if !state.place.takes_events() {
-        return Err(LineError::Broken(WorkRule::BadLine));
-    }
-    match read_event(alloc, cat, &state.names, key, words) {
-        Ok(event) => add_event(state, event),
-        Err(e) => Err(e),
-    }
+    must(WorkRule::BadLine, state.place.takes_events())?;
+    let event = read_event(alloc, cat, &state.names, key, words)?;
+    add_event(state, event)
 }
 
 fn end_line(state: &mut State, words: &[Word]) -> Result<(), LineError>
@@ -243,13 +202,11 @@ fn end_line(state: &mut State, words: &[Word]) -> Result<(), LineError>
 {
     match words {
         [] => {
-            if !state.place.takes_events() {
-                return Err(LineError::Broken(WorkRule::BadLine));
-            }
+            must(WorkRule::BadLine, state.place.takes_events())?;
             state.place = Place::Ended;
             Ok(())
         }
-        _ => Err(LineError::Broken(WorkRule::BadLine)),
+        _ => broken(WorkRule::BadLine),
     }
 }
 
@@ -281,11 +238,11 @@ fn read_words(
     ensures { Gives (λ _. state.new) result (words_rules cat.now state.old words.now) }
 {
     match words {
-        [] => Err(LineError::Broken(WorkRule::BadLine)),
-        [first, words @ ..] => match keyword_of(first) {
-            None => Err(LineError::Broken(WorkRule::BadLine)),
-            Some(keyword) => read_keyword_line(alloc, cat, state, keyword, words),
-        },
+        [] => broken(WorkRule::BadLine),
+        [first, words @ ..] => {
+            let keyword = known(WorkRule::BadLine, keyword_of(first))?;
+            read_keyword_line(alloc, cat, state, keyword, words)
+        }
     }
 }
 
@@ -297,9 +254,7 @@ fn read_sound_words(
 ) -> Result<(), LineError>
     ensures { Gives (λ _. state.new) result (sound_rules cat.now state.old words.now) }
 {
-    if !are_sound(words) {
-        return Err(LineError::Broken(WorkRule::BadLine));
-    }
+    must(WorkRule::BadLine, are_sound(words))?;
     read_words(alloc, cat, state, words)
 }
 
@@ -313,12 +268,7 @@ pub fn read_line(
 ) -> Result<(), LineError>
     ensures { Gives (λ _. state.new) result (line_rules cat.now state.old line.now) }
 {
-    match text_of(line) {
-        None => Err(LineError::Broken(WorkRule::NotUtf8)),
-        Some(_) => match split_line(alloc, line) {
-            Ok(Some(words)) => read_sound_words(alloc, cat, state, words.as_slice()),
-            Ok(None) => Err(LineError::Broken(WorkRule::BadLine)),
-            Err(_) => Err(LineError::NoMemory),
-        },
-    }
+    must(WorkRule::NotUtf8, text_of(line).is_some())?;
+    let words = known(WorkRule::BadLine, split_line(alloc, line)?)?;
+    read_sound_words(alloc, cat, state, words.as_slice())
 }

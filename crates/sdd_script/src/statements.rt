@@ -4,7 +4,7 @@ ghost use Rattle.sdd_script.specs.Rules.{Gives};
 ghost use Rattle.sdd_script.specs.Statements.{put_of, statement_of};
 
 use crate::deletes::read_delete;
-use crate::fault::{LineError, WorkRule};
+use crate::fault::{LineError, WorkRule, broken, must};
 use crate::keyword::StatementKey;
 use crate::queries::read_query;
 use crate::updates::read_update;
@@ -19,15 +19,11 @@ fn read_put(alloc: Global, cat: &Catalogue, words: &[Word]) -> Result<Stmt, Line
     ensures { Gives (λ s. s) result (put_of cat.now words.now) }
 {
     match words {
-        [] => Err(LineError::Broken(WorkRule::BadLine)),
+        [] => broken(WorkRule::BadLine),
         [name, values @ ..] => {
-            if !(stands_free(name) && are_free(values)) {
-                return Err(LineError::Broken(WorkRule::BadLine));
-            }
-            match read_row(alloc, cat, name, values) {
-                Ok((rel, row)) => Ok(Stmt::Put { rel, row }),
-                Err(e) => Err(e),
-            }
+            must(WorkRule::BadLine, stands_free(name) && are_free(values))?;
+            let (rel, row) = read_row(alloc, cat, name, values)?;
+            Ok(Stmt::Put { rel, row })
         }
     }
 }

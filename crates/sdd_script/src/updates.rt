@@ -5,7 +5,7 @@ ghost use Rattle.sdd_script.specs.Rules.{Gives};
 ghost use Rattle.sdd_script.specs.Statements.{addend_of, add_of, to_of, assign_of, update_of_parts, update_with, update_behind_set, update_to, update_of};
 
 use crate::columns::{read_column, read_conditions};
-use crate::fault::{LineError, WorkRule};
+use crate::fault::{LineError, WorkRule, broken, known, must};
 use crate::found::Found;
 use crate::naming::{key_of, relation_of};
 use crate::values::{is_of_kind, read_value};
@@ -22,39 +22,30 @@ fn read_addend(word: &Word) -> Result<i64, LineError>
     ensures { Gives (λ n. n) result (addend_of word.now) }
 {
     match word {
-        Word::Plain(bytes) => match number_in(bytes.as_slice()) {
-            Some(number) => Ok(number),
-            None => Err(LineError::Broken(WorkRule::BadNumber)),
-        },
-        Word::Quoted(_) => Err(LineError::Broken(WorkRule::WrongKind)),
+        Word::Plain(bytes) => known(WorkRule::BadNumber, number_in(bytes.as_slice())),
+        Word::Quoted(_) => broken(WorkRule::WrongKind),
     }
 }
 
 fn read_add(found: Found, word: &Word) -> Result<Assign, LineError>
     ensures { Gives (λ a. a) result (add_of found word.now) }
 {
-    if !is_of_kind(Some(found.kind), Kind::Int) {
-        return Err(LineError::Broken(WorkRule::WrongKind));
-    }
-    match read_addend(word) {
-        Ok(by) => Ok(Assign::Add {
-            column: found.at.column,
-            by,
-        }),
-        Err(e) => Err(e),
-    }
+    must(WorkRule::WrongKind, is_of_kind(Some(found.kind), Kind::Int))?;
+    let by = read_addend(word)?;
+    Ok(Assign::Add {
+        column: found.at.column,
+        by,
+    })
 }
 
 fn read_to(alloc: Global, found: Found, word: &Word) -> Result<Assign, LineError>
     ensures { Gives (λ a. a) result (to_of found word.now) }
 {
-    match read_value(alloc, Some(found.kind), word) {
-        Ok(value) => Ok(Assign::To {
-            column: found.at.column,
-            value,
-        }),
-        Err(e) => Err(e),
-    }
+    let value = read_value(alloc, Some(found.kind), word)?;
+    Ok(Assign::To {
+        column: found.at.column,
+        value,
+    })
 }
 
 fn read_assign(
@@ -65,18 +56,12 @@ fn read_assign(
 ) -> Result<Assign, LineError>
     ensures { Gives (λ a. a) result (assign_of cat.now rel words.now) }
 {
-    match read_column(cat, &[Some(rel)], &words.left) {
-        Ok(found) => {
-            if found.at.column == key_of(cat, rel) {
-                return Err(LineError::Broken(WorkRule::KeyChanged));
-            }
-            if words.adds {
-                read_add(found, &words.right)
-            } else {
-                read_to(alloc, found, &words.right)
-            }
-        }
-        Err(e) => Err(e),
+    let found = read_column(cat, &[Some(rel)], &words.left)?;
+    must(WorkRule::KeyChanged, found.at.column != key_of(cat, rel))?;
+    if words.adds {
+        read_add(found, &words.right)
+    } else {
+        read_to(alloc, found, &words.right)
     }
 }
 
@@ -91,13 +76,7 @@ fn read_assigns(
 {
     let mut sets = Vec::new(alloc);
     'words: for (i, one) in words.iter().enumerate() {
-        match read_assign(alloc, cat, rel, one) {
-            Ok(assign) => match sets.push(assign) {
-                Ok(()) => {}
-                Err(_) => return Err(LineError::NoMemory),
-            },
-            Err(e) => return Err(e),
-        }
+        sets.push(read_assign(alloc, cat, rel, one)?)?;
     }
     Ok(sets)
 }
@@ -112,18 +91,9 @@ fn read_update_parts(
 ) -> Result<Stmt, LineError>
     ensures { Gives (λ s. s) result (update_of_parts cat.now name.now sets.now words.now) }
 {
-    let rel = match relation_of(cat, name) {
-        Some(rel) => rel,
-        None => return Err(LineError::Broken(WorkRule::UnknownName)),
-    };
-    let assigns = match read_assigns(alloc, cat, rel, sets) {
-        Ok(assigns) => assigns,
-        Err(e) => return Err(e),
-    };
-    let conds = match read_conditions(alloc, cat, &[Some(rel)], words) {
-        Ok(conds) => conds,
-        Err(e) => return Err(e),
-    };
+    let rel = known(WorkRule::UnknownName, relation_of(cat, name))?;
+    let assigns = read_assigns(alloc, cat, rel, sets)?;
+    let conds = read_conditions(alloc, cat, &[Some(rel)], words)?;
     Ok(Stmt::Update {
         rel: RelNo(rel),
         sets: Listed::from_vec(assigns),
@@ -140,13 +110,8 @@ fn read_update_form(
 ) -> Result<Stmt, LineError>
     ensures { Gives (λ s. s) result (update_with cat.now name.now sets.now rest.now) }
 {
-    match read_comparisons(alloc, rest) {
-        Ok(found) => match found {
-            Some(words) => read_update_parts(alloc, cat, name, sets, words.as_slice()),
-            None => Err(LineError::Broken(WorkRule::BadLine)),
-        },
-        Err(_) => Err(LineError::NoMemory),
-    }
+    let words = known(WorkRule::BadLine, read_comparisons(alloc, rest)?)?;
+    read_update_parts(alloc, cat, name, sets, words.as_slice())
 }
 
 fn read_update_behind_set(
@@ -158,16 +123,9 @@ fn read_update_behind_set(
 ) -> Result<Stmt, LineError>
     ensures { Gives (λ s. s) result (update_behind_set cat.now name.now sets.now rest.now) }
 {
-    if !(stands_free(name) && has_words(sets)) {
-        return Err(LineError::Broken(WorkRule::BadLine));
-    }
-    match read_settings(alloc, sets) {
-        Ok(found) => match found {
-            Some(sets) => read_update_form(alloc, cat, name, sets.as_slice(), rest),
-            None => Err(LineError::Broken(WorkRule::BadLine)),
-        },
-        Err(_) => Err(LineError::NoMemory),
-    }
+    must(WorkRule::BadLine, stands_free(name) && has_words(sets))?;
+    let sets = known(WorkRule::BadLine, read_settings(alloc, sets)?)?;
+    read_update_form(alloc, cat, name, sets.as_slice(), rest)
 }
 
 fn read_update_to(
@@ -189,11 +147,9 @@ pub fn read_update(alloc: Global, cat: &Catalogue, words: &[Word]) -> Result<Stm
 {
     match words {
         [name, key, words @ ..] => {
-            if !has_key(b"set".as_slice(), key) {
-                return Err(LineError::Broken(WorkRule::BadLine));
-            }
+            must(WorkRule::BadLine, has_key(b"set".as_slice(), key))?;
             read_update_to(alloc, cat, name, words)
         }
-        _ => Err(LineError::Broken(WorkRule::BadLine)),
+        _ => broken(WorkRule::BadLine),
     }
 }

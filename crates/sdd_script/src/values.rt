@@ -2,10 +2,11 @@
 ghost use Rattle.std.specs.Prelude.{◌≡◌, length, IfOk, Some, None};
 ghost use Rattle.sdd_words.specs.Texts.{text_in};
 ghost use Rattle.sdd_words.specs.declared.word.Word.TheVariants.{Quoted};
+ghost use Rattle.sdd_script.specs.Naming.{kind_of_place};
 ghost use Rattle.sdd_script.specs.Rules.{Gives};
 ghost use Rattle.sdd_script.specs.Values.{is_of_kind, value_of, values_of, row_of};
 
-use crate::fault::{LineError, WorkRule};
+use crate::fault::{LineError, WorkRule, known, must};
 use crate::naming::{columns_of, kind_of_place, relation_of};
 use sdd_base::{Listed, NoMemory, RelNo, Row, Text, Value};
 use sdd_catalog::{Catalogue, Column, Kind};
@@ -28,30 +29,9 @@ pub fn is_of_kind(kind: Option<Kind>, own: Kind) -> bool
 fn read_text(alloc: Global, bytes: &[u8]) -> Result<Option<Text>, NoMemory>
     ensures { IfOk result (λ text. text ≡ text_in bytes.now) }
 {
-    if !is_text(bytes) {
-        return Ok(None);
-    }
     match text_of(bytes) {
-        Some(text) => Text::new(alloc, text),
-        None => Ok(None),
-    }
-}
-
-fn read_text_value(alloc: Global, kind: Option<Kind>, bytes: &[u8]) -> Result<Value, LineError>
-    ensures { Gives (λ v. v) result (value_of kind (Quoted bytes.now)) }
-{
-    match read_text(alloc, bytes) {
-        Ok(found) => match found {
-            Some(text) => {
-                if is_of_kind(kind, Kind::Text) {
-                    Ok(Value::Text(text))
-                } else {
-                    Err(LineError::Broken(WorkRule::WrongKind))
-                }
-            }
-            None => Err(LineError::Broken(WorkRule::BadLine)),
-        },
-        Err(_) => Err(LineError::NoMemory),
+        Some(text) if is_text(bytes) => Text::new(alloc, text),
+        _ => Ok(None),
     }
 }
 
@@ -60,18 +40,29 @@ pub fn read_value(alloc: Global, kind: Option<Kind>, word: &Word) -> Result<Valu
     ensures { Gives (λ v. v) result (value_of kind word.now) }
 {
     match word {
-        Word::Plain(bytes) => match number_in(bytes.as_slice()) {
-            None => Err(LineError::Broken(WorkRule::BadNumber)),
-            Some(number) => {
-                if is_of_kind(kind, Kind::Int) {
-                    Ok(Value::Int(number))
-                } else {
-                    Err(LineError::Broken(WorkRule::WrongKind))
-                }
-            }
-        },
-        Word::Quoted(text) => read_text_value(alloc, kind, text.as_slice()),
+        Word::Plain(bytes) => {
+            let number = known(WorkRule::BadNumber, number_in(bytes.as_slice()))?;
+            must(WorkRule::WrongKind, is_of_kind(kind, Kind::Int))?;
+            Ok(Value::Int(number))
+        }
+        Word::Quoted(bytes) => {
+            let text = known(WorkRule::BadLine, read_text(alloc, bytes.as_slice())?)?;
+            must(WorkRule::WrongKind, is_of_kind(kind, Kind::Text))?;
+            Ok(Value::Text(text))
+        }
     }
+}
+
+/// The value that a word is, of the kind of the column at a place.
+fn value_at(
+    alloc: Global,
+    columns: &[Column],
+    place: usize,
+    word: &Word,
+) -> Result<Value, LineError>
+    ensures { Gives (λ v. v) result (value_of (kind_of_place columns.now place) word.now) }
+{
+    read_value(alloc, kind_of_place(columns, place), word)
 }
 
 /// The values that words are, each of its column's kind.
@@ -81,13 +72,7 @@ fn read_values(alloc: Global, columns: &[Column], words: &[Word]) -> Result<Vec<
 {
     let mut values = Vec::new(alloc);
     'words: for (i, word) in words.iter().enumerate() {
-        match read_value(alloc, kind_of_place(columns, i), word) {
-            Ok(value) => match values.push(value) {
-                Ok(()) => {}
-                Err(_) => return Err(LineError::NoMemory),
-            },
-            Err(e) => return Err(e),
-        }
+        values.push(value_at(alloc, columns, i, word)?)?;
     }
     Ok(values)
 }
@@ -102,19 +87,9 @@ pub fn read_row(
 ) -> Result<(RelNo, Row), LineError>
     ensures { Gives (λ r. r) result (row_of cat.now name.now words.now) }
 {
-    match relation_of(cat, name) {
-        None => Err(LineError::Broken(WorkRule::UnknownName)),
-        Some(rel) => {
-            let columns = columns_of(cat, rel);
-            match read_values(alloc, columns, words) {
-                Err(e) => Err(e),
-                Ok(row) => {
-                    if words.len() != columns.len() {
-                        return Err(LineError::Broken(WorkRule::WrongKind));
-                    }
-                    Ok((RelNo(rel), Listed::from_vec(row)))
-                }
-            }
-        }
-    }
+    let rel = known(WorkRule::UnknownName, relation_of(cat, name))?;
+    let columns = columns_of(cat, rel);
+    let row = read_values(alloc, columns, words)?;
+    must(WorkRule::WrongKind, words.len() == columns.len())?;
+    Ok((RelNo(rel), Listed::from_vec(row)))
 }

@@ -5,7 +5,7 @@ ghost use Rattle.sdd_script.specs.Telling.{Tells};
 ghost use Rattle.sdd_script.specs.Valid.{Accepts};
 ghost use Rattle.sdd_script.specs.Walk.{one_line, tail_rules, walk_bytes, nothing_read, workload};
 
-use crate::fault::{LineError, WorkError, WorkFault, WorkRule};
+use crate::fault::{LineError, WorkError, WorkFault, WorkRule, at_line, broken, must};
 use crate::grown::Grown;
 use crate::names::Names;
 use crate::place::Place;
@@ -16,14 +16,14 @@ use sdd_catalog::Catalogue;
 use sdd_words::{next_line, text_of};
 use std::alloc::Global;
 
+/// Most bytes of a file.
+const MOST_BYTES: usize = 67_108_864;
+
 fn read_one(alloc: Global, cat: &Catalogue, state: &mut State, line: &[u8]) -> Result<(), LineError>
     ensures { Gives (λ _. state.new) result (one_line cat.now state.old line.now) }
 {
-    if state.place.is_ended() {
-        Err(LineError::Broken(WorkRule::BadLine))
-    } else {
-        read_line(alloc, cat, state, line)
-    }
+    must(WorkRule::BadLine, !state.place.is_ended())?;
+    read_line(alloc, cat, state, line)
 }
 
 /// What stands behind the last newline.
@@ -31,21 +31,11 @@ fn check_tail(state: &State, tail: &[u8]) -> Result<(), LineError>
     ensures { Gives (λ _. state.now) result (tail_rules state.now tail.now) }
 {
     match tail {
-        [] => {
-            if state.place.is_ended() {
-                Ok(())
-            } else {
-                Err(LineError::Broken(WorkRule::NoEnd))
-            }
-        }
+        [] => must(WorkRule::NoEnd, state.place.is_ended()),
         _ => {
-            if state.place.is_ended() {
-                return Err(LineError::Broken(WorkRule::BadLine));
-            }
-            match text_of(tail) {
-                Some(_) => Err(LineError::Broken(WorkRule::NoEnd)),
-                None => Err(LineError::Broken(WorkRule::NotUtf8)),
-            }
+            must(WorkRule::BadLine, !state.place.is_ended())?;
+            must(WorkRule::NotUtf8, text_of(tail).is_some())?;
+            broken(WorkRule::NoEnd)
         }
     }
 }
@@ -79,19 +69,12 @@ fn read_lines(
     let mut rest = bytes;
     let mut line = 1;
     'lines: while let Some((text, behind)) = next_line(rest) {
-        match read_one(alloc, cat, &mut state, text) {
-            Ok(()) => {}
-            Err(LineError::NoMemory) => return Err(WorkError::NoMemory),
-            Err(LineError::Broken(rule)) => return Err(WorkError::Fault(WorkFault { line, rule })),
-        }
+        at_line(line, read_one(alloc, cat, &mut state, text))?;
         rest = behind;
         line += 1;
     }
-    match check_tail(&state, rest) {
-        Ok(()) => Ok(state),
-        Err(LineError::NoMemory) => Err(WorkError::NoMemory),
-        Err(LineError::Broken(rule)) => Err(WorkError::Fault(WorkFault { line, rule })),
-    }
+    at_line(line, check_tail(&state, rest))?;
+    Ok(state)
 }
 
 /// The workload that a file gives, or its first fault: that of the first line at fault, and on it the
@@ -110,18 +93,16 @@ pub fn read_workload(alloc: Global, bytes: &[u8], cat: &Catalogue) -> Result<Wor
 fn read_bytes(alloc: Global, bytes: &[u8], cat: &Catalogue) -> Result<Workload, WorkError>
     ensures { Tells result (workload cat.now bytes.now) }
 {
-    if bytes.len() > 67108864 {
+    if bytes.len() > MOST_BYTES {
         return Err(WorkError::Fault(WorkFault {
             line: 0,
             rule: WorkRule::TooLong,
         }));
     }
-    match read_lines(alloc, cat, nothing_read(alloc), bytes) {
-        Ok(state) => Ok(Workload {
-            rows: state.rows.into_listed(),
-            txns: state.txns.into_listed(),
-            events: state.events.into_listed(),
-        }),
-        Err(e) => Err(e),
-    }
+    let state = read_lines(alloc, cat, nothing_read(alloc), bytes)?;
+    Ok(Workload {
+        rows: state.rows.into_listed(),
+        txns: state.txns.into_listed(),
+        events: state.events.into_listed(),
+    })
 }

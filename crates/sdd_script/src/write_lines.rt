@@ -33,10 +33,7 @@ fn put_starts(out: &mut Vec<u8>, cat: &Catalogue, rows: &[(RelNo, Row)]) -> Resu
     ensures { OnOk result (out.new.items ≡ out.old.items ++ flat_map (λ (r : RelNo × List Value). ended (start_words cat.now r)) rows.now) }
 {
     'rows: for row in rows {
-        match put_start(out, cat, row) {
-            Ok(()) => {}
-            Err(_) => return Err(NoMemory),
-        }
+        put_start(out, cat, row)?;
     }
     Ok(())
 }
@@ -132,10 +129,7 @@ fn put_statements(out: &mut Vec<u8>, cat: &Catalogue, statements: &[Stmt]) -> Re
     ensures { OnOk result (out.new.items ≡ out.old.items ++ flat_map (λ (s : Stmt). ended (statement_words cat.now s)) statements.now) }
 {
     'statements: for statement in statements {
-        match put_statement(out, cat, statement) {
-            Ok(()) => {}
-            Err(_) => return Err(NoMemory),
-        }
+        put_statement(out, cat, statement)?;
     }
     Ok(())
 }
@@ -163,10 +157,7 @@ fn put_txns(out: &mut Vec<u8>, cat: &Catalogue, txns: &[Txn]) -> Result<(), NoMe
     ensures { OnOk result (out.new.items ≡ out.old.items ++ flat_map (txn_bytes cat.now) txns.now) }
 {
     'txns: for txn in txns {
-        match put_txn(out, cat, txn) {
-            Ok(()) => {}
-            Err(_) => return Err(NoMemory),
-        }
+        put_txn(out, cat, txn)?;
     }
     Ok(())
 }
@@ -266,10 +257,7 @@ fn put_events(out: &mut Vec<u8>, txns: &[Txn], events: &[Event]) -> Result<(), N
     ensures { OnOk result (out.new.items ≡ out.old.items ++ flat_map (λ (e : Event). ended (event_words txns.now e)) events.now) }
 {
     'events: for event in events {
-        match put_event(out, txns, *event) {
-            Ok(()) => {}
-            Err(_) => return Err(NoMemory),
-        }
+        put_event(out, txns, *event)?;
     }
     Ok(())
 }

@@ -46,10 +46,7 @@ fn put_values(out: &mut Vec<u8>, values: &[Value]) -> Result<(), NoMemory>
     ensures { OnOk result (out.new.items ≡ out.old.items ++ flat_map (λ (v : Value). spaced (value_word v)) values.now) }
 {
     'values: for value in values {
-        match put_value(out, value) {
-            Ok(()) => {}
-            Err(_) => return Err(NoMemory),
-        }
+        put_value(out, value)?;
     }
     Ok(())
 }
@@ -122,10 +119,7 @@ pub fn put_columns(
     ensures { OnOk result (out.new.items ≡ out.old.items ++ flat_map (λ (r : Ref). spaced (column_word cat.now rels.now r)) columns.now) }
 {
     'columns: for column in columns {
-        match put_column(out, cat, rels, *column) {
-            Ok(()) => {}
-            Err(_) => return Err(NoMemory),
-        }
+        put_column(out, cat, rels, *column)?;
     }
     Ok(())
 }
@@ -136,10 +130,7 @@ pub fn put_relations(out: &mut Vec<u8>, cat: &Catalogue, rels: &[RelNo]) -> Resu
     ensures { OnOk result (out.new.items ≡ out.old.items ++ flat_map (λ (r : RelNo). spaced (relation_word cat.now r)) rels.now) }
 {
     'rels: for rel in rels {
-        match put_relation(out, cat, *rel) {
-            Ok(()) => {}
-            Err(_) => return Err(NoMemory),
-        }
+        put_relation(out, cat, *rel)?;
     }
     Ok(())
 }
@@ -205,10 +196,7 @@ pub fn put_conditions(
 {
     let mut key = b"where".as_slice();
     'conditions: for condition in conditions {
-        match put_keyed(out, key, cat, rels, condition) {
-            Ok(()) => {}
-            Err(_) => return Err(NoMemory),
-        }
+        put_keyed(out, key, cat, rels, condition)?;
         key = b"and".as_slice();
     }
     Ok(())
@@ -271,10 +259,7 @@ pub fn put_assigns(
     ensures { OnOk result (out.new.items ≡ out.old.items ++ more_bytes (sets_words cat.now rel assigns.now)) }
 {
     'assigns: for assign in assigns {
-        match put_assign(out, cat, rel, assign) {
-            Ok(()) => {}
-            Err(_) => return Err(NoMemory),
-        }
+        put_assign(out, cat, rel, assign)?;
     }
     Ok(())
 }

@@ -8,7 +8,6 @@ pub mod Points
 pub mod Scans
 pub mod Spelled
 pub mod Splits
-pub mod StepLaws
 pub mod Texts
 pub mod Utf8
 pub mod Writes

@@ -5,7 +5,7 @@ pub mod Lines
 pub mod Names
 pub mod Number
 pub mod Scan
-pub mod Steps
 pub mod Texts
+pub mod Values
 pub mod Whole
 pub mod Words

@@ -2,8 +2,9 @@
 //! single spaces; a word is plain or a text between quotes; each number has one spelling.
 //!
 //! What the layer above gets: `next_line` and `split_line` give exactly the lines and words that the
-//! bytes spell (`specs/Lines.antt`, `specs/Words.antt`), `number_in` the number (`specs/Number.antt`),
-//! and the calls of `form` the parts of a line by its keywords (`specs/Forms.antt`).
+//! bytes spell (`specs/Lines.antt`, `specs/Words.antt`), `number_in` and `read_count` the number
+//! (`specs/Number.antt`), the calls of `form` the parts of a line by its keywords
+//! (`specs/Forms.antt`), and the calls of `write` put the one spelling of each.
 #![tactic(auto)]
 
 mod form;
@@ -26,12 +27,9 @@ pub use keyword::{
 };
 pub use line::next_line;
 pub use naming::read_name;
-pub use number::number_in;
-pub use split::{Mode, Move, split_line};
+pub use number::{number_in, read_count};
+pub use split::split_line;
 pub use text::{are_sound, is_text, text_of};
 pub use whole::{are_whole_digits, is_whole_number};
 pub use word::{Word, Words};
-pub use write::{put, put_count, put_number, put_text};
-
-#[cfg(test)]
-mod tests;
+pub use write::{put, put_count, put_number, put_text, put_value, put_values};

@@ -1,7 +1,7 @@
 //! Numbers by their one spelling.
-ghost use Rattle.std.specs.Prelude.{◌≡◌, ◌↔◌, ℤ, IsTrue, IfSome, IfNone, FitsSigned};
+ghost use Rattle.std.specs.Prelude.{◌≡◌, ◌↔◌, ◌<◌, ◌^◌, ℕ, ℤ, IsTrue, IfSome, IfNone, FitsSigned};
 ghost use Rattle.std.specs.Int.{w64};
-ghost use Rattle.std.specs.Fmt.{signed_decimal};
+ghost use Rattle.std.specs.Fmt.{decimal, signed_decimal};
 ghost use Rattle.sdd_words.specs.Number.{number_of};
 
 use itoa::Buffer;
@@ -33,5 +33,24 @@ pub fn number_in(word: &[u8]) -> Option<i64>
     match std::str::from_utf8(word) {
         Ok(word) => read_int(word),
         Err(_) => None,
+    }
+}
+
+fn is_count_spelling(word: &str, number: u32) -> bool
+    ensures { IsTrue result ↔ (word.now ≡ decimal number) }
+{
+    let mut buffer = Buffer::new();
+    buffer.format(number) == word
+}
+
+/// The number of 32 bits that a word spells: decimal, without leading zeros. None exactly where it
+/// spells none, or one past 32 bits.
+pub fn read_count(word: &str) -> Option<u32>
+    ensures found { IfSome result (λ n. word.now ≡ decimal n) }
+    ensures none { IfNone result ((n : ℕ) → n < 2 ^ 32 → word.now ≡ decimal n → ⊥) }
+{
+    match word.parse::<u32>() {
+        Ok(number) if is_count_spelling(word, number) => Some(number),
+        _ => None,
     }
 }

@@ -5,6 +5,7 @@ ghost use Rattle.std.specs.Str.{is_utf8};
 ghost use Rattle.sdd_words.specs.Texts.{has_newline, is_text, is_sound};
 
 use crate::word::Word;
+use sdd_base::MAX_TEXT_BYTES;
 
 /// The text of the bytes, or None exactly where they aren't UTF-8. Takes no memory.
 #[tactic(auto, using(crate::proofs::Texts::is_text, crate::proofs::Texts::is_no_text))]
@@ -32,11 +33,11 @@ fn is_utf8(bytes: &[u8]) -> bool
     }
 }
 
-/// Whether the bytes are a text: at most 255 bytes of UTF-8 without a newline. Takes no memory.
+/// Whether the bytes are a text: at most `MAX_TEXT_BYTES` bytes of UTF-8 without a newline. Takes no memory.
 pub fn is_text(bytes: &[u8]) -> bool
     ensures { result ≡ is_text bytes.now }
 {
-    bytes.len() <= 255 && !has_newline(bytes) && is_utf8(bytes)
+    bytes.len() <= MAX_TEXT_BYTES && !has_newline(bytes) && is_utf8(bytes)
 }
 
 fn is_sound(word: &Word) -> bool

@@ -1,8 +1,15 @@
+use Rattle.sdd_lang.specs.Tuples.{rows_lent}
 use Rattle.sdd_exec.specs.Snapshots.{of_relation}
+use Rattle.sdd_exec.proofs.Picked.{lent_at, lent_within}
 use Rattle.sdd_exec.proofs.Shipping.{chosen_next}
 use Rattle.sdd_exec.proofs.source.entries_by_key.Goals as goal
 
 pub loop-row-preserved : goal.loop-row-preserved
 loop-row-preserved c =
-    chosen_next c.args.cat.now c.args.rel.0 c.args.conds.now c.args.rows.now c.loop-row.row-index c.row-item.result (of_relation c.args.rel.0 c.loop-row.entries.entries) (of_relation c.args.rel.0 c.add_entry.new.entries.entries)
-    c.loop-row-test.true c.row-item.is c.in_ok-add_entry.ensures c.loop-row.invariant
+    let rows = c.args.rows.now in
+    let i = c.loop-row.row-index in
+    let row = c.row-item.result in
+    let within = c.loop-row-test.true in
+    chosen_next c.args.cat.now c.args.rel.0 c.args.conds.now (rows_lent rows) i row.now
+    (of_relation c.args.rel.0 c.loop-row.entries.entries) (of_relation c.args.rel.0 c.add_entry.new.entries.entries)
+    (lent_within rows i within) (lent_at rows i row within c.row-item.is) c.in_ok-add_entry.ensures c.loop-row.invariant

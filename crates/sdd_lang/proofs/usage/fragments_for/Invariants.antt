@@ -1,9 +1,10 @@
 use Rattle.std.proofs.Common.{◌≡◌, ◌-◌, map}
 use Rattle.std.specs.List.{filter}
 use Rattle.sdd_catalog.specs.Catalogue.{numbers_to}
-use Rattle.sdd_lang.specs.Uses.{fragment_no, meets_keys}
+use Rattle.sdd_base.specs.Numbers.{frag_no}
+use Rattle.sdd_lang.specs.Uses.{meets_keys}
 use Rattle.sdd_lang.proofs.usage.fragments_for.Given as goal
 
 -- those of the numbers so far that hold such a key
 abbrev pub invariant-loop-number : goal.invariant-loop-number
-invariant-loop-number l = l.frags.items ≡ map fragment_no (filter (meets_keys l.cat l.rel.0 l.keys) (numbers_to (l.number - 1)))
+invariant-loop-number l = l.frags.items ≡ map frag_no (filter (meets_keys l.cat l.rel.0 l.keys) (numbers_to (l.number - 1)))

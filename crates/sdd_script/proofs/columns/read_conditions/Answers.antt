@@ -1,10 +1,10 @@
+use Rattle.std.proofs.Common.{arith}
 use Rattle.sdd_words.specs.Steps.{each_at}
 use Rattle.sdd_script.specs.Columns.{condition_of}
-use Rattle.sdd_script.proofs.Each.{ends, is_done}
+use Rattle.sdd_script.proofs.Each.{ends}
 use Rattle.sdd_script.proofs.columns.read_conditions.Goals as goal
 
-pub returns-in-Err : goal.returns-in-Err
-returns-in-Err c = ends (λ i w. condition_of c.args.cat.now c.args.parts.now w) c.args.words.now c.index-words-i.result c.in-Err.e c.words.conds.items c.words.i (each_at (λ i w. condition_of c.args.cat.now c.args.parts.now w) 0 c.args.words.now) c.words-test.true c.index-words-i.is (c.in-Err.ensures) c.words.invariant
-
-pub returns : goal.returns
-returns c = is_done (λ i w. condition_of c.args.cat.now c.args.parts.now w) c.args.words.now c.words.conds.items c.words.i (each_at (λ i w. condition_of c.args.cat.now c.args.parts.now w) 0 c.args.words.now) c.words-test.false c.words.invariant
+pub returns-in_err-read_condition : goal.returns-in_err-read_condition
+returns-in_err-read_condition c =
+    let failed = ends (λ i w. condition_of c.args.cat.now c.args.parts.now w) c.args.words.now c.index-words-i.result c.in_err-read_condition.field-0.0 c.words.conds.items c.words.i (each_at (λ i w. condition_of c.args.cat.now c.args.parts.now w) 0 c.args.words.now) c.words-test.true c.index-words-i.is c.in_err-read_condition.ensures c.words.invariant in
+    grind (arith, failed)

@@ -1,10 +1,15 @@
+use Rattle.std.proofs.Common.{arith}
 use Rattle.sdd_words.specs.Steps.{each_at}
-use Rattle.sdd_script.specs.Statements.{part_of}
-use Rattle.sdd_script.proofs.Each.{ends, is_done}
+use Rattle.sdd_script.specs.Statements.{part_in}
+use Rattle.sdd_script.proofs.Each.{goes_on_at, ends_at}
 use Rattle.sdd_script.proofs.queries.read_relations.Goals as goal
 
-pub returns-in-Err : goal.returns-in-Err
-returns-in-Err c = ends (λ i w. part_of c.args.cat.now w) c.args.words.now c.index-words-i.result c.in-Err.e c.words.rels.items c.words.i (each_at (λ i w. part_of c.args.cat.now w) 0 c.args.words.now) c.words-test.true c.index-words-i.is (c.in-Err.ensures) c.words.invariant
+pub parts-preserved : goal.parts-preserved
+parts-preserved c =
+    let read = goes_on_at (λ i p. part_in p) c.args.parts.now _ c.in_ok-read_part.field-0 c.parts.rels.items c.parts.i (each_at (λ i p. part_in p) 0 c.args.parts.now) c.parts-test.true c.in_ok-read_part.ensures c.parts.invariant in
+    grind (arith, read)
 
-pub returns : goal.returns
-returns c = is_done (λ i w. part_of c.args.cat.now w) c.args.words.now c.words.rels.items c.words.i (each_at (λ i w. part_of c.args.cat.now w) 0 c.args.words.now) c.words-test.false c.words.invariant
+pub returns-in_err-read_part : goal.returns-in_err-read_part
+returns-in_err-read_part c =
+    let failed = ends_at (λ i p. part_in p) c.args.parts.now _ c.in_err-read_part.field-0.0 c.parts.rels.items c.parts.i (each_at (λ i p. part_in p) 0 c.args.parts.now) c.parts-test.true c.in_err-read_part.ensures c.parts.invariant in
+    grind (arith, failed)

@@ -1,10 +1,10 @@
+use Rattle.std.proofs.Common.{arith}
 use Rattle.sdd_words.specs.Steps.{each_at}
 use Rattle.sdd_script.specs.Statements.{assign_of}
-use Rattle.sdd_script.proofs.Each.{ends, is_done}
+use Rattle.sdd_script.proofs.Each.{ends}
 use Rattle.sdd_script.proofs.updates.read_assigns.Goals as goal
 
-pub returns-in-Err : goal.returns-in-Err
-returns-in-Err c = ends (λ i w. assign_of c.args.cat.now c.args.rel w) c.args.words.now c.index-words-i.result c.in-Err.e c.words.sets.items c.words.i (each_at (λ i w. assign_of c.args.cat.now c.args.rel w) 0 c.args.words.now) c.words-test.true c.index-words-i.is (c.in-Err.ensures) c.words.invariant
-
-pub returns : goal.returns
-returns c = is_done (λ i w. assign_of c.args.cat.now c.args.rel w) c.args.words.now c.words.sets.items c.words.i (each_at (λ i w. assign_of c.args.cat.now c.args.rel w) 0 c.args.words.now) c.words-test.false c.words.invariant
+pub returns-in_err-read_assign : goal.returns-in_err-read_assign
+returns-in_err-read_assign c =
+    let failed = ends (λ i s. assign_of c.args.cat.now c.args.rel s) c.args.words.now c.index-words-i.result c.in_err-read_assign.field-0.0 c.words.sets.items c.words.i (each_at (λ i s. assign_of c.args.cat.now c.args.rel s) 0 c.args.words.now) c.words-test.true c.index-words-i.is c.in_err-read_assign.ensures c.words.invariant in
+    grind (arith, failed)

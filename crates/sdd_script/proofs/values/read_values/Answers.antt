@@ -1,11 +1,11 @@
+use Rattle.std.proofs.Common.{arith}
 use Rattle.sdd_words.specs.Steps.{each_at}
 use Rattle.sdd_script.specs.Naming.{kind_of_place}
 use Rattle.sdd_script.specs.Values.{value_of}
-use Rattle.sdd_script.proofs.Each.{ends, is_done}
+use Rattle.sdd_script.proofs.Each.{ends}
 use Rattle.sdd_script.proofs.values.read_values.Goals as goal
 
-pub returns-in-Err : goal.returns-in-Err
-returns-in-Err c = ends (λ i w. value_of (kind_of_place c.args.columns.now i) w) c.args.words.now c.index-words-i.result c.in-Err.e c.words.values.items c.words.i (each_at (λ i w. value_of (kind_of_place c.args.columns.now i) w) 0 c.args.words.now) c.words-test.true c.index-words-i.is (rw c.kind_of_place.ensures at c.in-Err.ensures) c.words.invariant
-
-pub returns : goal.returns
-returns c = is_done (λ i w. value_of (kind_of_place c.args.columns.now i) w) c.args.words.now c.words.values.items c.words.i (each_at (λ i w. value_of (kind_of_place c.args.columns.now i) w) 0 c.args.words.now) c.words-test.false c.words.invariant
+pub returns-in_err-value_at : goal.returns-in_err-value_at
+returns-in_err-value_at c =
+    let failed = ends (λ i w. value_of (kind_of_place c.args.columns.now i) w) c.args.words.now c.index-words-i.result c.in_err-value_at.field-0.0 c.words.values.items c.words.i (each_at (λ i w. value_of (kind_of_place c.args.columns.now i) w) 0 c.args.words.now) c.words-test.true c.index-words-i.is c.in_err-value_at.ensures c.words.invariant in
+    grind (arith, failed)

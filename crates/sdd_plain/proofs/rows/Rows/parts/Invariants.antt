@@ -1,8 +1,7 @@
-use Rattle.std.proofs.Common.{◌≡◌, ◌+◌, ◌++◌, map, drop}
-use Rattle.sdd_lang.specs.Tuples.{rows_lent}
+use Rattle.std.proofs.Common.{◌≡◌, ◌+◌, ◌++◌, drop}
 use Rattle.sdd_plain.specs.Parts.{standing}
 use Rattle.sdd_plain.proofs.rows.Rows.parts.Given as goal
 
 -- the parts so far, with those of the relations that are left
 abbrev pub invariant-rels : goal.invariant-rels
-invariant-rels l = map (λ rows. rows_lent rows.items) l.parts.items ++ standing l.self l.conds (l.i + 1) (drop l.i l.rels) ≡ standing l.self l.conds 1 l.rels
+invariant-rels l = l.parts ++ standing l.self l.conds (l.i + 1) (drop l.i l.rels) ≡ standing l.self l.conds 1 l.rels

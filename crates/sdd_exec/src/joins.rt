@@ -1,0 +1,263 @@
+//! The join of a query's parts.
+ghost use Rattle.std.specs.Prelude.{◌≡◌, ◌<◌, ◌≤◌, ◌++◌, ◌∷◌, true, ℕ, length, map, List, [], IfOk, MatchOption, slice_index_or, filter_map};
+ghost use Rattle.std.specs.List.{flat_map};
+ghost use Rattle.std.specs.HashMap as hash;
+ghost use Rattle.std.specs.Option.{option_map_or};
+ghost use Rattle.sdd_lang.specs.Query.{product, selection, projection, distinct};
+ghost use Rattle.sdd_lang.specs.Source.{within};
+ghost use Rattle.sdd_lang.specs.Tuples.{rows_lent};
+ghost use Rattle.sdd_exec.specs.Choices as joins;
+
+use crate::choice::{Choice, placed, tuple_of};
+use crate::index::{Index, index, places_of};
+use crate::parts::Parts;
+use crate::tie::{Tie, key_for, ties};
+use sdd_base::{NoMemory, Row, RowList};
+use sdd_lang::{Condition, Ref, meets_all, project};
+use std::alloc::Global;
+use std::collections::BTreeSet;
+
+/// The first part that wasn't taken; 0 where none is left.
+fn first_left(parts: usize, taken: &[usize]) -> usize
+    requires { 0 < parts }
+    ensures { result < parts }
+{
+    for part in 0..parts {
+        if !taken.contains(&part) {
+            return part;
+        }
+    }
+    0
+}
+
+/// The part to be taken next: one that an equality ties to those that were taken, or else the first
+/// that is left.
+fn next_part(
+    alloc: Global,
+    parts: usize,
+    taken: &[usize],
+    conds: &[Condition],
+) -> Result<usize, NoMemory>
+    requires { 0 < parts }
+    ensures { IfOk result (λ part. part < parts) }
+{
+    for part in 0..parts {
+        if !taken.contains(&part) && !ties(alloc, taken, part, conds)?.is_empty() {
+            return Ok(part);
+        }
+    }
+    Ok(first_left(parts, taken))
+}
+
+/// Adds the choice with each of these places of a part.
+fn extend(
+    alloc: Global,
+    kept: &mut Vec<Choice>,
+    parts: usize,
+    choice: &[usize],
+    part: usize,
+    places: &[usize],
+) -> Result<(), NoMemory>
+    ensures { IfOk result (λ _. kept.new.items ≡ kept.old.items ++ map (joins.placed parts choice.now part) places.now) }
+{
+    for place in places {
+        kept.push(placed(alloc, parts, choice, part, *place)?)?;
+    }
+    Ok(())
+}
+
+/// The choices with each place of a part that the index has for them.
+fn extend_all(
+    alloc: Global,
+    parts: &Parts,
+    kept: &[Choice],
+    part: usize,
+    ties: &[Tie],
+    index: &Index,
+) -> Result<Vec<Choice>, NoMemory>
+    ensures { let found = λ (choice : List ℕ). option_map_or (λ v. v.items) (hash.get joins.same_row index.now (joins.key_for ties.now (joins.picked parts.now choice))) [] in
+        IfOk result (λ extended. extended.items ≡ flat_map (λ (choice : List ℕ). map (joins.placed (length parts.now) choice part) (found choice)) kept.now) }
+{
+    let mut made = Vec::new(alloc);
+    for choice in kept {
+        let key = key_for(alloc, ties, parts, choice.as_slice())?;
+        let places = places_of(index, &key);
+        extend(
+            alloc,
+            &mut made,
+            parts.count(),
+            choice.as_slice(),
+            part,
+            places,
+        )?;
+    }
+    Ok(made)
+}
+
+/// The choices with the rows of one more part.
+fn take_part(
+    alloc: Global,
+    parts: &Parts,
+    conds: &[Condition],
+    taken: &[usize],
+    kept: &[Choice],
+    part: usize,
+) -> Result<Vec<Choice>, NoMemory>
+    requires { part < length parts.now }
+    ensures { IfOk result (λ extended. extended.items ≡ flat_map (joins.extensions parts.now conds.now taken.now part) kept.now) }
+{
+    let ties = ties(alloc, taken, part, conds)?;
+    let index = index(alloc, parts.rows(part), part, conds, &ties)?;
+    extend_all(alloc, parts, kept, part, &ties, &index)
+}
+
+/// What a join has reached: the parts that it took, and choices that have places of these.
+#[derive(Drop)]
+struct Reached {
+    taken: Vec<usize>,
+    kept: Vec<Choice>,
+}
+
+/// Nothing is taken, and one choice stands for all.
+fn begin(alloc: Global) -> Result<Reached, NoMemory>
+    ensures taken { IfOk result (λ reached. reached.taken.items ≡ []) }
+    ensures kept { IfOk result (λ reached. reached.kept.items ≡ [] ∷ []) }
+{
+    let mut kept = Vec::new(alloc);
+    kept.push(Choice::from_vec(Vec::new(alloc)))?;
+    Ok(Reached {
+        taken: Vec::new(alloc),
+        kept,
+    })
+}
+
+/// Takes one more part, where it isn't taken.
+#[tactic(auto, using(crate::proofs::Complete::take_steps))]
+fn take(
+    alloc: Global,
+    parts: &Parts,
+    conds: &[Condition],
+    reached: Reached,
+    part: usize,
+) -> Result<Reached, NoMemory>
+    requires part { part < length parts.now }
+    requires complete { joins.IsComplete parts.now conds.now reached.taken.items reached.kept.items }
+    ensures complete { IfOk result (λ next. joins.IsComplete parts.now conds.now next.taken.items next.kept.items) }
+    ensures taken { IfOk result (λ next. joins.is_taken next.taken.items part ≡ true) }
+    ensures still { IfOk result (λ next. (p : ℕ) → joins.is_taken reached.taken.items p ≡ true → joins.is_taken next.taken.items p ≡ true) }
+{
+    let Reached { mut taken, kept } = reached;
+    if taken.contains(&part) {
+        return Ok(Reached { taken, kept });
+    }
+    let kept = take_part(alloc, parts, conds, &taken, &kept, part)?;
+    taken.push(part)?;
+    Ok(Reached { taken, kept })
+}
+
+/// Choices among which are all whose rows meet the conditions.
+#[tactic(auto, using(crate::proofs::Complete::choice_steps))]
+fn choices(
+    alloc: Global,
+    parts: &Parts,
+    conds: &[Condition],
+) -> Result<Vec<Choice>, NoMemory>
+    ensures { IfOk result (λ kept. joins.HasAll parts.now conds.now kept.items) }
+{
+    let mut reached = begin(alloc)?;
+    for _step in 0..parts.count() {
+        let part = next_part(alloc, parts.count(), reached.taken.as_slice(), conds)?;
+        reached = take(alloc, parts, conds, reached, part)?;
+    }
+    for part in 0..parts.count() {
+        reached = take(alloc, parts, conds, reached, part)?;
+    }
+    let Reached { taken: _, kept } = reached;
+    Ok(kept)
+}
+
+/// Adds the listed columns of a tuple, where it meets the conditions.
+fn add_tuple(
+    alloc: Global,
+    rows: &mut BTreeSet<Row>,
+    conds: &[Condition],
+    out: &[Ref],
+    tuple: &[&Row],
+) -> Result<(), NoMemory>
+    ensures { IfOk result (λ _. rows.new.keys ≡ joins.with_found (joins.row_of_tuple out.now conds.now (rows_lent tuple.now)) rows.old.keys) }
+{
+    if !meets_all(conds, tuple) {
+        return Ok(());
+    }
+    rows.insert(project(alloc, out, tuple)?)?;
+    Ok(())
+}
+
+/// Adds the listed columns of a choice, where its rows are there and meet the conditions.
+fn add_answer(
+    alloc: Global,
+    rows: &mut BTreeSet<Row>,
+    parts: &Parts,
+    conds: &[Condition],
+    out: &[Ref],
+    choice: &[usize],
+) -> Result<(), NoMemory>
+    ensures { IfOk result (λ _. rows.new.keys ≡ joins.with_found (joins.row_from parts.now out.now conds.now choice.now) rows.old.keys) }
+{
+    match tuple_of(alloc, parts, choice)? {
+        Some(tuple) => add_tuple(alloc, rows, conds, out, &tuple),
+        None => Ok(()),
+    }
+}
+
+/// The listed columns of the choices that meet the conditions, ascending, each once; None where
+/// there are more than so many.
+#[tactic(auto, using(crate::proofs::Steps::answer_steps))]
+fn answers(
+    alloc: Global,
+    parts: &Parts,
+    conds: &[Condition],
+    out: &[Ref],
+    kept: &[Choice],
+    room: usize,
+) -> Result<Option<BTreeSet<Row>>, NoMemory>
+    ensures { let rows = distinct (filter_map (joins.row_from parts.now out.now conds.now) kept.now) in IfOk result (λ found. MatchOption found (room < length rows) (λ s. (s.keys ≡ rows) × (length rows ≤ room))) }
+{
+    let mut rows = BTreeSet::new(alloc);
+    for choice in kept {
+        add_answer(alloc, &mut rows, parts, conds, out, choice.as_slice())?;
+        if rows.len() > room {
+            return Ok(None);
+        }
+    }
+    Ok(Some(rows))
+}
+
+/// The rows of a set, in their order.
+fn listed(alloc: Global, rows: BTreeSet<Row>) -> Result<RowList, NoMemory>
+    ensures { IfOk result (λ list. list ≡ rows.keys) }
+{
+    Ok(RowList::from_vec(rows.into_iter().collect(alloc)?))
+}
+
+/// The answer of a query over these rows of its parts, or None where it has more than `room` rows.
+///
+/// Parts are taken one after the other, at each step one that an equality ties to those that were
+/// taken, where there is one; its rows are found by a hash of the tied columns. So it costs time
+/// with the rows, the tuples that meet the equalities of the parts taken so far, and a logarithmic
+/// step for each row of the answer.
+pub fn join(
+    alloc: Global,
+    parts: &Parts,
+    out: &[Ref],
+    conds: &[Condition],
+    room: usize,
+) -> Result<Option<RowList>, NoMemory>
+    ensures { IfOk result (λ rows. rows ≡ within room (distinct (projection out.now (selection conds.now (product parts.now))))) }
+{
+    let kept = choices(alloc, parts, conds)?;
+    match answers(alloc, parts, conds, out, &kept, room)? {
+        None => Ok(None),
+        Some(rows) => Ok(Some(listed(alloc, rows)?)),
+    }
+}
