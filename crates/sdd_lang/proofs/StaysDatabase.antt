@@ -11,7 +11,7 @@ use Rattle.sdd_base.specs.declared.number.RelNo.{RelNo}
 use Rattle.sdd_base.specs.declared.value.Value.{Value}
 use Rattle.sdd_base.specs.declared.value.Value.TheVariants.{Int, Text}
 use Rattle.sdd_base.specs.declared.reply.Reply.TheVariants.{Overflow, TooMany}
-use Rattle.sdd_base.specs.Order.{column}
+use Rattle.sdd_base.specs.Order.{column, number_in}
 use Rattle.sdd_catalog.specs.declared.parts.Kind.TheVariants as kinds
 use Rattle.sdd_catalog.specs.declared.resolved.Column.{Column}
 use Rattle.sdd_catalog.specs.Catalogue.{Catalogue, fragment_at, fragment_of, relation_at, key_column, kind_at}
@@ -26,7 +26,7 @@ use Rattle.sdd_lang.specs.declared.statement.Stmt.{Stmt}
 use Rattle.sdd_lang.specs.declared.statement.Stmt.TheVariants.{Put, Query, Update, Delete}
 use Rattle.sdd_lang.specs.declared.transaction.Txn.{Txn}
 use Rattle.sdd_lang.specs.Condition.{meets_all}
-use Rattle.sdd_lang.specs.Database.{Item, Row, Database, item_cmp, with_row, without_row, number_in, key_in, database_of}
+use Rattle.sdd_lang.specs.Database.{Item, Row, Database, item_cmp, with_row, without_row, key_in, database_of}
 use Rattle.sdd_lang.specs.Effect.{Changed, change_of, effect, effect_from, failed, rows_in, with_change, with_updates, with_deletes}
 use Rattle.sdd_lang.specs.Fits.{Fits, FitsAssign, FitsRow, FitsStart, FitsStatement, IsRelation, kind_of}
 use Rattle.sdd_lang.specs.Query.{answer}
@@ -226,7 +226,7 @@ set_stays cat db rel key (Some row) is there held has = with_row_stays cat db (r
 pub change_stays : (cat : Catalogue) → IsSound cat → (db : Database) (c : Change) → IsDatabase cat db → IsChange cat ((c.frag.0, c.key), c.row) → IsDatabase cat (changed_by cat db c)
 change_stays cat sound db c is change =
     let holder = fragment_holds cat sound change.rel c.key change.there.0 change.there.1 (key_in_range c.key change.held) in
-    let rel : (fragment_at cat c.frag.0).rel.0 ≡ change.rel = ap (λ f. (fragment_at cat f).rel.0) change.frag ∙ holder.holds.rel_is in
+    let rel : (fragment_at cat c.frag.0).rel.0 ≡ change.rel = ap (λ f. (fragment_at cat f).rel.0) change.frag ∙ holder.there.rel_is in
     subst (λ r. IsDatabase cat (set_to db (r, c.key) c.row)) (sym rel) (set_stays cat db change.rel c.key c.row is change.there change.held change.row)
 
 pub changes_stay : (cat : Catalogue) → IsSound cat → (db : Database) (changes : List Change) → IsDatabase cat db → AllByRecursion (λ (c : Change). IsChange cat ((c.frag.0, c.key), c.row)) changes → IsDatabase cat (after_changes cat db changes)

@@ -1,8 +1,8 @@
 //! The keys that restrictions allow.
-ghost use Rattle.std.specs.Prelude.{◌≡◌, ◌==◌, if◌then◌else◌, FitsSigned};
+ghost use Rattle.std.specs.Prelude.{◌≡◌, ◌==◌, true, false, if◌then◌else◌, FitsSigned, MatchOption};
 ghost use Rattle.std.specs.Int.{w64};
+ghost use Rattle.sdd_base.specs.Order.{number_in};
 ghost use Rattle.sdd_lang.specs.Uses.{larger, smaller, common, holds_some, all_keys, keys_for, allowed_keys};
-ghost use Rattle.sdd_lang.specs.Database.{number_in};
 
 use sdd_base::{Op, Restriction, Value};
 use std::marker::Model;
@@ -24,7 +24,8 @@ impl Model for Keys {
 }
 
 impl Keys {
-    fn all() -> Keys
+    /// All keys.
+    pub fn all() -> Keys
         ensures { result ≡ all_keys }
     {
         Keys {
@@ -83,6 +84,22 @@ impl Keys {
         };
         let both = self.within(&range);
         both.from <= both.to
+    }
+
+    /// The least and the greatest of these keys that are whole numbers of 64 bits, or None where
+    /// there is none. Takes no memory.
+    #[tactic(auto, using(crate::proofs::KeyRanges::common_in_range))]
+    pub fn ends(&self) -> Option<(i64, i64)>
+        ensures { let keys = common self.now all_keys in
+            MatchOption result (holds_some keys ≡ false)
+            (λ ends. (holds_some keys ≡ true) × (ends.0 ≡ keys.0) × (ends.1 ≡ keys.1)) }
+    {
+        let keys = self.within(&Keys::all());
+        if keys.from <= keys.to {
+            Some((keys.from as i64, keys.to as i64))
+        } else {
+            None
+        }
     }
 }
 

@@ -28,6 +28,7 @@ pub use classes::{class_for, read_set, write_set};
 pub use condition::{Condition, Conditions, Ref, Refs};
 pub use effect::Effect;
 pub use fitting::fits;
+pub use keys::{Keys, allowed_keys};
 pub use laws::{
     law_puts_held, law_read_set_decides, law_rows_held, law_rows_make_database, law_stays_database,
 };
@@ -37,4 +38,4 @@ pub use source::{Entries, Entry, Source};
 pub use statement::{Rels, Statements, Stmt};
 pub use transaction::Txn;
 pub use tuple::{compare, copied, key_of, may_stand, meets_all, project, value_at, value_in};
-pub use usage::uses;
+pub use usage::{restrictions_of, uses};

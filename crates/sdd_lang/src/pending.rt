@@ -1,5 +1,6 @@
 //! The changes of a transaction under way.
 ghost use Rattle.std.specs.Prelude.{◌≡◌, [], IfOk, OnOk, map, Some, None, Option, cond};
+ghost use Rattle.sdd_catalog.specs.Catalogue.{fragment_of};
 ghost use Rattle.sdd_lang.specs.Effect.{with_change, with_updates, with_deletes, change_of};
 ghost use Rattle.sdd_lang.specs.Fits.{IsRelation};
 ghost use Rattle.sdd_lang.specs.Source.{entries_of};
@@ -27,6 +28,14 @@ impl Model for Pending {
     ghost view = { λ p. p.rows.entries };
 }
 
+/// The number of the fragment that holds the key.
+fn fragment_of(cat: &Catalogue, rel: RelNo, key: &i64) -> u32
+    requires { IsRelation cat.now rel.0 }
+    ensures { result ≡ fragment_of cat.now rel.0 key.now }
+{
+    cat.fragment_of(rel, *key).0
+}
+
 impl Pending {
     pub(crate) fn new(alloc: Global) -> Self
         ensures { result ≡ [] }
@@ -47,7 +56,7 @@ impl Pending {
         requires { IsRelation cat.now rel.0 }
         ensures { OnOk result (self.new ≡ with_change cat.now self.old rel.0 key.now row) }
     {
-        self.rows.insert((cat.fragment_of(rel, *key).0, *key), row)?;
+        self.rows.insert((fragment_of(cat, rel, key), *key), row)?;
         Ok(())
     }
 

@@ -87,7 +87,7 @@ fn use_of(
     requires { IsRelation cat.now rel.0 }
     ensures { IfOk result (λ found. found ≡ use_of cat.now number rel (restrictions_of part conds.now)) }
 {
-    let restrictions = restrictions_of(alloc, part, conds)?;
+    let restrictions = restrictions_of(alloc, part as usize, conds)?;
     let frags = fragments_for(alloc, cat, rel, restrictions.as_slice())?;
     Ok(Use {
         number,
@@ -131,7 +131,7 @@ fn meets_keys(cat: &Catalogue, rel: RelNo, keys: &Keys, frag: FragNo) -> bool
 /// The conditions that compare a column of the part with a constant, as restrictions of the part.
 pub fn restrictions_of(
     alloc: Global,
-    part: u32,
+    part: usize,
     conds: &[Condition],
 ) -> Result<Restrictions, NoMemory>
     ensures { IfOk result (λ found. found ≡ restrictions_of part conds.now) }
@@ -147,12 +147,12 @@ pub fn restrictions_of(
 }
 
 /// The condition as a restriction of the part, where it is one.
-fn restriction_of(part: u32, cond: &Condition) -> Result<Option<Restriction>, NoMemory>
+fn restriction_of(part: usize, cond: &Condition) -> Result<Option<Restriction>, NoMemory>
     ensures { IfOk result (λ found. found ≡ restriction_of part cond.now) }
 {
     match cond {
         Condition::Const { left, op, value } => {
-            if left.part == part {
+            if left.part as usize == part {
                 Ok(Some(Restriction {
                     column: left.column,
                     op: *op,

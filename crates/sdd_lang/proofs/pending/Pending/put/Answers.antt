@@ -1,0 +1,8 @@
+use Rattle.std.proofs.Common.{rules, w64, to_z-of_z}
+use Rattle.std.specs.Prelude.{FitsSigned}
+use Rattle.sdd_lang.proofs.pending.Pending.put.Goals as goal
+
+pub returns : goal.returns
+returns c =
+    let fits : FitsSigned w64 c.args.key.now = search rules in
+    rw (c.self.view_is, c.fragment_of.ensures, to_z-of_z fits) at c.in_ok-insert.ensures.entries
