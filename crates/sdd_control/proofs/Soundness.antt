@@ -2,7 +2,7 @@
 use Rattle.std.proofs.Common.{ℕ, zero, suc, ◌+◌, ◌-◌, ◌<◌, ◌≤◌, ◌≡◌, ◌≢◌, ◌^◌, ◌==◌, ◌&&◌, not, cond, Bool, true, false, List, [], ◌∷◌, ◌++◌, length, Option, Some, None, Result, Ok, Err, refl, sym, ap, ◌∙◌, subst, inl, inr, arith, T, ltb→lt, leb→le, length-append, eq-eqb}
 use Rattle.std.specs.Prelude.{ℤ, pos, negsuc, nat_lt, nat_le, IfOk}
 use Rattle.std.proofs.lemmas.Bool.{cases_Bool}
-use Rattle.sdd_script.specs.Telling.{Tells}
+use Rattle.sdd_control.specs.Faults.{Tells}
 use Rattle.sdd_script.specs.declared.fault.WorkError.{WorkError}
 use Rattle.sdd_script.specs.declared.fault.WorkFault.{WorkFault}
 use Rattle.sdd_script.specs.declared.fault.Counts.TheVariants.{Event}
@@ -16,7 +16,7 @@ use Rattle.sdd_words.specs.Texts.{is_sound}
 use Rattle.sdd_control.specs.Keys.{key_of}
 use Rattle.sdd_words.specs.Lines.{cut_lines}
 use Rattle.sdd_words.specs.Number.{number_of}
-use Rattle.sdd_words.specs.Steps.{◌>>=◌, known, must}
+use Rattle.sdd_base.specs.Readings.{◌>>=◌, known, must}
 use Rattle.sdd_words.specs.declared.word.Word.{Word}
 use Rattle.sdd_words.specs.declared.word.Word.TheVariants.{Plain, Quoted}
 use Rattle.sdd_control.specs.LineRules.{delivery_of, end_of, event_rules, head_of, head_rules, key_rules, line_rules, most_events, number_within, site_number, site_of, sound_rules, with_act, within, words_rules}
@@ -25,10 +25,10 @@ use Rattle.sdd_control.specs.Steps.{FitAll, Fits}
 use Rattle.sdd_control.specs.Walk.{at_line, control_script, is_ended, most_bytes, nothing_read, one_line, tail_rules, walk, walk_bytes}
 use Rattle.sdd_control.specs.declared.act.Act.{Act}
 use Rattle.sdd_control.specs.declared.act.Act.TheVariants.{Step, Deliver, Stop}
-use Rattle.sdd_control.specs.declared.draft.Draft.{Draft}
-use Rattle.sdd_control.specs.declared.draft.Head.{Head}
-use Rattle.sdd_control.specs.declared.draft.Stage.{Stage}
-use Rattle.sdd_control.specs.declared.draft.Stage.TheVariants.{First, Events, Ended}
+use Rattle.sdd_control.specs.Draft.{Draft}
+use Rattle.sdd_control.specs.declared.stage.Head.{Head}
+use Rattle.sdd_control.specs.declared.stage.Stage.{Stage}
+use Rattle.sdd_control.specs.declared.stage.Stage.TheVariants.{First, Events, Ended}
 use Rattle.sdd_control.specs.declared.key.Key.{Key}
 use Rattle.sdd_control.specs.declared.key.Key.TheVariants as keys
 use Rattle.sdd_control.specs.declared.script.ControlScript.{ControlScript}

@@ -9,17 +9,17 @@ use Rattle.sdd_script.specs.declared.fault.WorkRule.TheVariants.{BadEvent, BadLi
 use Rattle.sdd_words.specs.Keywords.{is_free}
 use Rattle.sdd_words.specs.Number.{number_of}
 use Rattle.sdd_words.specs.Scan.{words_of}
-use Rattle.sdd_words.specs.Steps.{◌>>=◌, known, must}
+use Rattle.sdd_base.specs.Readings.{◌>>=◌, known, must}
 use Rattle.sdd_words.specs.Texts.{is_sound}
 use Rattle.sdd_words.specs.declared.word.Word.{Word}
 use Rattle.sdd_words.specs.declared.word.Word.TheVariants.{Plain, Quoted}
 use Rattle.sdd_control.specs.Keys.{key_of}
 use Rattle.sdd_control.specs.declared.act.Act.{Act}
 use Rattle.sdd_control.specs.declared.act.Act.TheVariants.{Step, Deliver, Stop}
-use Rattle.sdd_control.specs.declared.draft.Draft.{Draft}
-use Rattle.sdd_control.specs.declared.draft.Head.{Head}
-use Rattle.sdd_control.specs.declared.draft.Stage.{Stage}
-use Rattle.sdd_control.specs.declared.draft.Stage.TheVariants.{First, Events, Ended}
+use Rattle.sdd_control.specs.Draft.{Draft}
+use Rattle.sdd_control.specs.declared.stage.Head.{Head}
+use Rattle.sdd_control.specs.declared.stage.Stage.{Stage}
+use Rattle.sdd_control.specs.declared.stage.Stage.TheVariants.{First, Events, Ended}
 use Rattle.sdd_control.specs.declared.key.Key.{Key}
 use Rattle.sdd_control.specs.declared.key.Key.TheVariants as keys
 

@@ -7,9 +7,9 @@ use Rattle.sdd_script.specs.declared.fault.WorkRule.TheVariants.{BadLine, NoEnd,
 use Rattle.sdd_words.specs.Lines.{cut_lines}
 use Rattle.sdd_control.specs.LineRules.{line_rules}
 use Rattle.sdd_control.specs.declared.act.Act.{Act}
-use Rattle.sdd_control.specs.declared.draft.Draft.{Draft}
-use Rattle.sdd_control.specs.declared.draft.Stage.{Stage}
-use Rattle.sdd_control.specs.declared.draft.Stage.TheVariants.{First, Events, Ended}
+use Rattle.sdd_control.specs.Draft.{Draft}
+use Rattle.sdd_control.specs.declared.stage.Stage.{Stage}
+use Rattle.sdd_control.specs.declared.stage.Stage.TheVariants.{First, Events, Ended}
 use Rattle.sdd_control.specs.declared.script.ControlScript.{ControlScript}
 
 abbrev pub is_ended : Stage → Bool

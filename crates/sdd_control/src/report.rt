@@ -37,7 +37,7 @@ fn put_spaced(text: &mut Vec<u8>, number: u32) -> Result<(), NoMemory>
     ensures { OnOk result (text.new.items ≡ text.old.items ++ spaced number) }
 {
     put(text, b" ")?;
-    put_count(text, number)
+    put_count(text, u64::from(number))
 }
 
 /// A word and the number of a site.
@@ -90,7 +90,7 @@ fn put_note(text: &mut Vec<u8>, note: &Note) -> Result<(), NoMemory>
 fn put_note_line(text: &mut Vec<u8>, number: u32, note: &Note) -> Result<(), NoMemory>
     ensures { OnOk result (text.new.items ≡ text.old.items ++ note_line number note.now) }
 {
-    put_count(text, number)?;
+    put_count(text, u64::from(number))?;
     put(text, b" ")?;
     put_note(text, note)?;
     put(text, b"\n")

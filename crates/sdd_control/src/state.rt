@@ -15,9 +15,6 @@ use crate::value::Val;
 use sdd_base::NoMemory;
 use std::alloc::Global;
 
-/// The most backups that there may be.
-pub const MOST_BACKUPS: u32 = 8;
-
 /// The most sites: the committer and its backups.
 const SITES: usize = 9;
 
