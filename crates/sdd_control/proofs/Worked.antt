@@ -1,9 +1,8 @@
 -- Two runs: a commit that a backup carries to its end, and one that it gives up.
 use Rattle.std.proofs.Common.{ℕ, ◌≡◌, List, [], ◌∷◌, refl, true, false, zero, suc, arith}
-use Rattle.sdd_control.specs.Control.{run_of}
+use Rattle.sdd_control.specs.Control.{run_of, written}
 use Rattle.sdd_control.specs.Laws.{NoMessages, NoSends}
 use Rattle.sdd_control.specs.Log.{Log}
-use Rattle.sdd_control.specs.Report.{written}
 use Rattle.sdd_control.specs.Standing.{finished, stopped, value}
 use Rattle.sdd_control.specs.Steps.{happened, log_of, note_of}
 use Rattle.sdd_control.specs.declared.act.Act.{Act}
