@@ -1,3 +1,4 @@
+pub mod EffectChanges
 pub mod Firsts
 pub mod KeyKinds
 pub mod KeyRanges

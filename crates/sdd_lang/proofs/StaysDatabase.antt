@@ -27,6 +27,7 @@ use Rattle.sdd_lang.specs.declared.statement.Stmt.TheVariants.{Put, Query, Updat
 use Rattle.sdd_lang.specs.declared.transaction.Txn.{Txn}
 use Rattle.sdd_lang.specs.Condition.{meets_all}
 use Rattle.sdd_lang.specs.Database.{Item, Row, Database, item_cmp, with_row, without_row, key_in, database_of}
+use Rattle.sdd_lang.specs.Changes.{HasRow, IsChange, ChangesItems}
 use Rattle.sdd_lang.specs.Effect.{Changed, change_of, effect, effect_from, failed, rows_in, with_change, with_updates, with_deletes}
 use Rattle.sdd_lang.specs.Fits.{Fits, FitsAssign, FitsRow, FitsStart, FitsStatement, IsRelation, kind_of}
 use Rattle.sdd_lang.specs.Query.{answer}
@@ -142,18 +143,6 @@ replaced_follows cat sound rel old next sets there fit fits e = all_follow cat s
 
 -- changes
 
-abbrev HasRow : Catalogue → ℕ → ℤ → Option Row → Type 0
-HasRow cat rel key None = Unit {0}
-HasRow cat rel key (Some row) = FitsRow cat rel row × (key ≡ key_in cat rel row)
-
--- a change of an item of a relation
-pub record IsChange (cat : Catalogue) (c : (ℕ × ℤ) × Option Row) : Type 0 where
-  pub rel : ℕ
-  pub there : IsRelation cat rel
-  pub held : in_range c.0.1 ≡ true
-  pub frag : c.0.0 ≡ fragment_of cat rel c.0.1
-  pub row : HasRow cat rel c.0.1 c.1
-
 change_more : (cat : Catalogue) (changed : Changed) (rel : ℕ) (key : ℤ) (row : Option Row) → AllByRecursion (IsChange cat) changed → IsRelation cat rel → in_range key ≡ true → HasRow cat rel key row → AllByRecursion (IsChange cat) (with_change cat changed rel key row)
 change_more cat changed rel key row all there held has =
     each_inserted item_cmp item_cmp_exact (IsChange cat) changed (fragment_of cat rel key, key) row all (record { rel = rel; there = there; held = held; frag = refl; row = has })
@@ -192,14 +181,11 @@ updates_change cat sound rel sets there fits changed next (f ∷ es) all of e =
     ] refl e
 
 -- the changes of an effect
-abbrev ChangesItems : Catalogue → Effect → Type 0
-ChangesItems cat e = AllByRecursion (λ (c : Change). IsChange cat ((c.frag.0, c.key), c.row)) e.changes
-
 made_changes : (cat : Catalogue) (changed : Changed) → AllByRecursion (IsChange cat) changed → AllByRecursion (λ (c : Change). IsChange cat ((c.frag.0, c.key), c.row)) (map change_of changed)
 made_changes cat [] all = tt
 made_changes cat (c ∷ changed) all = (all.0, made_changes cat changed all.1)
 
-effect_changes : (cat : Catalogue) → IsSound cat → (db : Database) → AllByRecursion (IsEntry cat) db → (statements : List Stmt) (answers : List (List Row)) (changed : Changed) → AllByRecursion (FitsStatement cat) statements → AllByRecursion PutsHeld statements → AllByRecursion (IsChange cat) changed → ChangesItems cat (effect_from cat db statements answers changed)
+pub effect_changes : (cat : Catalogue) → IsSound cat → (db : Database) → AllByRecursion (IsEntry cat) db → (statements : List Stmt) (answers : List (List Row)) (changed : Changed) → AllByRecursion (FitsStatement cat) statements → AllByRecursion PutsHeld statements → AllByRecursion (IsChange cat) changed → ChangesItems cat (effect_from cat db statements answers changed)
 effect_changes cat sound db is [] answers changed fits held all = made_changes cat changed all
 effect_changes cat sound db is (Put rel row ∷ rest) answers changed fits held all =
     effect_changes cat sound db is rest answers (with_change cat changed rel.0 (key_in cat rel.0 row) (Some row)) fits.1 held.1

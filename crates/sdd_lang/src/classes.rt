@@ -156,9 +156,7 @@ fn covers(cat: &Catalogue, txn: &Txn, reads: &[FragNo], writes: &[FragNo], class
     requires to { class.0 ≤ length cat.now.classes }
     ensures { result ≡ covers cat.now txn.now class.0 }
 {
-    cat.class(class).tm == txn.tm
-        && reads_all(cat, class, reads)
-        && writes_all(cat, class, writes)
+    cat.class(class).tm == txn.tm && reads_all(cat, class, reads) && writes_all(cat, class, writes)
 }
 
 /// Whether the class reads all these fragments.

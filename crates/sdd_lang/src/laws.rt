@@ -2,6 +2,8 @@
 //! A program has no need to call them.
 ghost use Rattle.std.specs.Prelude.{◌≡◌, All};
 ghost use Rattle.sdd_lang.specs.Agree.{ReadSetDecides};
+ghost use Rattle.sdd_lang.specs.Changes.{ChangesItems, ArePlaced, LieIn, OneAnItem};
+ghost use Rattle.sdd_lang.specs.Classes.{write_set};
 ghost use Rattle.sdd_lang.specs.Database.{Database, database_of};
 ghost use Rattle.sdd_lang.specs.Effect.{effect};
 ghost use Rattle.sdd_lang.specs.Fits.{Fits, FitsStart};
@@ -28,6 +30,20 @@ pub fn law_read_set_decides(cat: &Catalogue, txn: &Txn)
 pub fn law_stays_database(cat: &Catalogue, txn: &Txn)
     requires { Fits cat.now txn.now }
     ensures { (db : Database) → IsDatabase cat.now db → IsDatabase cat.now (after_changes cat.now db (effect cat.now db txn.now).changes) }
+{
+    cat.known();
+    law_puts_held(txn);
+}
+
+/// The changes of a transaction: each is of an item of a relation and leaves a row that fits, with the
+/// item's key, or none; it names the fragment that holds the item, which is one of the write set; and
+/// of an item there is one. Costs time in the values of the rows that it puts. Takes no memory.
+pub fn law_changes(cat: &Catalogue, txn: &Txn)
+    requires { Fits cat.now txn.now }
+    ensures items { (db : Database) → IsDatabase cat.now db → ChangesItems cat.now (effect cat.now db txn.now) }
+    ensures placed { (db : Database) → IsDatabase cat.now db → ArePlaced cat.now (effect cat.now db txn.now) }
+    ensures written { (db : Database) → IsDatabase cat.now db → LieIn (write_set cat.now txn.now) (effect cat.now db txn.now) }
+    ensures once { (db : Database) → IsDatabase cat.now db → OneAnItem cat.now (effect cat.now db txn.now) }
 {
     cat.known();
     law_puts_held(txn);

@@ -30,7 +30,8 @@ pub use effect::Effect;
 pub use fitting::fits;
 pub use keys::{Keys, allowed_keys};
 pub use laws::{
-    law_puts_held, law_read_set_decides, law_rows_held, law_rows_make_database, law_stays_database,
+    law_changes, law_puts_held, law_read_set_decides, law_rows_held, law_rows_make_database,
+    law_stays_database,
 };
 pub use over::effect_over;
 pub use replace::replaced;
