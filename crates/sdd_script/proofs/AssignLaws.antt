@@ -1,5 +1,5 @@
 -- Assignments: what is read is spelled and fits, and what is spelled and fits is read.
-use Rattle.std.proofs.Common.{◌≡◌, ◌≢◌, ℕ, ℤ, suc, ◌^◌, ◌<◌, ◌≤◌, List, [], ◌∷◌, ◌++◌, map, Bool, true, false, cond, ◌&&◌, eqb, Option, Some, None, Result, Ok, refl, sym, ap, subst, ◌∙◌, arith}
+use Rattle.std.proofs.Common.{◌≡◌, ◌≢◌, ℕ, ℤ, ◌+◌, ◌^◌, ◌<◌, ◌≤◌, List, [], ◌∷◌, ◌++◌, map, Bool, true, false, cond, ◌&&◌, eqb, Option, Some, None, Result, Ok, refl, sym, ap, subst, ◌∙◌, arith}
 use Rattle.std.specs.Prelude.{codes, not, ◌==◌, if◌then◌else◌}
 use Rattle.std.specs.Option.{option_map}
 use Rattle.std.specs.Str.{bytes_eq}
@@ -16,24 +16,26 @@ use Rattle.sdd_lang.specs.Fits.{IsColumn, FitsRef, FitsAssign, kind_of_ref, rel_
 use Rattle.sdd_lang.specs.declared.assign.Assign.{Assign}
 use Rattle.sdd_lang.specs.declared.assign.Assign.TheVariants.{To, Add}
 use Rattle.sdd_lang.specs.declared.condition.Ref.{Ref}
+use Rattle.sdd_words.specs.Values.{value_word}
 use Rattle.sdd_words.specs.Keywords.{is_free, adds_of, looks_like_column}
 use Rattle.sdd_words.specs.Forms.{setting_of, joined, settings}
 use Rattle.sdd_words.specs.Number.{number_of}
-use Rattle.sdd_words.specs.Steps.{◌>>=◌, must, each_at}
+use Rattle.sdd_base.specs.Readings.{◌>>=◌, must, along}
 use Rattle.sdd_words.specs.declared.form.Setting.{Setting}
 use Rattle.sdd_words.specs.declared.word.Word.{Word}
 use Rattle.sdd_words.specs.declared.word.Word.TheVariants.{Plain, Quoted}
 use Rattle.sdd_words.proofs.Numbers.{number_takes, number_again}
 use Rattle.sdd_script.specs.Columns.{column_of_use}
 use Rattle.sdd_script.specs.Naming.{key_of}
-use Rattle.sdd_script.specs.Spelling.{value_word, column_word, own_column, assign_words, sets_words}
+use Rattle.sdd_script.specs.Spelling.{column_word, own_column, assign_words, sets_words}
 use Rattle.sdd_script.specs.Statements.{addend_of, add_of, to_of, assign_of}
 use Rattle.sdd_script.specs.Valid.{AssignsValue}
 use Rattle.sdd_script.specs.Values.{is_of_kind, value_of}
 use Rattle.sdd_script.specs.declared.fault.WorkRule.{WorkRule}
 use Rattle.sdd_script.specs.declared.fault.WorkRule.TheVariants.{BadNumber, WrongKind, KeyChanged}
 use Rattle.sdd_script.specs.declared.found.Found.{Found}
-use Rattle.sdd_script.proofs.StepLaws.{bind_ok, ok_is, must_then, known_ok, both_hold, Answer, each_ok, ok_each, not_true, three_same, some_of}
+use Rattle.sdd_base.proofs.ReadingLaws.{bind_ok, ok_is, known_ok, Answers, along_ok, ok_along}
+use Rattle.sdd_script.proofs.StepLaws.{must_then, both_hold, not_true, three_same, some_of}
 use Rattle.sdd_script.proofs.ValueLaws.{value_takes, value_again, kind_int, kind_same, key_is}
 use Rattle.sdd_script.proofs.WordLooks.{value_free, number_free}
 use Rattle.sdd_script.proofs.UseLaws.{IsKnown}
@@ -201,23 +203,23 @@ pub record AreAssigns (cat : Catalogue) (rel : RelNo) (ws : List Word) (sets : L
 abbrev reads : Catalogue → ℕ → ℕ → Setting → Result Assign WorkRule
 reads cat rel i s = assign_of cat rel s
 
-of_answers : (cat : Catalogue) (rel : RelNo) (i : ℕ) (ss : List Setting) (sets : List Assign) → AllByRecursion LooksSet ss → Answer (reads cat rel.0) i ss sets → AreAssigns cat rel (setted ss) sets
+of_answers : (cat : Catalogue) (rel : RelNo) (i : ℕ) (ss : List Setting) (sets : List Assign) → AllByRecursion LooksSet ss → Answers (reads cat rel.0) i ss sets → AreAssigns cat rel (setted ss) sets
 of_answers cat rel i [] [] looks h = record { spelled = refl; fits = tt; values = tt }
 of_answers cat rel i [] (a ∷ sets) looks h = absurd h
 of_answers cat rel i (s ∷ ss) [] looks h = absurd h
 of_answers cat rel i (s ∷ ss) (a ∷ sets) looks h =
     let one = assign_takes cat rel s a looks.0 h.0 in
-    let more = of_answers cat rel (suc i) ss sets looks.1 h.1 in
+    let more = of_answers cat rel (i + 1) ss sets looks.1 h.1 in
     record {
       spelled = ap (λ (l : List Word). l ++ setted ss) one.spelled ∙ ap (λ (l : List Word). assign_words cat rel a ++ l) more.spelled;
       fits = (one.fits, more.fits);
       values = (one.value, more.values);
     }
 
-pub assigns_take : (cat : Catalogue) (rel : RelNo) (ws : List Word) (ss : List Setting) (sets : List Assign) → settings ws ≡ Some ss → each_at (reads cat rel.0) 0 ss ≡ Ok sets → AreAssigns cat rel ws sets
+pub assigns_take : (cat : Catalogue) (rel : RelNo) (ws : List Word) (ss : List Setting) (sets : List Assign) → settings ws ≡ Some ss → along (reads cat rel.0) 0 ss ≡ Ok sets → AreAssigns cat rel ws sets
 assigns_take cat rel ws ss sets form e =
     let f = settings_take ws ss form in
-    subst (λ (l : List Word). AreAssigns cat rel l sets) (sym f.spelled) (of_answers cat rel 0 ss sets f.looks (each_ok (reads cat rel.0) 0 ss sets e))
+    subst (λ (l : List Word). AreAssigns cat rel l sets) (sym f.spelled) (of_answers cat rel 0 ss sets f.looks (along_ok (reads cat rel.0) 0 ss sets e))
 
 -- the setting that an assignment is
 abbrev pub setting_for : Catalogue → RelNo → Assign → Setting
@@ -256,12 +258,12 @@ all_look : (cat : Catalogue) → IsKnown cat → (rel : RelNo) → AreParts cat 
 all_look cat k rel h [] fits v = tt
 all_look cat k rel h (a ∷ sets) fits v = (looks_again cat k rel h a fits.0 v.0, all_look cat k rel h sets fits.1 v.1)
 
-all_read : (cat : Catalogue) → IsKnown cat → (rel : RelNo) → AreParts cat (rel ∷ []) → (i : ℕ) (sets : List Assign) → AllByRecursion (FitsAssign cat rel.0) sets → AllByRecursion AssignsValue sets → Answer (reads cat rel.0) i (map (setting_for cat rel) sets) sets
+all_read : (cat : Catalogue) → IsKnown cat → (rel : RelNo) → AreParts cat (rel ∷ []) → (i : ℕ) (sets : List Assign) → AllByRecursion (FitsAssign cat rel.0) sets → AllByRecursion AssignsValue sets → Answers (reads cat rel.0) i (map (setting_for cat rel) sets) sets
 all_read cat k rel h i [] fits v = tt
-all_read cat k rel h i (a ∷ sets) fits v = (assign_again cat k rel h a fits.0 v.0, all_read cat k rel h (suc i) sets fits.1 v.1)
+all_read cat k rel h i (a ∷ sets) fits v = (assign_again cat k rel h a fits.0 v.0, all_read cat k rel h (i + 1) sets fits.1 v.1)
 
 pub form_again : (cat : Catalogue) → IsKnown cat → (rel : RelNo) → AreParts cat (rel ∷ []) → (sets : List Assign) → AllByRecursion (FitsAssign cat rel.0) sets → AllByRecursion AssignsValue sets → settings (sets_words cat rel sets) ≡ Some (map (setting_for cat rel) sets)
 form_again cat k rel h sets fits v = ap settings (words_same cat rel sets) ∙ settings_again (map (setting_for cat rel) sets) (all_look cat k rel h sets fits v)
 
-pub assigns_again : (cat : Catalogue) → IsKnown cat → (rel : RelNo) → AreParts cat (rel ∷ []) → (sets : List Assign) → AllByRecursion (FitsAssign cat rel.0) sets → AllByRecursion AssignsValue sets → each_at (reads cat rel.0) 0 (map (setting_for cat rel) sets) ≡ Ok sets
-assigns_again cat k rel h sets fits v = ok_each (reads cat rel.0) 0 (map (setting_for cat rel) sets) sets (all_read cat k rel h 0 sets fits v)
+pub assigns_again : (cat : Catalogue) → IsKnown cat → (rel : RelNo) → AreParts cat (rel ∷ []) → (sets : List Assign) → AllByRecursion (FitsAssign cat rel.0) sets → AllByRecursion AssignsValue sets → along (reads cat rel.0) 0 (map (setting_for cat rel) sets) ≡ Ok sets
+assigns_again cat k rel h sets fits v = ok_along (reads cat rel.0) 0 (map (setting_for cat rel) sets) sets (all_read cat k rel h 0 sets fits v)

@@ -1,5 +1,5 @@
 -- Conditions: what is read is spelled and fits, and what is spelled and fits is read.
-use Rattle.std.proofs.Common.{◌≡◌, ℕ, suc, List, [], ◌∷◌, ◌++◌, map, Bool, true, false, cond, ◌&&◌, Option, Some, None, Result, Ok, refl, sym, ap, subst, ◌∙◌}
+use Rattle.std.proofs.Common.{◌≡◌, ℕ, ◌+◌, List, [], ◌∷◌, ◌++◌, map, Bool, true, false, cond, ◌&&◌, Option, Some, None, Result, Ok, refl, sym, ap, subst, ◌∙◌}
 use Rattle.std.specs.Prelude.{codes, if◌then◌else◌}
 use Rattle.std.specs.Option.{option_map}
 use Rattle.std.specs.Str.{bytes_eq}
@@ -13,20 +13,22 @@ use Rattle.sdd_catalog.specs.declared.parts.Kind.{Kind}
 use Rattle.sdd_lang.specs.Fits.{FitsCondition, kind_of_ref}
 use Rattle.sdd_lang.specs.declared.condition.Condition.{Condition}
 use Rattle.sdd_lang.specs.declared.condition.Condition.TheVariants.{Const, Same}
+use Rattle.sdd_words.specs.Values.{value_word}
 use Rattle.sdd_words.specs.Keywords.{is_key, is_free, op_word, op_in, op_of, looks_like_column, names_column}
 use Rattle.sdd_words.specs.Forms.{comparison_of, joined, comparisons}
-use Rattle.sdd_words.specs.Steps.{◌>>=◌, must}
+use Rattle.sdd_base.specs.Readings.{◌>>=◌, must}
 use Rattle.sdd_words.specs.declared.form.Comparison.{Comparison}
 use Rattle.sdd_words.specs.declared.word.Word.{Word}
 use Rattle.sdd_words.specs.declared.word.Word.TheVariants.{Plain, Quoted}
 use Rattle.sdd_script.specs.Columns.{Parts, column_of_use, same_of, const_of, condition_of, conditions_of}
-use Rattle.sdd_script.specs.Spelling.{value_word, column_word, condition_words, conditions_words}
+use Rattle.sdd_script.specs.Spelling.{column_word, condition_words, conditions_words}
 use Rattle.sdd_script.specs.Valid.{HoldsValue}
 use Rattle.sdd_script.specs.Values.{is_of_kind, value_of}
 use Rattle.sdd_script.specs.declared.fault.WorkRule.{WorkRule}
 use Rattle.sdd_script.specs.declared.fault.WorkRule.TheVariants.{WrongKind}
 use Rattle.sdd_script.specs.declared.found.Found.{Found}
-use Rattle.sdd_script.proofs.StepLaws.{bind_ok, ok_is, must_then, both_hold, Answer, each_ok, ok_each, three_same, some_of}
+use Rattle.sdd_base.proofs.ReadingLaws.{bind_ok, ok_is, Answers, along_ok, ok_along}
+use Rattle.sdd_script.proofs.StepLaws.{must_then, both_hold, three_same, some_of}
 use Rattle.sdd_script.proofs.ValueLaws.{value_takes, value_again, same_kind, kind_same}
 use Rattle.sdd_script.proofs.WordCuts.{key_is_that, is_key_again}
 use Rattle.sdd_script.proofs.WordLooks.{value_free, value_names_no_column}
@@ -205,13 +207,13 @@ pub record AreConditions (cat : Catalogue) (rels : List RelNo) (key : List ℕ) 
 abbrev reads : Catalogue → Parts → ℕ → Comparison → Result Condition WorkRule
 reads cat parts i c = condition_of cat parts c
 
-of_answers : (cat : Catalogue) (rels : List RelNo) (key : List ℕ) (i : ℕ) (cs : List Comparison) (ds : List Condition) → AllByRecursion LooksRight cs → Answer (reads cat (parts_for rels)) i cs ds → AreConditions cat rels key (compared key cs) ds
+of_answers : (cat : Catalogue) (rels : List RelNo) (key : List ℕ) (i : ℕ) (cs : List Comparison) (ds : List Condition) → AllByRecursion LooksRight cs → Answers (reads cat (parts_for rels)) i cs ds → AreConditions cat rels key (compared key cs) ds
 of_answers cat rels key i [] [] looks h = record { spelled = refl; fits = tt; values = tt }
 of_answers cat rels key i [] (d ∷ ds) looks h = absurd h
 of_answers cat rels key i (c ∷ cs) [] looks h = absurd h
 of_answers cat rels key i (c ∷ cs) (d ∷ ds) looks h =
     let one = condition_takes cat rels c d looks.0 h.0 in
-    let more = of_answers cat rels (codes "and") (suc i) cs ds looks.1 h.1 in
+    let more = of_answers cat rels (codes "and") (i + 1) cs ds looks.1 h.1 in
     record {
       spelled = ap (λ (l : List Word). Plain key ∷ (l ++ compared (codes "and") cs)) one.spelled ∙ ap (λ (l : List Word). Plain key ∷ (condition_words cat rels d ++ l)) more.spelled;
       fits = (one.fits, more.fits);
@@ -222,7 +224,7 @@ of_answers cat rels key i (c ∷ cs) (d ∷ ds) looks h =
 pub conditions_take : (cat : Catalogue) (rels : List RelNo) (key : List ℕ) (ws : List Word) (cs : List Comparison) (ds : List Condition) → comparisons key ws ≡ Some cs → conditions_of cat (parts_for rels) cs ≡ Ok ds → AreConditions cat rels key ws ds
 conditions_take cat rels key ws cs ds form e =
     let f = comparisons_take key ws cs form in
-    subst (λ (l : List Word). AreConditions cat rels key l ds) (sym f.spelled) (of_answers cat rels key 0 cs ds f.looks (each_ok (reads cat (parts_for rels)) 0 cs ds e))
+    subst (λ (l : List Word). AreConditions cat rels key l ds) (sym f.spelled) (of_answers cat rels key 0 cs ds f.looks (along_ok (reads cat (parts_for rels)) 0 cs ds e))
 
 -- the comparison that a condition is
 abbrev pub comparison_for : Catalogue → List RelNo → Condition → Comparison
@@ -255,12 +257,12 @@ all_look : (cat : Catalogue) → IsKnown cat → (rels : List RelNo) → ArePart
 all_look cat k rels h [] fits v = tt
 all_look cat k rels h (d ∷ ds) fits v = (looks_again cat k rels h d fits.0 v.0, all_look cat k rels h ds fits.1 v.1)
 
-all_read : (cat : Catalogue) → IsKnown cat → (rels : List RelNo) → AreParts cat rels → (i : ℕ) (ds : List Condition) → AllByRecursion (FitsCondition cat rels) ds → AllByRecursion HoldsValue ds → Answer (reads cat (parts_for rels)) i (map (comparison_for cat rels) ds) ds
+all_read : (cat : Catalogue) → IsKnown cat → (rels : List RelNo) → AreParts cat rels → (i : ℕ) (ds : List Condition) → AllByRecursion (FitsCondition cat rels) ds → AllByRecursion HoldsValue ds → Answers (reads cat (parts_for rels)) i (map (comparison_for cat rels) ds) ds
 all_read cat k rels h i [] fits v = tt
-all_read cat k rels h i (d ∷ ds) fits v = (condition_again cat k rels h d fits.0 v.0, all_read cat k rels h (suc i) ds fits.1 v.1)
+all_read cat k rels h i (d ∷ ds) fits v = (condition_again cat k rels h d fits.0 v.0, all_read cat k rels h (i + 1) ds fits.1 v.1)
 
 pub form_again : (cat : Catalogue) → IsKnown cat → (rels : List RelNo) → AreParts cat rels → (key : List ℕ) (ds : List Condition) → AllByRecursion (FitsCondition cat rels) ds → AllByRecursion HoldsValue ds → comparisons key (conditions_words key cat rels ds) ≡ Some (map (comparison_for cat rels) ds)
 form_again cat k rels h key ds fits v = ap (comparisons key) (words_same cat rels key ds) ∙ comparisons_again key (map (comparison_for cat rels) ds) (all_look cat k rels h ds fits v)
 
 pub conditions_again : (cat : Catalogue) → IsKnown cat → (rels : List RelNo) → AreParts cat rels → (ds : List Condition) → AllByRecursion (FitsCondition cat rels) ds → AllByRecursion HoldsValue ds → conditions_of cat (parts_for rels) (map (comparison_for cat rels) ds) ≡ Ok ds
-conditions_again cat k rels h ds fits v = ok_each (reads cat (parts_for rels)) 0 (map (comparison_for cat rels) ds) ds (all_read cat k rels h 0 ds fits v)
+conditions_again cat k rels h ds fits v = ok_along (reads cat (parts_for rels)) 0 (map (comparison_for cat rels) ds) ds (all_read cat k rels h 0 ds fits v)

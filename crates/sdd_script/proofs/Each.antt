@@ -1,49 +1,50 @@
--- A loop that asks each item of a list.
-use Rattle.std.proofs.Common.{◌≡◌, ℕ, suc, ◌+◌, ◌<◌, ◌≤◌, List, [], ◌∷◌, ◌++◌, length, get_or, drop, Result, Ok, Err, refl, sym, ap, ◌∙◌, append_assoc, append-nil, drop-cons, add-one}
-use Rattle.std.proofs.lemmas.List.{drop_all, get_or_default}
-use Rattle.sdd_words.specs.Steps.{◌>>=◌, each_at}
+-- A loop that reads each item of a list of a line's parts.
+use Rattle.std.proofs.Common.{◌≡◌, ℕ, ◌+◌, ◌<◌, ◌≤◌, List, [], ◌∷◌, ◌++◌, length, get_or, drop, map, Result, Ok, refl, sym, ap, ◌∙◌}
+use Rattle.std.proofs.lemmas.List.{get_or_default}
+use Rattle.sdd_base.specs.Readings.{◌>>=◌, along, Fails}
+use Rattle.sdd_base.proofs.ReadingLaws as readings
+use Rattle.sdd_script.specs.Rules.{rule_in}
 use Rattle.sdd_script.specs.declared.fault.WorkRule.{WorkRule}
 use Rattle.sdd_script.specs.declared.fault.LineError.{LineError}
-use Rattle.sdd_script.specs.declared.fault.LineError.TheVariants as errors
-use Rattle.sdd_script.specs.Rules.{Fails}
 
--- what was read before, and what is still read
 abbrev pub with_front : {B : Type 0} → List B → Result (List B) WorkRule → Result (List B) WorkRule
-with_front front read = read >>= λ ys. Ok (front ++ ys)
+with_front front reading = readings.with_front front reading
 
-regroup : {B : Type 0} (front : List B) (y : B) (read : Result (List B) WorkRule) → with_front front (read >>= λ ys. Ok (y ∷ ys)) ≡ with_front (front ++ y ∷ []) read
-regroup front y (Ok ys) = ap (λ l. Ok l) (sym (append_assoc front (y ∷ []) ys))
-regroup front y (Err f) = refl
+abbrev own : {A : Type 0} → A → A
+own x = x
 
-at_drop : {A B : Type 0} (f : ℕ → A → Result B WorkRule) (xs : List A) (x : A) (i : ℕ) → i < length xs → x ≡ get_or xs i x → each_at f i (drop i xs) ≡ (f i x >>= λ y. each_at f (i + 1) (drop (i + 1) xs) >>= λ ys. Ok (y ∷ ys))
-unfolding each_at
-at_drop f xs x i lt is = let e : drop i xs ≡ x ∷ drop (suc i) xs = rw (drop-cons xs i x, ← is) refl in rw (e, add-one) refl
+map-own : {A : Type 0} (xs : List A) → map own xs ≡ xs
+map-own [] = refl
+map-own (x ∷ xs) = ap (λ l. x ∷ l) (map-own xs)
+
+-- what is left to read, each item seen as itself
+seen : {A B : Type 0} (f : ℕ → A → Result B WorkRule) (number i : ℕ) (xs : List A) → along f number (map own (drop i xs)) ≡ along f number (drop i xs)
+seen f number i xs = ap (λ l. along f number l) (map-own (drop i xs))
 
 pub goes_on : {A B : Type 0} (f : ℕ → A → Result B WorkRule) (xs : List A) (x : A) (y : B) (front : List B) (i : ℕ) (total : Result (List B) WorkRule) → i < length xs → x ≡ get_or xs i x → f i x ≡ Ok y
-    → with_front front (each_at f i (drop i xs)) ≡ total → with_front (front ++ y ∷ []) (each_at f (i + 1) (drop (i + 1) xs)) ≡ total
-goes_on f xs x y front i total lt is e so_far = sym (ap (with_front front) (at_drop f xs x i lt is ∙ ap (λ r. r >>= λ y. each_at f (i + 1) (drop (i + 1) xs) >>= λ ys. Ok (y ∷ ys)) e) ∙ regroup front y (each_at f (i + 1) (drop (i + 1) xs))) ∙ so_far
+    → with_front front (along f i (drop i xs)) ≡ total → with_front (front ++ y ∷ []) (along f (i + 1) (drop (i + 1) xs)) ≡ total
+goes_on f xs x y front i total lt is read so_far =
+    ap (with_front (front ++ y ∷ [])) (sym (seen f (i + 1) (i + 1) xs))
+    ∙ readings.goes_on own f total front xs i i x y lt is read (ap (with_front front) (seen f i i xs) ∙ so_far)
 
-pub ends : {A B : Type 0} (f : ℕ → A → Result B WorkRule) (xs : List A) (x : A) (err : LineError) (front : List B) (i : ℕ) (total : Result (List B) WorkRule) → i < length xs → x ≡ get_or xs i x → Fails err (f i x)
-    → with_front front (each_at f i (drop i xs)) ≡ total → Fails err total
-ends f xs x errors.NoMemory front i total lt is e so_far = tt
-ends f xs x (errors.Broken r) front i total lt is e so_far = sym so_far ∙ ap (with_front front) (at_drop f xs x i lt is ∙ ap (λ r. r >>= λ y. each_at f (i + 1) (drop (i + 1) xs) >>= λ ys. Ok (y ∷ ys)) e)
+pub ends : {A B : Type 0} (f : ℕ → A → Result B WorkRule) (xs : List A) (x : A) (err : LineError) (front : List B) (i : ℕ) (total : Result (List B) WorkRule) → i < length xs → x ≡ get_or xs i x → Fails rule_in err (f i x)
+    → with_front front (along f i (drop i xs)) ≡ total → Fails rule_in err total
+ends f xs x err front i total lt is fails so_far = readings.ends rule_in own f total err front xs i i x lt is fails (ap (with_front front) (seen f i i xs) ∙ so_far)
 
 pub is_done : {A B : Type 0} (f : ℕ → A → Result B WorkRule) (xs : List A) (front : List B) (i : ℕ) (total : Result (List B) WorkRule) → length xs ≤ i
-    → with_front front (each_at f i (drop i xs)) ≡ total → total ≡ Ok front
-unfolding each_at
-is_done f xs front i total past so_far = sym so_far ∙ ap (λ l. with_front front (each_at f i l)) (drop_all i xs past) ∙ ap (λ l. Ok l) (append-nil front)
+    → with_front front (along f i (drop i xs)) ≡ total → total ≡ Ok front
+is_done f xs front i total past so_far = readings.is_done own f total front xs i i past (ap (with_front front) (seen f i i xs) ∙ so_far)
 
 -- the same of an item by its index, with any default
 pub goes_on_at : {A B : Type 0} (f : ℕ → A → Result B WorkRule) (xs : List A) (d : A) (y : B) (front : List B) (i : ℕ) (total : Result (List B) WorkRule) → i < length xs → f i (get_or xs i d) ≡ Ok y
-    → with_front front (each_at f i (drop i xs)) ≡ total → with_front (front ++ y ∷ []) (each_at f (i + 1) (drop (i + 1) xs)) ≡ total
+    → with_front front (along f i (drop i xs)) ≡ total → with_front (front ++ y ∷ []) (along f (i + 1) (drop (i + 1) xs)) ≡ total
 goes_on_at f xs d y front i total lt e so_far = goes_on f xs (get_or xs i d) y front i total lt (get_or_default xs i d (get_or xs i d) lt) e so_far
 
-pub ends_at : {A B : Type 0} (f : ℕ → A → Result B WorkRule) (xs : List A) (d : A) (err : LineError) (front : List B) (i : ℕ) (total : Result (List B) WorkRule) → i < length xs → Fails err (f i (get_or xs i d))
-    → with_front front (each_at f i (drop i xs)) ≡ total → Fails err total
+pub ends_at : {A B : Type 0} (f : ℕ → A → Result B WorkRule) (xs : List A) (d : A) (err : LineError) (front : List B) (i : ℕ) (total : Result (List B) WorkRule) → i < length xs → Fails rule_in err (f i (get_or xs i d))
+    → with_front front (along f i (drop i xs)) ≡ total → Fails rule_in err total
 ends_at f xs d err front i total lt e so_far = ends f xs (get_or xs i d) err front i total lt (get_or_default xs i d (get_or xs i d) lt) e so_far
 
-pub fails_bind : {A B : Type 0} (err : LineError) (read : Result A WorkRule) (f : A → Result B WorkRule) → Fails err read → Fails err (read >>= f)
-fails_bind errors.NoMemory read f h = tt
-fails_bind (errors.Broken r) read f h = rw h refl
+pub fails_bind : {A B : Type 0} (err : LineError) (read : Result A WorkRule) (f : A → Result B WorkRule) → Fails rule_in err read → Fails rule_in err (read >>= f)
+fails_bind err read f h = readings.fails_bind rule_in err read f h
 
 pub ruleset each_loop = (goes_on, ends, is_done)

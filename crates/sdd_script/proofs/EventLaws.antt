@@ -7,6 +7,8 @@ use Rattle.std.specs.Fmt.{decimal}
 use Rattle.std.proofs.lemmas.Bool.{eqb-true, ltb-true, lt-ltb}
 use Rattle.std.proofs.lemmas.Str.{IsUtf8-append, IsUtf8-from_ascii}
 use Rattle.std.proofs.lemmas.Str.Ascii.{IsAscii-cons, IsAscii-nil}
+use Rattle.sdd_base.specs.Numbers.{tm_no}
+use Rattle.sdd_base.specs.declared.limits.TheConstants.{MAX_PLACE, MAX_TICKS}
 use Rattle.sdd_base.specs.Sites.{are_linked}
 use Rattle.sdd_base.specs.declared.event.Event.{Event}
 use Rattle.sdd_base.specs.declared.event.Event.TheVariants.{Resend, Tick, Settle}
@@ -19,17 +21,18 @@ use Rattle.sdd_lang.specs.Fits.{IsFrom1To}
 use Rattle.sdd_words.specs.Keywords.{is_free}
 use Rattle.sdd_words.specs.Lines.{HasNoNewline}
 use Rattle.sdd_words.specs.Number.{number_of}
-use Rattle.sdd_words.specs.Steps.{◌>>=◌, must}
+use Rattle.sdd_base.specs.Readings.{◌>>=◌, must}
 use Rattle.sdd_words.specs.Words.{HasNoSpace, IsPlain}
 use Rattle.sdd_words.specs.declared.word.Word.{Word}
 use Rattle.sdd_words.specs.declared.word.Word.TheVariants.{Plain, Quoted}
 use Rattle.sdd_words.proofs.Numbers.{number_takes, number_again}
-use Rattle.sdd_script.specs.Occurrences.{from_one, numbered, tm_no, site_in, site_of, module_of, tm_of, link_of, greatest_count, count_of, flight_place, resend_of, tick_of, settle_of}
+use Rattle.sdd_script.specs.Occurrences.{from_one, numbered, site_in, site_of, module_of, tm_of, link_of, count_of, flight_place, resend_of, tick_of, settle_of}
 use Rattle.sdd_script.specs.Spelling.{site_word, count_word}
 use Rattle.sdd_script.specs.Valid.{IsSite, IsLink}
 use Rattle.sdd_script.specs.declared.fault.WorkRule.{WorkRule}
 use Rattle.sdd_script.specs.declared.fault.WorkRule.TheVariants.{BadEvent, BadLine, BadNumber}
-use Rattle.sdd_script.proofs.StepLaws.{bind_ok, ok_is, must_then, known_ok, both_hold, both_are, le_of, of_le, some_is}
+use Rattle.sdd_base.proofs.ReadingLaws.{bind_ok, ok_is, known_ok}
+use Rattle.sdd_script.proofs.StepLaws.{must_then, both_hold, both_are, le_of, of_le, some_is}
 use Rattle.sdd_script.proofs.WordLooks.{IsFine, count_fine, count_free}
 use Rattle.sdd_script.proofs.UseLaws.{IsKnown}
 
@@ -147,12 +150,14 @@ link_again cat k from to h =
     let c : are_linked from to ≡ true = h.2 in
     rw (a, b, c) refl
 
-pub count_takes : (w : Word) (n : ℕ) → count_of w ≡ Ok n → (w ≡ count_word n) × IsFrom1To greatest_count n
-count_takes (Plain bytes) n e = let h = numbered_takes greatest_count bytes n (known_ok BadNumber (numbered greatest_count bytes) n e) in (ap (λ (l : List ℕ). Plain l) h.0, h.1)
-count_takes (Quoted text) n e = absurd cc
+pub count_takes : (most : ℕ) (w : Word) (n : ℕ) → count_of most w ≡ Ok n → (w ≡ count_word n) × IsFrom1To most n
+count_takes most (Plain bytes) n e =
+    let h = numbered_takes most bytes n (known_ok BadNumber (numbered most bytes) n e) in
+    (ap (λ (l : List ℕ). Plain l) h.0, h.1)
+count_takes most (Quoted text) n e = absurd cc
 
-pub count_again : (n : ℕ) → IsFrom1To greatest_count n → count_of (count_word n) ≡ Ok n
-count_again n h = let e = numbered_again greatest_count n (omega arith) h in rw e refl
+pub count_again : (most n : ℕ) → most < 2 ^ 63 → IsFrom1To most n → count_of most (count_word n) ≡ Ok n
+count_again most n small h = let e = numbered_again most n small h in rw e refl
 
 -- ---- what the words look like
 
@@ -179,17 +184,17 @@ site_free U = refl
 site_free (T tm) = refl
 site_free (D dm) = refl
 
-pub place_free : (n : ℕ) → IsFrom1To greatest_count n → is_free (count_word n) ≡ true
+pub place_free : (n : ℕ) → IsFrom1To MAX_PLACE n → is_free (count_word n) ≡ true
 place_free n h = count_free n (omega (arith, h.1))
 
-pub place_fine : (n : ℕ) → IsFrom1To greatest_count n → IsFine (count_word n)
+pub place_fine : (n : ℕ) → IsFrom1To MAX_PLACE n → IsFine (count_word n)
 place_fine n h = count_fine n (omega (arith, h.1))
 
 -- ---- events
 
 pub record IsPlaced (cat : Catalogue) (words : List Word) (p : Site × Site × ℕ) : Type 0 where
   pub linked : IsLink cat p.0 p.1
-  pub placed : IsFrom1To greatest_count p.2
+  pub placed : IsFrom1To MAX_PLACE p.2
   pub spelled : words ≡ site_word p.0 ∷ site_word p.1 ∷ count_word p.2 ∷ []
 
 three_words : (a b c d e f : Word) → a ≡ b → c ≡ d → e ≡ f → a ∷ c ∷ e ∷ [] ≡ b ∷ d ∷ f ∷ []
@@ -206,22 +211,22 @@ place_takes cat [] p h = absurd cc
 place_takes cat (a ∷ []) p h = absurd cc
 place_takes cat (a ∷ b ∷ []) p h = absurd cc
 place_takes cat (from ∷ to ∷ place ∷ []) p h =
-    let a = must_then BadLine (is_free from && is_free to && is_free place) (λ _. link_of cat from to >>= λ (link : Site × Site). count_of place >>= λ k. Ok (flight link.0 link.1 k)) p h in
-    let b = bind_ok (link_of cat from to) (λ (link : Site × Site). count_of place >>= λ k. Ok (flight link.0 link.1 k)) p a.1 in
-    let c = bind_ok (count_of place) (λ k. Ok (flight b.0.0 b.0.1 k)) p b.2 in
+    let a = must_then BadLine (is_free from && is_free to && is_free place) (λ _. link_of cat from to >>= λ (link : Site × Site). count_of MAX_PLACE place >>= λ k. Ok (flight link.0 link.1 k)) p h in
+    let b = bind_ok (link_of cat from to) (λ (link : Site × Site). count_of MAX_PLACE place >>= λ k. Ok (flight link.0 link.1 k)) p a.1 in
+    let c = bind_ok (count_of MAX_PLACE place) (λ k. Ok (flight b.0.0 b.0.1 k)) p b.2 in
     let l = link_takes cat from to b.0 b.1 in
-    let n = count_takes place c.0 c.1 in
+    let n = count_takes MAX_PLACE place c.0 c.1 in
     subst (λ (x : Site × Site × ℕ). IsPlaced cat (from ∷ to ∷ place ∷ []) x) (ok_is (flight b.0.0 b.0.1 c.0) p c.2)
     (record { linked = l.linked; placed = n.1; spelled = three_words from (site_word b.0.0) to (site_word b.0.1) place (count_word c.0) l.from_is l.to_is n.0 })
 place_takes cat (a ∷ b ∷ c ∷ d ∷ rest) p h = absurd cc
 
-pub place_again : (cat : Catalogue) → IsKnown cat → (from to : Site) (place : ℕ) → IsLink cat from to → IsFrom1To greatest_count place → flight_place cat (site_word from ∷ site_word to ∷ count_word place ∷ []) ≡ Ok (flight from to place)
+pub place_again : (cat : Catalogue) → IsKnown cat → (from to : Site) (place : ℕ) → IsLink cat from to → IsFrom1To MAX_PLACE place → flight_place cat (site_word from ∷ site_word to ∷ count_word place ∷ []) ≡ Ok (flight from to place)
 place_again cat k from to place h n =
     let f = both_are (is_free (site_word from) && is_free (site_word to)) (is_free (count_word place)) (both_are (is_free (site_word from)) (is_free (site_word to)) (site_free from) (site_free to)) (place_free place n) in
     let a = link_again cat k from to h in
-    let b = count_again place n in
-    ap (λ (t : Bool). must BadLine t >>= λ _. link_of cat (site_word from) (site_word to) >>= λ (link : Site × Site). count_of (count_word place) >>= λ k. Ok (flight link.0 link.1 k)) f
-    ∙ ap (λ (r : Result (Site × Site) WorkRule). r >>= λ (link : Site × Site). count_of (count_word place) >>= λ k. Ok (flight link.0 link.1 k)) a
+    let b = count_again MAX_PLACE place (omega arith) n in
+    ap (λ (t : Bool). must BadLine t >>= λ _. link_of cat (site_word from) (site_word to) >>= λ (link : Site × Site). count_of MAX_PLACE (count_word place) >>= λ k. Ok (flight link.0 link.1 k)) f
+    ∙ ap (λ (r : Result (Site × Site) WorkRule). r >>= λ (link : Site × Site). count_of MAX_PLACE (count_word place) >>= λ k. Ok (flight link.0 link.1 k)) a
     ∙ ap (λ (r : Result ℕ WorkRule). r >>= λ k. Ok (flight from to k)) b
 
 pub record IsResent (cat : Catalogue) (words : List Word) (e : Event) : Type 0 where
@@ -252,7 +257,7 @@ pub record IsTick (cat : Catalogue) (words : List Word) (e : Event) : Type 0 whe
   pub tm : TmNo
   pub n : ℕ
   pub there : IsFrom1To cat.tms tm.0
-  pub counted : IsFrom1To greatest_count n
+  pub counted : IsFrom1To MAX_TICKS n
   pub spelled : words ≡ site_word (T tm) ∷ count_word n ∷ []
   pub is : Tick tm n ≡ e
 
@@ -260,21 +265,21 @@ pub tick_takes : (cat : Catalogue) (words : List Word) (e : Event) → tick_of c
 tick_takes cat [] e h = absurd cc
 tick_takes cat (a ∷ []) e h = absurd cc
 tick_takes cat (tm ∷ n ∷ []) e h =
-    let a = must_then BadLine (is_free tm && is_free n) (λ _. tm_of cat tm >>= λ t. count_of n >>= λ k. Ok (Tick t k)) e h in
-    let b = bind_ok (tm_of cat tm) (λ t. count_of n >>= λ k. Ok (Tick t k)) e a.1 in
-    let c = bind_ok (count_of n) (λ k. Ok (Tick b.0 k)) e b.2 in
+    let a = must_then BadLine (is_free tm && is_free n) (λ _. tm_of cat tm >>= λ t. count_of MAX_TICKS n >>= λ k. Ok (Tick t k)) e h in
+    let b = bind_ok (tm_of cat tm) (λ t. count_of MAX_TICKS n >>= λ k. Ok (Tick t k)) e a.1 in
+    let c = bind_ok (count_of MAX_TICKS n) (λ k. Ok (Tick b.0 k)) e b.2 in
     let t = tm_takes cat tm b.0 b.1 in
-    let m = count_takes n c.0 c.1 in
+    let m = count_takes MAX_TICKS n c.0 c.1 in
     record { tm = b.0; n = c.0; there = t.1; counted = m.1; spelled = two_words tm (site_word (T b.0)) n (count_word c.0) t.0 m.0; is = ok_is (Tick b.0 c.0) e c.2 }
 tick_takes cat (a ∷ b ∷ c ∷ rest) e h = absurd cc
 
-pub tick_again : (cat : Catalogue) → IsKnown cat → (tm : TmNo) (n : ℕ) → IsFrom1To cat.tms tm.0 → IsFrom1To greatest_count n → tick_of cat (site_word (T tm) ∷ count_word n ∷ []) ≡ Ok (Tick tm n)
+pub tick_again : (cat : Catalogue) → IsKnown cat → (tm : TmNo) (n : ℕ) → IsFrom1To cat.tms tm.0 → IsFrom1To MAX_TICKS n → tick_of cat (site_word (T tm) ∷ count_word n ∷ []) ≡ Ok (Tick tm n)
 tick_again cat k tm n h m =
     let f = both_are (is_free (site_word (T tm))) (is_free (count_word n)) (site_free (T tm)) (place_free n m) in
     let a = tm_again cat k tm h in
-    let b = count_again n m in
-    ap (λ (t : Bool). must BadLine t >>= λ _. tm_of cat (site_word (T tm)) >>= λ t. count_of (count_word n) >>= λ k. Ok (Tick t k)) f
-    ∙ ap (λ (r : Result TmNo WorkRule). r >>= λ t. count_of (count_word n) >>= λ k. Ok (Tick t k)) a
+    let b = count_again MAX_TICKS n (omega arith) m in
+    ap (λ (t : Bool). must BadLine t >>= λ _. tm_of cat (site_word (T tm)) >>= λ t. count_of MAX_TICKS (count_word n) >>= λ k. Ok (Tick t k)) f
+    ∙ ap (λ (r : Result TmNo WorkRule). r >>= λ t. count_of MAX_TICKS (count_word n) >>= λ k. Ok (Tick t k)) a
     ∙ ap (λ (r : Result ℕ WorkRule). r >>= λ k. Ok (Tick tm k)) b
 
 pub settle_takes : (words : List Word) (e : Event) → settle_of words ≡ Ok e → (words ≡ []) × (Settle ≡ e)

@@ -1,16 +1,16 @@
 -- In every catalogue each number is found by its name.
-use Rattle.std.proofs.Common.{◌≡◌, ℕ, zero, suc, ◌+◌, ◌-◌, ◌<◌, ◌≤◌, List, [], ◌∷◌, length, map, take, get_or, Bool, true, false, cond, not, ltb, Some, None, refl, sym, ap, subst, ◌∙◌, arith, inl, inr}
-use Rattle.std.proofs.lemmas.Bool.{cases_lt}
+use Rattle.std.proofs.Common.{◌≡◌, ℕ, zero, suc, ◌+◌, ◌-◌, ◌<◌, ◌≤◌, List, [], ◌∷◌, length, map, take, get_or, Bool, true, false, cond, not, ltb, Some, None, refl, sym, ap, subst, ◌∙◌, arith}
 use Rattle.std.specs.Prelude.{slice_get}
 use Rattle.std.specs.Option.{option_map_or}
 use Rattle.std.specs.Str.{bytes_eq}
 use Rattle.std.specs.List.{position, prefix_len}
-use Rattle.std.proofs.lemmas.List.{length-map, get_or-map, take_all}
-use Rattle.std.proofs.lemmas.List.Elements.{All-get_or, All-more}
+use Rattle.std.proofs.lemmas.List.{length-map, get_or-map}
+use Rattle.std.proofs.lemmas.List.Elements.{All-get_or}
 use Rattle.std.proofs.lemmas.Slice.Eq.{bytes_eq-Decides}
 use Rattle.sdd_base.specs.Name.{IsName, is_name}
 use Rattle.sdd_catalog.specs.Catalogue.{Catalogue, parts_of, relation_part, column_part, relation_at, relation_names}
 use Rattle.sdd_catalog.specs.Names.{number_of}
+use Rattle.sdd_catalog.specs.Naming.{IsNamed, AreNamed}
 use Rattle.sdd_catalog.specs.Numbers.{HasKey, IsWhole}
 use Rattle.sdd_catalog.specs.Rules.{IsSound, repeats, relation_rules, faults_of_relation}
 use Rattle.sdd_catalog.specs.declared.parts.Kind.TheVariants.{Int}
@@ -24,7 +24,7 @@ use Rattle.sdd_catalog.proofs.Found.{both_empty, empty_of_map, unfound_at, map-m
 use Rattle.sdd_catalog.proofs.FragmentOf.{found_one}
 use Rattle.sdd_catalog.proofs.Validity.{no_faults, unbroken}
 use Rattle.sdd_lang.specs.Fits.{IsRelation, IsColumn}
-use Rattle.sdd_script.specs.Laws.{AreNames, IsNamed, AreNamed, ReadsAgain, ReadsSpelling}
+use Rattle.sdd_script.specs.Laws.{ReadsAgain, ReadsSpelling}
 use Rattle.sdd_script.specs.Naming.{columns_of, name_of_relation, relation_named, column_named}
 use Rattle.sdd_script.specs.Spelling.{name_of_column}
 use Rattle.sdd_script.proofs.Marks.{position-map}
@@ -118,11 +118,14 @@ column_found cat s rel column h k =
 
 -- ---- names
 
+relation_named_so : (cat : Catalogue) → AreNamed cat → (rel : ℕ) → IsRelation cat rel → IsNamed (relation_at cat rel)
+relation_named_so cat n rel h = All-get_or IsNamed cat.relations (rel - 1) no_relation (omega (arith, h.0, h.1)) n.relations
+
 column_named_so : (cat : Catalogue) → AreNamed cat → (rel column : ℕ) → IsRelation cat rel → IsColumn cat rel column → is_name (name_of_column (columns_of cat rel) column) ≡ true
 column_named_so cat n rel column h k =
     let columns : List Column = (relation_at cat rel).columns in
     let lt : column - 1 < length columns = omega (arith, k.0, k.1) in
-    let named : is_name (get_or columns (column - 1) no_column).name ≡ true = All-get_or (λ (c : Column). IsName c.name) columns (column - 1) no_column lt (n rel h).1 in
+    let named : is_name (get_or columns (column - 1) no_column).name ≡ true = All-get_or (λ (c : Column). IsName c.name) columns (column - 1) no_column lt (relation_named_so cat n rel h).columns in
     let same : name_of_column (columns_of cat rel) column ≡ (get_or columns (column - 1) no_column).name =
     ap (λ (l : List Column). name_of_column l column) (columns_are cat rel) ∙ column_name_is columns column k.0 k.1 ∙ get_or-map (λ (c : Column). c.name) columns (column - 1) no_column [] lt in
     subst (λ (l : List ℕ). is_name l ≡ true) (sym same) named
@@ -136,7 +139,7 @@ pub known : (cat : Catalogue) → IsSound cat → IsWhole cat → AreNamed cat �
 known cat s w n = record {
   relation = relation_found cat s;
   column = column_found cat s;
-  relation_name = λ rel h. subst (λ (l : List ℕ). is_name l ≡ true) (sym (name_is cat rel)) (n rel h).0;
+  relation_name = λ rel h. subst (λ (l : List ℕ). is_name l ≡ true) (sym (name_is cat rel)) (relation_named_so cat n rel h).name;
   column_name = column_named_so cat n;
   some_column = some_columns cat w;
   few_tms = w.few_tms;
@@ -150,18 +153,3 @@ reads_again cat s w n = read_again cat (known cat s w n)
 
 pub reads_spelling : (cat : Catalogue) → ReadsSpelling cat
 reads_spelling cat = reading.reads_spelling cat
-
--- the relations up to a number have names, and the next one too
-pub named_more : (cat : Catalogue) (place : ℕ) (r : Relation) → ((rel : ℕ) → 1 ≤ rel → rel ≤ place → IsNamed (relation_at cat rel)) → r ≡ relation_at cat (place + 1) → IsNamed r → (rel : ℕ) → 1 ≤ rel → rel ≤ place + 1 → IsNamed (relation_at cat rel)
-named_more cat place r before is named rel from to =
-    elim (cases_lt rel (place + 1)) [
-      | inl lt ↦ before rel from (omega (arith, lt))
-      | inr le ↦ let same : place + 1 ≡ rel = omega (arith, le, to) in subst (λ (x : Relation). IsNamed x) (is ∙ ap (relation_at cat) same) named
-    ]
-
--- the columns before a place have names, and the next one too
-pub columns_more : (columns : List Column) (i : ℕ) (c : Column) → i < length columns → c ≡ get_or columns i c → IsName c.name → AreNames (take i columns) → AreNames (take (i + 1) columns)
-columns_more columns i c lt is named before = All-more (λ (x : Column). IsName x.name) columns i c lt before (subst (λ (x : Column). IsName x.name) is named)
-
-pub all_columns : (columns : List Column) (i : ℕ) → length columns ≤ i → AreNames (take i columns) → AreNames columns
-all_columns columns i past h = subst AreNames (take_all i columns past) h

@@ -9,7 +9,7 @@ use Rattle.std.proofs.lemmas.Str.Ascii.{IsAscii-cons, IsAscii-nil}
 use Rattle.sdd_catalog.specs.Catalogue.{Catalogue}
 use Rattle.sdd_words.specs.Lines.{HasNoNewline}
 use Rattle.sdd_words.specs.Scan.{words_of}
-use Rattle.sdd_words.specs.Steps.{◌>>=◌, known, must}
+use Rattle.sdd_base.specs.Readings.{◌>>=◌, known, must}
 use Rattle.sdd_words.specs.Texts.{is_sound}
 use Rattle.sdd_words.specs.Words.{word_bytes, more_bytes, line_bytes, AllWords}
 use Rattle.sdd_words.specs.declared.word.Word.{Word}

@@ -1,9 +1,11 @@
 -- Statements: what is read is spelled and fits, and what is spelled and fits is read.
-use Rattle.std.proofs.Common.{◌≡◌, ℕ, suc, ◌<◌, ◌≤◌, List, [], ◌∷◌, ◌++◌, length, map, Bool, true, false, ◌&&◌, ltb, Option, Some, Result, Ok, refl, sym, ap, subst, ◌∙◌, arith, append-nil}
+use Rattle.std.proofs.Common.{◌≡◌, ℕ, ◌+◌, ◌<◌, ◌≤◌, List, [], ◌∷◌, ◌++◌, length, map, Bool, true, false, ◌&&◌, ltb, Option, Some, Result, Ok, refl, sym, ap, subst, ◌∙◌, arith, append-nil}
 use Rattle.std.specs.Prelude.{codes, nat_le, nat_lt}
 use Rattle.std.specs.List.{AllByRecursion, list_all}
 use Rattle.std.proofs.lemmas.Bool.{ltb-true, lt-ltb}
 use Rattle.std.proofs.lemmas.List.Elements.{All-from_recursion, recursion_from_All}
+use Rattle.sdd_base.specs.Numbers.{rel_no}
+use Rattle.sdd_base.specs.declared.limits.TheConstants.{MAX_STATEMENTS, MAX_USES, MAX_CONDITIONS, MAX_OUTPUT_COLUMNS, MAX_ASSIGNMENTS}
 use Rattle.sdd_base.specs.declared.number.RelNo.{RelNo}
 use Rattle.sdd_base.specs.declared.value.Value.{Value}
 use Rattle.sdd_catalog.specs.Catalogue.{Catalogue}
@@ -15,22 +17,23 @@ use Rattle.sdd_lang.specs.declared.statement.Stmt.{Stmt}
 use Rattle.sdd_lang.specs.declared.statement.Stmt.TheVariants.{Put, Query, Update, Delete}
 use Rattle.sdd_words.specs.Keywords.{is_key, is_free, looks_like_column}
 use Rattle.sdd_words.specs.Forms.{cut_at, up_to, from_key, comparisons, conditions_form, not_empty, look_like_columns, are_free}
-use Rattle.sdd_words.specs.Steps.{◌>>=◌, known, must, each_at}
+use Rattle.sdd_base.specs.Readings.{◌>>=◌, known, must, along}
 use Rattle.sdd_words.specs.declared.form.Comparison.{Comparison}
 use Rattle.sdd_words.specs.declared.word.Word.{Word}
 use Rattle.sdd_words.specs.declared.word.Word.TheVariants.{Plain}
 use Rattle.sdd_script.specs.Columns.{Parts, column_of_use, conditions_of}
-use Rattle.sdd_script.specs.LineRules.{statement_limits, most_statements, most_parts, most_conditions, most_columns}
+use Rattle.sdd_script.specs.LineRules.{statement_limits}
 use Rattle.sdd_script.specs.Naming.{name_of_relation, relation_of}
 use Rattle.sdd_script.specs.Spelling.{relation_word, column_word, row_words, condition_words, conditions_words, where_words, statement_words}
 use Rattle.sdd_script.specs.Statements.{put_of, listed_column, part_in, parts_of, query_over, query_of_parts, query_behind_from, query_of}
 use Rattle.sdd_script.specs.Valid.{IsValue, HoldsValue, HoldsValues}
-use Rattle.sdd_script.specs.Values.{rel_no, row_of}
+use Rattle.sdd_script.specs.Values.{row_of}
 use Rattle.sdd_script.specs.declared.fault.Counts.TheVariants as counts
 use Rattle.sdd_script.specs.declared.fault.WorkRule.{WorkRule}
 use Rattle.sdd_script.specs.declared.fault.WorkRule.TheVariants.{BadLine, UnknownName, TooMany}
 use Rattle.sdd_script.specs.declared.found.Found.{Found}
-use Rattle.sdd_script.proofs.StepLaws.{bind_ok, ok_is, must_then, must_ok, known_then, both_hold, both_are, Answer, each_ok, ok_each, le_of, of_le, two_same}
+use Rattle.sdd_base.proofs.ReadingLaws.{bind_ok, ok_is, must_ok, Answers, along_ok, ok_along}
+use Rattle.sdd_script.proofs.StepLaws.{must_then, known_then, both_hold, both_are, le_of, of_le, two_same}
 use Rattle.sdd_script.proofs.WordLooks.{name_free}
 use Rattle.sdd_script.proofs.WordCuts.{NonePasses, cut_takes, cut_again, joined_again, key_is_that, before_again, from_again, all_before, none_from}
 use Rattle.sdd_script.proofs.UseLaws.{IsKnown, relation_takes, relation_again}
@@ -48,29 +51,29 @@ pub record IsStatement (cat : Catalogue) (key : List ℕ) (words : List Word) (s
 
 pub query_limits : (before : ℕ) (out : List Ref) (rels : List RelNo) (conds : List Condition) (u : Unit {0}) → statement_limits before (Query out rels conds) ≡ Ok u → (length rels ≤ 6) × (length conds ≤ 16) × (length out ≤ 16)
 query_limits before out rels conds u e =
-    let a = must_then (TooMany counts.Statement) (nat_lt before most_statements) (λ _. must (TooMany counts.Part) (nat_le (length rels) most_parts) >>= λ _. must (TooMany counts.Cond) (nat_le (length conds) most_conditions) >>= λ _. must (TooMany counts.Column) (nat_le (length out) most_columns)) u e in
-    let b = must_then (TooMany counts.Part) (nat_le (length rels) most_parts) (λ _. must (TooMany counts.Cond) (nat_le (length conds) most_conditions) >>= λ _. must (TooMany counts.Column) (nat_le (length out) most_columns)) u a.1 in
-    let c = must_then (TooMany counts.Cond) (nat_le (length conds) most_conditions) (λ _. must (TooMany counts.Column) (nat_le (length out) most_columns)) u b.1 in
-    let d = must_ok (TooMany counts.Column) (nat_le (length out) most_columns) u c.1 in
+    let a = must_then (TooMany counts.Statement) (nat_lt before MAX_STATEMENTS) (λ _. must (TooMany counts.Part) (nat_le (length rels) MAX_USES) >>= λ _. must (TooMany counts.Cond) (nat_le (length conds) MAX_CONDITIONS) >>= λ _. must (TooMany counts.Column) (nat_le (length out) MAX_OUTPUT_COLUMNS)) u e in
+    let b = must_then (TooMany counts.Part) (nat_le (length rels) MAX_USES) (λ _. must (TooMany counts.Cond) (nat_le (length conds) MAX_CONDITIONS) >>= λ _. must (TooMany counts.Column) (nat_le (length out) MAX_OUTPUT_COLUMNS)) u a.1 in
+    let c = must_then (TooMany counts.Cond) (nat_le (length conds) MAX_CONDITIONS) (λ _. must (TooMany counts.Column) (nat_le (length out) MAX_OUTPUT_COLUMNS)) u b.1 in
+    let d = must_ok (TooMany counts.Column) (nat_le (length out) MAX_OUTPUT_COLUMNS) u c.1 in
     (le_of (length rels) 6 b.0, le_of (length conds) 16 c.0, le_of (length out) 16 d)
 
 pub update_limits : (before : ℕ) (rel : RelNo) (sets : List Assign) (conds : List Condition) (u : Unit {0}) → statement_limits before (Update rel sets conds) ≡ Ok u → (length conds ≤ 16) × (length sets ≤ 16)
 update_limits before rel sets conds u e =
-    let a = must_then (TooMany counts.Statement) (nat_lt before most_statements) (λ _. must (TooMany counts.Cond) (nat_le (length conds) most_conditions) >>= λ _. must (TooMany counts.Column) (nat_le (length sets) most_columns)) u e in
-    let c = must_then (TooMany counts.Cond) (nat_le (length conds) most_conditions) (λ _. must (TooMany counts.Column) (nat_le (length sets) most_columns)) u a.1 in
-    let d = must_ok (TooMany counts.Column) (nat_le (length sets) most_columns) u c.1 in
+    let a = must_then (TooMany counts.Statement) (nat_lt before MAX_STATEMENTS) (λ _. must (TooMany counts.Cond) (nat_le (length conds) MAX_CONDITIONS) >>= λ _. must (TooMany counts.Column) (nat_le (length sets) MAX_ASSIGNMENTS)) u e in
+    let c = must_then (TooMany counts.Cond) (nat_le (length conds) MAX_CONDITIONS) (λ _. must (TooMany counts.Column) (nat_le (length sets) MAX_ASSIGNMENTS)) u a.1 in
+    let d = must_ok (TooMany counts.Column) (nat_le (length sets) MAX_ASSIGNMENTS) u c.1 in
     (le_of (length conds) 16 c.0, le_of (length sets) 16 d)
 
 pub delete_limits : (before : ℕ) (rel : RelNo) (conds : List Condition) (u : Unit {0}) → statement_limits before (Delete rel conds) ≡ Ok u → length conds ≤ 16
 delete_limits before rel conds u e =
-    let a = must_then (TooMany counts.Statement) (nat_lt before most_statements) (λ _. must (TooMany counts.Cond) (nat_le (length conds) most_conditions)) u e in
-    le_of (length conds) 16 (must_ok (TooMany counts.Cond) (nat_le (length conds) most_conditions) u a.1)
+    let a = must_then (TooMany counts.Statement) (nat_lt before MAX_STATEMENTS) (λ _. must (TooMany counts.Cond) (nat_le (length conds) MAX_CONDITIONS)) u e in
+    le_of (length conds) 16 (must_ok (TooMany counts.Cond) (nat_le (length conds) MAX_CONDITIONS) u a.1)
 
 pub limits_before : (before : ℕ) (s : Stmt) (u : Unit {0}) → statement_limits before s ≡ Ok u → before < 32
-limits_before before (Put rel row) u e = ltb-true before 32 (must_ok (TooMany counts.Statement) (nat_lt before most_statements) u e)
-limits_before before (Query out rels conds) u e = ltb-true before 32 (must_then (TooMany counts.Statement) (nat_lt before most_statements) (λ _. must (TooMany counts.Part) (nat_le (length rels) most_parts) >>= λ _. must (TooMany counts.Cond) (nat_le (length conds) most_conditions) >>= λ _. must (TooMany counts.Column) (nat_le (length out) most_columns)) u e).0
-limits_before before (Update rel sets conds) u e = ltb-true before 32 (must_then (TooMany counts.Statement) (nat_lt before most_statements) (λ _. must (TooMany counts.Cond) (nat_le (length conds) most_conditions) >>= λ _. must (TooMany counts.Column) (nat_le (length sets) most_columns)) u e).0
-limits_before before (Delete rel conds) u e = ltb-true before 32 (must_then (TooMany counts.Statement) (nat_lt before most_statements) (λ _. must (TooMany counts.Cond) (nat_le (length conds) most_conditions)) u e).0
+limits_before before (Put rel row) u e = ltb-true before 32 (must_ok (TooMany counts.Statement) (nat_lt before MAX_STATEMENTS) u e)
+limits_before before (Query out rels conds) u e = ltb-true before 32 (must_then (TooMany counts.Statement) (nat_lt before MAX_STATEMENTS) (λ _. must (TooMany counts.Part) (nat_le (length rels) MAX_USES) >>= λ _. must (TooMany counts.Cond) (nat_le (length conds) MAX_CONDITIONS) >>= λ _. must (TooMany counts.Column) (nat_le (length out) MAX_OUTPUT_COLUMNS)) u e).0
+limits_before before (Update rel sets conds) u e = ltb-true before 32 (must_then (TooMany counts.Statement) (nat_lt before MAX_STATEMENTS) (λ _. must (TooMany counts.Cond) (nat_le (length conds) MAX_CONDITIONS) >>= λ _. must (TooMany counts.Column) (nat_le (length sets) MAX_ASSIGNMENTS)) u e).0
+limits_before before (Delete rel conds) u e = ltb-true before 32 (must_then (TooMany counts.Statement) (nat_lt before MAX_STATEMENTS) (λ _. must (TooMany counts.Cond) (nat_le (length conds) MAX_CONDITIONS)) u e).0
 
 pub limits_again : (cat : Catalogue) (before : ℕ) (s : Stmt) → before < 32 → FitsStatement cat s → statement_limits before s ≡ Ok tt
 limits_again cat before (Put rel row) lt h = let a : ltb before 32 ≡ true = lt-ltb before 32 lt in rw a refl
@@ -116,16 +119,15 @@ abbrev part_of : Catalogue → Word → Result RelNo WorkRule
 part_of cat word = part_in (relation_of cat word)
 
 -- the relations of the parts are those of the words
-parts_named : (cat : Catalogue) (i : ℕ) (words : List Word) → each_at (λ i p. part_in p) i (parts_of cat words) ≡ each_at (λ i w. part_of cat w) i words
-unfolding each_at
+parts_named : (cat : Catalogue) (i : ℕ) (words : List Word) → along (λ i p. part_in p) i (parts_of cat words) ≡ along (λ i w. part_of cat w) i words
 parts_named cat i [] = refl
-parts_named cat i (w ∷ ws) = ap (λ (r : Result (List RelNo) WorkRule). part_of cat w >>= λ y. r >>= λ ys. Ok (y ∷ ys)) (parts_named cat (suc i) ws)
+parts_named cat i (w ∷ ws) = ap (λ (r : Result (List RelNo) WorkRule). part_of cat w >>= λ y. r >>= λ ys. Ok (y ∷ ys)) (parts_named cat (i + 1) ws)
 
 by_words : (cat : Catalogue) (columns rels : List Word) (cs : List Comparison) → query_of_parts cat columns rels cs
-    ≡ (each_at (λ i w. listed_column cat (parts_of cat rels) w) 0 columns >>= λ out. each_at (λ i w. part_of cat w) 0 rels >>= λ found. conditions_of cat (parts_of cat rels) cs >>= λ conds. Ok (Query out found conds))
+    ≡ (along (λ i w. listed_column cat (parts_of cat rels) w) 0 columns >>= λ out. along (λ i w. part_of cat w) 0 rels >>= λ found. conditions_of cat (parts_of cat rels) cs >>= λ conds. Ok (Query out found conds))
 unfolding query_over
 by_words cat columns rels cs =
-    ap (λ (r : Result (List RelNo) WorkRule). each_at (λ i w. listed_column cat (parts_of cat rels) w) 0 columns >>= λ out. r >>= λ found. conditions_of cat (parts_of cat rels) cs >>= λ conds. Ok (Query out found conds)) (parts_named cat 0 rels)
+    ap (λ (r : Result (List RelNo) WorkRule). along (λ i w. listed_column cat (parts_of cat rels) w) 0 columns >>= λ out. r >>= λ found. conditions_of cat (parts_of cat rels) cs >>= λ conds. Ok (Query out found conds)) (parts_named cat 0 rels)
 
 two_parts : (a b : Option ℕ) (xs ys : Parts) → a ≡ b → xs ≡ ys → a ∷ xs ≡ b ∷ ys
 two_parts a b xs ys p q = cc
@@ -139,7 +141,7 @@ listed_again cat rels r e = rw e refl
 query_words : (a b c d e f : List Word) → a ≡ b → c ≡ d → e ≡ f → Plain (codes "query") ∷ (a ++ Plain (codes "from") ∷ (c ++ e)) ≡ Plain (codes "query") ∷ (b ++ Plain (codes "from") ∷ (d ++ f))
 query_words a b c d e f p q r = ap (λ (l : List Word). Plain (codes "query") ∷ (l ++ Plain (codes "from") ∷ (c ++ e))) p ∙ ap (λ (l : List Word). Plain (codes "query") ∷ (b ++ Plain (codes "from") ∷ (l ++ e))) q ∙ ap (λ (l : List Word). Plain (codes "query") ∷ (b ++ Plain (codes "from") ∷ (d ++ l))) r
 
-parts_take : (cat : Catalogue) (i : ℕ) (words : List Word) (rels : List RelNo) → Answer (λ i w. part_of cat w) i words rels → (words ≡ map (relation_word cat) rels) × (parts_of cat words ≡ parts_for rels) × AllByRecursion (λ (r : RelNo). IsRelation cat r.0) rels
+parts_take : (cat : Catalogue) (i : ℕ) (words : List Word) (rels : List RelNo) → Answers (λ i w. part_of cat w) i words rels → (words ≡ map (relation_word cat) rels) × (parts_of cat words ≡ parts_for rels) × AllByRecursion (λ (r : RelNo). IsRelation cat r.0) rels
 parts_take cat i [] [] h = (refl, refl, tt)
 parts_take cat i [] (r ∷ rels) h = absurd h
 parts_take cat i (w ∷ words) [] h = absurd h
@@ -147,21 +149,21 @@ parts_take cat i (w ∷ words) (r ∷ rels) h =
     let a = known_then UnknownName (relation_of cat w) (λ rel. Ok (rel_no rel)) r h.0 in
     let t = relation_takes cat w a.0 a.1 in
     let same : rel_no a.0 ≡ r = ok_is (rel_no a.0) r a.2 in
-    let more = parts_take cat (suc i) words rels h.1 in (
+    let more = parts_take cat (i + 1) words rels h.1 in (
       two_same w (relation_word cat r) words (map (relation_word cat) rels) (t.spelled ∙ ap (relation_word cat) same) more.0,
       two_parts (relation_of cat w) (Some r.0) (parts_of cat words) (parts_for rels) (a.1 ∙ ap (λ (x : RelNo). Some x.0) same) more.1,
       (subst (λ (x : RelNo). IsRelation cat x.0) same t.there, more.2),
     )
 
-parts_again : (cat : Catalogue) → IsKnown cat → (rels : List RelNo) → AllByRecursion (λ (r : RelNo). IsRelation cat r.0) rels → (i : ℕ) → Answer (λ i w. part_of cat w) i (map (relation_word cat) rels) rels
+parts_again : (cat : Catalogue) → IsKnown cat → (rels : List RelNo) → AllByRecursion (λ (r : RelNo). IsRelation cat r.0) rels → (i : ℕ) → Answers (λ i w. part_of cat w) i (map (relation_word cat) rels) rels
 parts_again cat k [] h i = tt
-parts_again cat k (r ∷ rels) h i = (part_again cat r (relation_again cat k r.0 h.0), parts_again cat k rels h.1 (suc i))
+parts_again cat k (r ∷ rels) h i = (part_again cat r (relation_again cat k r.0 h.0), parts_again cat k rels h.1 (i + 1))
 
 parts_are : (cat : Catalogue) → IsKnown cat → (rels : List RelNo) → AllByRecursion (λ (r : RelNo). IsRelation cat r.0) rels → parts_of cat (map (relation_word cat) rels) ≡ parts_for rels
 parts_are cat k [] h = refl
 parts_are cat k (r ∷ rels) h = two_parts (relation_of cat (relation_word cat r)) (Some r.0) (parts_of cat (map (relation_word cat) rels)) (parts_for rels) (relation_again cat k r.0 h.0) (parts_are cat k rels h.1)
 
-columns_take : (cat : Catalogue) (rels : List RelNo) (i : ℕ) (words : List Word) (out : List Ref) → list_all looks_like_column words ≡ true → Answer (λ i w. listed_column cat (parts_for rels) w) i words out → (words ≡ map (column_word cat rels) out) × AllByRecursion (FitsRef cat rels) out
+columns_take : (cat : Catalogue) (rels : List RelNo) (i : ℕ) (words : List Word) (out : List Ref) → list_all looks_like_column words ≡ true → Answers (λ i w. listed_column cat (parts_for rels) w) i words out → (words ≡ map (column_word cat rels) out) × AllByRecursion (FitsRef cat rels) out
 columns_take cat rels i [] [] l h = (refl, tt)
 columns_take cat rels i [] (r ∷ out) l h = absurd h
 columns_take cat rels i (w ∷ words) [] l h = absurd h
@@ -170,12 +172,12 @@ columns_take cat rels i (w ∷ words) (r ∷ out) l h =
     let a = bind_ok (column_of_use cat (parts_for rels) w) (λ (f : Found). Ok f.at) r h.0 in
     let t = ref_takes cat rels w a.0 look.0 a.1 in
     let same : a.0.at ≡ r = ok_is a.0.at r a.2 in
-    let more = columns_take cat rels (suc i) words out look.1 h.1 in
+    let more = columns_take cat rels (i + 1) words out look.1 h.1 in
     (two_same w (column_word cat rels r) words (map (column_word cat rels) out) (t.spelled ∙ ap (column_word cat rels) same) more.0, (subst (λ (x : Ref). FitsRef cat rels x) same t.fits, more.1))
 
-columns_again : (cat : Catalogue) → IsKnown cat → (rels : List RelNo) → AreParts cat rels → (i : ℕ) (out : List Ref) → AllByRecursion (FitsRef cat rels) out → Answer (λ i w. listed_column cat (parts_for rels) w) i (map (column_word cat rels) out) out
+columns_again : (cat : Catalogue) → IsKnown cat → (rels : List RelNo) → AreParts cat rels → (i : ℕ) (out : List Ref) → AllByRecursion (FitsRef cat rels) out → Answers (λ i w. listed_column cat (parts_for rels) w) i (map (column_word cat rels) out) out
 columns_again cat k rels p i [] h = tt
-columns_again cat k rels p i (r ∷ out) h = (listed_again cat rels r (ref_again cat k rels r p h.0), columns_again cat k rels p (suc i) out h.1)
+columns_again cat k rels p i (r ∷ out) h = (listed_again cat rels r (ref_again cat k rels r p h.0), columns_again cat k rels p (i + 1) out h.1)
 
 -- ---- where a list of words ends
 
@@ -211,13 +213,13 @@ not_empty_again f (x ∷ xs) h = refl
 query_parts_take : (cat : Catalogue) (columns rels rest : List Word) (cs : List Comparison) (s : Stmt) → look_like_columns columns ≡ true → are_free rels ≡ true → comparisons (codes "where") rest ≡ Some cs
     → query_of_parts cat columns rels cs ≡ Ok s → IsStatement cat (codes "query") (columns ++ Plain (codes "from") ∷ (rels ++ rest)) s
 query_parts_take cat columns rels rest cs s look free form e =
-    let a = bind_ok (each_at (λ i w. listed_column cat (parts_of cat rels) w) 0 columns) (λ out. each_at (λ i w. part_of cat w) 0 rels >>= λ found. conditions_of cat (parts_of cat rels) cs >>= λ conds. Ok (Query out found conds)) s (sym (by_words cat columns rels cs) ∙ e) in
-    let b = bind_ok (each_at (λ i w. part_of cat w) 0 rels) (λ found. conditions_of cat (parts_of cat rels) cs >>= λ conds. Ok (Query a.0 found conds)) s a.2 in
+    let a = bind_ok (along (λ i w. listed_column cat (parts_of cat rels) w) 0 columns) (λ out. along (λ i w. part_of cat w) 0 rels >>= λ found. conditions_of cat (parts_of cat rels) cs >>= λ conds. Ok (Query out found conds)) s (sym (by_words cat columns rels cs) ∙ e) in
+    let b = bind_ok (along (λ i w. part_of cat w) 0 rels) (λ found. conditions_of cat (parts_of cat rels) cs >>= λ conds. Ok (Query a.0 found conds)) s a.2 in
     let c = bind_ok (conditions_of cat (parts_of cat rels) cs) (λ conds. Ok (Query a.0 b.0 conds)) s b.2 in
-    let p = parts_take cat 0 rels b.0 (each_ok (λ i w. part_of cat w) 0 rels b.0 b.1) in
+    let p = parts_take cat 0 rels b.0 (along_ok (λ i w. part_of cat w) 0 rels b.0 b.1) in
     let looks = both_hold (not_empty columns) (list_all looks_like_column columns) look in
     let frees = both_hold (not_empty rels) (list_all is_free rels) free in
-    let o = columns_take cat b.0 0 columns a.0 looks.1 (each_ok (λ i w. listed_column cat (parts_for b.0) w) 0 columns a.0 (subst (λ (q : Parts). each_at (λ i w. listed_column cat q w) 0 columns ≡ Ok a.0) p.1 a.1)) in
+    let o = columns_take cat b.0 0 columns a.0 looks.1 (along_ok (λ i w. listed_column cat (parts_for b.0) w) 0 columns a.0 (subst (λ (q : Parts). along (λ i w. listed_column cat q w) 0 columns ≡ Ok a.0) p.1 a.1)) in
     let d = conditions_take cat b.0 (codes "where") rest cs c.0 form (subst (λ (q : Parts). conditions_of cat q cs ≡ Ok c.0) p.1 c.1) in
     let some_rels : 1 ≤ length b.0 = nonempty (relation_word cat) b.0 (subst (λ (l : List Word). not_empty l ≡ true) p.0 frees.0) in
     let some_out : 1 ≤ length a.0 = nonempty (column_word cat b.0) a.0 (subst (λ (l : List Word). not_empty l ≡ true) o.0 looks.0) in
@@ -264,11 +266,11 @@ query_parts_again : (cat : Catalogue) → IsKnown cat → (out : List Ref) (rels
     → query_of_parts cat (map (column_word cat rels) out) (map (relation_word cat) rels) (map (comparison_for cat rels) conds) ≡ Ok (Query out rels conds)
 query_parts_again cat k out rels conds h =
     let p = parts_are cat k rels h.relations in
-    let a : each_at (λ i w. listed_column cat (parts_for rels) w) 0 (map (column_word cat rels) out) ≡ Ok out = ok_each (λ i w. listed_column cat (parts_for rels) w) 0 (map (column_word cat rels) out) out (columns_again cat k rels h.parts 0 out h.columns) in
-    let b : each_at (λ i w. part_of cat w) 0 (map (relation_word cat) rels) ≡ Ok rels = ok_each (λ i w. part_of cat w) 0 (map (relation_word cat) rels) rels (parts_again cat k rels h.relations 0) in
+    let a : along (λ i w. listed_column cat (parts_for rels) w) 0 (map (column_word cat rels) out) ≡ Ok out = ok_along (λ i w. listed_column cat (parts_for rels) w) 0 (map (column_word cat rels) out) out (columns_again cat k rels h.parts 0 out h.columns) in
+    let b : along (λ i w. part_of cat w) 0 (map (relation_word cat) rels) ≡ Ok rels = ok_along (λ i w. part_of cat w) 0 (map (relation_word cat) rels) rels (parts_again cat k rels h.relations 0) in
     let c = conditions_again cat k rels h.parts conds h.conds_fit h.conds_hold in
     by_words cat (map (column_word cat rels) out) (map (relation_word cat) rels) (map (comparison_for cat rels) conds)
-    ∙ ap (λ (q : Parts). each_at (λ i w. listed_column cat q w) 0 (map (column_word cat rels) out) >>= λ o. each_at (λ i w. part_of cat w) 0 (map (relation_word cat) rels) >>= λ found. conditions_of cat q (map (comparison_for cat rels) conds) >>= λ cs. Ok (Query o found cs)) p
+    ∙ ap (λ (q : Parts). along (λ i w. listed_column cat q w) 0 (map (column_word cat rels) out) >>= λ o. along (λ i w. part_of cat w) 0 (map (relation_word cat) rels) >>= λ found. conditions_of cat q (map (comparison_for cat rels) conds) >>= λ cs. Ok (Query o found cs)) p
     ∙ rw (a, b, c) refl
 
 all_free_names : (cat : Catalogue) → IsKnown cat → (rels : List RelNo) → AllByRecursion (λ (r : RelNo). IsRelation cat r.0) rels → list_all is_free (map (relation_word cat) rels) ≡ true

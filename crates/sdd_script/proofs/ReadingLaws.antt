@@ -10,6 +10,8 @@ use Rattle.std.proofs.lemmas.List.Elements.{All-from_recursion}
 use Rattle.std.proofs.lemmas.List.Quantifiers.{position-Some}
 use Rattle.std.proofs.lemmas.Option.{unwrap_or-slice_get, slice_get-map}
 use Rattle.std.proofs.lemmas.Slice.Eq.{bytes_eq-Decides}
+use Rattle.sdd_base.specs.Numbers.{txn_no}
+use Rattle.sdd_base.specs.declared.limits.TheConstants.{MAX_WORKLOAD_BYTES}
 use Rattle.sdd_base.specs.declared.event.Event.{Event}
 use Rattle.sdd_base.specs.declared.event.Event.TheVariants.{Submit, Deliver, Lose, Repeat}
 use Rattle.sdd_base.specs.declared.number.TxnNo.{TxnNo}
@@ -20,19 +22,19 @@ use Rattle.sdd_lang.specs.declared.transaction.Txn.{Txn}
 use Rattle.sdd_words.specs.Keywords.{is_free}
 use Rattle.sdd_words.specs.Lines.{cut_lines, spelled_lines}
 use Rattle.sdd_words.specs.Names.{name_in}
-use Rattle.sdd_words.specs.Steps.{◌>>=◌, known}
+use Rattle.sdd_base.specs.Readings.{◌>>=◌, known}
 use Rattle.sdd_words.specs.Words.{line_bytes}
 use Rattle.sdd_words.specs.declared.word.Word.{Word}
 use Rattle.sdd_words.specs.declared.word.Word.TheVariants.{Plain, Quoted}
 use Rattle.sdd_words.proofs.Spelled.{cut_takes}
 use Rattle.sdd_base.specs.declared.site.Site.{Site}
 use Rattle.sdd_script.specs.LineRules.{keyword_rules, line_rules}
-use Rattle.sdd_script.specs.Occurrences.{txn_no, number_named, txn_named, submit_of, flight_place, deliver_of, lose_of, repeat_of, resend_of, tick_of, settle_of}
+use Rattle.sdd_script.specs.Occurrences.{number_named, txn_named, submit_of, flight_place, deliver_of, lose_of, repeat_of, resend_of, tick_of, settle_of}
 use Rattle.sdd_script.specs.Places.{takes_events, is_ended}
 use Rattle.sdd_script.specs.Spelling.{name_of_txn, lines_of, spelling, ended}
 use Rattle.sdd_script.specs.Statements.{put_of, query_of, update_of, delete_of}
 use Rattle.sdd_script.specs.Valid.{HoldsValues, IsValidEvent, IsValid, Accepts}
-use Rattle.sdd_script.specs.Walk.{at_line, one_line, tail_rules, walk, walk_bytes, nothing_read, finished, most_bytes, workload}
+use Rattle.sdd_script.specs.Walk.{at_line, one_line, tail_rules, walk, walk_bytes, nothing_read, finished, workload}
 use Rattle.sdd_script.specs.declared.fault.WorkFault.{WorkFault}
 use Rattle.sdd_script.specs.declared.fault.WorkRule.{WorkRule}
 use Rattle.sdd_script.specs.declared.fault.WorkRule.TheVariants.{BadLine, UnknownName}
@@ -44,7 +46,8 @@ use Rattle.sdd_script.specs.declared.place.Place.{Place}
 use Rattle.sdd_script.specs.declared.place.Place.TheVariants as places
 use Rattle.sdd_script.specs.declared.state.State.{State}
 use Rattle.sdd_script.specs.declared.workload.Workload.{Workload}
-use Rattle.sdd_script.proofs.StepLaws.{bind_ok, ok_is, must_then, known_then, some_is}
+use Rattle.sdd_base.proofs.ReadingLaws.{bind_ok, ok_is}
+use Rattle.sdd_script.proofs.StepLaws.{must_then, known_then, some_is}
 use Rattle.sdd_script.proofs.QueryLaws.{put_takes, query_takes}
 use Rattle.sdd_script.proofs.UpdateLaws.{update_takes, delete_takes}
 use Rattle.sdd_script.proofs.EventLaws.{place_takes, resend_takes, tick_takes, settle_takes}
@@ -299,7 +302,7 @@ lines_spelled (l ∷ lines) = ap (λ (t : List ℕ). line_bytes l ++ 10 ∷ t) (
 -- a file that gives a workload spells it
 pub reads_spelling : (cat : Catalogue) (bytes : List ℕ) (w : Workload) → workload cat bytes ≡ Ok w → Accepts cat bytes w
 reads_spelling cat bytes w e =
-    let a = small_if bytes w _ (finished (walk_bytes cat 1 nothing_read bytes)) (nat_lt most_bytes (length bytes)) e in
+    let a = small_if bytes w _ (finished (walk_bytes cat 1 nothing_read bytes)) (nat_lt MAX_WORKLOAD_BYTES (length bytes)) e in
     let b = finished_ok (walk_bytes cat 1 nothing_read bytes) w a.1 in
     let st : State = b.0 in
     let f = walk_takes cat 1 nothing_read st (cut_lines bytes).0 (cut_lines bytes).1 (nothing_sound cat) b.1 in
@@ -312,4 +315,4 @@ reads_spelling cat bytes w e =
     ∙ ap spelled_lines f.spelled
     ∙ ap (λ (l : List (List Word)). spelled_lines (map line_bytes l)) words
     ∙ lines_spelled (lines_of cat (made st)) in
-    subst (λ (x : Workload). Accepts cat bytes x) b.2 (record { small = ltb-false most_bytes (length bytes) a.0; valid = sound_valid cat st f.sound place; spelled = spelled })
+    subst (λ (x : Workload). Accepts cat bytes x) b.2 (record { small = ltb-false MAX_WORKLOAD_BYTES (length bytes) a.0; valid = sound_valid cat st f.sound place; spelled = spelled })

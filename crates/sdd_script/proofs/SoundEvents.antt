@@ -5,6 +5,7 @@ use Rattle.std.specs.List.{filter_map}
 use Rattle.std.proofs.lemmas.Bool.{ltb-true}
 use Rattle.std.proofs.lemmas.List.{map-append}
 use Rattle.std.proofs.lemmas.List.Elements.{filter_map-append}
+use Rattle.sdd_base.specs.declared.limits.TheConstants.{MAX_EVENTS}
 use Rattle.sdd_base.specs.declared.event.Event.{Event}
 use Rattle.sdd_base.specs.declared.event.Event.TheVariants.{Submit, Deliver, Lose, Repeat, Resend, Tick, Settle, Redeclare, Down, Up}
 use Rattle.sdd_base.specs.declared.number.TxnNo.{TxnNo}
@@ -12,10 +13,10 @@ use Rattle.sdd_catalog.specs.Catalogue.{Catalogue}
 use Rattle.sdd_catalog.proofs.NameLemmas.{list_any-map}
 use Rattle.sdd_lang.specs.declared.statement.Stmt.{Stmt}
 use Rattle.sdd_lang.specs.declared.transaction.Txn.{Txn}
-use Rattle.sdd_words.specs.Steps.{◌>>=◌, must}
+use Rattle.sdd_base.specs.Readings.{◌>>=◌, must}
 use Rattle.sdd_words.specs.declared.word.Word.{Word}
 use Rattle.sdd_words.specs.declared.word.Word.TheVariants.{Plain}
-use Rattle.sdd_script.specs.LineRules.{most_events, is_submitted, with_submitted, with_event, event_rules, end_rules}
+use Rattle.sdd_script.specs.LineRules.{is_submitted, with_submitted, with_event, event_rules, end_rules}
 use Rattle.sdd_script.specs.Places.{takes_events}
 use Rattle.sdd_script.specs.Spelling.{event_words, end_words}
 use Rattle.sdd_script.specs.Valid.{IsValidEvent, submitted_by, AreDistinct}
@@ -25,7 +26,8 @@ use Rattle.sdd_script.specs.declared.fault.WorkRule.TheVariants.{BadLine, Submit
 use Rattle.sdd_script.specs.declared.place.Place.{Place}
 use Rattle.sdd_script.specs.declared.place.Place.TheVariants as places
 use Rattle.sdd_script.specs.declared.state.State.{State}
-use Rattle.sdd_script.proofs.StepLaws.{bind_ok, ok_is, must_then, not_true}
+use Rattle.sdd_base.proofs.ReadingLaws.{bind_ok, ok_is}
+use Rattle.sdd_script.proofs.StepLaws.{must_then, not_true}
 use Rattle.sdd_script.proofs.WordCuts.{NonePasses}
 use Rattle.sdd_script.proofs.NamePlaces.{none_any, distinct_more}
 use Rattle.sdd_script.proofs.SoFar.{so_far, InOrder, event_more, end_more}
@@ -86,7 +88,7 @@ once_more submitted events Redeclare h d other = same_distinct (filter_map submi
 once_more submitted events (Down dm) h d other = same_distinct (filter_map submitted_by events) (filter_map submitted_by (events ++ Down dm ∷ [])) d (sym (append-nil (filter_map submitted_by events)) ∙ sym (filter_map-append submitted_by events (Down dm ∷ [])))
 once_more submitted events (Up dm) h d other = same_distinct (filter_map submitted_by events) (filter_map submitted_by (events ++ Up dm ∷ [])) d (sym (append-nil (filter_map submitted_by events)) ∙ sym (filter_map-append submitted_by events (Up dm ∷ [])))
 
-event_sound : (cat : Catalogue) (st : State) (e : Event) → Sound cat st → takes_events st.place ≡ true → IsValidEvent cat (length st.txns) e → is_submitted st.submitted e ≡ false → length st.events < most_events → Sound cat (with_occurrence st e)
+event_sound : (cat : Catalogue) (st : State) (e : Event) → Sound cat st → takes_events st.place ≡ true → IsValidEvent cat (length st.txns) e → is_submitted st.submitted e ≡ false → length st.events < MAX_EVENTS → Sound cat (with_occurrence st e)
 event_sound cat st e s t valid other room = record {
   rows = s.rows;
   txns = s.txns;
@@ -111,11 +113,11 @@ event_leads cat st to key words reading s read h =
     let a = must_then BadLine (takes_events st.place) (λ _. reading >>= λ event. with_event st event) to h in
     let b = bind_ok reading (λ event. with_event st event) to a.1 in
     let e : Event = b.0 in
-    let c = must_then SubmittedTwice (not (is_submitted st.submitted e)) (λ _. must (TooMany counts.Event) (nat_lt (length st.events) most_events) >>= λ _. Ok (with_occurrence st e)) to b.2 in
-    let d = must_then (TooMany counts.Event) (nat_lt (length st.events) most_events) (λ _. Ok (with_occurrence st e)) to c.1 in
+    let c = must_then SubmittedTwice (not (is_submitted st.submitted e)) (λ _. must (TooMany counts.Event) (nat_lt (length st.events) MAX_EVENTS) >>= λ _. Ok (with_occurrence st e)) to b.2 in
+    let d = must_then (TooMany counts.Event) (nat_lt (length st.events) MAX_EVENTS) (λ _. Ok (with_occurrence st e)) to c.1 in
     let r = read a.0 e b.1 in
     subst (λ (x : State). Leads cat st x (Plain key ∷ words)) (ok_is (with_occurrence st e) to d.1) (record {
-      sound = event_sound cat st e s a.0 r.valid (not_true (is_submitted st.submitted e) c.0) (ltb-true (length st.events) most_events d.0);
+      sound = event_sound cat st e s a.0 r.valid (not_true (is_submitted st.submitted e) c.0) (ltb-true (length st.events) MAX_EVENTS d.0);
       lines = event_more cat st.rows st.txns st.place st.statements st.events e a.0 ∙ ap (λ (l : List Word). so_far cat st ++ l ∷ []) (sym r.spelled);
     })
 

@@ -7,6 +7,7 @@ use Rattle.std.proofs.lemmas.Bool.{ltb-true}
 use Rattle.std.proofs.lemmas.List.{map-append, length-append}
 use Rattle.std.proofs.lemmas.List.Elements.{All-append, All-from_recursion}
 use Rattle.std.proofs.lemmas.List.Sums.{sum_by-append}
+use Rattle.sdd_base.specs.declared.limits.TheConstants.{MAX_ROWS, MAX_TXNS, MAX_EVENTS}
 use Rattle.sdd_base.specs.Name.{IsName, is_name}
 use Rattle.sdd_base.specs.declared.event.Event.{Event}
 use Rattle.sdd_base.specs.declared.number.RelNo.{RelNo}
@@ -23,10 +24,10 @@ use Rattle.sdd_lang.specs.declared.transaction.Txn.{Txn}
 use Rattle.sdd_words.specs.Forms.{are_free}
 use Rattle.sdd_words.specs.Keywords.{is_free}
 use Rattle.sdd_words.specs.Names.{name_in}
-use Rattle.sdd_words.specs.Steps.{◌>>=◌, must, known}
+use Rattle.sdd_base.specs.Readings.{◌>>=◌, must, known}
 use Rattle.sdd_words.specs.declared.word.Word.{Word}
 use Rattle.sdd_words.specs.declared.word.Word.TheVariants.{Plain, Quoted}
-use Rattle.sdd_script.specs.LineRules.{most_rows, most_txns, most_events, row_rules, name_of, opened, txn_rules, statement_limits, one_more_row, written_with, with_statement, statement_rules, closed, done_rules}
+use Rattle.sdd_script.specs.LineRules.{row_rules, name_of, opened, txn_rules, statement_limits, one_more_row, written_with, with_statement, statement_rules, closed, done_rules}
 use Rattle.sdd_script.specs.Occurrences.{tm_of}
 use Rattle.sdd_script.specs.Places.{takes_rows, takes_txns, takes_statements}
 use Rattle.sdd_script.specs.Spelling.{start_words, header_words, done_words, site_word}
@@ -39,7 +40,8 @@ use Rattle.sdd_script.specs.declared.place.Header.{Header}
 use Rattle.sdd_script.specs.declared.place.Place.{Place}
 use Rattle.sdd_script.specs.declared.place.Place.TheVariants as places
 use Rattle.sdd_script.specs.declared.state.State.{State}
-use Rattle.sdd_script.proofs.StepLaws.{bind_ok, ok_is, must_then, known_ok, both_hold, not_true, some_is, known_then}
+use Rattle.sdd_base.proofs.ReadingLaws.{bind_ok, ok_is, known_ok}
+use Rattle.sdd_script.proofs.StepLaws.{must_then, both_hold, not_true, some_is, known_then}
 use Rattle.sdd_script.proofs.WordCuts.{NonePasses}
 use Rattle.sdd_script.proofs.RowLaws.{row_takes}
 use Rattle.sdd_script.proofs.QueryLaws.{IsStatement, limits_before}
@@ -75,9 +77,9 @@ pub record Sound (cat : Catalogue) (st : State) : Type 0 where
   pub submitted : map (λ (t : TxnNo). t.0) st.submitted ≡ filter_map submitted_by st.events
   pub once : AreDistinct (filter_map submitted_by st.events)
   pub written : st.written ≡ length st.rows + sum_by rows_put_by st.txns + sum_by rows_put st.statements
-  pub few_rows : st.written ≤ most_rows
-  pub few_txns : length st.names ≤ most_txns
-  pub few_events : length st.events ≤ most_events
+  pub few_rows : st.written ≤ MAX_ROWS
+  pub few_txns : length st.names ≤ MAX_TXNS
+  pub few_events : length st.events ≤ MAX_EVENTS
   pub order : InOrder st.place st.txns st.statements st.events
 
 -- a line leads from one state to the next
@@ -102,11 +104,11 @@ with_row st r = record st { rows = st.rows ++ r ∷ []; written = st.written + 1
 abbrev with_row_at : State → RelNo × List Value → ℕ → State
 with_row_at st r n = record st { rows = st.rows ++ r ∷ []; written = n }
 
-one_more_is : (written n : ℕ) (b : Bool) → nat_lt written most_rows ≡ b → cond b (Some (written + 1)) None ≡ Some n → (written + 1 ≡ n) × (written < most_rows)
-one_more_is written n true t e = (some_is (written + 1) n e, ltb-true written most_rows t)
+one_more_is : (written n : ℕ) (b : Bool) → nat_lt written MAX_ROWS ≡ b → cond b (Some (written + 1)) None ≡ Some n → (written + 1 ≡ n) × (written < MAX_ROWS)
+one_more_is written n true t e = (some_is (written + 1) n e, ltb-true written MAX_ROWS t)
 one_more_is written n false t e = absurd cc
 
-row_sound : (cat : Catalogue) (st : State) (r : RelNo × List Value) → Sound cat st → IsValidRow cat r → st.written < most_rows → Sound cat (with_row st r)
+row_sound : (cat : Catalogue) (st : State) (r : RelNo × List Value) → Sound cat st → IsValidRow cat r → st.written < MAX_ROWS → Sound cat (with_row st r)
 row_sound cat st r s v room = record {
   rows = all_more (IsValidRow cat) st.rows r s.rows v;
   txns = s.txns;
@@ -132,7 +134,7 @@ row_leads cat st to (name ∷ words) s e =
     let a = must_then BadLine (takes_rows st.place && (is_free name && are_free words)) (λ _. row_of cat name words >>= λ (r : RelNo × List Value). known (TooMany counts.Row) (one_more_row st.written) >>= λ n. Ok (with_row_at st r n)) to e in
     let b = bind_ok (row_of cat name words) (λ (r : RelNo × List Value). known (TooMany counts.Row) (one_more_row st.written) >>= λ n. Ok (with_row_at st r n)) to a.1 in
     let c = known_then (TooMany counts.Row) (one_more_row st.written) (λ n. Ok (with_row_at st b.0 n)) to b.2 in
-    let n = one_more_is st.written c.0 (nat_lt st.written most_rows) refl c.1 in
+    let n = one_more_is st.written c.0 (nat_lt st.written MAX_ROWS) refl c.1 in
     let place = (both_hold (takes_rows st.place) (is_free name && are_free words) a.0).0 in
     let r = row_takes cat name words b.0 b.1 in
     let valid : IsValidRow cat b.0 = record { fits = (r.fits.0, r.fits.1); values = All-from_recursion IsValue b.0.1 r.fits.2 } in
@@ -161,7 +163,7 @@ no_events (places.Inside h) txns ss events t o = absurd cc
 no_events places.Events txns ss events t o = absurd cc
 no_events places.Ended txns ss events t o = absurd cc
 
-header_sound : (cat : Catalogue) (st : State) (h : Header) → Sound cat st → takes_txns st.place ≡ true → IsName h.name → IsFrom1To cat.tms h.tm.0 → NonePasses (bytes_eq h.name) st.names → length st.names < most_txns → Sound cat (with_header st h)
+header_sound : (cat : Catalogue) (st : State) (h : Header) → Sound cat st → takes_txns st.place ≡ true → IsName h.name → IsFrom1To cat.tms h.tm.0 → NonePasses (bytes_eq h.name) st.names → length st.names < MAX_TXNS → Sound cat (with_header st h)
 header_sound cat st h s t named tm other room = record {
   rows = s.rows;
   txns = s.txns;
@@ -209,15 +211,15 @@ txn_leads cat st to (word ∷ tm ∷ []) s e =
     let b = bind_ok (name_of word) (λ name. tm_of cat tm >>= λ t. opened st name t) to a.1 in
     let c = bind_ok (tm_of cat tm) (λ t. opened st b.0 t) to b.2 in
     let h : Header = header_of b.0 c.0 in
-    let d = must_then DuplicateTxn (not (is_some (position (bytes_eq b.0) st.names))) (λ _. must (TooMany counts.Txn) (nat_lt (length st.names) most_txns) >>= λ _. Ok (with_header st h)) to c.2 in
-    let f = must_then (TooMany counts.Txn) (nat_lt (length st.names) most_txns) (λ _. Ok (with_header st h)) to d.1 in
+    let d = must_then DuplicateTxn (not (is_some (position (bytes_eq b.0) st.names))) (λ _. must (TooMany counts.Txn) (nat_lt (length st.names) MAX_TXNS) >>= λ _. Ok (with_header st h)) to c.2 in
+    let f = must_then (TooMany counts.Txn) (nat_lt (length st.names) MAX_TXNS) (λ _. Ok (with_header st h)) to d.1 in
     let place = (both_hold (takes_txns st.place) (is_free word && is_free tm) a.0).0 in
     let n = name_of_takes word b.0 b.1 in
     let t = tm_takes cat tm c.0 c.1 in
     let other = none_found (bytes_eq b.0) st.names (not_true (is_some (position (bytes_eq b.0) st.names)) d.0) in
     let spelled : Plain (codes "txn") ∷ word ∷ tm ∷ [] ≡ header_words h.name h.tm = two_words (Plain (codes "txn")) word (Plain b.0) tm (site_word (T c.0)) n.0 t.0 in
     subst (λ (x : State). Leads cat st x (Plain (codes "txn") ∷ word ∷ tm ∷ [])) (ok_is (with_header st h) to f.1) (record {
-      sound = header_sound cat st h s place n.1 t.1 other (ltb-true (length st.names) most_txns f.0);
+      sound = header_sound cat st h s place n.1 t.1 other (ltb-true (length st.names) MAX_TXNS f.0);
       lines = header_more cat st.rows st.txns st.place st.statements st.events h place s.order ∙ ap (λ (l : List Word). so_far cat st ++ l ∷ []) (sym spelled);
     })
 txn_leads cat st to (a ∷ b ∷ c ∷ rest) s e = absurd cc
@@ -230,8 +232,8 @@ with_one st q = record st { statements = st.statements ++ q ∷ []; written = st
 abbrev with_one_at : State → Stmt → ℕ → State
 with_one_at st q n = record st { statements = st.statements ++ q ∷ []; written = n }
 
-written_is : (written n : ℕ) (q : Stmt) → written ≤ most_rows → written_with written q ≡ Some n → (written + rows_put q ≡ n) × (written + rows_put q ≤ most_rows)
-written_is written n (statements.Put rel row) few e = let h = one_more_is written n (nat_lt written most_rows) refl e in (h.0, omega (arith, h.1))
+written_is : (written n : ℕ) (q : Stmt) → written ≤ MAX_ROWS → written_with written q ≡ Some n → (written + rows_put q ≡ n) × (written + rows_put q ≤ MAX_ROWS)
+written_is written n (statements.Put rel row) few e = let h = one_more_is written n (nat_lt written MAX_ROWS) refl e in (h.0, omega (arith, h.1))
 written_is written n (statements.Query out rels conds) few e = let h = some_is written n e in (omega (arith, h), omega (arith, few))
 written_is written n (statements.Update rel sets conds) few e = let h = some_is written n e in (omega (arith, h), omega (arith, few))
 written_is written n (statements.Delete rel conds) few e = let h = some_is written n e in (omega (arith, h), omega (arith, few))
@@ -246,7 +248,7 @@ statement_order places.Ended txns ss other events t o = absurd cc
 sum_more : (w r t q x all : ℕ) → w ≡ r + t + q → all ≡ q + (0 + x) → w + x ≡ r + t + all
 sum_more w r t q x all e f = omega (arith, e, f)
 
-statement_sound : (cat : Catalogue) (st : State) (q : Stmt) → Sound cat st → takes_statements st.place ≡ true → FitsStatement cat q → HoldsValues q → length st.statements < 32 → st.written + rows_put q ≤ most_rows → Sound cat (with_one st q)
+statement_sound : (cat : Catalogue) (st : State) (q : Stmt) → Sound cat st → takes_statements st.place ≡ true → FitsStatement cat q → HoldsValues q → length st.statements < 32 → st.written + rows_put q ≤ MAX_ROWS → Sound cat (with_one st q)
 statement_sound cat st q s t fits hold few room = record {
   rows = s.rows;
   txns = s.txns;

@@ -7,6 +7,7 @@ use Rattle.std.proofs.lemmas.Bool.{lt-ltb}
 use Rattle.std.proofs.lemmas.List.{map-append, length-append}
 use Rattle.std.proofs.lemmas.List.Elements.{recursion_from_All}
 use Rattle.std.proofs.lemmas.List.Sums.{sum_by-cons}
+use Rattle.sdd_base.specs.declared.limits.TheConstants.{MAX_ROWS, MAX_TXNS}
 use Rattle.sdd_base.specs.declared.event.Event.{Event}
 use Rattle.sdd_base.specs.declared.number.RelNo.{RelNo}
 use Rattle.sdd_base.specs.declared.number.TmNo.{TmNo}
@@ -22,16 +23,17 @@ use Rattle.sdd_lang.specs.declared.condition.Ref.{Ref}
 use Rattle.sdd_lang.specs.declared.statement.Stmt.{Stmt}
 use Rattle.sdd_lang.specs.declared.statement.Stmt.TheVariants as statements
 use Rattle.sdd_lang.specs.declared.transaction.Txn.{Txn}
+use Rattle.sdd_words.specs.Values.{value_word}
 use Rattle.sdd_words.specs.Keywords.{is_free}
 use Rattle.sdd_words.specs.Lines.{HasNoNewline, AreLines}
-use Rattle.sdd_words.specs.Steps.{◌>>=◌, known, must}
+use Rattle.sdd_base.specs.Readings.{◌>>=◌, known, must}
 use Rattle.sdd_words.specs.Words.{line_bytes}
 use Rattle.sdd_words.specs.declared.word.Word.{Word}
 use Rattle.sdd_words.specs.declared.word.Word.TheVariants.{Plain}
-use Rattle.sdd_script.specs.LineRules.{keyword_rules, line_rules, most_rows, most_txns, one_more_row, written_with, name_of, opened, statement_limits, with_statement, statement_rules}
+use Rattle.sdd_script.specs.LineRules.{keyword_rules, line_rules, one_more_row, written_with, name_of, opened, statement_limits, with_statement, statement_rules}
 use Rattle.sdd_script.specs.Occurrences.{tm_of}
 use Rattle.sdd_script.specs.Places.{takes_txns, is_ended}
-use Rattle.sdd_script.specs.Spelling.{value_word, relation_word, column_word, sets_words, where_words, row_words, start_words, header_words, statement_words, done_words, txn_lines, site_word}
+use Rattle.sdd_script.specs.Spelling.{relation_word, column_word, sets_words, where_words, row_words, start_words, header_words, statement_words, done_words, txn_lines, site_word}
 use Rattle.sdd_script.specs.Statements.{put_of, query_of, update_of, delete_of}
 use Rattle.sdd_script.specs.Valid.{IsValue, HoldsValues, IsValidRow, IsValidTxn, rows_put_by}
 use Rattle.sdd_script.specs.Values.{row_of}
@@ -94,13 +96,13 @@ state_of place rows written names txns statements submitted events = record { pl
 
 -- ---- rows
 
-row_step : (cat : Catalogue) → IsKnown cat → (rows : List (RelNo × List Value)) (written : ℕ) (r : RelNo × List Value) → IsValidRow cat r → written < most_rows
+row_step : (cat : Catalogue) → IsKnown cat → (rows : List (RelNo × List Value)) (written : ℕ) (r : RelNo × List Value) → IsValidRow cat r → written < MAX_ROWS
     → IsStep cat (state_of places.Rows rows written [] [] [] [] []) (state_of places.Rows (rows ++ r ∷ []) (written + 1) [] [] [] [] []) (line_bytes (start_words cat r))
 row_step cat k rows written r h room =
     let f : FitsRowOf cat r.0 r.1 = (h.fits.0, h.fits.1, recursion_from_All IsValue r.1 h.values) in
     let a = row_free cat k r.0 r.1 f in
     let b = row_again cat k r.0 r.1 f in
-    let c : one_more_row written ≡ Some (written + 1) = ap (λ (b : Bool). cond b (Some (written + 1)) None) (lt-ltb written most_rows room) in
+    let c : one_more_row written ≡ Some (written + 1) = ap (λ (b : Bool). cond b (Some (written + 1)) None) (lt-ltb written MAX_ROWS room) in
     let st : State = state_of places.Rows rows written [] [] [] [] [] in
     line_step cat st (state_of places.Rows (rows ++ r ∷ []) (written + 1) [] [] [] [] []) keys.Row (row_words cat r.0 r.1) refl (start_fine cat k r h) (
     ap (λ (t : Bool). must BadLine t >>= λ _. row_of cat (relation_word cat r.0) (map value_word r.1) >>= λ (x : RelNo × List Value). known (TooMany counts.Row) (one_more_row written) >>= λ n. Ok (record st { rows = st.rows ++ x ∷ []; written = n })) a
@@ -113,7 +115,7 @@ of_rows rows written = state_of places.Rows rows written [] [] [] [] []
 rows_same : (rows rows2 : List (RelNo × List Value)) (n m : ℕ) → rows ≡ rows2 → n ≡ m → of_rows rows n ≡ of_rows rows2 m
 rows_same rows rows2 n m p q = ap (λ (l : List (RelNo × List Value)). of_rows l n) p ∙ ap (of_rows rows2) q
 
-pub rows_chain : (cat : Catalogue) → IsKnown cat → (rs rows : List (RelNo × List Value)) (written : ℕ) → AllByRecursion (IsValidRow cat) rs → written + length rs ≤ most_rows
+pub rows_chain : (cat : Catalogue) → IsKnown cat → (rs rows : List (RelNo × List Value)) (written : ℕ) → AllByRecursion (IsValidRow cat) rs → written + length rs ≤ MAX_ROWS
     → Chain cat (of_rows rows written) (map line_bytes (map (start_words cat) rs)) (of_rows (rows ++ rs) (written + length rs))
 rows_chain cat k [] rows written h few = rows_same rows (rows ++ []) written (written + 0) (sym (append-nil rows)) (omega arith)
 rows_chain cat k (r ∷ rs) rows written h few =
@@ -130,8 +132,8 @@ rows_chain cat k (r ∷ rs) rows written h few =
 abbrev inside : Header → List (RelNo × List Value) → ℕ → List (List ℕ) → List Txn → List Stmt → State
 inside h rows written names txns ss = state_of (places.Inside h) rows written names txns ss [] []
 
-room_again : (written : ℕ) (q : Stmt) → written + rows_put q ≤ most_rows → written_with written q ≡ Some (written + rows_put q)
-room_again written (statements.Put rel row) h = ap (λ (b : Bool). cond b (Some (written + 1)) None) (lt-ltb written most_rows (omega (arith, h)))
+room_again : (written : ℕ) (q : Stmt) → written + rows_put q ≤ MAX_ROWS → written_with written q ≡ Some (written + rows_put q)
+room_again written (statements.Put rel row) h = ap (λ (b : Bool). cond b (Some (written + 1)) None) (lt-ltb written MAX_ROWS (omega (arith, h)))
 room_again written (statements.Query out rels conds) h = ap (λ (n : ℕ). Some n) (omega arith)
 room_again written (statements.Update rel sets conds) h = ap (λ (n : ℕ). Some n) (omega arith)
 room_again written (statements.Delete rel conds) h = ap (λ (n : ℕ). Some n) (omega arith)
@@ -143,7 +145,7 @@ key_of_statement (statements.Update rel sets conds) = (keys.Statement skeys.Upda
 key_of_statement (statements.Delete rel conds) = (keys.Statement skeys.Delete)
 
 statement_rules_again : (cat : Catalogue) (h : Header) (rows : List (RelNo × List Value)) (written : ℕ) (names : List (List ℕ)) (txns : List Txn) (ss : List Stmt) (q : Stmt) (reading : Result Stmt WorkRule)
-    → reading ≡ Ok q → FitsStatement cat q → length ss < 32 → written + rows_put q ≤ most_rows
+    → reading ≡ Ok q → FitsStatement cat q → length ss < 32 → written + rows_put q ≤ MAX_ROWS
     → statement_rules (inside h rows written names txns ss) reading ≡ Ok (inside h rows (written + rows_put q) names txns (ss ++ q ∷ []))
 statement_rules_again cat h rows written names txns ss q reading e fits few room =
     let st : State = inside h rows written names txns ss in
@@ -162,7 +164,7 @@ behind_update cat rel sets conds = relation_word cat rel ∷ Plain (codes "set")
 abbrev behind_delete : Catalogue → RelNo → List Condition → List Word
 behind_delete cat rel conds = relation_word cat rel ∷ where_words cat (rel ∷ []) conds
 
-statement_step : (cat : Catalogue) → IsKnown cat → (h : Header) (rows : List (RelNo × List Value)) (written : ℕ) (names : List (List ℕ)) (txns : List Txn) (ss : List Stmt) (q : Stmt) → FitsStatement cat q → HoldsValues q → length ss < 32 → written + rows_put q ≤ most_rows
+statement_step : (cat : Catalogue) → IsKnown cat → (h : Header) (rows : List (RelNo × List Value)) (written : ℕ) (names : List (List ℕ)) (txns : List Txn) (ss : List Stmt) (q : Stmt) → FitsStatement cat q → HoldsValues q → length ss < 32 → written + rows_put q ≤ MAX_ROWS
     → IsStep cat (inside h rows written names txns ss) (inside h rows (written + rows_put q) names txns (ss ++ q ∷ [])) (line_bytes (statement_words cat q))
 statement_step cat k h rows written names txns ss (statements.Put rel row) fits hold few room =
     let q : Stmt = statements.Put rel row in
@@ -184,7 +186,7 @@ statement_step cat k h rows written names txns ss (statements.Delete rel conds) 
 inside_same : (h : Header) (rows : List (RelNo × List Value)) (n m : ℕ) (names : List (List ℕ)) (txns : List Txn) (ss ts : List Stmt) → n ≡ m → ss ≡ ts → inside h rows n names txns ss ≡ inside h rows m names txns ts
 inside_same h rows n m names txns ss ts p q = ap (λ (x : ℕ). inside h rows x names txns ss) p ∙ ap (inside h rows m names txns) q
 
-statements_chain : (cat : Catalogue) → IsKnown cat → (h : Header) (rows : List (RelNo × List Value)) (names : List (List ℕ)) (txns : List Txn) (qs ss : List Stmt) (written : ℕ) → AllByRecursion (FitsStatement cat) qs → AllByRecursion HoldsValues qs → length ss + length qs ≤ 32 → written + sum_by rows_put qs ≤ most_rows
+statements_chain : (cat : Catalogue) → IsKnown cat → (h : Header) (rows : List (RelNo × List Value)) (names : List (List ℕ)) (txns : List Txn) (qs ss : List Stmt) (written : ℕ) → AllByRecursion (FitsStatement cat) qs → AllByRecursion HoldsValues qs → length ss + length qs ≤ 32 → written + sum_by rows_put qs ≤ MAX_ROWS
     → Chain cat (inside h rows written names txns ss) (map line_bytes (map (statement_words cat) qs)) (inside h rows (written + sum_by rows_put qs) names txns (ss ++ qs))
 statements_chain cat k h rows names txns [] ss written fits hold few room = inside_same h rows written (written + 0) names txns ss (ss ++ []) (omega arith) (sym (append-nil ss))
 statements_chain cat k h rows names txns (q ∷ qs) ss written fits hold few room =
@@ -213,7 +215,7 @@ going_on places.Ended t = absurd cc
 abbrev header_for : Txn → Header
 header_for t = record { name = t.name; tm = t.tm }
 
-header_step : (cat : Catalogue) → IsKnown cat → (place : Place) (rows : List (RelNo × List Value)) (written : ℕ) (names : List (List ℕ)) (txns : List Txn) (t : Txn) → takes_txns place ≡ true → IsValidTxn cat t → NonePasses (bytes_eq t.name) names → length names < most_txns
+header_step : (cat : Catalogue) → IsKnown cat → (place : Place) (rows : List (RelNo × List Value)) (written : ℕ) (names : List (List ℕ)) (txns : List Txn) (t : Txn) → takes_txns place ≡ true → IsValidTxn cat t → NonePasses (bytes_eq t.name) names → length names < MAX_TXNS
     → IsStep cat (outside place rows written names txns) (inside (header_for t) rows written (names ++ t.name ∷ []) txns []) (line_bytes (header_words t.name t.tm))
 header_step cat k place rows written names txns t at h other room =
     let st : State = outside place rows written names txns in
@@ -222,12 +224,12 @@ header_step cat k place rows written names txns t at h other room =
     let n : name_of (Plain t.name) ≡ Ok t.name = ap (λ (b : Bool). known UnknownName (cond b (Some t.name) None)) h.named in
     let m = tm_again cat k t.tm h.fits.module_is_there in
     let d : not (is_some (position (bytes_eq t.name) names)) ≡ true = ap not (found_none (bytes_eq t.name) names other) in
-    let c : ltb (length names) most_txns ≡ true = lt-ltb (length names) most_txns room in
+    let c : ltb (length names) MAX_TXNS ≡ true = lt-ltb (length names) MAX_TXNS room in
     line_step cat st to keys.Txn (Plain t.name ∷ site_word (T t.tm) ∷ []) (going_on place at) (header_fine cat k t h) (
     ap (λ (b : Bool). must BadLine b >>= λ _. name_of (Plain t.name) >>= λ name. tm_of cat (site_word (T t.tm)) >>= λ tm. opened st name tm) a
     ∙ ap (λ (r : Result (List ℕ) WorkRule). r >>= λ name. tm_of cat (site_word (T t.tm)) >>= λ tm. opened st name tm) n
     ∙ ap (λ (r : Result TmNo WorkRule). r >>= λ tm. opened st t.name tm) m
-    ∙ ap (λ (b : Bool). must DuplicateTxn b >>= λ _. must (TooMany counts.Txn) (nat_lt (length names) most_txns) >>= λ _. Ok to) d
+    ∙ ap (λ (b : Bool). must DuplicateTxn b >>= λ _. must (TooMany counts.Txn) (nat_lt (length names) MAX_TXNS) >>= λ _. Ok to) d
     ∙ ap (λ (b : Bool). must (TooMany counts.Txn) b >>= λ _. Ok to) c)
 
 done_step : (cat : Catalogue) (h : Header) (rows : List (RelNo × List Value)) (written : ℕ) (names : List (List ℕ)) (txns : List Txn) (ss : List Stmt)
@@ -235,7 +237,7 @@ done_step : (cat : Catalogue) (h : Header) (rows : List (RelNo × List Value)) (
 done_step cat h rows written names txns ss =
     line_step cat (inside h rows written names txns ss) (outside places.Between rows written names (txns ++ record { name = h.name; tm = h.tm; statements = ss } ∷ [])) keys.Done [] refl (keyword_fine keys.Done, tt) refl
 
-txn_chain : (cat : Catalogue) → IsKnown cat → (place : Place) (rows : List (RelNo × List Value)) (written : ℕ) (names : List (List ℕ)) (txns : List Txn) (t : Txn) → takes_txns place ≡ true → IsValidTxn cat t → NonePasses (bytes_eq t.name) names → length names < most_txns → written + rows_put_by t ≤ most_rows
+txn_chain : (cat : Catalogue) → IsKnown cat → (place : Place) (rows : List (RelNo × List Value)) (written : ℕ) (names : List (List ℕ)) (txns : List Txn) (t : Txn) → takes_txns place ≡ true → IsValidTxn cat t → NonePasses (bytes_eq t.name) names → length names < MAX_TXNS → written + rows_put_by t ≤ MAX_ROWS
     → Chain cat (outside place rows written names txns) (map line_bytes (txn_lines cat t)) (outside places.Between rows (written + rows_put_by t) (names ++ t.name ∷ []) (txns ++ t ∷ []))
 txn_chain cat k place rows written names txns t at h other room few =
     let hd : Header = header_for t in
@@ -259,7 +261,7 @@ pub record AreRead (cat : Catalogue) (st : State) (lines : List (List ℕ)) (row
 outside_same : (place : Place) (rows : List (RelNo × List Value)) (n m : ℕ) (names ns : List (List ℕ)) (txns ts : List Txn) → n ≡ m → names ≡ ns → txns ≡ ts → outside place rows n names txns ≡ outside place rows m ns ts
 outside_same place rows n m names ns txns ts p q r = ap (λ (x : ℕ). outside place rows x names txns) p ∙ ap (λ (x : List (List ℕ)). outside place rows m x txns) q ∙ ap (outside place rows m ns) r
 
-pub txns_chain : (cat : Catalogue) → IsKnown cat → (rows : List (RelNo × List Value)) (ts : List Txn) (place : Place) (written : ℕ) (names : List (List ℕ)) (txns : List Txn) → takes_txns place ≡ true → AllByRecursion (IsValidTxn cat) ts → repeats (names ++ names_of ts) ≡ false → length names + length ts ≤ most_txns → written + sum_by rows_put_by ts ≤ most_rows
+pub txns_chain : (cat : Catalogue) → IsKnown cat → (rows : List (RelNo × List Value)) (ts : List Txn) (place : Place) (written : ℕ) (names : List (List ℕ)) (txns : List Txn) → takes_txns place ≡ true → AllByRecursion (IsValidTxn cat) ts → repeats (names ++ names_of ts) ≡ false → length names + length ts ≤ MAX_TXNS → written + sum_by rows_put_by ts ≤ MAX_ROWS
     → AreRead cat (outside place rows written names txns) (map line_bytes (flat_map (txn_lines cat) ts)) rows (written + sum_by rows_put_by ts) (names ++ names_of ts) (txns ++ ts)
 txns_chain cat k rows [] place written names txns at h differ room few = record { place = place; goes_on = at; chain = outside_same place rows written (written + 0) names (names ++ []) txns (txns ++ []) (omega arith) (sym (append-nil names)) (sym (append-nil txns)) }
 txns_chain cat k rows (t ∷ ts) place written names txns at h differ room few =

@@ -1,28 +1,11 @@
 -- What a step that broke no rule says, and what a list of them does.
-use Rattle.std.proofs.Common.{◌≡◌, ℕ, suc, List, [], ◌∷◌, Bool, true, false, ◌&&◌, Option, Some, None, Result, Ok, Err, map, refl, ap, ◌≤◌, not, arith}
+use Rattle.std.proofs.Common.{◌≡◌, ℕ, ◌+◌, List, [], ◌∷◌, Bool, true, false, ◌&&◌, Option, Some, None, Result, Ok, map, refl, ◌≤◌, not, arith}
 use Rattle.std.specs.Prelude.{nat_le}
 use Rattle.std.proofs.lemmas.Bool.Decides.{nat_tests}
 use Rattle.std.specs.List.{AllByRecursion}
-use Rattle.sdd_words.specs.Steps.{◌>>=◌, known, must, each_at}
+use Rattle.sdd_base.specs.Readings.{◌>>=◌, known, must}
+use Rattle.sdd_base.proofs.ReadingLaws.{Answers}
 use Rattle.sdd_script.specs.declared.fault.WorkRule.{WorkRule}
-
-pub bind_ok : {A B : Type 0} (r : Result A WorkRule) (f : A → Result B WorkRule) (y : B) → (r >>= f) ≡ Ok y → (x : A) × (r ≡ Ok x) × (f x ≡ Ok y)
-bind_ok (Ok x) f y e = (x, refl, e)
-bind_ok (Err d) f y e = absurd cc
-
-abbrev done : {A : Type 0} → A → Result A WorkRule
-done x = Ok x
-
-pub ok_is : {A : Type 0} (x y : A) → done x ≡ done y → x ≡ y
-ok_is x y e = cc
-
-pub known_ok : {A : Type 0} (rule : WorkRule) (o : Option A) (x : A) → known rule o ≡ Ok x → o ≡ Some x
-known_ok rule None x e = absurd cc
-known_ok rule (Some y) x e = ap (λ z. Some z) (ok_is y x e)
-
-pub must_ok : (rule : WorkRule) (b : Bool) (u : Unit {0}) → must rule b ≡ Ok u → b ≡ true
-must_ok rule true u e = refl
-must_ok rule false u e = absurd cc
 
 -- a test that holds, and then what follows
 pub must_then : {B : Type 0} (rule : WorkRule) (b : Bool) (f : Unit {0} → Result B WorkRule) (y : B) → (must rule b >>= f) ≡ Ok y → (b ≡ true) × (f tt ≡ Ok y)
@@ -42,46 +25,24 @@ both_hold false b e = absurd cc
 pub both_are : (a b : Bool) → a ≡ true → b ≡ true → (a && b) ≡ true
 both_are a b p q = rw (p, q) refl
 
--- each item has its answer
-abbrev pub Answer : {A B : Type 0} → (ℕ → A → Result B WorkRule) → ℕ → List A → List B → Type 0
-Answer f i [] [] = Unit {0}
-Answer f i (x ∷ xs) (y ∷ ys) = (f i x ≡ Ok y) × Answer f (suc i) xs ys
-Answer f i _ _ = ⊥
-
-pub each_ok : {A B : Type 0} (f : ℕ → A → Result B WorkRule) (i : ℕ) (xs : List A) (ys : List B) → each_at f i xs ≡ Ok ys → Answer f i xs ys
-unfolding each_at
-each_ok f i [] [] e = tt
-each_ok f i [] (y ∷ ys) e = let p : [] ≡ y ∷ ys = ok_is [] (y ∷ ys) e in absurd cc
-each_ok f i (x ∷ xs) ys e =
-    let a = bind_ok (f i x) (λ y. each_at f (suc i) xs >>= λ ys. Ok (y ∷ ys)) ys e in
-    let b = bind_ok (each_at f (suc i) xs) (λ ys. Ok (a.0 ∷ ys)) ys a.2 in
-    rw (← ok_is (a.0 ∷ b.0) ys b.2) (a.1, each_ok f (suc i) xs b.0 b.1)
-
-pub ok_each : {A B : Type 0} (f : ℕ → A → Result B WorkRule) (i : ℕ) (xs : List A) (ys : List B) → Answer f i xs ys → each_at f i xs ≡ Ok ys
-unfolding each_at
-ok_each f i [] [] h = refl
-ok_each f i [] (y ∷ ys) h = absurd h
-ok_each f i (x ∷ xs) [] h = absurd h
-ok_each f i (x ∷ xs) (y ∷ ys) h = let a = h.0 in let b = ok_each f (suc i) xs ys h.1 in rw (a, b) refl
-
 -- where each answer says what its item is and what holds of it, all do
 pub answers_say : {A B : Type 0} (f : ℕ → A → Result B WorkRule) (g : B → A) (P : B → Type 0) → ((i : ℕ) (x : A) (y : B) → f i x ≡ Ok y → (x ≡ g y) × P y)
-    → (i : ℕ) (xs : List A) (ys : List B) → Answer f i xs ys → (xs ≡ map g ys) × AllByRecursion P ys
+    → (i : ℕ) (xs : List A) (ys : List B) → Answers f i xs ys → (xs ≡ map g ys) × AllByRecursion P ys
 answers_say f g P one i [] [] h = (refl, tt)
 answers_say f g P one i [] (y ∷ ys) h = absurd h
 answers_say f g P one i (x ∷ xs) [] h = absurd h
 answers_say f g P one i (x ∷ xs) (y ∷ ys) h =
     let a = one i x y h.0 in
-    let b = answers_say f g P one (suc i) xs ys h.1 in
+    let b = answers_say f g P one (i + 1) xs ys h.1 in
     let first : x ≡ g y = a.0 in
     let others : xs ≡ map g ys = b.0 in
     (cc, (a.1, b.1))
 
 -- and where each item has its answer, the list has its answers
 pub answers_are : {A B : Type 0} (f : ℕ → A → Result B WorkRule) (g : B → A) (P : B → Type 0) → ((i : ℕ) (y : B) → P y → f i (g y) ≡ Ok y)
-    → (i : ℕ) (ys : List B) → AllByRecursion P ys → Answer f i (map g ys) ys
+    → (i : ℕ) (ys : List B) → AllByRecursion P ys → Answers f i (map g ys) ys
 answers_are f g P one i [] h = tt
-answers_are f g P one i (y ∷ ys) h = (one i y h.0, answers_are f g P one (suc i) ys h.1)
+answers_are f g P one i (y ∷ ys) h = (one i y h.0, answers_are f g P one (i + 1) ys h.1)
 
 -- ---- equal parts make equal wholes
 

@@ -4,6 +4,7 @@ use Rattle.std.specs.Prelude.{codes}
 use Rattle.std.specs.Fmt.{signed_decimal}
 use Rattle.std.specs.List.{AllByRecursion}
 use Rattle.std.proofs.lemmas.List.Elements.{All-from_recursion, recursion_from_All}
+use Rattle.sdd_base.specs.Numbers.{rel_no}
 use Rattle.sdd_base.specs.declared.number.RelNo.{RelNo}
 use Rattle.sdd_catalog.specs.Catalogue.{Catalogue}
 use Rattle.sdd_lang.specs.Fits.{IsRelation, FitsCondition, FitsAssign, FitsStatement}
@@ -12,21 +13,22 @@ use Rattle.sdd_lang.specs.declared.assign.Assign.TheVariants.{To, Add}
 use Rattle.sdd_lang.specs.declared.condition.Condition.{Condition}
 use Rattle.sdd_lang.specs.declared.statement.Stmt.{Stmt}
 use Rattle.sdd_lang.specs.declared.statement.Stmt.TheVariants.{Update, Delete}
+use Rattle.sdd_words.specs.Values.{value_word}
 use Rattle.sdd_words.specs.Keywords.{is_key, is_free}
 use Rattle.sdd_words.specs.Forms.{up_to, from_key, comparisons, conditions_form, settings, not_empty}
-use Rattle.sdd_words.specs.Steps.{◌>>=◌, known, must, each_at}
+use Rattle.sdd_base.specs.Readings.{◌>>=◌, known, must, along}
 use Rattle.sdd_words.specs.declared.form.Comparison.{Comparison}
 use Rattle.sdd_words.specs.declared.form.Setting.{Setting}
 use Rattle.sdd_words.specs.declared.word.Word.{Word}
 use Rattle.sdd_words.specs.declared.word.Word.TheVariants.{Plain}
 use Rattle.sdd_script.specs.Columns.{conditions_of}
 use Rattle.sdd_script.specs.Naming.{name_of_relation, relation_of}
-use Rattle.sdd_script.specs.Spelling.{value_word, relation_word, column_word, own_column, where_words, sets_words}
+use Rattle.sdd_script.specs.Spelling.{relation_word, column_word, own_column, where_words, sets_words}
 use Rattle.sdd_script.specs.Statements.{assign_of, update_of_parts, update_behind_set, update_of, delete_of}
 use Rattle.sdd_script.specs.Valid.{HoldsValue, AssignsValue, HoldsValues}
-use Rattle.sdd_script.specs.Values.{rel_no}
 use Rattle.sdd_script.specs.declared.fault.WorkRule.TheVariants.{BadLine, UnknownName}
-use Rattle.sdd_script.proofs.StepLaws.{bind_ok, ok_is, must_then, known_then, both_hold, both_are, two_same}
+use Rattle.sdd_base.proofs.ReadingLaws.{bind_ok, ok_is}
+use Rattle.sdd_script.proofs.StepLaws.{must_then, known_then, both_hold, both_are, two_same}
 use Rattle.sdd_script.proofs.WordLooks.{name_free, value_free, number_free}
 use Rattle.sdd_script.proofs.WordCuts.{NonePasses, joined_again, key_is_that}
 use Rattle.sdd_script.proofs.UseLaws.{IsKnown, relation_takes, relation_again}
@@ -57,9 +59,9 @@ update_parts_take : (cat : Catalogue) (name : Word) (sets rest : List Word) (ss 
     → update_of_parts cat name ss cs ≡ Ok s → IsStatement cat (codes "update") (name ∷ Plain (codes "set") ∷ (sets ++ rest)) s
 unfolding update_of_parts
 update_parts_take cat name sets rest ss cs s some set_form form e =
-    let a = known_then UnknownName (relation_of cat name) (λ rel. each_at (λ i s. assign_of cat rel s) 0 ss >>= λ assigns. conditions_of cat (Some rel ∷ []) cs >>= λ conds. Ok (Update (rel_no rel) assigns conds)) s e in
+    let a = known_then UnknownName (relation_of cat name) (λ rel. along (λ i s. assign_of cat rel s) 0 ss >>= λ assigns. conditions_of cat (Some rel ∷ []) cs >>= λ conds. Ok (Update (rel_no rel) assigns conds)) s e in
     let rel : RelNo = rel_no a.0 in
-    let b = bind_ok (each_at (λ i s. assign_of cat a.0 s) 0 ss) (λ assigns. conditions_of cat (Some a.0 ∷ []) cs >>= λ conds. Ok (Update rel assigns conds)) s a.2 in
+    let b = bind_ok (along (λ i s. assign_of cat a.0 s) 0 ss) (λ assigns. conditions_of cat (Some a.0 ∷ []) cs >>= λ conds. Ok (Update rel assigns conds)) s a.2 in
     let c = bind_ok (conditions_of cat (Some a.0 ∷ []) cs) (λ conds. Ok (Update rel b.0 conds)) s b.2 in
     let t = relation_takes cat name a.0 a.1 in
     let g = assigns_take cat rel sets ss b.0 set_form b.1 in

@@ -9,6 +9,7 @@ use Rattle.std.proofs.lemmas.Bool.{ltb-true, lt-ltb, ne_eqb}
 use Rattle.std.proofs.lemmas.Slice.Eq.{bytes_eq-Decides}
 use Rattle.std.proofs.lemmas.Option.{slice_get-get_or}
 use Rattle.std.proofs.lemmas.List.Quantifiers.{position-Some}
+use Rattle.sdd_base.specs.Numbers.{rel_no}
 use Rattle.sdd_base.specs.Name.{is_name}
 use Rattle.sdd_catalog.specs.Catalogue.{Catalogue, kind_at}
 use Rattle.sdd_catalog.specs.declared.parts.Kind.TheVariants.{Int}
@@ -18,17 +19,17 @@ use Rattle.sdd_lang.specs.declared.condition.Ref.{Ref}
 use Rattle.sdd_words.specs.Keywords.{has_point, before_point, behind_point, looks_like_column}
 use Rattle.sdd_words.specs.Number.{number_of}
 use Rattle.sdd_words.specs.Whole.{is_whole}
-use Rattle.sdd_words.specs.Steps.{◌>>=◌, known}
+use Rattle.sdd_base.specs.Readings.{◌>>=◌, known}
 use Rattle.sdd_words.specs.declared.word.Word.{Word}
 use Rattle.sdd_words.specs.declared.word.Word.TheVariants.{Plain, Quoted}
 use Rattle.sdd_words.proofs.Numbers.{number_takes, number_again}
 use Rattle.sdd_script.specs.Columns.{Parts, use_in, use_at, use_numbered, column_in, column_of_use}
 use Rattle.sdd_script.specs.Naming.{columns_of, name_of_relation, relation_named, relation_of, column_named, kind_of_place}
 use Rattle.sdd_script.specs.Spelling.{relation_word, name_of_column}
-use Rattle.sdd_script.specs.Values.{rel_no}
 use Rattle.sdd_script.specs.declared.fault.WorkRule.TheVariants.{BadNumber, UnknownName}
 use Rattle.sdd_script.specs.declared.found.Found.{Found}
-use Rattle.sdd_script.proofs.StepLaws.{ok_is, must_then, known_then, both_hold, some_is}
+use Rattle.sdd_base.proofs.ReadingLaws.{ok_is}
+use Rattle.sdd_script.proofs.StepLaws.{must_then, known_then, both_hold, some_is}
 use Rattle.sdd_script.proofs.ValueLaws.{columns_are}
 use Rattle.sdd_script.proofs.WordCuts.{point_cut}
 use Rattle.sdd_script.proofs.WordLooks.{before_is, behind_is, decimal_is_whole}

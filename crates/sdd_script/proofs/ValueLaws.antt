@@ -1,5 +1,5 @@
 -- Values: what is read is spelled and fits, and what is spelled and fits is read.
-use Rattle.std.proofs.Common.{◌≡◌, ℕ, suc, ◌-◌, List, [], ◌∷◌, length, map, get_or, Bool, true, false, cond, Option, Some, None, Result, Ok, refl, ap, subst, ◌∙◌, arith}
+use Rattle.std.proofs.Common.{◌≡◌, ℕ, suc, ◌-◌, List, [], ◌∷◌, length, map, get_or, Bool, true, false, cond, Option, Some, None, Result, Ok, refl, ap, subst, ◌∙◌, arith, ◌+◌, add-one, sym}
 use Rattle.std.specs.Prelude.{slice_get, unwrap_or}
 use Rattle.std.specs.Option.{option_map_or}
 use Rattle.std.specs.List.{AllByRecursion}
@@ -12,19 +12,20 @@ use Rattle.sdd_catalog.specs.declared.parts.Kind.TheVariants as kinds
 use Rattle.sdd_catalog.specs.declared.resolved.Column.{Column}
 use Rattle.sdd_catalog.specs.declared.resolved.Relation.{Relation}
 use Rattle.sdd_lang.specs.Fits.{kind_of}
+use Rattle.sdd_words.specs.Values.{value_word}
 use Rattle.sdd_words.specs.Number.{number_of}
 use Rattle.sdd_words.specs.Texts.{is_text, text_in}
-use Rattle.sdd_words.specs.Steps.{◌>>=◌, must}
+use Rattle.sdd_base.specs.Readings.{◌>>=◌, must}
 use Rattle.sdd_words.specs.declared.word.Word.{Word}
 use Rattle.sdd_words.specs.declared.word.Word.TheVariants.{Plain, Quoted}
 use Rattle.sdd_words.proofs.Numbers.{number_takes, number_again}
 use Rattle.sdd_script.specs.Naming.{columns_of, key_of, name_of_relation, kind_of_place}
-use Rattle.sdd_script.specs.Spelling.{value_word}
 use Rattle.sdd_script.specs.Valid.{IsValue}
 use Rattle.sdd_script.specs.Values.{is_of_kind, value_of, values_of}
 use Rattle.sdd_script.specs.declared.fault.WorkRule.{WorkRule}
 use Rattle.sdd_script.specs.declared.fault.WorkRule.TheVariants.{BadLine, BadNumber, WrongKind}
-use Rattle.sdd_script.proofs.StepLaws.{ok_is, must_then, known_then, Answer, each_ok, ok_each}
+use Rattle.sdd_base.proofs.ReadingLaws.{ok_is, Answers, along_ok, ok_along}
+use Rattle.sdd_script.proofs.StepLaws.{must_then, known_then}
 
 -- ---- the two spellings of a relation's parts
 
@@ -97,17 +98,19 @@ value_again (values.Text text) h = rw h refl
 abbrev at_columns : List Column → ℕ → Word → Result Value WorkRule
 at_columns columns i w = value_of (kind_of_place columns i) w
 
-shifted : (c : Column) (cs : List Column) (i : ℕ) (ws : List Word) (vs : List Value) → Answer (at_columns (c ∷ cs)) (suc i) ws vs → Answer (at_columns cs) i ws vs
+shifted : (c : Column) (cs : List Column) (i : ℕ) (ws : List Word) (vs : List Value) → Answers (at_columns (c ∷ cs)) (i + 1) ws vs → Answers (at_columns cs) i ws vs
 shifted c cs i [] [] h = tt
 shifted c cs i [] (v ∷ vs) h = absurd h
 shifted c cs i (w ∷ ws) [] h = absurd h
-shifted c cs i (w ∷ ws) (v ∷ vs) h = (h.0, shifted c cs (suc i) ws vs h.1)
+shifted c cs i (w ∷ ws) (v ∷ vs) h =
+    (subst (λ (n : ℕ). at_columns (c ∷ cs) n w ≡ Ok v) (add-one i) h.0, shifted c cs (i + 1) ws vs h.1)
 
-back : (c : Column) (cs : List Column) (i : ℕ) (ws : List Word) (vs : List Value) → Answer (at_columns cs) i ws vs → Answer (at_columns (c ∷ cs)) (suc i) ws vs
+back : (c : Column) (cs : List Column) (i : ℕ) (ws : List Word) (vs : List Value) → Answers (at_columns cs) i ws vs → Answers (at_columns (c ∷ cs)) (i + 1) ws vs
 back c cs i [] [] h = tt
 back c cs i [] (v ∷ vs) h = absurd h
 back c cs i (w ∷ ws) [] h = absurd h
-back c cs i (w ∷ ws) (v ∷ vs) h = (h.0, back c cs (suc i) ws vs h.1)
+back c cs i (w ∷ ws) (v ∷ vs) h =
+    (subst (λ (n : ℕ). at_columns (c ∷ cs) n w ≡ Ok v) (sym (add-one i)) h.0, back c cs (i + 1) ws vs h.1)
 
 abbrev pub kinds_of : List Column → List Kind
 kinds_of columns = map (λ (c : Column). c.kind) columns
@@ -117,7 +120,7 @@ pub record IsRow (columns : List Column) (ws : List Word) (vs : List Value) : Ty
   pub same : map kind_of vs ≡ kinds_of columns
   pub fits : AllByRecursion IsValue vs
 
-row_of_answers : (columns : List Column) (ws : List Word) (vs : List Value) → Answer (at_columns columns) 0 ws vs → length ws ≡ length columns → IsRow columns ws vs
+row_of_answers : (columns : List Column) (ws : List Word) (vs : List Value) → Answers (at_columns columns) 0 ws vs → length ws ≡ length columns → IsRow columns ws vs
 row_of_answers [] [] [] h len = record { spelled = refl; same = refl; fits = tt }
 row_of_answers [] [] (v ∷ vs) h len = absurd h
 row_of_answers [] (w ∷ ws) vs h len = absurd (omega arith)
@@ -133,12 +136,12 @@ row_of_answers (c ∷ cs) (w ∷ ws) (v ∷ vs) h len =
     record { spelled = cc; same = cc; fits = (one.fits, more.fits) }
 
 pub values_take : (columns : List Column) (ws : List Word) (vs : List Value) → values_of columns ws ≡ Ok vs → length ws ≡ length columns → IsRow columns ws vs
-values_take columns ws vs e len = row_of_answers columns ws vs (each_ok (at_columns columns) 0 ws vs e) len
+values_take columns ws vs e len = row_of_answers columns ws vs (along_ok (at_columns columns) 0 ws vs e) len
 
 heads : (k l : Kind) (ks ls : List Kind) → k ∷ ks ≡ l ∷ ls → (k ≡ l) × (ks ≡ ls)
 heads k l ks ls e = (cc, cc)
 
-answers_of_row : (columns : List Column) (vs : List Value) → map kind_of vs ≡ kinds_of columns → AllByRecursion IsValue vs → Answer (at_columns columns) 0 (map value_word vs) vs × (length (map value_word vs) ≡ length columns)
+answers_of_row : (columns : List Column) (vs : List Value) → map kind_of vs ≡ kinds_of columns → AllByRecursion IsValue vs → Answers (at_columns columns) 0 (map value_word vs) vs × (length (map value_word vs) ≡ length columns)
 answers_of_row [] [] e h = (tt, refl)
 answers_of_row [] (v ∷ vs) e h = absurd cc
 answers_of_row (c ∷ cs) [] e h = absurd cc
@@ -148,7 +151,7 @@ answers_of_row (c ∷ cs) (v ∷ vs) e h =
     ((subst (λ (x : Kind). value_of (Some x) (value_word v) ≡ Ok v) k.0 (value_again v h.0), back c cs 0 (map value_word vs) vs more.0), ap suc more.1)
 
 pub values_again : (columns : List Column) (vs : List Value) → map kind_of vs ≡ kinds_of columns → AllByRecursion IsValue vs → values_of columns (map value_word vs) ≡ Ok vs
-values_again columns vs e h = ok_each (at_columns columns) 0 (map value_word vs) vs (answers_of_row columns vs e h).0
+values_again columns vs e h = ok_along (at_columns columns) 0 (map value_word vs) vs (answers_of_row columns vs e h).0
 
 pub values_length : (columns : List Column) (vs : List Value) → map kind_of vs ≡ kinds_of columns → AllByRecursion IsValue vs → length (map value_word vs) ≡ length columns
 values_length columns vs e h = (answers_of_row columns vs e h).1

@@ -7,6 +7,8 @@ use Rattle.std.specs.List.{All, AllByRecursion, position, filter_map, list_any}
 use Rattle.std.proofs.lemmas.Bool.{lt-ltb, le-ltb}
 use Rattle.std.proofs.lemmas.List.{map-append, length-append, length-map, get_or-map}
 use Rattle.std.proofs.lemmas.List.Elements.{recursion_from_All, All-get_or}
+use Rattle.sdd_base.specs.Numbers.{txn_no}
+use Rattle.sdd_base.specs.declared.limits.TheConstants.{MAX_EVENTS, MAX_WORKLOAD_BYTES}
 use Rattle.sdd_base.specs.Name.{is_name}
 use Rattle.sdd_base.specs.declared.event.Event.{Event}
 use Rattle.sdd_base.specs.declared.event.Event.TheVariants.{Submit, Deliver, Lose, Repeat, Resend, Tick, Settle, Redeclare, Down, Up}
@@ -21,18 +23,18 @@ use Rattle.sdd_lang.specs.Fits.{IsFrom1To}
 use Rattle.sdd_lang.specs.declared.transaction.Txn.{Txn}
 use Rattle.sdd_words.specs.Lines.{cut_lines}
 use Rattle.sdd_words.specs.Names.{name_in}
-use Rattle.sdd_words.specs.Steps.{◌>>=◌, known, must}
+use Rattle.sdd_base.specs.Readings.{◌>>=◌, known, must}
 use Rattle.sdd_words.specs.Words.{line_bytes}
 use Rattle.sdd_words.specs.declared.word.Word.{Word}
 use Rattle.sdd_words.specs.declared.word.Word.TheVariants.{Plain}
 use Rattle.sdd_words.proofs.Spelled.{cut_again}
 use Rattle.sdd_base.specs.declared.site.Site.{Site}
-use Rattle.sdd_script.specs.LineRules.{most_events, is_submitted, with_submitted, with_event, event_rules}
-use Rattle.sdd_script.specs.Occurrences.{txn_no, number_named, txn_named, submit_of, deliver_of, lose_of, repeat_of, resend_of, tick_of, settle_of}
+use Rattle.sdd_script.specs.LineRules.{is_submitted, with_submitted, with_event, event_rules}
+use Rattle.sdd_script.specs.Occurrences.{number_named, txn_named, submit_of, deliver_of, lose_of, repeat_of, resend_of, tick_of, settle_of}
 use Rattle.sdd_script.specs.Places.{takes_txns, takes_events, is_ended}
 use Rattle.sdd_script.specs.Spelling.{start_words, event_words, end_words, name_of_txn, txn_lines, site_word, count_word, lines_of, spelling}
 use Rattle.sdd_script.specs.Valid.{IsValidRow, IsValidTxn, IsValidEvent, IsValid, rows_put_by, submitted_by, AreDistinct}
-use Rattle.sdd_script.specs.Walk.{walk, walk_bytes, nothing_read, finished, most_bytes, workload}
+use Rattle.sdd_script.specs.Walk.{walk, walk_bytes, nothing_read, finished, workload}
 use Rattle.sdd_script.specs.declared.fault.Counts.TheVariants as counts
 use Rattle.sdd_script.specs.declared.fault.WorkRule.{WorkRule}
 use Rattle.sdd_script.specs.declared.fault.WorkRule.TheVariants.{BadLine, UnknownName, SubmittedTwice, TooMany, TooLong}
@@ -131,21 +133,21 @@ still (places.Inside h) t = absurd cc
 still places.Ended t = absurd cc
 
 event_rules_again : (place : Place) (rows : List (RelNo × List Value)) (written : ℕ) (txns : List Txn) (submitted : List TxnNo) (events : List Event) (e : Event) (reading : Result Event WorkRule)
-    → reading ≡ Ok e → takes_events place ≡ true → is_submitted submitted e ≡ false → length events < most_events
+    → reading ≡ Ok e → takes_events place ≡ true → is_submitted submitted e ≡ false → length events < MAX_EVENTS
     → event_rules (scheduled place rows written txns submitted events) reading ≡ Ok (scheduled places.Events rows written txns (with_submitted submitted e) (events ++ e ∷ []))
 event_rules_again place rows written txns submitted events e reading r t new room =
     let st : State = scheduled place rows written txns submitted events in
     let to : State = scheduled places.Events rows written txns (with_submitted submitted e) (events ++ e ∷ []) in
-    let c : ltb (length events) most_events ≡ true = lt-ltb (length events) most_events room in
+    let c : ltb (length events) MAX_EVENTS ≡ true = lt-ltb (length events) MAX_EVENTS room in
     ap (λ (b : Bool). must BadLine b >>= λ _. reading >>= λ event. with_event st event) t
     ∙ ap (λ (q : Result Event WorkRule). q >>= λ event. with_event st event) r
-    ∙ ap (λ (b : Bool). must SubmittedTwice (not b) >>= λ _. must (TooMany counts.Event) (nat_lt (length events) most_events) >>= λ _. Ok to) new
+    ∙ ap (λ (b : Bool). must SubmittedTwice (not b) >>= λ _. must (TooMany counts.Event) (nat_lt (length events) MAX_EVENTS) >>= λ _. Ok to) new
     ∙ ap (λ (b : Bool). must (TooMany counts.Event) b >>= λ _. Ok to) c
 
 record CanStand (place : Place) (submitted : List TxnNo) (events : List Event) (e : Event) : Type 0 where
   takes : takes_events place ≡ true
   new : is_submitted submitted e ≡ false
-  room : length events < most_events
+  room : length events < MAX_EVENTS
 
 event_step : (cat : Catalogue) → IsKnown cat → (place : Place) (rows : List (RelNo × List Value)) (written : ℕ) (txns : List Txn) (submitted : List TxnNo) (events : List Event) (e : Event)
     → All (IsValidTxn cat) txns → repeats (names_of txns) ≡ false → IsValidEvent cat (length txns) e → CanStand place submitted events e
@@ -193,7 +195,7 @@ record AreEvents (cat : Catalogue) (st : State) (lines : List (List ℕ)) (rows 
   chain : Chain cat st lines (scheduled place rows written txns submitted events)
 
 events_chain : (cat : Catalogue) → IsKnown cat → (rows : List (RelNo × List Value)) (written : ℕ) (txns : List Txn) → All (IsValidTxn cat) txns → repeats (names_of txns) ≡ false
-    → (es : List Event) (place : Place) (submitted : List TxnNo) (events : List Event) → takes_events place ≡ true → AllByRecursion (IsValidEvent cat (length txns)) es → AreDistinct (numbers submitted ++ filter_map submitted_by es) → length events + length es ≤ most_events
+    → (es : List Event) (place : Place) (submitted : List TxnNo) (events : List Event) → takes_events place ≡ true → AllByRecursion (IsValidEvent cat (length txns)) es → AreDistinct (numbers submitted ++ filter_map submitted_by es) → length events + length es ≤ MAX_EVENTS
     → AreEvents cat (scheduled place rows written txns submitted events) (map line_bytes (map (event_words txns) es)) rows written txns (events ++ es)
 events_chain cat k rows written txns valid differ [] place submitted events t h d few = record { place = place; submitted = submitted; takes = t; chain = ap (scheduled place rows written txns submitted) (sym (append-nil events)) }
 events_chain cat k rows written txns valid differ (e ∷ es) place submitted events t h d few =
@@ -258,12 +260,12 @@ whole_chain cat k w v =
     }
 
 -- the spelling of a workload that is allowed is read as the workload
-pub read_again : (cat : Catalogue) → IsKnown cat → (w : Workload) → IsValid cat w → length (spelling cat w) ≤ most_bytes → workload cat (spelling cat w) ≡ Ok w
+pub read_again : (cat : Catalogue) → IsKnown cat → (w : Workload) → IsValid cat w → length (spelling cat w) ≤ MAX_WORKLOAD_BYTES → workload cat (spelling cat w) ≡ Ok w
 read_again cat k w v small =
     let c = whole_chain cat k w v in
     let lines : List (List ℕ) = map line_bytes (lines_of cat w) in
     let last : State = scheduled places.Ended w.rows c.written w.txns c.submitted w.events in
-    let a : nat_lt most_bytes (length (spelling cat w)) ≡ false = le-ltb most_bytes (length (spelling cat w)) small in
+    let a : nat_lt MAX_WORKLOAD_BYTES (length (spelling cat w)) ≡ false = le-ltb MAX_WORKLOAD_BYTES (length (spelling cat w)) small in
     let b : cut_lines (spelling cat w) ≡ (lines, []) = ap cut_lines (sym (lines_spelled (lines_of cat w))) ∙ cut_again lines (chain_lines cat nothing_read last lines c.chain) in
     let d : walk cat 1 nothing_read lines [] ≡ Ok last = chain_walk cat 1 nothing_read last lines c.chain refl in
     ap (λ (t : Bool). cond t (Err (record { line = 0; rule = TooLong })) (finished (walk_bytes cat 1 nothing_read (spelling cat w)))) a

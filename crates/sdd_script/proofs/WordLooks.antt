@@ -17,6 +17,7 @@ use Rattle.sdd_base.specs.declared.restriction.Op.{Op}
 use Rattle.sdd_base.specs.declared.restriction.Op.TheVariants as ops
 use Rattle.sdd_base.specs.declared.value.Value.{Value}
 use Rattle.sdd_base.specs.declared.value.Value.TheVariants as values
+use Rattle.sdd_words.specs.Values.{value_word}
 use Rattle.sdd_words.specs.Keywords.{is_free, op_in, is_point, has_point, before_point, behind_point, looks_like_column, spells_column, names_column}
 use Rattle.sdd_words.specs.Lines.{HasNoNewline}
 use Rattle.sdd_words.specs.Texts.{is_text, is_sound, has_newline}
@@ -26,7 +27,6 @@ use Rattle.sdd_words.specs.declared.word.Word.{Word}
 use Rattle.sdd_words.specs.declared.word.Word.TheVariants.{Plain, Quoted}
 use Rattle.sdd_words.proofs.NameTexts.{name_is_utf8}
 use Rattle.sdd_words.proofs.Utf8.{IsUtf8-escaped, number_plain}
-use Rattle.sdd_script.specs.Spelling.{value_word}
 use Rattle.sdd_script.specs.Valid.{IsValue}
 use Rattle.sdd_script.proofs.StepLaws.{both_hold, both_are, not_true}
 use Rattle.sdd_script.proofs.WordCuts.{NonePasses, none_at, before_again, after_again, position_again, no_point}

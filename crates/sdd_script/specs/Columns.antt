@@ -8,7 +8,7 @@ use Rattle.sdd_lang.specs.declared.condition.Condition.TheVariants.{Const, Same}
 use Rattle.sdd_words.specs.Keywords.{before_point, behind_point, names_column}
 use Rattle.sdd_words.specs.Number.{number_of}
 use Rattle.sdd_words.specs.Whole.{is_whole}
-use Rattle.sdd_words.specs.Steps.{◌>>=◌, known, must, each_at}
+use Rattle.sdd_base.specs.Readings.{◌>>=◌, known, must, along}
 use Rattle.sdd_words.specs.declared.form.Comparison.{Comparison}
 use Rattle.sdd_words.specs.declared.word.Word.{Word}
 use Rattle.sdd_words.specs.declared.word.Word.TheVariants.{Plain, Quoted}
@@ -38,34 +38,36 @@ use_numbered parts (Some part) = use_at parts part
 
 -- a column of a use's relation, by its name
 abbrev pub column_in : List Column → ℕ → List ℕ → Result Found WorkRule
-column_in columns part name =
-    known UnknownName (column_named columns name) >>= λ place.
-    known UnknownName (kind_of_place columns place) >>= λ kind.
-    Ok (record { at = record { part = part; column = place + 1 }; kind = kind })
+column_in columns part name = do
+  place ← known UnknownName (column_named columns name)
+  kind ← known UnknownName (kind_of_place columns place)
+  Ok (record { at = record { part = part; column = place + 1 }; kind = kind })
 
 -- the number of the use, which may be past 64 bits, then the use, then the column
 abbrev pub column_of_use : Catalogue → Parts → Word → Result Found WorkRule
 column_of_use cat parts (Quoted text) = Err BadNumber
-column_of_use cat parts (Plain bytes) =
-    must BadNumber (is_whole (before_point bytes)) >>= λ _.
-    known UnknownName (use_numbered parts (number_of (before_point bytes))) >>= λ u.
-    column_in (columns_of cat u.1) u.0 (behind_point bytes)
+column_of_use cat parts (Plain bytes) = do
+  _ ← must BadNumber (is_whole (before_point bytes))
+  u ← known UnknownName (use_numbered parts (number_of (before_point bytes)))
+  column_in (columns_of cat u.1) u.0 (behind_point bytes)
 
 -- a column that is compared with one of its kind
 abbrev pub same_of : Catalogue → Parts → Found → Word → Result Condition WorkRule
-same_of cat parts left right =
-    column_of_use cat parts right >>= λ (r : Found).
-    must WrongKind (is_of_kind (Some left.kind) r.kind) >>= λ _.
-    Ok (Same left.at r.at)
+same_of cat parts left right = do
+  (r : Found) ← column_of_use cat parts right
+  _ ← must WrongKind (is_of_kind (Some left.kind) r.kind)
+  Ok (Same left.at r.at)
 
 -- a column that is compared with a value of its kind
 abbrev pub const_of : Found → Op → Word → Result Condition WorkRule
-const_of left op right = value_of (Some left.kind) right >>= λ value. Ok (Const left.at op value)
+const_of left op right = do
+  value ← value_of (Some left.kind) right
+  Ok (Const left.at op value)
 
 abbrev pub condition_of : Catalogue → Parts → Comparison → Result Condition WorkRule
-condition_of cat parts c =
-    column_of_use cat parts c.left >>= λ left.
-    (if names_column c.op c.right then same_of cat parts left c.right else const_of left c.op c.right)
+condition_of cat parts c = do
+  left ← column_of_use cat parts c.left
+  if names_column c.op c.right then same_of cat parts left c.right else const_of left c.op c.right
 
 abbrev pub conditions_of : Catalogue → Parts → List Comparison → Result (List Condition) WorkRule
-conditions_of cat parts cs = each_at (λ i c. condition_of cat parts c) 0 cs
+conditions_of cat parts cs = along (λ i c. condition_of cat parts c) 0 cs

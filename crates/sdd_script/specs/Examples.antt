@@ -2,19 +2,19 @@
 use Rattle.std.specs.Prelude.{◌≡◌, ℕ, pos, negsuc, [], ◌∷◌, codes, Ok, Err, Result, refl}
 use Rattle.std.specs.Fmt.{digits}
 use Rattle.std.specs.Str.{is_utf8, chars}
+use Rattle.sdd_base.specs.Numbers.{tm_no, dm_no, frag_no, rel_no}
 use Rattle.sdd_catalog.specs.Catalogue.{Catalogue}
 use Rattle.sdd_catalog.specs.declared.parts.Kind.TheVariants as kinds
 use Rattle.sdd_lang.specs.Uses.{all_keys}
 use Rattle.sdd_words.specs.Lines.{cut_lines}
 use Rattle.sdd_words.specs.Number.{number_of}
 use Rattle.sdd_words.specs.Scan.{scan}
-use Rattle.sdd_words.specs.Steps.{each_at}
 use Rattle.sdd_words.specs.Forms.{comparisons, settings}
 use Rattle.sdd_script.specs.LineRules.{line_rules}
 use Rattle.sdd_script.specs.Statements.{query_over, update_of_parts}
 use Rattle.sdd_base.specs.declared.value.Value.TheVariants.{Int}
 use Rattle.sdd_script.specs.Spelling.{spelling}
-use Rattle.sdd_script.specs.Values.{rel_no, row_of}
+use Rattle.sdd_script.specs.Values.{row_of}
 use Rattle.sdd_script.specs.Walk.{walk, workload}
 use Rattle.sdd_script.specs.declared.fault.WorkFault.{WorkFault}
 use Rattle.sdd_script.specs.declared.fault.WorkRule.{WorkRule}
@@ -31,8 +31,8 @@ accounts =
         columns = record { name = codes "id"; kind = kinds.Int } ∷ record { name = codes "bal"; kind = kinds.Int } ∷ [];
         key = 1;
       } ∷ [];
-      fragments = record { name = codes "all"; rel = 1; least = all_keys.0; greatest = all_keys.1; copies = 1 ∷ [] } ∷ [];
-      classes = record { name = codes "own"; tm = 1; reads = (1, 1) ∷ []; writes = 1 ∷ [] } ∷ [];
+      fragments = record { name = codes "all"; rel = rel_no 1; least = all_keys.0; greatest = all_keys.1; copies = dm_no 1 ∷ [] } ∷ [];
+      classes = record { name = codes "own"; tm = tm_no 1; reads = record { fragment = frag_no 1; at = dm_no 1 } ∷ []; writes = frag_no 1 ∷ [] } ∷ [];
     }
 
 abbrev pub at : ℕ → WorkRule → Result Workload WorkFault
@@ -40,82 +40,82 @@ at line rule = Err (record { line = line; rule = rule })
 
 -- an empty file
 pub nothing : workload accounts ([]) ≡ at 1 NoEnd
-unfolding walk cut_lines is_utf8 scan line_rules row_of each_at query_over update_of_parts comparisons settings number_of digits chars lib.Utf8.encode
+unfolding walk cut_lines is_utf8 scan line_rules row_of query_over update_of_parts comparisons settings number_of digits chars lib.Utf8.encode
 nothing = refl
 
 -- the line `end` isn't ended
 pub no_newline : workload accounts (codes "end") ≡ at 1 NoEnd
-unfolding walk cut_lines is_utf8 scan line_rules row_of each_at query_over update_of_parts comparisons settings number_of digits chars lib.Utf8.encode
+unfolding walk cut_lines is_utf8 scan line_rules row_of query_over update_of_parts comparisons settings number_of digits chars lib.Utf8.encode
 no_newline = refl
 
 -- a byte that is no UTF-8
 pub other_byte : workload accounts (255 ∷ []) ≡ at 1 NotUtf8
-unfolding walk cut_lines is_utf8 scan line_rules row_of each_at query_over update_of_parts comparisons settings number_of digits chars lib.Utf8.encode
+unfolding walk cut_lines is_utf8 scan line_rules row_of query_over update_of_parts comparisons settings number_of digits chars lib.Utf8.encode
 other_byte = refl
 
 -- a byte behind the line `end`
 pub behind_end : workload accounts (codes "end\nx") ≡ at 2 BadLine
-unfolding walk cut_lines is_utf8 scan line_rules row_of each_at query_over update_of_parts comparisons settings number_of digits chars lib.Utf8.encode
+unfolding walk cut_lines is_utf8 scan line_rules row_of query_over update_of_parts comparisons settings number_of digits chars lib.Utf8.encode
 behind_end = refl
 
 -- two spaces
 pub two_spaces : workload accounts (codes "row  acct 1 1\n") ≡ at 1 BadLine
-unfolding walk cut_lines is_utf8 scan line_rules row_of each_at query_over update_of_parts comparisons settings number_of digits chars lib.Utf8.encode
+unfolding walk cut_lines is_utf8 scan line_rules row_of query_over update_of_parts comparisons settings number_of digits chars lib.Utf8.encode
 two_spaces = refl
 
 -- a number has one spelling
 pub minus_zero : workload accounts (codes "row acct 1 -0\n") ≡ at 1 BadNumber
-unfolding walk cut_lines is_utf8 scan line_rules row_of each_at query_over update_of_parts comparisons settings number_of digits chars lib.Utf8.encode
+unfolding walk cut_lines is_utf8 scan line_rules row_of query_over update_of_parts comparisons settings number_of digits chars lib.Utf8.encode
 minus_zero = refl
 
 -- a value is missing
 pub too_few : workload accounts (codes "row acct 1\n") ≡ at 1 WrongKind
-unfolding walk cut_lines is_utf8 scan line_rules row_of each_at query_over update_of_parts comparisons settings number_of digits chars lib.Utf8.encode
+unfolding walk cut_lines is_utf8 scan line_rules row_of query_over update_of_parts comparisons settings number_of digits chars lib.Utf8.encode
 too_few = refl
 
 -- a row behind a transaction
 pub late_row : workload accounts (codes "txn a T1\ndone\nrow acct 1 1\n") ≡ at 3 BadLine
-unfolding walk cut_lines is_utf8 scan line_rules row_of each_at query_over update_of_parts comparisons settings number_of digits chars lib.Utf8.encode
+unfolding walk cut_lines is_utf8 scan line_rules row_of query_over update_of_parts comparisons settings number_of digits chars lib.Utf8.encode
 late_row = refl
 
 -- two transactions of one name
 pub same_name : workload accounts (codes "txn a T1\ndone\ntxn a T1\n") ≡ at 3 DuplicateTxn
-unfolding walk cut_lines is_utf8 scan line_rules row_of each_at query_over update_of_parts comparisons settings number_of digits chars lib.Utf8.encode
+unfolding walk cut_lines is_utf8 scan line_rules row_of query_over update_of_parts comparisons settings number_of digits chars lib.Utf8.encode
 same_name = refl
 
 -- the key is assigned
 pub key_changed : workload accounts (codes "txn a T1\nupdate acct set 1.id = 2\n") ≡ at 2 KeyChanged
-unfolding walk cut_lines is_utf8 scan line_rules row_of each_at query_over update_of_parts comparisons settings number_of digits chars lib.Utf8.encode
+unfolding walk cut_lines is_utf8 scan line_rules row_of query_over update_of_parts comparisons settings number_of digits chars lib.Utf8.encode
 key_changed = refl
 
 -- a leading zero
 pub zeros : workload accounts (codes "txn a T1\nput acct 007 1\n") ≡ at 2 BadNumber
-unfolding walk cut_lines is_utf8 scan line_rules row_of each_at query_over update_of_parts comparisons settings number_of digits chars lib.Utf8.encode
+unfolding walk cut_lines is_utf8 scan line_rules row_of query_over update_of_parts comparisons settings number_of digits chars lib.Utf8.encode
 zeros = refl
 
 -- there is one use
 pub no_such_use : workload accounts (codes "txn a T1\nquery 2.id from acct\n") ≡ at 2 UnknownName
-unfolding walk cut_lines is_utf8 scan line_rules row_of each_at query_over update_of_parts comparisons settings number_of digits chars lib.Utf8.encode
+unfolding walk cut_lines is_utf8 scan line_rules row_of query_over update_of_parts comparisons settings number_of digits chars lib.Utf8.encode
 no_such_use = refl
 
 -- the words are judged from left to right
 pub number_first : workload accounts (codes "txn a T1\nquery 01.id 2.id from acct\n") ≡ at 2 BadNumber
-unfolding walk cut_lines is_utf8 scan line_rules row_of each_at query_over update_of_parts comparisons settings number_of digits chars lib.Utf8.encode
+unfolding walk cut_lines is_utf8 scan line_rules row_of query_over update_of_parts comparisons settings number_of digits chars lib.Utf8.encode
 number_first = refl
 
 -- modules of one kind have no link
 pub no_link : workload accounts (codes "txn a T1\nput acct 1 1\ndone\ndeliver T1 T1 1\n") ≡ at 4 BadEvent
-unfolding walk cut_lines is_utf8 scan line_rules row_of each_at query_over update_of_parts comparisons settings number_of digits chars lib.Utf8.encode
+unfolding walk cut_lines is_utf8 scan line_rules row_of query_over update_of_parts comparisons settings number_of digits chars lib.Utf8.encode
 no_link = refl
 
 -- a transaction is submitted once
 pub submitted_twice : workload accounts (codes "txn a T1\nput acct 1 1\ndone\nsubmit a\nsubmit a\n") ≡ at 5 SubmittedTwice
-unfolding walk cut_lines is_utf8 scan line_rules row_of each_at query_over update_of_parts comparisons settings number_of digits chars lib.Utf8.encode
+unfolding walk cut_lines is_utf8 scan line_rules row_of query_over update_of_parts comparisons settings number_of digits chars lib.Utf8.encode
 submitted_twice = refl
 
 -- a row and nothing else
 pub one_row : workload accounts (codes "row acct 1 -2\nend\n") ≡ Ok (record { rows = (rel_no 1, Int (pos 1) ∷ Int (negsuc 1) ∷ []) ∷ []; txns = []; events = [] })
-unfolding walk cut_lines is_utf8 scan line_rules row_of each_at query_over update_of_parts comparisons settings number_of digits chars lib.Utf8.encode
+unfolding walk cut_lines is_utf8 scan line_rules row_of query_over update_of_parts comparisons settings number_of digits chars lib.Utf8.encode
 one_row = refl
 
 -- and its spelling

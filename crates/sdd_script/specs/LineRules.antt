@@ -2,6 +2,7 @@
 use Rattle.std.specs.Prelude.{ℕ, ◌+◌, nat_lt, nat_le, ◌==◌, ◌&&◌, not, List, [], ◌∷◌, ◌++◌, length, Bool, false, Option, Some, None, is_some, Result, Ok, Err, if◌then◌else◌}
 use Rattle.std.specs.List.{position, list_any, list_all}
 use Rattle.std.specs.Str.{bytes_eq, is_utf8}
+use Rattle.sdd_base.specs.declared.limits.TheConstants.{MAX_OUTPUT_COLUMNS, MAX_ASSIGNMENTS, MAX_ROWS, MAX_TXNS, MAX_STATEMENTS, MAX_USES, MAX_CONDITIONS, MAX_EVENTS}
 use Rattle.sdd_base.specs.declared.event.Event.{Event}
 use Rattle.sdd_base.specs.declared.event.Event.TheVariants.{Submit}
 use Rattle.sdd_base.specs.declared.number.RelNo.{RelNo}
@@ -15,7 +16,7 @@ use Rattle.sdd_words.specs.Keywords.{is_free}
 use Rattle.sdd_words.specs.Forms.{are_free}
 use Rattle.sdd_words.specs.Names.{name_in}
 use Rattle.sdd_words.specs.Scan.{words_of}
-use Rattle.sdd_words.specs.Steps.{◌>>=◌, known, must}
+use Rattle.sdd_base.specs.Readings.{◌>>=◌, known, must}
 use Rattle.sdd_words.specs.Texts.{is_sound}
 use Rattle.sdd_words.specs.declared.word.Word.{Word}
 use Rattle.sdd_words.specs.declared.word.Word.TheVariants.{Plain, Quoted}
@@ -33,41 +34,19 @@ use Rattle.sdd_script.specs.declared.place.Place.{Place}
 use Rattle.sdd_script.specs.declared.place.Place.TheVariants as places
 use Rattle.sdd_script.specs.declared.state.State.{State}
 
--- limits
-abbrev pub most_rows : ℕ
-most_rows = 65536
-
-abbrev pub most_txns : ℕ
-most_txns = 2048
-
-abbrev pub most_statements : ℕ
-most_statements = 32
-
-abbrev pub most_parts : ℕ
-most_parts = 6
-
-abbrev pub most_conditions : ℕ
-most_conditions = 16
-
-abbrev pub most_columns : ℕ
-most_columns = 16
-
-abbrev pub most_events : ℕ
-most_events = 262144
-
 -- rows
 
 -- how many rows there are with one more, if there is room for it
 abbrev pub one_more_row : ℕ → Option ℕ
-one_more_row written = if nat_lt written most_rows then Some (written + 1) else None
+one_more_row written = if nat_lt written MAX_ROWS then Some (written + 1) else None
 
 abbrev pub row_rules : Catalogue → State → List Word → Result State WorkRule
 row_rules cat st [] = Err BadLine
-row_rules cat st (name ∷ words) =
-    must BadLine (takes_rows st.place && (is_free name && are_free words)) >>= λ _.
-    row_of cat name words >>= λ (r : RelNo × List Value).
-    known (TooMany counts.Row) (one_more_row st.written) >>= λ written.
-    Ok (record st { rows = st.rows ++ r ∷ []; written = written })
+row_rules cat st (name ∷ words) = do
+  _ ← must BadLine (takes_rows st.place && (is_free name && are_free words))
+  (r : RelNo × List Value) ← row_of cat name words
+  written ← known (TooMany counts.Row) (one_more_row st.written)
+  Ok (record st { rows = st.rows ++ r ∷ []; written = written })
 
 -- transactions
 
@@ -76,35 +55,35 @@ name_of (Plain bytes) = known UnknownName (name_in bytes)
 name_of (Quoted text) = Err UnknownName
 
 abbrev pub opened : State → List ℕ → TmNo → Result State WorkRule
-opened st name tm =
-    must DuplicateTxn (not (is_some (position (bytes_eq name) st.names))) >>= λ _.
-    must (TooMany counts.Txn) (nat_lt (length st.names) most_txns) >>= λ _.
-    Ok (record st { place = places.Inside (record { name = name; tm = tm }); names = st.names ++ name ∷ [] })
+opened st name tm = do
+  _ ← must DuplicateTxn (not (is_some (position (bytes_eq name) st.names)))
+  _ ← must (TooMany counts.Txn) (nat_lt (length st.names) MAX_TXNS)
+  Ok (record st { place = places.Inside (record { name = name; tm = tm }); names = st.names ++ name ∷ [] })
 
 abbrev pub txn_rules : Catalogue → State → List Word → Result State WorkRule
-txn_rules cat st (word ∷ tm ∷ []) =
-    must BadLine (takes_txns st.place && (is_free word && is_free tm)) >>= λ _.
-    name_of word >>= λ name.
-    tm_of cat tm >>= λ t.
-    opened st name t
+txn_rules cat st (word ∷ tm ∷ []) = do
+  _ ← must BadLine (takes_txns st.place && (is_free word && is_free tm))
+  name ← name_of word
+  t ← tm_of cat tm
+  opened st name t
 txn_rules cat st _ = Err BadLine
 
 -- how many of a transaction's statements, and of what is in a statement
 
 abbrev pub statement_limits : ℕ → Stmt → Result (Unit {0}) WorkRule
-statement_limits before (statements.Put rel row) = must (TooMany counts.Statement) (nat_lt before most_statements)
-statement_limits before (statements.Query out rels conds) =
-    must (TooMany counts.Statement) (nat_lt before most_statements) >>= λ _.
-    must (TooMany counts.Part) (nat_le (length rels) most_parts) >>= λ _.
-    must (TooMany counts.Cond) (nat_le (length conds) most_conditions) >>= λ _.
-    must (TooMany counts.Column) (nat_le (length out) most_columns)
-statement_limits before (statements.Update rel sets conds) =
-    must (TooMany counts.Statement) (nat_lt before most_statements) >>= λ _.
-    must (TooMany counts.Cond) (nat_le (length conds) most_conditions) >>= λ _.
-    must (TooMany counts.Column) (nat_le (length sets) most_columns)
-statement_limits before (statements.Delete rel conds) =
-    must (TooMany counts.Statement) (nat_lt before most_statements) >>= λ _.
-    must (TooMany counts.Cond) (nat_le (length conds) most_conditions)
+statement_limits before (statements.Put rel row) = must (TooMany counts.Statement) (nat_lt before MAX_STATEMENTS)
+statement_limits before (statements.Query out rels conds) = do
+  _ ← must (TooMany counts.Statement) (nat_lt before MAX_STATEMENTS)
+  _ ← must (TooMany counts.Part) (nat_le (length rels) MAX_USES)
+  _ ← must (TooMany counts.Cond) (nat_le (length conds) MAX_CONDITIONS)
+  must (TooMany counts.Column) (nat_le (length out) MAX_OUTPUT_COLUMNS)
+statement_limits before (statements.Update rel sets conds) = do
+  _ ← must (TooMany counts.Statement) (nat_lt before MAX_STATEMENTS)
+  _ ← must (TooMany counts.Cond) (nat_le (length conds) MAX_CONDITIONS)
+  must (TooMany counts.Column) (nat_le (length sets) MAX_ASSIGNMENTS)
+statement_limits before (statements.Delete rel conds) = do
+  _ ← must (TooMany counts.Statement) (nat_lt before MAX_STATEMENTS)
+  must (TooMany counts.Cond) (nat_le (length conds) MAX_CONDITIONS)
 
 -- how many rows there are with the statement's, if there is room for it
 abbrev pub written_with : ℕ → Stmt → Option ℕ
@@ -112,17 +91,17 @@ written_with written (statements.Put rel row) = one_more_row written
 written_with written statement = Some written
 
 abbrev pub with_statement : State → Stmt → Result State WorkRule
-with_statement st statement =
-    known (TooMany counts.Row) (written_with st.written statement) >>= λ written.
-    statement_limits (length st.statements) statement >>= λ _.
-    Ok (record st { statements = st.statements ++ statement ∷ []; written = written })
+with_statement st statement = do
+  written ← known (TooMany counts.Row) (written_with st.written statement)
+  _ ← statement_limits (length st.statements) statement
+  Ok (record st { statements = st.statements ++ statement ∷ []; written = written })
 
 -- a statement, by its reading
 abbrev pub statement_rules : State → Result Stmt WorkRule → Result State WorkRule
-statement_rules st reading =
-    must BadLine (takes_statements st.place) >>= λ _.
-    reading >>= λ statement.
-    with_statement st statement
+statement_rules st reading = do
+  _ ← must BadLine (takes_statements st.place)
+  statement ← reading
+  with_statement st statement
 
 abbrev pub closed : Place → State → Result State WorkRule
 closed (places.Inside header) st =
@@ -144,20 +123,22 @@ with_submitted submitted (Submit txn) = submitted ++ txn ∷ []
 with_submitted submitted event = submitted
 
 abbrev pub with_event : State → Event → Result State WorkRule
-with_event st event =
-    must SubmittedTwice (not (is_submitted st.submitted event)) >>= λ _.
-    must (TooMany counts.Event) (nat_lt (length st.events) most_events) >>= λ _.
-    Ok (record st { place = places.Events; events = st.events ++ event ∷ []; submitted = with_submitted st.submitted event })
+with_event st event = do
+  _ ← must SubmittedTwice (not (is_submitted st.submitted event))
+  _ ← must (TooMany counts.Event) (nat_lt (length st.events) MAX_EVENTS)
+  Ok (record st { place = places.Events; events = st.events ++ event ∷ []; submitted = with_submitted st.submitted event })
 
 -- an event, by its reading
 abbrev pub event_rules : State → Result Event WorkRule → Result State WorkRule
-event_rules st reading =
-    must BadLine (takes_events st.place) >>= λ _.
-    reading >>= λ event.
-    with_event st event
+event_rules st reading = do
+  _ ← must BadLine (takes_events st.place)
+  event ← reading
+  with_event st event
 
 abbrev pub end_rules : State → List Word → Result State WorkRule
-end_rules st [] = must BadLine (takes_events st.place) >>= λ _. Ok (record st { place = places.Ended })
+end_rules st [] = do
+  _ ← must BadLine (takes_events st.place)
+  Ok (record st { place = places.Ended })
 end_rules st _ = Err BadLine
 
 -- a line, by its keyword and the words behind it
@@ -171,15 +152,19 @@ keyword_rules keys.End cat st words = end_rules st words
 
 abbrev pub words_rules : Catalogue → State → List Word → Result State WorkRule
 words_rules cat st [] = Err BadLine
-words_rules cat st (first ∷ words) = known BadLine (keyword_of first) >>= λ keyword. keyword_rules keyword cat st words
+words_rules cat st (first ∷ words) = do
+  keyword ← known BadLine (keyword_of first)
+  keyword_rules keyword cat st words
 
 -- a text that is too long makes the line bad
 abbrev pub sound_rules : Catalogue → State → List Word → Result State WorkRule
-sound_rules cat st words = must BadLine (list_all is_sound words) >>= λ _. words_rules cat st words
+sound_rules cat st words = do
+  _ ← must BadLine (list_all is_sound words)
+  words_rules cat st words
 
 -- a line: UTF-8, then words, of which the texts are not too long, then the rules of its first word
 unfoldable pub line_rules : Catalogue → State → List ℕ → Result State WorkRule
-line_rules cat st line =
-    must NotUtf8 (is_utf8 line) >>= λ _.
-    known BadLine (words_of line) >>= λ words.
-    sound_rules cat st words
+line_rules cat st line = do
+  _ ← must NotUtf8 (is_utf8 line)
+  words ← known BadLine (words_of line)
+  sound_rules cat st words

@@ -1,11 +1,13 @@
 -- Events, by the words behind the first word of their lines.
-use Rattle.std.specs.Prelude.{ℕ, ◌+◌, ◌^◌, ℤ, pos, nat_lt, nat_le, ◌==◌, ◌&&◌, List, [], ◌∷◌, length, Option, Some, None, Result, Ok, Err, if◌then◌else◌}
+use Rattle.std.specs.Prelude.{ℕ, ◌+◌, ℤ, pos, nat_lt, nat_le, ◌==◌, ◌&&◌, List, [], ◌∷◌, length, Option, Some, None, Result, Ok, Err, if◌then◌else◌}
 use Rattle.std.specs.Option.{option_map}
 use Rattle.std.specs.List.{position}
 use Rattle.std.specs.Str.{bytes_eq}
+use Rattle.sdd_base.specs.Numbers.{tm_no, txn_no}
 use Rattle.sdd_base.specs.Sites.{are_linked}
 use Rattle.sdd_base.specs.declared.event.Event.{Event}
 use Rattle.sdd_base.specs.declared.event.Event.TheVariants.{Submit, Deliver, Lose, Repeat, Resend, Tick, Settle}
+use Rattle.sdd_base.specs.declared.limits.TheConstants.{MAX_PLACE, MAX_TICKS}
 use Rattle.sdd_base.specs.declared.number.TmNo.{TmNo}
 use Rattle.sdd_base.specs.declared.number.TxnNo.{TxnNo}
 use Rattle.sdd_base.specs.declared.site.Site.{Site}
@@ -14,7 +16,7 @@ use Rattle.sdd_catalog.specs.Catalogue.{Catalogue}
 use Rattle.sdd_words.specs.Keywords.{is_free}
 use Rattle.sdd_words.specs.Names.{name_in}
 use Rattle.sdd_words.specs.Number.{number_of}
-use Rattle.sdd_words.specs.Steps.{◌>>=◌, known, must}
+use Rattle.sdd_base.specs.Readings.{◌>>=◌, known, must}
 use Rattle.sdd_words.specs.declared.word.Word.{Word}
 use Rattle.sdd_words.specs.declared.word.Word.TheVariants.{Plain, Quoted}
 use Rattle.sdd_script.specs.declared.fault.WorkRule.{WorkRule}
@@ -29,9 +31,6 @@ from_one most _ = None
 
 abbrev pub numbered : ℕ → List ℕ → Option ℕ
 numbered most digits = from_one most (number_of digits)
-
-abbrev pub tm_no : ℕ → TmNo
-tm_no n = record { 0 = n }
 
 -- U, T and a number, or D and a number: a site that is there
 abbrev pub site_in : Catalogue → List ℕ → Option Site
@@ -51,73 +50,78 @@ module_of (T tm) = Ok tm
 module_of site = Err BadEvent
 
 abbrev pub tm_of : Catalogue → Word → Result TmNo WorkRule
-tm_of cat word = site_of cat word >>= λ site. module_of site
+tm_of cat word = do
+  site ← site_of cat word
+  module_of site
 
 -- two sites with a link between them
 abbrev pub link_of : Catalogue → Word → Word → Result (Site × Site) WorkRule
-link_of cat from to =
-    site_of cat from >>= λ a.
-    site_of cat to >>= λ b.
-    must BadEvent (are_linked a b) >>= λ _.
-    Ok (a, b)
+link_of cat from to = do
+  a ← site_of cat from
+  b ← site_of cat to
+  _ ← must BadEvent (are_linked a b)
+  Ok (a, b)
 
--- the greatest place and the greatest tick
-abbrev pub greatest_count : ℕ
-greatest_count = 2 ^ 20
-
-abbrev pub count_of : Word → Result ℕ WorkRule
-count_of (Plain bytes) = known BadNumber (numbered greatest_count bytes)
-count_of (Quoted text) = Err BadNumber
+-- a number from 1 to the most
+abbrev pub count_of : ℕ → Word → Result ℕ WorkRule
+count_of most (Plain bytes) = known BadNumber (numbered most bytes)
+count_of most (Quoted text) = Err BadNumber
 
 -- a link and a place in its flight
 abbrev pub flight_place : Catalogue → List Word → Result (Site × Site × ℕ) WorkRule
-flight_place cat (from ∷ to ∷ place ∷ []) =
-    must BadLine (is_free from && is_free to && is_free place) >>= λ _.
-    link_of cat from to >>= λ (link : Site × Site).
-    count_of place >>= λ k.
-    Ok (link.0, link.1, k)
+flight_place cat (from ∷ to ∷ place ∷ []) = do
+  _ ← must BadLine (is_free from && is_free to && is_free place)
+  (link : Site × Site) ← link_of cat from to
+  k ← count_of MAX_PLACE place
+  Ok (link.0, link.1, k)
 flight_place cat _ = Err BadLine
 
 abbrev pub deliver_of : Catalogue → List Word → Result Event WorkRule
-deliver_of cat words = flight_place cat words >>= λ (p : Site × Site × ℕ). Ok (Deliver p.0 p.1 p.2)
+deliver_of cat words = do
+  (p : Site × Site × ℕ) ← flight_place cat words
+  Ok (Deliver p.0 p.1 p.2)
 
 abbrev pub lose_of : Catalogue → List Word → Result Event WorkRule
-lose_of cat words = flight_place cat words >>= λ (p : Site × Site × ℕ). Ok (Lose p.0 p.1 p.2)
+lose_of cat words = do
+  (p : Site × Site × ℕ) ← flight_place cat words
+  Ok (Lose p.0 p.1 p.2)
 
 abbrev pub repeat_of : Catalogue → List Word → Result Event WorkRule
-repeat_of cat words = flight_place cat words >>= λ (p : Site × Site × ℕ). Ok (Repeat p.0 p.1 p.2)
+repeat_of cat words = do
+  (p : Site × Site × ℕ) ← flight_place cat words
+  Ok (Repeat p.0 p.1 p.2)
 
 -- the number of the transaction with a name
 abbrev pub number_named : List (List ℕ) → List ℕ → Option ℕ
 number_named names name = option_map (λ place. place + 1) (position (bytes_eq name) names)
 
-abbrev pub txn_no : ℕ → TxnNo
-txn_no n = record { 0 = n }
-
 abbrev pub txn_named : List (List ℕ) → Word → Result TxnNo WorkRule
-txn_named names (Plain bytes) =
-    known UnknownName (name_in bytes) >>= λ name.
-    known UnknownName (number_named names name) >>= λ n.
-    Ok (txn_no n)
+txn_named names (Plain bytes) = do
+  name ← known UnknownName (name_in bytes)
+  n ← known UnknownName (number_named names name)
+  Ok (txn_no n)
 txn_named names (Quoted text) = Err UnknownName
 
 abbrev pub submit_of : List (List ℕ) → List Word → Result Event WorkRule
-submit_of names (name ∷ []) = must BadLine (is_free name) >>= λ _. txn_named names name >>= λ txn. Ok (Submit txn)
+submit_of names (name ∷ []) = do
+  _ ← must BadLine (is_free name)
+  txn ← txn_named names name
+  Ok (Submit txn)
 submit_of names _ = Err BadLine
 
 abbrev pub resend_of : Catalogue → List Word → Result Event WorkRule
-resend_of cat (from ∷ to ∷ []) =
-    must BadLine (is_free from && is_free to) >>= λ _.
-    link_of cat from to >>= λ (link : Site × Site).
-    Ok (Resend link.0 link.1)
+resend_of cat (from ∷ to ∷ []) = do
+  _ ← must BadLine (is_free from && is_free to)
+  (link : Site × Site) ← link_of cat from to
+  Ok (Resend link.0 link.1)
 resend_of cat _ = Err BadLine
 
 abbrev pub tick_of : Catalogue → List Word → Result Event WorkRule
-tick_of cat (tm ∷ n ∷ []) =
-    must BadLine (is_free tm && is_free n) >>= λ _.
-    tm_of cat tm >>= λ t.
-    count_of n >>= λ k.
-    Ok (Tick t k)
+tick_of cat (tm ∷ n ∷ []) = do
+  _ ← must BadLine (is_free tm && is_free n)
+  t ← tm_of cat tm
+  k ← count_of MAX_TICKS n
+  Ok (Tick t k)
 tick_of cat _ = Err BadLine
 
 abbrev pub settle_of : List Word → Result Event WorkRule

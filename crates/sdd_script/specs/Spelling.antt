@@ -10,7 +10,6 @@ use Rattle.sdd_base.specs.declared.restriction.Op.TheVariants.{Eq}
 use Rattle.sdd_base.specs.declared.site.Site.{Site}
 use Rattle.sdd_base.specs.declared.site.Site.TheVariants.{U, T, D}
 use Rattle.sdd_base.specs.declared.value.Value.{Value}
-use Rattle.sdd_base.specs.declared.value.Value.TheVariants as values
 use Rattle.sdd_catalog.specs.Catalogue.{Catalogue}
 use Rattle.sdd_catalog.specs.declared.resolved.Column.{Column}
 use Rattle.sdd_lang.specs.Fits.{rel_of}
@@ -22,16 +21,13 @@ use Rattle.sdd_lang.specs.declared.condition.Condition.TheVariants.{Const, Same}
 use Rattle.sdd_lang.specs.declared.statement.Stmt.{Stmt}
 use Rattle.sdd_lang.specs.declared.statement.Stmt.TheVariants as statements
 use Rattle.sdd_lang.specs.declared.transaction.Txn.{Txn}
+use Rattle.sdd_words.specs.Values.{value_word}
 use Rattle.sdd_words.specs.Keywords.{op_word}
 use Rattle.sdd_words.specs.Words.{line_bytes}
 use Rattle.sdd_words.specs.declared.word.Word.{Word}
-use Rattle.sdd_words.specs.declared.word.Word.TheVariants.{Plain, Quoted}
+use Rattle.sdd_words.specs.declared.word.Word.TheVariants.{Plain}
 use Rattle.sdd_script.specs.Naming.{columns_of, name_of_relation}
 use Rattle.sdd_script.specs.declared.workload.Workload.{Workload}
-
-abbrev pub value_word : Value → Word
-value_word (values.Int n) = Plain (signed_decimal n)
-value_word (values.Text text) = Quoted text
 
 abbrev pub relation_word : Catalogue → RelNo → Word
 relation_word cat rel = Plain (name_of_relation cat rel.0)

@@ -1,5 +1,6 @@
 -- Statements, by the words behind the first word of their lines.
 use Rattle.std.specs.Prelude.{ℕ, ℤ, ◌==◌, ◌&&◌, not, List, [], ◌∷◌, map, codes, Some, Result, Ok, Err, if◌then◌else◌, Option}
+use Rattle.sdd_base.specs.Numbers.{rel_no}
 use Rattle.sdd_base.specs.declared.number.RelNo.{RelNo}
 use Rattle.sdd_base.specs.declared.value.Value.{Value}
 use Rattle.sdd_catalog.specs.Catalogue.{Catalogue}
@@ -12,13 +13,13 @@ use Rattle.sdd_lang.specs.declared.statement.Stmt.TheVariants.{Put, Query, Updat
 use Rattle.sdd_words.specs.Keywords.{is_key, is_free}
 use Rattle.sdd_words.specs.Forms.{cut_at, up_to, from_key, conditions_form, settings, not_empty, look_like_columns, are_free}
 use Rattle.sdd_words.specs.Number.{number_of}
-use Rattle.sdd_words.specs.Steps.{◌>>=◌, known, must, each_at}
+use Rattle.sdd_base.specs.Readings.{◌>>=◌, known, must, along}
 use Rattle.sdd_words.specs.declared.form.Comparison.{Comparison}
 use Rattle.sdd_words.specs.declared.form.Setting.{Setting}
 use Rattle.sdd_words.specs.declared.word.Word.{Word}
 use Rattle.sdd_words.specs.declared.word.Word.TheVariants.{Plain, Quoted}
 use Rattle.sdd_script.specs.Naming.{key_of, relation_of}
-use Rattle.sdd_script.specs.Values.{is_of_kind, value_of, rel_no, row_of}
+use Rattle.sdd_script.specs.Values.{is_of_kind, value_of, row_of}
 use Rattle.sdd_script.specs.Columns.{Parts, column_of_use, conditions_of}
 use Rattle.sdd_script.specs.declared.fault.WorkRule.{WorkRule}
 use Rattle.sdd_script.specs.declared.fault.WorkRule.TheVariants.{BadLine, BadNumber, UnknownName, WrongKind, KeyChanged}
@@ -29,17 +30,21 @@ use Rattle.sdd_script.specs.declared.keyword.StatementKey.TheVariants as keys
 -- put: a relation and values
 abbrev pub put_of : Catalogue → List Word → Result Stmt WorkRule
 put_of cat [] = Err BadLine
-put_of cat (name ∷ words) =
-    must BadLine (is_free name && are_free words) >>= λ _.
-    row_of cat name words >>= λ (r : RelNo × List Value).
-    Ok (Put r.0 r.1)
+put_of cat (name ∷ words) = do
+  _ ← must BadLine (is_free name && are_free words)
+  (r : RelNo × List Value) ← row_of cat name words
+  Ok (Put r.0 r.1)
 
 abbrev pub listed_column : Catalogue → Parts → Word → Result Ref WorkRule
-listed_column cat parts word = column_of_use cat parts word >>= λ (f : Found). Ok f.at
+listed_column cat parts word = do
+  (f : Found) ← column_of_use cat parts word
+  Ok f.at
 
 -- the relation of a part, which has to be there
 abbrev pub part_in : Option ℕ → Result RelNo WorkRule
-part_in part = known UnknownName part >>= λ rel. Ok (rel_no rel)
+part_in part = do
+  rel ← known UnknownName part
+  Ok (rel_no rel)
 
 -- the relations of words by their places
 abbrev pub parts_of : Catalogue → List Word → Parts
@@ -47,27 +52,29 @@ parts_of cat words = map (λ w. relation_of cat w) words
 
 -- the columns, which may name the relations behind them, then the relations, then the conditions
 unfoldable pub query_over : Catalogue → Parts → List Word → List Comparison → Result Stmt WorkRule
-query_over cat parts columns comparisons =
-    each_at (λ i w. listed_column cat parts w) 0 columns >>= λ out.
-    each_at (λ i p. part_in p) 0 parts >>= λ rels.
-    conditions_of cat parts comparisons >>= λ conds.
-    Ok (Query out rels conds)
+query_over cat parts columns comparisons = do
+  out ← along (λ i w. listed_column cat parts w) 0 columns
+  rels ← along (λ i p. part_in p) 0 parts
+  conds ← conditions_of cat parts comparisons
+  Ok (Query out rels conds)
 
 abbrev pub query_of_parts : Catalogue → List Word → List Word → List Comparison → Result Stmt WorkRule
 query_of_parts cat columns rels comparisons = query_over cat (parts_of cat rels) columns comparisons
 
 abbrev pub query_behind_from : Catalogue → List Word → List Word → List Word → Result Stmt WorkRule
-query_behind_from cat columns rels rest =
-    must BadLine (look_like_columns columns && are_free rels) >>= λ _.
-    known BadLine (conditions_form rest) >>= λ comparisons.
-    query_of_parts cat columns rels comparisons
+query_behind_from cat columns rels rest = do
+  _ ← must BadLine (look_like_columns columns && are_free rels)
+  comparisons ← known BadLine (conditions_form rest)
+  query_of_parts cat columns rels comparisons
 
 abbrev pub query_with : Catalogue → List Word → List Word → Result Stmt WorkRule
 query_with cat columns behind = query_behind_from cat columns (up_to (codes "where") behind) (from_key (codes "where") behind)
 
 -- query: columns, `from`, relations, and perhaps conditions
 abbrev pub query_of : Catalogue → List Word → Result Stmt WorkRule
-query_of cat words = known BadLine (cut_at (codes "from") words) >>= λ (cut : List Word × List Word). query_with cat cut.0 cut.1
+query_of cat words = do
+  (cut : List Word × List Word) ← known BadLine (cut_at (codes "from") words)
+  query_with cat cut.0 cut.1
 
 -- the number that is added; a text is of another kind
 abbrev pub addend_of : Word → Result ℤ WorkRule
@@ -76,63 +83,67 @@ addend_of (Quoted text) = Err WrongKind
 
 -- `+=`: a number; the column holds numbers
 abbrev pub add_of : Found → Word → Result Assign WorkRule
-add_of f word =
-    must WrongKind (is_of_kind (Some f.kind) kinds.Int) >>= λ _.
-    addend_of word >>= λ number.
-    Ok (Add f.at.column number)
+add_of f word = do
+  _ ← must WrongKind (is_of_kind (Some f.kind) kinds.Int)
+  number ← addend_of word
+  Ok (Add f.at.column number)
 
 -- `=`: a value of the column's kind
 abbrev pub to_of : Found → Word → Result Assign WorkRule
-to_of f word = value_of (Some f.kind) word >>= λ value. Ok (To f.at.column value)
+to_of f word = do
+  value ← value_of (Some f.kind) word
+  Ok (To f.at.column value)
 
 -- the column, which isn't the key, and what is done to it
 abbrev pub assign_of : Catalogue → ℕ → Setting → Result Assign WorkRule
-assign_of cat rel s =
-    column_of_use cat (Some rel ∷ []) s.left >>= λ (f : Found).
-    must KeyChanged (not (f.at.column == key_of cat rel)) >>= λ _.
-    (if s.adds then add_of f s.right else to_of f s.right)
+assign_of cat rel s = do
+  (f : Found) ← column_of_use cat (Some rel ∷ []) s.left
+  _ ← must KeyChanged (not (f.at.column == key_of cat rel))
+  if s.adds then add_of f s.right else to_of f s.right
 
 -- the relation, the assignments, the conditions
 unfoldable pub update_of_parts : Catalogue → Word → List Setting → List Comparison → Result Stmt WorkRule
-update_of_parts cat name sets comparisons =
-    known UnknownName (relation_of cat name) >>= λ rel.
-    each_at (λ i s. assign_of cat rel s) 0 sets >>= λ assigns.
-    conditions_of cat (Some rel ∷ []) comparisons >>= λ conds.
-    Ok (Update (rel_no rel) assigns conds)
+update_of_parts cat name sets comparisons = do
+  rel ← known UnknownName (relation_of cat name)
+  assigns ← along (λ i s. assign_of cat rel s) 0 sets
+  conds ← conditions_of cat (Some rel ∷ []) comparisons
+  Ok (Update (rel_no rel) assigns conds)
 
 abbrev pub update_with : Catalogue → Word → List Setting → List Word → Result Stmt WorkRule
-update_with cat name sets rest = known BadLine (conditions_form rest) >>= λ comparisons. update_of_parts cat name sets comparisons
+update_with cat name sets rest = do
+  comparisons ← known BadLine (conditions_form rest)
+  update_of_parts cat name sets comparisons
 
 abbrev pub update_behind_set : Catalogue → Word → List Word → List Word → Result Stmt WorkRule
-update_behind_set cat name sets rest =
-    must BadLine (is_free name && not_empty sets) >>= λ _.
-    known BadLine (settings sets) >>= λ found.
-    update_with cat name found rest
+update_behind_set cat name sets rest = do
+  _ ← must BadLine (is_free name && not_empty sets)
+  found ← known BadLine (settings sets)
+  update_with cat name found rest
 
 abbrev pub update_to : Catalogue → Word → List Word → Result Stmt WorkRule
 update_to cat name words = update_behind_set cat name (up_to (codes "where") words) (from_key (codes "where") words)
 
 -- update: a relation, `set`, assignments, and perhaps conditions
 abbrev pub update_of : Catalogue → List Word → Result Stmt WorkRule
-update_of cat (name ∷ key ∷ words) =
-    must BadLine (is_key (codes "set") key) >>= λ _.
-    update_to cat name words
+update_of cat (name ∷ key ∷ words) = do
+  _ ← must BadLine (is_key (codes "set") key)
+  update_to cat name words
 update_of cat _ = Err BadLine
 
 -- the relation, the conditions
 abbrev pub delete_of_parts : Catalogue → Word → List Comparison → Result Stmt WorkRule
-delete_of_parts cat name comparisons =
-    known UnknownName (relation_of cat name) >>= λ rel.
-    conditions_of cat (Some rel ∷ []) comparisons >>= λ conds.
-    Ok (Delete (rel_no rel) conds)
+delete_of_parts cat name comparisons = do
+  rel ← known UnknownName (relation_of cat name)
+  conds ← conditions_of cat (Some rel ∷ []) comparisons
+  Ok (Delete (rel_no rel) conds)
 
 -- delete: a relation, and perhaps conditions
 abbrev pub delete_of : Catalogue → List Word → Result Stmt WorkRule
 delete_of cat [] = Err BadLine
-delete_of cat (name ∷ rest) =
-    must BadLine (is_free name) >>= λ _.
-    known BadLine (conditions_form rest) >>= λ comparisons.
-    delete_of_parts cat name comparisons
+delete_of cat (name ∷ rest) = do
+  _ ← must BadLine (is_free name)
+  comparisons ← known BadLine (conditions_form rest)
+  delete_of_parts cat name comparisons
 
 -- a statement, by its first word and the words behind it
 abbrev pub statement_of : StatementKey → Catalogue → List Word → Result Stmt WorkRule

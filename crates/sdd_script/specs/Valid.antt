@@ -2,6 +2,7 @@
 use Rattle.std.specs.Prelude.{ℕ, ◌+◌, ◌^◌, ◌≡◌, ◌≤◌, ◌<◌, IsTrue, Bool, true, false, List, map, sum_by, count_by, slice_index_or, length, Option, Some, None}
 use Rattle.std.specs.Int.Signed.{mag}
 use Rattle.std.specs.List.{All, filter_map}
+use Rattle.sdd_base.specs.declared.limits.TheConstants.{MAX_ROWS, MAX_TXNS, MAX_EVENTS, MAX_PLACE, MAX_TICKS, MAX_WORKLOAD_BYTES}
 use Rattle.sdd_base.specs.Name.{IsName}
 use Rattle.sdd_base.specs.Sites.{are_linked}
 use Rattle.sdd_base.specs.declared.event.Event.{Event}
@@ -22,10 +23,7 @@ use Rattle.sdd_lang.specs.declared.statement.Stmt.{Stmt}
 use Rattle.sdd_lang.specs.declared.statement.Stmt.TheVariants as statements
 use Rattle.sdd_lang.specs.declared.transaction.Txn.{Txn}
 use Rattle.sdd_words.specs.Texts.{is_text}
-use Rattle.sdd_script.specs.LineRules.{most_rows, most_txns, most_events}
-use Rattle.sdd_script.specs.Occurrences.{greatest_count}
 use Rattle.sdd_script.specs.Spelling.{spelling}
-use Rattle.sdd_script.specs.Walk.{most_bytes}
 use Rattle.sdd_script.specs.declared.workload.Workload.{Workload}
 
 -- a number of 64 bits, or a text
@@ -71,11 +69,11 @@ IsLink cat from to = IsSite cat from × IsSite cat to × IsTrue (are_linked from
 -- an event among so many transactions that the catalogue allows
 abbrev pub IsValidEvent : Catalogue → ℕ → Event → Type 0
 IsValidEvent cat txns (Submit txn) = IsFrom1To txns txn.0
-IsValidEvent cat txns (Deliver from to place) = IsLink cat from to × IsFrom1To greatest_count place
-IsValidEvent cat txns (Lose from to place) = IsLink cat from to × IsFrom1To greatest_count place
-IsValidEvent cat txns (Repeat from to place) = IsLink cat from to × IsFrom1To greatest_count place
+IsValidEvent cat txns (Deliver from to place) = IsLink cat from to × IsFrom1To MAX_PLACE place
+IsValidEvent cat txns (Lose from to place) = IsLink cat from to × IsFrom1To MAX_PLACE place
+IsValidEvent cat txns (Repeat from to place) = IsLink cat from to × IsFrom1To MAX_PLACE place
 IsValidEvent cat txns (Resend from to) = IsLink cat from to
-IsValidEvent cat txns (Tick tm n) = IsFrom1To cat.tms tm.0 × IsFrom1To greatest_count n
+IsValidEvent cat txns (Tick tm n) = IsFrom1To cat.tms tm.0 × IsFrom1To MAX_TICKS n
 IsValidEvent cat txns Settle = Unit {0}
 -- no line is read as one of these
 IsValidEvent cat txns Redeclare = ⊥
@@ -107,12 +105,12 @@ pub record IsValid (cat : Catalogue) (w : Workload) : Type 0 where
   pub events : All (IsValidEvent cat (length w.txns)) w.events
   -- a transaction is submitted at most once
   pub submitted : AreDistinct (filter_map submitted_by w.events)
-  pub few_rows : length w.rows + sum_by rows_put_by w.txns ≤ most_rows
-  pub few_txns : length w.txns ≤ most_txns
-  pub few_events : length w.events ≤ most_events
+  pub few_rows : length w.rows + sum_by rows_put_by w.txns ≤ MAX_ROWS
+  pub few_txns : length w.txns ≤ MAX_TXNS
+  pub few_events : length w.events ≤ MAX_EVENTS
 
 -- a file that spells a workload which the catalogue allows
 pub record Accepts (cat : Catalogue) (bytes : List ℕ) (w : Workload) : Type 0 where
-  pub small : length bytes ≤ most_bytes
+  pub small : length bytes ≤ MAX_WORKLOAD_BYTES
   pub valid : IsValid cat w
   pub spelled : bytes ≡ spelling cat w

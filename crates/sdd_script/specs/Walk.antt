@@ -1,6 +1,7 @@
 -- A file, line by line, each in the state that the lines before it made. The first line at fault is told, with its number.
-use Rattle.std.specs.Prelude.{ℕ, ◌+◌, ◌^◌, nat_lt, List, [], ◌∷◌, length, Result, Ok, Err, if◌then◌else◌}
+use Rattle.std.specs.Prelude.{ℕ, ◌+◌, nat_lt, List, [], ◌∷◌, length, Result, Ok, Err, if◌then◌else◌}
 use Rattle.std.specs.Str.{is_utf8}
+use Rattle.sdd_base.specs.declared.limits.TheConstants.{MAX_WORKLOAD_BYTES}
 use Rattle.sdd_catalog.specs.Catalogue.{Catalogue}
 use Rattle.sdd_words.specs.Lines.{cut_lines}
 use Rattle.sdd_script.specs.LineRules.{line_rules}
@@ -42,12 +43,9 @@ abbrev pub finished : Result State WorkFault → Result Workload WorkFault
 finished (Ok st) = Ok (record { rows = st.rows; txns = st.txns; events = st.events })
 finished (Err fault) = Err fault
 
-abbrev pub most_bytes : ℕ
-most_bytes = 2 ^ 26
-
 -- the workload that a file gives, or its first fault
 abbrev pub workload : Catalogue → List ℕ → Result Workload WorkFault
 workload cat bytes =
-    if nat_lt most_bytes (length bytes)
+    if nat_lt MAX_WORKLOAD_BYTES (length bytes)
     then Err (record { line = 0; rule = TooLong })
     else finished (walk_bytes cat 1 nothing_read bytes)

@@ -1,8 +1,9 @@
 //! Columns of uses, and conditions, by their words.
 ghost use Rattle.std.specs.Prelude.{◌≡◌, ◌<◌, ◌-◌, ◌^◌, length, Some, None};
-ghost use Rattle.sdd_words.specs.Steps.{each_at};
+ghost use Rattle.sdd_base.specs.Readings.{along};
 ghost use Rattle.sdd_words.specs.declared.word.Word.TheVariants.{Plain};
-ghost use Rattle.sdd_script.specs.Rules.{Gives};
+ghost use Rattle.sdd_base.specs.Readings.{Gives};
+ghost use Rattle.sdd_script.specs.Rules.{rule_in};
 ghost use Rattle.sdd_script.specs.Columns.{use_in, use_at, use_numbered, column_in, column_of_use, same_of, const_of, condition_of, conditions_of};
 
 use crate::fault::{LineError, WorkRule, broken, known, must};
@@ -35,7 +36,7 @@ fn use_numbered(parts: &[Option<u32>], part: Option<i64>) -> Option<(u32, u32)>
 
 fn column_in(columns: &[Column], part: u32, name: &[u8]) -> Result<Found, LineError>
     requires { length columns.now < 2 ^ 32 - 1 }
-    ensures { Gives (λ f. f) result (column_in columns.now part name.now) }
+    ensures { Gives rule_in (λ f. f) result (column_in columns.now part name.now) }
 {
     let place = known(WorkRule::UnknownName, column_named(columns, name))?;
     let kind = known(WorkRule::UnknownName, kind_of_place(columns, place))?;
@@ -53,7 +54,7 @@ fn column_of_use_in(
     parts: &[Option<u32>],
     bytes: &[u8],
 ) -> Result<Found, LineError>
-    ensures { Gives (λ f. f) result (column_of_use cat.now parts.now (Plain bytes.now)) }
+    ensures { Gives rule_in (λ f. f) result (column_of_use cat.now parts.now (Plain bytes.now)) }
 {
     let (number, name) = parts_at_point(bytes);
     must(WorkRule::BadNumber, is_whole_number(number))?;
@@ -67,7 +68,7 @@ fn column_of_use_in(
 
 /// The column of a use that a word names.
 pub fn read_column(cat: &Catalogue, parts: &[Option<u32>], word: &Word) -> Result<Found, LineError>
-    ensures { Gives (λ f. f) result (column_of_use cat.now parts.now word.now) }
+    ensures { Gives rule_in (λ f. f) result (column_of_use cat.now parts.now word.now) }
 {
     match word {
         Word::Quoted(_) => broken(WorkRule::BadNumber),
@@ -76,7 +77,7 @@ pub fn read_column(cat: &Catalogue, parts: &[Option<u32>], word: &Word) -> Resul
 }
 
 fn read_const(alloc: Global, left: Found, op: Op, right: &Word) -> Result<Condition, LineError>
-    ensures { Gives (λ c. c) result (const_of left op right.now) }
+    ensures { Gives rule_in (λ c. c) result (const_of left op right.now) }
 {
     let value = read_value(alloc, Some(left.kind), right)?;
     Ok(Condition::Const {
@@ -92,7 +93,7 @@ fn read_same(
     left: Found,
     right: &Word,
 ) -> Result<Condition, LineError>
-    ensures { Gives (λ c. c) result (same_of cat.now parts.now left right.now) }
+    ensures { Gives rule_in (λ c. c) result (same_of cat.now parts.now left right.now) }
 {
     let right = read_column(cat, parts, right)?;
     must(WorkRule::WrongKind, is_of_kind(Some(left.kind), right.kind))?;
@@ -108,7 +109,7 @@ fn read_condition(
     parts: &[Option<u32>],
     words: &Comparison,
 ) -> Result<Condition, LineError>
-    ensures { Gives (λ c. c) result (condition_of cat.now parts.now words.now) }
+    ensures { Gives rule_in (λ c. c) result (condition_of cat.now parts.now words.now) }
 {
     let left = read_column(cat, parts, &words.left)?;
     if names_column(alloc, words.op, &words.right)? {
@@ -126,7 +127,7 @@ pub fn read_conditions(
     parts: &[Option<u32>],
     words: &[Comparison],
 ) -> Result<Vec<Condition>, LineError>
-    ensures { Gives (λ v. v.items) result (conditions_of cat.now parts.now words.now) }
+    ensures { Gives rule_in (λ v. v.items) result (conditions_of cat.now parts.now words.now) }
 {
     let mut conds = Vec::new(alloc);
     'words: for (i, one) in words.iter().enumerate() {

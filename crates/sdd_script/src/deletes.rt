@@ -1,6 +1,7 @@
 //! Deletes, by the words behind the first word of their lines.
 ghost use Rattle.std.specs.Prelude.{◌≡◌, ◌∷◌, [], Some};
-ghost use Rattle.sdd_script.specs.Rules.{Gives};
+ghost use Rattle.sdd_base.specs.Readings.{Gives};
+ghost use Rattle.sdd_script.specs.Rules.{rule_in};
 ghost use Rattle.sdd_script.specs.Statements.{delete_of_parts, delete_of};
 
 use crate::columns::read_conditions;
@@ -18,7 +19,7 @@ fn read_delete_parts(
     name: &Word,
     words: &[Comparison],
 ) -> Result<Stmt, LineError>
-    ensures { Gives (λ s. s) result (delete_of_parts cat.now name.now words.now) }
+    ensures { Gives rule_in (λ s. s) result (delete_of_parts cat.now name.now words.now) }
 {
     let rel = known(WorkRule::UnknownName, relation_of(cat, name))?;
     let conds = read_conditions(alloc, cat, &[Some(rel)], words)?;
@@ -30,7 +31,7 @@ fn read_delete_parts(
 
 /// A delete, by its relation and its conditions.
 pub fn read_delete(alloc: Global, cat: &Catalogue, words: &[Word]) -> Result<Stmt, LineError>
-    ensures { Gives (λ s. s) result (delete_of cat.now words.now) }
+    ensures { Gives rule_in (λ s. s) result (delete_of cat.now words.now) }
 {
     match words {
         [] => broken(WorkRule::BadLine),

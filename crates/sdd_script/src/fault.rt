@@ -1,8 +1,9 @@
 ghost use Rattle.std.specs.Prelude.{◌≡◌, Ok, Err, MatchResult};
 ghost use Rattle.sdd_script.specs.Telling.{told_at};
-ghost use Rattle.sdd_words.specs.Steps.{known, must};
+ghost use Rattle.sdd_base.specs.Readings.{known, must};
 ghost use Rattle.sdd_script.specs.declared.fault.LineError.TheVariants.{Broken};
-ghost use Rattle.sdd_script.specs.Rules.{Gives};
+ghost use Rattle.sdd_base.specs.Readings.{Gives};
+ghost use Rattle.sdd_script.specs.Rules.{rule_in};
 
 use sdd_base::{NoMemory, Parcel};
 use std::alloc::{AllocError, AllocFailed};
@@ -91,7 +92,7 @@ pub(crate) fn broken<T>(rule: WorkRule) -> Result<T, LineError>
 
 /// The value, or the rule that is broken where it isn't there.
 pub(crate) fn known<T>(rule: WorkRule, value: Option<T>) -> Result<T, LineError>
-    ensures { Gives (λ x. x) result (known rule value) }
+    ensures { Gives rule_in (λ x. x) result (known rule value) }
 {
     match value {
         Some(value) => Ok(value),
@@ -101,7 +102,7 @@ pub(crate) fn known<T>(rule: WorkRule, value: Option<T>) -> Result<T, LineError>
 
 /// The rule is broken where the test fails.
 pub(crate) fn must(rule: WorkRule, holds: bool) -> Result<(), LineError>
-    ensures { Gives (λ u. u) result (must rule holds) }
+    ensures { Gives rule_in (λ u. u) result (must rule holds) }
 {
     if holds { Ok(()) } else { broken(rule) }
 }

@@ -7,13 +7,13 @@ use sdd_base::RelNo;
 use sdd_catalog::{Catalogue, Column, Kind, Relation};
 use sdd_words::Word;
 
-/// The relation with a number, 0 standing for 1, or None past the last.
+/// The relation at the place below a number, or None past the last.
 fn relation_if(cat: &Catalogue, rel: u32) -> Option<&Relation>
     ensures { MatchOption result (relation_if cat.now rel ≡ None) (λ r. relation_if cat.now rel ≡ Some r.now) }
 {
-    let number = if rel == 0 { 1 } else { rel };
-    if number <= cat.relations() {
-        Some(cat.relation(RelNo(number)))
+    let place = rel.saturating_sub(1);
+    if place < cat.relations() {
+        Some(cat.relation(RelNo(place + 1)))
     } else {
         None
     }

@@ -1,20 +1,18 @@
 //! Events, by the words behind the first word of their lines.
 ghost use Rattle.std.specs.Prelude.{◌≡◌, ◌≤◌};
 ghost use Rattle.sdd_base.specs.Sites.{are_linked};
-ghost use Rattle.sdd_script.specs.Rules.{Gives};
-ghost use Rattle.sdd_script.specs.Occurrences.{numbered, site_in, site_of, module_of, tm_of, link_of, greatest_count, count_of, flight_place, deliver_of, lose_of, repeat_of, txn_named, submit_of, resend_of, tick_of, settle_of, event_of};
+ghost use Rattle.sdd_base.specs.Readings.{Gives};
+ghost use Rattle.sdd_script.specs.Rules.{rule_in};
+ghost use Rattle.sdd_script.specs.Occurrences.{numbered, site_in, site_of, module_of, tm_of, link_of, count_of, flight_place, deliver_of, lose_of, repeat_of, txn_named, submit_of, resend_of, tick_of, settle_of, event_of};
 ghost use Rattle.sdd_words.specs.declared.word.Word.TheVariants.{Plain};
 
 use crate::fault::{LineError, WorkRule, broken, known, must};
 use crate::keyword::EventKey;
 use crate::names::Names;
-use sdd_base::{DmNo, Event, Site, TmNo, TxnNo};
+use sdd_base::{DmNo, Event, MAX_PLACE, MAX_TICKS, Site, TmNo, TxnNo};
 use sdd_catalog::Catalogue;
 use sdd_words::{Word, number_in, read_name, stands_free};
 use std::alloc::Global;
-
-/// The greatest place in a flight, and the most that a clock goes on by.
-const GREATEST_COUNT: u32 = 1_048_576;
 
 /// The number of a module, from 1 to the most.
 fn module_number(most: u8, digits: &[u8]) -> Option<u8>
@@ -60,7 +58,7 @@ fn site_in(cat: &Catalogue, bytes: &[u8]) -> Option<Site>
 }
 
 fn read_site(cat: &Catalogue, word: &Word) -> Result<Site, LineError>
-    ensures { Gives (λ s. s) result (site_of cat.now word.now) }
+    ensures { Gives rule_in (λ s. s) result (site_of cat.now word.now) }
 {
     match word {
         Word::Quoted(_) => broken(WorkRule::BadEvent),
@@ -69,7 +67,7 @@ fn read_site(cat: &Catalogue, word: &Word) -> Result<Site, LineError>
 }
 
 fn module_of(site: Site) -> Result<TmNo, LineError>
-    ensures { Gives (λ t. t) result (module_of site) }
+    ensures { Gives rule_in (λ t. t) result (module_of site) }
 {
     match site {
         Site::T(tm) => Ok(tm),
@@ -79,7 +77,7 @@ fn module_of(site: Site) -> Result<TmNo, LineError>
 
 /// The transaction module that a word names.
 pub fn read_tm(cat: &Catalogue, word: &Word) -> Result<TmNo, LineError>
-    ensures { Gives (λ t. t) result (tm_of cat.now word.now) }
+    ensures { Gives rule_in (λ t. t) result (tm_of cat.now word.now) }
 {
     module_of(read_site(cat, word)?)
 }
@@ -94,7 +92,7 @@ fn are_linked(from: Site, to: Site) -> bool
 }
 
 fn read_link(cat: &Catalogue, from: &Word, to: &Word) -> Result<(Site, Site), LineError>
-    ensures { Gives (λ l. l) result (link_of cat.now from.now to.now) }
+    ensures { Gives rule_in (λ l. l) result (link_of cat.now from.now to.now) }
 {
     let from = read_site(cat, from)?;
     let to = read_site(cat, to)?;
@@ -102,26 +100,27 @@ fn read_link(cat: &Catalogue, from: &Word, to: &Word) -> Result<(Site, Site), Li
     Ok((from, to))
 }
 
-fn count_in(digits: &[u8]) -> Option<u32>
-    ensures { result ≡ numbered greatest_count digits.now }
+fn count_in(most: u32, digits: &[u8]) -> Option<u32>
+    ensures { result ≡ numbered most digits.now }
 {
     match u32::try_from(number_in(digits)?) {
-        Ok(number) if 0 < number && number <= GREATEST_COUNT => Some(number),
+        Ok(number) if 0 < number && number <= most => Some(number),
         _ => None,
     }
 }
 
-fn read_count(word: &Word) -> Result<u32, LineError>
-    ensures { Gives (λ n. n) result (count_of word.now) }
+/// A number from 1 to the most.
+fn read_count(most: u32, word: &Word) -> Result<u32, LineError>
+    ensures { Gives rule_in (λ n. n) result (count_of most word.now) }
 {
     match word {
         Word::Quoted(_) => broken(WorkRule::BadNumber),
-        Word::Plain(bytes) => known(WorkRule::BadNumber, count_in(bytes.as_slice())),
+        Word::Plain(bytes) => known(WorkRule::BadNumber, count_in(most, bytes.as_slice())),
     }
 }
 
 fn read_flight_place(cat: &Catalogue, words: &[Word]) -> Result<(Site, Site, u32), LineError>
-    ensures { Gives (λ p. p) result (flight_place cat.now words.now) }
+    ensures { Gives rule_in (λ p. p) result (flight_place cat.now words.now) }
 {
     match words {
         [from, to, place] => {
@@ -130,7 +129,7 @@ fn read_flight_place(cat: &Catalogue, words: &[Word]) -> Result<(Site, Site, u32
                 stands_free(from) && stands_free(to) && stands_free(place),
             )?;
             let (from, to) = read_link(cat, from, to)?;
-            let place = read_count(place)?;
+            let place = read_count(MAX_PLACE, place)?;
             Ok((from, to, place))
         }
         _ => broken(WorkRule::BadLine),
@@ -138,28 +137,28 @@ fn read_flight_place(cat: &Catalogue, words: &[Word]) -> Result<(Site, Site, u32
 }
 
 fn read_deliver(cat: &Catalogue, words: &[Word]) -> Result<Event, LineError>
-    ensures { Gives (λ e. e) result (deliver_of cat.now words.now) }
+    ensures { Gives rule_in (λ e. e) result (deliver_of cat.now words.now) }
 {
     let (from, to, place) = read_flight_place(cat, words)?;
     Ok(Event::Deliver { from, to, place })
 }
 
 fn read_lose(cat: &Catalogue, words: &[Word]) -> Result<Event, LineError>
-    ensures { Gives (λ e. e) result (lose_of cat.now words.now) }
+    ensures { Gives rule_in (λ e. e) result (lose_of cat.now words.now) }
 {
     let (from, to, place) = read_flight_place(cat, words)?;
     Ok(Event::Lose { from, to, place })
 }
 
 fn read_repeat(cat: &Catalogue, words: &[Word]) -> Result<Event, LineError>
-    ensures { Gives (λ e. e) result (repeat_of cat.now words.now) }
+    ensures { Gives rule_in (λ e. e) result (repeat_of cat.now words.now) }
 {
     let (from, to, place) = read_flight_place(cat, words)?;
     Ok(Event::Repeat { from, to, place })
 }
 
 fn txn_in(alloc: Global, names: &Names, bytes: &[u8]) -> Result<TxnNo, LineError>
-    ensures { Gives (λ t. t) result (txn_named names.now (Plain bytes.now)) }
+    ensures { Gives rule_in (λ t. t) result (txn_named names.now (Plain bytes.now)) }
 {
     let name = known(WorkRule::UnknownName, read_name(alloc, bytes)?)?;
     let number = known(WorkRule::UnknownName, names.number_of(name.as_str()))?;
@@ -167,7 +166,7 @@ fn txn_in(alloc: Global, names: &Names, bytes: &[u8]) -> Result<TxnNo, LineError
 }
 
 fn read_txn(alloc: Global, names: &Names, word: &Word) -> Result<TxnNo, LineError>
-    ensures { Gives (λ t. t) result (txn_named names.now word.now) }
+    ensures { Gives rule_in (λ t. t) result (txn_named names.now word.now) }
 {
     match word {
         Word::Plain(bytes) => txn_in(alloc, names, bytes.as_slice()),
@@ -176,7 +175,7 @@ fn read_txn(alloc: Global, names: &Names, word: &Word) -> Result<TxnNo, LineErro
 }
 
 fn read_submit(alloc: Global, names: &Names, words: &[Word]) -> Result<Event, LineError>
-    ensures { Gives (λ e. e) result (submit_of names.now words.now) }
+    ensures { Gives rule_in (λ e. e) result (submit_of names.now words.now) }
 {
     match words {
         [name] => {
@@ -189,7 +188,7 @@ fn read_submit(alloc: Global, names: &Names, words: &[Word]) -> Result<Event, Li
 }
 
 fn read_resend(cat: &Catalogue, words: &[Word]) -> Result<Event, LineError>
-    ensures { Gives (λ e. e) result (resend_of cat.now words.now) }
+    ensures { Gives rule_in (λ e. e) result (resend_of cat.now words.now) }
 {
     match words {
         [from, to] => {
@@ -202,13 +201,13 @@ fn read_resend(cat: &Catalogue, words: &[Word]) -> Result<Event, LineError>
 }
 
 fn read_tick(cat: &Catalogue, words: &[Word]) -> Result<Event, LineError>
-    ensures { Gives (λ e. e) result (tick_of cat.now words.now) }
+    ensures { Gives rule_in (λ e. e) result (tick_of cat.now words.now) }
 {
     match words {
         [tm, n] => {
             must(WorkRule::BadLine, stands_free(tm) && stands_free(n))?;
             let tm = read_tm(cat, tm)?;
-            let n = read_count(n)?;
+            let n = read_count(MAX_TICKS, n)?;
             Ok(Event::Tick { tm, n })
         }
         _ => broken(WorkRule::BadLine),
@@ -216,7 +215,7 @@ fn read_tick(cat: &Catalogue, words: &[Word]) -> Result<Event, LineError>
 }
 
 fn read_settle(words: &[Word]) -> Result<Event, LineError>
-    ensures { Gives (λ e. e) result (settle_of words.now) }
+    ensures { Gives rule_in (λ e. e) result (settle_of words.now) }
 {
     match words {
         [] => Ok(Event::Settle),
@@ -232,7 +231,7 @@ pub fn read_event(
     key: EventKey,
     words: &[Word],
 ) -> Result<Event, LineError>
-    ensures { Gives (λ e. e) result (event_of key cat.now names.now words.now) }
+    ensures { Gives rule_in (λ e. e) result (event_of key cat.now names.now words.now) }
 {
     match key {
         EventKey::Submit => read_submit(alloc, names, words),

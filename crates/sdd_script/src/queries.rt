@@ -1,7 +1,8 @@
 //! Queries, by the words behind the first word of their lines.
 ghost use Rattle.std.specs.Prelude.{◌≡◌, map, IfOk, codes};
-ghost use Rattle.sdd_words.specs.Steps.{each_at};
-ghost use Rattle.sdd_script.specs.Rules.{Gives};
+ghost use Rattle.sdd_base.specs.Readings.{along};
+ghost use Rattle.sdd_base.specs.Readings.{Gives};
+ghost use Rattle.sdd_script.specs.Rules.{rule_in};
 ghost use Rattle.sdd_script.specs.Statements.{listed_column, part_in, parts_of, query_over, query_of_parts, query_behind_from, query_with, query_of};
 
 use crate::columns::{read_column, read_conditions};
@@ -27,7 +28,7 @@ fn read_parts(alloc: Global, cat: &Catalogue, rels: &[Word]) -> Result<Vec<Optio
 }
 
 fn read_listed_column(cat: &Catalogue, parts: &[Option<u32>], word: &Word) -> Result<Ref, LineError>
-    ensures { Gives (λ r. r) result (listed_column cat.now parts.now word.now) }
+    ensures { Gives rule_in (λ r. r) result (listed_column cat.now parts.now word.now) }
 {
     let found = read_column(cat, parts, word)?;
     Ok(found.at)
@@ -40,7 +41,7 @@ fn read_listed(
     parts: &[Option<u32>],
     words: &[Word],
 ) -> Result<Vec<Ref>, LineError>
-    ensures { Gives (λ v. v.items) result (each_at (λ i w. listed_column cat.now parts.now w) 0 words.now) }
+    ensures { Gives rule_in (λ v. v.items) result (along (λ i w. listed_column cat.now parts.now w) 0 words.now) }
 {
     let mut out = Vec::new(alloc);
     'words: for (i, word) in words.iter().enumerate() {
@@ -50,7 +51,7 @@ fn read_listed(
 }
 
 fn read_part(part: &Option<u32>) -> Result<RelNo, LineError>
-    ensures { Gives (λ r. r) result (part_in part.now) }
+    ensures { Gives rule_in (λ r. r) result (part_in part.now) }
 {
     let rel = known(WorkRule::UnknownName, *part)?;
     Ok(RelNo(rel))
@@ -58,7 +59,7 @@ fn read_part(part: &Option<u32>) -> Result<RelNo, LineError>
 
 #[tactic(auto, using(crate::proofs::Each::each_loop))]
 fn read_relations(alloc: Global, parts: &[Option<u32>]) -> Result<Vec<RelNo>, LineError>
-    ensures { Gives (λ v. v.items) result (each_at (λ i p. part_in p) 0 parts.now) }
+    ensures { Gives rule_in (λ v. v.items) result (along (λ i p. part_in p) 0 parts.now) }
 {
     let mut rels = Vec::new(alloc);
     'parts: for (i, part) in parts.iter().enumerate() {
@@ -76,7 +77,7 @@ fn read_query_of(
     columns: &[Word],
     words: &[Comparison],
 ) -> Result<Stmt, LineError>
-    ensures { Gives (λ s. s) result (query_over cat.now parts.now columns.now words.now) }
+    ensures { Gives rule_in (λ s. s) result (query_over cat.now parts.now columns.now words.now) }
 {
     let out = read_listed(alloc, cat, parts, columns)?;
     let rels = read_relations(alloc, parts)?;
@@ -96,7 +97,7 @@ fn read_query_parts(
     rels: &[Word],
     words: &[Comparison],
 ) -> Result<Stmt, LineError>
-    ensures { Gives (λ s. s) result (query_of_parts cat.now columns.now rels.now words.now) }
+    ensures { Gives rule_in (λ s. s) result (query_of_parts cat.now columns.now rels.now words.now) }
 {
     let parts = read_parts(alloc, cat, rels)?;
     read_query_of(alloc, cat, parts.as_slice(), columns, words)
@@ -109,7 +110,7 @@ fn read_query_behind_from(
     rels: &[Word],
     rest: &[Word],
 ) -> Result<Stmt, LineError>
-    ensures { Gives (λ s. s) result (query_behind_from cat.now columns.now rels.now rest.now) }
+    ensures { Gives rule_in (λ s. s) result (query_behind_from cat.now columns.now rels.now rest.now) }
 {
     must(
         WorkRule::BadLine,
@@ -125,7 +126,7 @@ fn read_query_with(
     columns: &[Word],
     behind: &[Word],
 ) -> Result<Stmt, LineError>
-    ensures { Gives (λ s. s) result (query_with cat.now columns.now behind.now) }
+    ensures { Gives rule_in (λ s. s) result (query_with cat.now columns.now behind.now) }
 {
     let key = b"where".as_slice();
     let (rels, rest) = split_from(behind, key);
@@ -134,7 +135,7 @@ fn read_query_with(
 
 /// A query, by its columns, `from`, its relations, and its conditions.
 pub fn read_query(alloc: Global, cat: &Catalogue, words: &[Word]) -> Result<Stmt, LineError>
-    ensures { Gives (λ s. s) result (query_of cat.now words.now) }
+    ensures { Gives rule_in (λ s. s) result (query_of cat.now words.now) }
 {
     match cut_at(words, b"from".as_slice()) {
         Some((columns, behind)) => read_query_with(alloc, cat, columns, behind),

@@ -2,7 +2,8 @@
 ghost use Rattle.std.specs.Prelude.{◌≡◌, ◌==◌, OnOk};
 ghost use Rattle.std.specs.List.{list_any};
 ghost use Rattle.sdd_base.specs.declared.number.TxnNo.{TxnNo};
-ghost use Rattle.sdd_script.specs.Rules.{Gives};
+ghost use Rattle.sdd_base.specs.Readings.{Gives};
+ghost use Rattle.sdd_script.specs.Rules.{rule_in};
 ghost use Rattle.sdd_script.specs.LineRules.{row_rules, name_of, opened, txn_rules, with_statement, statement_rules, closed, done_rules, is_submitted, with_submitted, with_event, event_rules, end_rules, keyword_rules, words_rules, sound_rules, line_rules};
 ghost use Rattle.sdd_script.specs.Occurrences.{event_of};
 ghost use Rattle.sdd_script.specs.Statements.{statement_of};
@@ -10,13 +11,13 @@ ghost use Rattle.sdd_script.specs.Statements.{statement_of};
 use crate::fault::{Counts, LineError, WorkRule, broken, known, must};
 use crate::grown::Grown;
 use crate::keyword::{EventKey, Keyword, StatementKey, keyword_of};
-use crate::limits::{MOST_EVENTS, MOST_TXNS, check_limits, one_more_row, written_with};
+use crate::limits::{check_limits, one_more_row, written_with};
 use crate::occurrences::{read_event, read_tm};
 use crate::place::{Header, Place};
 use crate::state::State;
 use crate::statements::read_statement;
 use crate::values::read_row;
-use sdd_base::{Event, Name, NoMemory, TmNo, TxnNo};
+use sdd_base::{Event, MAX_EVENTS, MAX_TXNS, Name, NoMemory, TmNo, TxnNo};
 use sdd_catalog::Catalogue;
 use sdd_lang::{Stmt, Txn};
 use sdd_words::{Word, are_free, are_sound, read_name, split_line, stands_free, text_of};
@@ -29,7 +30,7 @@ fn row_line(
     state: &mut State,
     words: &[Word],
 ) -> Result<(), LineError>
-    ensures { Gives (λ _. state.new) result (row_rules cat.now state.old words.now) }
+    ensures { Gives rule_in (λ _. state.new) result (row_rules cat.now state.old words.now) }
 {
     match words {
         [] => broken(WorkRule::BadLine),
@@ -47,7 +48,7 @@ fn row_line(
 }
 
 fn name_in_word(alloc: Global, word: &Word) -> Result<Name, LineError>
-    ensures { Gives (λ n. n) result (name_of word.now) }
+    ensures { Gives rule_in (λ n. n) result (name_of word.now) }
 {
     match word {
         Word::Plain(bytes) => known(WorkRule::UnknownName, read_name(alloc, bytes.as_slice())?),
@@ -56,13 +57,10 @@ fn name_in_word(alloc: Global, word: &Word) -> Result<Name, LineError>
 }
 
 fn open_txn(alloc: Global, state: &mut State, name: Name, tm: TmNo) -> Result<(), LineError>
-    ensures { Gives (λ _. state.new) result (opened state.old name tm) }
+    ensures { Gives rule_in (λ _. state.new) result (opened state.old name tm) }
 {
     must(WorkRule::DuplicateTxn, !state.names.has(name.as_str()))?;
-    must(
-        WorkRule::TooMany(Counts::Txn),
-        state.names.len() < MOST_TXNS,
-    )?;
+    must(WorkRule::TooMany(Counts::Txn), state.names.len() < MAX_TXNS)?;
     state.names.add(alloc, name.as_str())?;
     state.place = Place::Inside(Header { name, tm });
     Ok(())
@@ -74,7 +72,7 @@ fn txn_line(
     state: &mut State,
     words: &[Word],
 ) -> Result<(), LineError>
-    ensures { Gives (λ _. state.new) result (txn_rules cat.now state.old words.now) }
+    ensures { Gives rule_in (λ _. state.new) result (txn_rules cat.now state.old words.now) }
 {
     match words {
         [word, tm] => {
@@ -91,7 +89,7 @@ fn txn_line(
 }
 
 fn add_statement(state: &mut State, statement: Stmt) -> Result<(), LineError>
-    ensures { Gives (λ _. state.new) result (with_statement state.old statement) }
+    ensures { Gives rule_in (λ _. state.new) result (with_statement state.old statement) }
 {
     let written = known(
         WorkRule::TooMany(Counts::Row),
@@ -110,14 +108,14 @@ fn statement_line(
     key: StatementKey,
     words: &[Word],
 ) -> Result<(), LineError>
-    ensures { Gives (λ _. state.new) result (statement_rules state.old (statement_of key cat.now words.now)) }
+    ensures { Gives rule_in (λ _. state.new) result (statement_rules state.old (statement_of key cat.now words.now)) }
 {
     must(WorkRule::BadLine, state.place.takes_statements())?;
     add_statement(state, read_statement(alloc, cat, key, words)?)
 }
 
 fn close_txn(alloc: Global, state: &mut State) -> Result<(), LineError>
-    ensures { Gives (λ _. state.new) result (closed state.old.place state.old) }
+    ensures { Gives rule_in (λ _. state.new) result (closed state.old.place state.old) }
 {
     match mem::replace(&mut state.place, Place::Between) {
         Place::Inside(Header { name, tm }) => {
@@ -134,7 +132,7 @@ fn close_txn(alloc: Global, state: &mut State) -> Result<(), LineError>
 }
 
 fn done_line(alloc: Global, state: &mut State, words: &[Word]) -> Result<(), LineError>
-    ensures { Gives (λ _. state.new) result (done_rules state.old words.now) }
+    ensures { Gives rule_in (λ _. state.new) result (done_rules state.old words.now) }
 {
     match words {
         [] => close_txn(alloc, state),
@@ -167,7 +165,7 @@ fn note_submitted(submitted: &mut Grown<TxnNo>, event: Event) -> Result<(), NoMe
 }
 
 fn add_event(state: &mut State, event: Event) -> Result<(), LineError>
-    ensures { Gives (λ _. state.new) result (with_event state.old event) }
+    ensures { Gives rule_in (λ _. state.new) result (with_event state.old event) }
 {
     must(
         WorkRule::SubmittedTwice,
@@ -175,7 +173,7 @@ fn add_event(state: &mut State, event: Event) -> Result<(), LineError>
     )?;
     must(
         WorkRule::TooMany(Counts::Event),
-        state.events.len() < MOST_EVENTS,
+        state.events.len() < MAX_EVENTS,
     )?;
     state.place = Place::Events;
     note_submitted(&mut state.submitted, event)?;
@@ -190,7 +188,7 @@ fn event_line(
     key: EventKey,
     words: &[Word],
 ) -> Result<(), LineError>
-    ensures { Gives (λ _. state.new) result (event_rules state.old (event_of key cat.now state.old.names words.now)) }
+    ensures { Gives rule_in (λ _. state.new) result (event_rules state.old (event_of key cat.now state.old.names words.now)) }
 {
     must(WorkRule::BadLine, state.place.takes_events())?;
     let event = read_event(alloc, cat, &state.names, key, words)?;
@@ -198,7 +196,7 @@ fn event_line(
 }
 
 fn end_line(state: &mut State, words: &[Word]) -> Result<(), LineError>
-    ensures { Gives (λ _. state.new) result (end_rules state.old words.now) }
+    ensures { Gives rule_in (λ _. state.new) result (end_rules state.old words.now) }
 {
     match words {
         [] => {
@@ -217,7 +215,7 @@ fn read_keyword_line(
     keyword: Keyword,
     words: &[Word],
 ) -> Result<(), LineError>
-    ensures { Gives (λ _. state.new) result (keyword_rules keyword cat.now state.old words.now) }
+    ensures { Gives rule_in (λ _. state.new) result (keyword_rules keyword cat.now state.old words.now) }
 {
     match keyword {
         Keyword::Row => row_line(alloc, cat, state, words),
@@ -235,7 +233,7 @@ fn read_words(
     state: &mut State,
     words: &[Word],
 ) -> Result<(), LineError>
-    ensures { Gives (λ _. state.new) result (words_rules cat.now state.old words.now) }
+    ensures { Gives rule_in (λ _. state.new) result (words_rules cat.now state.old words.now) }
 {
     match words {
         [] => broken(WorkRule::BadLine),
@@ -252,7 +250,7 @@ fn read_sound_words(
     state: &mut State,
     words: &[Word],
 ) -> Result<(), LineError>
-    ensures { Gives (λ _. state.new) result (sound_rules cat.now state.old words.now) }
+    ensures { Gives rule_in (λ _. state.new) result (sound_rules cat.now state.old words.now) }
 {
     must(WorkRule::BadLine, are_sound(words))?;
     read_words(alloc, cat, state, words)
@@ -266,7 +264,7 @@ pub fn read_line(
     state: &mut State,
     line: &[u8],
 ) -> Result<(), LineError>
-    ensures { Gives (λ _. state.new) result (line_rules cat.now state.old line.now) }
+    ensures { Gives rule_in (λ _. state.new) result (line_rules cat.now state.old line.now) }
 {
     must(WorkRule::NotUtf8, text_of(line).is_some())?;
     let words = known(WorkRule::BadLine, split_line(alloc, line)?)?;

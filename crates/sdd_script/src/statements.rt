@@ -1,6 +1,7 @@
 //! Statements, by the first words of their lines and the words behind them.
 ghost use Rattle.std.specs.Prelude.{◌≡◌};
-ghost use Rattle.sdd_script.specs.Rules.{Gives};
+ghost use Rattle.sdd_base.specs.Readings.{Gives};
+ghost use Rattle.sdd_script.specs.Rules.{rule_in};
 ghost use Rattle.sdd_script.specs.Statements.{put_of, statement_of};
 
 use crate::deletes::read_delete;
@@ -16,7 +17,7 @@ use std::alloc::Global;
 
 /// A put, by a relation and values.
 fn read_put(alloc: Global, cat: &Catalogue, words: &[Word]) -> Result<Stmt, LineError>
-    ensures { Gives (λ s. s) result (put_of cat.now words.now) }
+    ensures { Gives rule_in (λ s. s) result (put_of cat.now words.now) }
 {
     match words {
         [] => broken(WorkRule::BadLine),
@@ -35,7 +36,7 @@ pub fn read_statement(
     key: StatementKey,
     words: &[Word],
 ) -> Result<Stmt, LineError>
-    ensures { Gives (λ s. s) result (statement_of key cat.now words.now) }
+    ensures { Gives rule_in (λ s. s) result (statement_of key cat.now words.now) }
 {
     match key {
         StatementKey::Put => read_put(alloc, cat, words),

@@ -1,7 +1,8 @@
 //! Updates, by the words behind the first word of their lines.
 ghost use Rattle.std.specs.Prelude.{◌≡◌, ◌∷◌, [], Some, codes};
-ghost use Rattle.sdd_words.specs.Steps.{each_at};
-ghost use Rattle.sdd_script.specs.Rules.{Gives};
+ghost use Rattle.sdd_base.specs.Readings.{along};
+ghost use Rattle.sdd_base.specs.Readings.{Gives};
+ghost use Rattle.sdd_script.specs.Rules.{rule_in};
 ghost use Rattle.sdd_script.specs.Statements.{addend_of, add_of, to_of, assign_of, update_of_parts, update_with, update_behind_set, update_to, update_of};
 
 use crate::columns::{read_column, read_conditions};
@@ -19,7 +20,7 @@ use sdd_words::{
 use std::alloc::Global;
 
 fn read_addend(word: &Word) -> Result<i64, LineError>
-    ensures { Gives (λ n. n) result (addend_of word.now) }
+    ensures { Gives rule_in (λ n. n) result (addend_of word.now) }
 {
     match word {
         Word::Plain(bytes) => known(WorkRule::BadNumber, number_in(bytes.as_slice())),
@@ -28,7 +29,7 @@ fn read_addend(word: &Word) -> Result<i64, LineError>
 }
 
 fn read_add(found: Found, word: &Word) -> Result<Assign, LineError>
-    ensures { Gives (λ a. a) result (add_of found word.now) }
+    ensures { Gives rule_in (λ a. a) result (add_of found word.now) }
 {
     must(WorkRule::WrongKind, is_of_kind(Some(found.kind), Kind::Int))?;
     let by = read_addend(word)?;
@@ -39,7 +40,7 @@ fn read_add(found: Found, word: &Word) -> Result<Assign, LineError>
 }
 
 fn read_to(alloc: Global, found: Found, word: &Word) -> Result<Assign, LineError>
-    ensures { Gives (λ a. a) result (to_of found word.now) }
+    ensures { Gives rule_in (λ a. a) result (to_of found word.now) }
 {
     let value = read_value(alloc, Some(found.kind), word)?;
     Ok(Assign::To {
@@ -54,7 +55,7 @@ fn read_assign(
     rel: u32,
     words: &Setting,
 ) -> Result<Assign, LineError>
-    ensures { Gives (λ a. a) result (assign_of cat.now rel words.now) }
+    ensures { Gives rule_in (λ a. a) result (assign_of cat.now rel words.now) }
 {
     let found = read_column(cat, &[Some(rel)], &words.left)?;
     must(WorkRule::KeyChanged, found.at.column != key_of(cat, rel))?;
@@ -72,7 +73,7 @@ fn read_assigns(
     rel: u32,
     words: &[Setting],
 ) -> Result<Vec<Assign>, LineError>
-    ensures { Gives (λ v. v.items) result (each_at (λ i s. assign_of cat.now rel s) 0 words.now) }
+    ensures { Gives rule_in (λ v. v.items) result (along (λ i s. assign_of cat.now rel s) 0 words.now) }
 {
     let mut sets = Vec::new(alloc);
     'words: for (i, one) in words.iter().enumerate() {
@@ -89,7 +90,7 @@ fn read_update_parts(
     sets: &[Setting],
     words: &[Comparison],
 ) -> Result<Stmt, LineError>
-    ensures { Gives (λ s. s) result (update_of_parts cat.now name.now sets.now words.now) }
+    ensures { Gives rule_in (λ s. s) result (update_of_parts cat.now name.now sets.now words.now) }
 {
     let rel = known(WorkRule::UnknownName, relation_of(cat, name))?;
     let assigns = read_assigns(alloc, cat, rel, sets)?;
@@ -108,7 +109,7 @@ fn read_update_form(
     sets: &[Setting],
     rest: &[Word],
 ) -> Result<Stmt, LineError>
-    ensures { Gives (λ s. s) result (update_with cat.now name.now sets.now rest.now) }
+    ensures { Gives rule_in (λ s. s) result (update_with cat.now name.now sets.now rest.now) }
 {
     let words = known(WorkRule::BadLine, read_comparisons(alloc, rest)?)?;
     read_update_parts(alloc, cat, name, sets, words.as_slice())
@@ -121,7 +122,7 @@ fn read_update_behind_set(
     sets: &[Word],
     rest: &[Word],
 ) -> Result<Stmt, LineError>
-    ensures { Gives (λ s. s) result (update_behind_set cat.now name.now sets.now rest.now) }
+    ensures { Gives rule_in (λ s. s) result (update_behind_set cat.now name.now sets.now rest.now) }
 {
     must(WorkRule::BadLine, stands_free(name) && has_words(sets))?;
     let sets = known(WorkRule::BadLine, read_settings(alloc, sets)?)?;
@@ -134,7 +135,7 @@ fn read_update_to(
     name: &Word,
     words: &[Word],
 ) -> Result<Stmt, LineError>
-    ensures { Gives (λ s. s) result (update_to cat.now name.now words.now) }
+    ensures { Gives rule_in (λ s. s) result (update_to cat.now name.now words.now) }
 {
     let key = b"where".as_slice();
     let (sets, rest) = split_from(words, key);
@@ -143,7 +144,7 @@ fn read_update_to(
 
 /// An update, by its relation, `set`, its assignments, and its conditions.
 pub fn read_update(alloc: Global, cat: &Catalogue, words: &[Word]) -> Result<Stmt, LineError>
-    ensures { Gives (λ s. s) result (update_of cat.now words.now) }
+    ensures { Gives rule_in (λ s. s) result (update_of cat.now words.now) }
 {
     match words {
         [name, key, words @ ..] => {

@@ -3,7 +3,8 @@ ghost use Rattle.std.specs.Prelude.{◌≡◌, length, IfOk, Some, None};
 ghost use Rattle.sdd_words.specs.Texts.{text_in};
 ghost use Rattle.sdd_words.specs.declared.word.Word.TheVariants.{Quoted};
 ghost use Rattle.sdd_script.specs.Naming.{kind_of_place};
-ghost use Rattle.sdd_script.specs.Rules.{Gives};
+ghost use Rattle.sdd_base.specs.Readings.{Gives};
+ghost use Rattle.sdd_script.specs.Rules.{rule_in};
 ghost use Rattle.sdd_script.specs.Values.{is_of_kind, value_of, values_of, row_of};
 
 use crate::fault::{LineError, WorkRule, known, must};
@@ -37,7 +38,7 @@ fn read_text(alloc: Global, bytes: &[u8]) -> Result<Option<Text>, NoMemory>
 
 /// The value that a word is, of the kind, or of any where there is none.
 pub fn read_value(alloc: Global, kind: Option<Kind>, word: &Word) -> Result<Value, LineError>
-    ensures { Gives (λ v. v) result (value_of kind word.now) }
+    ensures { Gives rule_in (λ v. v) result (value_of kind word.now) }
 {
     match word {
         Word::Plain(bytes) => {
@@ -60,7 +61,7 @@ fn value_at(
     place: usize,
     word: &Word,
 ) -> Result<Value, LineError>
-    ensures { Gives (λ v. v) result (value_of (kind_of_place columns.now place) word.now) }
+    ensures { Gives rule_in (λ v. v) result (value_of (kind_of_place columns.now place) word.now) }
 {
     read_value(alloc, kind_of_place(columns, place), word)
 }
@@ -68,7 +69,7 @@ fn value_at(
 /// The values that words are, each of its column's kind.
 #[tactic(auto, using(crate::proofs::Each::each_loop))]
 fn read_values(alloc: Global, columns: &[Column], words: &[Word]) -> Result<Vec<Value>, LineError>
-    ensures { Gives (λ v. v.items) result (values_of columns.now words.now) }
+    ensures { Gives rule_in (λ v. v.items) result (values_of columns.now words.now) }
 {
     let mut values = Vec::new(alloc);
     'words: for (i, word) in words.iter().enumerate() {
@@ -85,7 +86,7 @@ pub fn read_row(
     name: &Word,
     words: &[Word],
 ) -> Result<(RelNo, Row), LineError>
-    ensures { Gives (λ r. r) result (row_of cat.now name.now words.now) }
+    ensures { Gives rule_in (λ r. r) result (row_of cat.now name.now words.now) }
 {
     let rel = known(WorkRule::UnknownName, relation_of(cat, name))?;
     let columns = columns_of(cat, rel);

@@ -1,6 +1,7 @@
 //! The lines of a workload, one after the other.
 ghost use Rattle.std.specs.Prelude.{◌≡◌, ◌≤◌, ◌^◌, length, IfOk};
-ghost use Rattle.sdd_script.specs.Rules.{Gives};
+ghost use Rattle.sdd_base.specs.Readings.{Gives};
+ghost use Rattle.sdd_script.specs.Rules.{rule_in};
 ghost use Rattle.sdd_script.specs.Telling.{Tells};
 ghost use Rattle.sdd_script.specs.Valid.{Accepts};
 ghost use Rattle.sdd_script.specs.Walk.{one_line, tail_rules, walk_bytes, nothing_read, workload};
@@ -12,15 +13,13 @@ use crate::place::Place;
 use crate::reader::read_line;
 use crate::state::State;
 use crate::workload::Workload;
+use sdd_base::MAX_WORKLOAD_BYTES;
 use sdd_catalog::Catalogue;
 use sdd_words::{next_line, text_of};
 use std::alloc::Global;
 
-/// Most bytes of a file.
-const MOST_BYTES: usize = 67_108_864;
-
 fn read_one(alloc: Global, cat: &Catalogue, state: &mut State, line: &[u8]) -> Result<(), LineError>
-    ensures { Gives (λ _. state.new) result (one_line cat.now state.old line.now) }
+    ensures { Gives rule_in (λ _. state.new) result (one_line cat.now state.old line.now) }
 {
     must(WorkRule::BadLine, !state.place.is_ended())?;
     read_line(alloc, cat, state, line)
@@ -28,7 +27,7 @@ fn read_one(alloc: Global, cat: &Catalogue, state: &mut State, line: &[u8]) -> R
 
 /// What stands behind the last newline.
 fn check_tail(state: &State, tail: &[u8]) -> Result<(), LineError>
-    ensures { Gives (λ _. state.now) result (tail_rules state.now tail.now) }
+    ensures { Gives rule_in (λ _. state.now) result (tail_rules state.now tail.now) }
 {
     match tail {
         [] => must(WorkRule::NoEnd, state.place.is_ended()),
@@ -93,7 +92,7 @@ pub fn read_workload(alloc: Global, bytes: &[u8], cat: &Catalogue) -> Result<Wor
 fn read_bytes(alloc: Global, bytes: &[u8], cat: &Catalogue) -> Result<Workload, WorkError>
     ensures { Tells result (workload cat.now bytes.now) }
 {
-    if bytes.len() > MOST_BYTES {
+    if bytes.len() > MAX_WORKLOAD_BYTES {
         return Err(WorkError::Fault(WorkFault {
             line: 0,
             rule: WorkRule::TooLong,

@@ -6,16 +6,17 @@ ghost use Rattle.sdd_base.specs.declared.number.RelNo.{RelNo};
 ghost use Rattle.sdd_base.specs.declared.value.Value.{Value};
 ghost use Rattle.sdd_lang.specs.Fits.{rel_of};
 ghost use Rattle.sdd_lang.specs.declared.condition.Ref.{Ref};
+ghost use Rattle.sdd_words.specs.Values.{value_word};
 ghost use Rattle.sdd_words.specs.Keywords.{op_word};
 ghost use Rattle.sdd_words.specs.Words.{word_bytes, more_bytes, spaced};
 ghost use Rattle.sdd_words.specs.declared.word.Word.TheVariants.{Plain};
-ghost use Rattle.sdd_script.specs.Spelling.{value_word, relation_word, row_words, name_of_column, column_word, condition_words, conditions_words, where_words, own_column, assign_words, sets_words, site_word, count_word};
+ghost use Rattle.sdd_script.specs.Spelling.{relation_word, row_words, name_of_column, column_word, condition_words, conditions_words, where_words, own_column, assign_words, sets_words, site_word, count_word};
 
 use crate::naming::{columns_of, name_of_relation};
 use sdd_base::{NoMemory, Op, RelNo, Site, Value};
 use sdd_catalog::{Catalogue, Column};
 use sdd_lang::{Assign, Condition, Ref};
-use sdd_words::{put, put_count, put_number, put_text};
+use sdd_words::{put, put_count, put_number, put_value, put_values};
 
 /// Puts a space and a plain word.
 pub fn put_plain(out: &mut Vec<u8>, bytes: &[u8]) -> Result<(), NoMemory>
@@ -25,30 +26,11 @@ pub fn put_plain(out: &mut Vec<u8>, bytes: &[u8]) -> Result<(), NoMemory>
     put(out, bytes)
 }
 
-fn put_value_word(out: &mut Vec<u8>, value: &Value) -> Result<(), NoMemory>
-    ensures { OnOk result (out.new.items ≡ out.old.items ++ word_bytes (value_word value.now)) }
-{
-    match value {
-        Value::Int(number) => put_number(out, number),
-        Value::Text(text) => put_text(out, text.as_str().as_bytes()),
-    }
-}
-
-fn put_value(out: &mut Vec<u8>, value: &Value) -> Result<(), NoMemory>
+fn put_spaced(out: &mut Vec<u8>, value: &Value) -> Result<(), NoMemory>
     ensures { OnOk result (out.new.items ≡ out.old.items ++ spaced (value_word value.now)) }
 {
     put(out, b" ")?;
-    put_value_word(out, value)
-}
-
-#[tactic(auto, using(crate::proofs::Lists::written))]
-fn put_values(out: &mut Vec<u8>, values: &[Value]) -> Result<(), NoMemory>
-    ensures { OnOk result (out.new.items ≡ out.old.items ++ flat_map (λ (v : Value). spaced (value_word v)) values.now) }
-{
-    'values: for value in values {
-        put_value(out, value)?;
-    }
-    Ok(())
+    put_value(out, value)
 }
 
 /// Puts a space and a relation's name.
@@ -100,7 +82,7 @@ pub fn put_column(
     ensures { OnOk result (out.new.items ≡ out.old.items ++ spaced (column_word cat.now rels.now column)) }
 {
     put(out, b" ")?;
-    put_count(out, column.part)?;
+    put_count(out, u64::from(column.part))?;
     put(out, b".")?;
     put(
         out,
@@ -161,7 +143,7 @@ fn put_condition(
         Condition::Const { left, op, value } => {
             put_column(out, cat, rels, *left)?;
             put_plain(out, op_word(*op))?;
-            put_value(out, value)
+            put_spaced(out, value)
         }
         Condition::Same { left, right } => {
             put_column(out, cat, rels, *left)?;
@@ -230,7 +212,7 @@ fn put_assign(
                 },
             )?;
             put_plain(out, b"=")?;
-            put_value(out, value)
+            put_spaced(out, value)
         }
         Assign::Add { column, by } => {
             put_column(
@@ -272,11 +254,11 @@ pub fn put_site(out: &mut Vec<u8>, site: Site) -> Result<(), NoMemory>
         Site::U => put(out, b" U"),
         Site::T(tm) => {
             put(out, b" T")?;
-            put_count(out, tm.0 as u32)
+            put_count(out, u64::from(tm.0))
         }
         Site::D(dm) => {
             put(out, b" D")?;
-            put_count(out, dm.0 as u32)
+            put_count(out, u64::from(dm.0))
         }
     }
 }
@@ -286,5 +268,5 @@ pub fn put_count_word(out: &mut Vec<u8>, n: u32) -> Result<(), NoMemory>
     ensures { OnOk result (out.new.items ≡ out.old.items ++ spaced (count_word n)) }
 {
     put(out, b" ")?;
-    put_count(out, n)
+    put_count(out, u64::from(n))
 }

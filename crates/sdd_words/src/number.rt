@@ -36,11 +36,11 @@ pub fn number_in(word: &[u8]) -> Option<i64>
     }
 }
 
-fn is_count_spelling(word: &str, number: u32) -> bool
-    ensures { IsTrue result ↔ (word.now ≡ decimal number) }
+fn is_count_spelling(word: &str, count: u32) -> bool
+    ensures { IsTrue result ↔ (word.now ≡ decimal count) }
 {
     let mut buffer = Buffer::new();
-    buffer.format(number) == word
+    buffer.format(count) == word
 }
 
 /// The number of 32 bits that a word spells: decimal, without leading zeros. None exactly where it
@@ -50,7 +50,7 @@ pub fn read_count(word: &str) -> Option<u32>
     ensures none { IfNone result ((n : ℕ) → n < 2 ^ 32 → word.now ≡ decimal n → ⊥) }
 {
     match word.parse::<u32>() {
-        Ok(number) if is_count_spelling(word, number) => Some(number),
+        Ok(count) if is_count_spelling(word, count) => Some(count),
         _ => None,
     }
 }

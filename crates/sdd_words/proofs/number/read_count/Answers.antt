@@ -9,8 +9,8 @@ same_count r m n p q = cc
 pub returns-in_default-clause-none : goal.returns-in_default-clause-none
 returns-in_default-clause-none c = λ n below e.
     let p = parse-decimal 32 n c.args.word.now c.parse.result below (omega arith) e c.parse.ensures.value.0 in
-    let same = same_count c.parse.result n c.in-Ok.number p c.in-Ok.is in
-    let spelled : c.args.word.now ≡ decimal c.in-Ok.number = rw (← same) e in
+    let same = same_count c.parse.result n c.in-Ok.count p c.in-Ok.is in
+    let spelled : c.args.word.now ≡ decimal c.in-Ok.count = rw (← same) e in
     let yes = c.is_count_spelling.ensures.1 spelled in
     let not = c.if-is_count_spelling.false in
     absurd cc

@@ -1,9 +1,0 @@
-use Rattle.std.proofs.Common.{◌≡◌, ◌++◌, drop, flat_map}
-use Rattle.sdd_words.specs.Words.{spaced}
-use Rattle.sdd_base.specs.declared.value.Value.{Value}
-use Rattle.sdd_script.specs.Spelling.{value_word}
-use Rattle.sdd_script.proofs.write_words.put_values.Given as goal
-
--- what was written and what is left to write is all of it
-abbrev pub invariant-values : goal.invariant-values
-invariant-values l = l.out.items ++ flat_map (λ (v : Value). spaced (value_word v)) (drop l.value-index l.values) ≡ l.fn.out.items ++ flat_map (λ (v : Value). spaced (value_word v)) l.values
