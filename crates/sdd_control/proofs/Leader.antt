@@ -250,4 +250,4 @@ pub leader_ends_of : (backups writes : ℕ) (acts : List Act)
     → FitAll backups acts → LeaderEnds backups writes (log_of backups writes acts)
 leader_ends_of backups writes acts f q r m low =
     leader_finished backups writes (log_of backups writes acts) (flows backups writes acts f)
-        q r m low.0 low.1 low.2
+    q r m low.0 low.1 low.2

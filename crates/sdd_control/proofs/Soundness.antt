@@ -91,37 +91,36 @@ number_gets least most (Quoted text) = tt
 head_gets : (words : List Word) → Gets IsHead (head_of words)
 head_gets (b ∷ w ∷ []) =
     gets_on (λ _. (is_free b && is_free w) ≡ true) IsHead (must BadLine (is_free b && is_free w))
-        (λ _. number_within 1 8 b >>= λ n. number_within 1 64 w >>= λ m. Ok (record { backups = n; writes = m }))
-        (gets_must BadLine (is_free b && is_free w))
-        (λ _ _. gets_on (λ n. (1 ≤ n) × (n ≤ 8)) IsHead (number_within 1 8 b)
-            (λ n. number_within 1 64 w >>= λ m. Ok (record { backups = n; writes = m }))
-            (number_gets 1 8 b)
-            (λ n in_n. gets_on (λ m. (1 ≤ m) × (m ≤ 64)) IsHead (number_within 1 64 w)
-                (λ m. Ok (record { backups = n; writes = m }))
-                (number_gets 1 64 w)
-                (λ m in_m. record { some_backups = in_n.0; most_backups = in_n.1; some_writes = in_m.0; most_writes = in_m.1 })))
+    (λ _. number_within 1 8 b >>= λ n. number_within 1 64 w >>= λ m. Ok (record { backups = n; writes = m }))
+    (gets_must BadLine (is_free b && is_free w))
+    (λ _ _. gets_on (λ n. (1 ≤ n) × (n ≤ 8)) IsHead (number_within 1 8 b)
+    (λ n. number_within 1 64 w >>= λ m. Ok (record { backups = n; writes = m }))
+    (number_gets 1 8 b)
+    (λ n in_n. gets_on (λ m. (1 ≤ m) × (m ≤ 64)) IsHead (number_within 1 64 w)
+    (λ m. Ok (record { backups = n; writes = m }))
+    (number_gets 1 64 w)
+    (λ m in_m. record { some_backups = in_n.0; most_backups = in_n.1; some_writes = in_m.0; most_writes = in_m.1 })))
 head_gets _ = tt
 
 site_gets : (backups : ℕ) (words : List Word) → Gets (λ i. i ≤ backups) (site_of backups words)
 site_gets backups (site ∷ []) =
     gets_on (λ _. is_free site ≡ true) (λ i. i ≤ backups) (must BadLine (is_free site))
-        (λ _. site_number site >>= λ i. must BadEvent (nat_le i backups) >>= λ _. Ok i)
-        (gets_must BadLine (is_free site))
-        (λ _ _. gets_on (λ i. (0 ≤ i) × (i ≤ 4294967295)) (λ i. i ≤ backups) (site_number site)
-            (λ i. must BadEvent (nat_le i backups) >>= λ _. Ok i)
-            (number_gets 0 4294967295 site)
-            (λ i _. gets_on (λ _. nat_le i backups ≡ true) (λ z. z ≤ backups) (must BadEvent (nat_le i backups))
-                (λ _. Ok i)
-                (gets_must BadEvent (nat_le i backups))
-                (λ _ e. leb→le i backups (subst T (sym e) tt))))
+    (λ _. site_number site >>= λ i. must BadEvent (nat_le i backups) >>= λ _. Ok i)
+    (gets_must BadLine (is_free site))
+    (λ _ _. gets_on (λ i. (0 ≤ i) × (i ≤ 4294967295)) (λ i. i ≤ backups) (site_number site)
+    (λ i. must BadEvent (nat_le i backups) >>= λ _. Ok i)
+    (number_gets 0 4294967295 site)
+    (λ i _. gets_on (λ _. nat_le i backups ≡ true) (λ z. z ≤ backups) (must BadEvent (nat_le i backups))
+    (λ _. Ok i)
+    (gets_must BadEvent (nat_le i backups))
+    (λ _ e. leb→le i backups (subst T (sym e) tt))))
 site_gets backups _ = tt
 
 linked_fits : (backups i j : ℕ) → (nat_le i backups && nat_le j backups && not (i == j)) ≡ true
     → Fits backups (Deliver i j)
 linked_fits backups i j e =
     let both = and_left (nat_le i backups && nat_le j backups) (not (i == j)) e in
-    let other = and_right (nat_le i backups && nat_le j backups) (not (i == j)) e in
-    (
+    let other = and_right (nat_le i backups && nat_le j backups) (not (i == j)) e in (
       leb→le i backups (subst T (sym (and_left (nat_le i backups) (nat_le j backups) both)) tt),
       leb→le j backups (subst T (sym (and_right (nat_le i backups) (nat_le j backups) both)) tt),
       λ s. let t : (i == j) ≡ true = eq-eqb i j s in let u : not (i == j) ≡ false = ap not t in cc,
@@ -130,19 +129,19 @@ linked_fits backups i j e =
 delivery_gets : (backups : ℕ) (words : List Word) → Gets (Fits backups) (delivery_of backups words)
 delivery_gets backups (from ∷ to ∷ []) =
     gets_on (λ _. (is_free from && is_free to) ≡ true) (Fits backups) (must BadLine (is_free from && is_free to))
-        (λ _. site_number from >>= λ i. site_number to >>= λ j. must BadEvent (nat_le i backups && nat_le j backups && not (i == j)) >>= λ _. Ok (Deliver i j))
-        (gets_must BadLine (is_free from && is_free to))
-        (λ _ _. gets_on (λ i. (0 ≤ i) × (i ≤ 4294967295)) (Fits backups) (site_number from)
-            (λ i. site_number to >>= λ j. must BadEvent (nat_le i backups && nat_le j backups && not (i == j)) >>= λ _. Ok (Deliver i j))
-            (number_gets 0 4294967295 from)
-            (λ i _. gets_on (λ j. (0 ≤ j) × (j ≤ 4294967295)) (Fits backups) (site_number to)
-                (λ j. must BadEvent (nat_le i backups && nat_le j backups && not (i == j)) >>= λ _. Ok (Deliver i j))
-                (number_gets 0 4294967295 to)
-                (λ j _. gets_on (λ _. (nat_le i backups && nat_le j backups && not (i == j)) ≡ true) (Fits backups)
-                    (must BadEvent (nat_le i backups && nat_le j backups && not (i == j)))
-                    (λ _. Ok (Deliver i j))
-                    (gets_must BadEvent (nat_le i backups && nat_le j backups && not (i == j)))
-                    (λ _ e. linked_fits backups i j e))))
+    (λ _. site_number from >>= λ i. site_number to >>= λ j. must BadEvent (nat_le i backups && nat_le j backups && not (i == j)) >>= λ _. Ok (Deliver i j))
+    (gets_must BadLine (is_free from && is_free to))
+    (λ _ _. gets_on (λ i. (0 ≤ i) × (i ≤ 4294967295)) (Fits backups) (site_number from)
+    (λ i. site_number to >>= λ j. must BadEvent (nat_le i backups && nat_le j backups && not (i == j)) >>= λ _. Ok (Deliver i j))
+    (number_gets 0 4294967295 from)
+    (λ i _. gets_on (λ j. (0 ≤ j) × (j ≤ 4294967295)) (Fits backups) (site_number to)
+    (λ j. must BadEvent (nat_le i backups && nat_le j backups && not (i == j)) >>= λ _. Ok (Deliver i j))
+    (number_gets 0 4294967295 to)
+    (λ j _. gets_on (λ _. (nat_le i backups && nat_le j backups && not (i == j)) ≡ true) (Fits backups)
+    (must BadEvent (nat_le i backups && nat_le j backups && not (i == j)))
+    (λ _. Ok (Deliver i j))
+    (gets_must BadEvent (nat_le i backups && nat_le j backups && not (i == j)))
+    (λ _ e. linked_fits backups i j e))))
 delivery_gets backups _ = tt
 
 act_gets : (head : Head) (draft : Draft) (act : Act) → draft.stage ≡ Events head → IsDraft draft
@@ -150,13 +149,13 @@ act_gets : (head : Head) (draft : Draft) (act : Act) → draft.stage ≡ Events 
 act_gets head draft act at d f =
     let fits : IsHead head × FitAll head.backups draft.acts = subst (λ z. StageFits z draft.acts) at d.fits in
     gets_on (λ _. nat_lt (length draft.acts) most_events ≡ true) IsDraft
-        (must (TooMany Event) (nat_lt (length draft.acts) most_events))
-        (λ _. Ok (record draft { acts = draft.acts ++ act ∷ [] }))
-        (gets_must (TooMany Event) (nat_lt (length draft.acts) most_events))
-        (λ _ e. record {
-          few = let l : length draft.acts < 2 ^ 18 = ltb→lt (length draft.acts) (2 ^ 18) (subst T (sym e) tt) in omega (arith, length-append draft.acts (act ∷ []));
-          fits = subst (λ z. StageFits z (draft.acts ++ act ∷ [])) (sym at) (fits.0, FitAll-append head.backups draft.acts act fits.1 f);
-        })
+    (must (TooMany Event) (nat_lt (length draft.acts) most_events))
+    (λ _. Ok (record draft { acts = draft.acts ++ act ∷ [] }))
+    (gets_must (TooMany Event) (nat_lt (length draft.acts) most_events))
+    (λ _ e. record {
+      few = let l : length draft.acts < 2 ^ 18 = ltb→lt (length draft.acts) (2 ^ 18) (subst T (sym e) tt) in omega (arith, length-append draft.acts (act ∷ []));
+      fits = subst (λ z. StageFits z (draft.acts ++ act ∷ [])) (sym at) (fits.0, FitAll-append head.backups draft.acts act fits.1 f);
+    })
 
 end_gets : (head : Head) (draft : Draft) (words : List Word) → draft.stage ≡ Events head → IsDraft draft
     → Gets IsDraft (end_of head draft words)
@@ -167,13 +166,13 @@ event_gets : (key : Key) (head : Head) (draft : Draft) (words : List Word) → d
     → IsDraft draft → Gets IsDraft (event_rules key head draft words)
 event_gets keys.Step head draft words at d =
     gets_on (λ i. i ≤ head.backups) IsDraft (site_of head.backups words) (λ i. with_act draft (Step i))
-        (site_gets head.backups words) (λ i l. act_gets head draft (Step i) at d l)
+    (site_gets head.backups words) (λ i l. act_gets head draft (Step i) at d l)
 event_gets keys.Deliver head draft words at d =
     gets_on (Fits head.backups) IsDraft (delivery_of head.backups words) (λ act. with_act draft act)
-        (delivery_gets head.backups words) (λ act f. act_gets head draft act at d f)
+    (delivery_gets head.backups words) (λ act f. act_gets head draft act at d f)
 event_gets keys.Stop head draft words at d =
     gets_on (λ i. i ≤ head.backups) IsDraft (site_of head.backups words) (λ i. with_act draft (Stop i))
-        (site_gets head.backups words) (λ i l. act_gets head draft (Stop i) at d l)
+    (site_gets head.backups words) (λ i l. act_gets head draft (Stop i) at d l)
 event_gets keys.End head draft words at d = end_gets head draft words at d
 event_gets keys.Control head draft words at d = tt
 
@@ -182,8 +181,8 @@ first_gets : (key : Key) (draft : Draft) (words : List Word) → draft.stage ≡
 first_gets keys.Control draft words at d =
     let none : draft.acts ≡ [] = subst (λ z. StageFits z draft.acts) at d.fits in
     gets_on IsHead IsDraft (head_of words) (λ head. Ok (record draft { stage = Events head }))
-        (head_gets words)
-        (λ head h. record { few = d.few; fits = (h, subst (FitAll head.backups) (sym none) tt) })
+    (head_gets words)
+    (λ head h. record { few = d.few; fits = (h, subst (FitAll head.backups) (sym none) tt) })
 first_gets _ draft words at d = tt
 
 key_gets : (stage : Stage) (key : Key) (draft : Draft) (words : List Word) → draft.stage ≡ stage
@@ -196,22 +195,22 @@ words_gets : (draft : Draft) (words : List Word) → IsDraft draft → Gets IsDr
 words_gets draft [] d = tt
 words_gets draft (first ∷ words) d =
     gets_on (λ key. key_of first ≡ Some key) IsDraft (known BadLine (key_of first)) (λ key. key_rules draft.stage key draft words)
-        (gets_known (λ key. key_of first ≡ Some key) BadLine (key_of first) (λ key e. e))
-        (λ key _. key_gets draft.stage key draft words refl d)
+    (gets_known (λ key. key_of first ≡ Some key) BadLine (key_of first) (λ key e. e))
+    (λ key _. key_gets draft.stage key draft words refl d)
 
 line_gets : (draft : Draft) (line : List ℕ) → IsDraft draft → Gets IsDraft (line_rules draft line)
 unfolding line_rules
 line_gets draft line d =
     gets_on (λ _. is_utf8 line ≡ true) IsDraft (must NotUtf8 (is_utf8 line))
-        (λ _. known BadLine (words_of line) >>= λ words. sound_rules draft words)
-        (gets_must NotUtf8 (is_utf8 line))
-        (λ _ _. gets_on (λ words. words_of line ≡ Some words) IsDraft (known BadLine (words_of line))
-            (λ words. sound_rules draft words)
-            (gets_known (λ words. words_of line ≡ Some words) BadLine (words_of line) (λ words e. e))
-            (λ words _. gets_on (λ _. list_all is_sound words ≡ true) IsDraft (must BadLine (list_all is_sound words))
-                (λ _. words_rules draft words)
-                (gets_must BadLine (list_all is_sound words))
-                (λ _ _. words_gets draft words d)))
+    (λ _. known BadLine (words_of line) >>= λ words. sound_rules draft words)
+    (gets_must NotUtf8 (is_utf8 line))
+    (λ _ _. gets_on (λ words. words_of line ≡ Some words) IsDraft (known BadLine (words_of line))
+    (λ words. sound_rules draft words)
+    (gets_known (λ words. words_of line ≡ Some words) BadLine (words_of line) (λ words e. e))
+    (λ words _. gets_on (λ _. list_all is_sound words ≡ true) IsDraft (must BadLine (list_all is_sound words))
+    (λ _. words_rules draft words)
+    (gets_must BadLine (list_all is_sound words))
+    (λ _ _. words_gets draft words d)))
 
 one_gets : (draft : Draft) (line : List ℕ) → IsDraft draft → Gets IsDraft (one_line draft line)
 one_gets draft line d = by_test (is_ended draft.stage)
@@ -254,10 +253,10 @@ walk_gets : (line : ℕ) (draft : Draft) (lines : List (List ℕ)) (tail : List 
 unfolding walk
 walk_gets line draft [] tail d =
     at_line_gets IsSound line (tail_rules draft.stage draft.acts tail) (λ script. Ok script)
-        (tail_gets draft.stage draft.acts tail d.few d.fits) (λ script s. s)
+    (tail_gets draft.stage draft.acts tail d.few d.fits) (λ script s. s)
 walk_gets line draft (l ∷ ls) tail d =
     at_line_gets IsDraft line (one_line draft l) (λ next. walk (line + 1) next ls tail)
-        (one_gets draft l d) (λ next n. walk_gets (line + 1) next ls tail n)
+    (one_gets draft l d) (λ next n. walk_gets (line + 1) next ls tail n)
 
 script_gets : (bytes : List ℕ) → Gets IsSound (control_script bytes)
 script_gets bytes = by_test (nat_lt most_bytes (length bytes))

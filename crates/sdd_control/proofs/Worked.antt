@@ -25,7 +25,7 @@ carried =
 
 carried_notes : notes_after 2 2 [] carried
     ≡ Tell 0 1 All ∷ Value 1 0 All ∷ Stop 0 ∷ Gone 1 0 ∷ Tell 1 2 All ∷ Gone 2 0 ∷ Value 2 1 All
-        ∷ Ok 1 2 ∷ Write 1 1 ∷ Write 1 2 ∷ Finish 1 All ∷ []
+    ∷ Ok 1 2 ∷ Write 1 1 ∷ Write 1 2 ∷ Finish 1 All ∷ []
 carried_notes = refl
 
 carried_values : value (log_of 2 2 carried) 1 ∷ value (log_of 2 2 carried) 2 ∷ [] ≡ All ∷ All ∷ []

@@ -76,8 +76,8 @@ may_send st i = not (has_stopped st i) && heir_in st i && not (has_finished st i
 abbrev pub next_send_in : State → ℕ → Note
 next_send_in st i =
     send i (may_send st i) (first_from (untold_in st i) (i + 1) (st.backups - i))
-        (every_from (answered_in st i) (i + 1) (st.backups - i)) (value_in st i)
-        (next_number_in st i)
+    (every_from (answered_in st i) (i + 1) (st.backups - i)) (value_in st i)
+    (next_number_in st i)
 
 -- the value that was taken last came from a site above i
 abbrev pub is_from_above : Option (ℕ × Val) → ℕ → Bool

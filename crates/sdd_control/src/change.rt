@@ -24,7 +24,7 @@ fn say_gone(links: &mut Links, site: u32, other: u32) -> Result<(), NoMemory>
     ensures gone { OnOk result ((i j : ℕ) → j ≤ 8 →
         messages_at links.new i j
         ≡ messages_at links.old i j
-            ++ cond (((site == i) && (other == j)) && not (i == j)) (GONE ∷ []) []) }
+        ++ cond (((site == i) && (other == j)) && not (i == j)) (GONE ∷ []) []) }
 {
     if site == other {
         return Ok(());

@@ -30,8 +30,8 @@ impl Model for Control {
     ghost Value = { Kept Run };
 
     ghost view = { λ c. record {
-        live = c.live;
-        value = run_of c.state.backups c.state.writes c.acts.items;
+      live = c.live;
+      value = run_of c.state.backups c.state.writes c.acts.items;
     } };
 
     ghost invariant = { λ c. c.live ≡ true → Follows c.state c.acts.items };

@@ -106,10 +106,7 @@ fn read_delivery(backups: u32, words: &[Word]) -> Result<Act, LineError>
 fn add_act(draft: &mut Draft, act: Act) -> Result<(), LineError>
     ensures { Gives (λ _. draft.new) result (with_act draft.old act) }
 {
-    must(
-        WorkRule::TooMany(Counts::Event),
-        draft.len() < MAX_EVENTS,
-    )?;
+    must(WorkRule::TooMany(Counts::Event), draft.len() < MAX_EVENTS)?;
     draft.push(act)?;
     Ok(())
 }
@@ -126,12 +123,7 @@ fn read_end(head: Head, draft: &mut Draft, words: &[Word]) -> Result<(), LineErr
     }
 }
 
-fn read_event_line(
-    key: Key,
-    head: Head,
-    draft: &mut Draft,
-    words: &[Word],
-) -> Result<(), LineError>
+fn read_event_line(key: Key, head: Head, draft: &mut Draft, words: &[Word]) -> Result<(), LineError>
     ensures { Gives (λ _. draft.new) result (event_rules key head draft.old words.now) }
 {
     match key {

@@ -137,11 +137,10 @@ fn put_events(text: &mut Vec<u8>, control: &mut Control, acts: &[Act]) -> Result
 fn put_standing(text: &mut Vec<u8>, control: &Control, site: u32) -> Result<(), NoMemory>
     requires live { IsTrue control.now.live }
     requires site { site ≤ control.now.value.backups }
-    ensures {
-        let log = control.now.value.log in
+    ensures { let log = control.now.value.log in
         OnOk result (text.new.items
-            ≡ text.old.items
-                ++ standing_words (stopped log site) (value log site) (finished log site)) }
+        ≡ text.old.items
+        ++ standing_words (stopped log site) (value log site) (finished log site)) }
 {
     if control.stopped(site) {
         return put(text, b"stopped");

@@ -211,7 +211,11 @@ impl State {
         ensures { result ≡ next_number_in self.now site }
     {
         let last = self.numbers.at(site);
-        if last < self.writes { Some(last + 1) } else { None }
+        if last < self.writes {
+            Some(last + 1)
+        } else {
+            None
+        }
     }
 
     /// Whether the site may send: it leads and hasn't finished.
