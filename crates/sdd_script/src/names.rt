@@ -68,7 +68,8 @@ impl Names {
     pub fn add(&mut self, alloc: Global, name: &str) -> Result<bool, NoMemory>
         requires { length self.old < 2048 }
         ensures fresh { IfOk result (λ fresh. fresh ≡ not (is_some (position (bytes_eq name.now) self.old))) }
-        ensures names { IfOk result (λ fresh. self.new ≡ (if fresh then self.old ++ name.now ∷ [] else self.old)) }
+        ensures names { IfOk result
+            (λ fresh. self.new ≡ (if fresh then self.old ++ name.now ∷ [] else self.old)) }
     {
         match self.set.insert(name.to_string(alloc)?) {
             Ok(fresh) => Ok(fresh),

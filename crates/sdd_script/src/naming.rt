@@ -9,7 +9,9 @@ use sdd_words::Word;
 
 /// The relation at the place below a number, or None past the last.
 fn relation_if(cat: &Catalogue, rel: u32) -> Option<&Relation>
-    ensures { MatchOption result (relation_if cat.now rel ≡ None) (λ r. relation_if cat.now rel ≡ Some r.now) }
+    ensures { MatchOption result
+        (relation_if cat.now rel ≡ None)
+        (λ r. relation_if cat.now rel ≡ Some r.now) }
 {
     let place = rel.saturating_sub(1);
     if place < cat.relations() {

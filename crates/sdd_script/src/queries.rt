@@ -41,7 +41,8 @@ fn read_listed(
     parts: &[Option<u32>],
     words: &[Word],
 ) -> Result<Vec<Ref>, LineError>
-    ensures { Gives rule_in (λ v. v.items) result (along (λ i w. listed_column cat.now parts.now w) 0 words.now) }
+    ensures { Gives rule_in (λ v. v.items) result
+        (along (λ i w. listed_column cat.now parts.now w) 0 words.now) }
 {
     let mut out = Vec::new(alloc);
     'words: for (i, word) in words.iter().enumerate() {

@@ -108,7 +108,8 @@ fn statement_line(
     key: StatementKey,
     words: &[Word],
 ) -> Result<(), LineError>
-    ensures { Gives rule_in (λ _. state.new) result (statement_rules state.old (statement_of key cat.now words.now)) }
+    ensures { Gives rule_in (λ _. state.new) result
+        (statement_rules state.old (statement_of key cat.now words.now)) }
 {
     must(WorkRule::BadLine, state.place.takes_statements())?;
     add_statement(state, read_statement(alloc, cat, key, words)?)
@@ -188,7 +189,8 @@ fn event_line(
     key: EventKey,
     words: &[Word],
 ) -> Result<(), LineError>
-    ensures { Gives rule_in (λ _. state.new) result (event_rules state.old (event_of key cat.now state.old.names words.now)) }
+    ensures { Gives rule_in (λ _. state.new) result
+        (event_rules state.old (event_of key cat.now state.old.names words.now)) }
 {
     must(WorkRule::BadLine, state.place.takes_events())?;
     let event = read_event(alloc, cat, &state.names, key, words)?;

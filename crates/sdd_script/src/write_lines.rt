@@ -30,7 +30,10 @@ fn put_start(out: &mut Vec<u8>, cat: &Catalogue, row: &(RelNo, Row)) -> Result<(
 
 #[tactic(auto, using(crate::proofs::Lists::written))]
 fn put_starts(out: &mut Vec<u8>, cat: &Catalogue, rows: &[(RelNo, Row)]) -> Result<(), NoMemory>
-    ensures { OnOk result (out.new.items ≡ out.old.items ++ flat_map (λ (r : RelNo × List Value). ended (start_words cat.now r)) rows.now) }
+    ensures { OnOk result (
+        out.new.items ≡ out.old.items
+        ++ flat_map (λ (r : RelNo × List Value). ended (start_words cat.now r)) rows.now
+        ) }
 {
     'rows: for row in rows {
         put_start(out, cat, row)?;
@@ -40,7 +43,10 @@ fn put_starts(out: &mut Vec<u8>, cat: &Catalogue, rows: &[(RelNo, Row)]) -> Resu
 
 #[tactic(auto, using(crate::proofs::Pieces::keyed))]
 fn put_put(out: &mut Vec<u8>, cat: &Catalogue, rel: RelNo, row: &[Value]) -> Result<(), NoMemory>
-    ensures { OnOk result (out.new.items ≡ out.old.items ++ line_bytes (Plain (codes "put") ∷ row_words cat.now rel row.now)) }
+    ensures { OnOk result (
+        out.new.items ≡ out.old.items
+        ++ line_bytes (Plain (codes "put") ∷ row_words cat.now rel row.now)
+        ) }
 {
     put(out, b"put")?;
     put_row(out, cat, rel, row)
@@ -53,7 +59,10 @@ fn put_query(
     rels: &[RelNo],
     conds: &[Condition],
 ) -> Result<(), NoMemory>
-    ensures { OnOk result (out.new.items ≡ out.old.items ++ line_bytes (query_words cat.now columns.now rels.now conds.now)) }
+    ensures { OnOk result (
+        out.new.items ≡ out.old.items
+        ++ line_bytes (query_words cat.now columns.now rels.now conds.now)
+        ) }
 {
     put(out, b"query")?;
     put_columns(out, cat, rels, columns)?;
@@ -70,7 +79,10 @@ fn put_update(
     sets: &[Assign],
     conds: &[Condition],
 ) -> Result<(), NoMemory>
-    ensures { OnOk result (out.new.items ≡ out.old.items ++ line_bytes (update_words cat.now rel sets.now conds.now)) }
+    ensures { OnOk result (
+        out.new.items ≡ out.old.items
+        ++ line_bytes (update_words cat.now rel sets.now conds.now)
+        ) }
 {
     put(out, b"update")?;
     put_relation(out, cat, rel)?;
@@ -87,7 +99,10 @@ fn put_delete(
     rel: RelNo,
     conds: &[Condition],
 ) -> Result<(), NoMemory>
-    ensures { OnOk result (out.new.items ≡ out.old.items ++ line_bytes (delete_words cat.now rel conds.now)) }
+    ensures { OnOk result (
+        out.new.items ≡ out.old.items
+        ++ line_bytes (delete_words cat.now rel conds.now)
+        ) }
 {
     put(out, b"delete")?;
     put_relation(out, cat, rel)?;
@@ -95,7 +110,10 @@ fn put_delete(
 }
 
 fn put_statement_words(out: &mut Vec<u8>, cat: &Catalogue, statement: &Stmt) -> Result<(), NoMemory>
-    ensures { OnOk result (out.new.items ≡ out.old.items ++ line_bytes (statement_words cat.now statement.now)) }
+    ensures { OnOk result (
+        out.new.items ≡ out.old.items
+        ++ line_bytes (statement_words cat.now statement.now)
+        ) }
 {
     match statement {
         Stmt::Put { rel, row } => put_put(out, cat, *rel, row.as_slice()),
@@ -126,7 +144,10 @@ fn put_statement(out: &mut Vec<u8>, cat: &Catalogue, statement: &Stmt) -> Result
 
 #[tactic(auto, using(crate::proofs::Lists::written))]
 fn put_statements(out: &mut Vec<u8>, cat: &Catalogue, statements: &[Stmt]) -> Result<(), NoMemory>
-    ensures { OnOk result (out.new.items ≡ out.old.items ++ flat_map (λ (s : Stmt). ended (statement_words cat.now s)) statements.now) }
+    ensures { OnOk result (
+        out.new.items ≡ out.old.items
+        ++ flat_map (λ (s : Stmt). ended (statement_words cat.now s)) statements.now
+        ) }
 {
     'statements: for statement in statements {
         put_statement(out, cat, statement)?;
@@ -173,7 +194,10 @@ fn name_of_txn(txns: &[Txn], txn: u32) -> &[u8]
 
 #[tactic(auto, using(crate::proofs::Pieces::three_words))]
 fn put_place(out: &mut Vec<u8>, from: Site, to: Site, place: u32) -> Result<(), NoMemory>
-    ensures { OnOk result (out.new.items ≡ out.old.items ++ more_bytes (site_word from ∷ site_word to ∷ count_word place ∷ [])) }
+    ensures { OnOk result (
+        out.new.items ≡ out.old.items
+        ++ more_bytes (site_word from ∷ site_word to ∷ count_word place ∷ [])
+        ) }
 {
     put_site(out, from)?;
     put_site(out, to)?;
@@ -188,7 +212,11 @@ fn put_flight(
     to: Site,
     place: u32,
 ) -> Result<(), NoMemory>
-    ensures { OnOk result (out.new.items ≡ out.old.items ++ line_bytes (Plain key.now ∷ site_word from ∷ site_word to ∷ count_word place ∷ [])) }
+    ensures { OnOk result (
+        out.new.items ≡ out.old.items
+        ++ line_bytes
+        (Plain key.now ∷ site_word from ∷ site_word to ∷ count_word place ∷ [])
+        ) }
 {
     put(out, key)?;
     put_place(out, from, to, place)
@@ -196,7 +224,10 @@ fn put_flight(
 
 #[tactic(auto, using(crate::proofs::Pieces::key_one))]
 fn put_submit(out: &mut Vec<u8>, name: &[u8]) -> Result<(), NoMemory>
-    ensures { OnOk result (out.new.items ≡ out.old.items ++ line_bytes (Plain (codes "submit") ∷ Plain name.now ∷ [])) }
+    ensures { OnOk result (
+        out.new.items ≡ out.old.items
+        ++ line_bytes (Plain (codes "submit") ∷ Plain name.now ∷ [])
+        ) }
 {
     put(out, b"submit")?;
     put_plain(out, name)
@@ -204,7 +235,10 @@ fn put_submit(out: &mut Vec<u8>, name: &[u8]) -> Result<(), NoMemory>
 
 #[tactic(auto, using(crate::proofs::Pieces::key_two))]
 fn put_resend(out: &mut Vec<u8>, from: Site, to: Site) -> Result<(), NoMemory>
-    ensures { OnOk result (out.new.items ≡ out.old.items ++ line_bytes (Plain (codes "resend") ∷ site_word from ∷ site_word to ∷ [])) }
+    ensures { OnOk result (
+        out.new.items ≡ out.old.items
+        ++ line_bytes (Plain (codes "resend") ∷ site_word from ∷ site_word to ∷ [])
+        ) }
 {
     put(out, b"resend")?;
     put_site(out, from)?;
@@ -213,7 +247,10 @@ fn put_resend(out: &mut Vec<u8>, from: Site, to: Site) -> Result<(), NoMemory>
 
 #[tactic(auto, using(crate::proofs::Pieces::key_two))]
 fn put_tick(out: &mut Vec<u8>, tm: TmNo, n: u32) -> Result<(), NoMemory>
-    ensures { OnOk result (out.new.items ≡ out.old.items ++ line_bytes (Plain (codes "tick") ∷ site_word (Site.T tm) ∷ count_word n ∷ [])) }
+    ensures { OnOk result (
+        out.new.items ≡ out.old.items
+        ++ line_bytes (Plain (codes "tick") ∷ site_word (Site.T tm) ∷ count_word n ∷ [])
+        ) }
 {
     put(out, b"tick")?;
     put_site(out, Site::T(tm))?;
@@ -222,7 +259,10 @@ fn put_tick(out: &mut Vec<u8>, tm: TmNo, n: u32) -> Result<(), NoMemory>
 
 #[tactic(auto, using(crate::proofs::Pieces::key_one))]
 fn put_module(out: &mut Vec<u8>, key: &[u8], dm: DmNo) -> Result<(), NoMemory>
-    ensures { OnOk result (out.new.items ≡ out.old.items ++ line_bytes (Plain key.now ∷ site_word (Site.D dm) ∷ [])) }
+    ensures { OnOk result (
+        out.new.items ≡ out.old.items
+        ++ line_bytes (Plain key.now ∷ site_word (Site.D dm) ∷ [])
+        ) }
 {
     put(out, key)?;
     put_site(out, Site::D(dm))
@@ -254,7 +294,10 @@ fn put_event(out: &mut Vec<u8>, txns: &[Txn], event: Event) -> Result<(), NoMemo
 
 #[tactic(auto, using(crate::proofs::Lists::written))]
 fn put_events(out: &mut Vec<u8>, txns: &[Txn], events: &[Event]) -> Result<(), NoMemory>
-    ensures { OnOk result (out.new.items ≡ out.old.items ++ flat_map (λ (e : Event). ended (event_words txns.now e)) events.now) }
+    ensures { OnOk result (
+        out.new.items ≡ out.old.items
+        ++ flat_map (λ (e : Event). ended (event_words txns.now e)) events.now
+        ) }
 {
     'events: for event in events {
         put_event(out, txns, *event)?;

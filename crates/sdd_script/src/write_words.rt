@@ -98,7 +98,10 @@ pub fn put_columns(
     rels: &[RelNo],
     columns: &[Ref],
 ) -> Result<(), NoMemory>
-    ensures { OnOk result (out.new.items ≡ out.old.items ++ flat_map (λ (r : Ref). spaced (column_word cat.now rels.now r)) columns.now) }
+    ensures { OnOk result (
+        out.new.items ≡ out.old.items
+        ++ flat_map (λ (r : Ref). spaced (column_word cat.now rels.now r)) columns.now
+        ) }
 {
     'columns: for column in columns {
         put_column(out, cat, rels, *column)?;
@@ -109,7 +112,10 @@ pub fn put_columns(
 /// Puts the names of relations.
 #[tactic(auto, using(crate::proofs::Lists::written))]
 pub fn put_relations(out: &mut Vec<u8>, cat: &Catalogue, rels: &[RelNo]) -> Result<(), NoMemory>
-    ensures { OnOk result (out.new.items ≡ out.old.items ++ flat_map (λ (r : RelNo). spaced (relation_word cat.now r)) rels.now) }
+    ensures { OnOk result (
+        out.new.items ≡ out.old.items
+        ++ flat_map (λ (r : RelNo). spaced (relation_word cat.now r)) rels.now
+        ) }
 {
     'rels: for rel in rels {
         put_relation(out, cat, *rel)?;
@@ -137,7 +143,10 @@ fn put_condition(
     rels: &[RelNo],
     condition: &Condition,
 ) -> Result<(), NoMemory>
-    ensures { OnOk result (out.new.items ≡ out.old.items ++ more_bytes (condition_words cat.now rels.now condition.now)) }
+    ensures { OnOk result (
+        out.new.items ≡ out.old.items
+        ++ more_bytes (condition_words cat.now rels.now condition.now)
+        ) }
 {
     match condition {
         Condition::Const { left, op, value } => {
@@ -160,7 +169,11 @@ fn put_keyed(
     rels: &[RelNo],
     condition: &Condition,
 ) -> Result<(), NoMemory>
-    ensures { OnOk result (out.new.items ≡ out.old.items ++ (spaced (Plain key.now) ++ more_bytes (condition_words cat.now rels.now condition.now))) }
+    ensures { OnOk result (
+        out.new.items ≡ out.old.items
+        ++
+        (spaced (Plain key.now) ++ more_bytes (condition_words cat.now rels.now condition.now))
+        ) }
 {
     put_plain(out, key)?;
     put_condition(out, cat, rels, condition)
@@ -174,7 +187,10 @@ pub fn put_conditions(
     rels: &[RelNo],
     conditions: &[Condition],
 ) -> Result<(), NoMemory>
-    ensures { OnOk result (out.new.items ≡ out.old.items ++ more_bytes (where_words cat.now rels.now conditions.now)) }
+    ensures { OnOk result (
+        out.new.items ≡ out.old.items
+        ++ more_bytes (where_words cat.now rels.now conditions.now)
+        ) }
 {
     let mut key = b"where".as_slice();
     'conditions: for condition in conditions {
@@ -198,7 +214,10 @@ fn put_assign(
     rel: RelNo,
     assign: &Assign,
 ) -> Result<(), NoMemory>
-    ensures { OnOk result (out.new.items ≡ out.old.items ++ more_bytes (assign_words cat.now rel assign.now)) }
+    ensures { OnOk result (
+        out.new.items ≡ out.old.items
+        ++ more_bytes (assign_words cat.now rel assign.now)
+        ) }
 {
     match assign {
         Assign::To { column, value } => {
@@ -238,7 +257,10 @@ pub fn put_assigns(
     rel: RelNo,
     assigns: &[Assign],
 ) -> Result<(), NoMemory>
-    ensures { OnOk result (out.new.items ≡ out.old.items ++ more_bytes (sets_words cat.now rel assigns.now)) }
+    ensures { OnOk result (
+        out.new.items ≡ out.old.items
+        ++ more_bytes (sets_words cat.now rel assigns.now)
+        ) }
 {
     'assigns: for assign in assigns {
         put_assign(out, cat, rel, assign)?;
