@@ -2,7 +2,7 @@
 use Rattle.std.proofs.Common.{ℕ, ◌≤◌, ◌≡◌, Bool, true, List, [], ◌∷◌, ◌++◌, refl, sym, ap, ◌∙◌, subst}
 use Rattle.sdd_base.specs.Kept.{Kept as Live}
 use Rattle.sdd_control.specs.Control.{Follows, Run, run_of, with_event}
-use Rattle.sdd_control.specs.Log.{Entry, Log, noted}
+use Rattle.sdd_control.specs.Log.{Log, noted}
 use Rattle.sdd_control.specs.NoteTests.{is_number}
 use Rattle.sdd_control.specs.Standing.{value}
 use Rattle.sdd_control.specs.State.{Adds, Takes, Tracks, note_in, value_in}
@@ -28,7 +28,8 @@ FitAll-append backups [] act f g = (g, tt)
 FitAll-append backups (x ∷ acts) act f g = (f.0, FitAll-append backups acts act f.1 g)
 
 -- the note by the tables is the note by the log
-pub followed_note : (st : State) (acts : List Act) (act : Act) → Follows st acts → Fits st.backups act
+pub followed_note : (st : State) (acts : List Act) (act : Act) → Follows st acts
+    → Fits st.backups act
     → note_in st act ≡ note_of st.backups st.writes (log_of st.backups st.writes acts) act
 followed_note st acts act f fits =
     note_same st (log_of st.backups st.writes acts) f.tracks

@@ -1,5 +1,5 @@
 -- The numbers that a site wrote are those from 1 to its last.
-use Rattle.std.proofs.Common.{ℕ, zero, suc, ◌+◌, ◌<◌, ◌≤◌, ◌==◌, ◌≡◌, ◌&&◌, ◌||◌, not, cond, Bool, true, false, List, [], ◌∷◌, ◌++◌, Some, refl, sym, ap, ◌∙◌, subst, ◌⊎◌, inl, inr, arith, T, le-leb, leb→le}
+use Rattle.std.proofs.Common.{ℕ, zero, suc, ◌+◌, ◌<◌, ◌≤◌, ◌==◌, ◌≡◌, ◌&&◌, not, cond, Bool, true, false, List, [], ◌∷◌, refl, sym, ap, ◌∙◌, subst, ◌⊎◌, inl, inr, arith, T, le-leb, leb→le}
 use Rattle.std.proofs.lemmas.Bool.{cases_Bool, cases_lt}
 use Rattle.std.specs.Prelude.{nat_lt, nat_le}
 use Rattle.std.proofs.lemmas.Bool.Decides.{nat_tests}
@@ -7,7 +7,6 @@ use Rattle.sdd_control.specs.Stretches.{count_from}
 use Rattle.sdd_control.proofs.Promises.{number_noted}
 use Rattle.sdd_control.specs.Log.{Log, noted}
 use Rattle.sdd_control.specs.NoteTests.{is_number, is_write}
-use Rattle.sdd_control.specs.Sends.{unwritten}
 use Rattle.sdd_control.specs.State.{greatest, greatest_of, last_number, last_number_of}
 use Rattle.sdd_control.specs.Steps.{FitAll, log_after, log_of, note_of}
 use Rattle.sdd_control.specs.declared.act.Act.{Act}
@@ -128,7 +127,8 @@ pub numbered : (backups writes : ℕ) (acts : List Act)
 numbered backups writes acts f = numbered_after backups writes [] acts (numbered_nil writes) f
 
 -- a number that was written was written by some site
-number_by : (k : ℕ) (log : Log) → noted (is_number k) log ≡ true → (i : ℕ) × (noted (is_write i k) log ≡ true)
+number_by : (k : ℕ) (log : Log) → noted (is_number k) log ≡ true
+    → (i : ℕ) × (noted (is_write i k) log ≡ true)
 number_by k [] e = absurd (cc)
 number_by k (x ∷ log) e =
     elim (or_cases (is_number k x.note) (noted (is_number k) log) e) [
@@ -178,7 +178,8 @@ at_most_greatest k (x ∷ log) e =
     ]
 
 -- the greatest number was written, if there is one
-greatest_by : (log : Log) → 1 ≤ greatest log → (i : ℕ) × (noted (is_write i (greatest log)) log ≡ true)
+greatest_by : (log : Log) → 1 ≤ greatest log
+    → (i : ℕ) × (noted (is_write i (greatest log)) log ≡ true)
 greatest_by [] l = absurd (omega arith)
 greatest_by (x ∷ log) l =
     elim (greatest_cases x.note (greatest log)) [

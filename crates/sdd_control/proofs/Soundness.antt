@@ -1,7 +1,6 @@
 -- A script that a file gives is sound.
-use Rattle.std.proofs.Common.{ℕ, zero, suc, ◌+◌, ◌-◌, ◌<◌, ◌≤◌, ◌≡◌, ◌≢◌, ◌^◌, ◌==◌, ◌&&◌, not, cond, Bool, true, false, List, [], ◌∷◌, ◌++◌, length, Option, Some, None, Result, Ok, Err, refl, sym, ap, ◌∙◌, subst, inl, inr, arith, T, ltb→lt, leb→le, length-append, eq-eqb}
+use Rattle.std.proofs.Common.{ℕ, ◌+◌, ◌<◌, ◌≤◌, ◌≡◌, ◌^◌, ◌==◌, ◌&&◌, not, cond, Bool, true, false, List, [], ◌∷◌, ◌++◌, length, Option, Some, None, Result, Ok, Err, refl, sym, ap, subst, arith, T, ltb→lt, leb→le, length-append, eq-eqb}
 use Rattle.std.specs.Prelude.{ℤ, pos, negsuc, nat_lt, nat_le, IfOk}
-use Rattle.std.proofs.lemmas.Bool.{cases_Bool}
 use Rattle.sdd_control.specs.Faults.{Tells}
 use Rattle.sdd_script.specs.declared.fault.WorkError.{WorkError}
 use Rattle.sdd_script.specs.declared.fault.WorkFault.{WorkFault}
@@ -70,10 +69,12 @@ pub record IsDraft (draft : Draft) : Type 0 where
   pub few : length draft.acts ≤ 2 ^ 18
   pub fits : StageFits draft.stage draft.acts
 
-within_range : (least most : ℕ) (o : Option ℤ) (n : ℕ) → within least most o ≡ Some n → (least ≤ n) × (n ≤ most)
+within_range : (least most : ℕ) (o : Option ℤ) (n : ℕ) → within least most o ≡ Some n
+    → (least ≤ n) × (n ≤ most)
 within_range least most (Some (pos m)) n e = by_test (nat_le least m) (nat_le m most) refl refl e
   where
-    by_test : (a b : Bool) → nat_le least m ≡ a → nat_le m most ≡ b → cond (a && b) (Some m) None ≡ Some n → (least ≤ n) × (n ≤ most)
+    by_test : (a b : Bool) → nat_le least m ≡ a → nat_le m most ≡ b
+        → cond (a && b) (Some m) None ≡ Some n → (least ≤ n) × (n ≤ most)
     by_test true true p q r =
         let s : m ≡ n = cc in
         let u : least ≤ m = leb→le least m (subst T (sym p) tt) in
@@ -157,12 +158,14 @@ act_gets head draft act at d f =
       fits = subst (λ z. StageFits z (draft.acts ++ act ∷ [])) (sym at) (fits.0, FitAll-append head.backups draft.acts act fits.1 f);
     })
 
-end_gets : (head : Head) (draft : Draft) (words : List Word) → draft.stage ≡ Events head → IsDraft draft
+end_gets : (head : Head) (draft : Draft) (words : List Word) → draft.stage ≡ Events head
+    → IsDraft draft
     → Gets IsDraft (end_of head draft words)
 end_gets head draft [] at d = record { few = d.few; fits = subst (λ z. StageFits z draft.acts) at d.fits }
 end_gets head draft _ at d = tt
 
-event_gets : (key : Key) (head : Head) (draft : Draft) (words : List Word) → draft.stage ≡ Events head
+event_gets : (key : Key) (head : Head) (draft : Draft) (words : List Word)
+    → draft.stage ≡ Events head
     → IsDraft draft → Gets IsDraft (event_rules key head draft words)
 event_gets keys.Step head draft words at d =
     gets_on (λ i. i ≤ head.backups) IsDraft (site_of head.backups words) (λ i. with_act draft (Step i))
@@ -191,7 +194,8 @@ key_gets First key draft words at d = first_gets key draft words at d
 key_gets (Events head) key draft words at d = event_gets key head draft words at d
 key_gets (Ended head) key draft words at d = tt
 
-words_gets : (draft : Draft) (words : List Word) → IsDraft draft → Gets IsDraft (words_rules draft words)
+words_gets : (draft : Draft) (words : List Word) → IsDraft draft
+    → Gets IsDraft (words_rules draft words)
 words_gets draft [] d = tt
 words_gets draft (first ∷ words) d =
     gets_on (λ key. key_of first ≡ Some key) IsDraft (known BadLine (key_of first)) (λ key. key_rules draft.stage key draft words)
@@ -223,7 +227,8 @@ no_script : (b : Bool) → Gets IsSound (cond b (Err NoEnd) (Err NotUtf8))
 no_script true = tt
 no_script false = tt
 
-tail_gets : (stage : Stage) (acts : List Act) (tail : List ℕ) → length acts ≤ 2 ^ 18 → StageFits stage acts
+tail_gets : (stage : Stage) (acts : List Act) (tail : List ℕ) → length acts ≤ 2 ^ 18
+    → StageFits stage acts
     → Gets IsSound (tail_rules stage acts tail)
 tail_gets (Ended head) acts [] few fits =
     let h = fits.0 in

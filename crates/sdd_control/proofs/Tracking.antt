@@ -1,16 +1,15 @@
 -- What the tables say is what the log says.
-use Rattle.std.proofs.Common.{ℕ, zero, suc, ◌+◌, ◌-◌, ◌==◌, ◌<◌, ◌≤◌, ◌≡◌, ◌&&◌, ◌||◌, not, cond, Bool, true, false, List, [], ◌∷◌, ◌++◌, Option, Some, None, refl, sym, ap, ◌∙◌, subst, inl, inr, arith, lt-ltb}
+use Rattle.std.proofs.Common.{ℕ, zero, suc, ◌+◌, ◌-◌, ◌==◌, ◌<◌, ◌≤◌, ◌≡◌, ◌&&◌, ◌||◌, not, cond, Bool, true, false, List, [], ◌∷◌, ◌++◌, Option, Some, None, refl, sym, ap, ◌∙◌, inl, inr, arith, lt-ltb}
 use Rattle.std.proofs.lemmas.Bool.{cases_Bool, cases_lt}
 use Rattle.std.proofs.lemmas.Bool.Decides.{nat_tests}
 use Rattle.std.specs.Prelude.{nat_lt}
-use Rattle.sdd_control.specs.Control.{Follows}
 use Rattle.sdd_control.specs.Links.{link, put, taken}
 use Rattle.sdd_control.specs.Log.{Log, noted}
-use Rattle.sdd_control.specs.NoteTests.{is_above, is_finish, is_gone, is_ok, is_stop, is_tell, is_write}
+use Rattle.sdd_control.specs.NoteTests.{is_finish, is_gone, is_ok, is_stop, is_tell, is_write}
 use Rattle.sdd_control.specs.Sends.{all_answered, answered, next_send, next_untold, send, untold, unwritten}
 use Rattle.sdd_control.specs.Standing.{finished, heir, knows, last, last_of, leads, stopped, value, value_by}
-use Rattle.sdd_control.specs.State.{Adds, IsSized, NoteFits, Takes, Tracks, answered_in, arrival_in, greatest_of, has_finished, has_heard, has_stopped, has_told, heir_in, is_from_above, knows_in, last_number, last_number_in, last_number_of, may_send, messages_in, next_number_in, next_send_in, note_in, number_after, taken_in, untold_in, value_in}
-use Rattle.sdd_control.specs.Steps.{FitAll, Fits, arrival, happened, log_after, log_of, note_of}
+use Rattle.sdd_control.specs.State.{Adds, NoteFits, Takes, Tracks, answered_in, arrival_in, greatest_of, has_finished, has_heard, has_stopped, has_told, heir_in, is_from_above, knows_in, last_number, last_number_in, last_number_of, may_send, messages_in, next_number_in, next_send_in, note_in, number_after, taken_in, untold_in, value_in}
+use Rattle.sdd_control.specs.Steps.{Fits, arrival, note_of}
 use Rattle.sdd_control.specs.Stretches.{every_from, first_from}
 use Rattle.sdd_control.specs.declared.act.Act.{Act}
 use Rattle.sdd_control.specs.declared.act.Act.TheVariants.{Step as Send, Deliver, Stop as Halt}
@@ -22,10 +21,9 @@ use Rattle.sdd_control.specs.declared.state.State.{State}
 use Rattle.sdd_control.specs.declared.value.Val.{Val}
 use Rattle.sdd_control.specs.declared.value.Val.TheVariants.{Unknown, All, Nought}
 use Rattle.sdd_control.proofs.Above.{above_is_last}
-use Rattle.sdd_control.proofs.Kept.{Kept, not_false}
+use Rattle.sdd_control.proofs.Kept.{Kept}
 use Rattle.sdd_control.proofs.Lists.{first_at}
-use Rattle.sdd_control.proofs.Numbers.{Numbered, numbered}
-use Rattle.sdd_control.proofs.Promises.{kept}
+use Rattle.sdd_control.proofs.Numbers.{Numbered}
 
 pub every_same : (p q : ℕ → Bool) (k n : ℕ) → ((j : ℕ) → k ≤ j → j < k + n → p j ≡ q j)
     → every_from p k n ≡ every_from q k n
@@ -107,7 +105,8 @@ module _ (st : State) (log : Log) (t : Tracks st log) where
       ap (λ z. not z && not (knows_in st i j)) (t.told i j l m)
       ∙ ap (λ z. not (noted (is_tell i j) log) && not z) (t.known i j l m)
 
-  answered_same : (i j : ℕ) → i ≤ st.backups → j ≤ st.backups → answered_in st i j ≡ answered log i j
+  answered_same : (i j : ℕ) → i ≤ st.backups → j ≤ st.backups
+      → answered_in st i j ≡ answered log i j
   answered_same i j l m =
       ap (λ z. z || knows_in st i j) (t.heard i j l m)
       ∙ ap (λ z. noted (is_ok i j) log || z) (t.known i j l m)
@@ -176,11 +175,13 @@ arrival_fits backups false (OK ∷ rest) above i j l m = (m, l)
 arrival_fits backups false (VALUE v ∷ rest) true i j l m = tt
 arrival_fits backups false (VALUE v ∷ rest) false i j l m = (m, l)
 
-halt_fits : (backups i : ℕ) (halted : Bool) → i ≤ backups → NoteFits backups (cond halted Nothing (Stop i))
+halt_fits : (backups i : ℕ) (halted : Bool) → i ≤ backups
+    → NoteFits backups (cond halted Nothing (Stop i))
 halt_fits backups i true l = tt
 halt_fits backups i false l = l
 
-pub note_fits : (st : State) (act : Act) → Fits st.backups act → NoteFits st.backups (note_in st act)
+pub note_fits : (st : State) (act : Act) → Fits st.backups act
+    → NoteFits st.backups (note_in st act)
 note_fits st (Send i) l =
     send_fits st.backups i (may_send st i) (first_from (untold_in st i) (i + 1) (st.backups - i))
     (every_from (answered_in st i) (i + 1) (st.backups - i)) (value_in st i) (next_number_in st i) l

@@ -1,5 +1,6 @@
--- The text that a control file makes: the notes, how each site stands, and how many writes were made.
-use Rattle.std.specs.Prelude.{ℕ, zero, suc, ◌+◌, ◌≡◌, List, [], ◌∷◌, ◌++◌, codes, Bool, true, false, if◌then◌else◌}
+-- The text that a control file makes: the notes, how each site stands, and how many writes were
+-- made.
+use Rattle.std.specs.Prelude.{ℕ, zero, suc, ◌+◌, List, [], ◌∷◌, ◌++◌, codes, Bool, true, false}
 use Rattle.std.specs.Fmt.{decimal}
 use Rattle.sdd_control.specs.Control.{Run, next_note, run_of, with_event, written}
 use Rattle.sdd_control.specs.Log.{Log}

@@ -155,7 +155,8 @@ fn put_standing(text: &mut Vec<u8>, control: &Control, site: u32) -> Result<(), 
 fn put_site_line(text: &mut Vec<u8>, control: &Control, site: u32) -> Result<(), NoMemory>
     requires live { IsTrue control.now.live }
     requires site { site ≤ control.now.value.backups }
-    ensures { OnOk result (text.new.items ≡ text.old.items ++ site_line control.now.value.log site) }
+    ensures { OnOk result (
+        text.new.items ≡ text.old.items ++ site_line control.now.value.log site) }
 {
     put_site(text, b"site", site)?;
     put(text, b" ")?;

@@ -194,7 +194,8 @@ impl State {
     fn has_all_answers(&self, site: u32) -> bool
         requires sized { IsSized self.now }
         requires site { site ≤ self.now.backups }
-        ensures { result ≡ every_from (answered_in self.now site) (site + 1) (self.now.backups - site) }
+        ensures { result
+            ≡ every_from (answered_in self.now site) (site + 1) (self.now.backups - site) }
     {
         'higher: for other in site + 1..self.backups + 1 {
             if !self.has_answer(site, other) {
@@ -231,7 +232,8 @@ impl State {
     fn last_sends(&self, site: u32) -> Note
         requires sized { IsSized self.now }
         requires site { site ≤ self.now.backups }
-        ensures { result ≡ send site true None true (value_in self.now site) (next_number_in self.now site) }
+        ensures { result
+            ≡ send site true None true (value_in self.now site) (next_number_in self.now site) }
     {
         match self.value(site) {
             Val::All => match self.next_number(site) {

@@ -1,6 +1,6 @@
 use Rattle.std.proofs.Common.{◌+◌, ◌++◌}
 use Rattle.sdd_control.specs.Report.{site_lines}
-use Rattle.sdd_control.proofs.Ends.{all_sites, one_site_more}
+use Rattle.sdd_control.proofs.Ends.{one_site_more}
 use Rattle.sdd_control.proofs.report.put_site_lines.Goals as goal
 
 pub sites-preserved : goal.sites-preserved
