@@ -1,5 +1,5 @@
 -- Whether a site took a value from above: its last value tells.
-use Rattle.std.proofs.Common.{ℕ, ◌<◌, ◌==◌, ◌≡◌, cond, Bool, true, false, List, [], ◌∷◌, Option, Some, None, sym, ap, ◌∙◌, subst, inl, inr, arith, lt-ltb}
+use Rattle.std.proofs.Common.{ℕ, ◌<◌, ◌==◌, ◌≡◌, true, [], ◌∷◌, sym, ap, ◌∙◌, subst, inl, inr, arith, lt-ltb}
 use Rattle.std.proofs.lemmas.Bool.{cases_Bool}
 use Rattle.std.specs.Prelude.{nat_lt}
 use Rattle.sdd_control.specs.Log.{Log, noted}
@@ -12,7 +12,8 @@ use Rattle.sdd_control.proofs.Lists.{and_both, or_left, or_right}
 use Rattle.sdd_control.proofs.Puts.{same_itself}
 
 -- the last value is one that was taken
-from_above_noted : (j i : ℕ) (log : Log) → is_from_above (last log j) i ≡ true → noted (is_above j i) log ≡ true
+from_above_noted : (j i : ℕ) (log : Log) → is_from_above (last log j) i ≡ true
+    → noted (is_above j i) log ≡ true
 from_above_noted j i [] e = e
 from_above_noted j i (x ∷ log) e =
     elim (last_of_cases j x.note (last log j)) [
@@ -22,7 +23,8 @@ from_above_noted j i (x ∷ log) e =
           or_left (is_above j i x.note) (noted (is_above j i) log) (subst (λ z. is_above j i z ≡ true) (sym h.2) (and_both (j == j) (nat_lt i h.0) (same_itself j) l))
     ]
 
-pub above_is_last : (backups writes : ℕ) (log : Log) → Kept backups writes log → (i j : ℕ) → noted (is_above j i) log ≡ is_from_above (last log j) i
+pub above_is_last : (backups writes : ℕ) (log : Log) → Kept backups writes log → (i j : ℕ)
+    → noted (is_above j i) log ≡ is_from_above (last log j) i
 above_is_last backups writes log k i j =
     elim (cases_Bool (noted (is_above j i) log)) [
       | inl e ↦

@@ -1,5 +1,5 @@
 -- What every log keeps: one event more.
-use Rattle.std.proofs.Common.{ℕ, ◌+◌, suc, ◌-◌, ◌<◌, ◌≤◌, ◌==◌, ◌≡◌, ◌||◌, not, cond, Bool, true, false, List, [], ◌∷◌, ◌++◌, Option, Some, None, drop, refl, sym, ap, ◌∙◌, subst, ◌⊎◌, inl, inr, arith, append-nil, lt-ltb}
+use Rattle.std.proofs.Common.{ℕ, ◌+◌, ◌-◌, ◌<◌, ◌≤◌, ◌==◌, ◌≡◌, ◌||◌, not, cond, Bool, true, false, List, [], ◌∷◌, ◌++◌, Option, Some, None, drop, refl, sym, ap, ◌∙◌, subst, ◌⊎◌, inl, inr, arith, append-nil, lt-ltb}
 use Rattle.std.proofs.lemmas.Bool.{cases_Bool, cases_lt}
 use Rattle.std.specs.Prelude.{nat_lt}
 use Rattle.sdd_control.specs.declared.message.Message.{Message}
@@ -53,7 +53,8 @@ pub record Kept (backups writes : ℕ) (log : Log) : Type 0 where
   pub ok_link : (i j : ℕ) → Has (link log j i) OK → noted (is_value j i) log ≡ true
   pub finished : (i : ℕ) (v : Val) → Stands log (Finish i v) → Ready backups log i v
   pub wrote : (i k : ℕ) → Stands log (Write i k) → Ready backups log i All
-  pub all_written : (i k : ℕ) → Stands log (Finish i All) → 1 ≤ k → k ≤ writes → noted (is_write i k) log ≡ true
+  pub all_written : (i k : ℕ) → Stands log (Finish i All) → 1 ≤ k → k ≤ writes
+      → noted (is_write i k) log ≡ true
 
 pub kept_nil : (backups writes : ℕ) → Kept backups writes []
 kept_nil backups writes =
@@ -76,7 +77,8 @@ kept_nil backups writes =
 pub heir_at : (log : Log) (i l : ℕ) → heir log i ≡ true → l < i → knows log i l ≡ true
 heir_at log i l h m = every_at (λ z. knows log i z) 0 i l h (omega arith) (omega arith)
 
-pub last_of_cases : (j : ℕ) (n : Note) (before : Option (ℕ × Val)) → (last_of j n before ≡ before) ⊎ ((i : ℕ) × (v : Val) × (n ≡ Value j i v) × (last_of j n before ≡ Some (i, v)))
+pub last_of_cases : (j : ℕ) (n : Note) (before : Option (ℕ × Val))
+    → (last_of j n before ≡ before) ⊎ ((i : ℕ) × (v : Val) × (n ≡ Value j i v) × (last_of j n before ≡ Some (i, v)))
 last_of_cases j (Value a b w) before =
     elim (cases_Bool (a == j)) [
       | inl e ↦ let p : a ≡ j = same a j e in inr (b, w, ap (λ z. Value z b w) p, ap (λ c. cond c (Some (b, w)) before) e)
@@ -85,7 +87,8 @@ last_of_cases j (Value a b w) before =
 last_of_cases j _ before = inl refl
 
 -- no value of a site above i, one of k: k is not above i
-not_above : (j i k : ℕ) (log : Log) → noted (is_above j i) log ≡ false → noted (is_value j k) log ≡ true → k ≤ i
+not_above : (j i k : ℕ) (log : Log) → noted (is_above j i) log ≡ false
+    → noted (is_value j k) log ≡ true → k ≤ i
 not_above j i k [] e f = absurd (cc)
 not_above j i k (x ∷ log) e f =
     elim (or_cases (is_value j k x.note) (noted (is_value j k) log) f) [
@@ -102,25 +105,31 @@ not_above j i k (x ∷ log) e f =
     ]
 
 module _ (backups writes : ℕ) (log : Log) where
-  pub gone_case : (a : Act) (j i : ℕ) → Case backups writes log a (Gone j i) → (rest : List Message) × (a ≡ Deliver i j) × (stopped log j ≡ false) × (link log i j ≡ GONE ∷ rest)
+  pub gone_case : (a : Act) (j i : ℕ) → Case backups writes log a (Gone j i)
+      → (rest : List Message) × (a ≡ Deliver i j) × (stopped log j ≡ false) × (link log i j ≡ GONE ∷ rest)
   gone_case a j i (learns _ _ rest p q) = (rest, refl, p, q)
 
-  pub ok_case : (a : Act) (j i : ℕ) → Case backups writes log a (Ok j i) → (rest : List Message) × (link log i j ≡ OK ∷ rest)
+  pub ok_case : (a : Act) (j i : ℕ) → Case backups writes log a (Ok j i)
+      → (rest : List Message) × (link log i j ≡ OK ∷ rest)
   ok_case a j i (hears _ _ rest p q) = (rest, q)
 
-  pub value_case : (a : Act) (j i : ℕ) (v : Val) → Case backups writes log a (Value j i v) → (rest : List Message) × (stopped log j ≡ false) × (link log i j ≡ VALUE v ∷ rest) × (noted (is_above j i) log ≡ false)
+  pub value_case : (a : Act) (j i : ℕ) (v : Val) → Case backups writes log a (Value j i v)
+      → (rest : List Message) × (stopped log j ≡ false) × (link log i j ≡ VALUE v ∷ rest) × (noted (is_above j i) log ≡ false)
   value_case a j i v (takes _ _ _ rest p q r) = (rest, p, q, r)
 
-  pub tell_case : (a : Act) (i j : ℕ) (v : Val) → Case backups writes log a (Tell i j v) → (stopped log i ≡ false) × Sound log i j v
+  pub tell_case : (a : Act) (i j : ℕ) (v : Val) → Case backups writes log a (Tell i j v)
+      → (stopped log i ≡ false) × Sound log i j v
   tell_case a i j v (tells _ _ _ l p q r s) = let f = first_at (untold log i) (i + 1) (backups - i) j r in (p, record { below = let g = f.0 in omega arith; heir = q; value = s })
 
   pub stop_case : (a : Act) (i : ℕ) → Case backups writes log a (Stop i) → stopped log i ≡ false
   stop_case a i (stops _ p) = p
 
-  pub write_case : (a : Act) (i k : ℕ) → Case backups writes log a (Write i k) → Ready backups log i All × (unwritten writes log i ≡ Some k)
+  pub write_case : (a : Act) (i k : ℕ) → Case backups writes log a (Write i k)
+      → Ready backups log i All × (unwritten writes log i ≡ Some k)
   write_case a i k (writes_one _ _ l p q r s t) = (record { within = l; heir = q; answers = r; value = s }, t)
 
-  pub finish_case : (a : Act) (i : ℕ) (v : Val) → Case backups writes log a (Finish i v) → Ready backups log i v × (v ≡ All → unwritten writes log i ≡ None)
+  pub finish_case : (a : Act) (i : ℕ) (v : Val) → Case backups writes log a (Finish i v)
+      → Ready backups log i v × (v ≡ All → unwritten writes log i ≡ None)
   finish_case a i v (finishes _ _ l p q r s t) = (record { within = l; heir = q; answers = r; value = s }, t)
 
 pub not_false : (b : Bool) → not b ≡ false → b ≡ true
@@ -143,7 +152,8 @@ module _ (backups writes : ℕ) (log : Log) (a : Act) (n : Note) (c : Case backu
   heir_on : (i : ℕ) → heir log i ≡ true → heir (more log a n) i ≡ true
   heir_on i h = every_all (λ z. knows (more log a n) i z) 0 i (λ l p q. know_on i l (heir_at log i l h (omega arith)))
 
-  answers_on : (i : ℕ) → all_answered backups log i ≡ true → all_answered backups (more log a n) i ≡ true
+  answers_on : (i : ℕ) → all_answered backups log i ≡ true
+      → all_answered backups (more log a n) i ≡ true
   answers_on i h =
       every_all (answered (more log a n) i) (i + 1) (backups - i) (λ l p q. elim (or_cases (noted (is_ok i l) log) (knows log i l) (every_at (answered log i) (i + 1) (backups - i) l h p q)) [
         | inl e ↦ or_left (noted (is_ok i l) (more log a n)) (knows (more log a n) i l) (or_right (is_ok i l n) (noted (is_ok i l) log) e)
@@ -180,7 +190,8 @@ module _ (backups writes : ℕ) (log : Log) (a : Act) (n : Note) (c : Case backu
   ready_on : (i : ℕ) (v : Val) → Ready backups log i v → Ready backups (more log a n) i v
   ready_on i v r = record { within = r.within; heir = heir_on i r.heir; answers = answers_on i r.answers; value = value_on i r.heir ∙ r.value }
 
-  has_new : (i j : ℕ) (m : Message) → Has (link (more log a n) i j) m → Has (link log i j) m ⊎ Has (put n i j) m
+  has_new : (i j : ℕ) (m : Message) → Has (link (more log a n) i j) m
+      → Has (link log i j) m ⊎ Has (put n i j) m
   has_new i j m h = elim (has_append (taken a i j (link log i j)) (put n i j) m h) [ inl x ↦ inl (has_taken a i j (link log i j) m x) | inr x ↦ inr x ]
 
   -- a stopped site puts nothing
@@ -237,14 +248,16 @@ module _ (backups writes : ℕ) (log : Log) (a : Act) (n : Note) (c : Case backu
         | inr p ↦ ap (λ z. taken a i j z ++ put n i j) (k.gone_empty i j p) ∙ ap (λ z. z ++ put n i j) (taken_nil a i j) ∙ put_free i j (k.gone_stopped i j p)
       ]
 
-  on_link_on : (i j : ℕ) (v : Val) → Has (link (more log a n) i j) (VALUE v) → Sound (more log a n) i j v
+  on_link_on : (i j : ℕ) (v : Val) → Has (link (more log a n) i j) (VALUE v)
+      → Sound (more log a n) i j v
   on_link_on i j v h =
       elim (has_new i j (VALUE v) h) [
         | inl x ↦ sound_on i j v (k.on_link i j v x)
         | inr x ↦ let t = tell_case backups writes log a i j v (subst (λ z. Case backups writes log a z) (put_value n i j v x) c) in sound_on i j v t.1
       ]
 
-  last_sound_on : (i j : ℕ) (v : Val) → last (more log a n) j ≡ Some (i, v) → Sound (more log a n) i j v
+  last_sound_on : (i j : ℕ) (v : Val) → last (more log a n) j ≡ Some (i, v)
+      → Sound (more log a n) i j v
   last_sound_on i j v e =
       elim (last_of_cases j n (last log j)) [
         | inl p ↦ sound_on i j v (k.last_sound i j v (sym p ∙ e))
@@ -273,7 +286,8 @@ module _ (backups writes : ℕ) (log : Log) (a : Act) (n : Note) (c : Case backu
             ]
       ]
 
-  ok_noted_on : (i j : ℕ) → noted (is_ok i j) (more log a n) ≡ true → noted (is_value j i) (more log a n) ≡ true
+  ok_noted_on : (i j : ℕ) → noted (is_ok i j) (more log a n) ≡ true
+      → noted (is_value j i) (more log a n) ≡ true
   ok_noted_on i j e =
       elim (or_cases (is_ok i j n) (noted (is_ok i j) log) e) [
         | inl p ↦
@@ -282,14 +296,16 @@ module _ (backups writes : ℕ) (log : Log) (a : Act) (n : Note) (c : Case backu
         | inr p ↦ or_right (is_value j i n) (noted (is_value j i) log) (k.ok_noted i j p)
       ]
 
-  ok_link_on : (i j : ℕ) → Has (link (more log a n) j i) OK → noted (is_value j i) (more log a n) ≡ true
+  ok_link_on : (i j : ℕ) → Has (link (more log a n) j i) OK
+      → noted (is_value j i) (more log a n) ≡ true
   ok_link_on i j h =
       elim (has_new j i OK h) [
         | inl x ↦ or_right (is_value j i n) (noted (is_value j i) log) (k.ok_link i j x)
         | inr x ↦ or_left (is_value j i n) (noted (is_value j i) log) (put_ok n j i x)
       ]
 
-  finished_on : (i : ℕ) (v : Val) → Stands (more log a n) (Finish i v) → Ready backups (more log a n) i v
+  finished_on : (i : ℕ) (v : Val) → Stands (more log a n) (Finish i v)
+      → Ready backups (more log a n) i v
   finished_on i v (inl e) = let h = finish_case backups writes log a i v (subst (λ z. Case backups writes log a z) e c) in ready_on i v h.0
   finished_on i v (inr s) = ready_on i v (k.finished i v s)
 
@@ -297,7 +313,8 @@ module _ (backups writes : ℕ) (log : Log) (a : Act) (n : Note) (c : Case backu
   wrote_on i m (inl e) = let h = write_case backups writes log a i m (subst (λ z. Case backups writes log a z) e c) in ready_on i All h.0
   wrote_on i m (inr s) = ready_on i All (k.wrote i m s)
 
-  all_written_on : (i m : ℕ) → Stands (more log a n) (Finish i All) → 1 ≤ m → m ≤ writes → noted (is_write i m) (more log a n) ≡ true
+  all_written_on : (i m : ℕ) → Stands (more log a n) (Finish i All) → 1 ≤ m → m ≤ writes
+      → noted (is_write i m) (more log a n) ≡ true
   all_written_on i m (inl e) l u =
       let h = finish_case backups writes log a i All (subst (λ z. Case backups writes log a z) e c) in
       let f = none_at (λ z. not (noted (is_write i z) log)) 1 writes m (h.1 refl) l (omega arith) in

@@ -1,11 +1,15 @@
 -- An heir's value is never unknown.
-use Rattle.std.proofs.Common.{ℕ, zero, suc, ◌<◌, ◌==◌, ◌≡◌, ◌≢◌, Bool, true, false, Option, Some, None, refl, sym, ap, ◌∙◌, ◌⊎◌, inl, inr, arith}
+use Rattle.std.proofs.Common.{ℕ, zero, suc, ◌<◌, ◌==◌, ◌≡◌, ◌≢◌, Bool, true, false, List, Option, Some, None, refl, sym, ap, ◌∙◌, ◌⊎◌, inl, inr, arith}
 use Rattle.sdd_control.specs.Log.{Log, Stands}
 use Rattle.sdd_control.specs.Standing.{heir, last, value, value_by}
 use Rattle.sdd_control.specs.declared.value.Val.{Val}
 use Rattle.sdd_control.specs.declared.value.Val.TheVariants.{Unknown}
 use Rattle.sdd_control.specs.declared.note.Note.TheVariants.{Finish}
+use Rattle.sdd_control.specs.Laws.{NeverUnknown}
+use Rattle.sdd_control.specs.Steps.{FitAll, log_of}
+use Rattle.sdd_control.specs.declared.act.Act.{Act}
 use Rattle.sdd_control.proofs.Kept.{Kept}
+use Rattle.sdd_control.proofs.Promises.{kept}
 
 first_value : (first : Bool) → value_by None first true ≢ Unknown
 first_value true e = absurd (cc)
@@ -32,3 +36,8 @@ module _ (backups writes : ℕ) (log : Log) (k : Kept backups writes log) where
   -- so a Finish note has all or none
   pub finish_known : (i : ℕ) (v : Val) → Stands log (Finish i v) → v ≢ Unknown
   finish_known i v s e = let r = k.finished i v s in known (suc i) i (omega arith) r.heir (r.value ∙ e)
+
+pub never_unknown_of : (backups writes : ℕ) (acts : List Act)
+    → FitAll backups acts → NeverUnknown (log_of backups writes acts)
+never_unknown_of backups writes acts f i s =
+    finish_known backups writes (log_of backups writes acts) (kept backups writes acts f) i Unknown s refl

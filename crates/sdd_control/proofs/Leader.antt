@@ -1,9 +1,9 @@
 -- Where nothing is left to do, the lowest site that hasn't stopped has finished.
-use Rattle.std.proofs.Common.{ℕ, ◌+◌, suc, ◌-◌, ◌<◌, ◌≤◌, ◌==◌, ◌≡◌, ◌≢◌, ◌&&◌, not, cond, Bool, true, false, List, [], ◌∷◌, Option, Some, None, drop, refl, sym, ap, ◌∙◌, subst, ◌⊎◌, inl, inr, arith, ltb→lt, T}
+use Rattle.std.proofs.Common.{ℕ, ◌+◌, ◌-◌, ◌<◌, ◌≤◌, ◌==◌, ◌≡◌, ◌≢◌, ◌&&◌, not, cond, Bool, true, false, List, [], ◌∷◌, Option, Some, None, drop, refl, sym, ap, ◌∙◌, subst, ◌⊎◌, inl, inr, arith, ltb→lt, T}
 use Rattle.std.proofs.lemmas.Bool.{cases_Bool, eqb-true}
 use Rattle.std.specs.Prelude.{nat_lt}
 use Rattle.sdd_control.specs.declared.message.Message.{Message}
-use Rattle.sdd_control.specs.Laws.{IsLowest, LeaderEnds, NoMessages, NoSends}
+use Rattle.sdd_control.specs.Laws.{LeaderEnds, NoMessages, NoSends}
 use Rattle.sdd_control.specs.Links.{link, put, taken}
 use Rattle.sdd_control.specs.Log.{Log, noted}
 use Rattle.sdd_control.specs.NoteTests.{is_above, is_finish, is_gone, is_ok, is_stop, is_tell, is_value}
@@ -42,12 +42,14 @@ pub record Flows (log : Log) : Type 0 where
   pub awaited : (i j : ℕ) → noted (is_tell i j) log ≡ true → Awaited log i j
 
 -- a message stays on its link, or is the first and arrival
-first_or : (i j : ℕ) (xs : List Message) (m : Message) → Has xs m → Has (drop 1 xs) m ⊎ ((rest : List Message) × (xs ≡ m ∷ rest))
+first_or : (i j : ℕ) (xs : List Message) (m : Message) → Has xs m
+    → Has (drop 1 xs) m ⊎ ((rest : List Message) × (xs ≡ m ∷ rest))
 first_or i j [] m h = elim h [ ]
 first_or i j (x ∷ xs) m (inl e) = inr (xs, ap (λ z. z ∷ xs) e)
 first_or i j (x ∷ xs) m (inr h) = inl h
 
-stays : (a : Act) (i j : ℕ) (xs : List Message) (m : Message) → Has xs m → Has (taken a i j xs) m ⊎ ((rest : List Message) × (xs ≡ m ∷ rest) × (a ≡ Deliver i j))
+stays : (a : Act) (i j : ℕ) (xs : List Message) (m : Message) → Has xs m
+    → Has (taken a i j xs) m ⊎ ((rest : List Message) × (xs ≡ m ∷ rest) × (a ≡ Deliver i j))
 stays (Send b) i j xs m h = inl h
 stays (Halt b) i j xs m h = inl h
 stays (Deliver b d) i j xs m h =
@@ -63,7 +65,8 @@ stays (Deliver b d) i j xs m h =
     ]
 
 module _ (backups writes : ℕ) (log : Log) where
-  gone_comes : (i j : ℕ) (n : Note) (rest : List Message) → Case backups writes log (Deliver i j) n → link log i j ≡ GONE ∷ rest → (n ≡ Gone j i) ⊎ (stopped log j ≡ true)
+  gone_comes : (i j : ℕ) (n : Note) (rest : List Message) → Case backups writes log (Deliver i j) n
+      → link log i j ≡ GONE ∷ rest → (n ≡ Gone j i) ⊎ (stopped log j ≡ true)
   gone_comes i j n rest (empty _ _ p) e = let q : [] ≡ GONE ∷ rest = sym p ∙ e in absurd (cc)
   gone_comes i j n rest (dropped _ _ p) e = inr p
   gone_comes i j n rest (learns _ _ r p q) e = inl refl
@@ -71,7 +74,8 @@ module _ (backups writes : ℕ) (log : Log) where
   gone_comes i j n rest (ignores _ _ v r p q t) e = let s : VALUE v ∷ r ≡ GONE ∷ rest = sym q ∙ e in absurd (cc)
   gone_comes i j n rest (takes _ _ v r p q t) e = let s : VALUE v ∷ r ≡ GONE ∷ rest = sym q ∙ e in absurd (cc)
 
-  ok_comes : (i j : ℕ) (n : Note) (rest : List Message) → Case backups writes log (Deliver i j) n → link log i j ≡ OK ∷ rest → (n ≡ Ok j i) ⊎ (stopped log j ≡ true)
+  ok_comes : (i j : ℕ) (n : Note) (rest : List Message) → Case backups writes log (Deliver i j) n
+      → link log i j ≡ OK ∷ rest → (n ≡ Ok j i) ⊎ (stopped log j ≡ true)
   ok_comes i j n rest (empty _ _ p) e = let q : [] ≡ OK ∷ rest = sym p ∙ e in absurd (cc)
   ok_comes i j n rest (dropped _ _ p) e = inr p
   ok_comes i j n rest (learns _ _ r p q) e = let s : GONE ∷ r ≡ OK ∷ rest = sym q ∙ e in absurd (cc)
@@ -79,7 +83,9 @@ module _ (backups writes : ℕ) (log : Log) where
   ok_comes i j n rest (ignores _ _ v r p q t) e = let s : VALUE v ∷ r ≡ OK ∷ rest = sym q ∙ e in absurd (cc)
   ok_comes i j n rest (takes _ _ v r p q t) e = let s : VALUE v ∷ r ≡ OK ∷ rest = sym q ∙ e in absurd (cc)
 
-  value_comes : (i j : ℕ) (n : Note) (w : Val) (rest : List Message) → Case backups writes log (Deliver i j) n → link log i j ≡ VALUE w ∷ rest → ((v : Val) × (n ≡ Value j i v)) ⊎ (stopped log j ≡ true) ⊎ (noted (is_above j i) log ≡ true)
+  value_comes : (i j : ℕ) (n : Note) (w : Val) (rest : List Message)
+      → Case backups writes log (Deliver i j) n → link log i j ≡ VALUE w ∷ rest
+      → ((v : Val) × (n ≡ Value j i v)) ⊎ (stopped log j ≡ true) ⊎ (noted (is_above j i) log ≡ true)
   value_comes i j n w rest (empty _ _ p) e = let q : [] ≡ VALUE w ∷ rest = sym p ∙ e in absurd (cc)
   value_comes i j n w rest (dropped _ _ p) e = inr (inl p)
   value_comes i j n w rest (learns _ _ r p q) e = let s : GONE ∷ r ≡ VALUE w ∷ rest = sym q ∙ e in absurd (cc)
@@ -88,7 +94,8 @@ module _ (backups writes : ℕ) (log : Log) where
   value_comes i j n w rest (takes _ _ v r p q t) e = inl (v, refl)
 
 -- a value of a site above i
-pub above_one : (j i : ℕ) (log : Log) → noted (is_above j i) log ≡ true → (k : ℕ) × (i < k) × (noted (is_value j k) log ≡ true)
+pub above_one : (j i : ℕ) (log : Log) → noted (is_above j i) log ≡ true
+    → (k : ℕ) × (i < k) × (noted (is_value j k) log ≡ true)
 above_one j i [] e = absurd (cc)
 above_one j i (x ∷ log) e =
     elim (or_cases (is_above j i x.note) (noted (is_above j i) log) e) [
@@ -100,7 +107,8 @@ above_one j i (x ∷ log) e =
     here (Value a b v) e = (b, ltb→lt i b (subst T (sym (and_right (a == j) (nat_lt i b) e)) tt), and_both (a == j) (b == b) (and_left (a == j) (nat_lt i b) e) (same_itself b))
     here _ e = absurd (cc)
 
-above_stopped : (backups writes : ℕ) (log : Log) → Kept backups writes log → (i j : ℕ) → noted (is_above j i) log ≡ true → stopped log i ≡ true
+above_stopped : (backups writes : ℕ) (log : Log) → Kept backups writes log → (i j : ℕ)
+    → noted (is_above j i) log ≡ true → stopped log i ≡ true
 above_stopped backups writes log k i j e =
     let g = above_one j i log e in
     let t = k.rising g.0 j g.2 in
@@ -111,7 +119,8 @@ differ : (l j : ℕ) → l ≢ j → (l == j) ≡ false
 differ l j n = elim (cases_Bool (l == j)) [ inl e ↦ absurd (n (eqb-true l j e)) | inr e ↦ e ]
 
 module _ (backups writes : ℕ) (log : Log) (a : Act) (n : Note) (c : Case backups writes log a n) (k : Kept backups writes log) (f : Flows log) where
-  keep : (i j : ℕ) (m : Message) → Has (link log i j) m → Has (link (more log a n) i j) m ⊎ ((rest : List Message) × (link log i j ≡ m ∷ rest) × Case backups writes log (Deliver i j) n)
+  keep : (i j : ℕ) (m : Message) → Has (link log i j) m
+      → Has (link (more log a n) i j) m ⊎ ((rest : List Message) × (link log i j ≡ m ∷ rest) × Case backups writes log (Deliver i j) n)
   keep i j m h =
       elim (stays a i j (link log i j) m h) [
         | inl x ↦ inl (has_left (taken a i j (link log i j)) (put n i j) m x)
@@ -181,17 +190,20 @@ module _ (backups writes : ℕ) (log : Log) (a : Act) (n : Note) (c : Case backu
   pub flows_on : Flows (more log a n)
   flows_on = record { missed = missed_on; awaited = awaited_on }
 
-pub flows_after : (backups writes : ℕ) (log : Log) (acts : List Act) → Kept backups writes log → Flows log → FitAll backups acts → Flows (log_after backups writes log acts)
+pub flows_after : (backups writes : ℕ) (log : Log) (acts : List Act) → Kept backups writes log
+    → Flows log → FitAll backups acts → Flows (log_after backups writes log acts)
 flows_after backups writes log [] k g f = g
 flows_after backups writes log (a ∷ acts) k g f =
     let c : Case backups writes log a (note_of backups writes log a) = case_of backups writes log a f.0 in
     flows_after backups writes (more log a (note_of backups writes log a)) acts (kept_on backups writes log a (note_of backups writes log a) c k) (flows_on backups writes log a (note_of backups writes log a) c k g) f.1
 
-pub flows : (backups writes : ℕ) (acts : List Act) → FitAll backups acts → Flows (log_of backups writes acts)
+pub flows : (backups writes : ℕ) (acts : List Act) → FitAll backups acts
+    → Flows (log_of backups writes acts)
 flows backups writes acts f = flows_after backups writes [] acts (kept_nil backups writes) (record { missed = λ l j d e. absurd (cc); awaited = λ i j e. absurd (cc) }) f
 
 -- a leader that send nothing has told all, and lacks an answer
-no_send : (i : ℕ) (to : Option ℕ) (all : Bool) (v : Val) (left : Option ℕ) → send i true to all v left ≡ Nothing → (to ≡ None) × (all ≡ false)
+no_send : (i : ℕ) (to : Option ℕ) (all : Bool) (v : Val) (left : Option ℕ)
+    → send i true to all v left ≡ Nothing → (to ≡ None) × (all ≡ false)
 no_send i (Some j) all v left e = absurd (cc)
 no_send i None false v left e = (refl, refl)
 no_send i None true All (Some n) e = absurd (cc)
@@ -214,7 +226,8 @@ module _ (backups writes : ℕ) (log : Log) (f : Flows log) (q : NoMessages back
       by_case (known e) = e
       by_case (no_one e) = absurd (not_both (stopped log m) e up)
 
-  has_answered : (j : ℕ) → j ≤ backups → m < j → noted (is_tell m j) log ≡ true → answered log m j ≡ true
+  has_answered : (j : ℕ) → j ≤ backups → m < j → noted (is_tell m j) log ≡ true
+      → answered log m j ≡ true
   has_answered j b l t =
       elim (cases_Bool (stopped log j)) [
         | inl s ↦ or_right (noted (is_ok m j) log) (knows log m j) (knows_it j b (λ e. omega arith) s)
@@ -250,4 +263,4 @@ pub leader_ends_of : (backups writes : ℕ) (acts : List Act)
     → FitAll backups acts → LeaderEnds backups writes (log_of backups writes acts)
 leader_ends_of backups writes acts f q r m low =
     leader_finished backups writes (log_of backups writes acts) (flows backups writes acts f)
-        q r m low.0 low.1 low.2
+    q r m low.0 low.1 low.2

@@ -44,11 +44,13 @@ every_at p k (suc n) j e l m =
       | inr h ↦ let q : k ≡ j = omega arith in subst (λ z. p z ≡ true) q (and_left (p k) (every_from p (k + 1) n) e)
     ]
 
-pub every_all : (p : ℕ → Bool) (k n : ℕ) → ((j : ℕ) → k ≤ j → j < k + n → p j ≡ true) → every_from p k n ≡ true
+pub every_all : (p : ℕ → Bool) (k n : ℕ) → ((j : ℕ) → k ≤ j → j < k + n → p j ≡ true)
+    → every_from p k n ≡ true
 every_all p k zero h = refl
 every_all p k (suc n) h = and_both (p k) (every_from p (k + 1) n) (h k (omega arith) (omega arith)) (every_all p (k + 1) n (λ j l m. h j (omega arith) (omega arith)))
 
-pub first_at : (p : ℕ → Bool) (k n j : ℕ) → first_from p k n ≡ Some j → (k ≤ j) × (j < k + n) × (p j ≡ true)
+pub first_at : (p : ℕ → Bool) (k n j : ℕ) → first_from p k n ≡ Some j
+    → (k ≤ j) × (j < k + n) × (p j ≡ true)
 first_at p k zero j e = absurd (cc)
 first_at p k (suc n) j e =
     elim (cases_Bool (p k)) [
@@ -61,7 +63,8 @@ first_at p k (suc n) j e =
           let l = h.0 in let m = h.1 in (omega arith, omega arith, h.2)
     ]
 
-pub first_before : (p : ℕ → Bool) (k n j m : ℕ) → first_from p k n ≡ Some j → k ≤ m → m < j → p m ≡ false
+pub first_before : (p : ℕ → Bool) (k n j m : ℕ) → first_from p k n ≡ Some j → k ≤ m → m < j
+    → p m ≡ false
 first_before p k zero j m e l u = absurd (cc)
 first_before p k (suc n) j m e l u =
     elim (cases_Bool (p k)) [

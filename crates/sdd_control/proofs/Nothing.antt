@@ -1,10 +1,11 @@
 -- The tables before the first event.
-use Rattle.std.proofs.Common.{ℕ, ◌+◌, ◌*◌, ◌<◌, ◌≤◌, ◌≡◌, false, List, [], Option, None, replicate, get_or, refl, sym, ap, ◌∙◌, arith}
+use Rattle.std.proofs.Common.{ℕ, ◌+◌, ◌*◌, ◌<◌, ◌≤◌, ◌≡◌, false, List, [], None, replicate, get_or, ap, ◌∙◌, arith}
 use Rattle.std.proofs.lemmas.List.{get_or-replicate}
 use Rattle.sdd_control.specs.State.{Tracks}
 use Rattle.sdd_control.specs.declared.state.State.{State}
 
-same_everywhere : {A : Type 0} (xs : List A) (n i : ℕ) (x : A) → xs ≡ replicate n x → i < n → get_or xs i x ≡ x
+same_everywhere : {A : Type 0} (xs : List A) (n i : ℕ) (x : A) → xs ≡ replicate n x → i < n
+    → get_or xs i x ≡ x
 same_everywhere xs n i x is within = ap (λ z. get_or z i x) is ∙ get_or-replicate n i x x within
 
 pub tracks_nothing : (st : State)

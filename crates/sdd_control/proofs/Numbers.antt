@@ -1,5 +1,5 @@
 -- The numbers that a site wrote are those from 1 to its last.
-use Rattle.std.proofs.Common.{ℕ, zero, suc, ◌+◌, ◌<◌, ◌≤◌, ◌==◌, ◌≡◌, ◌&&◌, ◌||◌, not, cond, Bool, true, false, List, [], ◌∷◌, ◌++◌, Some, refl, sym, ap, ◌∙◌, subst, ◌⊎◌, inl, inr, arith, T, le-leb, leb→le}
+use Rattle.std.proofs.Common.{ℕ, zero, suc, ◌+◌, ◌<◌, ◌≤◌, ◌==◌, ◌≡◌, ◌&&◌, not, cond, Bool, true, false, List, [], ◌∷◌, refl, sym, ap, ◌∙◌, subst, ◌⊎◌, inl, inr, arith, T, le-leb, leb→le}
 use Rattle.std.proofs.lemmas.Bool.{cases_Bool, cases_lt}
 use Rattle.std.specs.Prelude.{nat_lt, nat_le}
 use Rattle.std.proofs.lemmas.Bool.Decides.{nat_tests}
@@ -7,7 +7,6 @@ use Rattle.sdd_control.specs.Stretches.{count_from}
 use Rattle.sdd_control.proofs.Promises.{number_noted}
 use Rattle.sdd_control.specs.Log.{Log, noted}
 use Rattle.sdd_control.specs.NoteTests.{is_number, is_write}
-use Rattle.sdd_control.specs.Sends.{unwritten}
 use Rattle.sdd_control.specs.State.{greatest, greatest_of, last_number, last_number_of}
 use Rattle.sdd_control.specs.Steps.{FitAll, log_after, log_of, note_of}
 use Rattle.sdd_control.specs.declared.act.Act.{Act}
@@ -26,7 +25,7 @@ pub record Numbered (writes : ℕ) (log : Log) : Type 0 where
 -- a note isn't of a write by i, or is of its last
 number_cases : (i : ℕ) (n : Note) (before : ℕ)
     → ((last_number_of i n before ≡ before) × ((k : ℕ) → is_write i k n ≡ false))
-        ⊎ ((m : ℕ) × (n ≡ Write i m) × (last_number_of i n before ≡ m))
+    ⊎ ((m : ℕ) × (n ≡ Write i m) × (last_number_of i n before ≡ m))
 number_cases i (Write a b) before =
     elim (cases_Bool (a == i)) [
       | inl e ↦
@@ -121,14 +120,15 @@ numbered_after backups writes log [] h f = h
 numbered_after backups writes log (a ∷ acts) h f =
     let note = note_of backups writes log a in
     numbered_after backups writes (more log a note) acts
-        (numbered_on backups writes log a note (case_of backups writes log a f.0) h) f.1
+    (numbered_on backups writes log a note (case_of backups writes log a f.0) h) f.1
 
 pub numbered : (backups writes : ℕ) (acts : List Act)
     → FitAll backups acts → Numbered writes (log_of backups writes acts)
 numbered backups writes acts f = numbered_after backups writes [] acts (numbered_nil writes) f
 
 -- a number that was written was written by some site
-number_by : (k : ℕ) (log : Log) → noted (is_number k) log ≡ true → (i : ℕ) × (noted (is_write i k) log ≡ true)
+number_by : (k : ℕ) (log : Log) → noted (is_number k) log ≡ true
+    → (i : ℕ) × (noted (is_write i k) log ≡ true)
 number_by k [] e = absurd (cc)
 number_by k (x ∷ log) e =
     elim (or_cases (is_number k x.note) (noted (is_number k) log) e) [
@@ -151,7 +151,7 @@ greater b before =
 -- what a note makes of the greatest number
 greatest_cases : (n : Note) (before : ℕ)
     → (((k : ℕ) → is_number k n ≡ true → k ≤ before) × (greatest_of n before ≡ before))
-        ⊎ ((a : ℕ) × (b : ℕ) × (n ≡ Write a b) × (greatest_of n before ≡ b) × (before ≤ b))
+    ⊎ ((a : ℕ) × (b : ℕ) × (n ≡ Write a b) × (greatest_of n before ≡ b) × (before ≤ b))
 greatest_cases (Write a b) before =
     elim (greater b before) [
       | inl h ↦ inr (a, b, refl, h.0, h.1)
@@ -178,7 +178,8 @@ at_most_greatest k (x ∷ log) e =
     ]
 
 -- the greatest number was written, if there is one
-greatest_by : (log : Log) → 1 ≤ greatest log → (i : ℕ) × (noted (is_write i (greatest log)) log ≡ true)
+greatest_by : (log : Log) → 1 ≤ greatest log
+    → (i : ℕ) × (noted (is_write i (greatest log)) log ≡ true)
 greatest_by [] l = absurd (omega arith)
 greatest_by (x ∷ log) l =
     elim (greatest_cases x.note (greatest log)) [
@@ -230,7 +231,7 @@ count_none p g k zero same l = refl
 count_none p g k (suc n) same l =
     let f : p k ≡ false = same k (omega arith) ∙ above_fails g k l in
     ap (λ t. cond t (count_from p (k + 1) n + 1) (count_from p (k + 1) n)) f
-        ∙ count_none p g (k + 1) n (λ j m. same j (omega arith)) (omega arith)
+    ∙ count_none p g (k + 1) n (λ j m. same j (omega arith)) (omega arith)
 
 count_up_to : (p : ℕ → Bool) (g k n : ℕ) → ((j : ℕ) → k ≤ j → p j ≡ nat_le j g)
     → k ≤ g + 1 → g < k + n → count_from p k n + k ≡ g + 1
@@ -240,13 +241,13 @@ count_up_to p g k (suc n) same l u =
       | inl above ↦
           let f : p k ≡ false = same k (omega arith) ∙ above_fails g k above in
           let e : count_from p k (suc n) ≡ count_from p (k + 1) n =
-              ap (λ t. cond t (count_from p (k + 1) n + 1) (count_from p (k + 1) n)) f in
+          ap (λ t. cond t (count_from p (k + 1) n + 1) (count_from p (k + 1) n)) f in
           let z = count_none p g (k + 1) n (λ j m. same j (omega arith)) (omega arith) in
           omega arith
       | inr below ↦
           let t : p k ≡ true = same k (omega arith) ∙ le-leb k g below in
           let e : count_from p k (suc n) ≡ count_from p (k + 1) n + 1 =
-              ap (λ t. cond t (count_from p (k + 1) n + 1) (count_from p (k + 1) n)) t in
+          ap (λ t. cond t (count_from p (k + 1) n + 1) (count_from p (k + 1) n)) t in
           let h = count_up_to p g (k + 1) n (λ j m. same j (omega arith)) (omega arith) (omega arith) in
           omega arith
     ]

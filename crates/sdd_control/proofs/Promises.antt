@@ -16,12 +16,14 @@ use Rattle.sdd_control.proofs.Lists.{or_cases, every_at, and_right, or_left, or_
 use Rattle.sdd_control.proofs.Cases.{case_of}
 use Rattle.sdd_control.proofs.Kept.{Kept, Ready, kept_nil, kept_on, heir_at, more}
 
-pub kept_after : (backups writes : ℕ) (log : Log) (acts : List Act) → Kept backups writes log → FitAll backups acts → Kept backups writes (log_after backups writes log acts)
+pub kept_after : (backups writes : ℕ) (log : Log) (acts : List Act) → Kept backups writes log
+    → FitAll backups acts → Kept backups writes (log_after backups writes log acts)
 kept_after backups writes log [] k f = k
 kept_after backups writes log (a ∷ acts) k f =
     kept_after backups writes (more log a (note_of backups writes log a)) acts (kept_on backups writes log a (note_of backups writes log a) (case_of backups writes log a f.0) k) f.1
 
-pub kept : (backups writes : ℕ) (acts : List Act) → FitAll backups acts → Kept backups writes (log_of backups writes acts)
+pub kept : (backups writes : ℕ) (acts : List Act) → FitAll backups acts
+    → Kept backups writes (log_of backups writes acts)
 kept backups writes acts f = kept_after backups writes [] acts (kept_nil backups writes) f
 
 number_is : (i n : ℕ) (x : Note) → is_write i n x ≡ true → is_number n x ≡ true
@@ -29,7 +31,8 @@ number_is i n (Write a b) e = and_right (a == i) (b == n) e
 number_is i n _ e = absurd (cc)
 
 -- a number that a site wrote is written
-pub number_noted : (i n : ℕ) (xs : Log) → noted (is_write i n) xs ≡ true → noted (is_number n) xs ≡ true
+pub number_noted : (i n : ℕ) (xs : Log) → noted (is_write i n) xs ≡ true
+    → noted (is_number n) xs ≡ true
 number_noted i n [] e = e
 number_noted i n (x ∷ xs) e =
     elim (or_cases (is_write i n x.note) (noted (is_write i n) xs) e) [
@@ -39,7 +42,8 @@ number_noted i n (x ∷ xs) e =
 
 module _ (backups writes : ℕ) (log : Log) (k : Kept backups writes log) where
   -- who led when each higher site had answered gives its value to each later heir
-  pub agree : (n i : ℕ) (v : Val) → Ready backups log i v → (j : ℕ) → j < n → i < j → j ≤ backups → heir log j ≡ true → value log j ≡ v
+  pub agree : (n i : ℕ) (v : Val) → Ready backups log i v → (j : ℕ) → j < n → i < j → j ≤ backups
+      → heir log j ≡ true → value log j ≡ v
   agree zero i v r j b l u h = absurd (omega arith)
   agree (suc n) i v r j b l u h =
       let known = heir_at log j i h l in

@@ -70,7 +70,8 @@ put_tidy (Stop a) i j = tidy_cond ((a == i) && not (i == j)) GONE
 put_tidy _ i j = tt
 
 -- a note that puts something on a link from i is one of i
-pub put_by : (n : Note) (i j : ℕ) → (put n i j ≡ []) ⊎ ((v : Val) × (n ≡ Tell i j v)) ⊎ ((v : Val) × (n ≡ Value i j v)) ⊎ (n ≡ Stop i)
+pub put_by : (n : Note) (i j : ℕ)
+    → (put n i j ≡ []) ⊎ ((v : Val) × (n ≡ Tell i j v)) ⊎ ((v : Val) × (n ≡ Value i j v)) ⊎ (n ≡ Stop i)
 put_by (Tell a b w) i j =
     elim (cases_Bool ((a == i) && (b == j))) [
       | inl e ↦ let t = two a b i j e in let p = t.0 in let q = t.1 in inr (inl (w, cc))
@@ -88,7 +89,8 @@ put_by (Stop a) i j =
     ]
 put_by _ i j = inl refl
 
-pub has_taken : (a : Act) (i j : ℕ) (xs : List Message) (m : Message) → Has (taken a i j xs) m → Has xs m
+pub has_taken : (a : Act) (i j : ℕ) (xs : List Message) (m : Message) → Has (taken a i j xs) m
+    → Has xs m
 has_taken (Deliver a b) i j xs m h = by_test ((a == i) && (b == j)) h
   where
     by_test : (c : Bool) → Has (cond c (drop 1 xs) xs) m → Has xs m
@@ -107,7 +109,8 @@ taken_nil (Deliver a b) i j = by_test ((a == i) && (b == j))
     by_test false = refl
 taken_nil _ i j = refl
 
-pub tidy_taken : (a : Act) (i j : ℕ) (xs : List Message) → Tidy xs → Tidy (drop 1 xs) → Tidy (taken a i j xs)
+pub tidy_taken : (a : Act) (i j : ℕ) (xs : List Message) → Tidy xs → Tidy (drop 1 xs)
+    → Tidy (taken a i j xs)
 tidy_taken (Deliver a b) i j xs t u = by_test ((a == i) && (b == j))
   where
     by_test : (c : Bool) → Tidy (cond c (drop 1 xs) xs)
@@ -116,7 +119,8 @@ tidy_taken (Deliver a b) i j xs t u = by_test ((a == i) && (b == j))
 tidy_taken _ i j xs t u = t
 
 -- what stands is noted
-pub stands_noted : (p : Note → Bool) (n : Note) (log : Log) → p n ≡ true → Stands log n → noted p log ≡ true
+pub stands_noted : (p : Note → Bool) (n : Note) (log : Log) → p n ≡ true → Stands log n
+    → noted p log ≡ true
 stands_noted p n [] e s = elim s [ ]
 stands_noted p n (x ∷ log) e (inl q) = or_left (p x.note) (noted p log) (subst (λ z. p z ≡ true) (sym q) e)
 stands_noted p n (x ∷ log) e (inr s) = or_right (p x.note) (noted p log) (stands_noted p n log e s)

@@ -1,16 +1,15 @@
 -- What the tables say is what the log says.
-use Rattle.std.proofs.Common.{ℕ, zero, suc, ◌+◌, ◌-◌, ◌==◌, ◌<◌, ◌≤◌, ◌≡◌, ◌&&◌, ◌||◌, not, cond, Bool, true, false, List, [], ◌∷◌, ◌++◌, Option, Some, None, refl, sym, ap, ◌∙◌, subst, inl, inr, arith, lt-ltb}
+use Rattle.std.proofs.Common.{ℕ, zero, suc, ◌+◌, ◌-◌, ◌==◌, ◌<◌, ◌≤◌, ◌≡◌, ◌&&◌, ◌||◌, not, cond, Bool, true, false, List, [], ◌∷◌, ◌++◌, Option, Some, None, refl, sym, ap, ◌∙◌, inl, inr, arith, lt-ltb}
 use Rattle.std.proofs.lemmas.Bool.{cases_Bool, cases_lt}
 use Rattle.std.proofs.lemmas.Bool.Decides.{nat_tests}
 use Rattle.std.specs.Prelude.{nat_lt}
-use Rattle.sdd_control.specs.Control.{Follows}
 use Rattle.sdd_control.specs.Links.{link, put, taken}
 use Rattle.sdd_control.specs.Log.{Log, noted}
-use Rattle.sdd_control.specs.NoteTests.{is_above, is_finish, is_gone, is_ok, is_stop, is_tell, is_write}
+use Rattle.sdd_control.specs.NoteTests.{is_finish, is_gone, is_ok, is_stop, is_tell, is_write}
 use Rattle.sdd_control.specs.Sends.{all_answered, answered, next_send, next_untold, send, untold, unwritten}
 use Rattle.sdd_control.specs.Standing.{finished, heir, knows, last, last_of, leads, stopped, value, value_by}
-use Rattle.sdd_control.specs.State.{Adds, IsSized, NoteFits, Takes, Tracks, answered_in, arrival_in, greatest_of, has_finished, has_heard, has_stopped, has_told, heir_in, is_from_above, knows_in, last_number, last_number_in, last_number_of, may_send, messages_in, next_number_in, next_send_in, note_in, number_after, taken_in, untold_in, value_in}
-use Rattle.sdd_control.specs.Steps.{FitAll, Fits, arrival, happened, log_after, log_of, note_of}
+use Rattle.sdd_control.specs.State.{Adds, NoteFits, Takes, Tracks, answered_in, arrival_in, greatest_of, has_finished, has_heard, has_stopped, has_told, heir_in, is_from_above, knows_in, last_number, last_number_in, last_number_of, may_send, messages_in, next_number_in, next_send_in, note_in, number_after, taken_in, untold_in, value_in}
+use Rattle.sdd_control.specs.Steps.{Fits, arrival, note_of}
 use Rattle.sdd_control.specs.Stretches.{every_from, first_from}
 use Rattle.sdd_control.specs.declared.act.Act.{Act}
 use Rattle.sdd_control.specs.declared.act.Act.TheVariants.{Step as Send, Deliver, Stop as Halt}
@@ -22,24 +21,23 @@ use Rattle.sdd_control.specs.declared.state.State.{State}
 use Rattle.sdd_control.specs.declared.value.Val.{Val}
 use Rattle.sdd_control.specs.declared.value.Val.TheVariants.{Unknown, All, Nought}
 use Rattle.sdd_control.proofs.Above.{above_is_last}
-use Rattle.sdd_control.proofs.Kept.{Kept, not_false}
+use Rattle.sdd_control.proofs.Kept.{Kept}
 use Rattle.sdd_control.proofs.Lists.{first_at}
-use Rattle.sdd_control.proofs.Numbers.{Numbered, numbered}
-use Rattle.sdd_control.proofs.Promises.{kept}
+use Rattle.sdd_control.proofs.Numbers.{Numbered}
 
 pub every_same : (p q : ℕ → Bool) (k n : ℕ) → ((j : ℕ) → k ≤ j → j < k + n → p j ≡ q j)
     → every_from p k n ≡ every_from q k n
 every_same p q k zero same = refl
 every_same p q k (suc n) same =
     ap (λ b. b && every_from p (k + 1) n) (same k (omega arith) (omega arith))
-        ∙ ap (λ b. q k && b) (every_same p q (k + 1) n (λ j l m. same j (omega arith) (omega arith)))
+    ∙ ap (λ b. q k && b) (every_same p q (k + 1) n (λ j l m. same j (omega arith) (omega arith)))
 
 pub first_same : (p q : ℕ → Bool) (k n : ℕ) → ((j : ℕ) → k ≤ j → j < k + n → p j ≡ q j)
     → first_from p k n ≡ first_from q k n
 first_same p q k zero same = refl
 first_same p q k (suc n) same =
     ap (λ b. cond b (Some k) (first_from p (k + 1) n)) (same k (omega arith) (omega arith))
-        ∙ ap (cond (q k) (Some k)) (first_same p q (k + 1) n (λ j l m. same j (omega arith) (omega arith)))
+    ∙ ap (cond (q k) (Some k)) (first_same p q (k + 1) n (λ j l m. same j (omega arith) (omega arith)))
 
 -- the first number that passes is c + 1
 first_after : (p : ℕ → Bool) (c k n : ℕ) → ((j : ℕ) → k ≤ j → j ≤ c → p j ≡ false)
@@ -55,12 +53,12 @@ first_after p c k (suc n) below here l =
           let t : p k ≡ true = ap p e ∙ here in
           let f : nat_lt (c + 1) (k + suc n) ≡ true = lt-ltb (c + 1) (k + suc n) (omega arith) in
           ap (λ b. cond b (Some k) (first_from p (k + 1) n)) t ∙ ap (λ (z : ℕ). Some z) e
-              ∙ sym (ap (λ t. cond {A = Option ℕ} t (Some (c + 1)) None) f)
+          ∙ sym (ap (λ t. cond {A = Option ℕ} t (Some (c + 1)) None) f)
       | inr m ↦
           let e : k + 1 + n ≡ k + suc n = omega arith in
           ap (λ b. cond b (Some k) (first_from p (k + 1) n)) (below k (omega arith) m)
-              ∙ first_after p c (k + 1) n (λ j u v. below j (omega arith) v) here (omega arith)
-              ∙ ap (λ z. cond {A = Option ℕ} (nat_lt (c + 1) z) (Some (c + 1)) None) e
+          ∙ first_after p c (k + 1) n (λ j u v. below j (omega arith) v) here (omega arith)
+          ∙ ap (λ z. cond {A = Option ℕ} (nat_lt (c + 1) z) (Some (c + 1)) None) e
     ]
 
 above_one : (c writes : ℕ) → nat_lt (c + 1) (1 + writes) ≡ nat_lt c writes
@@ -71,8 +69,8 @@ number_after_last : (writes : ℕ) (log : Log) → Numbered writes log → (i : 
     → unwritten writes log i ≡ number_after writes (last_number log i)
 number_after_last writes log h i =
     first_after test (last_number log i) 1 writes below here (omega arith)
-        ∙ ap (λ z. cond {A = Option ℕ} z (Some (last_number log i + 1)) None)
-            (above_one (last_number log i) writes)
+    ∙ ap (λ z. cond {A = Option ℕ} z (Some (last_number log i + 1)) None)
+    (above_one (last_number log i) writes)
   where
     test : ℕ → Bool
     test k = not (noted (is_write i k) log)
@@ -100,35 +98,36 @@ module _ (st : State) (log : Log) (t : Tracks st log) where
   pub value_same : (i : ℕ) → i ≤ st.backups → value_in st i ≡ value log i
   value_same i l =
       ap (λ z. value_by z (i == 0) (heir_in st i)) (t.values i l)
-          ∙ ap (value_by (last log i) (i == 0)) (heir_same i l)
+      ∙ ap (value_by (last log i) (i == 0)) (heir_same i l)
 
   untold_same : (i j : ℕ) → i ≤ st.backups → j ≤ st.backups → untold_in st i j ≡ untold log i j
   untold_same i j l m =
       ap (λ z. not z && not (knows_in st i j)) (t.told i j l m)
-          ∙ ap (λ z. not (noted (is_tell i j) log) && not z) (t.known i j l m)
+      ∙ ap (λ z. not (noted (is_tell i j) log) && not z) (t.known i j l m)
 
-  answered_same : (i j : ℕ) → i ≤ st.backups → j ≤ st.backups → answered_in st i j ≡ answered log i j
+  answered_same : (i j : ℕ) → i ≤ st.backups → j ≤ st.backups
+      → answered_in st i j ≡ answered log i j
   answered_same i j l m =
       ap (λ z. z || knows_in st i j) (t.heard i j l m)
-          ∙ ap (λ z. noted (is_ok i j) log || z) (t.known i j l m)
+      ∙ ap (λ z. noted (is_ok i j) log || z) (t.known i j l m)
 
   next_untold_same : (i : ℕ) → i ≤ st.backups
       → first_from (untold_in st i) (i + 1) (st.backups - i) ≡ next_untold st.backups log i
   next_untold_same i l =
       first_same (untold_in st i) (untold log i) (i + 1) (st.backups - i)
-          (λ j m u. untold_same i j l (omega arith))
+      (λ j m u. untold_same i j l (omega arith))
 
   all_answered_same : (i : ℕ) → i ≤ st.backups
       → every_from (answered_in st i) (i + 1) (st.backups - i) ≡ all_answered st.backups log i
   all_answered_same i l =
       every_same (answered_in st i) (answered log i) (i + 1) (st.backups - i)
-          (λ j m u. answered_same i j l (omega arith))
+      (λ j m u. answered_same i j l (omega arith))
 
   may_send_same : (i : ℕ) → i ≤ st.backups → may_send st i ≡ (leads log i && not (finished log i))
   may_send_same i l =
       ap (λ z. not z && heir_in st i && not (has_finished st i)) (t.stopped i l)
-          ∙ ap (λ z. not (stopped log i) && z && not (has_finished st i)) (heir_same i l)
-          ∙ ap (λ z. leads log i && not z) (t.finished i l)
+      ∙ ap (λ z. not (stopped log i) && z && not (has_finished st i)) (heir_same i l)
+      ∙ ap (λ z. leads log i && not z) (t.finished i l)
 
   next_number_same : Numbered st.writes log → (i : ℕ) → i ≤ st.backups
       → next_number_in st i ≡ unwritten st.writes log i
@@ -139,16 +138,16 @@ module _ (st : State) (log : Log) (t : Tracks st log) where
       → next_send_in st i ≡ next_send st.backups st.writes log i
   next_send_same h i l =
       send_same i (may_send_same i l) (next_untold_same i l) (all_answered_same i l)
-          (value_same i l) (next_number_same h i l)
+      (value_same i l) (next_number_same h i l)
 
   arrival_same : Kept st.backups st.writes log → (i j : ℕ) → i ≤ st.backups → j ≤ st.backups
       → arrival_in st i j ≡ note_of st.backups st.writes log (Deliver i j)
   arrival_same k i j l m =
       ap (λ z. arrival z (messages_in st i j) (is_from_above (taken_in st j) i) i j) (t.stopped j m)
-          ∙ ap (λ z. arrival (stopped log j) z (is_from_above (taken_in st j) i) i j) (t.links i j l m)
-          ∙ ap (λ z. arrival (stopped log j) (link log i j) (is_from_above z i) i j) (t.values j m)
-          ∙ ap (λ z. arrival (stopped log j) (link log i j) z i j)
-              (sym (above_is_last st.backups st.writes log k i j))
+      ∙ ap (λ z. arrival (stopped log j) z (is_from_above (taken_in st j) i) i j) (t.links i j l m)
+      ∙ ap (λ z. arrival (stopped log j) (link log i j) (is_from_above z i) i j) (t.values j m)
+      ∙ ap (λ z. arrival (stopped log j) (link log i j) z i j)
+      (sym (above_is_last st.backups st.writes log k i j))
 
   pub note_same : Kept st.backups st.writes log → Numbered st.writes log → (act : Act)
       → Fits st.backups act → note_in st act ≡ note_of st.backups st.writes log act
@@ -176,15 +175,17 @@ arrival_fits backups false (OK ∷ rest) above i j l m = (m, l)
 arrival_fits backups false (VALUE v ∷ rest) true i j l m = tt
 arrival_fits backups false (VALUE v ∷ rest) false i j l m = (m, l)
 
-halt_fits : (backups i : ℕ) (halted : Bool) → i ≤ backups → NoteFits backups (cond halted Nothing (Stop i))
+halt_fits : (backups i : ℕ) (halted : Bool) → i ≤ backups
+    → NoteFits backups (cond halted Nothing (Stop i))
 halt_fits backups i true l = tt
 halt_fits backups i false l = l
 
-pub note_fits : (st : State) (act : Act) → Fits st.backups act → NoteFits st.backups (note_in st act)
+pub note_fits : (st : State) (act : Act) → Fits st.backups act
+    → NoteFits st.backups (note_in st act)
 note_fits st (Send i) l =
     send_fits st.backups i (may_send st i) (first_from (untold_in st i) (i + 1) (st.backups - i))
-        (every_from (answered_in st i) (i + 1) (st.backups - i)) (value_in st i) (next_number_in st i) l
-        (λ j e. let f = first_at (untold_in st i) (i + 1) (st.backups - i) j e in let u = f.1 in omega arith)
+    (every_from (answered_in st i) (i + 1) (st.backups - i)) (value_in st i) (next_number_in st i) l
+    (λ j e. let f = first_at (untold_in st i) (i + 1) (st.backups - i) j e in let u = f.1 in omega arith)
 note_fits st (Deliver i j) f =
     arrival_fits st.backups (has_stopped st j) (messages_in st i j) (is_from_above (taken_in st j) i) i j f.0 f.1
 note_fits st (Halt i) l = halt_fits st.backups i (has_stopped st i) l

@@ -1,5 +1,5 @@
 -- Stretches of numbers, one number after the other.
-use Rattle.std.proofs.Common.{ℕ, zero, suc, ◌+◌, ◌-◌, ◌<◌, ◌≤◌, ◌≡◌, ◌&&◌, cond, Bool, true, false, Option, Some, None, refl, sym, ap, ◌∙◌, subst, arith}
+use Rattle.std.proofs.Common.{ℕ, suc, ◌+◌, ◌-◌, ◌<◌, ◌≤◌, ◌≡◌, ◌&&◌, cond, Bool, true, false, Some, None, ap, ◌∙◌, arith}
 use Rattle.sdd_control.specs.Stretches.{every_from, first_from}
 
 left_one : (k e : ℕ) → k < e → e - k ≡ suc (e - (k + 1))

@@ -3,7 +3,7 @@ use Rattle.std.specs.Prelude.{ℕ, ◌<◌, ◌≤◌, ◌≡◌, ◌≢◌, tru
 use Rattle.sdd_control.specs.declared.act.Act.TheVariants.{Step as Send}
 use Rattle.sdd_control.specs.declared.note.Note.TheVariants.{Write, Finish, Nothing}
 use Rattle.sdd_control.specs.declared.value.Val.{Val}
-use Rattle.sdd_control.specs.declared.value.Val.TheVariants.{All, Nought}
+use Rattle.sdd_control.specs.declared.value.Val.TheVariants.{Unknown, All, Nought}
 use Rattle.sdd_control.specs.Links.{link}
 use Rattle.sdd_control.specs.Log.{Log, Stands, noted}
 use Rattle.sdd_control.specs.NoteTests.{is_number}
@@ -23,6 +23,10 @@ AllWritten writes log =
 -- where a site finished with none, no number was written, before or after
 abbrev pub NoneWritten : Log → Type 0
 NoneWritten log = (i j number : ℕ) → Stands log (Finish i Nought) → ¬ Stands log (Write j number)
+
+-- a site that finishes knows whether the writes are made
+abbrev pub NeverUnknown : Log → Type 0
+NeverUnknown log = (i : ℕ) → ¬ Stands log (Finish i Unknown)
 
 -- no message is on its way to a site that hasn't stopped
 abbrev pub NoMessages : ℕ → Log → Type 0

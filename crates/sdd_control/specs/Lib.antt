@@ -1,4 +1,6 @@
 pub mod Control
+pub mod Draft
+pub mod Faults
 pub mod Keys
 pub mod Laws
 pub mod LineRules

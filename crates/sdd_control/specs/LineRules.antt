@@ -1,6 +1,6 @@
--- The rules of a line of a control file, in the order in which they are judged. What the lines before
--- it have said is a draft, and a line makes the next one.
-use Rattle.std.specs.Prelude.{ℕ, ◌^◌, ℤ, pos, nat_lt, nat_le, ◌==◌, ◌&&◌, not, List, [], ◌∷◌, ◌++◌, length, Option, Some, None, Result, Ok, Err, Bool, true, false, if◌then◌else◌}
+-- The rules of a line of a control file, in the order in which they are judged. What the lines
+-- before it have said is a draft, and a line makes the next one.
+use Rattle.std.specs.Prelude.{ℕ, ◌^◌, ℤ, pos, nat_lt, nat_le, ◌==◌, ◌&&◌, not, List, [], ◌∷◌, ◌++◌, length, Option, Some, None, Result, Ok, Err, if◌then◌else◌}
 use Rattle.std.specs.List.{list_all}
 use Rattle.std.specs.Str.{is_utf8}
 use Rattle.sdd_script.specs.declared.fault.Counts.TheVariants.{Event}
@@ -9,17 +9,17 @@ use Rattle.sdd_script.specs.declared.fault.WorkRule.TheVariants.{BadEvent, BadLi
 use Rattle.sdd_words.specs.Keywords.{is_free}
 use Rattle.sdd_words.specs.Number.{number_of}
 use Rattle.sdd_words.specs.Scan.{words_of}
-use Rattle.sdd_words.specs.Steps.{◌>>=◌, known, must}
+use Rattle.sdd_base.specs.Readings.{◌>>=◌, known, must}
 use Rattle.sdd_words.specs.Texts.{is_sound}
 use Rattle.sdd_words.specs.declared.word.Word.{Word}
 use Rattle.sdd_words.specs.declared.word.Word.TheVariants.{Plain, Quoted}
 use Rattle.sdd_control.specs.Keys.{key_of}
 use Rattle.sdd_control.specs.declared.act.Act.{Act}
 use Rattle.sdd_control.specs.declared.act.Act.TheVariants.{Step, Deliver, Stop}
-use Rattle.sdd_control.specs.declared.draft.Draft.{Draft}
-use Rattle.sdd_control.specs.declared.draft.Head.{Head}
-use Rattle.sdd_control.specs.declared.draft.Stage.{Stage}
-use Rattle.sdd_control.specs.declared.draft.Stage.TheVariants.{First, Events, Ended}
+use Rattle.sdd_control.specs.Draft.{Draft}
+use Rattle.sdd_control.specs.declared.stage.Head.{Head}
+use Rattle.sdd_control.specs.declared.stage.Stage.{Stage}
+use Rattle.sdd_control.specs.declared.stage.Stage.TheVariants.{First, Events, Ended}
 use Rattle.sdd_control.specs.declared.key.Key.{Key}
 use Rattle.sdd_control.specs.declared.key.Key.TheVariants as keys
 
@@ -77,13 +77,15 @@ end_of head draft _ = Err BadLine
 -- a line behind the first, by its key and the words behind it
 abbrev pub event_rules : Key → Head → Draft → List Word → Result Draft WorkRule
 event_rules keys.Step head draft words = site_of head.backups words >>= λ i. with_act draft (Step i)
-event_rules keys.Deliver head draft words = delivery_of head.backups words >>= λ act. with_act draft act
+event_rules keys.Deliver head draft words =
+    delivery_of head.backups words >>= λ act. with_act draft act
 event_rules keys.Stop head draft words = site_of head.backups words >>= λ i. with_act draft (Stop i)
 event_rules keys.End head draft words = end_of head draft words
 event_rules keys.Control head draft words = Err BadLine
 
 abbrev pub head_rules : Key → Draft → List Word → Result Draft WorkRule
-head_rules keys.Control draft words = head_of words >>= λ head. Ok (record draft { stage = Events head })
+head_rules keys.Control draft words =
+    head_of words >>= λ head. Ok (record draft { stage = Events head })
 head_rules _ draft words = Err BadLine
 
 abbrev pub key_rules : Stage → Key → Draft → List Word → Result Draft WorkRule
@@ -93,7 +95,8 @@ key_rules (Ended head) key draft words = Err BadLine
 
 abbrev pub words_rules : Draft → List Word → Result Draft WorkRule
 words_rules draft [] = Err BadLine
-words_rules draft (first ∷ words) = known BadLine (key_of first) >>= λ key. key_rules draft.stage key draft words
+words_rules draft (first ∷ words) =
+    known BadLine (key_of first) >>= λ key. key_rules draft.stage key draft words
 
 -- a text that is too long makes the line bad
 abbrev pub sound_rules : Draft → List Word → Result Draft WorkRule

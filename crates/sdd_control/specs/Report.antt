@@ -1,12 +1,10 @@
--- The text that a control file makes: the notes, how each site stands, and how many writes were made.
-use Rattle.std.specs.Prelude.{ℕ, zero, suc, ◌+◌, ◌≡◌, List, [], ◌∷◌, ◌++◌, codes, Bool, true, false, if◌then◌else◌}
+-- The text that a control file makes: the notes, how each site stands, and how many writes were
+-- made.
+use Rattle.std.specs.Prelude.{ℕ, zero, suc, ◌+◌, List, [], ◌∷◌, ◌++◌, codes, Bool, true, false}
 use Rattle.std.specs.Fmt.{decimal}
-use Rattle.sdd_control.specs.Control.{Run, run_of}
-use Rattle.sdd_control.specs.Log.{Log, noted}
-use Rattle.sdd_control.specs.NoteTests.{is_number}
+use Rattle.sdd_control.specs.Control.{Run, next_note, run_of, with_event, written}
+use Rattle.sdd_control.specs.Log.{Log}
 use Rattle.sdd_control.specs.Standing.{finished, stopped, value}
-use Rattle.sdd_control.specs.Steps.{happened, note_of}
-use Rattle.sdd_control.specs.Stretches.{count_from}
 use Rattle.sdd_control.specs.declared.act.Act.{Act}
 use Rattle.sdd_control.specs.declared.note.Note.{Note}
 use Rattle.sdd_control.specs.declared.note.Note.TheVariants as notes
@@ -40,11 +38,10 @@ abbrev pub note_line : ℕ → Note → List ℕ
 note_line number note = decimal number ++ 32 ∷ note_words note ++ 10 ∷ []
 
 -- the lines of the notes that events get, which are numbered from a number on
-abbrev pub note_lines : ℕ → ℕ → ℕ → Log → List Act → List ℕ
-note_lines number backups writes log [] = []
-note_lines number backups writes log (act ∷ acts) =
-    note_line number (note_of backups writes log act)
-    ++ note_lines (number + 1) backups writes (happened backups writes log act) acts
+abbrev pub note_lines : ℕ → Run → List Act → List ℕ
+note_lines number run [] = []
+note_lines number run (act ∷ acts) =
+    note_line number (next_note run act) ++ note_lines (number + 1) (with_event run act) acts
 
 abbrev pub standing_words : Bool → Val → Bool → List ℕ
 standing_words true val ended = codes "stopped"
@@ -53,23 +50,21 @@ standing_words false val false = value_word val
 
 abbrev pub site_line : Log → ℕ → List ℕ
 site_line log i =
-    codes "site" ++ spaced i ++ 32 ∷ standing_words (stopped log i) (value log i) (finished log i) ++ 10 ∷ []
+    codes "site" ++ spaced i
+    ++ 32 ∷ standing_words (stopped log i) (value log i) (finished log i) ++ 10 ∷ []
 
 -- the lines of n sites from i on
 abbrev pub site_lines : Log → ℕ → ℕ → List ℕ
 site_lines log i zero = []
 site_lines log i (suc n) = site_line log i ++ site_lines log (i + 1) n
 
--- how many writes were made, each counted once
-abbrev pub written : Run → ℕ
-written run = count_from (λ k. noted (is_number k) run.log) 1 run.writes
-
 -- how a run stands at its end
 abbrev pub ending : Run → List ℕ
 ending run =
-    site_lines run.log 0 (run.backups + 1) ++ codes "writes" ++ spaced (written run) ++ codes "\nend\n"
+    site_lines run.log 0 (run.backups + 1)
+    ++ codes "writes" ++ spaced (written run) ++ codes "\nend\n"
 
 abbrev pub report : ControlScript → List ℕ
 report script =
-    note_lines 1 script.backups script.writes [] script.acts
+    note_lines 1 (run_of script.backups script.writes []) script.acts
     ++ ending (run_of script.backups script.writes script.acts)

@@ -1,5 +1,5 @@
 -- A script that a control file may give.
-use Rattle.std.specs.Prelude.{ℕ, ◌≤◌, ◌^◌, length}
+use Rattle.std.specs.Prelude.{◌≤◌, ◌^◌, length}
 use Rattle.sdd_control.specs.Steps.{FitAll}
 use Rattle.sdd_control.specs.declared.script.ControlScript.{ControlScript}
 

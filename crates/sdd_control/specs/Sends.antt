@@ -43,4 +43,4 @@ send i true None true Nought left = Finish i Nought
 abbrev pub next_send : ℕ → ℕ → Log → ℕ → Note
 next_send backups writes log i =
     send i (leads log i && not (finished log i)) (next_untold backups log i)
-        (all_answered backups log i) (value log i) (unwritten writes log i)
+    (all_answered backups log i) (value log i) (unwritten writes log i)

@@ -1,5 +1,5 @@
 -- What the tables of a state say, and how they follow the log.
-use Rattle.std.specs.Prelude.{ℕ, ◌+◌, ◌*◌, ◌-◌, ◌==◌, ◌≡◌, ◌≤◌, ◌&&◌, ◌||◌, nat_lt, not, cond, Bool, true, false, List, [], ◌∷◌, ◌++◌, Option, Some, None, length, slice_index_or}
+use Rattle.std.specs.Prelude.{ℕ, ◌+◌, ◌-◌, ◌==◌, ◌≡◌, ◌≤◌, ◌&&◌, ◌||◌, nat_lt, not, cond, Bool, false, List, [], ◌∷◌, ◌++◌, Option, Some, None, length, slice_index_or}
 use Rattle.sdd_control.specs.declared.act.Act.{Act}
 use Rattle.sdd_control.specs.declared.act.Act.TheVariants.{Step as Send, Deliver, Stop as Halt}
 use Rattle.sdd_control.specs.declared.message.Message.{Message}
@@ -9,7 +9,7 @@ use Rattle.sdd_control.specs.declared.state.State.{State}
 use Rattle.sdd_control.specs.declared.value.Val.{Val}
 use Rattle.sdd_control.specs.Links.{link, messages_at, pair, put, taken}
 use Rattle.sdd_control.specs.Log.{Log, noted}
-use Rattle.sdd_control.specs.NoteTests.{is_finish, is_gone, is_number, is_ok, is_stop, is_tell}
+use Rattle.sdd_control.specs.NoteTests.{is_finish, is_gone, is_ok, is_stop, is_tell}
 use Rattle.sdd_control.specs.Sends.{send}
 use Rattle.sdd_control.specs.Standing.{finished, knows, last, last_of, stopped, value_by}
 use Rattle.sdd_control.specs.Steps.{arrival}
@@ -76,8 +76,8 @@ may_send st i = not (has_stopped st i) && heir_in st i && not (has_finished st i
 abbrev pub next_send_in : State → ℕ → Note
 next_send_in st i =
     send i (may_send st i) (first_from (untold_in st i) (i + 1) (st.backups - i))
-        (every_from (answered_in st i) (i + 1) (st.backups - i)) (value_in st i)
-        (next_number_in st i)
+    (every_from (answered_in st i) (i + 1) (st.backups - i)) (value_in st i)
+    (next_number_in st i)
 
 -- the value that was taken last came from a site above i
 abbrev pub is_from_above : Option (ℕ × Val) → ℕ → Bool
@@ -128,20 +128,28 @@ pub record Adds (old new : State) (note : Note) : Type 0 where
   pub sized : IsSized new
   pub backups : new.backups ≡ old.backups
   pub writes : new.writes ≡ old.writes
-  pub stopped : (i : ℕ) → i ≤ old.backups → has_stopped new i ≡ (is_stop i note || has_stopped old i)
-  pub finished : (i : ℕ) → i ≤ old.backups → has_finished new i ≡ (is_finish i note || has_finished old i)
+  pub stopped : (i : ℕ) → i ≤ old.backups
+      → has_stopped new i ≡ (is_stop i note || has_stopped old i)
+  pub finished : (i : ℕ) → i ≤ old.backups
+      → has_finished new i ≡ (is_finish i note || has_finished old i)
   pub values : (i : ℕ) → i ≤ old.backups → taken_in new i ≡ last_of i note (taken_in old i)
-  pub numbers : (i : ℕ) → i ≤ old.backups → last_number_in new i ≡ last_number_of i note (last_number_in old i)
-  pub known : (i j : ℕ) → i ≤ old.backups → j ≤ old.backups → knows_in new i j ≡ (is_gone i j note || knows_in old i j)
-  pub told : (i j : ℕ) → i ≤ old.backups → j ≤ old.backups → has_told new i j ≡ (is_tell i j note || has_told old i j)
-  pub heard : (i j : ℕ) → i ≤ old.backups → j ≤ old.backups → has_heard new i j ≡ (is_ok i j note || has_heard old i j)
-  pub links : (i j : ℕ) → i ≤ old.backups → j ≤ old.backups → messages_in new i j ≡ messages_in old i j ++ put note i j
+  pub numbers : (i : ℕ) → i ≤ old.backups
+      → last_number_in new i ≡ last_number_of i note (last_number_in old i)
+  pub known : (i j : ℕ) → i ≤ old.backups → j ≤ old.backups
+      → knows_in new i j ≡ (is_gone i j note || knows_in old i j)
+  pub told : (i j : ℕ) → i ≤ old.backups → j ≤ old.backups
+      → has_told new i j ≡ (is_tell i j note || has_told old i j)
+  pub heard : (i j : ℕ) → i ≤ old.backups → j ≤ old.backups
+      → has_heard new i j ≡ (is_ok i j note || has_heard old i j)
+  pub links : (i j : ℕ) → i ≤ old.backups → j ≤ old.backups
+      → messages_in new i j ≡ messages_in old i j ++ put note i j
   pub most : new.most ≡ greatest_of note old.most
 
 -- the links are the old ones without what the event takes; all else is as it was
 pub record Takes (old new : State) (act : Act) : Type 0 where
   pub sized : IsSized new
-  pub links : (i j : ℕ) → i ≤ old.backups → j ≤ old.backups → messages_in new i j ≡ taken act i j (messages_in old i j)
+  pub links : (i j : ℕ) → i ≤ old.backups → j ≤ old.backups
+      → messages_in new i j ≡ taken act i j (messages_in old i j)
   pub others : new ≡ record old { links = new.links }
 
 -- the sites of the note exist

@@ -7,7 +7,7 @@ use Rattle.sdd_control.specs.declared.message.Message.TheVariants.{Value as VALU
 use Rattle.sdd_control.specs.declared.note.Note.{Note}
 use Rattle.sdd_control.specs.declared.note.Note.TheVariants.{Nothing, Dropped, Gone, Ok, Ignored, Value, Stop}
 use Rattle.sdd_control.specs.Links.{link}
-use Rattle.sdd_control.specs.Log.{Entry, Log, noted}
+use Rattle.sdd_control.specs.Log.{Log, noted}
 use Rattle.sdd_control.specs.NoteTests.{is_above}
 use Rattle.sdd_control.specs.Sends.{next_send}
 use Rattle.sdd_control.specs.Standing.{stopped}
@@ -36,7 +36,8 @@ happened backups writes log act = record { act = act; note = note_of backups wri
 -- the log with so many events more, the first to happen first
 abbrev pub log_after : ℕ → ℕ → Log → List Act → Log
 log_after backups writes log [] = log
-log_after backups writes log (act ∷ acts) = log_after backups writes (happened backups writes log act) acts
+log_after backups writes log (act ∷ acts) =
+    log_after backups writes (happened backups writes log act) acts
 
 abbrev pub log_of : ℕ → ℕ → List Act → Log
 log_of backups writes acts = log_after backups writes [] acts

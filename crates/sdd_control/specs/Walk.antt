@@ -7,9 +7,9 @@ use Rattle.sdd_script.specs.declared.fault.WorkRule.TheVariants.{BadLine, NoEnd,
 use Rattle.sdd_words.specs.Lines.{cut_lines}
 use Rattle.sdd_control.specs.LineRules.{line_rules}
 use Rattle.sdd_control.specs.declared.act.Act.{Act}
-use Rattle.sdd_control.specs.declared.draft.Draft.{Draft}
-use Rattle.sdd_control.specs.declared.draft.Stage.{Stage}
-use Rattle.sdd_control.specs.declared.draft.Stage.TheVariants.{First, Events, Ended}
+use Rattle.sdd_control.specs.Draft.{Draft}
+use Rattle.sdd_control.specs.declared.stage.Stage.{Stage}
+use Rattle.sdd_control.specs.declared.stage.Stage.TheVariants.{First, Ended}
 use Rattle.sdd_control.specs.declared.script.ControlScript.{ControlScript}
 
 abbrev pub is_ended : Stage → Bool
@@ -17,7 +17,8 @@ is_ended (Ended head) = true
 is_ended _ = false
 
 -- the rule that a line breaks, as a fault at its number
-abbrev pub at_line : {A : Type 0} → ℕ → Result A WorkRule → (A → Result ControlScript WorkFault) → Result ControlScript WorkFault
+abbrev pub at_line : {A : Type 0} → ℕ → Result A WorkRule → (A → Result ControlScript WorkFault)
+    → Result ControlScript WorkFault
 at_line line (Ok x) read_on = read_on x
 at_line line (Err rule) read_on = Err (record { line = line; rule = rule })
 
@@ -35,7 +36,8 @@ tail_rules _ acts (c ∷ cs) = if is_utf8 (c ∷ cs) then Err NoEnd else Err Not
 
 -- the lines, of which the first has this number, and what stands behind the last newline
 unfoldable pub walk : ℕ → Draft → List (List ℕ) → List ℕ → Result ControlScript WorkFault
-walk line draft [] tail = at_line line (tail_rules draft.stage draft.acts tail) (λ script. Ok script)
+walk line draft [] tail =
+    at_line line (tail_rules draft.stage draft.acts tail) (λ script. Ok script)
 walk line draft (l ∷ ls) tail = at_line line (one_line draft l) (λ d. walk (line + 1) d ls tail)
 
 abbrev pub walk_bytes : ℕ → Draft → List ℕ → Result ControlScript WorkFault

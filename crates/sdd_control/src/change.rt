@@ -3,7 +3,9 @@ ghost use Rattle.sdd_control.specs.Links.{gone_below, messages_at, put};
 ghost use Rattle.sdd_control.specs.State.{Adds, IsSized, NoteFits, Takes};
 ghost use Rattle.sdd_control.specs.Steps.{Fits};
 ghost use Rattle.sdd_control.specs.declared.message.Message.TheVariants.{Gone as GONE};
-ghost use Rattle.sdd_control.specs.declared.note.Note.TheVariants.{Tell as Telling, Write as Writing, Finish as Finishing, Gone as Going, Ok as Hearing, Value as Taking, Stop as Stopping};
+ghost use Rattle.sdd_control.specs.declared.note.Note.TheVariants.{Tell as Telling, Write as Writing, Finish as Finishing};
+ghost use Rattle.sdd_control.specs.declared.note.Note.TheVariants.{Gone as Going, Ok as Hearing, Value as Taking, Stop as Stopping};
+ghost use Rattle.sdd_control.specs.declared.value.Val.{Val as Values};
 
 use crate::act::Act;
 use crate::links::Links;
@@ -19,7 +21,10 @@ fn say_gone(links: &mut Links, site: u32, other: u32) -> Result<(), NoMemory>
     requires site { site ≤ 8 }
     requires other { other ≤ 8 }
     ensures sized { OnOk result (length links.new ≡ 81) }
-    ensures gone { OnOk result ((i j : ℕ) → j ≤ 8 → messages_at links.new i j ≡ messages_at links.old i j ++ cond (((site == i) && (other == j)) && not (i == j)) (GONE ∷ []) []) }
+    ensures gone { OnOk result ((i j : ℕ) → j ≤ 8 →
+        messages_at links.new i j
+        ≡ messages_at links.old i j
+        ++ cond (((site == i) && (other == j)) && not (i == j)) (GONE ∷ []) []) }
 {
     if site == other {
         return Ok(());
@@ -33,7 +38,8 @@ fn say_gone_to_all(links: &mut Links, backups: u32, site: u32) -> Result<(), NoM
     requires backups { backups ≤ 8 }
     requires site { site ≤ backups }
     ensures sized { OnOk result (length links.new ≡ 81) }
-    ensures gone { OnOk result ((i j : ℕ) → j ≤ backups → messages_at links.new i j ≡ messages_at links.old i j ++ put (Stopping site) i j) }
+    ensures gone { OnOk result ((i j : ℕ) → j ≤ backups →
+        messages_at links.new i j ≡ messages_at links.old i j ++ put (Stopping site) i j) }
 {
     'others: for other in 0..backups + 1 {
         say_gone(links, site, other)?;
@@ -74,12 +80,12 @@ impl State {
         self.most = self.most.max(number);
     }
 
-    fn finish(&mut self, site: u32, val: Val)
+    /// Whatever the site's value is.
+    fn finish(&mut self, site: u32)
         requires sized { IsSized self.old }
         requires site { site ≤ self.old.backups }
-        ensures { Adds self.old self.new (Finishing site val) }
+        ensures { (val : Values) → Adds self.old self.new (Finishing site val) }
     {
-        let _val = val;
         self.finished.put(site, true);
     }
 
@@ -129,7 +135,7 @@ impl State {
         match *note {
             Note::Tell(from, to, val) => self.tell(from, to, val)?,
             Note::Write(site, number) => self.write(site, number),
-            Note::Finish(site, val) => self.finish(site, val),
+            Note::Finish(site, _) => self.finish(site),
             Note::Gone(site, other) => self.learn(site, other),
             Note::Ok(site, other) => self.hear(site, other),
             Note::Value { at, from, val } => self.take_value(at, from, val)?,

@@ -1,10 +1,7 @@
-ghost use Rattle.std.specs.Prelude.{◌≡◌, ◌≤◌, [], true, false, IsTrue, IfOk, OnOk, OnErr};
-ghost use Rattle.sdd_control.specs.Control.{run_of, with_event};
-ghost use Rattle.sdd_control.specs.NoteTests.{is_number};
-ghost use Rattle.sdd_control.specs.Log.{noted};
+ghost use Rattle.std.specs.Prelude.{◌≡◌, ◌≤◌, [], false, IsTrue, IfOk, OnOk, OnErr};
+ghost use Rattle.sdd_control.specs.Control.{live_at, next_note, run_of, with_event, written};
 ghost use Rattle.sdd_control.specs.Standing.{finished, stopped, value};
-ghost use Rattle.sdd_control.specs.Steps.{Fits, note_of};
-ghost use Rattle.sdd_control.specs.Stretches.{count_from};
+ghost use Rattle.sdd_control.specs.Steps.{Fits};
 
 use crate::act::Act;
 use crate::note::Note;
@@ -32,7 +29,10 @@ impl Model for Control {
 
     ghost Value = { Kept Run };
 
-    ghost view = { λ c. record { live = c.live; value = run_of c.state.backups c.state.writes c.acts.items } };
+    ghost view = { λ c. record {
+      live = c.live;
+      value = run_of c.state.backups c.state.writes c.acts.items;
+    } };
 
     ghost invariant = { λ c. c.live ≡ true → Follows c.state c.acts.items };
 }
@@ -44,7 +44,7 @@ impl Control {
         requires most_backups { backups ≤ 8 }
         requires some_writes { 1 ≤ writes }
         requires most_writes { writes ≤ 64 }
-        ensures { IfOk result (λ control. control ≡ record { live = true; value = run_of backups writes [] }) }
+        ensures { IfOk result (λ control. control ≡ live_at (run_of backups writes [])) }
     {
         Ok(Control {
             state: State::new(alloc, backups, writes)?,
@@ -57,8 +57,8 @@ impl Control {
     pub fn step(&mut self, act: &Act) -> Result<Note, NoMemory>
         requires live { IsTrue self.old.live }
         requires fits { Fits self.old.value.backups act.now }
-        ensures note { IfOk result (λ note. note ≡ note_of self.old.value.backups self.old.value.writes self.old.value.log act.now) }
-        ensures after { OnOk result (self.new ≡ record { live = true; value = with_event self.old.value act.now }) }
+        ensures note { IfOk result (λ note. note ≡ next_note self.old.value act.now) }
+        ensures after { OnOk result (self.new ≡ live_at (with_event self.old.value act.now)) }
         ensures err { OnErr result (self.new.live ≡ false) }
     {
         self.live = false;
@@ -100,7 +100,7 @@ impl Control {
     /// How many of the writes were made, each counted once. Takes no memory, and constant time.
     pub fn written(&self) -> u32
         requires { IsTrue self.now.live }
-        ensures { result ≡ count_from (λ k. noted (is_number k) self.now.value.log) 1 self.now.value.writes }
+        ensures { result ≡ written self.now.value }
     {
         self.state.most
     }

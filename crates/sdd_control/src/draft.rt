@@ -1,27 +1,70 @@
-use crate::act::Act;
-use sdd_script::Grown;
+ghost use Rattle.std.specs.Prelude.{◌≡◌, ◌++◌, ◌∷◌, [], length, OnOk};
+ghost use Rattle.sdd_control.specs.declared.stage.Stage.TheVariants.{First};
 
-/// What the first line of a control file says.
-#[derive(Clone, Copy, Debug, PartialEq, Eq)]
-pub struct Head {
-    pub backups: u32,
-    pub writes: u32,
-}
-
-/// Where in the file the next line stands.
-#[derive(Clone, Copy, Debug, PartialEq, Eq)]
-pub enum Stage {
-    /// It is the first.
-    First,
-    /// It is an event or the end.
-    Events(Head),
-    /// It is behind the end.
-    Ended(Head),
-}
+use crate::act::{Act, Acts};
+use crate::stage::Stage;
+use sdd_base::NoMemory;
+use std::alloc::Global;
+use std::marker::Model;
 
 /// What the lines so far have said.
 #[derive(Drop)]
 pub struct Draft {
-    pub stage: Stage,
-    pub acts: Grown<Act>,
+    stage: Stage,
+    acts: Vec<Act>,
+}
+
+impl Model for Draft {
+    ghost use Rattle.sdd_control.specs.Draft.{Draft};
+
+    ghost Value = { Draft };
+
+    ghost view = { λ d. record { stage = d.stage; acts = d.acts.items } };
+}
+
+impl Draft {
+    /// Before the first line. Takes no memory.
+    pub fn new(alloc: Global) -> Draft
+        ensures { result ≡ record { stage = First; acts = [] } }
+    {
+        Draft {
+            stage: Stage::First,
+            acts: Vec::new(alloc),
+        }
+    }
+
+    pub fn stage(&self) -> Stage
+        ensures { result ≡ self.now.stage }
+    {
+        self.stage
+    }
+
+    pub fn set_stage(&mut self, stage: Stage)
+        ensures { self.new ≡ record self.old { stage = stage } }
+    {
+        self.stage = stage;
+    }
+
+    /// How many events there are.
+    pub fn len(&self) -> usize
+        ensures { result ≡ length self.now.acts }
+    {
+        self.acts.len()
+    }
+
+    pub fn push(&mut self, act: Act) -> Result<(), NoMemory>
+        ensures { OnOk result (self.new ≡ record self.old { acts = self.old.acts ++ act ∷ [] }) }
+    {
+        match self.acts.push(act) {
+            Ok(()) => Ok(()),
+            Err(_) => Err(NoMemory),
+        }
+    }
+
+    /// The events. Takes no memory.
+    pub fn into_acts(self) -> Acts
+        ensures { result ≡ self.acts }
+    {
+        Acts::from_vec(self.acts)
+    }
 }

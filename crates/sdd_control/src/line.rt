@@ -1,19 +1,19 @@
 //! One line of a control file.
 ghost use Rattle.std.specs.Prelude.{◌≡◌, ◌==◌, ◌&&◌, nat_le, not, Some};
 ghost use Rattle.sdd_words.specs.Number.{number_of};
-ghost use Rattle.sdd_script.specs.Rules.{Gives};
+ghost use Rattle.sdd_control.specs.Faults.{Gives};
 ghost use Rattle.sdd_control.specs.LineRules.{delivery_of, end_of, event_rules, head_of, head_rules, key_rules, line_rules, number_within, site_number, site_of, sound_rules, with_act, within, words_rules};
 
 use crate::act::Act;
-use crate::draft::{Draft, Head, Stage};
+use crate::draft::Draft;
+use crate::fault::{LineError, broken, known, must};
 use crate::key::{Key, key_of};
-use crate::rule::{known, must};
-use sdd_script::{Counts, LineError, WorkRule};
+use crate::limits::{MAX_BACKUPS, MAX_WRITES};
+use crate::stage::{Head, Stage};
+use sdd_base::MAX_EVENTS;
+use sdd_script::{Counts, WorkRule};
 use sdd_words::{Word, are_sound, number_in, split_line, stands_free, text_of};
 use std::alloc::Global;
-
-/// The most events of a file.
-const MOST_EVENTS: usize = 262144;
 
 fn within(least: u32, most: u32, number: i64) -> Option<u32>
     ensures { result ≡ within least most (Some number) }
@@ -41,7 +41,7 @@ fn read_number(least: u32, most: u32, word: &Word) -> Result<u32, LineError>
             WorkRule::BadNumber,
             number_in_bytes(least, most, bytes.as_slice()),
         ),
-        Word::Quoted(_) => Err(LineError::Broken(WorkRule::BadNumber)),
+        Word::Quoted(_) => broken(WorkRule::BadNumber),
     }
 }
 
@@ -60,11 +60,11 @@ fn read_head(words: &[Word]) -> Result<Head, LineError>
                 WorkRule::BadLine,
                 stands_free(backups) && stands_free(writes),
             )?;
-            let backups = read_number(1, 8, backups)?;
-            let writes = read_number(1, 64, writes)?;
+            let backups = read_number(1, MAX_BACKUPS, backups)?;
+            let writes = read_number(1, MAX_WRITES, writes)?;
             Ok(Head { backups, writes })
         }
-        _ => Err(LineError::Broken(WorkRule::BadLine)),
+        _ => broken(WorkRule::BadLine),
     }
 }
 
@@ -78,7 +78,7 @@ fn read_site(backups: u32, words: &[Word]) -> Result<u32, LineError>
             must(WorkRule::BadEvent, site <= backups)?;
             Ok(site)
         }
-        _ => Err(LineError::Broken(WorkRule::BadLine)),
+        _ => broken(WorkRule::BadLine),
     }
 }
 
@@ -99,18 +99,15 @@ fn read_delivery(backups: u32, words: &[Word]) -> Result<Act, LineError>
             must(WorkRule::BadEvent, are_linked(backups, from, to))?;
             Ok(Act::Deliver(from, to))
         }
-        _ => Err(LineError::Broken(WorkRule::BadLine)),
+        _ => broken(WorkRule::BadLine),
     }
 }
 
 fn add_act(draft: &mut Draft, act: Act) -> Result<(), LineError>
     ensures { Gives (λ _. draft.new) result (with_act draft.old act) }
 {
-    must(
-        WorkRule::TooMany(Counts::Event),
-        draft.acts.len() < MOST_EVENTS,
-    )?;
-    draft.acts.push(act)?;
+    must(WorkRule::TooMany(Counts::Event), draft.len() < MAX_EVENTS)?;
+    draft.push(act)?;
     Ok(())
 }
 
@@ -119,19 +116,14 @@ fn read_end(head: Head, draft: &mut Draft, words: &[Word]) -> Result<(), LineErr
 {
     match words {
         [] => {
-            draft.stage = Stage::Ended(head);
+            draft.set_stage(Stage::Ended(head));
             Ok(())
         }
-        _ => Err(LineError::Broken(WorkRule::BadLine)),
+        _ => broken(WorkRule::BadLine),
     }
 }
 
-fn read_event_line(
-    key: Key,
-    head: Head,
-    draft: &mut Draft,
-    words: &[Word],
-) -> Result<(), LineError>
+fn read_event_line(key: Key, head: Head, draft: &mut Draft, words: &[Word]) -> Result<(), LineError>
     ensures { Gives (λ _. draft.new) result (event_rules key head draft.old words.now) }
 {
     match key {
@@ -148,7 +140,7 @@ fn read_event_line(
             add_act(draft, Act::Stop(site))
         }
         Key::End => read_end(head, draft, words),
-        Key::Control => Err(LineError::Broken(WorkRule::BadLine)),
+        Key::Control => broken(WorkRule::BadLine),
     }
 }
 
@@ -158,20 +150,20 @@ fn read_first_line(key: Key, draft: &mut Draft, words: &[Word]) -> Result<(), Li
     match key {
         Key::Control => {
             let head = read_head(words)?;
-            draft.stage = Stage::Events(head);
+            draft.set_stage(Stage::Events(head));
             Ok(())
         }
-        _ => Err(LineError::Broken(WorkRule::BadLine)),
+        _ => broken(WorkRule::BadLine),
     }
 }
 
 fn read_key_line(key: Key, draft: &mut Draft, words: &[Word]) -> Result<(), LineError>
     ensures { Gives (λ _. draft.new) result (key_rules draft.old.stage key draft.old words.now) }
 {
-    match draft.stage {
+    match draft.stage() {
         Stage::First => read_first_line(key, draft, words),
         Stage::Events(head) => read_event_line(key, head, draft, words),
-        Stage::Ended(_) => Err(LineError::Broken(WorkRule::BadLine)),
+        Stage::Ended(_) => broken(WorkRule::BadLine),
     }
 }
 
@@ -179,7 +171,7 @@ fn read_words(draft: &mut Draft, words: &[Word]) -> Result<(), LineError>
     ensures { Gives (λ _. draft.new) result (words_rules draft.old words.now) }
 {
     match words {
-        [] => Err(LineError::Broken(WorkRule::BadLine)),
+        [] => broken(WorkRule::BadLine),
         [first, words @ ..] => {
             let key = known(WorkRule::BadLine, key_of(first))?;
             read_key_line(key, draft, words)
@@ -200,10 +192,10 @@ pub fn read_line(alloc: Global, draft: &mut Draft, line: &[u8]) -> Result<(), Li
     ensures { Gives (λ _. draft.new) result (line_rules draft.old line.now) }
 {
     match text_of(line) {
-        None => Err(LineError::Broken(WorkRule::NotUtf8)),
+        None => broken(WorkRule::NotUtf8),
         Some(_) => match split_line(alloc, line) {
             Ok(Some(words)) => read_sound_words(draft, words.as_slice()),
-            Ok(None) => Err(LineError::Broken(WorkRule::BadLine)),
+            Ok(None) => broken(WorkRule::BadLine),
             Err(_) => Err(LineError::NoMemory),
         },
     }

@@ -52,7 +52,8 @@ impl Links {
     /// Puts a message at the end of a link.
     pub fn put(&mut self, link: u32, message: Message) -> Result<(), NoMemory>
         requires { link < length self.old }
-        ensures { OnOk result (self.new ≡ slice_set self.old link (slice_index_or self.old link [] ++ message ∷ [])) }
+        ensures { let messages = slice_index_or self.old link [] in
+            OnOk result (self.new ≡ slice_set self.old link (messages ++ message ∷ [])) }
     {
         self.queues[link as usize].push_back(message)?;
         Ok(())

@@ -1,20 +1,19 @@
 //! The lines of a control file, one after the other.
 ghost use Rattle.std.specs.Prelude.{◌≡◌, ◌≤◌, ◌^◌, [], Err, length, IfOk};
 ghost use Rattle.sdd_control.specs.Script.{IsSound};
-ghost use Rattle.sdd_control.specs.declared.draft.Stage.TheVariants.{First};
-ghost use Rattle.sdd_script.specs.Rules.{Gives};
-ghost use Rattle.sdd_script.specs.Telling.{Tells};
+ghost use Rattle.sdd_control.specs.declared.stage.Stage.TheVariants.{First};
+ghost use Rattle.sdd_control.specs.Faults.{Gives, Tells};
 ghost use Rattle.sdd_control.specs.Walk.{control_script, is_ended, nothing_read, one_line, tail_rules, walk_bytes};
 
-use crate::draft::{Draft, Stage};
+use crate::draft::Draft;
+use crate::fault::{LineError, at_line, broken, must};
 use crate::line::read_line;
 use crate::script::ControlScript;
-use sdd_script::{Grown, LineError, WorkError, WorkFault, WorkRule};
+use crate::stage::Stage;
+use sdd_base::MAX_WORKLOAD_BYTES;
+use sdd_script::{WorkError, WorkFault, WorkRule};
 use sdd_words::{next_line, text_of};
 use std::alloc::Global;
-
-/// The most bytes of a file: 64 MiB.
-const MOST_BYTES: usize = 67108864;
 
 fn is_ended(stage: Stage) -> bool
     ensures { result ≡ is_ended stage }
@@ -28,11 +27,8 @@ fn is_ended(stage: Stage) -> bool
 fn read_one(alloc: Global, draft: &mut Draft, line: &[u8]) -> Result<(), LineError>
     ensures { Gives (λ _. draft.new) result (one_line draft.old line.now) }
 {
-    if is_ended(draft.stage) {
-        Err(LineError::Broken(WorkRule::BadLine))
-    } else {
-        read_line(alloc, draft, line)
-    }
+    must(WorkRule::BadLine, !is_ended(draft.stage()))?;
+    read_line(alloc, draft, line)
 }
 
 fn unended(tail: &[u8]) -> WorkRule
@@ -51,16 +47,16 @@ fn unended(tail: &[u8]) -> WorkRule
 fn finish(draft: Draft, tail: &[u8]) -> Result<ControlScript, LineError>
     ensures { Gives (λ script. script) result (tail_rules draft.stage draft.acts tail.now) }
 {
-    match draft.stage {
+    match draft.stage() {
         Stage::Ended(head) => match tail {
             [] => Ok(ControlScript {
                 backups: head.backups,
                 writes: head.writes,
-                acts: draft.acts.into_listed(),
+                acts: draft.into_acts(),
             }),
-            _ => Err(LineError::Broken(WorkRule::BadLine)),
+            _ => broken(WorkRule::BadLine),
         },
-        _ => Err(LineError::Broken(unended(tail))),
+        _ => broken(unended(tail)),
     }
 }
 
@@ -73,19 +69,11 @@ fn read_lines(alloc: Global, draft: Draft, bytes: &[u8]) -> Result<ControlScript
     let mut rest = bytes;
     let mut line = 1;
     'lines: while let Some((text, behind)) = next_line(rest) {
-        match read_one(alloc, &mut draft, text) {
-            Ok(()) => {}
-            Err(LineError::NoMemory) => return Err(WorkError::NoMemory),
-            Err(LineError::Broken(rule)) => return Err(WorkError::Fault(WorkFault { line, rule })),
-        }
+        at_line(line, read_one(alloc, &mut draft, text))?;
         rest = behind;
         line += 1;
     }
-    match finish(draft, rest) {
-        Ok(script) => Ok(script),
-        Err(LineError::NoMemory) => Err(WorkError::NoMemory),
-        Err(LineError::Broken(rule)) => Err(WorkError::Fault(WorkFault { line, rule })),
-    }
+    at_line(line, finish(draft, rest))
 }
 
 /// The script that a file gives, or its first fault: that of the first line at fault, and on it the
@@ -100,15 +88,11 @@ pub fn read_control(alloc: Global, bytes: &[u8]) -> Result<ControlScript, WorkEr
 fn read_bytes(alloc: Global, bytes: &[u8]) -> Result<ControlScript, WorkError>
     ensures { Tells result (control_script bytes.now) }
 {
-    if bytes.len() > MOST_BYTES {
+    if bytes.len() > MAX_WORKLOAD_BYTES {
         return Err(WorkError::Fault(WorkFault {
             line: 0,
             rule: WorkRule::TooLong,
         }));
     }
-    let start = Draft {
-        stage: Stage::First,
-        acts: Grown::new(alloc),
-    };
-    read_lines(alloc, start, bytes)
+    read_lines(alloc, Draft::new(alloc), bytes)
 }

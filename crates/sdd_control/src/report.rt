@@ -1,10 +1,10 @@
 //! The text that a control file makes, piece by piece.
-ghost use Rattle.std.specs.Prelude.{◌≡◌, ◌+◌, ◌-◌, ◌<◌, ◌≤◌, ◌^◌, ◌∷◌, ◌++◌, [], true, length, IsTrue, IfOk, OnOk};
-ghost use Rattle.sdd_control.specs.Control.{with_event};
+ghost use Rattle.std.specs.Prelude.{◌≡◌, ◌+◌, ◌-◌, ◌<◌, ◌≤◌, ◌^◌, ◌∷◌, ◌++◌, length, IsTrue, IfOk, OnOk};
+ghost use Rattle.sdd_control.specs.Control.{live_at, next_note, run_after, with_event};
 ghost use Rattle.sdd_control.specs.Report.{ending, note_line, note_lines, note_words, report, site_line, site_lines, spaced, standing_words, value_word};
 ghost use Rattle.sdd_control.specs.Script.{IsSound};
 ghost use Rattle.sdd_control.specs.Standing.{finished, stopped, value};
-ghost use Rattle.sdd_control.specs.Steps.{FitAll, Fits, log_after, note_of};
+ghost use Rattle.sdd_control.specs.Steps.{FitAll, Fits};
 ghost use Rattle.sdd_control.specs.declared.note.Note.TheVariants.{Tell as Telling};
 
 use crate::act::Act;
@@ -37,7 +37,7 @@ fn put_spaced(text: &mut Vec<u8>, number: u32) -> Result<(), NoMemory>
     ensures { OnOk result (text.new.items ≡ text.old.items ++ spaced number) }
 {
     put(text, b" ")?;
-    put_count(text, number)
+    put_count(text, u64::from(number))
 }
 
 /// A word and the number of a site.
@@ -50,7 +50,8 @@ fn put_site(text: &mut Vec<u8>, word: &[u8], site: u32) -> Result<(), NoMemory>
 
 /// A word and two numbers.
 fn put_two(text: &mut Vec<u8>, word: &[u8], first: u32, second: u32) -> Result<(), NoMemory>
-    ensures { OnOk result (text.new.items ≡ text.old.items ++ (word.now ++ spaced first ++ spaced second)) }
+    ensures { OnOk result (
+        text.new.items ≡ text.old.items ++ (word.now ++ spaced first ++ spaced second)) }
 {
     put_site(text, word, first)?;
     put_spaced(text, second)
@@ -64,7 +65,8 @@ fn put_tell(text: &mut Vec<u8>, from: u32, to: u32, val: Val) -> Result<(), NoMe
 }
 
 fn put_site_value(text: &mut Vec<u8>, word: &[u8], site: u32, val: Val) -> Result<(), NoMemory>
-    ensures { OnOk result (text.new.items ≡ text.old.items ++ (word.now ++ spaced site ++ 32 ∷ value_word val)) }
+    ensures { OnOk result (
+        text.new.items ≡ text.old.items ++ (word.now ++ spaced site ++ 32 ∷ value_word val)) }
 {
     put_site(text, word, site)?;
     put_spaced_value(text, val)
@@ -90,7 +92,7 @@ fn put_note(text: &mut Vec<u8>, note: &Note) -> Result<(), NoMemory>
 fn put_note_line(text: &mut Vec<u8>, number: u32, note: &Note) -> Result<(), NoMemory>
     ensures { OnOk result (text.new.items ≡ text.old.items ++ note_line number note.now) }
 {
-    put_count(text, number)?;
+    put_count(text, u64::from(number))?;
     put(text, b" ")?;
     put_note(text, note)?;
     put(text, b"\n")
@@ -105,8 +107,10 @@ fn put_event(
 ) -> Result<(), NoMemory>
     requires live { IsTrue control.old.live }
     requires fits { Fits control.old.value.backups act.now }
-    ensures text { OnOk result (text.new.items ≡ text.old.items ++ note_line number (note_of control.old.value.backups control.old.value.writes control.old.value.log act.now)) }
-    ensures control { OnOk result (control.new ≡ record { live = true; value = with_event control.old.value act.now }) }
+    ensures text { OnOk result (
+        text.new.items
+        ≡ text.old.items ++ note_line number (next_note control.old.value act.now)) }
+    ensures control { OnOk result (control.new ≡ live_at (with_event control.old.value act.now)) }
 {
     let note = control.step(act)?;
     put_note_line(text, number, &note)
@@ -116,8 +120,9 @@ fn put_events(text: &mut Vec<u8>, control: &mut Control, acts: &[Act]) -> Result
     requires live { IsTrue control.old.live }
     requires few { length acts.now ≤ 2 ^ 18 }
     requires fit { FitAll control.old.value.backups acts.now }
-    ensures text { OnOk result (text.new.items ≡ text.old.items ++ note_lines 1 control.old.value.backups control.old.value.writes control.old.value.log acts.now) }
-    ensures control { OnOk result (control.new ≡ record { live = true; value = record control.old.value { log = log_after control.old.value.backups control.old.value.writes control.old.value.log acts.now } }) }
+    ensures text { OnOk result (
+        text.new.items ≡ text.old.items ++ note_lines 1 control.old.value acts.now) }
+    ensures control { OnOk result (control.new ≡ live_at (run_after control.old.value acts.now)) }
 {
     let mut rest = acts;
     let mut number = 1;
@@ -132,7 +137,10 @@ fn put_events(text: &mut Vec<u8>, control: &mut Control, acts: &[Act]) -> Result
 fn put_standing(text: &mut Vec<u8>, control: &Control, site: u32) -> Result<(), NoMemory>
     requires live { IsTrue control.now.live }
     requires site { site ≤ control.now.value.backups }
-    ensures { OnOk result (text.new.items ≡ text.old.items ++ standing_words (stopped control.now.value.log site) (value control.now.value.log site) (finished control.now.value.log site)) }
+    ensures { let log = control.now.value.log in
+        OnOk result (text.new.items
+        ≡ text.old.items
+        ++ standing_words (stopped log site) (value log site) (finished log site)) }
 {
     if control.stopped(site) {
         return put(text, b"stopped");
@@ -147,7 +155,8 @@ fn put_standing(text: &mut Vec<u8>, control: &Control, site: u32) -> Result<(), 
 fn put_site_line(text: &mut Vec<u8>, control: &Control, site: u32) -> Result<(), NoMemory>
     requires live { IsTrue control.now.live }
     requires site { site ≤ control.now.value.backups }
-    ensures { OnOk result (text.new.items ≡ text.old.items ++ site_line control.now.value.log site) }
+    ensures { OnOk result (
+        text.new.items ≡ text.old.items ++ site_line control.now.value.log site) }
 {
     put_site(text, b"site", site)?;
     put(text, b" ")?;
@@ -159,7 +168,8 @@ fn put_site_lines(text: &mut Vec<u8>, control: &Control, backups: u32) -> Result
     requires live { IsTrue control.now.live }
     requires backups { control.now.value.backups ≡ backups }
     requires few { backups ≤ 8 }
-    ensures { OnOk result (text.new.items ≡ text.old.items ++ site_lines control.now.value.log 0 (backups + 1)) }
+    ensures { OnOk result (
+        text.new.items ≡ text.old.items ++ site_lines control.now.value.log 0 (backups + 1)) }
 {
     'sites: for site in 0..backups + 1 {
         put_site_line(text, control, site)?;

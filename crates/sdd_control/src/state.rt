@@ -15,9 +15,6 @@ use crate::value::Val;
 use sdd_base::NoMemory;
 use std::alloc::Global;
 
-/// The most backups that there may be.
-pub const MOST_BACKUPS: u32 = 8;
-
 /// The most sites: the committer and its backups.
 const SITES: usize = 9;
 
@@ -197,7 +194,8 @@ impl State {
     fn has_all_answers(&self, site: u32) -> bool
         requires sized { IsSized self.now }
         requires site { site ≤ self.now.backups }
-        ensures { result ≡ every_from (answered_in self.now site) (site + 1) (self.now.backups - site) }
+        ensures { result
+            ≡ every_from (answered_in self.now site) (site + 1) (self.now.backups - site) }
     {
         'higher: for other in site + 1..self.backups + 1 {
             if !self.has_answer(site, other) {
@@ -214,7 +212,11 @@ impl State {
         ensures { result ≡ next_number_in self.now site }
     {
         let last = self.numbers.at(site);
-        if last < self.writes { Some(last + 1) } else { None }
+        if last < self.writes {
+            Some(last + 1)
+        } else {
+            None
+        }
     }
 
     /// Whether the site may send: it leads and hasn't finished.
@@ -230,7 +232,8 @@ impl State {
     fn last_sends(&self, site: u32) -> Note
         requires sized { IsSized self.now }
         requires site { site ≤ self.now.backups }
-        ensures { result ≡ send site true None true (value_in self.now site) (next_number_in self.now site) }
+        ensures { result
+            ≡ send site true None true (value_in self.now site) (next_number_in self.now site) }
     {
         match self.value(site) {
             Val::All => match self.next_number(site) {

@@ -6,4 +6,4 @@ abbrev pub invariant-others : goal.invariant-others
 invariant-others l =
     (length l.links ≡ 81)
     × ((i j : ℕ) → j ≤ l.backups
-        → messages_at l.links i j ≡ messages_at l.initial.links i j ++ gone_below l.other l.site i j)
+    → messages_at l.links i j ≡ messages_at l.initial.links i j ++ gone_below l.other l.site i j)
