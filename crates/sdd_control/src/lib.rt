@@ -4,6 +4,11 @@
 //! stopped takes the commit to its end. `specs/` defines what stands for each event by the events
 //! before it: how a site stands (`Standing`), the messages on each link (`Links`), what a leader
 //! sends next (`Sends`), and the note of an event (`Steps`).
+//!
+//! What the layer above gets: `read_control` gives exactly the script that the bytes of a file give,
+//! or its first fault (`specs/Walk.antt`), and `write_report` the text that the script makes
+//! (`specs/Report.antt`). `Control` answers the note of each event, and the laws promise for every
+//! list of events what `specs/Laws.antt` says.
 #![tactic(auto)]
 
 mod act;
@@ -30,7 +35,6 @@ pub use act::{Act, Acts};
 pub use control::Control;
 pub use laws::{law_all_or_none, law_leader, law_one_value};
 pub use limits::{MAX_BACKUPS, MAX_WRITES};
-pub use message::Message;
 pub use note::Note;
 pub use reading::read_control;
 pub use report::write_report;
