@@ -21,7 +21,10 @@ fn tell_spelling<R: Files + AllocGlobal, W: Write>(rt: &R, out: &mut W) -> Resul
     let text = write_workload(rt.alloc(), &cat, &work).map_err(wanting)?;
     let (rows, txns) = (work.rows.as_slice().len(), work.txns.as_slice().len());
     let events = work.events.as_slice().len();
-    writeln!(out, "read_workload: {rows} rows, {txns} transactions, {events} events")?;
+    writeln!(
+        out,
+        "read_workload: {rows} rows, {txns} transactions, {events} events"
+    )?;
     writeln!(out, "write_workload:")?;
     out.write_all(text.as_slice())?;
     Ok(())

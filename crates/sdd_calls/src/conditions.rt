@@ -51,12 +51,7 @@ fn tell_undeclared<W: Write>(alloc: Global, out: &mut W, cat: &Catalogue) -> Res
 }
 
 /// The conditions of the second class at a module, where it reads none, each, and both of two fragments.
-fn tell_asked<W: Write>(
-    out: &mut W,
-    cat: &Catalogue,
-    table: &Table,
-    dm: DmNo,
-) -> Result<()> {
+fn tell_asked<W: Write>(out: &mut W, cat: &Catalogue, table: &Table, dm: DmNo) -> Result<()> {
     tell_condition(out, cat, table, dm, &[])?;
     tell_condition(out, cat, table, dm, &[FragNo(1)])?;
     tell_condition(out, cat, table, dm, &[FragNo(2)])?;
@@ -70,11 +65,18 @@ fn tell_condition<W: Write>(
     dm: DmNo,
     frags: &[FragNo],
 ) -> Result<()> {
-    ensure!(cat.classes() >= 2 && are_there(cat, frags), "too few classes or fragments");
+    ensure!(
+        cat.classes() >= 2 && are_there(cat, frags),
+        "too few classes or fragments"
+    );
     let conds = table
         .condition(cat, ClassNo(2), dm, frags, Ts(258), Ts(255))
         .map_err(wanting)?;
-    writeln!(out, "condition at {dm:?} for {frags:?}: {:?}", conds.as_slice())?;
+    writeln!(
+        out,
+        "condition at {dm:?} for {frags:?}: {:?}",
+        conds.as_slice()
+    )?;
     Ok(())
 }
 

@@ -46,12 +46,7 @@ fn tell_effect<W: Write>(
     Ok(())
 }
 
-fn snapshot(
-    alloc: Global,
-    cat: &Catalogue,
-    txn: &Txn,
-    rows: &[(RelNo, Row)],
-) -> Result<Snapshot> {
+fn snapshot(alloc: Global, cat: &Catalogue, txn: &Txn, rows: &[(RelNo, Row)]) -> Result<Snapshot> {
     ensure!(fits(cat, txn), "a transaction that doesn't fit");
     let mut snap = Snapshot::new(alloc);
     for one in uses(alloc, cat, txn).map_err(wanting)?.iter() {
@@ -99,7 +94,12 @@ fn started(alloc: Global, cat: &Catalogue, work: &Workload) -> Result<Plain>
 }
 
 #[tactic(auto, using(crate::proofs::Fitting::txns_fit))]
-fn tell_run_all<W: Write>(alloc: Global, out: &mut W, cat: &Catalogue, work: &Workload) -> Result<()>
+fn tell_run_all<W: Write>(
+    alloc: Global,
+    out: &mut W,
+    cat: &Catalogue,
+    work: &Workload,
+) -> Result<()>
     requires { IsValid cat.now work.now }
 {
     let mut plain = started(alloc, cat, work)?;

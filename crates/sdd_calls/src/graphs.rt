@@ -25,7 +25,10 @@ fn tell_ring<W: Write>(alloc: Global, out: &mut W, count: u32) -> Result<()> {
     let numbers = checked(alloc, &edges, 1000)?;
     let least = numbers.iter().copied().min();
     let greatest = numbers.iter().copied().max();
-    writeln!(out, "blocks({count} edges of a ring): {least:?} to {greatest:?}")?;
+    writeln!(
+        out,
+        "blocks({count} edges of a ring): {least:?} to {greatest:?}"
+    )?;
     Ok(())
 }
 

@@ -114,13 +114,7 @@ fn delivered<W: Write>(
     Ok(net)
 }
 
-fn lost<W: Write>(
-    out: &mut W,
-    net: Net<u32>,
-    from: Site,
-    to: Site,
-    place: u32,
-) -> Result<Net<u32>>
+fn lost<W: Write>(out: &mut W, net: Net<u32>, from: Site, to: Site, place: u32) -> Result<Net<u32>>
     requires live { IsTrue net.live }
     requires exists { HasLink net from to }
     requires place { 1 ≤ place }
@@ -175,16 +169,26 @@ fn tell_sender<W: Write>(alloc: Global, out: &mut W) -> Result<()> {
     for message in [10u32, 20, 30] {
         sender = put(out, sender, message)?;
     }
-    ensure!(sender.live() && sender.count() >= 1, "a sender that is dead");
+    ensure!(
+        sender.live() && sender.count() >= 1,
+        "a sender that is dead"
+    );
     sender.acked(1);
     let (unacked, packets) = (sender.unacked(), sender.resend().map_err(wanting)?);
-    writeln!(out, "Sender: unacked {unacked}, resend {:?}", packets.as_slice())?;
+    writeln!(
+        out,
+        "Sender: unacked {unacked}, resend {:?}",
+        packets.as_slice()
+    )?;
     Ok(())
 }
 
 fn put<W: Write>(out: &mut W, sender: Sender<u32>, message: u32) -> Result<Sender<u32>> {
     let mut sender = sender;
-    ensure!(sender.live() && sender.count() < u32::MAX, "a sender that is dead");
+    ensure!(
+        sender.live() && sender.count() < u32::MAX,
+        "a sender that is dead"
+    );
     let number = sender.put(message).map_err(wanting)?;
     writeln!(out, "Sender::put: {number}")?;
     Ok(sender)
@@ -205,7 +209,11 @@ fn arrived<W: Write>(out: &mut W, receiver: Receiver<u32>, number: u32) -> Resul
         .arrive(number, number.saturating_mul(10))
         .map_err(wanting)?;
     let count = receiver.count();
-    writeln!(out, "Receiver::arrive of {number}: {:?}, count {count}", handed.as_slice())?;
+    writeln!(
+        out,
+        "Receiver::arrive of {number}: {:?}, count {count}",
+        handed.as_slice()
+    )?;
     Ok(receiver)
 }
 

@@ -3,9 +3,7 @@ use crate::read::{catalogue, wanting, workload};
 use anyhow::{Context, Result, ensure};
 use sdd_base::{Parcel, Row, Value};
 use sdd_catalog::Catalogue;
-use sdd_lang::{
-    Assign, Ref, Txn, class_for, fits, project, read_set, replaced, uses, write_set,
-};
+use sdd_lang::{Assign, Ref, Txn, class_for, fits, project, read_set, replaced, uses, write_set};
 use std::alloc::Global;
 use std::io::Write;
 use std::rt::Files;
@@ -26,7 +24,12 @@ fn tell_txn<W: Write>(alloc: Global, out: &mut W, cat: &Catalogue, txn: &Txn) ->
     let reads = read_set(alloc, cat, txn).map_err(wanting)?;
     let writes = write_set(alloc, cat, txn).map_err(wanting)?;
     let class = class_for(alloc, cat, txn).map_err(wanting)?.0;
-    writeln!(out, "read_set {:?}, write_set {:?}", reads.as_slice(), writes.as_slice())?;
+    writeln!(
+        out,
+        "read_set {:?}, write_set {:?}",
+        reads.as_slice(),
+        writes.as_slice()
+    )?;
     writeln!(out, "class_for {class}")?;
     tell_uses(alloc, out, cat, txn)
 }

@@ -2,8 +2,8 @@
 use crate::read::wanting;
 use anyhow::{Context, Result};
 use sdd_base::{
-    Bytes, CallNos, Files, MemShelf, MemSink, ReadError, Shelf, ShelfFile, SureShelf, SureSink, read_file,
-    write_text,
+    Bytes, CallNos, Files, MemShelf, MemSink, ReadError, Shelf, ShelfFile, SureShelf, SureSink,
+    read_file, write_text,
 };
 use std::alloc::Global;
 use std::io::Write;
@@ -104,6 +104,9 @@ fn tell_sure<W: Write>(alloc: Global, out: &mut W) -> Result<()> {
     let second = write_text(&mut sink, b"");
     let third = write_text(&mut sink, b"f");
     let taken = std::str::from_utf8(sink.taken())?;
-    writeln!(out, "write_text to room 5: {first:?}, {second:?}, {third:?}, {taken:?}")?;
+    writeln!(
+        out,
+        "write_text to room 5: {first:?}, {second:?}, {third:?}, {taken:?}"
+    )?;
     Ok(())
 }

@@ -2,8 +2,8 @@
 use crate::read::wanting;
 use anyhow::{Context, Result};
 use sdd_base::{
-    Answers, Change, ClassNo, Clock, Cond, DmNo, Event, FragNo, Frags, Name, Op, Parcel, RelNo, Reply,
-    Restriction, Restrictions, Row, RowList, Site, Text, Ts, Use, Value,
+    Answers, Change, ClassNo, Clock, Cond, DmNo, Event, FragNo, Frags, Name, Op, Parcel, RelNo,
+    Reply, Restriction, Restrictions, Row, RowList, Site, Text, Ts, Use, Value,
 };
 use std::alloc::Global;
 use std::io::Write;
