@@ -20,9 +20,6 @@ workload_faults.txt       `NAME | CATALOGUE | FAULT | LINE / LINE ..`
 *.cases                   cases as the program reads them; behind a case, lines `expect LINE` have the
                           answer that is written by hand, LINE as the program prints it
 
-The catalogues of crates/sdd_calls/data that have the name of one of these texts are written again as
-copies of it.
-
 A FAULT is what is told, as `line 2: BadNumber`, or `accepted`; the script stops where the reference
 tells another. The format that the program reads is described in crates/sdd_cases/src/main.rt.
 """
@@ -35,7 +32,6 @@ import tempfile
 
 TOP = os.path.join(os.path.dirname(os.path.abspath(__file__)), "..")
 CASES = os.path.join(TOP, "tools", "cases")
-CALLS = os.path.join(TOP, "crates", "sdd_calls", "data")
 KEPT = [os.path.join(TOP, "crates", "sdd1", "data"), os.path.join(CASES, "catalogues")]
 NO_LIMIT = 2**64
 ROOM = 1 << 20
@@ -321,10 +317,6 @@ def main():
     for name in sorted(os.listdir(CASES)):
         if name.endswith(".cases"):
             cases += read_cases(os.path.join(CASES, name), kept)
-    for name in os.listdir(CALLS):
-        if name in kept:
-            with open(os.path.join(CALLS, name), "wb") as f:
-                f.write(kept[name])
     outside = Outside(asked.reference)
     given = ["# Made by tools/make_cases.py from tools/cases."]
     want = []
