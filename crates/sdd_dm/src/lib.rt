@@ -1,8 +1,8 @@
 //! The data module of a site D: it answers READs by frozen rows of its copies, holds back WRITEs
 //! that a waiting READ must not see, and applies the others.
 //!
-//! The one contract to the layer above: it is a `Module`, whose acts are those that
-//! `specs/Due.antt` makes due at its site.
+//! What stands here are the definitions; the module itself, a `Module` whose acts are those that
+//! `specs/Due.antt` makes due at its site, is not built yet.
 #![tactic(auto)]
 
 mod holding;
