@@ -1,5 +1,5 @@
 -- What reading a file says of what is in it.
-use Rattle.std.proofs.Common.{◌≡◌, ℕ, ◌^◌, ◌<◌, ◌≤◌, List, length, Option, Some, None, Result, Ok, Err, refl, ap, sym, subst, ◌∙◌, arith, inl, inr}
+use Rattle.std.proofs.Common.{◌≡◌, ℕ, ◌<◌, ◌≤◌, List, length, Option, Some, None, Result, Ok, Err, refl, ap, sym, subst, ◌∙◌, arith, inl, inr}
 use Rattle.std.proofs.lemmas.Bool.{cases_lt, lt-ltb}
 use Rattle.std.specs.Prelude.{IsSome, IfSome, IfErr, IsErrOf, OnOk, MatchResult, take, ◌+◌, nat_lt, true}
 use Rattle.std.specs.Option.{option_map}

@@ -1,10 +1,10 @@
 -- The form that words have, and the words of a form.
-use Rattle.std.proofs.Common.{◌≡◌, ℕ, ◌^◌, ◌<◌, ◌≤◌, cond, List, [], ◌∷◌, Bool, true, false, Option, Some, None, refl, ap, sym, ◌∙◌, subst, arith}
+use Rattle.std.proofs.Common.{◌≡◌, ℕ, ◌^◌, cond, List, [], ◌∷◌, Bool, true, false, Option, Some, None, refl, ap, sym, ◌∙◌, subst, arith}
 use Rattle.std.specs.Prelude.{codes}
 use Rattle.std.specs.Fmt.{decimal}
 use Rattle.std.specs.Str.{bytes_eq}
 use Rattle.std.proofs.lemmas.Slice.Eq.{bytes_eq-Decides}
-use Rattle.sdd_app.specs.Command.{Form, Check, Graph, Table, Run, Plain, Make, IsForm, IsNoForm, words_of, count_in, made, form_of_two, form_of_three, form_in}
+use Rattle.sdd_app.specs.Command.{Form, Check, Graph, Table, Run, Plain, Make, IsForm, IsNoForm, words_of, count_in, made, form_in}
 use Rattle.sdd_app.proofs.Counts.{counted, spelled}
 
 -- the words of a form have it

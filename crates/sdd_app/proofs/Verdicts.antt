@@ -1,6 +1,6 @@
 -- What a call comes to, from what was read of its files; that it comes to one status.
 use Rattle.std.proofs.Common.{◌≡◌, ℕ, List, [], ◌∷◌, Bool, true, false, cond, Option, Some, None, Result, Ok, Err, refl, ap, sym, ◌∙◌, subst, ◌⊎◌, inl, inr}
-use Rattle.std.specs.Prelude.{IsSome, IfSome, IsErrOf, IfErr, MatchOption, MatchResult}
+use Rattle.std.specs.Prelude.{IsSome, MatchOption, MatchResult}
 use Rattle.std.specs.Option.{option_map}
 use Rattle.sdd_base.specs.declared.files.ShelfFile.{ShelfFile}
 use Rattle.sdd_base.specs.Outside.{KeepsOpen, find_file}
@@ -8,12 +8,10 @@ use Rattle.sdd_catalog.specs.Catalogue.{Catalogue}
 use Rattle.sdd_catalog.specs.declared.fault.CatFault.{CatFault}
 use Rattle.sdd_catread.specs.Reading.{catalogue_in}
 use Rattle.sdd_script.specs.Walk.{workload}
-use Rattle.sdd_script.specs.declared.fault.WorkFault.{WorkFault}
 use Rattle.sdd_script.specs.declared.workload.Workload.{Workload}
-use Rattle.sdd_app.specs.Answer.{catalogue_named, workload_named, OverCatalogue, ComesToListing, plain_verdict, ComesToPlain, run_verdict, ComesToRun, FormComesTo, ComesTo, HasFiles, FilesOf, FilesAreThere, BlamesCatalogue, BlamesWorkload}
+use Rattle.sdd_app.specs.Answer.{catalogue_named, workload_named, OverCatalogue, ComesToListing, plain_verdict, ComesToPlain, run_verdict, ComesToRun, FormComesTo, ComesTo, FilesOf, FilesAreThere, BlamesCatalogue, BlamesWorkload}
 use Rattle.sdd_app.specs.Command.{Form, Check, Graph, Table, Run, Plain, Make, form_in}
 use Rattle.sdd_app.specs.Endings.{FilesRead, IsRead, ToItsEnd}
-use Rattle.sdd_app.specs.Listing.{Tells}
 use Rattle.sdd_app.specs.Reach.{IsFirstCatalogue, is_first_workload}
 use Rattle.sdd_app.specs.Serially.{serial_text}
 use Rattle.sdd_app.specs.Verdict.{Verdict, NoForm, Prints, FaultyCatalogue, FaultyWorkload, NotBuilt, status_of, IsRefusal, Explains, Answers}
@@ -190,13 +188,13 @@ form_there fs (Check cat) v p = over_there fs cat (ComesToListing listings.Count
 form_there fs (Graph cat) v p = over_there fs cat (ComesToListing listings.Graph) v p
 form_there fs (Table cat) v p = over_there fs cat (ComesToListing listings.Table) v p
 form_there fs (Run cat work) v p = (
-      over_there fs cat (ComesToRun fs work) v p,
-      λ says e first. run_there fs work says v first (over_at (catalogue_named fs cat) (ComesToRun fs work) says v p e),
-    )
+  over_there fs cat (ComesToRun fs work) v p,
+  λ says e first. run_there fs work says v first (over_at (catalogue_named fs cat) (ComesToRun fs work) says v p e),
+)
 form_there fs (Plain cat work) v p = (
-      over_there fs cat (ComesToPlain fs work) v p,
-      λ says e _. work_there (workload says) (plain_verdict says) v (find_file fs work) (over_at (catalogue_named fs cat) (ComesToPlain fs work) says v p e),
-    )
+  over_there fs cat (ComesToPlain fs work) v p,
+  λ says e _. work_there (workload says) (plain_verdict says) v (find_file fs work) (over_at (catalogue_named fs cat) (ComesToPlain fs work) says v p e),
+)
 form_there fs (Make seed count) v p = tt
 
 words_there : (fs : List ShelfFile) (form : Option Form) (v : Verdict) → MatchOption form (v ≡ NoForm) (λ f. FormComesTo fs f v) → MatchOption form (Unit {0}) (FilesOf fs)

@@ -1,4 +1,4 @@
-use Rattle.std.proofs.Common.{◌≡◌, sym, subst}
+use Rattle.std.proofs.Common.{sym, subst}
 use Rattle.sdd_app.specs.Answer.{FormComesTo}
 use Rattle.sdd_app.specs.Command.{form_of}
 use Rattle.sdd_app.specs.Verdict.{Answers}
