@@ -44,11 +44,7 @@ fn accepted_script<S: Shelf>(
 }
 
 /// What `control` answers over the script in the file.
-pub fn control_answer<S: Shelf>(
-    alloc: Global,
-    shelf: &mut S,
-    file: &str,
-) -> Result<Vec<u8>, Status>
+pub fn control_answer<S: Shelf>(alloc: Global, shelf: &mut S, file: &str) -> Result<Vec<u8>, Status>
     ensures told { (fs : List ShelfFile) → S.files shelf.old ≡ Some fs → Answers result (λ v. v.items) (ComesToControl fs file.now) }
     ensures ended { OnOk result (FilesRead (S.is_open shelf.old) (S.is_open shelf.new) (S.unread shelf.new) (ToItsEnd ∷ [])) }
     ensures fault { IfErr result (λ s. s ≡ Status.ReadFault → Rose (S.faults shelf.old) (S.faults shelf.new)) }

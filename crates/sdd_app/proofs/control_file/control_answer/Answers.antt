@@ -1,4 +1,3 @@
-use Rattle.std.proofs.Common.{◌≡◌}
 use Rattle.std.proofs.lemmas.Result.{err_from_is_err_and}
 use Rattle.sdd_app.specs.Answer.{BlamesScript, ComesToControl, script_named}
 use Rattle.sdd_app.proofs.Verdicts.{explains_more, blamed_control, reports_control, one_ended}
