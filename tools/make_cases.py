@@ -17,11 +17,9 @@ catalogue_faults.txt      `NAME | CATALOGUE | FAULT | OLD => NEW`, the catalogue
                           replaced, `NAME | CATALOGUE | FAULT | + LINE / LINE ..` with lines behind it,
                           or `NAME | - | FAULT | LINE / LINE ..` with nothing else
 workload_faults.txt       `NAME | CATALOGUE | FAULT | LINE / LINE ..`
+controls.txt              `NAME | FAULT | LINE / LINE ..`, a file of transaction control
 *.cases                   cases as the program reads them; behind a case, lines `expect LINE` have the
                           answer that is written by hand, LINE as the program prints it
-
-The catalogues of crates/sdd_calls/data that have the name of one of these texts are written again as
-copies of it.
 
 A FAULT is what is told, as `line 2: BadNumber`, or `accepted`; the script stops where the reference
 tells another. The format that the program reads is described in crates/sdd_cases/src/main.rt.
@@ -35,7 +33,6 @@ import tempfile
 
 TOP = os.path.join(os.path.dirname(os.path.abspath(__file__)), "..")
 CASES = os.path.join(TOP, "tools", "cases")
-CALLS = os.path.join(TOP, "crates", "sdd_calls", "data")
 KEPT = [os.path.join(TOP, "crates", "sdd1", "data"), os.path.join(CASES, "catalogues")]
 NO_LIMIT = 2**64
 ROOM = 1 << 20
@@ -138,11 +135,11 @@ def read_calls(path, kept):
     return cases
 
 
-def table(path):
+def table(path, columns=4):
     with open(path, encoding="utf-8") as f:
         for line in f.read().split("\n"):
             if line and not line.startswith("#"):
-                yield line.split(" | ", 3)
+                yield line.split(" | ", columns - 1)
 
 
 def joined(text):
@@ -180,6 +177,14 @@ def read_workload_faults(path, kept):
     for name, base, fault, edit in table(path):
         lines = ["words plain cat work", "file cat " + base, "text work"] + ["|" + x for x in edit.split(" / ")]
         cases.append(made("workload: " + name, lines, kept, "" if fault == "accepted" else "workload: " + fault))
+    return cases
+
+
+def read_controls(path, kept):
+    cases = []
+    for name, fault, text in table(path, 3):
+        lines = ["words control script", "text script"] + ["|" + x for x in text.split(" / ")]
+        cases.append(made("control: " + name, lines, kept, "" if fault == "accepted" else "workload: " + fault))
     return cases
 
 
@@ -318,13 +323,10 @@ def main():
     cases += read_workloads(os.path.join(CASES, "workloads.txt"), kept)
     cases += read_catalogue_faults(os.path.join(CASES, "catalogue_faults.txt"), kept)
     cases += read_workload_faults(os.path.join(CASES, "workload_faults.txt"), kept)
+    cases += read_controls(os.path.join(CASES, "controls.txt"), kept)
     for name in sorted(os.listdir(CASES)):
         if name.endswith(".cases"):
             cases += read_cases(os.path.join(CASES, name), kept)
-    for name in os.listdir(CALLS):
-        if name in kept:
-            with open(os.path.join(CALLS, name), "wb") as f:
-                f.write(kept[name])
     outside = Outside(asked.reference)
     given = ["# Made by tools/make_cases.py from tools/cases."]
     want = []

@@ -1,12 +1,14 @@
 -- What reading a file says of what is in it.
-use Rattle.std.proofs.Common.{◌≡◌, ℕ, ◌^◌, ◌<◌, ◌≤◌, List, length, Option, Some, None, Result, Ok, Err, refl, ap, sym, subst, ◌∙◌, arith, inl, inr}
+use Rattle.std.proofs.Common.{◌≡◌, ℕ, ◌<◌, ◌≤◌, List, length, Option, Some, None, Result, Ok, Err, refl, ap, sym, subst, ◌∙◌, arith, inl, inr}
 use Rattle.std.proofs.lemmas.Bool.{cases_lt, lt-ltb}
 use Rattle.std.specs.Prelude.{IsSome, IfSome, IfErr, IsErrOf, OnOk, MatchResult, take, ◌+◌, nat_lt, true}
 use Rattle.std.specs.Option.{option_map}
 use Rattle.sdd_base.specs.declared.limits.TheConstants.{MAX_CATALOGUE_BYTES, MAX_WORKLOAD_BYTES}
 use Rattle.sdd_base.specs.Outside.{ReadsTo, find_file}
 use Rattle.sdd_base.specs.declared.files.ShelfFile.{ShelfFile}
-use Rattle.sdd_app.specs.Answer.{BlamesCatalogue, BlamesWorkload, catalogue_named, workload_named}
+use Rattle.sdd_control.specs.Walk.{control_script, most_bytes}
+use Rattle.sdd_control.specs.declared.script.ControlScript.{ControlScript}
+use Rattle.sdd_app.specs.Answer.{BlamesScript, script_named, BlamesCatalogue, BlamesWorkload, catalogue_named, workload_named}
 use Rattle.sdd_app.specs.Verdict.{ComesOfFiles, Explains}
 use Rattle.sdd_app.specs.declared.status.Status.{Status}
 use Rattle.sdd_app.specs.declared.status.Status.TheVariants.{Usage}
@@ -83,6 +85,28 @@ pub workload_gives : (result : Result Workload Status) (fs : List ShelfFile) (ca
 workload_gives (Ok w) fs cat name bytes reads e = read_gives MAX_WORKLOAD_BYTES (workload cat) (long_workloads cat) (find_file fs name) bytes reads ∙ ap (λ r. Some r) e
 workload_gives (Err s) fs cat name bytes reads e =
     subst (λ r. Explains s (BlamesWorkload r)) (sym (read_gives MAX_WORKLOAD_BYTES (workload cat) (long_workloads cat) (find_file fs name) bytes reads)) e
+
+-- a script of transaction control is as long as a workload at most
+
+long_script : (bytes : List ℕ) → MAX_WORKLOAD_BYTES < length bytes → control_script bytes ≡ Err (record { line = 0; rule = work_rules.TooLong })
+long_script bytes long = let yes : nat_lt most_bytes (length bytes) ≡ true = lt-ltb MAX_WORKLOAD_BYTES (length bytes) long in rw yes refl
+
+pub long_scripts : (a b : List ℕ) → MAX_WORKLOAD_BYTES < length a → MAX_WORKLOAD_BYTES < length b → control_script a ≡ control_script b
+long_scripts a b la lb = long_script a la ∙ sym (long_script b lb)
+
+pub accepted_script_short : (bytes : List ℕ) (s : ControlScript) → control_script bytes ≡ Ok s → length bytes ≤ MAX_WORKLOAD_BYTES
+accepted_script_short bytes s ok =
+    elim (cases_lt MAX_WORKLOAD_BYTES (length bytes)) [
+      | inl past ↦ let bad = long_script bytes past in absurd cc
+      | inr within ↦ omega arith
+    ]
+
+pub script_gives : (result : Result ControlScript Status) (fs : List ShelfFile) (name bytes : List ℕ) → ReadsTo MAX_WORKLOAD_BYTES (find_file fs name) bytes
+    → MatchResult result (λ x. control_script bytes ≡ Ok x) (λ s. Explains s (BlamesScript (Some (control_script bytes))))
+    → MatchResult result (λ x. script_named fs name ≡ Some (Ok x)) (λ s. Explains s (BlamesScript (script_named fs name)))
+script_gives (Ok x) fs name bytes reads e = read_gives MAX_WORKLOAD_BYTES control_script long_scripts (find_file fs name) bytes reads ∙ ap (λ r. Some r) e
+script_gives (Err s) fs name bytes reads e =
+    subst (λ r. Explains s (BlamesScript r)) (sym (read_gives MAX_WORKLOAD_BYTES control_script long_scripts (find_file fs name) bytes reads)) e
 
 -- what follows where a call went well
 pub on_ok_by : {T : Type 0} (r : Result T Status) (P : T → Type 0) (Q : Status → Type 0) (R : Type 0) → MatchResult r P Q → ((v : T) → P v → R) → OnOk r R

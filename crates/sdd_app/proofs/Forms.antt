@@ -1,10 +1,10 @@
 -- The form that words have, and the words of a form.
-use Rattle.std.proofs.Common.{◌≡◌, ℕ, ◌^◌, ◌<◌, ◌≤◌, cond, List, [], ◌∷◌, Bool, true, false, Option, Some, None, refl, ap, sym, ◌∙◌, subst, arith}
+use Rattle.std.proofs.Common.{◌≡◌, ℕ, ◌^◌, cond, List, [], ◌∷◌, Bool, true, false, Option, Some, None, refl, ap, sym, ◌∙◌, subst, arith}
 use Rattle.std.specs.Prelude.{codes}
 use Rattle.std.specs.Fmt.{decimal}
 use Rattle.std.specs.Str.{bytes_eq}
 use Rattle.std.proofs.lemmas.Slice.Eq.{bytes_eq-Decides}
-use Rattle.sdd_app.specs.Command.{Form, Check, Graph, Table, Run, Plain, Make, IsForm, IsNoForm, words_of, count_in, made, form_of_two, form_of_three, form_in}
+use Rattle.sdd_app.specs.Command.{Form, Check, Graph, Table, Run, Plain, Control, Make, IsForm, IsNoForm, words_of, count_in, made, form_in}
 use Rattle.sdd_app.proofs.Counts.{counted, spelled}
 
 -- the words of a form have it
@@ -15,6 +15,7 @@ form_found (Graph cat) is = refl
 form_found (Table cat) is = refl
 form_found (Run cat work) is = refl
 form_found (Plain cat work) is = refl
+form_found (Control file) is = refl
 form_found (Make seed count) is =
     rw (counted (2 ^ 31) seed is.0 (omega (arith, is.0)), counted 2049 count (omega (arith, is.1)) (omega (arith, is.1))) refl
 
@@ -42,12 +43,13 @@ made_so first second (Some s) (Some n) form p q e =
 made_so first second (Some s) None form p q e = absurd cc
 made_so first second None count form p q e = absurd cc
 
-two_so : (name cat : List ℕ) (form : Form) (x y z : Bool) → bytes_eq name (codes "check") ≡ x → bytes_eq name (codes "graph") ≡ y → bytes_eq name (codes "table") ≡ z
-    → cond x (Some (Check cat)) (cond y (Some (Graph cat)) (cond z (Some (Table cat)) None)) ≡ Some form → Has (name ∷ cat ∷ []) form
-two_so name cat form true y z p q r e = has_so (name ∷ cat ∷ []) (Check cat) form tt (ap (λ w. w ∷ cat ∷ []) (named name (codes "check") p)) e
-two_so name cat form false true z p q r e = has_so (name ∷ cat ∷ []) (Graph cat) form tt (ap (λ w. w ∷ cat ∷ []) (named name (codes "graph") q)) e
-two_so name cat form false false true p q r e = has_so (name ∷ cat ∷ []) (Table cat) form tt (ap (λ w. w ∷ cat ∷ []) (named name (codes "table") r)) e
-two_so name cat form false false false p q r e = absurd cc
+two_so : (name cat : List ℕ) (form : Form) (x y z u : Bool) → bytes_eq name (codes "check") ≡ x → bytes_eq name (codes "graph") ≡ y → bytes_eq name (codes "table") ≡ z
+    → bytes_eq name (codes "control") ≡ u → cond x (Some (Check cat)) (cond y (Some (Graph cat)) (cond z (Some (Table cat)) (cond u (Some (Control cat)) None))) ≡ Some form → Has (name ∷ cat ∷ []) form
+two_so name cat form true y z u p q r t e = has_so (name ∷ cat ∷ []) (Check cat) form tt (ap (λ w. w ∷ cat ∷ []) (named name (codes "check") p)) e
+two_so name cat form false true z u p q r t e = has_so (name ∷ cat ∷ []) (Graph cat) form tt (ap (λ w. w ∷ cat ∷ []) (named name (codes "graph") q)) e
+two_so name cat form false false true u p q r t e = has_so (name ∷ cat ∷ []) (Table cat) form tt (ap (λ w. w ∷ cat ∷ []) (named name (codes "table") r)) e
+two_so name cat form false false false true p q r t e = has_so (name ∷ cat ∷ []) (Control cat) form tt (ap (λ w. w ∷ cat ∷ []) (named name (codes "control") t)) e
+two_so name cat form false false false false p q r t e = absurd cc
 
 three_so : (name first second : List ℕ) (form : Form) (x y z : Bool) → bytes_eq name (codes "run") ≡ x → bytes_eq name (codes "plain") ≡ y → bytes_eq name (codes "make") ≡ z
     → cond x (Some (Run first second)) (cond y (Some (Plain first second)) (cond z (made (count_in (2 ^ 31) first) (count_in 2049 second)) None)) ≡ Some form
@@ -62,7 +64,7 @@ form_has : (ws : List (List ℕ)) (form : Form) → form_in ws ≡ Some form →
 unfolding form_in
 form_has [] form e = absurd cc
 form_has (name ∷ []) form e = absurd cc
-form_has (name ∷ cat ∷ []) form e = two_so name cat form (bytes_eq name (codes "check")) (bytes_eq name (codes "graph")) (bytes_eq name (codes "table")) refl refl refl e
+form_has (name ∷ cat ∷ []) form e = two_so name cat form (bytes_eq name (codes "check")) (bytes_eq name (codes "graph")) (bytes_eq name (codes "table")) (bytes_eq name (codes "control")) refl refl refl refl e
 form_has (name ∷ first ∷ second ∷ []) form e = three_so name first second form (bytes_eq name (codes "run")) (bytes_eq name (codes "plain")) (bytes_eq name (codes "make")) refl refl refl e
 form_has (name ∷ first ∷ second ∷ third ∷ rest) form e = absurd cc
 

@@ -1,6 +1,6 @@
 -- What a call comes to, from what was read of its files; that it comes to one status.
 use Rattle.std.proofs.Common.{◌≡◌, ℕ, List, [], ◌∷◌, Bool, true, false, cond, Option, Some, None, Result, Ok, Err, refl, ap, sym, ◌∙◌, subst, ◌⊎◌, inl, inr}
-use Rattle.std.specs.Prelude.{IsSome, IfSome, IsErrOf, IfErr, MatchOption, MatchResult}
+use Rattle.std.specs.Prelude.{IsSome, MatchOption, MatchResult}
 use Rattle.std.specs.Option.{option_map}
 use Rattle.sdd_base.specs.declared.files.ShelfFile.{ShelfFile}
 use Rattle.sdd_base.specs.Outside.{KeepsOpen, find_file}
@@ -8,12 +8,13 @@ use Rattle.sdd_catalog.specs.Catalogue.{Catalogue}
 use Rattle.sdd_catalog.specs.declared.fault.CatFault.{CatFault}
 use Rattle.sdd_catread.specs.Reading.{catalogue_in}
 use Rattle.sdd_script.specs.Walk.{workload}
-use Rattle.sdd_script.specs.declared.fault.WorkFault.{WorkFault}
 use Rattle.sdd_script.specs.declared.workload.Workload.{Workload}
-use Rattle.sdd_app.specs.Answer.{catalogue_named, workload_named, OverCatalogue, ComesToListing, plain_verdict, ComesToPlain, run_verdict, ComesToRun, FormComesTo, ComesTo, HasFiles, FilesOf, FilesAreThere, BlamesCatalogue, BlamesWorkload}
-use Rattle.sdd_app.specs.Command.{Form, Check, Graph, Table, Run, Plain, Make, form_in}
+use Rattle.sdd_control.specs.Report.{report}
+use Rattle.sdd_control.specs.Walk.{control_script}
+use Rattle.sdd_control.specs.declared.script.ControlScript.{ControlScript}
+use Rattle.sdd_app.specs.Answer.{script_named, control_verdict, ComesToControl, BlamesScript, catalogue_named, workload_named, OverCatalogue, ComesToListing, plain_verdict, ComesToPlain, run_verdict, ComesToRun, FormComesTo, ComesTo, FilesOf, FilesAreThere, BlamesCatalogue, BlamesWorkload}
+use Rattle.sdd_app.specs.Command.{Form, Check, Graph, Table, Run, Plain, Control, Make, form_in}
 use Rattle.sdd_app.specs.Endings.{FilesRead, IsRead, ToItsEnd}
-use Rattle.sdd_app.specs.Listing.{Tells}
 use Rattle.sdd_app.specs.Reach.{IsFirstCatalogue, is_first_workload}
 use Rattle.sdd_app.specs.Serially.{serial_text}
 use Rattle.sdd_app.specs.Verdict.{Verdict, NoForm, Prints, FaultyCatalogue, FaultyWorkload, NotBuilt, status_of, IsRefusal, Explains, Answers}
@@ -87,6 +88,18 @@ pub other_workload : (fs : List ShelfFile) (work : List ℕ) (cat : Catalogue) (
 other_workload fs work cat w first e takes =
     inl (first, ap (λ r. option_map (run_verdict cat) r) e ∙ ap (λ v. Some v) (run_takes cat w false takes))
 
+-- a faulty script is what `control` comes to, and so is what a sound one gives
+pub blamed_control : (fs : List ShelfFile) (name : List ℕ) (v : Verdict) → BlamesScript (script_named fs name) v → ComesToControl fs name v
+blamed_control fs name (FaultyWorkload f) e = ap (λ r. option_map control_verdict r) e
+blamed_control fs name NoForm e = absurd e
+blamed_control fs name (Prints text) e = absurd e
+blamed_control fs name (FaultyCatalogue f) e = absurd e
+blamed_control fs name NotBuilt e = absurd e
+
+pub reports_control : (fs : List ShelfFile) (name : List ℕ) (script : ControlScript) (text : List ℕ) → script_named fs name ≡ Some (Ok script) → text ≡ report script
+    → ComesToControl fs name (Prints text)
+reports_control fs name script text e is = ap (λ r. option_map control_verdict r) e ∙ ap (λ t. Some (Prints t)) (sym is)
+
 -- what a command tells, the call of its words tells
 comes_by : (fs : List ShelfFile) (ws : List (List ℕ)) (form : Form) (v : Verdict) → form_in ws ≡ Some form → FormComesTo fs form v → ComesTo fs ws v
 comes_by fs ws form v e p = subst (λ o. MatchOption o (v ≡ NoForm) (λ f. FormComesTo fs f v)) (sym e) p
@@ -133,6 +146,7 @@ one_of_form fs (Graph cat) v w p q = one_over (catalogue_named fs cat) (ComesToL
 one_of_form fs (Table cat) v w p q = one_over (catalogue_named fs cat) (ComesToListing listings.Table) v w (λ c a b. one_listing listings.Table c v w a b) p q
 one_of_form fs (Run cat work) v w p q = one_over (catalogue_named fs cat) (ComesToRun fs work) v w (λ c a b. one_run fs work c v w a b) p q
 one_of_form fs (Plain cat work) v w p q = one_over (catalogue_named fs cat) (ComesToPlain fs work) v w (λ c a b. one_plain fs work c v w a b) p q
+one_of_form fs (Control file) v w p q = ap status_of (one_verdict (option_map control_verdict (script_named fs file)) v w p q)
 one_of_form fs (Make seed count) v w p q = ap status_of (p ∙ sym q)
 
 one_of_words : (fs : List ShelfFile) (form : Option Form) (v w : Verdict) → MatchOption form (v ≡ NoForm) (λ f. FormComesTo fs f v) → MatchOption form (w ≡ NoForm) (λ f. FormComesTo fs f w)
@@ -190,13 +204,14 @@ form_there fs (Check cat) v p = over_there fs cat (ComesToListing listings.Count
 form_there fs (Graph cat) v p = over_there fs cat (ComesToListing listings.Graph) v p
 form_there fs (Table cat) v p = over_there fs cat (ComesToListing listings.Table) v p
 form_there fs (Run cat work) v p = (
-      over_there fs cat (ComesToRun fs work) v p,
-      λ says e first. run_there fs work says v first (over_at (catalogue_named fs cat) (ComesToRun fs work) says v p e),
-    )
+  over_there fs cat (ComesToRun fs work) v p,
+  λ says e first. run_there fs work says v first (over_at (catalogue_named fs cat) (ComesToRun fs work) says v p e),
+)
 form_there fs (Plain cat work) v p = (
-      over_there fs cat (ComesToPlain fs work) v p,
-      λ says e _. work_there (workload says) (plain_verdict says) v (find_file fs work) (over_at (catalogue_named fs cat) (ComesToPlain fs work) says v p e),
-    )
+  over_there fs cat (ComesToPlain fs work) v p,
+  λ says e _. work_there (workload says) (plain_verdict says) v (find_file fs work) (over_at (catalogue_named fs cat) (ComesToPlain fs work) says v p e),
+)
+form_there fs (Control file) v p = work_there control_script control_verdict v (find_file fs file) p
 form_there fs (Make seed count) v p = tt
 
 words_there : (fs : List ShelfFile) (form : Option Form) (v : Verdict) → MatchOption form (v ≡ NoForm) (λ f. FormComesTo fs f v) → MatchOption form (Unit {0}) (FilesOf fs)

@@ -6,12 +6,15 @@ use Rattle.sdd_base.specs.Outside.{find_file}
 use Rattle.sdd_catalog.specs.Catalogue.{Catalogue}
 use Rattle.sdd_catalog.specs.declared.fault.CatFault.{CatFault}
 use Rattle.sdd_catread.specs.Reading.{catalogue_in}
+use Rattle.sdd_control.specs.Report.{report}
+use Rattle.sdd_control.specs.Walk.{control_script}
+use Rattle.sdd_control.specs.declared.script.ControlScript.{ControlScript}
 use Rattle.sdd_script.specs.Walk.{workload}
 use Rattle.sdd_script.specs.declared.fault.WorkFault.{WorkFault}
 use Rattle.sdd_script.specs.declared.workload.Workload.{Workload}
 use Rattle.sdd_app.specs.declared.listing.Listing.{Listing}
 use Rattle.sdd_app.specs.declared.listing.Listing.TheVariants as listings
-use Rattle.sdd_app.specs.Command.{Form, Check, Graph, Table, Run, Plain, Make, form_in}
+use Rattle.sdd_app.specs.Command.{Form, Check, Graph, Table, Run, Plain, Control, Make, form_in}
 use Rattle.sdd_app.specs.Listing.{Tells}
 use Rattle.sdd_app.specs.Reach.{IsFirstCatalogue, is_first_workload}
 use Rattle.sdd_app.specs.Serially.{serial_text}
@@ -56,6 +59,18 @@ ComesToRun files work cat verdict =
     (IsFirstCatalogue cat × (option_map (run_verdict cat) (workload_named files cat work) ≡ Some verdict))
     ⊎ ((IsFirstCatalogue cat → ⊥) × (verdict ≡ NotBuilt))
 
+-- the script of transaction control that the file of this name gives, or its first fault
+abbrev pub script_named : List ShelfFile → List ℕ → Option (Result ControlScript WorkFault)
+script_named files name = option_map control_script (find_file files name)
+
+-- what `control` makes of it: what the sites note and how they end, or the fault
+abbrev pub control_verdict : Result ControlScript WorkFault → Verdict
+control_verdict (Ok script) = Prints (report script)
+control_verdict (Err fault) = FaultyWorkload fault
+
+abbrev pub ComesToControl : List ShelfFile → List ℕ → Verdict → Type 0
+ComesToControl files name verdict = option_map control_verdict (script_named files name) ≡ Some verdict
+
 -- what a command of this form comes to
 abbrev pub FormComesTo : List ShelfFile → Form → Verdict → Type 0
 FormComesTo files (Check cat) verdict = OverCatalogue files cat (ComesToListing listings.Counts) verdict
@@ -63,6 +78,7 @@ FormComesTo files (Graph cat) verdict = OverCatalogue files cat (ComesToListing 
 FormComesTo files (Table cat) verdict = OverCatalogue files cat (ComesToListing listings.Table) verdict
 FormComesTo files (Run cat work) verdict = OverCatalogue files cat (ComesToRun files work) verdict
 FormComesTo files (Plain cat work) verdict = OverCatalogue files cat (ComesToPlain files work) verdict
+FormComesTo files (Control file) verdict = ComesToControl files file verdict
 FormComesTo files (Make seed count) verdict = verdict ≡ NotBuilt
 
 -- what a call of these words comes to
@@ -83,6 +99,7 @@ FilesOf files (Graph cat) = IsSome (find_file files cat)
 FilesOf files (Table cat) = IsSome (find_file files cat)
 FilesOf files (Run cat work) = HasFiles files cat work IsFirstCatalogue
 FilesOf files (Plain cat work) = HasFiles files cat work (λ _. Unit {0})
+FilesOf files (Control file) = IsSome (find_file files file)
 FilesOf files (Make seed count) = Unit {0}
 
 -- the files that a call of these words reads are there
@@ -97,3 +114,7 @@ BlamesCatalogue reading verdict = ⊥
 abbrev pub BlamesWorkload : Option (Result Workload WorkFault) → Verdict → Type 0
 BlamesWorkload reading (FaultyWorkload fault) = reading ≡ Some (Err fault)
 BlamesWorkload reading verdict = ⊥
+
+abbrev pub BlamesScript : Option (Result ControlScript WorkFault) → Verdict → Type 0
+BlamesScript reading (FaultyWorkload fault) = reading ≡ Some (Err fault)
+BlamesScript reading verdict = ⊥

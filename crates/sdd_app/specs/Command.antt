@@ -12,6 +12,7 @@ pub data Form : Type 0 where
   Table : List ℕ → Form
   Run : List ℕ → List ℕ → Form
   Plain : List ℕ → List ℕ → Form
+  Control : List ℕ → Form
   Make : ℕ → ℕ → Form
 
 -- a seed is below 2^31, and at most 2,048 transactions are made
@@ -25,6 +26,7 @@ words_of (Graph cat) = codes "graph" ∷ cat ∷ []
 words_of (Table cat) = codes "table" ∷ cat ∷ []
 words_of (Run cat work) = codes "run" ∷ cat ∷ work ∷ []
 words_of (Plain cat work) = codes "plain" ∷ cat ∷ work ∷ []
+words_of (Control file) = codes "control" ∷ file ∷ []
 words_of (Make seed count) = codes "make" ∷ decimal seed ∷ decimal count ∷ []
 
 -- the words are none of the forms
@@ -43,6 +45,7 @@ form_of_two name cat =
     if bytes_eq name (codes "check") then Some (Check cat)
     else if bytes_eq name (codes "graph") then Some (Graph cat)
     else if bytes_eq name (codes "table") then Some (Table cat)
+    else if bytes_eq name (codes "control") then Some (Control cat)
     else None
 
 abbrev pub made : Option ℕ → Option ℕ → Option Form
@@ -70,6 +73,7 @@ form_of (commands.Graph cat) = Graph cat.now
 form_of (commands.Table cat) = Table cat.now
 form_of (commands.Run cat work) = Run cat.now work.now
 form_of (commands.Plain cat work) = Plain cat.now work.now
+form_of (commands.Control file) = Control file.now
 form_of (commands.Make seed count) = Make seed count
 
 -- the command makes an input of these words

@@ -1,6 +1,6 @@
 -- How far a call has read the files that its words name.
 use Rattle.std.specs.Prelude.{◌≡◌, ℕ, List, [], ◌∷◌, Option, IfSome, MatchOption}
-use Rattle.sdd_app.specs.Command.{Form, Check, Graph, Table, Run, Plain, Make, form_in}
+use Rattle.sdd_app.specs.Command.{Form, Check, Graph, Table, Run, Plain, Control, Make, form_in}
 
 pub data Ending : Type 0 where
   -- to the end of the file
@@ -41,6 +41,7 @@ FormEnds was stands unread (Graph cat) = FilesRead was stands unread (ToItsEnd �
 FormEnds was stands unread (Table cat) = FilesRead was stands unread (ToItsEnd ∷ [])
 FormEnds was stands unread (Run cat work) = FilesRead was stands unread (ToItsEnd ∷ ToItsEnd ∷ [])
 FormEnds was stands unread (Plain cat work) = FilesRead was stands unread (ToItsEnd ∷ ToItsEnd ∷ [])
+FormEnds was stands unread (Control file) = FilesRead was stands unread (ToItsEnd ∷ [])
 FormEnds was stands unread (Make seed count) = ⊥
 
 abbrev pub AtTheirEnds : List (List ℕ) → (ℕ → Type 0) → (ℕ → Type 0) → (ℕ → Option (List ℕ)) → Type 0

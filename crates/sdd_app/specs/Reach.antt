@@ -1,5 +1,5 @@
 -- Which catalogues and workloads `run` takes today.
-use Rattle.std.specs.Prelude.{◌^◌, ◌-◌, ◌≡◌, refl, pos, negsuc, IsTrue, Bool, true, false, ◌&&◌, ◌||◌, List, [], ◌∷◌, map, length}
+use Rattle.std.specs.Prelude.{◌^◌, ◌-◌, ◌≡◌, refl, pos, negsuc, Bool, true, false, ◌&&◌, ◌||◌, List, [], ◌∷◌, map, length}
 use Rattle.std.specs.List.{list_all}
 use Rattle.sdd_base.specs.Words.{is_empty}
 use Rattle.sdd_base.specs.Numbers.{dm_no, frag_no}

@@ -12,9 +12,9 @@ fn put_modules(text: &mut Vec<u8>, tms: u32, dms: u32) -> Result<(), NoMemory>
     ensures { OnOk result (text.new.items ≡ text.old.items ++ module_counts tms dms) }
 {
     put(text, b"ok tms ")?;
-    put_count(text, u64::from(tms))?;
+    put_count(text, tms as u64)?;
     put(text, b" dms ")?;
-    put_count(text, u64::from(dms))
+    put_count(text, dms as u64)
 }
 
 /// Adds how many relations and fragments there are.
@@ -22,16 +22,16 @@ fn put_parts(text: &mut Vec<u8>, relations: u32, fragments: u32) -> Result<(), N
     ensures { OnOk result (text.new.items ≡ text.old.items ++ part_counts relations fragments) }
 {
     put(text, b" relations ")?;
-    put_count(text, u64::from(relations))?;
+    put_count(text, relations as u64)?;
     put(text, b" fragments ")?;
-    put_count(text, u64::from(fragments))
+    put_count(text, fragments as u64)
 }
 
 fn put_classes(text: &mut Vec<u8>, classes: u32) -> Result<(), NoMemory>
     ensures { OnOk result (text.new.items ≡ text.old.items ++ class_count classes) }
 {
     put(text, b" classes ")?;
-    put_count(text, u64::from(classes))?;
+    put_count(text, classes as u64)?;
     put(text, b"\n")
 }
 

@@ -12,6 +12,8 @@ pub enum Command<'a> {
     Table(&'a str),
     Run(&'a str, &'a str),
     Plain(&'a str, &'a str),
+    /// A file of transaction control.
+    Control(&'a str),
     /// A seed and a number of transactions.
     Make(u32, u32),
 }
@@ -26,6 +28,7 @@ pub fn parse_words<'a>(words: &'a [String]) -> Option<Command<'a>>
             "check" => Some(Command::Check(cat.as_str())),
             "graph" => Some(Command::Graph(cat.as_str())),
             "table" => Some(Command::Table(cat.as_str())),
+            "control" => Some(Command::Control(cat.as_str())),
             _ => None,
         },
         [name, first, second] => match name.as_str() {

@@ -6,11 +6,13 @@
 //! what is listed of a catalogue (`specs/Listing.antt`): its counts, its conflict graph (`sdd_graph`)
 //! with the blocks, its protocol table (`sdd_protocol`); and what is printed of a workload
 //! (`specs/Serially.antt`): the replies that serial execution on one database gives (`sdd_lang`).
+//! `control` prints what a script of transaction control gives (`sdd_control`).
 #![tactic(auto)]
 
 mod catalogue_file;
 mod check;
 mod command;
+mod control_file;
 mod edges;
 mod listing;
 mod reach;

@@ -11,6 +11,7 @@ ghost use Rattle.sdd_app.specs.Taking.{TakesOrFaults};
 ghost use Rattle.sdd_app.specs.Verdict.{Verdict, Prints, FaultyCatalogue, FaultyWorkload, NotBuilt, Answers, ComesOfFiles, IsRefusal, status_of};
 
 use crate::command::{Command, parse_words};
+use crate::control_file::control_answer;
 use crate::listing::{Listing, listing_answer};
 use crate::status::Status;
 use crate::tell::tell;
@@ -34,6 +35,7 @@ fn carried_out<S: Shelf>(alloc: Global, command: Command, shelf: &mut S) -> Resu
         Command::Table(catalogue) => listing_answer(alloc, shelf, catalogue, Listing::Table),
         Command::Run(catalogue, workload) => run_answer(alloc, shelf, catalogue, workload),
         Command::Plain(catalogue, workload) => plain_answer(alloc, shelf, catalogue, workload),
+        Command::Control(file) => control_answer(alloc, shelf, file),
         Command::Make(_, _) => Err(Status::Unbuilt),
     }
 }

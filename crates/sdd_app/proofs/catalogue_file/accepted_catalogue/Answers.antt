@@ -1,4 +1,4 @@
-use Rattle.std.proofs.Common.{◌≡◌, ◌^◌, Ok, Some}
+use Rattle.std.proofs.Common.{◌≡◌, Ok, Some}
 use Rattle.std.proofs.lemmas.Result.{err_from_is_err_and}
 use Rattle.sdd_catread.specs.Reading.{catalogue_in}
 use Rattle.sdd_app.specs.Answer.{BlamesCatalogue, catalogue_named}

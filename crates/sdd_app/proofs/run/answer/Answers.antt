@@ -1,9 +1,6 @@
-use Rattle.std.proofs.Common.{◌≡◌, map, string_bytes, subst, refl, ap}
-use Rattle.sdd_app.specs.Answer.{ComesTo, FilesAreThere}
+use Rattle.std.proofs.Common.{map, string_bytes, subst, refl}
 use Rattle.sdd_app.specs.Command.{form_of}
-use Rattle.sdd_app.specs.Endings.{AtTheirEnds, OpensNoFile}
 use Rattle.sdd_app.specs.Verdict.{ComesOfFiles}
-use Rattle.sdd_app.specs.declared.status.Status.TheVariants.{Done, WriteFault}
 use Rattle.sdd_app.proofs.FileReads.{if_err_more, not_usage}
 use Rattle.sdd_app.proofs.Forms.{no_form, found_form}
 use Rattle.sdd_app.proofs.Verdicts.{words_answer}

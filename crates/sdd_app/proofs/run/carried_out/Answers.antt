@@ -1,4 +1,4 @@
-use Rattle.std.proofs.Common.{◌≡◌, sym, subst}
+use Rattle.std.proofs.Common.{sym, subst}
 use Rattle.sdd_app.specs.Answer.{FormComesTo}
 use Rattle.sdd_app.specs.Command.{form_of}
 use Rattle.sdd_app.specs.Verdict.{Answers}
@@ -23,3 +23,7 @@ returns-in-Run-clause-told g c = λ fs told.
 pub returns-in-Plain-clause-told : goal.returns-in-Plain-clause-told
 returns-in-Plain-clause-told g c = λ fs told.
     subst (λ command. Answers c.plain_answer.result (λ v. v.items) (FormComesTo fs (form_of command))) (sym c.in-Plain.is) (c.plain_answer.ensures.told fs told)
+
+pub returns-in-Control-clause-told : goal.returns-in-Control-clause-told
+returns-in-Control-clause-told g c = λ fs told.
+    subst (λ command. Answers c.control_answer.result (λ v. v.items) (FormComesTo fs (form_of command))) (sym c.in-Control.is) (c.control_answer.ensures.told fs told)

@@ -1,4 +1,4 @@
-use Rattle.std.proofs.Common.{◌≡◌, map, string_bytes, subst}
+use Rattle.std.proofs.Common.{map, string_bytes, subst}
 use Rattle.sdd_app.specs.Answer.{ComesTo}
 use Rattle.sdd_app.specs.Verdict.{Prints, Explains}
 use Rattle.sdd_app.proofs.Verdicts.{told_status, files_there, prints_or_refuses}

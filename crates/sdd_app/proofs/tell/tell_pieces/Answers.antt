@@ -1,4 +1,4 @@
-use Rattle.std.proofs.Common.{◌≡◌, ◌-◌, ◌+◌, ◌∙◌, length, take, flat_map, arith}
+use Rattle.std.proofs.Common.{◌≡◌, ◌-◌, ◌+◌, length, take, flat_map, arith}
 use Rattle.std.proofs.lemmas.List.{take_all}
 use Rattle.sdd_app.proofs.Told.{took_all, took_front, flat_map_at, flat_next, more_taken, piece_more}
 use Rattle.sdd_app.proofs.tell.tell_pieces.Goals as goal
@@ -29,7 +29,7 @@ returns-in-Err g c =
     (flat_map (λ p. p.now) c.args.pieces.now) (flat_map (λ p. p.now) (take c.pieces.piece-index c.args.pieces.now)) _ k.0 e.front.0 k.1
     c.pieces.invariant.taken c.pieces.invariant.later e.front.1 e.cause.later e.cause.failed
     (λ room sure fits within.
-        let failed = (e.surely (room - front) (omega (arith, within)) (c.pieces.invariant.sure room sure fits).0).0 in absurd cc)
+    let failed = (e.surely (room - front) (omega (arith, within)) (c.pieces.invariant.sure room sure fits).0).0 in absurd cc)
 
 pub returns : goal.returns
 returns g c =

@@ -20,7 +20,7 @@ returns-in_err-work-clause-told g c = λ fs told.
     let cat = c.in_ok-catalogue.catalogue in
     let over = ComesToPlain fs work in
     rw (p.1, p.2) (explains_more c.in_err-work.field-0.0 (BlamesWorkload (workload_named fs cat work)) (OverCatalogue fs name over)
-        (λ v is. goes_on fs name over cat v (c.in_ok-catalogue.ensures.told fs told) (blamed_plain fs work cat v is)) (c.in_err-work.ensures.told fs (c.in_ok-catalogue.ensures.files ∙ told)))
+    (λ v is. goes_on fs name over cat v (c.in_ok-catalogue.ensures.told fs told) (blamed_plain fs work cat v is)) (c.in_err-work.ensures.told fs (c.in_ok-catalogue.ensures.files ∙ told)))
 
 pub returns-clause-told : goal.returns-clause-told
 returns-clause-told g c = λ fs told.

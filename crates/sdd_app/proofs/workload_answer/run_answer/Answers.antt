@@ -1,4 +1,4 @@
-use Rattle.std.proofs.Common.{◌≡◌, ◌+◌, ◌∙◌, inr, refl, sym}
+use Rattle.std.proofs.Common.{◌+◌, ◌∙◌, inr, refl, sym}
 use Rattle.std.proofs.lemmas.Result.{err_from_is_err_and}
 use Rattle.sdd_app.specs.Answer.{BlamesCatalogue, BlamesWorkload, ComesToRun, OverCatalogue, catalogue_named, workload_named}
 use Rattle.sdd_app.specs.Verdict.{Prints, NotBuilt}
@@ -25,7 +25,7 @@ returns-in_err-work-clause-told g c = λ fs told.
     let cat = c.in_ok-catalogue.catalogue in
     let over = ComesToRun fs work in
     rw (p.1, p.2) (explains_more c.in_err-work.field-0.0 (BlamesWorkload (workload_named fs cat work)) (OverCatalogue fs name over)
-        (λ v is. goes_on fs name over cat v (c.in_ok-catalogue.ensures.told fs told) (blamed_run fs work cat v (c.if-not-is_first_catalogue.ensures.0 refl) is)) (c.in_err-work.ensures.told fs (c.in_ok-catalogue.ensures.files ∙ told)))
+    (λ v is. goes_on fs name over cat v (c.in_ok-catalogue.ensures.told fs told) (blamed_run fs work cat v (c.if-not-is_first_catalogue.ensures.0 refl) is)) (c.in_err-work.ensures.told fs (c.in_ok-catalogue.ensures.files ∙ told)))
 
 pub returns-then-not-is_first_workload-clause-told : goal.returns-then-not-is_first_workload-clause-told
 returns-then-not-is_first_workload-clause-told g c = λ fs told.

@@ -1,4 +1,4 @@
-use Rattle.std.proofs.Common.{◌≡◌, ◌^◌, Ok, Some}
+use Rattle.std.proofs.Common.{◌≡◌, Ok, Some}
 use Rattle.std.proofs.lemmas.Result.{err_from_is_err_and}
 use Rattle.sdd_script.specs.Walk.{workload}
 use Rattle.sdd_app.specs.Answer.{BlamesWorkload, workload_named}

@@ -1,0 +1,38 @@
+use Rattle.std.proofs.Common.{◌≡◌, Ok, Some}
+use Rattle.std.proofs.lemmas.Result.{err_from_is_err_and}
+use Rattle.sdd_control.specs.Walk.{control_script}
+use Rattle.sdd_app.specs.Answer.{BlamesScript, script_named}
+use Rattle.sdd_app.specs.Verdict.{Explains}
+use Rattle.sdd_app.specs.declared.status.Status.TheVariants.{ReadFault}
+use Rattle.sdd_app.proofs.FileReads.{script_gives, accepted_script_short, on_ok_by, if_err_more}
+use Rattle.sdd_app.proofs.Verdicts.{explains_more}
+use Rattle.sdd_app.proofs.control_file.accepted_script.Goals as goal
+
+pub returns-in_err-bytes-clause-told : goal.returns-in_err-bytes-clause-told
+returns-in_err-bytes-clause-told g c = λ fs told.
+    let p = err_from_is_err_and c.from_residual.result c.from_residual.ensures.1 in
+    rw (p.1, p.2) (explains_more c.in_err-bytes.field-0.0 (λ _. ⊥) (BlamesScript (script_named fs c.args.name.now)) (λ v no. absurd no) c.in_err-bytes.ensures.silent)
+
+pub returns-in_err-bytes-clause-surely : goal.returns-in_err-bytes-clause-surely
+returns-in_err-bytes-clause-surely g c = λ free fs sure told some.
+    let p = err_from_is_err_and c.from_residual.result c.from_residual.ensures.1 in
+    rw (p.1, p.2) (c.in_err-bytes.ensures.surely free fs sure told some)
+
+pub returns-clause-told : goal.returns-clause-told
+returns-clause-told g c = λ fs told.
+    script_gives c.judged.result fs c.args.name.now c.as_slice.result.now (rw c.as_slice.ensures.value (c.in_ok-bytes.ensures.read fs told)) c.judged.ensures.told
+
+pub returns-clause-ended : goal.returns-clause-ended
+returns-clause-ended g c =
+    let e = c.in_ok-bytes.ensures.ended in
+    let bytes = c.as_slice.result.now in
+    on_ok_by c.judged.result (λ w. control_script bytes ≡ Ok w) (λ s. Explains s (BlamesScript (Some (control_script bytes)))) _ c.judged.ensures.told
+    (λ w ok. (e.0, record { fresh = e.1; opened = e.2; ended = e.3 (rw (← c.as_slice.ensures.value) (accepted_script_short bytes w ok)) }))
+
+pub returns-clause-fault : goal.returns-clause-fault
+returns-clause-fault g c = if_err_more c.judged.result (λ s. s ≡ ReadFault → ⊥) _ c.judged.ensures.read (λ s no is. absurd (no is))
+
+pub returns-clause-surely : goal.returns-clause-surely
+returns-clause-surely g c = λ free fs sure told some.
+    let k = c.in_ok-bytes.ensures.surely free fs sure told some in
+    (c.judged.ensures.read, k.1, k.2)

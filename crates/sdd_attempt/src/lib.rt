@@ -1,0 +1,6 @@
+//! The attempts of a site that runs transactions, as T and U make them alike: clocks, queues, how
+//! an attempt asks its modules for rows and reduces them, and how it begins and commits.
+//!
+//! The one contract to the layer above: what is known of each of these is a function of the
+//! site's log, and changes with each entry as its definition says.
+#![tactic(auto)]

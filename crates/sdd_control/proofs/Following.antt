@@ -1,0 +1,106 @@
+-- The tables follow the log of all events.
+use Rattle.std.proofs.Common.{ℕ, ◌≤◌, ◌≡◌, Bool, true, List, [], ◌∷◌, ◌++◌, refl, sym, ap, ◌∙◌, subst}
+use Rattle.sdd_base.specs.Kept.{Kept as Live}
+use Rattle.sdd_control.specs.Control.{Follows, Run, run_of, with_event}
+use Rattle.sdd_control.specs.Log.{Log, noted}
+use Rattle.sdd_control.specs.NoteTests.{is_number}
+use Rattle.sdd_control.specs.Standing.{value}
+use Rattle.sdd_control.specs.State.{Adds, Takes, Tracks, note_in, value_in}
+use Rattle.sdd_control.specs.Steps.{FitAll, Fits, happened, log_after, log_of, note_of}
+use Rattle.sdd_control.specs.Stretches.{count_from}
+use Rattle.sdd_control.specs.declared.act.Act.{Act}
+use Rattle.sdd_control.specs.declared.note.Note.{Note}
+use Rattle.sdd_control.specs.declared.state.State.{State}
+use Rattle.sdd_control.proofs.Numbers.{count_written, numbered}
+use Rattle.sdd_control.proofs.Promises.{kept}
+use Rattle.sdd_control.proofs.Tracking.{note_same, tracks_on, value_same}
+
+log_after-append : (backups writes : ℕ) (log : Log) (acts : List Act) (act : Act)
+    → log_after backups writes log (acts ++ act ∷ [])
+    ≡ happened backups writes (log_after backups writes log acts) act
+log_after-append backups writes log [] act = refl
+log_after-append backups writes log (x ∷ acts) act =
+    log_after-append backups writes (happened backups writes log x) acts act
+
+pub FitAll-append : (backups : ℕ) (acts : List Act) (act : Act)
+    → FitAll backups acts → Fits backups act → FitAll backups (acts ++ act ∷ [])
+FitAll-append backups [] act f g = (g, tt)
+FitAll-append backups (x ∷ acts) act f g = (f.0, FitAll-append backups acts act f.1 g)
+
+-- the note by the tables is the note by the log
+pub followed_note : (st : State) (acts : List Act) (act : Act) → Follows st acts
+    → Fits st.backups act
+    → note_in st act ≡ note_of st.backups st.writes (log_of st.backups st.writes acts) act
+followed_note st acts act f fits =
+    note_same st (log_of st.backups st.writes acts) f.tracks
+    (kept st.backups st.writes acts f.fit) (numbered st.backups st.writes acts f.fit) act fits
+
+module _ (old mid new : State) (acts : List Act) (act : Act) (note : Note)
+    (f : Follows old acts) (fits : Fits old.backups act) (is : note ≡ note_in old act)
+    (taking : Takes old mid act) (adding : Adds mid new note) where
+  same_backups : new.backups ≡ old.backups
+  same_backups = adding.backups ∙ ap (λ (z : State). z.backups) taking.others
+
+  same_writes : new.writes ≡ old.writes
+  same_writes = adding.writes ∙ ap (λ (z : State). z.writes) taking.others
+
+  log_on : log_of new.backups new.writes (acts ++ act ∷ [])
+      ≡ record { act = act; note = note } ∷ log_of old.backups old.writes acts
+  log_on =
+      ap (λ z. log_of z new.writes (acts ++ act ∷ [])) same_backups
+      ∙ ap (λ z. log_of old.backups z (acts ++ act ∷ [])) same_writes
+      ∙ log_after-append old.backups old.writes [] acts act
+      ∙ ap (λ z. record { act = act; note = z } ∷ log_of old.backups old.writes acts)
+      (sym (is ∙ followed_note old acts act f fits))
+
+  pub follows_on : Follows new (acts ++ act ∷ [])
+  follows_on = record {
+    sized = adding.sized;
+    fit = subst (λ z. FitAll z (acts ++ act ∷ [])) (sym same_backups) (FitAll-append old.backups acts act f.fit fits);
+    tracks = subst (Tracks new) (sym log_on) (tracks_on old mid new (log_of old.backups old.writes acts) act note f.tracks taking adding);
+  }
+
+  pub run_on : run_of new.backups new.writes (acts ++ act ∷ []) ≡ with_event (run_of old.backups old.writes acts) act
+  run_on =
+      ap (λ z. run_of z new.writes (acts ++ act ∷ [])) same_backups
+      ∙ ap (λ z. run_of old.backups z (acts ++ act ∷ [])) same_writes
+      ∙ ap (λ z. record { backups = old.backups; writes = old.writes; log = z })
+      (log_after-append old.backups old.writes [] acts act)
+
+pub followed_count : (st : State) (acts : List Act) → Follows st acts
+    → st.most ≡ count_from (λ k. noted (is_number k) (log_of st.backups st.writes acts)) 1 st.writes
+followed_count st acts f =
+    f.tracks.most
+    ∙ sym (count_written st.writes (log_of st.backups st.writes acts) (numbered st.backups st.writes acts f.fit))
+
+-- what contracts see of a control that is live
+module _ (st : State) (acts : List Act) (live : Bool) (seen : Live Run)
+    (view : record { live = live; value = run_of st.backups st.writes acts } ≡ seen)
+    (keeps : live ≡ true → Follows st acts) (is_live : seen.live ≡ true) where
+  pub follows_now : Follows st acts
+  follows_now = keeps (ap (λ (z : Live Run). z.live) view ∙ is_live)
+
+  pub run_now : run_of st.backups st.writes acts ≡ seen.value
+  run_now = ap (λ (z : Live Run). z.value) view
+
+  pub backups_now : st.backups ≡ seen.value.backups
+  backups_now = ap (λ (z : Run). z.backups) run_now
+
+  pub fits_now : (act : Act) → Fits seen.value.backups act → Fits st.backups act
+  fits_now act f = subst (λ z. Fits z act) (sym backups_now) f
+
+  pub note_now : (act : Act) → Fits seen.value.backups act
+      → note_in st act ≡ note_of seen.value.backups seen.value.writes seen.value.log act
+  note_now act f =
+      followed_note st acts act follows_now (fits_now act f)
+      ∙ ap (λ (z : Run). note_of z.backups z.writes z.log act) run_now
+
+  pub value_now : (i : ℕ) → i ≤ seen.value.backups → value_in st i ≡ value seen.value.log i
+  value_now i l =
+      value_same st (log_of st.backups st.writes acts) follows_now.tracks i (subst (λ z. i ≤ z) (sym backups_now) l)
+      ∙ ap (λ (z : Run). value z.log i) run_now
+
+  pub count_now : st.most ≡ count_from (λ k. noted (is_number k) seen.value.log) 1 seen.value.writes
+  count_now =
+      followed_count st acts follows_now
+      ∙ ap (λ (z : Run). count_from (λ k. noted (is_number k) z.log) 1 z.writes) run_now

@@ -1,0 +1,216 @@
+-- What the tables say is what the log says.
+use Rattle.std.proofs.Common.{ℕ, zero, suc, ◌+◌, ◌-◌, ◌==◌, ◌<◌, ◌≤◌, ◌≡◌, ◌&&◌, ◌||◌, not, cond, Bool, true, false, List, [], ◌∷◌, ◌++◌, Option, Some, None, refl, sym, ap, ◌∙◌, inl, inr, arith, lt-ltb}
+use Rattle.std.proofs.lemmas.Bool.{cases_Bool, cases_lt}
+use Rattle.std.proofs.lemmas.Bool.Decides.{nat_tests}
+use Rattle.std.specs.Prelude.{nat_lt}
+use Rattle.sdd_control.specs.Links.{link, put, taken}
+use Rattle.sdd_control.specs.Log.{Log, noted}
+use Rattle.sdd_control.specs.NoteTests.{is_finish, is_gone, is_ok, is_stop, is_tell, is_write}
+use Rattle.sdd_control.specs.Sends.{all_answered, answered, next_send, next_untold, send, untold, unwritten}
+use Rattle.sdd_control.specs.Standing.{finished, heir, knows, last, last_of, leads, stopped, value, value_by}
+use Rattle.sdd_control.specs.State.{Adds, NoteFits, Takes, Tracks, answered_in, arrival_in, greatest_of, has_finished, has_heard, has_stopped, has_told, heir_in, is_from_above, knows_in, last_number, last_number_in, last_number_of, may_send, messages_in, next_number_in, next_send_in, note_in, number_after, taken_in, untold_in, value_in}
+use Rattle.sdd_control.specs.Steps.{Fits, arrival, note_of}
+use Rattle.sdd_control.specs.Stretches.{every_from, first_from}
+use Rattle.sdd_control.specs.declared.act.Act.{Act}
+use Rattle.sdd_control.specs.declared.act.Act.TheVariants.{Step as Send, Deliver, Stop as Halt}
+use Rattle.sdd_control.specs.declared.message.Message.{Message}
+use Rattle.sdd_control.specs.declared.message.Message.TheVariants.{Value as VALUE, Ok as OK, Gone as GONE}
+use Rattle.sdd_control.specs.declared.note.Note.{Note}
+use Rattle.sdd_control.specs.declared.note.Note.TheVariants.{Nothing, Stop}
+use Rattle.sdd_control.specs.declared.state.State.{State}
+use Rattle.sdd_control.specs.declared.value.Val.{Val}
+use Rattle.sdd_control.specs.declared.value.Val.TheVariants.{Unknown, All, Nought}
+use Rattle.sdd_control.proofs.Above.{above_is_last}
+use Rattle.sdd_control.proofs.Kept.{Kept}
+use Rattle.sdd_control.proofs.Lists.{first_at}
+use Rattle.sdd_control.proofs.Numbers.{Numbered}
+
+pub every_same : (p q : ℕ → Bool) (k n : ℕ) → ((j : ℕ) → k ≤ j → j < k + n → p j ≡ q j)
+    → every_from p k n ≡ every_from q k n
+every_same p q k zero same = refl
+every_same p q k (suc n) same =
+    ap (λ b. b && every_from p (k + 1) n) (same k (omega arith) (omega arith))
+    ∙ ap (λ b. q k && b) (every_same p q (k + 1) n (λ j l m. same j (omega arith) (omega arith)))
+
+pub first_same : (p q : ℕ → Bool) (k n : ℕ) → ((j : ℕ) → k ≤ j → j < k + n → p j ≡ q j)
+    → first_from p k n ≡ first_from q k n
+first_same p q k zero same = refl
+first_same p q k (suc n) same =
+    ap (λ b. cond b (Some k) (first_from p (k + 1) n)) (same k (omega arith) (omega arith))
+    ∙ ap (cond (q k) (Some k)) (first_same p q (k + 1) n (λ j l m. same j (omega arith) (omega arith)))
+
+-- the first number that passes is c + 1
+first_after : (p : ℕ → Bool) (c k n : ℕ) → ((j : ℕ) → k ≤ j → j ≤ c → p j ≡ false)
+    → p (c + 1) ≡ true → k ≤ c + 1
+    → first_from p k n ≡ cond (nat_lt (c + 1) (k + n)) (Some (c + 1)) None
+first_after p c k zero below here l =
+    let f : nat_lt (c + 1) (k + 0) ≡ false = grind (arith, nat_tests) in
+    sym (ap (λ t. cond {A = Option ℕ} t (Some (c + 1)) None) f)
+first_after p c k (suc n) below here l =
+    elim (cases_lt c k) [
+      | inl above ↦
+          let e : k ≡ c + 1 = omega arith in
+          let t : p k ≡ true = ap p e ∙ here in
+          let f : nat_lt (c + 1) (k + suc n) ≡ true = lt-ltb (c + 1) (k + suc n) (omega arith) in
+          ap (λ b. cond b (Some k) (first_from p (k + 1) n)) t ∙ ap (λ (z : ℕ). Some z) e
+          ∙ sym (ap (λ t. cond {A = Option ℕ} t (Some (c + 1)) None) f)
+      | inr m ↦
+          let e : k + 1 + n ≡ k + suc n = omega arith in
+          ap (λ b. cond b (Some k) (first_from p (k + 1) n)) (below k (omega arith) m)
+          ∙ first_after p c (k + 1) n (λ j u v. below j (omega arith) v) here (omega arith)
+          ∙ ap (λ z. cond {A = Option ℕ} (nat_lt (c + 1) z) (Some (c + 1)) None) e
+    ]
+
+above_one : (c writes : ℕ) → nat_lt (c + 1) (1 + writes) ≡ nat_lt c writes
+above_one c writes = grind (arith, nat_tests)
+
+-- the least number that i hasn't written is the one after its last
+number_after_last : (writes : ℕ) (log : Log) → Numbered writes log → (i : ℕ)
+    → unwritten writes log i ≡ number_after writes (last_number log i)
+number_after_last writes log h i =
+    first_after test (last_number log i) 1 writes below here (omega arith)
+    ∙ ap (λ z. cond {A = Option ℕ} z (Some (last_number log i + 1)) None)
+    (above_one (last_number log i) writes)
+  where
+    test : ℕ → Bool
+    test k = not (noted (is_write i k) log)
+
+    below : (j : ℕ) → 1 ≤ j → j ≤ last_number log i → test j ≡ false
+    below j l m = ap not (h.wrote i j l m)
+
+    here : test (last_number log i + 1) ≡ true
+    here =
+        elim (cases_Bool (noted (is_write i (last_number log i + 1)) log)) [
+          | inl e ↦ let g = h.within i (last_number log i + 1) e in let u = g.1 in absurd (omega arith)
+          | inr e ↦ ap not e
+        ]
+
+send_same : (i : ℕ) {may may' : Bool} {to to' : Option ℕ} {all all' : Bool} {val val' : Val} {left left' : Option ℕ}
+    → may ≡ may' → to ≡ to' → all ≡ all' → val ≡ val' → left ≡ left'
+    → send i may to all val left ≡ send i may' to' all' val' left'
+send_same i a b c d e = cc
+
+module _ (st : State) (log : Log) (t : Tracks st log) where
+  heir_same : (i : ℕ) → i ≤ st.backups → heir_in st i ≡ heir log i
+  heir_same i l =
+      every_same (knows_in st i) (λ z. knows log i z) 0 i (λ j m u. t.known i j l (omega arith))
+
+  pub value_same : (i : ℕ) → i ≤ st.backups → value_in st i ≡ value log i
+  value_same i l =
+      ap (λ z. value_by z (i == 0) (heir_in st i)) (t.values i l)
+      ∙ ap (value_by (last log i) (i == 0)) (heir_same i l)
+
+  untold_same : (i j : ℕ) → i ≤ st.backups → j ≤ st.backups → untold_in st i j ≡ untold log i j
+  untold_same i j l m =
+      ap (λ z. not z && not (knows_in st i j)) (t.told i j l m)
+      ∙ ap (λ z. not (noted (is_tell i j) log) && not z) (t.known i j l m)
+
+  answered_same : (i j : ℕ) → i ≤ st.backups → j ≤ st.backups
+      → answered_in st i j ≡ answered log i j
+  answered_same i j l m =
+      ap (λ z. z || knows_in st i j) (t.heard i j l m)
+      ∙ ap (λ z. noted (is_ok i j) log || z) (t.known i j l m)
+
+  next_untold_same : (i : ℕ) → i ≤ st.backups
+      → first_from (untold_in st i) (i + 1) (st.backups - i) ≡ next_untold st.backups log i
+  next_untold_same i l =
+      first_same (untold_in st i) (untold log i) (i + 1) (st.backups - i)
+      (λ j m u. untold_same i j l (omega arith))
+
+  all_answered_same : (i : ℕ) → i ≤ st.backups
+      → every_from (answered_in st i) (i + 1) (st.backups - i) ≡ all_answered st.backups log i
+  all_answered_same i l =
+      every_same (answered_in st i) (answered log i) (i + 1) (st.backups - i)
+      (λ j m u. answered_same i j l (omega arith))
+
+  may_send_same : (i : ℕ) → i ≤ st.backups → may_send st i ≡ (leads log i && not (finished log i))
+  may_send_same i l =
+      ap (λ z. not z && heir_in st i && not (has_finished st i)) (t.stopped i l)
+      ∙ ap (λ z. not (stopped log i) && z && not (has_finished st i)) (heir_same i l)
+      ∙ ap (λ z. leads log i && not z) (t.finished i l)
+
+  next_number_same : Numbered st.writes log → (i : ℕ) → i ≤ st.backups
+      → next_number_in st i ≡ unwritten st.writes log i
+  next_number_same h i l =
+      ap (number_after st.writes) (t.numbers i l) ∙ sym (number_after_last st.writes log h i)
+
+  next_send_same : Numbered st.writes log → (i : ℕ) → i ≤ st.backups
+      → next_send_in st i ≡ next_send st.backups st.writes log i
+  next_send_same h i l =
+      send_same i (may_send_same i l) (next_untold_same i l) (all_answered_same i l)
+      (value_same i l) (next_number_same h i l)
+
+  arrival_same : Kept st.backups st.writes log → (i j : ℕ) → i ≤ st.backups → j ≤ st.backups
+      → arrival_in st i j ≡ note_of st.backups st.writes log (Deliver i j)
+  arrival_same k i j l m =
+      ap (λ z. arrival z (messages_in st i j) (is_from_above (taken_in st j) i) i j) (t.stopped j m)
+      ∙ ap (λ z. arrival (stopped log j) z (is_from_above (taken_in st j) i) i j) (t.links i j l m)
+      ∙ ap (λ z. arrival (stopped log j) (link log i j) (is_from_above z i) i j) (t.values j m)
+      ∙ ap (λ z. arrival (stopped log j) (link log i j) z i j)
+      (sym (above_is_last st.backups st.writes log k i j))
+
+  pub note_same : Kept st.backups st.writes log → Numbered st.writes log → (act : Act)
+      → Fits st.backups act → note_in st act ≡ note_of st.backups st.writes log act
+  note_same k h (Send i) l = next_send_same h i l
+  note_same k h (Deliver i j) f = arrival_same k i j f.0 f.1
+  note_same k h (Halt i) l = ap (λ z. cond z Nothing (Stop i)) (t.stopped i l)
+
+-- the sites of a note exist
+send_fits : (backups i : ℕ) (may : Bool) (to : Option ℕ) (all : Bool) (val : Val) (left : Option ℕ)
+    → i ≤ backups → ((j : ℕ) → to ≡ Some j → j ≤ backups) → NoteFits backups (send i may to all val left)
+send_fits backups i false to all val left l m = tt
+send_fits backups i true (Some j) all val left l m = (l, m j refl)
+send_fits backups i true None false val left l m = tt
+send_fits backups i true None true All (Some k) l m = l
+send_fits backups i true None true All None l m = l
+send_fits backups i true None true Unknown left l m = l
+send_fits backups i true None true Nought left l m = l
+
+arrival_fits : (backups : ℕ) (halted : Bool) (messages : List Message) (above : Bool) (i j : ℕ)
+    → i ≤ backups → j ≤ backups → NoteFits backups (arrival halted messages above i j)
+arrival_fits backups halted [] above i j l m = tt
+arrival_fits backups true (x ∷ rest) above i j l m = tt
+arrival_fits backups false (GONE ∷ rest) above i j l m = (m, l)
+arrival_fits backups false (OK ∷ rest) above i j l m = (m, l)
+arrival_fits backups false (VALUE v ∷ rest) true i j l m = tt
+arrival_fits backups false (VALUE v ∷ rest) false i j l m = (m, l)
+
+halt_fits : (backups i : ℕ) (halted : Bool) → i ≤ backups
+    → NoteFits backups (cond halted Nothing (Stop i))
+halt_fits backups i true l = tt
+halt_fits backups i false l = l
+
+pub note_fits : (st : State) (act : Act) → Fits st.backups act
+    → NoteFits st.backups (note_in st act)
+note_fits st (Send i) l =
+    send_fits st.backups i (may_send st i) (first_from (untold_in st i) (i + 1) (st.backups - i))
+    (every_from (answered_in st i) (i + 1) (st.backups - i)) (value_in st i) (next_number_in st i) l
+    (λ j e. let f = first_at (untold_in st i) (i + 1) (st.backups - i) j e in let u = f.1 in omega arith)
+note_fits st (Deliver i j) f =
+    arrival_fits st.backups (has_stopped st j) (messages_in st i j) (is_from_above (taken_in st j) i) i j f.0 f.1
+note_fits st (Halt i) l = halt_fits st.backups i (has_stopped st i) l
+
+-- the tables follow the log with one event more
+pub tracks_on : (old mid new : State) (log : Log) (act : Act) (note : Note)
+    → Tracks old log → Takes old mid act → Adds mid new note
+    → Tracks new (record { act = act; note = note } ∷ log)
+tracks_on old mid new log act note t taking adding = record {
+  stopped = λ i l. adding.stopped i (up i l) ∙ ap (λ z. is_stop i note || has_stopped z i) taking.others ∙ ap (λ z. is_stop i note || z) (t.stopped i (back i l));
+  finished = λ i l. adding.finished i (up i l) ∙ ap (λ z. is_finish i note || has_finished z i) taking.others ∙ ap (λ z. is_finish i note || z) (t.finished i (back i l));
+  values = λ i l. adding.values i (up i l) ∙ ap (λ z. last_of i note (taken_in z i)) taking.others ∙ ap (last_of i note) (t.values i (back i l));
+  numbers = λ i l. adding.numbers i (up i l) ∙ ap (λ z. last_number_of i note (last_number_in z i)) taking.others ∙ ap (last_number_of i note) (t.numbers i (back i l));
+  known = λ i j l m. adding.known i j (up i l) (up j m) ∙ ap (λ z. is_gone i j note || knows_in z i j) taking.others ∙ ap (λ z. is_gone i j note || z) (t.known i j (back i l) (back j m));
+  told = λ i j l m. adding.told i j (up i l) (up j m) ∙ ap (λ z. is_tell i j note || has_told z i j) taking.others ∙ ap (λ z. is_tell i j note || z) (t.told i j (back i l) (back j m));
+  heard = λ i j l m. adding.heard i j (up i l) (up j m) ∙ ap (λ z. is_ok i j note || has_heard z i j) taking.others ∙ ap (λ z. is_ok i j note || z) (t.heard i j (back i l) (back j m));
+  links = λ i j l m. adding.links i j (up i l) (up j m) ∙ ap (λ z. z ++ put note i j) (taking.links i j (back i l) (back j m)) ∙ ap (λ z. taken act i j z ++ put note i j) (t.links i j (back i l) (back j m));
+  most = adding.most ∙ ap (λ (z : State). greatest_of note z.most) taking.others ∙ ap (greatest_of note) t.most;
+}
+  where
+    same_backups : mid.backups ≡ old.backups
+    same_backups = ap (λ (z : State). z.backups) taking.others
+
+    up : (i : ℕ) → i ≤ new.backups → i ≤ mid.backups
+    up i l = let e = adding.backups in omega arith
+
+    back : (i : ℕ) → i ≤ new.backups → i ≤ old.backups
+    back i l = let e = adding.backups in let f = same_backups in omega arith

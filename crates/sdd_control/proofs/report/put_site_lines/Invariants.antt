@@ -1,0 +1,8 @@
+use Rattle.std.proofs.Common.{◌≡◌, ◌+◌, ◌-◌, ◌++◌}
+use Rattle.sdd_control.specs.Report.{site_lines}
+use Rattle.sdd_control.proofs.report.put_site_lines.Given as goal
+
+abbrev pub invariant-sites : goal.invariant-sites
+invariant-sites l =
+    l.text.items ++ site_lines l.control.value.log l.site (l.backups + 1 - l.site)
+    ≡ l.initial.text.items ++ site_lines l.control.value.log 0 (l.backups + 1)

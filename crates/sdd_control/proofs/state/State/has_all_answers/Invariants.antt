@@ -1,0 +1,9 @@
+use Rattle.std.proofs.Common.{◌≡◌, ◌+◌, ◌-◌}
+use Rattle.sdd_control.specs.State.{answered_in}
+use Rattle.sdd_control.specs.Stretches.{every_from}
+use Rattle.sdd_control.proofs.state.State.has_all_answers.Given as goal
+
+abbrev pub invariant-higher : goal.invariant-higher
+invariant-higher l =
+    every_from (answered_in l.self l.site) (l.site + 1) (l.self.backups - l.site)
+    ≡ every_from (answered_in l.self l.site) l.other (l.self.backups + 1 - l.other)

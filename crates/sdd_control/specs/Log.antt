@@ -1,0 +1,22 @@
+-- What has happened: the events, each with its note.
+use Rattle.std.specs.Prelude.{◌≡◌, ◌||◌, Bool, false, List, [], ◌∷◌, ◌⊎◌}
+use Rattle.sdd_control.specs.declared.act.Act.{Act}
+use Rattle.sdd_control.specs.declared.note.Note.{Note}
+
+pub record Entry : Type 0 where
+  pub act : Act
+  pub note : Note
+
+-- the newest first
+abbrev pub Log : Type 0
+Log = List Entry
+
+-- some note passes the test
+abbrev pub noted : (Note → Bool) → Log → Bool
+noted p [] = false
+noted p (e ∷ log) = p e.note || noted p log
+
+-- the note is one of them
+abbrev pub Stands : Log → Note → Type 0
+Stands [] note = ⊥
+Stands (e ∷ log) note = (e.note ≡ note) ⊎ Stands log note

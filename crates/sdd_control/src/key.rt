@@ -1,0 +1,42 @@
+ghost use Rattle.std.specs.Prelude.{◌≡◌};
+ghost use Rattle.sdd_control.specs.Keys.{key_in, key_of};
+
+use sdd_words::Word;
+
+/// The first word of a line.
+#[derive(Clone, Copy, Debug, PartialEq, Eq)]
+pub enum Key {
+    Control,
+    Step,
+    Deliver,
+    Stop,
+    End,
+}
+
+fn key_in(bytes: &[u8]) -> Option<Key>
+    ensures { result ≡ key_in bytes.now }
+{
+    if bytes == b"control".as_slice() {
+        Some(Key::Control)
+    } else if bytes == b"step".as_slice() {
+        Some(Key::Step)
+    } else if bytes == b"deliver".as_slice() {
+        Some(Key::Deliver)
+    } else if bytes == b"stop".as_slice() {
+        Some(Key::Stop)
+    } else if bytes == b"end".as_slice() {
+        Some(Key::End)
+    } else {
+        None
+    }
+}
+
+/// The key that a word is, or None exactly where it is none. Takes no memory.
+pub fn key_of(word: &Word) -> Option<Key>
+    ensures { result ≡ key_of word.now }
+{
+    match word {
+        Word::Plain(bytes) => key_in(bytes.as_slice()),
+        Word::Quoted(_) => None,
+    }
+}

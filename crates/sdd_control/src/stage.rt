@@ -1,0 +1,17 @@
+/// What the first line of a control file says.
+#[derive(Clone, Copy, Debug, PartialEq, Eq)]
+pub struct Head {
+    pub backups: u32,
+    pub writes: u32,
+}
+
+/// Where in the file the next line stands.
+#[derive(Clone, Copy, Debug, PartialEq, Eq)]
+pub enum Stage {
+    /// It is the first.
+    First,
+    /// It is an event or the end.
+    Events(Head),
+    /// It is behind the end.
+    Ended(Head),
+}

@@ -1,0 +1,6 @@
+//! The copies of fragments that a data module keeps.
+//!
+//! The one contract to the layer above: what a copy holds is the contents (`specs/Contents.antt`)
+//! of the dated changes that were applied to it: of the changes of an item the one with the
+//! greatest date.
+#![tactic(auto)]

@@ -1,0 +1,35 @@
+-- The view after an entry is a function of the view before it, and what is next is due.
+use Rattle.std.proofs.Common.{ℕ, ◌∷◌, ◌++◌, map, ◌≡◌, refl, ap, sym, Some}
+use Rattle.sdd_base.specs.Words.{first_some}
+use Rattle.sdd_module.specs.SiteLog.{Setting, Log, Entry, Handed, Ticked, Submits, Redeclared, Did, Act}
+use Rattle.sdd_module.proofs.Finding.{map_twice, flat_map-map, found_at, one_of}
+use Rattle.sdd_dm.specs.Pipes.{pipe}
+use Rattle.sdd_dm.specs.Copies.{classes_of, first_rows, dated, frozen, frozen_acted}
+use Rattle.sdd_dm.specs.Views.{Home, View, class_view, view_of, dated_in, class_after, after}
+use Rattle.sdd_dm.specs.Due.{due, open_due, head_due, IsDue, by_open, by_head}
+
+pub dated_is : (s : Setting) (log : Log) → dated_in (view_of s log) ≡ dated s log
+dated_is s log = ap (λ xs. first_rows s ++ xs) (flat_map-map (class_view s log) (λ k. k.applied) (classes_of s))
+
+class_step : (s : Setting) (e : Entry) (log : Log) (c : ℕ) → class_view s (e ∷ log) c ≡ class_after e (view_of s log) (class_view s log c)
+class_step s (Handed from m) log c = refl
+class_step s (Submits n txn) log c = refl
+class_step s (Ticked n) log c = refl
+class_step s (Redeclared force t) log c = refl
+class_step s (Did act) log c = ap (λ xs. record (class_view s (Did act ∷ log) c) { frozen = frozen_acted c act xs (pipe c log) (frozen s c log) }) (sym (dated_is s log))
+
+classes_step : (s : Setting) (e : Entry) (log : Log) → map (class_view s (e ∷ log)) (classes_of s) ≡ map (class_after e (view_of s log)) (map (class_view s log) (classes_of s))
+classes_step s e log = map_twice (class_view s log) (class_view s (e ∷ log)) (class_after e (view_of s log)) (classes_of s) (class_step s e log)
+
+pub view_step : (s : Setting) (e : Entry) (log : Log) → view_of s (e ∷ log) ≡ after e (view_of s log)
+view_step s (Handed from m) log = ap (λ ks. record (view_of s (Handed from m ∷ log)) { classes = ks }) (classes_step s (Handed from m) log)
+view_step s (Submits n txn) log = refl
+view_step s (Ticked n) log = refl
+view_step s (Redeclared force t) log = refl
+view_step s (Did act) log = ap (λ ks. record (view_of s (Did act ∷ log)) { classes = ks }) (classes_step s (Did act) log)
+
+pub next_is_due : (h : Home) (v : View) (a : Act) → due h v ≡ Some a → IsDue h v a
+next_is_due h v a e =
+    one_of (IsDue h v a) (first_some (open_due h v) v.classes) _ a
+    (λ p. let r = found_at (open_due h v) v.classes a p in by_open r.0 r.1 r.2 r.3)
+    (λ p. let r = found_at (head_due h v) v.classes a p in by_head r.0 r.1 r.2 r.3) e

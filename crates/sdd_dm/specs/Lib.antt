@@ -1,0 +1,7 @@
+pub mod Copies
+pub mod Due
+pub mod Fits
+pub mod Opens
+pub mod Pipes
+pub mod Ranks
+pub mod Views

@@ -1,0 +1,136 @@
+-- What holds of each entry of a site's log, wherever it may come, holds of the log that a permitted log gives the site.
+use Rattle.std.proofs.Common.{ℕ, suc, Bool, true, false, [], ◌∷◌, ◌≡◌, refl, sym, subst, Option, Some, None}
+use Rattle.std.specs.Bool.{if◌then◌else◌}
+use Rattle.sdd_base.specs.Sites.{same_site}
+use Rattle.sdd_base.specs.declared.site.Site.{Site}
+use Rattle.sdd_base.specs.declared.site.Site.TheVariants.{U, T, D}
+use Rattle.sdd_base.specs.declared.event.Event.{Event}
+use Rattle.sdd_base.specs.declared.event.Event.TheVariants.{Submit, Deliver, Lose, Repeat, Resend, Tick, Settle, Redeclare, Down, Up}
+use Rattle.sdd_lang.specs.declared.transaction.Txn.{Txn}
+use Rattle.sdd_wire.specs.declared.msg.Msg.{Msg}
+use Rattle.sdd_module.specs.SiteLog.{Force, Handed, Ticked, Submits, Redeclared, Did, Act, Each}
+use Rattle.sdd_module.specs.SiteLog as site
+use Rattle.sdd_log.specs.Entries.{Given, Log, Entry, Mark, Round, Redeclares, Hand, Submitted, Notes, Does}
+use Rattle.sdd_log.specs.Locals.{redeclares, force_at, txn_at, beginning, with_force, with_submit, local_of}
+use Rattle.sdd_log.specs.Due.{mark_due, due_by, note_if}
+use Rattle.sdd_log.specs.Lawful.{IsLawful}
+use Rattle.sdd_log.specs.Permitted.{IsDueAt, IsAllowed, by_mark, by_round, by_redeclare, by_event, by_site, by_link, IsPermitted, AreSubmittedOnce}
+use Rattle.sdd_log.proofs.NewMarks.{lawful_permitted}
+use Rattle.sdd_log.proofs.Steps.{same_is}
+
+-- a mark makes due only a Submit or a Nothing
+abbrev is_note : Entry → Bool
+is_note (Submitted at n) = true
+is_note Notes = true
+is_note _ = false
+
+abbrev AreNotes : Option Entry → Type 0
+AreNotes None = Unit {0}
+AreNotes (Some x) = is_note x ≡ true
+
+note_noted : (b : Bool) → AreNotes (note_if b)
+note_noted true = refl
+note_noted false = tt
+
+due_by_noted : (g : Given) (e : Event) (log : Log) → AreNotes (due_by g e log)
+due_by_noted g (Submit n) log = refl
+due_by_noted g (Deliver a b k) log = note_noted _
+due_by_noted g (Lose a b k) log = note_noted _
+due_by_noted g (Repeat a b k) log = note_noted _
+due_by_noted g (Resend a b) log = note_noted _
+due_by_noted g (Tick t n) log = tt
+due_by_noted g Settle log = tt
+due_by_noted g Redeclare log = tt
+due_by_noted g (Down d) log = note_noted _
+due_by_noted g (Up d) log = note_noted _
+
+mark_noted : (g : Given) (log : Log) → AreNotes (mark_due g log)
+mark_noted g [] = tt
+mark_noted g (Mark e ∷ log) = due_by_noted g e log
+mark_noted g (_ ∷ log) = tt
+
+is_noted : (o : Option Entry) (e : Entry) → AreNotes o → o ≡ Some e → is_note e ≡ true
+is_noted None e h p = cc
+is_noted (Some x) e h p = let q : x ≡ e = cc in subst (λ w. is_note w ≡ true) q h
+
+-- an act that is allowed is due
+abbrev IsDueEntry : Given → Log → Entry → Type 0
+IsDueEntry g log (Does at act) = IsDueAt g log at act
+IsDueEntry g log _ = Unit {0}
+
+not_act : (g : Given) (log : Log) (e : Entry) → is_note e ≡ true → IsDueEntry g log e
+not_act g log (Does a act) h = cc
+not_act g log _ h = tt
+
+pub allowed_act : (g : Given) (log : Log) (e : Entry) → IsAllowed g log e → IsDueEntry g log e
+allowed_act g log e (by_mark x n) = tt
+allowed_act g log e (by_round es) = tt
+allowed_act g log e (by_redeclare t) = tt
+allowed_act g log e (by_event {e = x} p) = not_act g log x (is_noted (mark_due g log) x (mark_noted g log) p)
+allowed_act g log e (by_site at act d) = d
+allowed_act g log e (by_link a b n m p q r f) = tt
+
+-- What is to be shown of a statement on the log of a site and the entry after it: that it holds of each message that may
+-- be handed to the site, of each tick, of each transaction that may be given to it, of each list of classes, and of
+-- each act that is due, where it holds of all entries before.
+pub record HoldsOfEach (g : Given) (at : Site) (P : site.Log → site.Entry → Type 0) : Type 0 where
+  pub handed : (log : Log) → IsPermitted g log → (from : Site) (n : ℕ) (m : Msg) → IsAllowed g log (Hand from at n m) → Each P (local_of g at log) → P (local_of g at log) (Handed from m)
+  pub ticked : (log : Log) → IsPermitted g log → (n : ℕ) → Each P (local_of g at log) → P (local_of g at log) (Ticked n)
+  pub submits : (log : Log) → IsPermitted g log → (n : ℕ) (t : Txn) → IsAllowed g log (Submitted at n) → txn_at g n ≡ Some t → Each P (local_of g at log) → P (local_of g at log) (Submits n t)
+  pub redeclared : (l : site.Log) (k t : ℕ) → Each P l → P l (Redeclared (force_at g k) t)
+  pub did : (log : Log) (act : Act) → IsPermitted g log → IsDueAt g log at act → Each P (local_of g at log) → P (local_of g at log) (Did act)
+
+each_if : (P : site.Log → site.Entry → Type 0) (b : Bool) (k l : site.Log) → (b ≡ true → Each P k) → Each P l → Each P (if b then k else l)
+each_if P true k l f h = f refl
+each_if P false k l f h = h
+
+each_submit : (P : site.Log → site.Entry → Type 0) (n : ℕ) (o : Option Txn) (l : site.Log) → ((t : Txn) → o ≡ Some t → P l (Submits n t)) → Each P l → Each P (with_submit n o l)
+each_submit P n None l f h = h
+each_submit P n (Some t) l f h = (f t refl, h)
+
+each_beginning : (g : Given) (at : Site) (P : site.Log → site.Entry → Type 0) → ((l : site.Log) (k t : ℕ) → Each P l → P l (Redeclared (force_at g k) t)) → Each P (beginning g at)
+each_beginning g U P f = tt
+each_beginning g (T t) P f = (f [] 0 0 tt, tt)
+each_beginning g (D d) P f = tt
+
+each_force : (at : Site) (P : site.Log → site.Entry → Type 0) (force : Force) (t : ℕ) (l : site.Log) → P l (Redeclared force t) → Each P l → Each P (with_force at force t l)
+each_force U P force t l f h = h
+each_force (T n) P force t l f h = (f, h)
+each_force (D d) P force t l f h = h
+
+pub each_local : (g : Given) (at : Site) (P : site.Log → site.Entry → Type 0) → HoldsOfEach g at P → (log : Log) → IsPermitted g log → Each P (local_of g at log)
+each_local g at P c [] h = each_beginning g at P c.redeclared
+each_local g at P c (Mark (Submit n) ∷ log) h = each_local g at P c log h.1
+each_local g at P c (Mark (Deliver a b k) ∷ log) h = each_local g at P c log h.1
+each_local g at P c (Mark (Lose a b k) ∷ log) h = each_local g at P c log h.1
+each_local g at P c (Mark (Repeat a b k) ∷ log) h = each_local g at P c log h.1
+each_local g at P c (Mark (Resend a b) ∷ log) h = each_local g at P c log h.1
+each_local g at P c (Mark Settle ∷ log) h = each_local g at P c log h.1
+each_local g at P c (Mark Redeclare ∷ log) h = each_local g at P c log h.1
+each_local g at P c (Mark (Down d) ∷ log) h = each_local g at P c log h.1
+each_local g at P c (Mark (Up d) ∷ log) h = each_local g at P c log h.1
+each_local g at P c (Mark (Tick t n) ∷ log) h =
+    let i = each_local g at P c log h.1 in
+    each_if P (same_site at (T t)) (Ticked n ∷ local_of g at log) (local_of g at log) (λ e. (c.ticked log h.1 n i, i)) i
+each_local g at P c (Round es ∷ log) h = each_local g at P c log h.1
+each_local g at P c (Notes ∷ log) h = each_local g at P c log h.1
+each_local g at P c (Redeclares t ∷ log) h =
+    let i = each_local g at P c log h.1 in
+    each_force at P (force_at g (suc (redeclares log))) t (local_of g at log) (c.redeclared (local_of g at log) (suc (redeclares log)) t i) i
+each_local g at P c (Submitted to n ∷ log) h =
+    let i = each_local g at P c log h.1 in
+    each_if P (same_site at to) (with_submit n (txn_at g n) (local_of g at log)) (local_of g at log)
+    (λ e. each_submit P n (txn_at g n) (local_of g at log)
+    (λ t q. c.submits log h.1 n t (subst (λ x. IsAllowed g log (Submitted x n)) (sym (same_is at to e)) h.0) q i) i) i
+each_local g at P c (Hand from to n m ∷ log) h =
+    let i = each_local g at P c log h.1 in
+    each_if P (same_site at to) (Handed from m ∷ local_of g at log) (local_of g at log)
+    (λ e. (c.handed log h.1 from n m (subst (λ x. IsAllowed g log (Hand from x n m)) (sym (same_is at to e)) h.0) i, i)) i
+each_local g at P c (Does by act ∷ log) h =
+    let i = each_local g at P c log h.1 in
+    each_if P (same_site at by) (Did act ∷ local_of g at log) (local_of g at log)
+    (λ e. (c.did log act h.1 (subst (λ s. IsDueAt g log s act) (sym (same_is at by e)) (allowed_act g log (Does by act) h.0)) i, i)) i
+
+-- and so of the log that a lawful log gives the site
+pub each_of_lawful : (g : Given) (at : Site) (P : site.Log → site.Entry → Type 0) → HoldsOfEach g at P → AreSubmittedOnce g.events → (log : Log) → IsLawful g log → Each P (local_of g at log)
+each_of_lawful g at P c once log h = each_local g at P c log (lawful_permitted g log once h)

@@ -1,0 +1,283 @@
+-- Where the events submit each transaction at most once, the marks of a lawful log submit no number twice, so it is
+-- permitted.
+use Rattle.std.proofs.Common.{ℕ, zero, suc, ◌+◌, ◌≤◌, ◌==◌, Bool, true, false, not, cond, List, [], ◌∷◌, ◌++◌, ◌≡◌, refl, ap, ◌∙◌, sym, subst, arith, Option, Some, None}
+use Rattle.std.specs.Prelude.{replicate, flat_map, filter_map, ◌||◌}
+use Rattle.std.specs.List.{cons_option}
+use Rattle.std.specs.Bool.{if◌then◌else◌}
+use Rattle.std.proofs.lemmas.Bool.{eq-eqb}
+use Rattle.sdd_base.specs.Words.{tail_of}
+use Rattle.sdd_base.specs.Sites.{sites}
+use Rattle.sdd_base.specs.declared.site.Site.{Site}
+use Rattle.sdd_base.specs.declared.event.Event.{Event}
+use Rattle.sdd_base.specs.declared.event.Event.TheVariants.{Submit, Deliver, Lose, Repeat, Resend, Tick, Settle, Redeclare, Down, Up}
+use Rattle.sdd_wire.specs.declared.msg.Msg.{Msg}
+use Rattle.sdd_module.specs.SiteLog.{Act}
+use Rattle.sdd_module.proofs.Finding.{found_at, one_of}
+use Rattle.sdd_net.specs.Links.{Call, link, delivered, round, resends_now, in_flight, quiet}
+use Rattle.sdd_log.specs.Entries.{Given, Log, Entry, Mark, Round, Redeclares, Hand, Submitted, Notes, Does}
+use Rattle.sdd_log.specs.Traffic.{calls_of, all_links, message_at, handed, link_of, takes_part}
+use Rattle.sdd_log.specs.Marks.{mark_of, mark_from, next_mark, from_event, after_mark, left}
+use Rattle.sdd_log.specs.Due.{mark_due, due_by, note_if, site_due, does_at, next_at, next_number, hand_with, hand_number, hand_on, hand_due, next}
+use Rattle.sdd_log.specs.Lawful.{IsLawful}
+use Rattle.sdd_log.specs.Permitted.{was_marked, is_new_mark, one_if, submits_by, submits_in, AreSubmittedOnce, IsPermitted}
+use Rattle.sdd_log.proofs.Permitted.{HasNewMarks, permitted_if_new}
+
+-- how often transaction n is submitted by marks
+abbrev pub marked : ℕ → Log → ℕ
+marked n [] = 0
+marked n (Mark e ∷ log) = submits_by n e + marked n log
+marked n (_ ∷ log) = marked n log
+
+-- a round submits nothing
+none_in : (n : ℕ) (xs ys : List Event) → submits_in n xs ≡ 0 → submits_in n ys ≡ 0 → submits_in n (xs ++ ys) ≡ 0
+none_in n [] ys h k = k
+none_in n (x ∷ xs) ys h k = let i = none_in n xs ys (omega arith) k in omega arith
+
+none_replicate : (n k : ℕ) (e : Event) → submits_by n e ≡ 0 → submits_in n (replicate k e) ≡ 0
+none_replicate n zero e h = refl
+none_replicate n (suc k) e h = let i = none_replicate n k e h in omega arith
+
+none_resent : (n : ℕ) (ls : List (Site × Site)) (calls : List (Call Msg)) → submits_in n (filter_map (λ l. cond (resends_now (link l.0 l.1 calls)) (Some (Resend l.0 l.1)) None) ls) ≡ 0
+none_resent n [] calls = refl
+none_resent n (l ∷ ls) calls = elim (resends_now (link l.0 l.1 calls)) as (λ b. submits_in n (cons_option (cond b (Some (Resend l.0 l.1)) None) (filter_map (λ l. cond (resends_now (link l.0 l.1 calls)) (Some (Resend l.0 l.1)) None) ls)) ≡ 0) [
+  | true ↦ (let i = none_resent n ls calls in omega arith)
+  | false ↦ none_resent n ls calls
+]
+
+none_delivered : (n : ℕ) (ls : List (Site × Site)) (calls : List (Call Msg)) → submits_in n (flat_map (λ l. replicate (in_flight (link l.0 l.1 calls)) (Deliver l.0 l.1 1)) ls) ≡ 0
+none_delivered n [] calls = refl
+none_delivered n (l ∷ ls) calls = none_in n _ _ (none_replicate n (in_flight (link l.0 l.1 calls)) (Deliver l.0 l.1 1) refl) (none_delivered n ls calls)
+
+none_round : (n : ℕ) (ls : List (Site × Site)) (calls : List (Call Msg)) → submits_in n (round ls calls) ≡ 0
+none_round n ls calls = none_in n _ _ (none_resent n ls calls) (none_delivered n ls calls)
+
+-- marks and rounds come from the events that are left
+abbrev IsFromLeft : Given → Log → Entry → Type 0
+IsFromLeft g log (Mark e) = mark_of g log (left g.events log) ≡ Some (Mark e)
+IsFromLeft g log (Round es) = mark_of g log (left g.events log) ≡ Some (Round es)
+IsFromLeft g log (Redeclares t) = mark_of g log (left g.events log) ≡ Some (Redeclares t)
+IsFromLeft g log _ = Unit {0}
+
+abbrev is_from : Entry → Bool
+is_from (Mark e) = true
+is_from (Round es) = true
+is_from (Redeclares t) = true
+is_from _ = false
+
+abbrev NotFrom : Option Entry → Type 0
+NotFrom None = Unit {0}
+NotFrom (Some x) = is_from x ≡ false
+
+not_from : (g : Given) (log : Log) (e : Entry) → is_from e ≡ false → IsFromLeft g log e
+not_from g log (Mark e) h = cc
+not_from g log (Round es) h = cc
+not_from g log (Redeclares t) h = cc
+not_from g log _ h = tt
+
+no_note : (b : Bool) → NotFrom (note_if b)
+no_note true = refl
+no_note false = tt
+
+no_due_by : (g : Given) (e : Event) (log : Log) → NotFrom (due_by g e log)
+no_due_by g (Submit n) log = refl
+no_due_by g (Deliver a b k) log = no_note _
+no_due_by g (Lose a b k) log = no_note _
+no_due_by g (Repeat a b k) log = no_note _
+no_due_by g (Resend a b) log = no_note _
+no_due_by g (Tick t n) log = tt
+no_due_by g Settle log = tt
+no_due_by g Redeclare log = tt
+no_due_by g (Down d) log = no_note _
+no_due_by g (Up d) log = no_note _
+
+no_mark_due : (g : Given) (log : Log) → NotFrom (mark_due g log)
+no_mark_due g [] = tt
+no_mark_due g (Mark e ∷ log) = no_due_by g e log
+no_mark_due g (_ ∷ log) = tt
+
+no_does : (at : Site) (o : Option Act) → NotFrom (does_at at o)
+no_does at None = tt
+no_does at (Some a) = refl
+
+no_message : (l : Site × Site) (n : ℕ) (o : Option Msg) → NotFrom (hand_with l n o)
+no_message l n None = tt
+no_message l n (Some m) = refl
+
+no_number : (log : Log) (l : Site × Site) (o : Option ℕ) → NotFrom (hand_number log l o)
+no_number log l None = tt
+no_number log l (Some n) = no_message l n (message_at l.0 l.1 n log)
+
+no_hand : (log : Log) (l : Site × Site) (b : Bool) (o : Option ℕ) → NotFrom (if b then hand_number log l o else None)
+no_hand log l true o = no_number log l o
+no_hand log l false o = tt
+
+is_not : (o : Option Entry) (e : Entry) → NotFrom o → o ≡ Some e → is_from e ≡ false
+is_not None e h p = cc
+is_not (Some x) e h p = let q : x ≡ e = cc in subst (λ w. is_from w ≡ false) q h
+
+from_left_at : (g : Given) (log : Log) (e : Entry) → next_mark g log ≡ Some e → IsFromLeft g log e
+from_left_at g log (Mark e) h = h
+from_left_at g log (Round es) h = h
+from_left_at g log (Redeclares t) h = h
+from_left_at g log _ h = tt
+
+from_left : (g : Given) (log : Log) (e : Entry) → next g log ≡ Some e → IsFromLeft g log e
+from_left g log e h =
+    one_of (IsFromLeft g log e) (mark_due g log) _ e (λ p. not_from g log e (is_not (mark_due g log) e (no_mark_due g log) p))
+    (one_of (IsFromLeft g log e) (site_due g log) _ e (λ p. let r = found_at (λ at. does_at at (next_at g log at)) (sites g.catalogue.tms g.catalogue.dms) e p in not_from g log e (is_not (does_at r.1 (next_at g log r.1)) e (no_does r.1 (next_at g log r.1)) r.3))
+    (one_of (IsFromLeft g log e) (hand_due g log) _ e (λ p. let r = found_at (hand_on log) (all_links g) e p in not_from g log e (is_not (hand_on log r.1) e (no_hand log r.1 (takes_part r.1.1 log) (next_number (handed r.1.0 r.1.1 log) (delivered (link_of r.1.0 r.1.1 log).there))) r.3))
+    (from_left_at g log e))) h
+
+-- what is left and what was marked are the events
+pub record IsLeft (n : ℕ) (events : List Event) (s : List Event × List Event) (m : ℕ) : Type 0 where
+  pub all : m + submits_in n s.0 ≡ submits_in n events
+  pub round_none : submits_in n s.1 ≡ 0
+
+from_event_same : (n : ℕ) (ws : List Event) → submits_in n (from_event ws) ≡ submits_in n ws
+from_event_same n [] = refl
+from_event_same n (Settle ∷ ws) = let i = from_event_same n ws in omega arith
+from_event_same n (Submit k ∷ ws) = refl
+from_event_same n (Deliver a b k ∷ ws) = refl
+from_event_same n (Lose a b k ∷ ws) = refl
+from_event_same n (Repeat a b k ∷ ws) = refl
+from_event_same n (Resend a b ∷ ws) = refl
+from_event_same n (Tick t k ∷ ws) = refl
+from_event_same n (Redeclare ∷ ws) = refl
+from_event_same n (Down d ∷ ws) = refl
+from_event_same n (Up d ∷ ws) = refl
+
+-- the event that is marked is the first of those left
+marks_first : (g : Given) (log : Log) (q : Bool) (r ws : List Event) (e : Event) → mark_from g log q r ws ≡ Some (Mark e) → (rest : List Event) × (from_event ws ≡ e ∷ rest)
+marks_first g log q r [] e h = cc
+marks_first g log true r (Settle ∷ ws) e h = marks_first g log true r ws e h
+marks_first g log false r (Settle ∷ ws) e h = cc
+marks_first g log true r (Redeclare ∷ ws) e h = cc
+marks_first g log false r (Redeclare ∷ ws) e h = cc
+marks_first g log q r (Submit k ∷ ws) e h = let p : Submit k ≡ e = cc in (ws, ap (λ x. x ∷ ws) p)
+marks_first g log q r (Deliver a b k ∷ ws) e h = let p : Deliver a b k ≡ e = cc in (ws, ap (λ x. x ∷ ws) p)
+marks_first g log q r (Lose a b k ∷ ws) e h = let p : Lose a b k ≡ e = cc in (ws, ap (λ x. x ∷ ws) p)
+marks_first g log q r (Repeat a b k ∷ ws) e h = let p : Repeat a b k ≡ e = cc in (ws, ap (λ x. x ∷ ws) p)
+marks_first g log q r (Resend a b ∷ ws) e h = let p : Resend a b ≡ e = cc in (ws, ap (λ x. x ∷ ws) p)
+marks_first g log q r (Tick t k ∷ ws) e h = let p : Tick t k ≡ e = cc in (ws, ap (λ x. x ∷ ws) p)
+marks_first g log q r (Down d ∷ ws) e h = let p : Down d ≡ e = cc in (ws, ap (λ x. x ∷ ws) p)
+marks_first g log q r (Up d ∷ ws) e h = let p : Up d ≡ e = cc in (ws, ap (λ x. x ∷ ws) p)
+
+-- and so is the `redeclare` that is carried out
+redeclares_first : (g : Given) (log : Log) (q : Bool) (r ws : List Event) (t : ℕ) → mark_from g log q r ws ≡ Some (Redeclares t) → (rest : List Event) × (from_event ws ≡ Redeclare ∷ rest)
+redeclares_first g log q r [] t h = cc
+redeclares_first g log true r (Settle ∷ ws) t h = redeclares_first g log true r ws t h
+redeclares_first g log false r (Settle ∷ ws) t h = cc
+redeclares_first g log true r (Redeclare ∷ ws) t h = (ws, refl)
+redeclares_first g log false r (Redeclare ∷ ws) t h = cc
+redeclares_first g log q r (Submit k ∷ ws) t h = cc
+redeclares_first g log q r (Deliver a b k ∷ ws) t h = cc
+redeclares_first g log q r (Lose a b k ∷ ws) t h = cc
+redeclares_first g log q r (Repeat a b k ∷ ws) t h = cc
+redeclares_first g log q r (Resend a b ∷ ws) t h = cc
+redeclares_first g log q r (Tick u k ∷ ws) t h = cc
+redeclares_first g log q r (Down d ∷ ws) t h = cc
+redeclares_first g log q r (Up d ∷ ws) t h = cc
+
+marks_round : (g : Given) (log : Log) (q : Bool) (r ws es : List Event) → mark_from g log q r ws ≡ Some (Round es) → r ≡ es
+marks_round g log q r [] es h = cc
+marks_round g log true r (Settle ∷ ws) es h = marks_round g log true r ws es h
+marks_round g log false r (Settle ∷ ws) es h = cc
+marks_round g log true r (Redeclare ∷ ws) es h = cc
+marks_round g log false r (Redeclare ∷ ws) es h = cc
+marks_round g log q r (Submit k ∷ ws) es h = cc
+marks_round g log q r (Deliver a b k ∷ ws) es h = cc
+marks_round g log q r (Lose a b k ∷ ws) es h = cc
+marks_round g log q r (Repeat a b k ∷ ws) es h = cc
+marks_round g log q r (Resend a b ∷ ws) es h = cc
+marks_round g log q r (Tick t k ∷ ws) es h = cc
+marks_round g log q r (Down d ∷ ws) es h = cc
+marks_round g log q r (Up d ∷ ws) es h = cc
+
+mark_step : (g : Given) (log : Log) (n m : ℕ) (e : Event) (s : List Event × List Event) → mark_of g log s ≡ Some (Mark e) → IsLeft n g.events s m → IsLeft n g.events (after_mark s) (submits_by n e + m)
+mark_step g log n m e (ws, []) h i =
+    let r = marks_first g log (quiet (all_links g) (calls_of log)) (round (all_links g) (calls_of log)) ws e h in
+    let a : submits_in n (from_event ws) ≡ submits_by n e + submits_in n r.0 = ap (submits_in n) r.1 in
+    let b : submits_in n (tail_of (from_event ws)) ≡ submits_in n r.0 = ap (λ xs. submits_in n (tail_of xs)) r.1 in
+    record { all = omega (arith, from_event_same n ws, i.all, a, b); round_none = refl }
+mark_step g log n m e (ws, x ∷ r) h i =
+    let p : x ≡ e = cc in
+    let z : submits_by n x ≡ 0 = omega (arith, i.round_none) in
+    let y : submits_by n e ≡ 0 = ap (submits_by n) (sym p) ∙ z in
+    record { all = omega (arith, i.all, y); round_none = omega (arith, i.round_none) }
+
+redeclare_step : (g : Given) (log : Log) (n m t : ℕ) (s : List Event × List Event) → mark_of g log s ≡ Some (Redeclares t) → IsLeft n g.events s m → IsLeft n g.events (after_mark s) m
+redeclare_step g log n m t (ws, []) h i =
+    let r = redeclares_first g log (quiet (all_links g) (calls_of log)) (round (all_links g) (calls_of log)) ws t h in
+    let a : submits_in n (from_event ws) ≡ 0 + submits_in n r.0 = ap (submits_in n) r.1 in
+    let b : submits_in n (tail_of (from_event ws)) ≡ submits_in n r.0 = ap (λ xs. submits_in n (tail_of xs)) r.1 in
+    record { all = omega (arith, from_event_same n ws, i.all, a, b); round_none = refl }
+redeclare_step g log n m t (ws, x ∷ r) h i = cc
+
+round_step : (g : Given) (log : Log) (n m : ℕ) (es : List Event) (s : List Event × List Event) → mark_of g log s ≡ Some (Round es) → IsLeft n g.events s m → IsLeft n g.events (s.0, es) m
+round_step g log n m es (ws, []) h i =
+    let p = marks_round g log (quiet (all_links g) (calls_of log)) (round (all_links g) (calls_of log)) ws es h in
+    record { all = i.all; round_none = ap (submits_in n) (sym p) ∙ none_round n (all_links g) (calls_of log) }
+round_step g log n m es (ws, x ∷ r) h i = cc
+
+pub left_is : (g : Given) (n : ℕ) (log : Log) → IsLawful g log → IsLeft n g.events (left g.events log) (marked n log)
+left_is g n [] h = record { all = omega arith; round_none = refl }
+left_is g n (Mark e ∷ log) h = mark_step g log n (marked n log) e (left g.events log) (from_left g log (Mark e) h.0) (left_is g n log h.1)
+left_is g n (Round es ∷ log) h = round_step g log n (marked n log) es (left g.events log) (from_left g log (Round es) h.0) (left_is g n log h.1)
+left_is g n (Redeclares t ∷ log) h = redeclare_step g log n (marked n log) t (left g.events log) (from_left g log (Redeclares t) h.0) (left_is g n log h.1)
+left_is g n (Hand a b k m ∷ log) h = left_is g n log h.1
+left_is g n (Submitted a k ∷ log) h = left_is g n log h.1
+left_is g n (Notes ∷ log) h = left_is g n log h.1
+left_is g n (Does a act ∷ log) h = left_is g n log h.1
+
+counts_mark : (n : ℕ) (log : Log) → was_marked n log ≡ true → 1 ≤ marked n log
+counts_mark n [] h = cc
+counts_mark n (Mark (Submit k) ∷ log) h = elim (k.0 == n) as (λ b. (b || was_marked n log) ≡ true → 1 ≤ one_if b + marked n log) [ true ↦ λ p. omega arith | false ↦ λ p. let i = counts_mark n log p in omega arith ] h
+counts_mark n (Mark (Deliver a b k) ∷ log) h = let i = counts_mark n log h in omega arith
+counts_mark n (Mark (Lose a b k) ∷ log) h = let i = counts_mark n log h in omega arith
+counts_mark n (Mark (Repeat a b k) ∷ log) h = let i = counts_mark n log h in omega arith
+counts_mark n (Mark (Resend a b) ∷ log) h = let i = counts_mark n log h in omega arith
+counts_mark n (Mark (Tick t k) ∷ log) h = let i = counts_mark n log h in omega arith
+counts_mark n (Mark Redeclare ∷ log) h = let i = counts_mark n log h in omega arith
+counts_mark n (Mark (Down d) ∷ log) h = let i = counts_mark n log h in omega arith
+counts_mark n (Mark (Up d) ∷ log) h = let i = counts_mark n log h in omega arith
+counts_mark n (Mark Settle ∷ log) h = let i = counts_mark n log h in omega arith
+counts_mark n (Round es ∷ log) h = counts_mark n log h
+counts_mark n (Redeclares t ∷ log) h = counts_mark n log h
+counts_mark n (Hand a b k m ∷ log) h = counts_mark n log h
+counts_mark n (Submitted a k ∷ log) h = counts_mark n log h
+counts_mark n (Notes ∷ log) h = counts_mark n log h
+counts_mark n (Does a act ∷ log) h = counts_mark n log h
+
+new_event : (g : Given) (log : Log) (e : Event) → AreSubmittedOnce g.events → IsLawful g (Mark e ∷ log) → is_new_mark e log ≡ true
+new_event g log (Submit k) once h =
+    let i = left_is g k.0 (Mark (Submit k) ∷ log) h in
+    let all : (submits_by k.0 (Submit k) + marked k.0 log) + submits_in k.0 (left g.events (Mark (Submit k) ∷ log)).0 ≡ submits_in k.0 g.events = i.all in
+    let own : submits_by k.0 (Submit k) ≡ 1 = ap one_if (eq-eqb k.0 k.0 refl) in
+    let le : submits_in k.0 g.events ≤ 1 = once k.0 in
+    elim (was_marked k.0 log) as (λ b. was_marked k.0 log ≡ b → not b ≡ true) [
+      | true ↦ λ p. (let l : 1 ≤ marked k.0 log = counts_mark k.0 log p in absurd (omega arith))
+      | false ↦ λ p. refl
+    ] refl
+new_event g log (Deliver a b k) once h = refl
+new_event g log (Lose a b k) once h = refl
+new_event g log (Repeat a b k) once h = refl
+new_event g log (Resend a b) once h = refl
+new_event g log (Tick t k) once h = refl
+new_event g log Settle once h = refl
+new_event g log Redeclare once h = refl
+new_event g log (Down d) once h = refl
+new_event g log (Up d) once h = refl
+
+pub new_marks : (g : Given) (log : Log) → AreSubmittedOnce g.events → IsLawful g log → HasNewMarks log
+new_marks g [] once h = tt
+new_marks g (Mark e ∷ log) once h = (new_event g log e once h, new_marks g log once h.1)
+new_marks g (Round es ∷ log) once h = (tt, new_marks g log once h.1)
+new_marks g (Redeclares t ∷ log) once h = (tt, new_marks g log once h.1)
+new_marks g (Hand a b k m ∷ log) once h = (tt, new_marks g log once h.1)
+new_marks g (Submitted a k ∷ log) once h = (tt, new_marks g log once h.1)
+new_marks g (Notes ∷ log) once h = (tt, new_marks g log once h.1)
+new_marks g (Does a act ∷ log) once h = (tt, new_marks g log once h.1)
+
+-- every lawful log is permitted
+pub lawful_permitted : (g : Given) (log : Log) → AreSubmittedOnce g.events → IsLawful g log → IsPermitted g log
+lawful_permitted g log once h = permitted_if_new g log h (new_marks g log once h)

@@ -1,0 +1,56 @@
+-- The one log of everything, newest first, and its history.
+use Rattle.std.specs.Prelude.{ℕ, suc, List, [], ◌∷◌, ◌++◌, map}
+use Rattle.sdd_base.specs.Numbers.{txn_no}
+use Rattle.sdd_base.specs.declared.site.Site.{Site}
+use Rattle.sdd_base.specs.declared.number.RelNo.{RelNo}
+use Rattle.sdd_base.specs.declared.event.Event.{Event}
+use Rattle.sdd_catalog.specs.Catalogue.{Catalogue}
+use Rattle.sdd_lang.specs.declared.transaction.Txn.{Txn}
+use Rattle.sdd_lang.specs.Database.{Row}
+use Rattle.sdd_history.specs.declared.record.Rec.TheVariants.{Submit as Submission, Nothing}
+use Rattle.sdd_history.specs.Records.{History}
+use Rattle.sdd_wire.specs.declared.msg.Msg.{Msg}
+use Rattle.sdd_module.specs.SiteLog.{Force, Act, records_of_act}
+
+-- An entry. `Mark` is an event of the schedule or of a round; `Round` begins a round of these events; `Redeclares` puts
+-- the next list of classes in force at a time. `Hand a b n m` hands message n of the link from a to b over;
+-- `Submitted at n` gives transaction n to the module of a site; `Notes` says that an event found nothing to do; `Does`
+-- is what a site does by itself.
+pub data Entry : Type 0 where
+  Mark : Event → Entry
+  Round : List Event → Entry
+  Redeclares : ℕ → Entry
+  Hand : Site → Site → ℕ → Msg → Entry
+  Submitted : Site → ℕ → Entry
+  Notes : Entry
+  Does : Site → Act → Entry
+
+abbrev pub Log : Type 0
+Log = List Entry
+
+-- What is given: the catalogue with the classes of all lists; the lists in force one after the other; the rows with
+-- which each data module begins; the transactions by their numbers, from 1; and the events.
+pub record Given : Type 0 where
+  pub catalogue : Catalogue
+  pub forces : List Force
+  pub rows : List (List (RelNo × Row))
+  pub txns : List Txn
+  pub events : List Event
+
+abbrev pub with_event : Given → Event → Given
+with_event g e = record g { events = g.events ++ e ∷ [] }
+
+-- how many events there were: each mark, and each list of classes that is put in force
+abbrev pub marks : Log → ℕ
+marks [] = 0
+marks (Mark e ∷ log) = suc (marks log)
+marks (Redeclares t ∷ log) = suc (marks log)
+marks (_ ∷ log) = marks log
+
+-- the records of the log with the numbers of their events, oldest first
+abbrev pub history : Log → History
+history [] = []
+history (Submitted at n ∷ log) = history log ++ (marks log, Submission (txn_no n)) ∷ []
+history (Notes ∷ log) = history log ++ (marks log, Nothing) ∷ []
+history (Does at act ∷ log) = history log ++ map (λ r. (marks log, r)) (records_of_act act)
+history (_ ∷ log) = history log

@@ -1,0 +1,114 @@
+-- Worked logs, written by tools/write_log_rows.py.
+use Rattle.std.specs.Prelude.{◌≡◌, pos, negsuc, [], ◌∷◌, length, Some, None, refl}
+use Rattle.sdd_base.specs.Numbers.{rel_no, tm_no, dm_no, class_no, frag_no, txn_no, time_at}
+use Rattle.sdd_base.specs.declared.value.Value.TheVariants.{Int}
+use Rattle.sdd_base.specs.declared.event.Event.TheVariants.{Submit, Settle, Redeclare}
+use Rattle.sdd_base.specs.declared.reply.Reply.TheVariants.{Rows}
+use Rattle.sdd_catalog.specs.Catalogue.{Catalogue}
+use Rattle.sdd_graph.specs.declared.edge.Edge.TheVariants.{Vertical}
+use Rattle.sdd_protocol.specs.declared.protocol.Protocol.TheVariants.{P1}
+use Rattle.sdd_lang.specs.declared.statement.Stmt.TheVariants.{Put, Query}
+use Rattle.sdd_history.specs.declared.record.Rec.TheVariants.{Submit as Submission, Start, Arrive, Answer, Apply, Commit}
+use Rattle.sdd_log.specs.Entries.{Given, Log, history, marks}
+use Rattle.sdd_log.specs.Due.{next, extended}
+use Rattle.sdd_catalog.specs.declared.parts.Kind.TheVariants as kinds
+
+-- a further list of classes is put in force
+
+abbrev pub catalogue_of_further_classes : Catalogue
+catalogue_of_further_classes = record {
+  tms = 1;
+  dms = 1;
+  relations =
+      (record { name = []; columns = ((record { name = []; kind = kinds.Int }) ∷ (record { name = []; kind = kinds.Int }) ∷ []); key = 1 }) ∷
+      [];
+  fragments =
+      (record { name = []; rel = (rel_no 1); least = (negsuc 9223372036854775807); greatest = (pos 9223372036854775807); copies = ((dm_no 1) ∷ []) }) ∷
+      [];
+  classes =
+      (record { name = []; tm = (tm_no 1); reads = ((record { fragment = (frag_no 1); at = (dm_no 1) }) ∷ []); writes = ((frag_no 1) ∷ []) }) ∷
+      (record { name = []; tm = (tm_no 1); reads = ((record { fragment = (frag_no 1); at = (dm_no 1) }) ∷ []); writes = [] }) ∷
+      [];
+}
+
+abbrev pub classes_of_further_classes_0 : Catalogue
+classes_of_further_classes_0 = record {
+  tms = 1;
+  dms = 1;
+  relations =
+      (record { name = []; columns = ((record { name = []; kind = kinds.Int }) ∷ (record { name = []; kind = kinds.Int }) ∷ []); key = 1 }) ∷
+      [];
+  fragments =
+      (record { name = []; rel = (rel_no 1); least = (negsuc 9223372036854775807); greatest = (pos 9223372036854775807); copies = ((dm_no 1) ∷ []) }) ∷
+      [];
+  classes =
+      (record { name = []; tm = (tm_no 1); reads = ((record { fragment = (frag_no 1); at = (dm_no 1) }) ∷ []); writes = ((frag_no 1) ∷ []) }) ∷
+      [];
+}
+
+abbrev pub classes_of_further_classes_1 : Catalogue
+classes_of_further_classes_1 = record {
+  tms = 1;
+  dms = 1;
+  relations =
+      (record { name = []; columns = ((record { name = []; kind = kinds.Int }) ∷ (record { name = []; kind = kinds.Int }) ∷ []); key = 1 }) ∷
+      [];
+  fragments =
+      (record { name = []; rel = (rel_no 1); least = (negsuc 9223372036854775807); greatest = (pos 9223372036854775807); copies = ((dm_no 1) ∷ []) }) ∷
+      [];
+  classes =
+      (record { name = []; tm = (tm_no 1); reads = []; writes = [] }) ∷
+      (record { name = []; tm = (tm_no 1); reads = ((record { fragment = (frag_no 1); at = (dm_no 1) }) ∷ []); writes = [] }) ∷
+      [];
+}
+
+abbrev pub given_further_classes : Given
+given_further_classes = record {
+  catalogue = catalogue_of_further_classes;
+  forces =
+      (record {
+        catalogue = classes_of_further_classes_0;
+        table =
+            (record { edge = (Vertical (class_no 1)); block = 0; protocol = P1 }) ∷
+            [];
+      }) ∷
+      (record {
+        catalogue = classes_of_further_classes_1;
+        table =
+            (record { edge = (Vertical (class_no 1)); block = 0; protocol = P1 }) ∷
+            (record { edge = (Vertical (class_no 2)); block = 0; protocol = P1 }) ∷
+            [];
+      }) ∷
+      [];
+  rows = ([] ∷ []);
+  txns =
+      (record { name = []; tm = (tm_no 1); statements = ((Put (rel_no 1) ((Int (pos 5)) ∷ (Int (pos 10)) ∷ [])) ∷ []) }) ∷
+      (record { name = []; tm = (tm_no 1); statements = ((Query ((record { part = 1; column = 1 }) ∷ []) ((rel_no 1) ∷ []) []) ∷ []) }) ∷
+      [];
+  events =
+      Submit (txn_no 1) ∷
+      Redeclare ∷
+      Submit (txn_no 2) ∷
+      Settle ∷
+      [];
+}
+
+abbrev pub log_of_further_classes : Log
+log_of_further_classes = extended 36 given_further_classes []
+
+pub history_of_further_classes :
+    history log_of_further_classes ≡
+    (1, Submission (txn_no 1)) ∷
+    (1, Start (txn_no 1) 1 (class_no 1) (time_at 65) (Some (time_at 63)) []) ∷
+    (1, Commit (txn_no 1) 1 (Rows []) ((record { frag = (frag_no 1); key = (pos 5); row = (Some ((Int (pos 5)) ∷ (Int (pos 10)) ∷ [])) }) ∷ []) 0 0) ∷
+    (2, Apply (txn_no 1) (class_no 1) (dm_no 1) (time_at 65)) ∷
+    (5, Submission (txn_no 2)) ∷
+    (5, Start (txn_no 2) 1 (class_no 2) (time_at 129) (Some (time_at 127)) ((record { number = 1; rel = (rel_no 1); frags = ((frag_no 1) ∷ []); restrictions = [] }) ∷ [])) ∷
+    (6, Arrive (txn_no 2) 1 (dm_no 1)) ∷
+    (6, Answer (txn_no 2) 1 (dm_no 1)) ∷
+    (12, Commit (txn_no 2) 1 (Rows ((((Int (pos 5)) ∷ []) ∷ []) ∷ [])) [] 0 1) ∷
+    []
+history_of_further_classes = refl
+
+pub all_of_further_classes : (next given_further_classes log_of_further_classes ≡ None) × (length log_of_further_classes ≡ 36) × (marks log_of_further_classes ≡ 13)
+all_of_further_classes = (refl, refl, refl)

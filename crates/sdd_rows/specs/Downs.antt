@@ -1,0 +1,176 @@
+-- Worked logs, written by tools/write_log_rows.py.
+use Rattle.std.specs.Prelude.{◌≡◌, pos, negsuc, [], ◌∷◌, length, Some, None, refl}
+use Rattle.sdd_base.specs.Numbers.{rel_no, tm_no, dm_no, class_no, frag_no, txn_no, time_at}
+use Rattle.sdd_base.specs.declared.value.Value.TheVariants.{Int}
+use Rattle.sdd_base.specs.declared.event.Event.TheVariants.{Submit, Deliver, Down, Up}
+use Rattle.sdd_base.specs.declared.site.Site.TheVariants.{T, D}
+use Rattle.sdd_base.specs.declared.reply.Reply.TheVariants.{Rows}
+use Rattle.sdd_catalog.specs.Catalogue.{Catalogue}
+use Rattle.sdd_graph.specs.declared.edge.Edge.TheVariants.{Vertical}
+use Rattle.sdd_protocol.specs.declared.protocol.Protocol.TheVariants.{P1}
+use Rattle.sdd_lang.specs.declared.statement.Stmt.TheVariants.{Put}
+use Rattle.sdd_history.specs.declared.record.Rec.TheVariants.{Submit as Submission, Start, Apply, Commit, Nothing}
+use Rattle.sdd_log.specs.Entries.{Given, Log, history, marks}
+use Rattle.sdd_log.specs.Due.{next, extended}
+use Rattle.sdd_catalog.specs.declared.parts.Kind.TheVariants as kinds
+
+-- a data module is down while a put comes, and applies it once it is up
+
+abbrev pub catalogue_of_down_and_up : Catalogue
+catalogue_of_down_and_up = record {
+  tms = 1;
+  dms = 1;
+  relations =
+      (record { name = []; columns = ((record { name = []; kind = kinds.Int }) ∷ (record { name = []; kind = kinds.Int }) ∷ []); key = 1 }) ∷
+      [];
+  fragments =
+      (record { name = []; rel = (rel_no 1); least = (negsuc 9223372036854775807); greatest = (pos 9223372036854775807); copies = ((dm_no 1) ∷ []) }) ∷
+      [];
+  classes =
+      (record { name = []; tm = (tm_no 1); reads = ((record { fragment = (frag_no 1); at = (dm_no 1) }) ∷ []); writes = ((frag_no 1) ∷ []) }) ∷
+      [];
+}
+
+abbrev pub given_down_and_up : Given
+given_down_and_up = record {
+  catalogue = catalogue_of_down_and_up;
+  forces =
+      (record {
+        catalogue = catalogue_of_down_and_up;
+        table =
+            (record { edge = (Vertical (class_no 1)); block = 0; protocol = P1 }) ∷
+            [];
+      }) ∷
+      [];
+  rows = ([] ∷ []);
+  txns =
+      (record { name = []; tm = (tm_no 1); statements = ((Put (rel_no 1) ((Int (pos 5)) ∷ (Int (pos 10)) ∷ [])) ∷ []) }) ∷
+      [];
+  events =
+      Submit (txn_no 1) ∷
+      Down (dm_no 1) ∷
+      Deliver (T (tm_no 1)) (D (dm_no 1)) 1 ∷
+      Deliver (D (dm_no 1)) (T (tm_no 1)) 1 ∷
+      Up (dm_no 1) ∷
+      [];
+}
+
+abbrev pub log_of_down_and_up : Log
+log_of_down_and_up = extended 10 given_down_and_up []
+
+pub history_of_down_and_up :
+    history log_of_down_and_up ≡
+    (1, Submission (txn_no 1)) ∷
+    (1, Start (txn_no 1) 1 (class_no 1) (time_at 65) (Some (time_at 63)) []) ∷
+    (1, Commit (txn_no 1) 1 (Rows []) ((record { frag = (frag_no 1); key = (pos 5); row = (Some ((Int (pos 5)) ∷ (Int (pos 10)) ∷ [])) }) ∷ []) 0 0) ∷
+    (5, Apply (txn_no 1) (class_no 1) (dm_no 1) (time_at 65)) ∷
+    []
+history_of_down_and_up = refl
+
+pub all_of_down_and_up : (next given_down_and_up log_of_down_and_up ≡ None) × (length log_of_down_and_up ≡ 10) × (marks log_of_down_and_up ≡ 5)
+all_of_down_and_up = (refl, refl, refl)
+
+-- while it is down it applies nothing
+
+abbrev pub catalogue_of_stays_down : Catalogue
+catalogue_of_stays_down = record {
+  tms = 1;
+  dms = 1;
+  relations =
+      (record { name = []; columns = ((record { name = []; kind = kinds.Int }) ∷ (record { name = []; kind = kinds.Int }) ∷ []); key = 1 }) ∷
+      [];
+  fragments =
+      (record { name = []; rel = (rel_no 1); least = (negsuc 9223372036854775807); greatest = (pos 9223372036854775807); copies = ((dm_no 1) ∷ []) }) ∷
+      [];
+  classes =
+      (record { name = []; tm = (tm_no 1); reads = ((record { fragment = (frag_no 1); at = (dm_no 1) }) ∷ []); writes = ((frag_no 1) ∷ []) }) ∷
+      [];
+}
+
+abbrev pub given_stays_down : Given
+given_stays_down = record {
+  catalogue = catalogue_of_stays_down;
+  forces =
+      (record {
+        catalogue = catalogue_of_stays_down;
+        table =
+            (record { edge = (Vertical (class_no 1)); block = 0; protocol = P1 }) ∷
+            [];
+      }) ∷
+      [];
+  rows = ([] ∷ []);
+  txns =
+      (record { name = []; tm = (tm_no 1); statements = ((Put (rel_no 1) ((Int (pos 5)) ∷ (Int (pos 10)) ∷ [])) ∷ []) }) ∷
+      [];
+  events =
+      Submit (txn_no 1) ∷
+      Down (dm_no 1) ∷
+      Deliver (T (tm_no 1)) (D (dm_no 1)) 1 ∷
+      Deliver (D (dm_no 1)) (T (tm_no 1)) 1 ∷
+      [];
+}
+
+abbrev pub log_of_stays_down : Log
+log_of_stays_down = extended 7 given_stays_down []
+
+pub history_of_stays_down :
+    history log_of_stays_down ≡
+    (1, Submission (txn_no 1)) ∷
+    (1, Start (txn_no 1) 1 (class_no 1) (time_at 65) (Some (time_at 63)) []) ∷
+    (1, Commit (txn_no 1) 1 (Rows []) ((record { frag = (frag_no 1); key = (pos 5); row = (Some ((Int (pos 5)) ∷ (Int (pos 10)) ∷ [])) }) ∷ []) 0 0) ∷
+    []
+history_of_stays_down = refl
+
+pub all_of_stays_down : (next given_stays_down log_of_stays_down ≡ None) × (length log_of_stays_down ≡ 7) × (marks log_of_stays_down ≡ 4)
+all_of_stays_down = (refl, refl, refl)
+
+-- an `up` where it is up and a `down` where it is down find nothing to do
+
+abbrev pub catalogue_of_down_twice : Catalogue
+catalogue_of_down_twice = record {
+  tms = 1;
+  dms = 1;
+  relations =
+      (record { name = []; columns = ((record { name = []; kind = kinds.Int }) ∷ (record { name = []; kind = kinds.Int }) ∷ []); key = 1 }) ∷
+      [];
+  fragments =
+      (record { name = []; rel = (rel_no 1); least = (negsuc 9223372036854775807); greatest = (pos 9223372036854775807); copies = ((dm_no 1) ∷ []) }) ∷
+      [];
+  classes =
+      (record { name = []; tm = (tm_no 1); reads = ((record { fragment = (frag_no 1); at = (dm_no 1) }) ∷ []); writes = ((frag_no 1) ∷ []) }) ∷
+      [];
+}
+
+abbrev pub given_down_twice : Given
+given_down_twice = record {
+  catalogue = catalogue_of_down_twice;
+  forces =
+      (record {
+        catalogue = catalogue_of_down_twice;
+        table =
+            (record { edge = (Vertical (class_no 1)); block = 0; protocol = P1 }) ∷
+            [];
+      }) ∷
+      [];
+  rows = ([] ∷ []);
+  txns =
+      [];
+  events =
+      Up (dm_no 1) ∷
+      Down (dm_no 1) ∷
+      Down (dm_no 1) ∷
+      [];
+}
+
+abbrev pub log_of_down_twice : Log
+log_of_down_twice = extended 5 given_down_twice []
+
+pub history_of_down_twice :
+    history log_of_down_twice ≡
+    (1, Nothing) ∷
+    (3, Nothing) ∷
+    []
+history_of_down_twice = refl
+
+pub all_of_down_twice : (next given_down_twice log_of_down_twice ≡ None) × (length log_of_down_twice ≡ 5) × (marks log_of_down_twice ≡ 3)
+all_of_down_twice = (refl, refl, refl)
