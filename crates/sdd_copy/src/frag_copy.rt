@@ -1,4 +1,4 @@
-ghost use Rattle.std.specs.Prelude.{◌≡◌, [], ◌∷◌, ℕ, OnOk, OnErr, IfOk, IsTrue, map, fold, true, false};
+ghost use Rattle.std.specs.Prelude.{◌≡◌, [], ◌∷◌, ◌++◌, ℕ, OnOk, OnErr, IfOk, IsTrue, map, fold, true, false};
 ghost use Rattle.std.specs.Option.{option_copied};
 ghost use Rattle.sdd_base.specs.Order.{column, number_in};
 ghost use Rattle.sdd_base.specs.declared.number.FragNo.{FragNo};
@@ -64,6 +64,9 @@ impl FragCopy {
         ensures ok { OnOk result (
             self.new
             ≡ record { live = true; value = fold written self.old.value (dated ts.0 changes.now) }) }
+        ensures applied { OnOk result (
+            (xs : Dated) → self.old.value ≡ items_of xs
+            → self.new.value ≡ items_of (xs ++ dated ts.0 changes.now)) }
         ensures err { OnErr result (self.new.live ≡ false) }
     {
         self.live = false;
