@@ -5,6 +5,8 @@
 //! (`specs/Records.antt`), and all that the layers above the world promise is said of it.
 #![tactic(auto)]
 
+mod history;
 mod record;
 
+pub use history::History;
 pub use record::{Rec, Recs};

@@ -1,0 +1,37 @@
+-- What is decoded is spelled so, and what is spelled is decoded.
+use Rattle.std.proofs.Common.{◌≡◌, ℕ, ◌<◌, ◌^◌, List, length, Result, Ok, Err, ap, ◌∙◌, inl, inr, arith, subst}
+use Rattle.std.specs.Prelude.{All, IfOk}
+use Rattle.std.proofs.lemmas.Bool.{cases_lt}
+use Rattle.std.proofs.lemmas.List.{get_or_past}
+use Rattle.sdd_base.specs.Readings.{Gives}
+use Rattle.sdd_wire.specs.declared.fault.WireFault.{WireFault}
+use Rattle.sdd_wire.specs.declared.msg.Msg.{Msg}
+use Rattle.sdd_wire.specs.Spelling.{spelled}
+use Rattle.sdd_wire.specs.Fits.{Fits}
+use Rattle.sdd_wire.specs.Reading.{fault_in, message_in}
+use Rattle.sdd_wire.proofs.Laws.{AreBytes}
+use Rattle.sdd_wire.proofs.MessageLaws.{message_read_back, message_spelled_so}
+
+are_bytes : (bytes : List ℕ) → All (λ byte. byte < 2 ^ 8) bytes → AreBytes bytes
+are_bytes bytes h i =
+    elim (cases_lt i (length bytes)) [
+      | inl lt ↦ h i 0 lt
+      | inr le ↦ rw (get_or_past bytes i 0 le) (omega arith)
+    ]
+
+pub law_spelled_so : (bytes : List ℕ) (msg : Msg) → All (λ byte. byte < 2 ^ 8) bytes
+    → message_in bytes ≡ Ok msg → Fits msg × (bytes ≡ spelled msg)
+law_spelled_so bytes msg h e = message_spelled_so bytes msg (are_bytes bytes h) e
+
+pub decoded_so : (bytes : List ℕ) (result : Result Msg WireFault) → AreBytes bytes
+    → Gives fault_in (λ msg. msg) result (message_in bytes)
+    → IfOk result (λ msg. Fits msg × (bytes ≡ spelled msg))
+decoded_so bytes (Ok msg) fits given = message_spelled_so bytes msg fits given
+decoded_so bytes (Err fault) fits given = tt
+
+pub decoded_again : (bytes : List ℕ) (result : Result Msg WireFault) (msg : Msg)
+    → Gives fault_in (λ found. found) result (message_in bytes) → Fits msg → bytes ≡ spelled msg
+    → Gives fault_in (λ found. found) result (Ok msg)
+decoded_again bytes result msg given fits is =
+    let read : message_in bytes ≡ Ok msg = ap message_in is ∙ message_read_back msg fits in
+    subst (λ (r : Result Msg ℕ). Gives fault_in (λ found. found) result r) read given

@@ -1,0 +1,73 @@
+-- Items that a loop reads, one after the other.
+use Rattle.std.proofs.Common.{◌≡◌, ℕ, zero, suc, ◌+◌, ◌-◌, ◌<◌, ◌≤◌, List, [], ◌∷◌, ◌++◌, length, take, get_or, Result, Ok, Err}
+use Rattle.std.proofs.Common.{refl, sym, ap, ◌∙◌, append_assoc, add-one, arith}
+use Rattle.std.specs.List.{AllByRecursion, flat_map}
+use Rattle.std.proofs.lemmas.List.{append-nil, flat_map_more, take_more}
+use Rattle.sdd_base.specs.Readings.{Fails}
+use Rattle.sdd_wire.specs.Source.{Source, Reading, after, read_as, items_at}
+use Rattle.sdd_wire.specs.Reading.{fault_in}
+use Rattle.sdd_wire.specs.declared.fault.WireFault.{WireFault}
+use Rattle.sdd_wire.specs.declared.fault.WireFault.TheVariants.{Bad, NoMemory}
+
+-- what was read before, and what is still read
+abbrev pub with_front : {A : Type 0} → List A → Result (List A × Source) ℕ
+    → Result (List A × Source) ℕ
+with_front front reading = after reading (λ xs. read_as (front ++ xs))
+
+regroup : {A : Type 0} (front : List A) (x : A) (reading : Result (List A × Source) ℕ)
+    → with_front front (after reading (λ xs. read_as (x ∷ xs))) ≡ with_front (front ++ x ∷ []) reading
+regroup front x (Ok xs) = ap (λ ys. Ok (ys, xs.1)) (sym (append_assoc front (x ∷ []) xs.0))
+regroup front x (Err at) = refl
+
+-- What a loop has read, with what it still reads, is the total. One item more:
+pub goes_on : {A : Type 0} (item : Reading A) (front : List A) (count i : ℕ) (s t : Source) (x : A)
+    (total : Result (List A × Source) ℕ) → i < count → item s ≡ Ok (x, t)
+    → with_front front (items_at item (count - i) s) ≡ total
+    → with_front (front ++ x ∷ []) (items_at item (count - (i + 1)) t) ≡ total
+goes_on {A = A} item front count i s t x total lt h so_far =
+    let k : count - i ≡ suc (count - (i + 1)) = omega arith in
+    let more : Result (List A × Source) ℕ = items_at item (count - (i + 1)) t in
+    let one : with_front front (items_at item (count - i) s) ≡ with_front (front ++ x ∷ []) more =
+    rw (k, h) (regroup front x more) in
+    sym one ∙ so_far
+
+-- an item at which the reading breaks
+pub ends : {A : Type 0} (item : Reading A) (e : WireFault) (front : List A) (count i : ℕ) (s : Source)
+    (total : Result (List A × Source) ℕ) → i < count → Fails fault_in e (item s)
+    → with_front front (items_at item (count - i) s) ≡ total → Fails fault_in e total
+ends item NoMemory front count i s total lt h so_far = tt
+ends item (Bad broken) front count i s total lt h so_far =
+    let k : count - i ≡ suc (count - (i + 1)) = omega arith in
+    let one : with_front front (items_at item (count - i) s) ≡ Err broken = rw (k, h) refl in
+    sym so_far ∙ one
+
+-- no item is left
+pub is_done : {A : Type 0} (item : Reading A) (front : List A) (count i : ℕ) (s : Source)
+    (total : Result (List A × Source) ℕ) → count ≤ i
+    → with_front front (items_at item (count - i) s) ≡ total → total ≡ Ok (front, s)
+is_done item front count i s total past so_far =
+    let k : count - i ≡ 0 = omega arith in
+    let one : with_front front (items_at item (count - i) s) ≡ Ok (front, s) =
+    rw k (ap (λ xs. Ok (xs, s)) (append-nil front)) in
+    sym so_far ∙ one
+
+all_to : {A : Type 0} (P : A → Type 0) (xs : List A) (i : ℕ) (x : A) → i < length xs
+    → x ≡ get_or xs i x → AllByRecursion P (take i xs) → P x → AllByRecursion P (take (suc i) xs)
+all_to P [] i x lt is h hx = absurd (omega arith)
+all_to P (y ∷ xs) zero x lt is h hx = (rw (← is) hx, tt)
+all_to P (y ∷ xs) (suc i) x lt is h hx = (h.0, all_to P xs i x (omega arith) is h.1 hx)
+
+-- items of a kind, one more
+pub all_more : {A : Type 0} (P : A → Type 0) (xs : List A) (i : ℕ) (x : A) → i < length xs
+    → x ≡ get_or xs i x → AllByRecursion P (take i xs) → P x → AllByRecursion P (take (i + 1) xs)
+all_more P xs i x lt is h hx = rw add-one (all_to P xs i x lt is h hx)
+
+-- what was put, with one item more
+pub put_more : {A : Type 0} (f : A → List ℕ) (xs : List A) (i : ℕ) (x : A) (start was now : List ℕ)
+    → i < length xs → x ≡ get_or xs i x
+    → was ≡ start ++ flat_map f (take i xs) → now ≡ was ++ f x → now ≡ start ++ flat_map f (take (i + 1) xs)
+put_more f xs i x start was now lt is before put =
+    let one : take i xs ++ x ∷ [] ≡ take (i + 1) xs =
+    ap (λ y. take i xs ++ y ∷ []) is ∙ sym (take_more xs i x lt) in
+    put ∙ ap (λ (l : List ℕ). l ++ f x) before ∙ flat_map_more f start (take i xs) x
+    ∙ ap (λ ys. start ++ flat_map f ys) one

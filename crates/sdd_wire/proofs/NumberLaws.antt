@@ -1,0 +1,204 @@
+-- The laws of bytes and numbers.
+use Rattle.std.proofs.Common.{◌≡◌, ℕ, zero, suc, ◌+◌, ◌<◌, ◌≤◌, Bool, true, false, List, [], ◌∷◌, ◌++◌, length, take, drop, Some}
+use Rattle.std.proofs.Common.{Result, Ok, Err, refl, sym, ap, ◌∙◌, subst, arith, inl, inr}
+use Rattle.std.specs.Prelude.{nat_lt, if◌then◌else◌}
+use Rattle.std.specs.Int.{w32, w64, to_be_bytes, from_be_bytes, cast_signed, cast_unsigned}
+use Rattle.std.proofs.Math.Facts.{Fits-of_z, sfits_to_z}
+use Rattle.std.proofs.lemmas.Bool.{cases_lt, ltb-false, le-ltb}
+use Rattle.std.proofs.lemmas.Int.{to_z-of_z, of_z-to_z}
+use Rattle.std.proofs.lemmas.List.{take_at, drop_at, take-append-drop, length-append, length-take, get_or-drop, get_or-take, get_or_past}
+use Rattle.std.proofs.lemmas.Nat.{be_bytes_4, be_bytes_8, from_be_bytes-to_be_bytes_4, from_be_bytes-to_be_bytes_8}
+use Rattle.sdd_wire.specs.Source.{Source, place, Reading, piece_at, first_byte, byte_at, number_at, flag, flag_at}
+use Rattle.sdd_wire.specs.Spelling.{spelled_u32, spelled_u64, spelled_i64, spelled_class, spelled_rel, spelled_frag, spelled_txn, spelled_ts}
+use Rattle.sdd_wire.specs.Fits.{FitsU32, FitsU64, FitsI64, FitsClass, FitsRel, FitsFrag, FitsTxn, FitsTs}
+use Rattle.sdd_wire.specs.Reading.{i64_at, class_at, rel_at, frag_at, txn_at, ts_at}
+use Rattle.sdd_wire.proofs.Laws.{AreBytes, Took, ReadsBack, IsSpelled, Law, only_last, back_last, only_meant}
+
+-- pieces
+
+AreBytes-drop : (n : ℕ) (bytes : List ℕ) → AreBytes bytes → AreBytes (drop n bytes)
+AreBytes-drop n bytes h i = rw get_or-drop (h (n + i))
+
+AreBytes-take : (n : ℕ) (bytes : List ℕ) → AreBytes bytes → AreBytes (take n bytes)
+AreBytes-take n bytes h i =
+    elim (cases_lt i n) [
+      | inl lt ↦ rw (get_or-take n bytes i 0 lt) (h i)
+      | inr le ↦ rw (get_or_past (take n bytes) i 0 (omega (arith, length-take n bytes))) (omega arith)
+    ]
+
+pub record IsPiece (n : ℕ) (piece : List ℕ) : Type 0 where
+  pub long : length piece ≡ n
+  pub bytes : AreBytes piece
+
+pub piece_back : (n : ℕ) (text : List ℕ) → length text ≡ n → ReadsBack (piece_at n) text text
+piece_back n text len = record {
+  reads = λ whole rest.
+      let long : nat_lt (length (text ++ rest)) n ≡ false = le-ltb _ _ (omega (arith, length-append text rest)) in
+      rw (long, take_at text rest n len, drop_at text rest n len) refl;
+}
+
+took_piece : (n : ℕ) (s t : Source) (x : List ℕ) → AreBytes s.left → n ≤ length s.left
+    → take n s.left ≡ x → record s { left = drop n s.left } ≡ t
+    → Took (IsSpelled (IsPiece n) (λ y. y)) s x t
+took_piece n s t x fits long front rest =
+    let whole : s.left ≡ take n s.left ++ drop n s.left = sym (take-append-drop n s.left) in
+    record {
+      text = x;
+      takes = record {
+        parts = whole ∙ ap (λ (l : List ℕ). l ++ drop n s.left) front ∙ ap (λ (u : Source). x ++ u.left) rest;
+        bytes = rw (← rest) (AreBytes-drop n s.left fits);
+      };
+      holds = (
+        refl,
+        record {
+          long = rw (← front) (omega (arith, length-take n s.left));
+          bytes = rw (← front) (AreBytes-take n s.left fits);
+        },
+      );
+    }
+
+abbrev done : {A : Type 0} → A × Source → Result (A × Source) ℕ
+done x = Ok x
+
+done_is : {A : Type 0} (x y : A × Source) → done x ≡ done y → x ≡ y
+done_is x y e = cc
+
+piece_ok : (b : Bool) (at : ℕ) (x y : List ℕ × Source) → (if b then Err at else done x) ≡ Ok y
+    → (b ≡ false) × (x ≡ y)
+piece_ok true at x y e = absurd cc
+piece_ok false at x y e = (refl, done_is x y e)
+
+pub piece_law : (n : ℕ) → Law (IsPiece n) (λ x. x) (piece_at n)
+piece_law n = record {
+  back = λ text fits. piece_back n text fits.long;
+  only = record {
+    took = λ s t x fits e.
+        let split : List ℕ × Source = (take n s.left, record s { left = drop n s.left }) in
+        let read = piece_ok (nat_lt (length s.left) n) (place s) split (x, t) e in
+        took_piece n s t x fits (ltb-false _ _ read.0) (ap (λ p. p.0) read.1) (ap (λ p. p.1) read.1);
+  };
+}
+
+-- bytes
+
+pub record IsByte (n : ℕ) : Type 0 where
+  pub below : n < 256
+
+first_taken : (s t : Source) (x : ℕ) (bytes : List ℕ) → s.left ≡ bytes → AreBytes bytes
+    → first_byte s bytes ≡ Ok (x, t) → Took (IsSpelled IsByte (λ n. n ∷ [])) s x t
+first_taken s t x [] is fits e = absurd cc
+first_taken s t x (byte ∷ rest) is fits e =
+    let read = done_is (byte, record s { left = rest }) (x, t) e in
+    let byte_is : byte ≡ x = ap (λ p. p.0) read in
+    let rest_is : rest ≡ t.left = ap (λ p. p.1.left) read in
+    record {
+      text = x ∷ [];
+      takes = record {
+        parts = is ∙ ap (λ n. n ∷ rest) byte_is ∙ ap (λ (l : List ℕ). x ∷ l) rest_is;
+        bytes = rw (← rest_is) (λ i. fits (suc i));
+      };
+      holds = (refl, record { below = rw (← byte_is) (fits 0) });
+    }
+
+pub byte_law : Law IsByte (λ n. n ∷ []) byte_at
+byte_law = record {
+  back = λ n fits. record { reads = λ whole rest. refl };
+  only = record { took = λ s t x fits e. first_taken s t x s.left refl fits e };
+}
+
+-- flags
+
+abbrev pub flag_byte : Bool → List ℕ
+flag_byte false = 0 ∷ []
+flag_byte true = 1 ∷ []
+
+flag_is : (n : ℕ) (b : Bool) → flag n ≡ Some b → n ∷ [] ≡ flag_byte b
+flag_is zero true e = absurd cc
+flag_is zero false e = refl
+flag_is (suc zero) true e = refl
+flag_is (suc zero) false e = absurd cc
+flag_is (suc (suc n)) b e = absurd cc
+
+flag_back : (b : Bool) → ReadsBack flag_at (flag_byte b) b
+flag_back false = record { reads = λ whole rest. refl }
+flag_back true = record { reads = λ whole rest. refl }
+
+pub flag_law : Law (λ b. Unit {0}) flag_byte flag_at
+flag_law = record {
+  back = λ b fits. flag_back b;
+  only = only_meant flag byte_law (λ n b fits is. (flag_is n b is, tt));
+}
+
+-- numbers
+
+back_value : {A : Type 0} {reading : Reading A} {text : List ℕ} {x y : A} → ReadsBack reading text x
+    → x ≡ y → ReadsBack reading text y
+back_value {reading = reading} {text = text} h is = subst (λ z. ReadsBack reading text z) is h
+
+pub u32_law : Law FitsU32 spelled_u32 (number_at w32)
+unfolding number_at spelled_u32
+u32_law = record {
+  back = λ n fits.
+      back_value (back_last (from_be_bytes w32) (piece_back 4 (to_be_bytes w32 n) refl))
+      (from_be_bytes-to_be_bytes_4 n fits);
+  only = only_last (from_be_bytes w32) (piece_law 4) (λ bytes piece.
+      let b = piece.bytes in
+      (sym (be_bytes_4 bytes _ piece.long b refl), omega (arith, b 0, b 1, b 2, b 3)));
+}
+
+pub u64_law : Law FitsU64 spelled_u64 (number_at w64)
+unfolding number_at spelled_u64
+u64_law = record {
+  back = λ n fits.
+      back_value (back_last (from_be_bytes w64) (piece_back 8 (to_be_bytes w64 n) refl))
+      (from_be_bytes-to_be_bytes_8 n fits);
+  only = only_last (from_be_bytes w64) (piece_law 8) (λ bytes piece.
+      let b = piece.bytes in
+      let fits : FitsU64 (from_be_bytes w64 bytes) = omega (arith, b 0, b 1, b 2, b 3, b 4, b 5, b 6, b 7) in
+      (sym (be_bytes_8 bytes _ piece.long b refl), fits));
+}
+
+pub i64_law : Law FitsI64 spelled_i64 i64_at
+unfolding i64_at spelled_i64 spelled_u64
+i64_law = record {
+  back = λ z fits.
+      back_value (back_last (cast_signed w64) (u64_law.back (cast_unsigned w64 z) (Fits-of_z fits).fits))
+      (to_z-of_z w64 z fits);
+  only = only_last (cast_signed w64) u64_law (λ n fits.
+      (ap (to_be_bytes w64) (sym (of_z-to_z w64 n fits)), sfits_to_z (record { fits = fits })));
+}
+
+pub class_law : Law FitsClass spelled_class class_at
+unfolding class_at
+class_law = record {
+  back = λ x fits. back_last _ (u32_law.back x.0 fits);
+  only = only_last _ u32_law (λ n fits. (refl, fits));
+}
+
+pub rel_law : Law FitsRel spelled_rel rel_at
+unfolding rel_at
+rel_law = record {
+  back = λ x fits. back_last _ (u32_law.back x.0 fits);
+  only = only_last _ u32_law (λ n fits. (refl, fits));
+}
+
+pub frag_law : Law FitsFrag spelled_frag frag_at
+unfolding frag_at
+frag_law = record {
+  back = λ x fits. back_last _ (u32_law.back x.0 fits);
+  only = only_last _ u32_law (λ n fits. (refl, fits));
+}
+
+pub txn_law : Law FitsTxn spelled_txn txn_at
+unfolding txn_at
+txn_law = record {
+  back = λ x fits. back_last _ (u32_law.back x.0 fits);
+  only = only_last _ u32_law (λ n fits. (refl, fits));
+}
+
+pub ts_law : Law FitsTs spelled_ts ts_at
+unfolding ts_at
+ts_law = record {
+  back = λ x fits. back_last _ (u64_law.back x.0 fits);
+  only = only_last _ u64_law (λ n fits. (refl, fits));
+}

@@ -1,0 +1,206 @@
+-- The laws of lists, texts and values, and of the parts of messages that are made of them.
+use Rattle.std.proofs.Common.{◌≡◌, ℕ, zero, suc, ◌+◌, Bool, true, false, List, [], ◌∷◌, ◌++◌, length, Option, Some, None}
+use Rattle.std.proofs.Common.{refl, sym, ap, ◌∙◌, subst, arith, append_assoc}
+use Rattle.std.specs.Prelude.{slice_get}
+use Rattle.std.specs.List.{flat_map, AllByRecursion}
+use Rattle.sdd_base.specs.Text.{IsText}
+use Rattle.sdd_base.specs.declared.restriction.Op.{Op}
+use Rattle.sdd_base.specs.declared.restriction.Op.TheVariants.{Eq, Ne, Lt, Le, Gt, Ge}
+use Rattle.sdd_base.specs.declared.value.Value.{Value}
+use Rattle.sdd_base.specs.declared.value.Value.TheVariants.{Int, Text}
+use Rattle.sdd_wire.specs.Source.{Reading, numbered, items_at, list_at, pair_at}
+use Rattle.sdd_wire.specs.Source.{if_there, option_at}
+use Rattle.sdd_wire.specs.Spelling.{spelled_frag, spelled_u64, spelled_list}
+use Rattle.sdd_wire.specs.Spelling.{spelled_pair, spelled_option, spelled_text, spelled_value, spelled_row, spelled_op, spelled_restriction}
+use Rattle.sdd_wire.specs.Spelling.{spelled_use, spelled_cond, spelled_change}
+use Rattle.sdd_wire.specs.Fits.{FitsFrag, FitsU64, FitsList, FitsPair, FitsOption, FitsValue, FitsRow}
+use Rattle.sdd_wire.specs.Fits.{FitsOp, FitsRestriction, FitsUse, FitsCond, FitsChange}
+use Rattle.sdd_wire.specs.Reading.{frag_at, text_in, text_at, value_by, value_at, row_at, ops_by_byte, op_at, restriction_at, use_at, cond_at, change_at}
+use Rattle.sdd_wire.proofs.Laws.{OnlyReads, ReadsBack, IsSpelled, Law, only_next, only_last, only_weaker, only_meant, only_done, back_next, back_last}
+use Rattle.sdd_wire.proofs.Laws.{back_as, back_meant}
+use Rattle.sdd_wire.proofs.NumberLaws.{IsByte, piece_back, piece_law, byte_law, flag_byte, flag_law, u32_law, u64_law, i64_law, class_law}
+use Rattle.sdd_wire.proofs.NumberLaws.{rel_law, frag_law, ts_law}
+use Rattle.sdd_wire.proofs.Texts.{text_found, found_text}
+
+-- pairs, options and lists
+
+pub pair_law : {A B : Type 0} {fits : A → Type 0} {also : B → Type 0}
+    {spelling : A → List ℕ} {more : B → List ℕ} {first : Reading A} {second : Reading B}
+    → Law fits spelling first → Law also more second
+    → Law (FitsPair fits also) (spelled_pair spelling more) (pair_at first second)
+pair_law one two = record {
+  back = λ p fits. back_next _ (one.back p.0 fits.0) (back_last _ (two.back p.1 fits.1));
+  only = only_next one (λ a ha. only_last _ two (λ b hb. (refl, (ha, hb))));
+}
+
+option_back : {A : Type 0} {fits : A → Type 0} {spelling : A → List ℕ} {item : Reading A}
+    → Law fits spelling item → (o : Option A) → FitsOption fits o
+    → ReadsBack (option_at item) (spelled_option spelling o) o
+option_back law None fits = back_next _ (flag_law.back false tt) (record { reads = λ whole rest. refl })
+option_back law (Some x) fits = back_next _ (flag_law.back true tt) (back_last _ (law.back x fits))
+
+there_only : {A : Type 0} {fits : A → Type 0} {spelling : A → List ℕ} {item : Reading A}
+    → Law fits spelling item → (b : Bool)
+    → OnlyReads (λ o more. IsSpelled (FitsOption fits) (spelled_option spelling) o (flag_byte b ++ more))
+    (if_there item b)
+there_only law true = only_last _ law (λ x hx. (refl, hx))
+there_only law false = only_done None _ (refl, tt)
+
+pub option_law : {A : Type 0} {fits : A → Type 0} {spelling : A → List ℕ} {item : Reading A}
+    → Law fits spelling item → Law (FitsOption fits) (spelled_option spelling) (option_at item)
+option_law law = record { back = option_back law; only = only_next flag_law (λ b hb. there_only law b) }
+
+abbrev FitsItems : {A : Type 0} → (A → Type 0) → ℕ → List A → Type 0
+FitsItems fits n xs = (length xs ≡ n) × AllByRecursion fits xs
+
+items_back : {A : Type 0} {fits : A → Type 0} {spelling : A → List ℕ} {item : Reading A}
+    → Law fits spelling item → (n : ℕ) (xs : List A) → length xs ≡ n → AllByRecursion fits xs
+    → ReadsBack (items_at item n) (flat_map spelling xs) xs
+items_back law zero [] len fits = record { reads = λ whole rest. refl }
+items_back law zero (x ∷ xs) len fits = absurd (omega arith)
+items_back law (suc n) [] len fits = absurd (omega arith)
+items_back law (suc n) (x ∷ xs) len fits =
+    back_next _ (law.back x fits.0) (back_last _ (items_back law n xs (omega arith) fits.1))
+
+items_law : {A : Type 0} {fits : A → Type 0} {spelling : A → List ℕ} {item : Reading A}
+    → Law fits spelling item → (n : ℕ)
+    → Law (FitsItems fits n) (flat_map spelling) (items_at item n)
+items_law law zero = record {
+  back = λ xs fits. items_back law zero xs fits.0 fits.1;
+  only = only_done [] _ (refl, (refl, tt));
+}
+items_law law (suc n) = record {
+  back = λ xs fits. items_back law (suc n) xs fits.0 fits.1;
+  only = only_next law (λ x hx. only_last _ (items_law law n) (λ xs h. (refl, (ap suc h.0, (hx, h.1)))));
+}
+
+pub list_law : {A : Type 0} {fits : A → Type 0} {spelling : A → List ℕ} {item : Reading A}
+    → Law fits spelling item → Law (FitsList fits) (spelled_list spelling) (list_at item)
+list_law {fits = fits} {spelling = spelling} law = record {
+  back = λ xs h. back_next _ (u64_law.back (length xs) h.0) (items_back law (length xs) xs refl h.1);
+  only = only_next u64_law (λ n hn. only_weaker _ (items_law law n).only (λ xs text h.
+      let items = ap (λ (l : List ℕ). spelled_u64 n ++ l) h.0 in
+      let count : n ≡ length xs = sym h.1.0 in
+      (items ∙ ap (λ k. spelled_u64 k ++ flat_map spelling xs) count, (subst FitsU64 count hn, h.1.1))));
+}
+
+-- texts, values and operators
+
+pub text_law : Law IsText spelled_text text_at
+unfolding text_at
+text_law = record {
+  back = λ text fits.
+      let size : IsByte (length text) = record { below = omega (arith, fits.short) } in
+      back_next _ (byte_law.back (length text) size)
+      (back_meant text_in (piece_back (length text) text refl) (text_found text fits));
+  only = only_next byte_law (λ size hs. only_meant text_in (piece_law size) (λ bytes text piece is.
+      let found = found_text bytes text is in
+      (ap (λ n. n ∷ bytes) (sym piece.long) ∙ ap spelled_text found.0, found.1)));
+}
+
+value_back : (v : Value) → FitsValue v → ReadsBack value_at (spelled_value v) v
+unfolding value_at
+value_back (Int z) fits = back_next _ (flag_law.back false tt) (back_last _ (i64_law.back z fits))
+value_back (Text text) fits = back_next _ (flag_law.back true tt) (back_last _ (text_law.back text fits))
+
+value_only : (b : Bool)
+    → OnlyReads (λ v more. IsSpelled FitsValue spelled_value v (flag_byte b ++ more)) (value_by b)
+value_only false = only_last _ i64_law (λ z h. (refl, h))
+value_only true = only_last _ text_law (λ text h. (refl, h))
+
+pub value_law : Law FitsValue spelled_value value_at
+unfolding value_at
+value_law = record { back = value_back; only = only_next flag_law (λ b hb. value_only b) }
+
+pub row_law : Law FitsRow spelled_row row_at
+row_law = list_law value_law
+
+-- what holds of each member of a list with its number, counted on from that of the first
+abbrev pub AllNumbered : {A : Type 0} → (ℕ → A → Type 0) → ℕ → List A → Type 0
+AllNumbered P n [] = Unit {0}
+AllNumbered P n (x ∷ xs) = P n x × AllNumbered P (suc n) xs
+
+at_number : {A : Type 0} (P : ℕ → A → Type 0) (first : ℕ) (xs : List A) (k : ℕ) (x : A)
+    → AllNumbered P first xs → slice_get xs k ≡ Some x → P (k + first) x
+at_number P first [] k x all is = absurd cc
+at_number P first (y ∷ xs) zero x all is =
+    let same : y ≡ x = cc in rw (← same) (subst (λ k. P k y) (omega arith) all.0)
+at_number P first (y ∷ xs) (suc k) x all is =
+    subst (λ n. P n x) (omega arith) (at_number P (suc first) xs k x all.1 is)
+
+pub numbered_so : {A : Type 0} (P : ℕ → A → Type 0) (xs : List A) (n : ℕ) (x : A)
+    → AllNumbered P 1 xs → numbered xs n ≡ Some x → P n x
+numbered_so P xs zero x all is = absurd cc
+numbered_so P xs (suc n) x all is = subst (λ k. P k x) (omega arith) (at_number P 1 xs n x all is)
+
+op_back : (op : Op) → FitsOp op → ReadsBack op_at (spelled_op op) op
+unfolding op_at
+op_back Eq fits = back_meant _ (byte_law.back 1 (record { below = omega arith })) refl
+op_back Ne fits = back_meant _ (byte_law.back 2 (record { below = omega arith })) refl
+op_back Lt fits = back_meant _ (byte_law.back 3 (record { below = omega arith })) refl
+op_back Le fits = back_meant _ (byte_law.back 4 (record { below = omega arith })) refl
+op_back Gt fits = back_meant _ (byte_law.back 5 (record { below = omega arith })) refl
+op_back Ge fits = back_meant _ (byte_law.back 6 (record { below = omega arith })) refl
+
+pub op_law : Law FitsOp spelled_op op_at
+unfolding op_at
+op_law = record {
+  back = op_back;
+  only = only_meant _ byte_law (λ n op fits is.
+      let each : AllNumbered (λ n op. n ∷ [] ≡ spelled_op op) 1 ops_by_byte =
+      (refl, (refl, (refl, (refl, (refl, (refl, tt)))))) in
+      (numbered_so (λ n op. n ∷ [] ≡ spelled_op op) ops_by_byte n op each is, tt));
+}
+
+-- restrictions, uses, conditions and changes
+
+pub restriction_law : Law FitsRestriction spelled_restriction restriction_at
+unfolding restriction_at
+restriction_law = record {
+  back = λ r fits.
+      back_as (back_next _ (u32_law.back r.column fits.0) (back_next _ (op_law.back r.op tt) (
+      back_last _ (value_law.back r.value fits.1)))) (simp append_assoc);
+  only =
+      only_next u32_law (λ column h1. only_next op_law (λ op h2.
+      only_last _ value_law (λ value h3. (simp append_assoc, (h1, h3)))));
+}
+
+frags_law : Law (FitsList FitsFrag) (spelled_list spelled_frag) (list_at frag_at)
+frags_law = list_law frag_law
+
+restrictions_law : Law (FitsList FitsRestriction) (spelled_list spelled_restriction) (list_at restriction_at)
+restrictions_law = list_law restriction_law
+
+pub use_law : Law FitsUse spelled_use use_at
+unfolding use_at
+use_law = record {
+  back = λ u fits.
+      back_as (back_next _ (u32_law.back u.number fits.0) (back_next _ (rel_law.back u.rel fits.1) (
+      back_next _ (frags_law.back u.frags fits.2) (
+      back_last _ (restrictions_law.back u.restrictions fits.3))))) (simp append_assoc);
+  only =
+      only_next u32_law (λ number h1. only_next rel_law (λ rel h2. only_next frags_law (λ frags h3.
+      only_last _ restrictions_law (λ restrictions h4. (simp append_assoc, (h1, h2, h3, h4))))));
+}
+
+pub cond_law : Law FitsCond spelled_cond cond_at
+unfolding cond_at
+cond_law = record {
+  back = λ c fits.
+      back_as (back_next _ (class_law.back c.class fits.0) (back_next _ (ts_law.back c.time fits.1) (
+      back_last _ (frags_law.back c.frags fits.2)))) (simp append_assoc);
+  only =
+      only_next class_law (λ class h1. only_next ts_law (λ time h2.
+      only_last _ frags_law (λ frags h3. (simp append_assoc, (h1, h2, h3)))));
+}
+
+pub change_law : Law FitsChange spelled_change change_at
+unfolding change_at
+change_law = record {
+  back = λ c fits.
+      back_as (back_next _ (frag_law.back c.frag fits.0) (back_next _ (i64_law.back c.key fits.1) (
+      back_last _ ((option_law row_law).back c.row fits.2)))) (simp append_assoc);
+  only =
+      only_next frag_law (λ frag h1. only_next i64_law (λ key h2.
+      only_last _ (option_law row_law) (λ row h3. (simp append_assoc, (h1, h2, h3)))));
+}

@@ -1,0 +1,67 @@
+-- Bytes that are the text of a column, and others.
+use Rattle.std.proofs.Common.{Bool, subst, ◌≡◌, ℕ, List, length, true, false, not, Some, None, refl, ◌∙◌}
+use Rattle.std.specs.Prelude.{Contains, ◌==◌, ◌&&◌, nat_le, if◌then◌else◌}
+use Rattle.std.specs.Str.{IsUtf8, is_utf8}
+use Rattle.std.proofs.lemmas.Bool.{leb-true, le-leb, eqb-true, eq-eqb, not-true, not_from_false, and_parts, and_from, both_ways, false_from_ne_true}
+use Rattle.std.proofs.lemmas.List.{get_or_default}
+use Rattle.std.proofs.lemmas.List.Folds.{Any-from_list_any, list_any_at}
+use Rattle.std.proofs.lemmas.Str.{IsUtf8-from_is_utf8, is_utf8-from_IsUtf8}
+use Rattle.sdd_base.specs.Text.{IsText}
+use Rattle.sdd_base.specs.Words.{contains}
+use Rattle.sdd_base.specs.declared.limits.TheConstants.{MAX_TEXT_BYTES}
+use Rattle.sdd_wire.specs.Reading.{is_text, text_in}
+
+contains-true : (ns : List ℕ) (n : ℕ) → contains ns n ≡ true → Contains ns n
+contains-true ns n h =
+    let found = Any-from_list_any (λ x. x == n) ns h in
+    (found.0, found.2, get_or_default ns found.0 n found.1 found.2 ∙ found.3 ∙ eqb-true found.1 n found.4)
+
+Contains-true : (ns : List ℕ) (n : ℕ) → Contains ns n → contains ns n ≡ true
+Contains-true ns n h = list_any_at (λ x. x == n) ns h.0 n h.1 (eq-eqb _ _ h.2)
+
+abbrev is_short : List ℕ → Bool
+is_short bytes = nat_le (length bytes) MAX_TEXT_BYTES
+
+abbrev is_line : List ℕ → Bool
+is_line bytes = not (contains bytes 10)
+
+pub is_text-true : (bytes : List ℕ) → is_text bytes ≡ true → IsText bytes
+is_text-true bytes h =
+    let outer = and_parts (is_short bytes && is_line bytes) (is_utf8 bytes) h in
+    let inner = and_parts (is_short bytes) (is_line bytes) outer.0 in
+    let no_newline : contains bytes 10 ≡ false = not-true (contains bytes 10) inner.1 in
+    record {
+      short = leb-true _ _ inner.0;
+      on_a_line = λ there. both_ways (contains bytes 10) no_newline (Contains-true bytes 10 there);
+      utf8 = IsUtf8-from_is_utf8 bytes outer.1;
+    }
+
+pub IsText-true : (bytes : List ℕ) → IsText bytes → is_text bytes ≡ true
+IsText-true bytes t =
+    let no_newline : contains bytes 10 ≡ false =
+    false_from_ne_true (contains bytes 10) (λ e. t.on_a_line (contains-true bytes 10 e)) in
+    let line : is_line bytes ≡ true = not_from_false (contains bytes 10) no_newline in
+    let inner = and_from (is_short bytes) (is_line bytes) (le-leb _ _ t.short) line in
+    and_from (is_short bytes && is_line bytes) (is_utf8 bytes) inner (is_utf8-from_IsUtf8 bytes t.utf8)
+
+-- a text is found
+pub text_found : (bytes : List ℕ) → IsText bytes → text_in bytes ≡ Some bytes
+text_found bytes t = rw (IsText-true bytes t) refl
+
+-- none is found in other bytes
+pub no_text : (bytes : List ℕ) → (IsText bytes → ⊥) → text_in bytes ≡ None
+no_text bytes other = rw (false_from_ne_true (is_text bytes) (λ e. other (is_text-true bytes e))) refl
+
+pub no_utf8 : (bytes : List ℕ) → (IsUtf8 bytes → ⊥) → text_in bytes ≡ None
+no_utf8 bytes other = no_text bytes (λ t. other t.utf8)
+
+found : (b : Bool) (bytes text : List ℕ)
+    → (if b then Some bytes else None) ≡ Some text → (b ≡ true) × (bytes ≡ text)
+found true bytes text e = (refl, cc)
+found false bytes text e = absurd cc
+
+-- what is found is the bytes, and a text
+pub found_text : (bytes text : List ℕ) → text_in bytes ≡ Some text → (bytes ≡ text) × IsText text
+found_text bytes text h =
+    let both = found (is_text bytes) bytes text h in
+    (both.1, subst IsText both.1 (is_text-true bytes both.0))
