@@ -1,3 +1,5 @@
 pub mod Contents
 pub mod Initial
 pub mod Order
+pub mod Ranges
+pub mod Standing

@@ -25,7 +25,7 @@ abbrev NoneOf : ℤ → Dated → Type 0
 NoneOf key xs = (y : ℕ × Change) → Contains xs y → y.1.key ≡ key → ⊥
 
 -- what latest answers
-abbrev Answers : ℤ → Dated → Option (ℕ × Change) → Type 0
+abbrev pub Answers : ℤ → Dated → Option (ℕ × Change) → Type 0
 Answers key xs None = NoneOf key xs
 Answers key xs (Some x) = IsLatest key xs x
 
@@ -93,7 +93,7 @@ front : (key : ℤ) (x : ℕ × Change) (xs : Dated) (b : Bool) → is_eq (int_c
 front key x xs true e h = own_front key x xs (latest key xs) (same_key x.1.key key (eq_is (int_cmp x.1.key key) e)) h
 front key x xs false e h = other_front key x xs (latest key xs) (λ own. let t = own_key x.1.key key own in absurd cc) h
 
-latest_answers : (key : ℤ) (xs : Dated) → Answers key xs (latest key xs)
+pub latest_answers : (key : ℤ) (xs : Dated) → Answers key xs (latest key xs)
 latest_answers key [] = λ y in_it own. Contains-nil y in_it
 latest_answers key (x ∷ xs) = front key x xs (is_eq (int_cmp x.1.key key)) refl (latest_answers key xs)
 
@@ -203,8 +203,11 @@ in_part f (x ∷ xs) y h e = elim (Contains-cases x xs y h) as (λ s. Contains (
 one_number : (a b f : ℕ) → (a == f) ≡ true → (b == f) ≡ true → a ≡ b
 one_number a b f e g = grind (arith, nat_tests)
 
-pub order_tells_nothing : (f : ℕ) (xs ys : Dated) → DatesDiffer xs → AreSame xs ys → contents f xs ≡ contents f ys
-order_tells_nothing f xs ys d s =
+pub same_items_left : (f : ℕ) (xs ys : Dated) → DatesDiffer xs → AreSame xs ys → items_of (of_fragment f xs) ≡ items_of (of_fragment f ys)
+same_items_left f xs ys d s =
     let own : Differ (of_fragment f xs) = λ x y a b. d x y (of_part f xs x a).0 (of_part f xs y b).0 (one_number x.1.frag.0 y.1.frag.0 f (of_part f xs x a).1 (of_part f xs y b).1) in
     let same : AreSame (of_fragment f xs) (of_fragment f ys) = λ x. (λ a. in_part f ys x ((s x).0 (of_part f xs x a).0) (of_part f xs x a).1, λ a. in_part f xs x ((s x).1 (of_part f ys x a).0) (of_part f ys x a).1) in
-    sym (items_tell f xs) ∙ ap entries_in (items_same (of_fragment f xs) (of_fragment f ys) own same) ∙ items_tell f ys
+    items_same (of_fragment f xs) (of_fragment f ys) own same
+
+pub order_tells_nothing : (f : ℕ) (xs ys : Dated) → DatesDiffer xs → AreSame xs ys → contents f xs ≡ contents f ys
+order_tells_nothing f xs ys d s = sym (items_tell f xs) ∙ ap entries_in (same_items_left f xs ys d s) ∙ items_tell f ys

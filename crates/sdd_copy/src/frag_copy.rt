@@ -1,20 +1,20 @@
-ghost use Rattle.std.specs.Prelude.{◌≡◌, [], ◌∷◌, ◌++◌, ℕ, OnOk, OnErr, IfOk, IsTrue, map, fold, true, false};
-ghost use Rattle.std.specs.Option.{option_copied};
-ghost use Rattle.sdd_base.specs.Order.{column, number_in};
+ghost use Rattle.std.specs.Prelude.{◌≡◌, [], ◌∷◌, ◌++◌, OnOk, OnErr, IfOk, IsTrue, map, fold, true, false};
 ghost use Rattle.sdd_base.specs.declared.number.FragNo.{FragNo};
 ghost use Rattle.sdd_copy.specs.Contents.{Dated, rows_left};
-ghost use Rattle.sdd_copy.specs.Items.{written, items_of, dated, initial, rows_in, is_newer};
+ghost use Rattle.sdd_copy.specs.Items.{written, items_of, dated, initial, rows_in};
+ghost use Rattle.sdd_copy.specs.Keyed.{rows_meeting};
 
-use sdd_base::{Change, NoMemory, Parcel, Row, Ts, Value};
+use crate::kept_items::KeptItems;
+use crate::near::meets_all;
+use sdd_base::{Change, NoMemory, Parcel, Restriction, Row, Ts};
 use std::alloc::Global;
-use std::collections::BTreeMap;
 use std::marker::Model;
 
 /// A fragment's items at one module: by key the date of the last change that was applied, and its
 /// row, which is absent where it was a deletion. So a deletion stays, and outdoes what is older.
 #[derive(Drop)]
 pub struct FragCopy {
-    items: BTreeMap<i64, (u64, Option<Row>)>,
+    items: KeptItems,
     live: bool,
     alloc: Global,
 }
@@ -25,7 +25,7 @@ impl Model for FragCopy {
 
     ghost Value = { Kept Items };
 
-    ghost view = { λ c. record { live = c.live; value = c.items.entries } };
+    ghost view = { λ c. record { live = c.live; value = c.items } };
 }
 
 impl FragCopy {
@@ -37,9 +37,9 @@ impl FragCopy {
         ensures { IfOk result (λ copy. (f : FragNo) →
             copy ≡ record { live = true; value = items_of (initial f key rows.now) }) }
     {
-        let mut items: BTreeMap<i64, (u64, Option<Row>)> = BTreeMap::new(alloc);
+        let mut items = KeptItems::new(alloc, key);
         for row in rows.iter().rev() {
-            add_initial(&mut items, row, key)?;
+            items.add_initial(row, key)?;
         }
         Ok(FragCopy {
             items,
@@ -53,6 +53,22 @@ impl FragCopy {
         ensures { result ≡ self.now.live }
     {
         self.live
+    }
+
+    /// Applies a change of the transaction with timestamp `ts`, where no change of its item with
+    /// that date or a greater one was applied before.
+    ///
+    /// O(log n) for n items; the row is moved.
+    pub fn write(&mut self, ts: Ts, change: Change) -> Result<(), NoMemory>
+        requires { IsTrue self.old.live }
+        ensures ok { OnOk result (
+            self.new ≡ record { live = true; value = written self.old.value (ts.0, change) }) }
+        ensures err { OnErr result (self.new.live ≡ false) }
+    {
+        self.live = false;
+        self.items.write(ts, change)?;
+        self.live = true;
+        Ok(())
     }
 
     /// Applies the changes of the transaction with timestamp `ts`, each where no change of its item
@@ -71,7 +87,7 @@ impl FragCopy {
     {
         self.live = false;
         for change in changes {
-            write_item(&mut self.items, ts, change.copy()?)?;
+            self.items.write(ts, change.copy()?)?;
         }
         self.live = true;
         Ok(())
@@ -89,19 +105,25 @@ impl FragCopy {
         kept_rows(self.alloc, &self.items)
     }
 
-    /// The items, lent: by key the date, and the row or None where it is deleted. Takes no memory.
-    pub fn items(&self) -> &BTreeMap<i64, (u64, Option<Row>)>
-        ensures { result.now.entries ≡ self.now.value }
+    /// The rows that aren't deleted and meet the restrictions, with their keys, ascending by key. A
+    /// column that a row doesn't have counts as the number 0.
+    ///
+    /// Looks at the items whose keys the restrictions on the key column allow, so at one where they
+    /// name one key, found in O(log n) for n items; at all where they allow all. Copies the rows
+    /// that it gives.
+    pub fn meeting(&self, restrictions: &[Restriction]) -> Result<Vec<(i64, Row)>, NoMemory>
+        requires { IsTrue self.now.live }
+        ensures { IfOk result (λ rows. rows.items ≡ rows_meeting restrictions.now self.now.value) }
     {
-        &self.items
+        met_rows(self.alloc, &self.items, restrictions)
     }
 }
 
-fn kept_rows(alloc: Global, items: &BTreeMap<i64, (u64, Option<Row>)>) -> Result<Vec<Row>, NoMemory>
-    ensures { IfOk result (λ rows. rows.items ≡ rows_in items.now.entries) }
+fn kept_rows(alloc: Global, items: &KeptItems) -> Result<Vec<Row>, NoMemory>
+    ensures { IfOk result (λ rows. rows.items ≡ rows_in items.now) }
 {
     let mut rows = Vec::new(alloc);
-    for (_, item) in items.iter() {
+    for (_, item) in items.entries().iter() {
         if let Some(row) = &item.1 {
             rows.push(row.copy()?)?;
         }
@@ -109,51 +131,36 @@ fn kept_rows(alloc: Global, items: &BTreeMap<i64, (u64, Option<Row>)>) -> Result
     Ok(rows)
 }
 
-/// Adds a row with the date 0, where none with its key is there.
-fn add_initial(
-    items: &mut BTreeMap<i64, (u64, Option<Row>)>,
-    row: &Row,
-    key: u32,
+fn met_rows(
+    alloc: Global,
+    items: &KeptItems,
+    restrictions: &[Restriction],
+) -> Result<Vec<(i64, Row)>, NoMemory>
+    ensures { IfOk result (λ rows. rows.items ≡ rows_meeting restrictions.now items.now) }
+{
+    let mut rows = Vec::new(alloc);
+    for (key, item) in items.near(restrictions) {
+        add_met(&mut rows, restrictions, key, item)?;
+    }
+    Ok(rows)
+}
+
+/// Adds the row of an item, where it isn't deleted and meets the restrictions.
+fn add_met(
+    rows: &mut Vec<(i64, Row)>,
+    restrictions: &[Restriction],
+    key: &i64,
+    item: &(u64, Option<Row>),
 ) -> Result<(), NoMemory>
-    ensures { OnOk result ((f : FragNo) →
-        items.new.entries ≡ fold written items.old.entries (initial f key (row.now ∷ []))) }
+    ensures { OnOk result (
+        rows.new.items ≡ rows.old.items ++ rows_meeting restrictions.now ((key.now, item.now) ∷ [])) }
 {
-    let at = key_in(row, key);
-    if is_newer(0, items.get(&at)) {
-        items.insert(at, (0, Some(row.copy()?)))?;
+    let Some(row) = &item.1 else {
+        return Ok(());
+    };
+    if !meets_all(row, restrictions) {
+        return Ok(());
     }
+    rows.push((*key, row.copy()?))?;
     Ok(())
-}
-
-/// The number in a column, 0 where there is none.
-fn key_in(row: &Row, key: u32) -> i64
-    ensures { result ≡ number_in (column row.now key) }
-{
-    match row.as_slice().get(key.saturating_sub(1) as usize) {
-        Some(Value::Int(n)) => *n,
-        _ => 0,
-    }
-}
-
-/// The write rule.
-fn write_item(
-    items: &mut BTreeMap<i64, (u64, Option<Row>)>,
-    ts: Ts,
-    change: Change,
-) -> Result<(), NoMemory>
-    ensures { OnOk result (items.new.entries ≡ written items.old.entries (ts.0, change)) }
-{
-    if is_newer(ts.0, items.get(&change.key)) {
-        items.insert(change.key, (ts.0, change.row))?;
-    }
-    Ok(())
-}
-
-fn is_newer(ts: u64, item: Option<&(u64, Option<Row>)>) -> bool
-    ensures { result ≡ is_newer ts (option_copied item.entry) }
-{
-    match item {
-        None => true,
-        Some(item) => item.0 < ts,
-    }
 }

@@ -1,5 +1,12 @@
-//! The rows that a data module holds frozen for an attempt.
+//! The rows that a data module holds frozen for the uses of an attempt.
 //!
-//! The one contract to the layer above: they are taken from the copies at the attempt's Answer,
-//! lessened by each reduction, and told as counts, values or rows as `specs/Frozen.antt` defines.
+//! The one contract to the layer above: what is frozen are the rows of the copies that meet the
+//! restrictions of each use (`specs/Frozen.antt`), and they are counted, listed by their values,
+//! reduced and shipped as defined there.
 #![tactic(auto)]
+
+mod freezing;
+mod reducing;
+mod space;
+
+pub use space::Space;

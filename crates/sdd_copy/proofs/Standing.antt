@@ -1,0 +1,204 @@
+-- Copies stand for the changes that were applied to them.
+use Rattle.std.proofs.Common.{ℕ, zero, suc, ◌≤◌, ◌==◌, length, arith, Bool, true, false, cond, List, [], ◌∷◌, ◌++◌, map, ◌≡◌, refl, ap, ◌∙◌, sym, subst, append-nil, append_assoc, Option, Some, None}
+use Rattle.std.specs.Prelude.{slice_index_or, slice_set, is_some}
+use Rattle.std.specs.List.{All, AllByRecursion, fold}
+use Rattle.std.specs.Option.{option_map}
+use Rattle.std.proofs.lemmas.Bool.{eqb-true, eq-eqb}
+use Rattle.std.proofs.lemmas.List.{length-map}
+use Rattle.std.proofs.lemmas.List.Sums.{fold-append}
+use Rattle.std.proofs.lemmas.List.Elements.{All-from_recursion, filter-append}
+use Rattle.sdd_base.specs.Kept.{Kept}
+use Rattle.sdd_base.specs.declared.change.Change.{Change}
+use Rattle.sdd_copy.specs.Contents.{Dated, of_fragment}
+use Rattle.sdd_copy.specs.Copies.{Held, is_here, or_none, items_at, changed_at, with_change, held_in, IsLive, StandFor}
+use Rattle.sdd_copy.specs.Items.{Items, written, items_of}
+use Rattle.sdd_copy.specs.Sets.{DatesDiffer, AreSame}
+use Rattle.sdd_copy.proofs.Order.{same_items_left}
+
+-- copies without items
+
+abbrev no_items : ℕ → Items
+no_items key = []
+
+abbrev without_items : List (Option ℕ) → Held
+without_items keys = map (option_map no_items) keys
+
+none_in : (key : Option ℕ) → or_none (option_map no_items key) ≡ []
+none_in None = refl
+none_in (Some k) = refl
+
+none_at : (keys : List (Option ℕ)) (f : ℕ) → items_at (without_items keys) f ≡ []
+none_at [] f = refl
+none_at (key ∷ keys) zero = none_in key
+none_at (key ∷ keys) (suc f) = none_at keys f
+
+stand_empty : (keys : List (Option ℕ)) → StandFor (without_items keys) []
+stand_empty keys f here = none_at keys f
+
+here_in : (key : Option ℕ) → is_some (option_map no_items key) ≡ is_some key
+here_in None = refl
+here_in (Some k) = refl
+
+here_empty : (keys : List (Option ℕ)) (f : ℕ) → is_here (without_items keys) f ≡ is_some (slice_index_or keys f None)
+here_empty [] f = refl
+here_empty (key ∷ keys) zero = here_in key
+here_empty (key ∷ keys) (suc f) = here_empty keys f
+
+-- in memory
+
+abbrev pub made : Option ℕ → Option (Kept Items)
+made key = option_map (λ k. record { live = true; value = [] }) key
+
+live_in : (key : Option ℕ) → IsLive (made key)
+live_in None = tt
+live_in (Some k) = refl
+
+live_each : (keys : List (Option ℕ)) → AllByRecursion IsLive (map made keys)
+live_each [] = tt
+live_each (key ∷ keys) = (live_in key, live_each keys)
+
+pub live_made : (keys : List (Option ℕ)) → All IsLive (map made keys)
+live_made keys = All-from_recursion IsLive (map made keys) (live_each keys)
+
+made_in : (key : Option ℕ) → option_map (λ k. k.value) (made key) ≡ option_map no_items key
+made_in None = refl
+made_in (Some k) = refl
+
+held_made : (keys : List (Option ℕ)) → held_in (map made keys) ≡ map (option_map (λ key. [])) keys
+held_made [] = refl
+held_made (key ∷ keys) = rw (made_in key, held_made keys) refl
+
+abbrev live_with : Held → Kept Held
+live_with copies = record { live = true; value = copies }
+
+pub made_whole : (copies : List (Option (Kept Items))) (keys : List (Option ℕ)) → copies ≡ map made keys
+    → live_with (held_in copies) ≡ live_with (map (option_map (λ key. [])) keys)
+made_whole copies keys whole = ap live_with (ap held_in whole ∙ held_made keys)
+
+pub stand_made : (copies : List (Option (Kept Items))) (keys : List (Option ℕ)) → copies ≡ map made keys
+    → StandFor (held_in copies) []
+stand_made copies keys whole = subst (λ held. StandFor held []) (sym (ap held_in whole ∙ held_made keys)) (stand_empty keys)
+
+pub here_made : (copies : List (Option (Kept Items))) (keys : List (Option ℕ)) → copies ≡ map made keys
+    → (f : ℕ) → is_here (held_in copies) f ≡ is_some (slice_index_or keys f None)
+here_made copies keys whole f = ap (λ held. is_here held f) (ap held_in whole ∙ held_made keys) ∙ here_empty keys f
+
+-- the item at a place is changed
+
+pub changed_past : {A : Type 0} (place : ℕ) (change : A → A) (xs : List A) → length xs ≤ place → changed_at place change xs ≡ xs
+changed_past place change [] past = refl
+changed_past zero change (x ∷ xs) past = absurd (omega arith)
+changed_past (suc place) change (x ∷ xs) past = ap (λ l. x ∷ l) (changed_past place change xs (omega arith))
+
+-- an item is put of which a map shows the changed one
+pub map_changed : {A B : Type 0} (show : A → B) (change : B → B) (xs : List A) (place : ℕ) (x y : A)
+    → x ≡ slice_index_or xs place x → show y ≡ change (show x)
+    → map show (slice_set xs place y) ≡ changed_at place change (map show xs)
+map_changed show change [] place x y at put = refl
+map_changed show change (z ∷ xs) zero x y at put = let same : x ≡ z = at in rw (put, same) refl
+map_changed show change (z ∷ xs) (suc place) x y at put = ap (λ l. show z ∷ l) (map_changed show change xs place x y at put)
+
+pub held_past : (copies : List (Option (Kept Items))) (x : ℕ × Change) → length copies ≤ x.1.frag.0
+    → held_in copies ≡ with_change (held_in copies) x
+held_past copies x past =
+    let same : length (held_in copies) ≡ length copies = length-map _ _ in
+    sym (changed_past x.1.frag.0 (option_map (λ items. written items x)) (held_in copies) (omega (arith, same, past)))
+
+-- the copy of one fragment is changed
+
+item_at : (h : Items → Items) (copies : Held) (f : ℕ)
+    → slice_index_or (changed_at f (option_map h) copies) f None ≡ option_map h (slice_index_or copies f None)
+item_at h [] f = refl
+item_at h (c ∷ copies) zero = refl
+item_at h (c ∷ copies) (suc f) = item_at h copies f
+
+item_apart : (h : Items → Items) (copies : Held) (place f : ℕ) → (place ≡ f → ⊥)
+    → slice_index_or (changed_at place (option_map h) copies) f None ≡ slice_index_or copies f None
+item_apart h [] place f other = refl
+item_apart h (c ∷ copies) zero zero other = absurd (other refl)
+item_apart h (c ∷ copies) zero (suc f) other = refl
+item_apart h (c ∷ copies) (suc place) zero other = refl
+item_apart h (c ∷ copies) (suc place) (suc f) other = item_apart h copies place f (λ e. other (ap suc e))
+
+not_equal : (a b : ℕ) → (a == b) ≡ false → a ≡ b → ⊥
+not_equal a b e same = let t : (a == b) ≡ true = eq-eqb a b same in cc
+
+abbrev rule : ℕ × Change → Items → Items
+rule x items = written items x
+
+-- the items of one fragment, one change more
+changed_own : (x : ℕ × Change) (old : Option Items) (items : Items) → (is_some old ≡ true → or_none old ≡ items)
+    → is_some (option_map (rule x) old) ≡ true → or_none (option_map (rule x) old) ≡ written items x
+changed_own x None items h here = cc
+changed_own x (Some kept) items h here = ap (λ k. written k x) (h refl)
+
+still_here : (x : ℕ × Change) (old : Option Items) → is_some (option_map (rule x) old) ≡ is_some old
+still_here x None = refl
+still_here x (Some kept) = refl
+
+abbrev of_more : ℕ → Bool → Dated → ℕ × Change → Dated
+of_more f own xs x = of_fragment f xs ++ cond own (x ∷ []) []
+
+of_one_more : (f : ℕ) (xs : Dated) (x : ℕ × Change) → of_fragment f (xs ++ x ∷ []) ≡ of_more f (x.1.frag.0 == f) xs x
+of_one_more f xs x = filter-append (λ y. y.1.frag.0 == f) xs (x ∷ [])
+
+one_more : (copies : Held) (xs : Dated) (x : ℕ × Change) (f : ℕ) (own : Bool) → (x.1.frag.0 == f) ≡ own
+    → (is_here copies f ≡ true → items_at copies f ≡ items_of (of_fragment f xs))
+    → is_here (with_change copies x) f ≡ true → items_at (with_change copies x) f ≡ items_of (of_more f own xs x)
+one_more copies xs x f true own h here =
+    let at : slice_index_or (with_change copies x) f None ≡ option_map (rule x) (slice_index_or copies f None) =
+    ap (λ n. slice_index_or (changed_at n (option_map (rule x)) copies) f None) (eqb-true x.1.frag.0 f own) ∙ item_at (rule x) copies f in
+    ap or_none at
+    ∙ changed_own x (slice_index_or copies f None) (items_of (of_fragment f xs)) h (sym (ap is_some at) ∙ here)
+    ∙ sym (fold-append written [] (of_fragment f xs) (x ∷ []))
+one_more copies xs x f false other h here =
+    let at : slice_index_or (with_change copies x) f None ≡ slice_index_or copies f None =
+    item_apart (rule x) copies x.1.frag.0 f (not_equal x.1.frag.0 f other) in
+    ap or_none at
+    ∙ h (sym (ap is_some at) ∙ here)
+    ∙ ap items_of (sym (append-nil (of_fragment f xs)))
+
+pub stand_more : (copies : Held) (xs : Dated) (x : ℕ × Change) → StandFor copies xs
+    → StandFor (with_change copies x) (xs ++ x ∷ [])
+stand_more copies xs x h f here = one_more copies xs x f (x.1.frag.0 == f) refl (h f) here ∙ ap items_of (sym (of_one_more f xs x))
+
+here_by : (copies : Held) (x : ℕ × Change) (f : ℕ) (own : Bool) → (x.1.frag.0 == f) ≡ own
+    → is_here (with_change copies x) f ≡ is_here copies f
+here_by copies x f true own =
+    ap (λ n. is_some (slice_index_or (changed_at n (option_map (rule x)) copies) f None)) (eqb-true x.1.frag.0 f own)
+    ∙ ap is_some (item_at (rule x) copies f)
+    ∙ still_here x (slice_index_or copies f None)
+here_by copies x f false other = ap is_some (item_apart (rule x) copies x.1.frag.0 f (not_equal x.1.frag.0 f other))
+
+pub here_more : (copies : Held) (x : ℕ × Change) (f : ℕ) → is_here (with_change copies x) f ≡ is_here copies f
+here_more copies x f = here_by copies x f (x.1.frag.0 == f) refl
+
+-- many changes more
+
+pub stand_all : (ys : Dated) (copies : Held) (xs : Dated) → StandFor copies xs → StandFor (fold with_change copies ys) (xs ++ ys)
+stand_all [] copies xs h = subst (StandFor copies) (sym (append-nil xs)) h
+stand_all (y ∷ ys) copies xs h =
+    subst (StandFor (fold with_change (with_change copies y) ys)) (append_assoc xs (y ∷ []) ys)
+    (stand_all ys (with_change copies y) (xs ++ y ∷ []) (stand_more copies xs y h))
+
+pub here_all : (ys : Dated) (copies : Held) (f : ℕ) → is_here (fold with_change copies ys) f ≡ is_here copies f
+here_all [] copies f = refl
+here_all (y ∷ ys) copies f = here_all ys (with_change copies y) f ∙ here_more copies y f
+
+pub stand_written : (new old : Held) (x : ℕ × Change) → new ≡ with_change old x → (xs : Dated) → StandFor old xs
+    → StandFor new (xs ++ x ∷ [])
+stand_written new old x is xs h = subst (λ v. StandFor v (xs ++ x ∷ [])) (sym is) (stand_more old xs x h)
+
+pub here_written : (new old : Held) (x : ℕ × Change) → new ≡ with_change old x → (f : ℕ) → is_here new f ≡ is_here old f
+here_written new old x is f = ap (λ v. is_here v f) is ∙ here_more old x f
+
+pub stand_applied : (new old : Held) (ys : Dated) → new ≡ fold with_change old ys → (xs : Dated)
+    → StandFor old xs → StandFor new (xs ++ ys)
+stand_applied new old ys is xs h = subst (λ v. StandFor v (xs ++ ys)) (sym is) (stand_all ys old xs h)
+
+pub here_applied : (new old : Held) (ys : Dated) → new ≡ fold with_change old ys → (f : ℕ) → is_here new f ≡ is_here old f
+here_applied new old ys is f = ap (λ v. is_here v f) is ∙ here_all ys old f
+
+-- the same changes in another order
+pub stand_same : (copies : Held) (xs ys : Dated) → DatesDiffer xs → AreSame xs ys → StandFor copies xs → StandFor copies ys
+stand_same copies xs ys d s h f here = h f here ∙ same_items_left f xs ys d s

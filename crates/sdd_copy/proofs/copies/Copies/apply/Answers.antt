@@ -1,0 +1,18 @@
+use Rattle.std.proofs.Common.{◌∙◌, ap}
+use Rattle.std.specs.Prelude.{fold}
+use Rattle.sdd_copy.specs.Copies.{with_change, held_in}
+use Rattle.sdd_copy.specs.Items.{dated}
+use Rattle.sdd_copy.proofs.Standing.{stand_applied, here_applied}
+use Rattle.sdd_copy.proofs.copies.Copies.apply.Goals as goal
+
+pub returns-clause-stand : goal.returns-clause-stand
+returns-clause-stand c =
+    let xs = dated c.args.ts.0 c.args.changes in
+    stand_applied (held_in c.write_all.new.copies.items) c.args.self.now.value xs
+    (c.in_ok-write_all.ensures.held ∙ ap (λ v. fold with_change v.value xs) c.self.view_is)
+
+pub returns-clause-here : goal.returns-clause-here
+returns-clause-here c =
+    let xs = dated c.args.ts.0 c.args.changes in
+    here_applied (held_in c.write_all.new.copies.items) c.args.self.now.value xs
+    (c.in_ok-write_all.ensures.held ∙ ap (λ v. fold with_change v.value xs) c.self.view_is)

@@ -1,0 +1,17 @@
+use Rattle.std.proofs.Common.{ℕ, ◌∙◌, ap}
+use Rattle.sdd_base.specs.declared.change.Change.{Change}
+use Rattle.sdd_copy.specs.Copies.{with_change, held_in}
+use Rattle.sdd_copy.proofs.Standing.{stand_written, here_written}
+use Rattle.sdd_copy.proofs.copies.Copies.write.Goals as goal
+
+pub returns-clause-stand : goal.returns-clause-stand
+returns-clause-stand c =
+    let x : ℕ × Change = (c.args.ts.0, c.args.change) in
+    stand_written (held_in c.write_to.new.copies.items) c.args.self.now.value x
+    (c.in_ok-write_to.ensures.held ∙ ap (λ v. with_change v.value x) c.self.view_is)
+
+pub returns-clause-here : goal.returns-clause-here
+returns-clause-here c =
+    let x : ℕ × Change = (c.args.ts.0, c.args.change) in
+    here_written (held_in c.write_to.new.copies.items) c.args.self.now.value x
+    (c.in_ok-write_to.ensures.held ∙ ap (λ v. with_change v.value x) c.self.view_is)

@@ -1,0 +1,13 @@
+use Rattle.std.proofs.Common.{◌≡◌}
+use Rattle.std.specs.Prelude.{All, fold}
+use Rattle.sdd_copy.specs.Copies.{with_change, held_in, IsLive}
+use Rattle.sdd_copy.specs.Items.{dated}
+use Rattle.sdd_copy.proofs.copies.write_all.Given as goal
+
+-- the changes that are left make of these copies what all make of the old ones
+abbrev pub invariant-loop-change : goal.invariant-loop-change
+invariant-loop-change l = record {
+  live : All IsLive l.copies.items;
+  held : fold with_change (held_in l.copies.items) (dated l.ts.0 l.change-iterator.rest.items)
+      ≡ fold with_change (held_in l.fn.copies.items) (dated l.ts.0 l.fn.changes);
+}

@@ -1,0 +1,8 @@
+use Rattle.std.proofs.Common.{◌≡◌, map}
+use Rattle.std.specs.Map.Iter.{deref_pair}
+use Rattle.sdd_copy.specs.Keyed.{rows_meeting}
+use Rattle.sdd_copy.proofs.frag_copy.met_rows.Given as goal
+
+-- the rows so far are those of the items so far
+abbrev pub invariant-loop-key : goal.invariant-loop-key
+invariant-loop-key l = l.rows.items ≡ rows_meeting l.restrictions (map deref_pair l.yielded)

@@ -1,0 +1,163 @@
+//! A fragment's items in memory, which can be looked at by ranges of keys.
+ghost use Rattle.std.specs.Prelude.{◌≡◌, [], ◌∷◌, All, IsTrue, IfSome, OnOk, filter, fold};
+ghost use Rattle.std.specs.Option.{option_copied};
+ghost use Rattle.std.specs.Ordering.{int_cmp};
+ghost use Rattle.std.specs.BTreeMap.{insert_entry};
+ghost use Rattle.sdd_base.specs.Order.{column, number_in};
+ghost use Rattle.sdd_base.specs.declared.number.FragNo.{FragNo};
+ghost use Rattle.sdd_base.specs.declared.value.Value.TheVariants.{Int};
+ghost use Rattle.sdd_lang.specs.Uses.{common, all_keys};
+ghost use Rattle.sdd_copy.specs.Items.{written, initial, is_newer};
+ghost use Rattle.sdd_copy.specs.Keyed.{HasKey, IsNear, is_within, rows_meeting};
+
+use crate::near::are_of_keys;
+use sdd_base::{Change, NoMemory, Parcel, Restriction, Row, Ts, Value};
+use sdd_lang::{Keys, allowed_keys, value_in};
+use std::alloc::Global;
+use std::collections::BTreeMap;
+use std::collections::btree_map::Range;
+use std::marker::Model;
+
+/// By key the date of the last change that was applied, and its row, which is absent where it was a
+/// deletion.
+#[derive(Drop)]
+pub(crate) struct KeptItems {
+    items: BTreeMap<i64, (u64, Option<Row>)>,
+    /// The key column of the fragment's relation.
+    key: u32,
+    /// Whether each row has its item's key in that column, so that restrictions on the column say
+    /// which keys are to be looked at. It has, unless a caller tells another column.
+    keyed: bool,
+}
+
+impl Model for KeptItems {
+    ghost use Rattle.sdd_copy.specs.Items.{Items};
+    ghost use Rattle.sdd_copy.specs.Keyed.{AreHeld, AreKeyed};
+
+    ghost Value = { Items };
+
+    ghost view = { λ k. k.items.entries };
+
+    ghost invariant = { λ k. AreHeld k.items.entries × AreKeyed k.keyed k.key k.items.entries };
+}
+
+impl KeptItems {
+    /// No items, of a relation with this key column.
+    pub(crate) fn new(alloc: Global, key: u32) -> Self
+        ensures { result ≡ [] }
+    {
+        KeptItems {
+            items: BTreeMap::new(alloc),
+            key,
+            keyed: true,
+        }
+    }
+
+    /// The items, lent.
+    pub(crate) fn entries(&self) -> &BTreeMap<i64, (u64, Option<Row>)>
+        ensures { result.now.entries ≡ self.now }
+    {
+        &self.items
+    }
+
+    /// Puts the item at its key. Costs O(log n).
+    fn put(&mut self, item: (i64, (u64, Option<Row>))) -> Result<(), NoMemory>
+        ensures { OnOk result (self.new ≡ insert_entry int_cmp self.old item.0 item.1) }
+    {
+        self.keyed = keyed_with(self.keyed, self.key, &item);
+        self.items.insert(item.0, item.1)?;
+        Ok(())
+    }
+
+    /// The write rule. Costs O(log n).
+    pub(crate) fn write(&mut self, ts: Ts, change: Change) -> Result<(), NoMemory>
+        ensures { OnOk result (self.new ≡ written self.old (ts.0, change)) }
+    {
+        if is_newer(ts.0, self.items.get(&change.key)) {
+            self.put((change.key, (ts.0, change.row)))?;
+        }
+        Ok(())
+    }
+
+    /// Adds a row with the date 0, where none with its key is there. Costs O(log n), and time in the
+    /// row.
+    pub(crate) fn add_initial(&mut self, row: &Row, key: u32) -> Result<(), NoMemory>
+        ensures { OnOk result ((f : FragNo) → self.new ≡ fold written self.old (initial f key (row.now ∷ []))) }
+    {
+        let at = key_in(row, key);
+        if is_newer(0, self.items.get(&at)) {
+            self.put((at, (0, Some(row.copy()?))))?;
+        }
+        Ok(())
+    }
+
+    /// The items with these keys, ascending by key.
+    fn within(&self, keys: &Keys) -> Range<'_, i64, (u64, Option<Row>)>
+        ensures { result ≡ filter (λ e. is_within (common keys.now all_keys) e.0) self.now }
+    {
+        match keys.ends() {
+            Some((from, to)) => self.items.range(from..=to),
+            None => self.items.range(0..0),
+        }
+    }
+
+    /// Keys among which is that of each row that meets the restrictions.
+    fn keys_near(&self, restrictions: &[Restriction]) -> Keys
+        ensures { All (IsNear restrictions.now result) self.now }
+    {
+        if !self.keyed {
+            return Keys::all();
+        }
+        if !are_of_keys(self.key, restrictions) {
+            return Keys::all();
+        }
+        allowed_keys(self.key, restrictions)
+    }
+
+    /// Items, ascending by key, among them all whose rows meet the restrictions. Where these are on
+    /// the key, they are the items whose keys are allowed. Takes no memory.
+    pub(crate) fn near(&self, restrictions: &[Restriction]) -> Range<'_, i64, (u64, Option<Row>)>
+        ensures { rows_meeting restrictions.now result ≡ rows_meeting restrictions.now self.now }
+    {
+        self.within(&self.keys_near(restrictions))
+    }
+}
+
+/// The number in a column, 0 where there is none.
+fn key_in(row: &Row, key: u32) -> i64
+    ensures { result ≡ number_in (column row.now key) }
+{
+    match value_in(row, key) {
+        Some(Value::Int(number)) => *number,
+        _ => 0,
+    }
+}
+
+fn is_newer(ts: u64, item: Option<&(u64, Option<Row>)>) -> bool
+    ensures { result ≡ is_newer ts (option_copied item.entry) }
+{
+    match item {
+        None => true,
+        Some(item) => item.0 < ts,
+    }
+}
+
+/// Whether the row has the key in its key column.
+fn has_key(key: u32, at: &i64, row: &Row) -> bool
+    ensures { IsTrue result → column row.now key ≡ Int at.now }
+{
+    match value_in(row, key) {
+        Some(Value::Int(number)) => *number == *at,
+        _ => false,
+    }
+}
+
+/// Whether all rows have their keys there, where all had before.
+fn keyed_with(keyed: bool, key: u32, item: &(i64, (u64, Option<Row>))) -> bool
+    ensures { IsTrue result → IsTrue keyed × HasKey key item.now }
+{
+    match &item.1.1 {
+        Some(row) => keyed && has_key(key, &item.0, row),
+        None => keyed,
+    }
+}
