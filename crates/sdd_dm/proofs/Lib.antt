@@ -1,3 +1,20 @@
+pub mod Applied
+pub mod Asked
+pub mod Awaited
+pub mod Beginning
+pub mod ByClass
+pub mod Dates
+pub mod First
+pub mod FirstDue
+pub mod Handed
+pub mod Left
+pub mod Messages
 pub mod Prefix
 pub mod Ranks
+mod Results
+pub mod Scans
+pub mod Shown
+pub mod Stepped
+pub mod Taking
 pub mod ViewSteps
+pub mod Working

@@ -1,7 +1,12 @@
 pub mod Copies
 pub mod Due
 pub mod Fits
+pub mod Heads
 pub mod Opens
 pub mod Pipes
 pub mod Ranks
+pub mod Stands
+pub mod Starts
+pub mod State
 pub mod Views
+pub mod Waiting

@@ -1,8 +1,14 @@
-ghost use Rattle.std.specs.Prelude.{◌≡◌};
+//! WRITEs that READs hold back.
+ghost use Rattle.std.specs.Prelude.{◌≡◌, IsTrue, length, is_some, true};
+ghost use Rattle.std.specs.List.{list_any, range_with_len};
 ghost use Rattle.sdd_dm.specs.Due.{holds};
+ghost use Rattle.sdd_dm.specs.Heads.{holds_in, is_held_in, waits_at};
 
+use crate::hints::Hints;
+use crate::slots::waits_at;
 use sdd_base::{Change, ClassNo, Cond, Ts};
-use sdd_pipe::touches;
+use sdd_pipe::{Pipes, touches};
+use sdd_wire::Msg;
 
 /// Whether a condition of a waiting READ holds back a WRITE of the class with this timestamp and
 /// these changes: it is on that class, up to the WRITE's timestamp or to a time before, for a
@@ -12,4 +18,98 @@ pub fn holds(cond: &Cond, class: ClassNo, write: Ts, changes: &[Change]) -> bool
     ensures { result ≡ holds class.0 write.0 changes.now cond.now }
 {
     cond.class.0 == class.0 && cond.time.0 <= write.0 && touches(cond.frags.as_slice(), changes)
+}
+
+fn any_holds(conds: &[Cond], class: ClassNo, write: Ts, changes: &[Change]) -> bool
+    ensures { result ≡ list_any (holds class.0 write.0 changes.now) conds.now }
+{
+    conds.iter().any(|cond| holds(cond, class, write, changes))
+}
+
+/// Whether the head of one class is a READ that waits and holds back a WRITE of another.
+fn reader_holds(
+    pipes: &Pipes,
+    waits: &[bool],
+    reader: ClassNo,
+    class: ClassNo,
+    write: Ts,
+    changes: &[Change],
+) -> bool
+    ensures { result
+        ≡ holds_in pipes.now.value waits.now class.0 write.0 changes.now reader.0 }
+{
+    if !waits_at(waits, reader) {
+        return false;
+    }
+    match pipes.head(reader) {
+        Some(Msg::Read { conds, .. }) => any_holds(conds.as_slice(), class, write, changes),
+        _ => false,
+    }
+}
+
+/// Whether a WRITE of the class is held back. The READ of the class that the hint tells is asked
+/// first.
+pub fn is_held(
+    pipes: &Pipes,
+    waits: &[bool],
+    hints: &mut Hints,
+    class: ClassNo,
+    write: Ts,
+    changes: &[Change],
+) -> bool
+    ensures { result ≡ is_held_in pipes.now.value waits.now class.0 write.0 changes.now }
+{
+    if class.0 == 0 {
+        return false;
+    }
+    let last = ClassNo(hints.at(class));
+    if holds_still(pipes, waits, last, class, write, changes) {
+        return true;
+    }
+    match holder(pipes, waits, class, write, changes) {
+        None => false,
+        Some(reader) => {
+            hints.set(class, reader.0);
+            true
+        }
+    }
+}
+
+/// Whether it is the READ of this class that holds back a WRITE of another.
+fn holds_still(
+    pipes: &Pipes,
+    waits: &[bool],
+    reader: ClassNo,
+    class: ClassNo,
+    write: Ts,
+    changes: &[Change],
+) -> bool
+    ensures { IsTrue result
+        → list_any (holds_in pipes.now.value waits.now class.0 write.0 changes.now)
+        (range_with_len 0 (length pipes.now.value)) ≡ true }
+{
+    if reader.0 >= pipes.count() {
+        return false;
+    }
+    reader_holds(pipes, waits, reader, class, write, changes)
+}
+
+/// The first class whose READ waits and holds back a WRITE of another.
+fn holder(
+    pipes: &Pipes,
+    waits: &[bool],
+    class: ClassNo,
+    write: Ts,
+    changes: &[Change],
+) -> Option<ClassNo>
+    ensures { is_some result
+        ≡ list_any (holds_in pipes.now.value waits.now class.0 write.0 changes.now)
+        (range_with_len 0 (length pipes.now.value)) }
+{
+    for reader in 0..pipes.count() {
+        if reader_holds(pipes, waits, ClassNo(reader), class, write, changes) {
+            return Some(ClassNo(reader));
+        }
+    }
+    None
 }

@@ -1,15 +1,27 @@
 //! The data module of a site D: it answers READs by frozen rows of its copies, holds back WRITEs
 //! that a waiting READ must not see, and applies the others.
 //!
-//! What stands here are the definitions; the module itself, a `Module` whose acts are those that
-//! `specs/Due.antt` makes due at its site, is not built yet.
+//! The one contract to the layer above: `DataModule` is a `Module` whose acts are those that
+//! `specs/Due.antt` makes due at its site. It keeps far less than the log: of each pipe what
+//! conditions ask, the copies, and the rows that are frozen (`specs/State.antt`); for which logs it
+//! stands is in `specs/Stands.antt`.
 #![tactic(auto)]
 
+mod conditions;
+mod data_module;
+mod handing;
+mod hints;
 mod holding;
+mod judging;
 mod law;
+mod parts;
 mod rank;
+mod slots;
+mod starting;
 mod step;
+mod stepping;
 
+pub use data_module::DataModule;
 pub use holding::holds;
 pub use law::law_lowest_rank_is_next;
 pub use rank::rank_of;

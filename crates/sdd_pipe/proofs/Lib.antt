@@ -1,0 +1,3 @@
+pub mod Digests
+mod Entries
+pub mod Updates

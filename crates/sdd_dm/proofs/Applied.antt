@@ -1,0 +1,186 @@
+-- A WRITE that is applied: its changes stand among those of its class, wherever they came in time.
+use Rattle.std.proofs.Common.{ℕ, zero, suc, ◌+◌, ◌<◌, ◌≤◌, ◌==◌, Bool, true, false, List, [], ◌∷◌, ◌++◌, length, ◌≡◌, ◌⊎◌, inl, inr, refl, ap, arith, sym, subst, Option, Some, None}
+use Rattle.std.specs.Prelude.{◌&&◌}
+use Rattle.std.specs.Bool.{if◌then◌else◌}
+use Rattle.std.specs.List.{Contains, range_with_len, flat_map}
+use Rattle.std.proofs.lemmas.List.Elements.{Contains-append_left, Contains-append_right, Contains-append_cases}
+use Rattle.sdd_base.specs.declared.change.Change.{Change}
+use Rattle.sdd_base.specs.declared.site.Site.{Site}
+use Rattle.sdd_base.proofs.Membership.{Contains-nil, Contains-here, Contains-later, Contains-cases}
+use Rattle.sdd_history.specs.declared.record.Rec.{Rec}
+use Rattle.sdd_wire.specs.declared.msg.Msg.{Msg}
+use Rattle.sdd_module.specs.SiteLog.{Setting, Log, Handed, Ticked, Submits, Redeclared, Did, Records, Sends}
+use Rattle.sdd_copy.specs.Contents.{Dated}
+use Rattle.sdd_copy.specs.Sets.{DatesDiffer, AreSame}
+use Rattle.sdd_pipe.specs.Pipe.{head}
+use Rattle.sdd_dm.specs.Pipes.{pipe}
+use Rattle.sdd_dm.specs.Copies.{classes_of, is_apply, changes_in, applied, first_rows, dated}
+use Rattle.sdd_dm.specs.Stands.{written, all_dated, EachHanded}
+use Rattle.sdd_dm.proofs.ByClass.{same_number, number_is}
+use Rattle.sdd_dm.proofs.Handed.{head_handed}
+
+-- members of what is made over the classes
+
+in_range : (a n k : ℕ) → k < n → Contains (range_with_len a n) (a + k)
+in_range a zero k l = absurd (omega arith)
+in_range a (suc n) zero l =
+    let e : a + 0 ≡ a = omega arith in subst (Contains (a ∷ range_with_len (a + 1) n)) (sym e) (Contains-here a (range_with_len (a + 1) n))
+in_range a (suc n) (suc k) l =
+    let e : (a + 1) + k ≡ a + suc k = omega arith in
+    Contains-later a (range_with_len (a + 1) n) (a + suc k) (subst (Contains (range_with_len (a + 1) n)) e (in_range (a + 1) n k (omega arith)))
+
+is_class : (s : Setting) (c : ℕ) → c ≤ length s.catalogue.classes → Contains (classes_of s) c
+is_class s c l = let e : 0 + c ≡ c = omega arith in subst (Contains (classes_of s)) e (in_range 0 (suc (length s.catalogue.classes)) c (omega arith))
+
+flat_in : {A B : Type 0} (f : A → List B) (xs : List A) (k : A) (x : B) → Contains xs k → Contains (f k) x → Contains (flat_map f xs) x
+flat_in f [] k x h g = absurd (Contains-nil k h)
+flat_in f (y ∷ xs) k x h g = elim (Contains-cases y xs k h) as (λ _. Contains (f y ++ flat_map f xs) x) [
+  | inl e ↦ Contains-append_left (f y) (flat_map f xs) x (subst (λ z. Contains (f z) x) e g)
+  | inr later ↦ Contains-append_right (f y) (flat_map f xs) x (flat_in f xs k x later g)
+]
+
+flat_from : {A B : Type 0} (f : A → List B) (xs : List A) (x : B) → Contains (flat_map f xs) x → (k : A) × Contains xs k × Contains (f k) x
+flat_from f [] x h = absurd (Contains-nil x h)
+flat_from {A = A} f (y ∷ xs) x h = elim (Contains-append_cases (f y) (flat_map f xs) x h) as (λ _. (k : A) × Contains (y ∷ xs) k × Contains (f k) x) [
+  | inl here ↦ (y, Contains-here y xs, here)
+  | inr later ↦ let r = flat_from f xs x later in (r.0, Contains-later y xs r.0 r.1, r.2)
+]
+
+-- what is applied was handed
+
+abbrev IsIn : Dated → Msg → Type 0
+IsIn all m = (x : ℕ × Change) → Contains (changes_in (Some m)) x → Contains all x
+
+each_in : (log : Log) (all : Dated) → ((x : ℕ × Change) → Contains (written log) x → Contains all x) → EachHanded (IsIn all) log
+each_in [] all h = tt
+each_in (Handed from m ∷ log) all h = (
+  λ x i. h x (Contains-append_left (changes_in (Some m)) (written log) x i),
+  each_in log all
+      (λ x i. h x (Contains-append_right (changes_in (Some m)) (written log) x i)),
+)
+each_in (Ticked n ∷ log) all h = each_in log all h
+each_in (Submits n txn ∷ log) all h = each_in log all h
+each_in (Redeclared force t ∷ log) all h = each_in log all h
+each_in (Did act ∷ log) all h = each_in log all h
+
+head_by : (c : ℕ) (log : Log) (o : Option Msg) (x : ℕ × Change) → head (pipe c log) ≡ o → Contains (changes_in o) x → Contains (written log) x
+head_by c log None x e h = absurd (Contains-nil x h)
+head_by c log (Some m) x e h = head_handed (IsIn (written log)) c log m (each_in log (written log) (λ y i. i)) e x h
+
+head_written : (c : ℕ) (log : Log) (x : ℕ × Change) → Contains (changes_in (head (pipe c log))) x → Contains (written log) x
+head_written c log x h = head_by c log (head (pipe c log)) x refl h
+
+acted_by : (b : Bool) (xs ys all : Dated) (x : ℕ × Change) → (Contains xs x → Contains all x) → (Contains ys x → Contains all x)
+    → Contains (if b then xs ++ ys else xs) x → Contains all x
+acted_by false xs ys all x f g h = f h
+acted_by true xs ys all x f g h = elim (Contains-append_cases xs ys x h) as (λ _. Contains all x) [ inl i ↦ f i | inr i ↦ g i ]
+
+applied_written : (c : ℕ) (log : Log) (x : ℕ × Change) → Contains (applied c log) x → Contains (written log) x
+applied_written c [] x h = h
+applied_written c (Handed from m ∷ log) x h = Contains-append_right (changes_in (Some m)) (written log) x (applied_written c log x h)
+applied_written c (Ticked n ∷ log) x h = applied_written c log x h
+applied_written c (Submits n txn ∷ log) x h = applied_written c log x h
+applied_written c (Redeclared force t ∷ log) x h = applied_written c log x h
+applied_written c (Did (Sends to m hand) ∷ log) x h = applied_written c log x h
+applied_written c (Did (Records k r sends) ∷ log) x h =
+    acted_by ((k == c) && is_apply r) (applied c log) (changes_in (head (pipe c log))) (written log) x (applied_written c log x) (head_written c log x) h
+
+dated_in_all : (s : Setting) (log : Log) (x : ℕ × Change) → Contains (dated s log) x → Contains (all_dated s log) x
+dated_in_all s log x h = elim (Contains-append_cases (first_rows s) (flat_map (λ c. applied c log) (classes_of s)) x h) as (λ _. Contains (all_dated s log) x) [
+  | inl first ↦ Contains-append_left (first_rows s) (written log) x first
+  | inr later ↦
+      let r = flat_from (λ c. applied c log) (classes_of s) x later in
+      Contains-append_right (first_rows s) (written log) x (applied_written r.0 log x r.2)
+]
+
+-- the dates differ still
+
+pub fewer_differ : (xs ys : Dated) → ((x : ℕ × Change) → Contains xs x → Contains ys x) → DatesDiffer ys → DatesDiffer xs
+fewer_differ xs ys h d = λ x y i j. d x y (h x i) (h y j)
+
+pub applied_differ : (s : Setting) (log : Log) (c : ℕ) → DatesDiffer (all_dated s log) → DatesDiffer (dated s log ++ changes_in (head (pipe c log)))
+applied_differ s log c d =
+    fewer_differ (dated s log ++ changes_in (head (pipe c log))) (all_dated s log)
+    (λ x h. elim (Contains-append_cases (dated s log) (changes_in (head (pipe c log))) x h) as (λ _. Contains (all_dated s log) x) [
+      | inl i ↦ dated_in_all s log x i
+      | inr i ↦ Contains-append_right (first_rows s) (written log) x (head_written c log x i)
+    ]) d
+
+-- an Apply adds the changes of the head of its pipe
+
+own_applied : (c : ℕ) (r : Rec) (sends : List (Site × Msg)) (log : Log) → is_apply r ≡ true
+    → applied c (Did (Records c r sends) ∷ log) ≡ applied c log ++ changes_in (head (pipe c log))
+own_applied c r sends log e = rw (same_number c c refl, e) refl
+
+acted_more : (b : Bool) (xs ys : Dated) (x : ℕ × Change) → Contains xs x → Contains (if b then xs ++ ys else xs) x
+acted_more true xs ys x h = Contains-append_left xs ys x h
+acted_more false xs ys x h = h
+
+more_dated : (s : Setting) (log : Log) (c : ℕ) (r : Rec) (sends : List (Site × Msg)) (x : ℕ × Change) → c ≤ length s.catalogue.classes → is_apply r ≡ true
+    → Contains (dated s log ++ changes_in (head (pipe c log))) x → Contains (dated s (Did (Records c r sends) ∷ log)) x
+more_dated s log c r sends x l e h =
+    let after : Log = Did (Records c r sends) ∷ log in
+    let all : List (ℕ × Change) = flat_map (λ k. applied k after) (classes_of s) in
+    elim (Contains-append_cases (dated s log) (changes_in (head (pipe c log))) x h) as (λ _. Contains (dated s after) x) [
+      | inl old ↦ elim (Contains-append_cases (first_rows s) (flat_map (λ k. applied k log) (classes_of s)) x old) as (λ _. Contains (dated s after) x) [
+        | inl first ↦ Contains-append_left (first_rows s) all x first
+        | inr later ↦
+            let p = flat_from (λ k. applied k log) (classes_of s) x later in
+            Contains-append_right (first_rows s) all x
+            (flat_in (λ k. applied k after) (classes_of s) p.0 x p.1
+            (acted_more ((c == p.0) && is_apply r) (applied p.0 log) (changes_in (head (pipe p.0 log))) x p.2))
+      ]
+      | inr new ↦
+          Contains-append_right (first_rows s) all x
+          (flat_in (λ k. applied k after) (classes_of s) c x (is_class s c l)
+          (subst (λ xs. Contains xs x) (sym (own_applied c r sends log e)) (Contains-append_right (applied c log) (changes_in (head (pipe c log))) x new)))
+    ]
+
+acted_from : (b : Bool) (xs ys : Dated) (x : ℕ × Change) → Contains (if b then xs ++ ys else xs) x → Contains xs x ⊎ ((b ≡ true) × Contains ys x)
+acted_from false xs ys x h = inl h
+acted_from true xs ys x h =
+    elim (Contains-append_cases xs ys x h) as (λ _. Contains xs x ⊎ ((true ≡ true) × Contains ys x)) [ inl i ↦ inl i | inr i ↦ inr (refl, i) ]
+
+first_is_true : (a b : Bool) → (a && b) ≡ true → a ≡ true
+first_is_true true b e = refl
+first_is_true false b e = e
+
+no_more_dated : (s : Setting) (log : Log) (c : ℕ) (r : Rec) (sends : List (Site × Msg)) (x : ℕ × Change)
+    → Contains (dated s (Did (Records c r sends) ∷ log)) x → Contains (dated s log ++ changes_in (head (pipe c log))) x
+no_more_dated s log c r sends x h =
+    let after : Log = Did (Records c r sends) ∷ log in
+    let new : Dated = changes_in (head (pipe c log)) in
+    let old : Dated = flat_map (λ k. applied k log) (classes_of s) in
+    elim (Contains-append_cases (first_rows s) (flat_map (λ k. applied k after) (classes_of s)) x h) as (λ _. Contains (dated s log ++ new) x) [
+      | inl first ↦ Contains-append_left (dated s log) new x (Contains-append_left (first_rows s) old x first)
+      | inr later ↦
+          let p = flat_from (λ k. applied k after) (classes_of s) x later in
+          elim (acted_from ((c == p.0) && is_apply r) (applied p.0 log) (changes_in (head (pipe p.0 log))) x p.2) as (λ _. Contains (dated s log ++ new) x) [
+            | inl i ↦ Contains-append_left (dated s log) new x
+                (Contains-append_right (first_rows s) old x (flat_in (λ k. applied k log) (classes_of s) p.0 x p.1 i))
+            | inr i ↦
+                let same : c ≡ p.0 = number_is c p.0 (first_is_true (c == p.0) (is_apply r) i.0) in
+                Contains-append_right (dated s log) new x (subst (λ k. Contains (changes_in (head (pipe k log))) x) (sym same) i.1)
+          ]
+    ]
+
+pub same_dated : (s : Setting) (log : Log) (c : ℕ) (r : Rec) (sends : List (Site × Msg)) → c ≤ length s.catalogue.classes → is_apply r ≡ true
+    → AreSame (dated s log ++ changes_in (head (pipe c log))) (dated s (Did (Records c r sends) ∷ log))
+same_dated s log c r sends l e = λ x. (more_dated s log c r sends x l e, no_more_dated s log c r sends x)
+
+-- another record adds none
+
+flat_same : {A B : Type 0} (f g : A → List B) (xs : List A) → ((x : A) → f x ≡ g x) → flat_map f xs ≡ flat_map g xs
+flat_same f g [] h = refl
+flat_same f g (x ∷ xs) h = rw (h x, flat_same f g xs h) refl
+
+not_applied : (b c : Bool) (xs ys : Dated) → c ≡ false → (if b && c then xs ++ ys else xs) ≡ xs
+not_applied true c xs ys e = rw e refl
+not_applied false c xs ys e = refl
+
+pub dated_kept : (s : Setting) (log : Log) (c : ℕ) (r : Rec) (sends : List (Site × Msg)) → is_apply r ≡ false
+    → dated s (Did (Records c r sends) ∷ log) ≡ dated s log
+dated_kept s log c r sends e =
+    ap (λ xs. first_rows s ++ xs)
+    (flat_same (λ k. applied k (Did (Records c r sends) ∷ log)) (λ k. applied k log) (classes_of s)
+    (λ k. not_applied (c == k) (is_apply r) (applied k log) (changes_in (head (pipe k log))) e))

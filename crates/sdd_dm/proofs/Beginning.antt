@@ -1,0 +1,96 @@
+-- The rows and copies with which a module begins.
+use Rattle.std.proofs.Common.{ℕ, zero, suc, ◌+◌, ◌<◌, ℤ, false, List, [], ◌∷◌, ◌++◌, length, map, drop, fold, add-one, drop-cons, ◌≡◌, refl, ap, ◌∙◌, arith, sym, subst, Some, None}
+use Rattle.std.specs.Prelude.{slice_index_or}
+use Rattle.std.specs.Borrow.{Bor}
+use Rattle.std.specs.List.{All}
+use Rattle.std.proofs.lemmas.List.Elements.{All-head, All-tail}
+use Rattle.std.specs.Option.{option_map}
+use Rattle.std.specs.Ordering.{match_ordering}
+use Rattle.std.specs.declared.cmp.Ordering.TheVariants.{Less, Equal, Greater}
+use Rattle.std.specs.BTreeMap.{insert_entry}
+use Rattle.sdd_base.specs.declared.value.Value.{Value}
+use Rattle.sdd_base.specs.declared.change.Change.{Change}
+use Rattle.sdd_base.specs.declared.number.RelNo.{RelNo}
+use Rattle.sdd_base.specs.Numbers.{frag_no}
+use Rattle.sdd_base.specs.declared.number.FragNo.{FragNo}
+use Rattle.sdd_catalog.specs.Catalogue.{Catalogue, fragment_of}
+use Rattle.sdd_lang.specs.Sound.{IsEntry}
+use Rattle.sdd_copy.specs.Contents.{Dated}
+use Rattle.sdd_lang.specs.Database.{Item, Row, Database, item_cmp, with_row, key_in}
+use Rattle.sdd_copy.specs.Items.{Items, written}
+use Rattle.sdd_copy.specs.Copies.{Held, is_here, changed_at, with_change}
+use Rattle.sdd_dm.specs.Copies.{first_row}
+use Rattle.sdd_dm.specs.Starts.{lent}
+
+-- a change of a fragment without a copy is left out
+
+not_changed : (copies : Held) (f : ℕ) (g : Items → Items) → is_here copies f ≡ false → changed_at f (option_map g) copies ≡ copies
+not_changed [] f g e = refl
+not_changed (None ∷ copies) zero g e = refl
+not_changed (Some items ∷ copies) zero g e = absurd cc
+not_changed (c ∷ copies) (suc f) g e = ap (λ l. c ∷ l) (not_changed copies f g e)
+
+pub not_written : (copies : Held) (x : ℕ × Change) → is_here copies x.1.frag.0 ≡ false → copies ≡ with_change copies x
+not_written copies x e = sym (not_changed copies x.1.frag.0 (λ items. written items x) e)
+
+-- rows that are lent, and the rows themselves
+pub lent_put : (es : List (Item × Bor (List Value))) (k : Item) (v : Bor (List Value))
+    → map lent (insert_entry item_cmp es k v) ≡ insert_entry item_cmp (map lent es) k v.now
+lent_put [] k v = refl
+lent_put (e ∷ es) k v =
+    elim (item_cmp k e.0) as (λ o. map lent (match_ordering o ((k, v) ∷ e ∷ es) ((e.0, v) ∷ es) (e ∷ insert_entry item_cmp es k v)) ≡ match_ordering o
+    ((k, v.now) ∷ lent e ∷ map lent es) ((e.0, v.now) ∷ map lent es) (lent e ∷ insert_entry item_cmp (map lent es) k v.now)) [
+      | Less ↦ refl
+      | Equal ↦ refl
+      | Greater ↦ ap (λ l. lent e ∷ l) (lent_put es k v)
+    ]
+
+-- one more element
+
+pub at_pushed : {A : Type 0} (xs : List A) (y d : A) (f : ℕ) (P : A → Type 0) → f < length xs + 1 → (f < length xs → P (slice_index_or xs f d))
+    → (f ≡ length xs → P y) → P (slice_index_or (xs ++ y ∷ []) f d)
+at_pushed [] y d zero P l old new = new refl
+at_pushed [] y d (suc f) P l old new = absurd (omega arith)
+at_pushed (x ∷ xs) y d zero P l old new = old (omega arith)
+at_pushed (x ∷ xs) y d (suc f) P l old new = at_pushed xs y d f P (omega arith) (λ m. old (omega arith)) (λ e. new (ap suc e))
+
+-- the rows that are left, and one of them put in
+
+abbrev put_row : Catalogue → Database → RelNo × Row → Database
+put_row cat db r = with_row db (r.0.0, key_in cat r.0.0 r.1) r.1
+
+pub one_row : (cat : Catalogue) (rows : List (RelNo × Row)) (i : ℕ) (r : RelNo × Row) (old new : List (Item × Bor (List Value))) (key : ℤ)
+    (v : Bor (List Value)) (all : Database)
+    → i < length rows → r ≡ slice_index_or rows i r → new ≡ insert_entry item_cmp old (r.0.0, key) v → key ≡ key_in cat r.0.0 r.1 → v.now ≡ r.1
+    → fold (put_row cat) (map lent old) (drop i rows) ≡ all → fold (put_row cat) (map lent new) (drop (i + 1) rows) ≡ all
+one_row cat rows i r old new key v all l at is key_is row_is e =
+    let next : drop i rows ≡ r ∷ drop (i + 1) rows = rw (add-one) (drop-cons rows i r l ∙ ap (λ x. x ∷ drop (suc i) rows) (sym at)) in
+    let row : map lent new ≡ put_row cat (map lent old) r =
+    ap (map lent) is ∙ lent_put old (r.0.0, key) v ∙ ap (λ k. insert_entry item_cmp (map lent old) (r.0.0, k) v.now) key_is
+    ∙ ap (λ x. insert_entry item_cmp (map lent old) (r.0.0, key_in cat r.0.0 r.1) x) row_is in
+    ap (λ db. fold (put_row cat) db (drop (i + 1) rows)) row ∙ sym (ap (fold (put_row cat) (map lent old)) next) ∙ e
+
+-- the first of the entries that are left
+
+pub first_entry : (cat : Catalogue) (old rest : List (Item × Bor (List Value))) (e : Item × Bor (List Value)) → old ≡ e ∷ rest
+    → All (IsEntry cat) (map lent old) → IsEntry cat (lent e)
+first_entry cat old rest e is all = All-head (IsEntry cat) (lent e) (map lent rest) (subst (λ es. All (IsEntry cat) (map lent es)) is all)
+
+pub later_entries : (cat : Catalogue) (old rest : List (Item × Bor (List Value))) (e : Item × Bor (List Value)) → old ≡ e ∷ rest
+    → All (IsEntry cat) (map lent old) → All (IsEntry cat) (map lent rest)
+later_entries cat old rest e is all = All-tail (IsEntry cat) (lent e) (map lent rest) (subst (λ es. All (IsEntry cat) (map lent es)) is all)
+
+abbrev first_of : Catalogue → List (Item × Bor (List Value)) → Dated
+first_of cat es = map (first_row cat) (map lent es)
+
+pub one_written : (cat : Catalogue) (old rest : List (Item × Bor (List Value))) (e : Item × Bor (List Value)) (f : FragNo) (copies new all : Held)
+    → old ≡ e ∷ rest → f.0 ≡ fragment_of cat e.0.0 e.0.1
+    → new ≡ with_change copies (0, record { frag = f; key = e.0.1; row = Some e.1.now }) → fold with_change copies (first_of cat old) ≡ all
+    → fold with_change new (first_of cat rest) ≡ all
+one_written cat old rest e f copies new all is number written so_far =
+    let x : new ≡ with_change copies (first_row cat (lent e)) =
+    written ∙ ap (λ n. with_change copies (0, record { frag = frag_no n; key = e.0.1; row = Some e.1.now })) number in
+    ap (λ c. fold with_change c (first_of cat rest)) x ∙ sym (ap (λ es. fold with_change copies (first_of cat es)) is) ∙ so_far
+
+abbrev pub with_key : Held → FragNo → List Value → ℤ → Held
+with_key copies f row key = with_change copies (0, record { frag = f; key = key; row = Some row })

@@ -1,0 +1,160 @@
+-- The changes of a WRITE that is handed: no two of them change one item, and no other change has its time.
+use Rattle.std.proofs.Common.{ℕ, ◌<◌, ◌==◌, ℤ, Bool, true, false, List, [], ◌∷◌, ◌++◌, map, ◌≡◌, inl, inr, refl, ap, ◌∙◌, arith, sym, subst, Some}
+use Rattle.std.specs.Prelude.{◌||◌}
+use Rattle.std.specs.List.{AllByRecursion, Contains, IsDistinct}
+use Rattle.std.specs.declared.cmp.Ordering.TheVariants.{Equal}
+use Rattle.std.specs.Ordering.{nat_cmp, int_cmp, ordering_then, is_eq}
+use Rattle.std.proofs.lemmas.Bool.Decides.{nat_tests}
+use Rattle.std.proofs.lemmas.List.Elements.{Contains-append_left, Contains-append_right, Contains-append_cases}
+use Rattle.std.proofs.lemmas.Map.Keys.{IsDistinct-head, IsDistinct-tail}
+use Rattle.sdd_base.specs.Words.{contains}
+use Rattle.sdd_base.specs.declared.change.Change.{Change}
+use Rattle.sdd_base.proofs.Membership.{Contains-nil, Contains-here, Contains-later, Contains-cases}
+use Rattle.sdd_lang.specs.Database.{Item, item_cmp, database_of}
+use Rattle.sdd_wire.specs.declared.msg.Msg.{Msg}
+use Rattle.sdd_wire.specs.declared.msg.Msg.TheVariants.{Write}
+use Rattle.sdd_module.specs.SiteLog.{Setting, Log, Handed, Ticked, Submits, Redeclared, Did}
+use Rattle.sdd_copy.specs.Contents.{Dated}
+use Rattle.sdd_copy.specs.Sets.{DatesDiffer}
+use Rattle.sdd_copy.proofs.Contents.{is_own}
+use Rattle.sdd_dm.specs.Copies.{changes_in, first_row, first_rows}
+use Rattle.sdd_dm.specs.Fits.{write_time_of, with_time, write_times}
+use Rattle.sdd_dm.specs.Stands.{written, all_dated}
+use Rattle.sdd_dm.proofs.ByClass.{same_number}
+
+-- members of a list that a function makes
+
+pub from_map : {A B : Type 0} (f : A → B) (xs : List A) (y : B) → Contains (map f xs) y → (x : A) × Contains xs x × (y ≡ f x)
+from_map f [] y h = absurd (Contains-nil y h)
+from_map {A = A} f (x ∷ xs) y h = elim (Contains-cases (f x) (map f xs) y h) as (λ _. (z : A) × Contains (x ∷ xs) z × (y ≡ f z)) [
+  | inl e ↦ (x, Contains-here x xs, e)
+  | inr later ↦ let r = from_map f xs y later in (r.0, Contains-later x xs r.0 r.1, r.2)
+]
+
+pub each_map : {A B : Type 0} (P : B → Type 0) (f : A → B) (xs : List A) (x : A) → AllByRecursion P (map f xs) → Contains xs x → P (f x)
+each_map P f [] x h i = absurd (Contains-nil x i)
+each_map P f (y ∷ xs) x h i = elim (Contains-cases y xs x i) as (λ _. P (f x)) [
+  | inl e ↦ subst (λ z. P (f z)) (sym e) h.0
+  | inr later ↦ each_map P f xs x h.1 later
+]
+
+-- the changes of a WRITE are of different items
+
+abbrev item : Change → Item
+item x = (x.frag.0, x.key)
+
+abbrev is_one : Item → Item → Bool
+is_one x y = is_eq (item_cmp x y)
+
+pub own_item : (f : ℕ) (k : ℤ) → is_eq (ordering_then (nat_cmp f f) (int_cmp k k)) ≡ true
+own_item f k = let e : nat_cmp f f ≡ Equal = grind (arith, nat_tests) in rw e (is_own k)
+
+one_item : (x y : Change) → x.frag.0 ≡ y.frag.0 → x.key ≡ y.key → is_one (item x) (item y) ≡ true
+one_item x y e f = rw (e, f) (own_item y.frag.0 y.key)
+
+not_later : (x y : Change) (xs : List Change) → AllByRecursion (λ i. is_one (item x) i ≡ false) (map item xs) → Contains xs y → x.frag.0 ≡ y.frag.0
+    → x.key ≡ y.key → ⊥
+not_later x y xs apart i e f =
+    let no = each_map (λ j. is_one (item x) j ≡ false) item xs y apart i in
+    let yes = one_item x y e f in absurd cc
+
+pub one_change : (xs : List Change) (x y : Change) → IsDistinct is_one (map item xs) → Contains xs x → Contains xs y → x.frag.0 ≡ y.frag.0 → x.key ≡ y.key
+    → x ≡ y
+one_change [] x y d i j e f = absurd (Contains-nil x i)
+one_change (z ∷ xs) x y d i j e f =
+    let apart = IsDistinct-head is_one (item z) (map item xs) d in
+    let rest = IsDistinct-tail is_one (item z) (map item xs) d in
+    elim (Contains-cases z xs x i) as (λ _. x ≡ y) [
+      | inl a ↦ elim (Contains-cases z xs y j) as (λ _. x ≡ y) [
+        | inl b ↦ a ∙ sym b
+        | inr b ↦ absurd (not_later z y xs apart b (ap (λ w. w.frag.0) (sym a) ∙ e) (ap (λ w. w.key) (sym a) ∙ f))
+      ]
+      | inr a ↦ elim (Contains-cases z xs y j) as (λ _. x ≡ y) [
+        | inl b ↦ absurd (not_later z x xs apart a (ap (λ w. w.frag.0) (sym b) ∙ sym e) (ap (λ w. w.key) (sym b) ∙ sym f))
+        | inr b ↦ one_change xs x y rest a b e f
+      ]
+    ]
+
+-- the time of a WRITE that was handed before is told
+
+or_right : (a b : Bool) → b ≡ true → (a || b) ≡ true
+or_right true b e = refl
+or_right false b e = e
+
+written_time : (m : Msg) (times : List ℕ) (x : ℕ × Change) → Contains (changes_in (Some m)) x → contains (with_time (write_time_of m) times) x.0 ≡ true
+written_time (Write ts class txn changes) times x h =
+    let r = from_map (λ c. (ts.0, c)) changes x h in
+    let e : ts.0 ≡ x.0 = ap (λ y. y.0) (sym r.2) in
+    rw (same_number ts.0 x.0 e) refl
+written_time _ times x h = absurd (Contains-nil x h)
+
+later_time : (m : Msg) (times : List ℕ) (t : ℕ) → contains times t ≡ true → contains (with_time (write_time_of m) times) t ≡ true
+later_time (Write ts class txn changes) times t h = or_right (ts.0 == t) (contains times t) h
+later_time _ times t h = h
+
+written_times : (log : Log) (x : ℕ × Change) → Contains (written log) x → contains (write_times log) x.0 ≡ true
+written_times [] x h = absurd (Contains-nil x h)
+written_times (Handed from m ∷ log) x h =
+    elim (Contains-append_cases (changes_in (Some m)) (written log) x h) as (λ _. contains (with_time (write_time_of m) (write_times log)) x.0 ≡ true) [
+      | inl i ↦ written_time m (write_times log) x i
+      | inr i ↦ later_time m (write_times log) x.0 (written_times log x i)
+    ]
+written_times (Ticked n ∷ log) x h = written_times log x h
+written_times (Submits n txn ∷ log) x h = written_times log x h
+written_times (Redeclared force t ∷ log) x h = written_times log x h
+written_times (Did act ∷ log) x h = written_times log x h
+
+-- of the changes of a new WRITE and all before, two of one item have two times
+
+first_time : (s : Setting) (x : ℕ × Change) → Contains (first_rows s) x → x.0 ≡ 0
+first_time s x h = let r = from_map (first_row s.catalogue) (database_of s.catalogue s.rows) x h in ap (λ y. y.0) r.2
+
+abbrev new_dated : ℕ → List Change → Dated
+new_dated t changes = map (λ c. (t, c)) changes
+
+not_before : (s : Setting) (log : Log) (t : ℕ) (x : ℕ × Change) → 0 < t → contains (write_times log) t ≡ false → Contains (all_dated s log) x → x.0 ≡ t → ⊥
+not_before s log t x above fresh h e = elim (Contains-append_cases (first_rows s) (written log) x h) as (λ _. ⊥) [
+  | inl i ↦ let z = first_time s x i in absurd (omega arith)
+  | inr i ↦ let yes = ap (contains (write_times log)) (sym e) ∙ written_times log x i in absurd cc
+]
+
+pair_is : (x : ℕ × Change) (t : ℕ) (c : Change) → x ≡ (t, c) → (x.0 ≡ t) × (x.1 ≡ c)
+pair_is x t c e = (ap (λ y. y.0) e, ap (λ y. y.1) e)
+
+both_new : (t : ℕ) (changes : List Change) (x y : ℕ × Change) → IsDistinct is_one (map item changes) → Contains (new_dated t changes) x
+    → Contains (new_dated t changes) y
+    → x.1.frag.0 ≡ y.1.frag.0 → x.1.key ≡ y.1.key → x ≡ y
+both_new t changes x y d i j e f =
+    let p = from_map (λ c. (t, c)) changes x i in
+    let q = from_map (λ c. (t, c)) changes y j in
+    let xp = ap (λ z. z.1) p.2 in
+    let yq = ap (λ z. z.1) q.2 in
+    let same : p.0 ≡ q.0 = one_change changes p.0 q.0 d p.1 q.1 (ap (λ c. c.frag.0) (sym xp) ∙ e ∙ ap (λ c. c.frag.0) yq)
+    (ap (λ c. c.key) (sym xp) ∙ f ∙ ap (λ c. c.key) yq) in
+    p.2 ∙ ap (λ c. (t, c)) same ∙ sym q.2
+
+new_time : (t : ℕ) (changes : List Change) (x : ℕ × Change) → Contains (new_dated t changes) x → x.0 ≡ t
+new_time t changes x h = let r = from_map (λ c. (t, c)) changes x h in ap (λ y. y.0) r.2
+
+-- a new one or an old one
+where_dated : (s : Setting) (log : Log) (news : Dated) (x : ℕ × Change) (P : Type 0) → (Contains news x → P) → (Contains (all_dated s log) x → P)
+    → Contains (first_rows s ++ (news ++ written log)) x → P
+where_dated s log news x P f g h = elim (Contains-append_cases (first_rows s) (news ++ written log) x h) as (λ _. P) [
+  | inl i ↦ g (Contains-append_left (first_rows s) (written log) x i)
+  | inr i ↦ elim (Contains-append_cases news (written log) x i) as (λ _. P) [
+    | inl j ↦ f j
+    | inr j ↦ g (Contains-append_right (first_rows s) (written log) x j)
+  ]
+]
+
+pub new_differ : (s : Setting) (log : Log) (t : ℕ) (changes : List Change) → 0 < t → contains (write_times log) t ≡ false → IsDistinct is_one (map item changes)
+    → DatesDiffer (all_dated s log) → DatesDiffer (first_rows s ++ (new_dated t changes ++ written log))
+new_differ s log t changes above fresh d old = λ x y i j e f time.
+    where_dated s log (new_dated t changes) x (x ≡ y)
+    (λ a. where_dated s log (new_dated t changes) y (x ≡ y)
+    (λ b. both_new t changes x y d a b e f)
+    (λ b. absurd (not_before s log t y above fresh b (sym time ∙ new_time t changes x a))) j)
+    (λ a. where_dated s log (new_dated t changes) y (x ≡ y)
+    (λ b. absurd (not_before s log t x above fresh a (time ∙ new_time t changes y b)))
+    (λ b. old x y a b e f time) j)
+    i

@@ -1,0 +1,137 @@
+-- A module to which nothing was handed stands for the empty log.
+use Rattle.std.proofs.Common.{ℕ, zero, suc, ◌+◌, true, false, List, [], ◌∷◌, ◌++◌, length, map, ◌≡◌, refl, ap, ◌∙◌, arith, sym, subst, append-nil, inl, inr, None}
+use Rattle.std.specs.Prelude.{slice_index_or, replicate, IsTrue, flat_map}
+use Rattle.std.specs.List.{AllByRecursion, Contains, IsDistinct, range_with_len}
+use Rattle.std.specs.Map.{keys_of}
+use Rattle.std.specs.Ordering.{eq_by_cmp}
+use Rattle.std.proofs.lemmas.List.{length-replicate}
+use Rattle.std.proofs.lemmas.List.Elements.{All-contains}
+use Rattle.std.proofs.lemmas.Map.Keys.{IsDistinct-from_sorted, IsDistinct-head, IsDistinct-tail}
+use Rattle.sdd_base.specs.declared.number.DmNo.{DmNo}
+use Rattle.sdd_base.specs.declared.number.RelNo.{RelNo}
+use Rattle.sdd_base.specs.declared.site.Site.TheVariants.{D}
+use Rattle.sdd_base.proofs.Membership.{Contains-nil, Contains-cases}
+use Rattle.sdd_catalog.specs.Catalogue.{Catalogue, fragment_at, fragment_of, has_copy}
+use Rattle.sdd_catalog.specs.Rules.{IsSound}
+use Rattle.sdd_lang.specs.Database.{Item, Row, Database, item_cmp, database_of}
+use Rattle.sdd_lang.specs.Sound.{IsEntry, IsDatabase}
+use Rattle.sdd_lang.proofs.KeyRanges.{key_in_range, fragment_holds}
+use Rattle.sdd_module.specs.SiteLog.{Setting}
+use Rattle.sdd_copy.specs.Sets.{DatesDiffer}
+use Rattle.sdd_copy.specs.Copies.{Held, is_here, StandFor}
+use Rattle.sdd_pipe.specs.Digest.{empty_digest, IsDigest}
+use Rattle.sdd_pipe.specs.Pipe.{empty_pipe}
+use Rattle.sdd_pipe.proofs.Digests.{is_empty_digest}
+use Rattle.sdd_dm.specs.Copies.{classes_of, first_row, first_rows, dated}
+use Rattle.sdd_dm.specs.Views.{Home, home_of}
+use Rattle.sdd_dm.specs.Heads.{step_at, of_class, first_step}
+use Rattle.sdd_dm.specs.State.{State}
+use Rattle.sdd_dm.specs.Stands.{Shows}
+use Rattle.sdd_dm.proofs.ByClass.{first_none}
+use Rattle.sdd_dm.proofs.Dates.{from_map, each_map, own_item}
+
+-- lists of one thing
+at_replicate : {A : Type 0} (n c : ℕ) (x : A) → slice_index_or (replicate n x) c x ≡ x
+at_replicate zero c x = refl
+at_replicate (suc n) zero x = refl
+at_replicate (suc n) (suc c) x = at_replicate n c x
+
+pub flat_none : {A B : Type 0} (xs : List A) → flat_map {A = B} (λ x. []) xs ≡ []
+flat_none [] = refl
+flat_none (x ∷ xs) = flat_none xs
+
+-- of the entries of a database one has each item
+
+same_item : (x y : Item) → x ≡ y → eq_by_cmp item_cmp x y ≡ true
+same_item x y e = rw e (own_item y.0 y.1)
+
+not_later : (e f : Item × Row) (db : Database) → AllByRecursion (λ i. eq_by_cmp item_cmp e.0 i ≡ false) (keys_of db) → Contains db f → e.0 ≡ f.0 → ⊥
+not_later e f db apart i same =
+    let no = each_map (λ j. eq_by_cmp item_cmp e.0 j ≡ false) (λ x. x.0) db f apart i in
+    let yes = same_item e.0 f.0 same in absurd cc
+
+one_entry : (db : Database) (x y : Item × Row) → IsDistinct (eq_by_cmp item_cmp) (keys_of db) → Contains db x → Contains db y → x.0 ≡ y.0 → x ≡ y
+one_entry [] x y d i j e = absurd (Contains-nil x i)
+one_entry (z ∷ db) x y d i j e =
+    let apart = IsDistinct-head (eq_by_cmp item_cmp) z.0 (keys_of db) d in
+    let rest = IsDistinct-tail (eq_by_cmp item_cmp) z.0 (keys_of db) d in
+    elim (Contains-cases z db x i) as (λ _. x ≡ y) [
+      | inl a ↦ elim (Contains-cases z db y j) as (λ _. x ≡ y) [
+        | inl b ↦ a ∙ sym b
+        | inr b ↦ absurd (not_later z y db apart b (ap (λ w. w.0) (sym a) ∙ e))
+      ]
+      | inr a ↦ elim (Contains-cases z db y j) as (λ _. x ≡ y) [
+        | inl b ↦ absurd (not_later z x db apart a (ap (λ w. w.0) (sym b) ∙ sym e))
+        | inr b ↦ one_entry db x y rest a b e
+      ]
+    ]
+
+-- the rows with which a module begins are of different items
+
+row_rel : (cat : Catalogue) (e : Item × Row) → IsSound cat → IsEntry cat e → (fragment_at cat (fragment_of cat e.0.0 e.0.1)).rel.0 ≡ e.0.0
+row_rel cat e sound entry = (fragment_holds cat sound e.0.0 e.0.1 entry.relation.0 entry.relation.1 (key_in_range e.0.1 entry.key_held)).there.rel_is
+
+first_differ : (cat : Catalogue) (db : Database) → IsSound cat → IsDatabase cat db → DatesDiffer (map (first_row cat) db)
+first_differ cat db sound is = λ x y i j frag key time.
+    let p = from_map (first_row cat) db x i in
+    let q = from_map (first_row cat) db y j in
+    let f : fragment_of cat p.0.0.0 p.0.0.1 ≡ fragment_of cat q.0.0.0 q.0.0.1 = ap (λ c. c.1.frag.0) (sym p.2) ∙ frag ∙ ap (λ c. c.1.frag.0) q.2 in
+    let k : p.0.0.1 ≡ q.0.0.1 = ap (λ c. c.1.key) (sym p.2) ∙ key ∙ ap (λ c. c.1.key) q.2 in
+    let rel : p.0.0.0 ≡ q.0.0.0 =
+    sym (row_rel cat p.0 sound (All-contains (IsEntry cat) db p.0 is.entries p.1)) ∙ ap (λ n. (fragment_at cat n).rel.0) f
+    ∙ row_rel cat q.0 sound (All-contains (IsEntry cat) db q.0 is.entries q.1) in
+    let item : p.0.0 ≡ q.0.0 = ap (λ r. (r, p.0.0.1)) rel ∙ ap (λ n. (q.0.0.0, n)) k in
+    let same : p.0 ≡ q.0 = one_entry db p.0 q.0 (IsDistinct-from_sorted item_cmp (keys_of db) is.ascends) p.1 q.1 item in
+    p.2 ∙ ap (first_row cat) same ∙ sym q.2
+
+-- nothing is in the pipes
+
+no_step : (n m c : ℕ) → of_class c (step_at (replicate n empty_digest) (replicate m false) c) ≡ None
+no_step n m c =
+    let empty = at_replicate n c empty_digest in
+    rw (empty) refl
+
+abbrev first_state : Home → ℕ → Held → State
+first_state h n copies = record {
+  home = h;
+  pipes = replicate n empty_digest;
+  waits = replicate n false;
+  copies = record { live = true; value = copies };
+  frozen = replicate n None;
+}
+
+abbrev setting_of : Catalogue → DmNo → List (RelNo × Row) → Setting
+setting_of cat dm rows = record { catalogue = cat; site = D dm; rows = rows }
+
+pub first_shown : (cat : Catalogue) (dm : DmNo) (rows : List (RelNo × Row)) (n : ℕ) (st : State) → IsSound cat → IsDatabase cat (database_of cat rows)
+    → n ≡ length cat.classes + 1
+    → st.home ≡ home_of (setting_of cat dm rows) → st.pipes ≡ replicate n empty_digest → st.waits ≡ replicate n false → st.frozen ≡ replicate n None
+    → IsTrue st.copies.live → StandFor st.copies.value (map (first_row cat) (database_of cat rows))
+    → ((f : ℕ) → has_copy cat dm.0 f ≡ true → is_here st.copies.value f ≡ true)
+    → Shows (setting_of cat dm rows) st []
+first_shown cat dm rows n st sound is many home pipes waits frozen live stand here =
+    let s : Setting = setting_of cat dm rows in
+    let all : dated s [] ≡ first_rows s = ap (λ xs. first_rows s ++ xs) (flat_none (classes_of s)) ∙ append-nil (first_rows s) in
+    record {
+      home = home;
+      pipes = ap length pipes ∙ length-replicate n empty_digest ∙ many ∙ omega arith;
+      waits = ap length waits ∙ length-replicate n false ∙ many ∙ omega arith;
+      frozen = ap length frozen ∙ length-replicate n None ∙ many ∙ omega arith;
+      classes = λ c l. record {
+        pipe = subst (λ d. IsDigest d empty_pipe) (sym (ap (λ ps. slice_index_or ps c empty_digest) pipes ∙ at_replicate n c empty_digest)) is_empty_digest;
+        waits = ap (λ ws. slice_index_or ws c false) waits ∙ at_replicate n c false;
+        frozen = ap (λ fs. slice_index_or fs c None) frozen ∙ at_replicate n c None;
+      };
+      answered = refl;
+      live = live;
+      copies = subst (StandFor st.copies.value) (sym all) stand;
+      here = here;
+      dates = subst DatesDiffer (sym (append-nil (first_rows s))) (first_differ cat (database_of cat rows) sound is);
+      reads = tt;
+    }
+
+pub first_quiet : (st : State) (n : ℕ) → st.pipes ≡ replicate n empty_digest → st.waits ≡ replicate n false → first_step st.pipes st.waits ≡ None
+first_quiet st n pipes waits =
+    ap (λ ps. first_step ps st.waits) pipes ∙ ap (first_step (replicate n empty_digest)) waits
+    ∙ first_none (λ c. of_class c (step_at (replicate n empty_digest) (replicate n false) c)) (range_with_len 0 (length (replicate n empty_digest)))
+    (no_step n n)

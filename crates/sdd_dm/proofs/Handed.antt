@@ -1,0 +1,46 @@
+-- What stands in a pipe was handed.
+use Rattle.std.proofs.Common.{ℕ, Bool, true, false, List, [], ◌∷◌, ◌++◌, ◌≡◌, sym, subst, Some}
+use Rattle.std.specs.Bool.{if◌then◌else◌}
+use Rattle.sdd_base.specs.Words.{head_of}
+use Rattle.sdd_wire.specs.declared.msg.Msg.{Msg}
+use Rattle.sdd_wire.specs.Piped.{goes_through}
+use Rattle.sdd_module.specs.SiteLog.{Log, Handed, Ticked, Submits, Redeclared, Did}
+use Rattle.sdd_pipe.specs.Pipe.{head}
+use Rattle.sdd_dm.specs.Pipes.{pipe}
+use Rattle.sdd_dm.specs.Stands.{EachHanded}
+use Rattle.sdd_dm.proofs.Prefix.{all_handed, all_there}
+
+-- P holds of each of some messages
+abbrev pub Every : (Msg → Type 0) → List Msg → Type 0
+Every P [] = Unit {0}
+Every P (m ∷ ms) = P m × Every P ms
+
+every_append : (P : Msg → Type 0) (ms more : List Msg) → Every P ms → Every P more → Every P (ms ++ more)
+every_append P [] more e f = f
+every_append P (m ∷ ms) more e f = (e.0, every_append P ms more e.1 f)
+
+every_later : (P : Msg → Type 0) (ms more : List Msg) → Every P (ms ++ more) → Every P more
+every_later P [] more e = e
+every_later P (m ∷ ms) more e = every_later P ms more e.1
+
+handed_by : (P : Msg → Type 0) (b : Bool) (m : Msg) (ms : List Msg) → P m → Every P ms → Every P (if b then ms ++ m ∷ [] else ms)
+handed_by P true m ms p e = every_append P ms (m ∷ []) e (p, tt)
+handed_by P false m ms p e = e
+
+every_handed : (P : Msg → Type 0) (c : ℕ) (log : Log) → EachHanded P log → Every P (all_handed c log)
+every_handed P c [] e = tt
+every_handed P c (Handed from m ∷ log) e = handed_by P (goes_through c m) m (all_handed c log) e.0 (every_handed P c log e.1)
+every_handed P c (Ticked n ∷ log) e = every_handed P c log e
+every_handed P c (Submits n txn ∷ log) e = every_handed P c log e
+every_handed P c (Redeclared force t ∷ log) e = every_handed P c log e
+every_handed P c (Did act ∷ log) e = every_handed P c log e
+
+every_head : (P : Msg → Type 0) (ms : List Msg) (m : Msg) → Every P ms → head_of ms ≡ Some m → P m
+every_head P [] m e h = absurd cc
+every_head P (x ∷ ms) m e h = let same : x ≡ m = cc in subst P same e.0
+
+-- what holds of each handed message holds of the head of a pipe
+pub head_handed : (P : Msg → Type 0) (c : ℕ) (log : Log) (m : Msg) → EachHanded P log → head (pipe c log) ≡ Some m → P m
+head_handed P c log m e h =
+    every_head P (pipe c log).unprocessed m
+    (every_later P (pipe c log).processed (pipe c log).unprocessed (subst (Every P) (sym (all_there c log)) (every_handed P c log e))) h

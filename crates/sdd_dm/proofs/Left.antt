@@ -1,0 +1,116 @@
+-- Each step of a head leaves fewer steps: it processes a message, or lets a READ wait that didn't wait before.
+use Rattle.std.proofs.Common.{ℕ, zero, suc, ◌<◌, Bool, true, false, List, [], ◌∷◌, length, ◌≡◌, refl, ap, ◌∙◌, arith, sym, subst, Option, Some, None}
+use Rattle.std.specs.Prelude.{IsTrue}
+use Rattle.std.specs.Bool.{if◌then◌else◌}
+use Rattle.std.specs.List.{list_all}
+use Rattle.sdd_base.specs.Words.{head_of}
+use Rattle.sdd_base.specs.declared.number.ClassNo.{ClassNo}
+use Rattle.sdd_base.specs.declared.condition.Cond.{Cond}
+use Rattle.sdd_wire.specs.declared.msg.Msg.{Msg}
+use Rattle.sdd_wire.specs.declared.msg.Msg.TheVariants.{Read, Reduce, Ship, Write, Null}
+use Rattle.sdd_pipe.specs.Digest.{Digest, Writes, put_digest, take_digest}
+use Rattle.sdd_pipe.specs.Pipes.{update, pipe_at}
+use Rattle.sdd_pipe.proofs.Updates.{length-update}
+use Rattle.sdd_dm.specs.declared.step.Step.{Step}
+use Rattle.sdd_dm.specs.declared.step.Step.TheVariants.{Processes, Refuses, Waits}
+use Rattle.sdd_dm.specs.Heads.{head_at, waits_at, is_met_in, step_by, first_step}
+use Rattle.sdd_dm.specs.State.{State, class_piped, state_handed, state_by, state_told, stepped, state_after, steps_in, steps_left}
+use Rattle.sdd_dm.proofs.FirstDue.{first_is}
+
+-- one class less
+
+taken_less : (f : Digest → Digest) (g : Bool → Bool) (pipes : List Digest) (waits : List Bool) (k : ℕ) → k < length pipes → k < length waits
+    → steps_in (f (pipe_at pipes k)) (g (waits_at waits k)) < steps_in (pipe_at pipes k) (waits_at waits k)
+    → steps_left (update k f pipes) (update k g waits) < steps_left pipes waits
+taken_less f g [] waits k l m h = absurd (omega arith)
+taken_less f g (p ∷ pipes) [] k l m h = absurd (omega arith)
+taken_less f g (p ∷ pipes) (w ∷ waits) zero l m h = omega arith
+taken_less f g (p ∷ pipes) (w ∷ waits) (suc k) l m h =
+    let i : steps_left (update k f pipes) (update k g waits) < steps_left pipes waits = taken_less f g pipes waits k (omega arith) (omega arith) h in
+    omega arith
+
+waits_less : (pipes : List Digest) (waits : List Bool) (k : ℕ) → k < length pipes → k < length waits → waits_at waits k ≡ false
+    → steps_left pipes (update k (λ w. true) waits) < steps_left pipes waits
+waits_less [] waits k l m h = absurd (omega arith)
+waits_less (p ∷ pipes) [] k l m h = absurd (omega arith)
+waits_less (p ∷ pipes) (w ∷ waits) zero l m h = let e : w ≡ false = h in rw e (omega arith)
+waits_less (p ∷ pipes) (w ∷ waits) (suc k) l m h =
+    let i : steps_left pipes (update k (λ x. true) waits) < steps_left pipes waits = waits_less pipes waits k (omega arith) (omega arith) h in omega arith
+
+abbrev digest_of : List Msg → Option ℕ → Writes → Digest
+digest_of rest latest writes = record { unprocessed = rest; latest = latest; writes = writes }
+
+fewer_by : (rest : List Msg) (latest : Option ℕ) (writes : Writes) (m : Msg) (w : Bool) → head_of rest ≡ Some m
+    → steps_in (take_digest (digest_of rest latest writes)) false < steps_in (digest_of rest latest writes) w
+fewer_by [] latest writes m w e = absurd cc
+fewer_by (x ∷ rest) latest writes m true e = omega arith
+fewer_by (x ∷ rest) latest writes m false e = omega arith
+
+head_less : (st : State) (c : ℕ) (m : Msg) → c < length st.pipes → length st.waits ≡ length st.pipes → head_at st.pipes c ≡ Some m
+    → steps_left (update c take_digest st.pipes) (update c (λ w. false) st.waits) < steps_left st.pipes st.waits
+head_less st c m l same e =
+    let p : Digest = pipe_at st.pipes c in
+    taken_less take_digest (λ w. false) st.pipes st.waits c l (omega arith) (fewer_by p.unprocessed p.latest p.writes m (waits_at st.waits c) e)
+
+-- a READ that begins to wait didn't wait
+
+not_both : {P : Type 0} (b : Bool) (ds : List Cond) → (if b then Some Processes else None) ≡ Some (Waits ds) → P
+not_both true ds e = absurd cc
+not_both false ds e = absurd cc
+
+step_less : (st : State) (c : ℕ) (m : Msg) (step : Step) (w : Bool) → c < length st.pipes → length st.waits ≡ length st.pipes → head_at st.pipes c ≡ Some m
+    → waits_at st.waits c ≡ w
+    → step_by st.pipes st.waits c w (Some m) ≡ Some step → steps_left (stepped st c m step).pipes (stepped st c m step).waits < steps_left st.pipes st.waits
+step_less st c (Null class time) step w l same e f g = head_less st c (Null class time) l same e
+step_less st c (Write ts class txn changes) step w l same e f g = head_less st c (Write ts class txn changes) l same e
+step_less st c (Read ts class txn attempt conds uses) Processes w l same e f g = head_less st c (Read ts class txn attempt conds uses) l same e
+step_less st c (Read ts class txn attempt conds uses) (Refuses by write) w l same e f g = head_less st c (Read ts class txn attempt conds uses) l same e
+step_less st c (Read ts class txn attempt conds uses) (Waits ds) false l same e f g = waits_less st.pipes st.waits c l (omega arith) f
+step_less st c (Read ts class txn attempt conds uses) (Waits ds) true l same e f g = not_both (list_all (is_met_in st.pipes) conds) ds g
+step_less st c m step true l same e f g = absurd cc
+step_less st c m step false l same e f g = absurd cc
+
+pub steps_fall : (st new : State) (p : ClassNo × Step) → first_step st.pipes st.waits ≡ Some p → length st.waits ≡ length st.pipes
+    → new ≡ state_after st p.0.0 (head_at st.pipes p.0.0) p.1
+    → steps_left new.pipes new.waits < steps_left st.pipes st.waits
+steps_fall st new p e same is =
+    let f = first_is st p e in
+    let after : new ≡ stepped st p.0.0 f.msg p.1 = is ∙ ap (λ o. state_after st p.0.0 o p.1) f.head in
+    rw after (step_less st p.0.0 f.msg p.1 (waits_at st.waits p.0.0) f.known same f.head refl
+    (ap (step_by st.pipes st.waits p.0.0 (waits_at st.waits p.0.0)) (sym f.head) ∙ f.step))
+
+-- what stays: the copies live, and there are as many flags as pipes
+
+pub record IsWhole (st : State) : Type 0 where
+  pub live : IsTrue st.copies.live
+  pub flags : length st.waits ≡ length st.pipes
+
+abbrev taken_whole : (st : State) (c : ℕ) → IsWhole st → length (update c (λ w. false) st.waits) ≡ length (update c take_digest st.pipes)
+taken_whole st c w = length-update c (λ x. false) st.waits ∙ w.flags ∙ sym (length-update c take_digest st.pipes)
+
+stepped_whole : (st : State) (c : ℕ) (m : Msg) (step : Step) → IsWhole st → IsWhole (stepped st c m step)
+stepped_whole st c (Null class time) step w = record { live = w.live; flags = taken_whole st c w }
+stepped_whole st c (Write ts class txn changes) step w = record { live = refl; flags = taken_whole st c w }
+stepped_whole st c (Read ts class txn attempt conds uses) Processes w = record { live = w.live; flags = taken_whole st c w }
+stepped_whole st c (Read ts class txn attempt conds uses) (Refuses by write) w = record { live = w.live; flags = taken_whole st c w }
+stepped_whole st c (Read ts class txn attempt conds uses) (Waits ds) w = record { live = w.live; flags = length-update c (λ x. true) st.waits ∙ w.flags }
+stepped_whole st c _ step w = w
+
+after_whole : (st : State) (c : ℕ) (o : Option Msg) (step : Step) → IsWhole st → IsWhole (state_after st c o step)
+after_whole st c None step w = w
+after_whole st c (Some m) step w = stepped_whole st c m step w
+
+pub whole_on : (st new : State) (p : ClassNo × Step) → new ≡ state_after st p.0.0 (head_at st.pipes p.0.0) p.1 → IsWhole st → IsWhole new
+whole_on st new p e w = subst IsWhole (sym e) (after_whole st p.0.0 (head_at st.pipes p.0.0) p.1 w)
+
+told_whole : (m : Msg) (st : State) → IsWhole st → IsWhole (state_told m st)
+told_whole (Reduce ts class u col values) st w = record { live = w.live; flags = w.flags }
+told_whole (Ship ts class) st w = record { live = w.live; flags = w.flags }
+told_whole _ st w = w
+
+handed_by : (o : Option ℕ) (m : Msg) (st : State) → IsWhole st → IsWhole (state_by o m st)
+handed_by (Some c) m st w = record { live = w.live; flags = w.flags ∙ sym (length-update c (put_digest m) st.pipes) }
+handed_by None m st w = told_whole m st w
+
+pub whole_handed : (m : Msg) (st new : State) → new ≡ state_handed m st → IsWhole st → IsWhole new
+whole_handed m st new e w = subst IsWhole (sym e) (handed_by (class_piped m) m st w)

@@ -1,0 +1,157 @@
+-- A message is handed: it goes to its pipe, or it is answered at once.
+use Rattle.std.proofs.Common.{ℕ, suc, ◌≤◌, ◌==◌, Bool, true, false, List, [], ◌∷◌, ◌++◌, length, ◌≡◌, refl, ap, ◌∙◌, arith, sym, subst, Some, None}
+use Rattle.std.specs.Prelude.{◌&&◌, ◌||◌, filter}
+use Rattle.std.specs.Bool.{if◌then◌else◌}
+use Rattle.sdd_base.specs.Words.{head_of, or_else, first_some}
+use Rattle.sdd_base.specs.declared.site.Site.{Site}
+use Rattle.sdd_base.specs.declared.condition.Cond.{Cond}
+use Rattle.sdd_base.specs.declared.usage.Use.{Use}
+use Rattle.sdd_base.specs.declared.number.Ts.{Ts}
+use Rattle.sdd_base.specs.declared.number.ClassNo.{ClassNo}
+use Rattle.sdd_base.specs.declared.number.TxnNo.{TxnNo}
+use Rattle.sdd_history.specs.declared.record.Rec.{Rec}
+use Rattle.sdd_history.specs.declared.record.Rec.TheVariants.{Arrive}
+use Rattle.sdd_wire.specs.declared.msg.Msg.{Msg}
+use Rattle.sdd_wire.specs.declared.msg.Msg.TheVariants.{Read}
+use Rattle.sdd_wire.specs.Piped.{goes_through}
+use Rattle.sdd_module.specs.SiteLog.{Setting, Log, Handed, Did, Act, Records, hands}
+use Rattle.sdd_module.specs.Notes.{nothing_noted}
+use Rattle.sdd_module.proofs.Making.{made_one}
+use Rattle.sdd_copy.specs.Sets.{DatesDiffer}
+use Rattle.sdd_copy.specs.Copies.{StandFor}
+use Rattle.sdd_pipe.specs.Pipe.{head}
+use Rattle.sdd_pipe.specs.Digest.{empty_digest, IsDigest, put_digest}
+use Rattle.sdd_pipe.specs.Pipes.{update, pipe_at}
+use Rattle.sdd_pipe.proofs.Digests.{is_put}
+use Rattle.sdd_pipe.proofs.Updates.{length-update}
+use Rattle.sdd_dm.specs.Pipes.{is_processing, is_wait, pipe, waits}
+use Rattle.sdd_dm.specs.Copies.{classes_of, is_answer, dated, frozen, frozen_at}
+use Rattle.sdd_dm.specs.Opens.{Open, opens, opens_acted, is_asked_of, is_read_of}
+use Rattle.sdd_dm.specs.Views.{Home, home_of, ClassView, View, class_view, view_of}
+use Rattle.sdd_dm.specs.Due.{answer_to, answer_of, open_due, head_due, due, next}
+use Rattle.sdd_dm.specs.State.{State, state_handed, notes_handed}
+use Rattle.sdd_dm.specs.Stands.{HasCopies, all_dated, ShowsClass, Shows, Worked}
+use Rattle.sdd_dm.proofs.ByClass.{at_own, at_other, same_number, other_number, by_class, first_map, only_class}
+use Rattle.sdd_dm.proofs.Applied.{dated_kept}
+
+-- what answers the one open message is due next
+
+asked_by : (h : Home) (k : ClassView) (o : Open) (b : Bool) → is_asked_of k.class o ≡ b
+    → answer_of h k (head_of (filter (is_asked_of k.class) (o ∷ []))) ≡ (if b then answer_to h k o o.msg else None)
+asked_by h k o true e = rw e refl
+asked_by h k o false e = rw e refl
+
+pub is_answered : (h : Home) (s : Setting) (log : Log) (o : Open) (c : ℕ) (a : Act) → opens log ≡ o ∷ [] → ((k : ℕ) → is_asked_of k o ≡ (c == k))
+    → c ≤ length s.catalogue.classes
+    → answer_to h (class_view s log c) o o.msg ≡ Some a → due h (view_of s log) ≡ Some a
+is_answered h s log o c a e asked l f =
+    let v : View = view_of s log in
+    let own : open_due h v (class_view s log c) ≡ Some a =
+    ap (λ os. answer_of h (class_view s log c) (head_of (filter (is_asked_of c) os))) e
+    ∙ asked_by h (class_view s log c) o true (asked c ∙ same_number c c refl) ∙ f in
+    let first : first_some (open_due h v) v.classes ≡ Some a =
+    first_map (open_due h v) (class_view s log) (classes_of s)
+    ∙ only_class (λ k. open_due h v (class_view s log k)) (suc (length s.catalogue.classes)) c a (omega arith) own
+    (λ k q. ap (λ os. answer_of h (class_view s log k) (head_of (filter (is_asked_of k) os))) e
+    ∙ asked_by h (class_view s log k) o false (asked k ∙ other_number c k q)) in
+    ap (λ x. or_else x (first_some (head_due h v) v.classes)) first
+
+-- a message for the pipe of class c
+
+handed_class : (s : Setting) (st : State) (log : Log) (from : Site) (m : Msg) (c k : ℕ) → Shows s st log → c ≤ length s.catalogue.classes
+    → k ≤ length s.catalogue.classes
+    → ((j : ℕ) → goes_through j m ≡ (c == j)) → frozen s k (Handed from m ∷ log) ≡ frozen s k log
+    → ShowsClass s (record st { pipes = update c (put_digest m) st.pipes }) (Handed from m ∷ log) k
+handed_class s st log from m c k shows l n through kept = record {
+  pipe = by_class (λ j. j ≤ length s.catalogue.classes → IsDigest (pipe_at (update c (put_digest m) st.pipes) j) (pipe j (Handed from m ∷ log))) c k
+      (λ p. subst (λ d. IsDigest d (pipe c (Handed from m ∷ log))) (sym (at_own (put_digest m) st.pipes c empty_digest (omega (arith, shows.pipes))))
+      (rw (through c, same_number c c refl) (is_put m (pipe_at st.pipes c) (pipe c log) (shows.classes c l).pipe)))
+      (λ q p. subst (λ d. IsDigest d (pipe k (Handed from m ∷ log))) (sym (at_other (put_digest m) st.pipes c k empty_digest q))
+      (rw (through k, other_number c k q) (shows.classes k p).pipe))
+      n;
+  waits = (shows.classes k n).waits;
+  frozen = (shows.classes k n).frozen ∙ sym kept;
+}
+
+-- a WRITE or NULL comes: nothing is to be answered
+pub put_shown : (s : Setting) (st : State) (log : Log) (from : Site) (m : Msg) (c : ℕ) → Shows s st log → c ≤ length s.catalogue.classes
+    → ((j : ℕ) → goes_through j m ≡ (c == j)) → ((k : ℕ) → frozen s k (Handed from m ∷ log) ≡ frozen s k log) → opens (Handed from m ∷ log) ≡ opens log
+    → DatesDiffer (all_dated s (Handed from m ∷ log)) → HasCopies s m → Shows s (record st { pipes = update c (put_digest m) st.pipes }) (Handed from m ∷ log)
+put_shown s st log from m c shows l through kept same_opens dates read = record {
+  home = shows.home;
+  pipes = length-update c (put_digest m) st.pipes ∙ shows.pipes;
+  waits = shows.waits;
+  frozen = shows.frozen;
+  classes = λ k n. handed_class s st log from m c k shows l n through (kept k);
+  answered = same_opens ∙ shows.answered;
+  live = shows.live;
+  copies = shows.copies;
+  here = shows.here;
+  dates = dates;
+  reads = (read, shows.reads);
+}
+
+-- a READ comes, and arrives
+
+and_false : {A : Type 0} (b c : Bool) (x y : A) → c ≡ false → (if b && c then x else y) ≡ y
+and_false true c x y e = rw e refl
+and_false false c x y e = refl
+
+waits_by : (b c d w : Bool) → c ≡ false → d ≡ false → (if b then (if c then false else d || w) else w) ≡ w
+waits_by true c d w e f = rw (e, f) refl
+waits_by false c d w e f = refl
+
+arrived_class : (s : Setting) (st : State) (log : Log) (c k : ℕ) (r : Rec) → is_processing r ≡ false → is_wait r ≡ false → is_answer r ≡ false
+    → ShowsClass s st log k
+    → ShowsClass s st (Did (Records c r []) ∷ log) k
+arrived_class s st log c k r e f g h = record {
+  pipe = subst (IsDigest (pipe_at st.pipes k)) (sym (and_false (c == k) (is_processing r) _ (pipe k log) e)) h.pipe;
+  waits = h.waits ∙ sym (waits_by (c == k) (is_processing r) (is_wait r) (waits k log) e f);
+  frozen = h.frozen ∙ sym (and_false (c == k) (is_answer r) (frozen_at (dated s log) (head (pipe k log))) (frozen s k log) g);
+}
+
+read_closed : (n : ℕ) (from : Site) (c : ℕ) (ts : Ts) (class : ClassNo) (txn : TxnNo) (attempt : ℕ) (conds : List Cond) (uses : List Use) (dm : _)
+    (os : List Open)
+    → os ≡ record { hand = n; from = from; msg = Read ts class txn attempt conds uses } ∷ [] → opens_acted (Records c (Arrive txn attempt dm) []) os ≡ []
+read_closed n from c ts class txn attempt conds uses dm os e =
+    let own : is_read_of txn.0 attempt (Read ts class txn attempt conds uses) ≡ true =
+    rw (same_number txn.0 txn.0 refl, same_number attempt attempt refl) refl in
+    rw (e, own) refl
+
+pub opened : (log : Log) (from : Site) (m : Msg) → opens log ≡ []
+    → opens log ++ record { hand = suc (hands log); from = from; msg = m } ∷ [] ≡ record { hand = suc (hands log); from = from; msg = m } ∷ []
+opened log from m e = ap (λ os. os ++ record { hand = suc (hands log); from = from; msg = m } ∷ []) e
+
+pub read_worked : (from : Site) (st : State) (ts : Ts) (class : ClassNo) (txn : TxnNo) (attempt : ℕ) (conds : List Cond) (uses : List Use)
+    → Worked from (Read ts class txn attempt conds uses) st (state_handed (Read ts class txn attempt conds uses) st)
+    (notes_handed from (Read ts class txn attempt conds uses) st nothing_noted)
+read_worked from st ts class txn attempt conds uses s bases log shows fit =
+    let m : Msg = Read ts class txn attempt conds uses in
+    let c : ℕ = class.0 in
+    let l : c ≤ length s.catalogue.classes = fit.piped.source.is_class in
+    let r : Rec = Arrive txn attempt st.home.dm in
+    let a : Act = Records c r [] in
+    let after : Log = Handed from m ∷ log in
+    let new : State = record st { pipes = update c (put_digest m) st.pipes } in
+    let there : opens after ≡ record { hand = suc (hands log); from = from; msg = m } ∷ [] = opened log from m shows.answered in
+    let shown : Shows s new (Did a ∷ after) = record {
+      home = shows.home;
+      pipes = length-update c (put_digest m) st.pipes ∙ shows.pipes;
+      waits = shows.waits;
+      frozen = shows.frozen;
+      classes = λ k n. arrived_class s new after c k r refl refl refl (handed_class s st log from m c k shows l n (λ j. refl) refl);
+      answered = read_closed (suc (hands log)) from c ts class txn attempt conds uses st.home.dm (opens after) there;
+      live = shows.live;
+      copies = subst (StandFor st.copies.value) (sym (dated_kept s after c r [] refl)) shows.copies;
+      here = shows.here;
+      dates = shows.dates;
+      reads = (fit.here, shows.reads);
+    } in
+    record {
+      view = Did a ∷ after;
+      shown = shown;
+      made = made_one (next s bases) ◌∷◌ after (Did a ∷ after) a nothing_noted (notes_handed from m st nothing_noted)
+          (is_answered (home_of s) s after (record { hand = suc (hands log); from = from; msg = m }) c a there (λ k. refl) l
+          (ap (λ h. Some (Records c (Arrive txn attempt h.dm) [])) (sym shows.home)))
+          refl refl;
+    }

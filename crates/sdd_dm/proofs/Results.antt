@@ -1,0 +1,7 @@
+-- Clauses on what a call returned.
+use Rattle.std.specs.Prelude.{OnOk, Result, Ok, Err}
+
+-- what follows from a fact on `Ok`
+pub on_ok : {T E : Type 0} (r : Result T E) {P Q : Type 0} → OnOk r P → (P → Q) → OnOk r Q
+on_ok (Ok x) p f = f p
+on_ok (Err e) p f = tt

@@ -1,0 +1,134 @@
+-- What a state shows of a log: what the heads may do is the same by its digests and by the pipes.
+use Rattle.std.proofs.Common.{ℕ, suc, ◌<◌, ◌≤◌, Bool, true, false, not, List, [], ◌∷◌, length, ◌≡◌, refl, ap, ◌∙◌, arith, sym, subst, Option, Some, None}
+use Rattle.std.specs.Prelude.{◌==◌, ◌&&◌, filter, find}
+use Rattle.std.specs.Bool.{if◌then◌else◌}
+use Rattle.std.specs.List.{list_any, range_with_len}
+use Rattle.sdd_base.specs.Words.{head_of}
+use Rattle.sdd_base.specs.Numbers.{time_at}
+use Rattle.sdd_base.specs.declared.condition.Cond.{Cond}
+use Rattle.sdd_base.specs.declared.change.Change.{Change}
+use Rattle.sdd_wire.specs.declared.msg.Msg.{Msg}
+use Rattle.sdd_wire.specs.declared.msg.Msg.TheVariants.{Read, Write, Null}
+use Rattle.sdd_module.specs.SiteLog.{Setting, Log}
+use Rattle.sdd_pipe.specs.Pipe.{empty_pipe, head}
+use Rattle.sdd_pipe.specs.Digest.{empty_digest, IsDigest}
+use Rattle.sdd_pipe.specs.Pipes.{pipe_at}
+use Rattle.sdd_pipe.proofs.Digests.{is_empty_digest, passed_is, last_write_is}
+use Rattle.sdd_dm.specs.declared.step.Step.TheVariants.{Processes, Refuses}
+use Rattle.sdd_dm.specs.Pipes.{pipe, waits}
+use Rattle.sdd_dm.specs.Copies.{classes_of}
+use Rattle.sdd_dm.specs.Views.{ClassView, class_view, view_of, at_class}
+use Rattle.sdd_dm.specs.Due.{is_met, last_write_for, is_at_least, spoils, holds_back, is_held, or_zero, judged, judge, step_on, head_step}
+use Rattle.sdd_dm.specs.Heads.{head_at, waits_at, is_met_in, last_write_in, spoils_in, unmet, spoiler, holds_in, is_held_in, judged_in, judge_in, step_by, step_at}
+use Rattle.sdd_dm.specs.State.{State}
+use Rattle.sdd_dm.specs.Stands.{Shows}
+use Rattle.sdd_dm.proofs.ByClass.{at_classes, past_range, past, split, any_map, any_range, all_same, filter_same}
+
+-- the view at a class
+
+abbrev pub no_class : ClassView
+no_class = record { class = 0; pipe = empty_pipe; waits = false; applied = []; frozen = None }
+
+pub at_class_is : (s : Setting) (log : Log) (c : ℕ) → c ≤ length s.catalogue.classes → at_class (view_of s log) c ≡ class_view s log c
+at_class_is s log c l = at_classes (class_view s log) (suc (length s.catalogue.classes)) c no_class (omega arith)
+
+shown_past : (s : Setting) (st : State) (log : Log) (c : ℕ) → Shows s st log → length s.catalogue.classes < c
+    → IsDigest (pipe_at st.pipes c) (at_class (view_of s log) c).pipe
+shown_past s st log c h l =
+    let none : pipe_at st.pipes c ≡ empty_digest = past st.pipes c empty_digest (omega (arith, h.pipes)) in
+    let empty : at_class (view_of s log) c ≡ no_class = past_range (class_view s log) 0 (suc (length s.catalogue.classes)) c no_class (omega arith) in
+    subst (λ d. IsDigest d (at_class (view_of s log) c).pipe) (sym none) (subst (λ k. IsDigest empty_digest k.pipe) (sym empty) is_empty_digest)
+
+-- the digest of each class
+pub pipe_shown : (s : Setting) (st : State) (log : Log) (c : ℕ) → Shows s st log → IsDigest (pipe_at st.pipes c) (at_class (view_of s log) c).pipe
+pipe_shown s st log c h =
+    split (IsDigest (pipe_at st.pipes c) (at_class (view_of s log) c).pipe) c (length s.catalogue.classes)
+    (λ l. subst (λ k. IsDigest (pipe_at st.pipes c) k.pipe) (sym (at_class_is s log c l)) (h.classes c l).pipe)
+    (shown_past s st log c h)
+
+pub head_shown : (s : Setting) (st : State) (log : Log) (c : ℕ) → Shows s st log → c ≤ length s.catalogue.classes → head_at st.pipes c ≡ head (pipe c log)
+head_shown s st log c h l = ap head_of (h.classes c l).pipe.unprocessed
+
+pub waits_shown : (s : Setting) (st : State) (log : Log) (c : ℕ) → Shows s st log → c ≤ length s.catalogue.classes → waits_at st.waits c ≡ waits c log
+waits_shown s st log c h l = (h.classes c l).waits
+
+-- conditions
+
+pub met_is : (s : Setting) (st : State) (log : Log) → Shows s st log → (d : Cond) → is_met_in st.pipes d ≡ is_met (view_of s log) d
+met_is s st log h d = passed_is (pipe_at st.pipes d.class.0) (at_class (view_of s log) d.class.0).pipe (pipe_shown s st log d.class.0 h) d.time.0
+
+last_is : (s : Setting) (st : State) (log : Log) → Shows s st log → (d : Cond) → last_write_in st.pipes d ≡ last_write_for (view_of s log) d
+last_is s st log h d = last_write_is (pipe_at st.pipes d.class.0) (at_class (view_of s log) d.class.0).pipe (pipe_shown s st log d.class.0 h) d.frags
+
+spoilt_is : (s : Setting) (st : State) (log : Log) → Shows s st log → (d : Cond) → spoils_in st.pipes d ≡ spoils (view_of s log) d
+spoilt_is s st log h d = ap (is_at_least d.time.0) (last_is s st log h d)
+
+unmet_is : (s : Setting) (st : State) (log : Log) → Shows s st log → (conds : List Cond)
+    → unmet st.pipes conds ≡ filter (λ d. not (is_met (view_of s log) d)) conds
+unmet_is s st log h conds = filter_same (λ d. not (is_met_in st.pipes d)) (λ d. not (is_met (view_of s log) d)) conds (λ d. ap not (met_is s st log h d))
+
+found_of : (f : Cond → Bool) (conds : List Cond) → find f conds ≡ head_of (filter f conds)
+found_of f [] = refl
+found_of f (d ∷ conds) =
+    elim (f d) as (λ b. f d ≡ b → find f (d ∷ conds) ≡ head_of (filter f (d ∷ conds))) [
+      | true ↦ λ e. rw e refl
+      | false ↦ λ e. rw e (found_of f conds)
+    ] refl
+
+spoiler_is : (s : Setting) (st : State) (log : Log) → Shows s st log → (conds : List Cond)
+    → spoiler st.pipes conds ≡ head_of (filter (spoils (view_of s log)) conds)
+spoiler_is s st log h conds =
+    found_of (spoils_in st.pipes) conds ∙ ap head_of (filter_same (spoils_in st.pipes) (spoils (view_of s log)) conds (spoilt_is s st log h))
+
+judged_by : (s : Setting) (st : State) (log : Log) → Shows s st log → (lacking : List Cond) (o : Option Cond)
+    → judged_in st.pipes lacking o ≡ judged (view_of s log) lacking o
+judged_by s st log h lacking (Some d) = ap (λ w. Refuses d.class (time_at (or_zero w))) (last_is s st log h d)
+judged_by s st log h [] None = refl
+judged_by s st log h (d ∷ ds) None = refl
+
+judged_is : (s : Setting) (st : State) (log : Log) → Shows s st log → (conds : List Cond) → judge_in st.pipes conds ≡ judge (view_of s log) conds
+judged_is s st log h conds =
+    ap (λ ds. judged_in st.pipes ds (spoiler st.pipes conds)) (unmet_is s st log h conds)
+    ∙ ap (judged_in st.pipes (filter (λ d. not (is_met (view_of s log) d)) conds)) (spoiler_is s st log h conds)
+    ∙ judged_by s st log h (filter (λ d. not (is_met (view_of s log) d)) conds) (head_of (filter (spoils (view_of s log)) conds))
+
+-- held WRITEs
+
+holder_is : (s : Setting) (st : State) (log : Log) (j w : ℕ) (changes : List Change) (c : ℕ) → Shows s st log → c ≤ length s.catalogue.classes
+    → holds_in st.pipes st.waits j w changes c ≡ (waits c log && holds_back j w changes (head (pipe c log)))
+holder_is s st log j w changes c h l =
+    ap (λ b. b && holds_back j w changes (head_at st.pipes c)) (waits_shown s st log c h l)
+    ∙ ap (λ m. waits c log && holds_back j w changes m) (head_shown s st log c h l)
+
+holders_are : (s : Setting) (st : State) (log : Log) (j w : ℕ) (changes : List Change) → Shows s st log
+    → list_any (holds_in st.pipes st.waits j w changes) (range_with_len 0 (length st.pipes)) ≡ list_any (λ k. k.waits && holds_back j w changes (head k.pipe))
+    (view_of s log).classes
+holders_are s st log j w changes h =
+    ap (λ n. list_any (holds_in st.pipes st.waits j w changes) (range_with_len 0 n)) h.pipes
+    ∙ any_range (holds_in st.pipes st.waits j w changes) (λ c. waits c log && holds_back j w changes (head (pipe c log))) 0 (suc (length s.catalogue.classes))
+    (λ c l. holder_is s st log j w changes c h (omega arith))
+    ∙ sym (any_map (λ k. k.waits && holds_back j w changes (head k.pipe)) (class_view s log) (classes_of s))
+
+held_is : (s : Setting) (st : State) (log : Log) (j w : ℕ) (changes : List Change) → Shows s st log
+    → is_held_in st.pipes st.waits j w changes ≡ is_held (view_of s log) j w changes
+held_is s st log j w changes h = ap (λ b. not (j == 0) && b) (holders_are s st log j w changes h)
+
+-- steps
+
+steps_by : (s : Setting) (st : State) (log : Log) (c : ℕ) (waiting : Bool) (o : Option Msg) → Shows s st log
+    → step_by st.pipes st.waits c waiting o ≡ step_on (view_of s log) c waiting o
+steps_by s st log c waiting None h = refl
+steps_by s st log c waiting (Some (Null class time)) h = refl
+steps_by s st log c waiting (Some (Write ts class txn changes)) h = ap (λ b. if b then None else Some Processes) (held_is s st log c ts.0 changes h)
+steps_by s st log c true (Some (Read ts class txn attempt conds uses)) h =
+    ap (λ b. if b then Some Processes else None) (all_same (is_met_in st.pipes) (is_met (view_of s log)) conds (met_is s st log h))
+steps_by s st log c false (Some (Read ts class txn attempt conds uses)) h = ap Some (judged_is s st log h conds)
+steps_by s st log c true (Some m) h = refl
+steps_by s st log c false (Some m) h = refl
+
+pub step_is : (s : Setting) (st : State) (log : Log) (c : ℕ) → Shows s st log → c ≤ length s.catalogue.classes
+    → step_at st.pipes st.waits c ≡ head_step (view_of s log) (class_view s log c)
+step_is s st log c h l =
+    steps_by s st log c (waits_at st.waits c) (head_at st.pipes c) h
+    ∙ ap (λ b. step_on (view_of s log) c b (head_at st.pipes c)) (waits_shown s st log c h l)
+    ∙ ap (step_on (view_of s log) c (waits c log)) (head_shown s st log c h l)

@@ -1,0 +1,219 @@
+-- The state after a step of a head shows the log with the act of that head.
+use Rattle.std.proofs.Common.{ℕ, ◌≤◌, ◌≢◌, ◌==◌, Bool, true, false, List, ◌∷◌, ◌++◌, length, map, ◌≡◌, refl, ap, ◌∙◌, arith, sym, subst, Option, Some, None}
+use Rattle.std.specs.Prelude.{◌&&◌, IsTrue, fold}
+use Rattle.std.specs.Bool.{if◌then◌else◌}
+use Rattle.std.specs.List.{All}
+use Rattle.std.proofs.lemmas.List.{take_all}
+use Rattle.std.proofs.lemmas.List.Elements.{All-weaker}
+use Rattle.sdd_base.specs.Kept.{Kept}
+use Rattle.sdd_base.specs.Sites.{number_of}
+use Rattle.sdd_base.specs.declared.site.Site.{Site}
+use Rattle.sdd_base.specs.declared.usage.Use.{Use}
+use Rattle.sdd_base.specs.declared.number.Ts.{Ts}
+use Rattle.sdd_base.specs.declared.number.ClassNo.{ClassNo}
+use Rattle.sdd_base.specs.declared.number.TxnNo.{TxnNo}
+use Rattle.sdd_base.specs.declared.condition.Cond.{Cond}
+use Rattle.sdd_catalog.specs.Catalogue.{has_copy}
+use Rattle.sdd_history.specs.declared.record.Rec.{Rec}
+use Rattle.sdd_wire.specs.declared.msg.Msg.{Msg}
+use Rattle.sdd_wire.specs.declared.msg.Msg.TheVariants.{Read}
+use Rattle.sdd_module.specs.SiteLog.{Setting, Log, Did, Records}
+use Rattle.sdd_copy.specs.Contents.{Dated, contents}
+use Rattle.sdd_copy.specs.Sets.{DatesDiffer, AreSame}
+use Rattle.sdd_copy.specs.Copies.{Held, is_here, rows_at, with_change, StandFor, AreHere}
+use Rattle.sdd_copy.proofs.Standing.{stand_all, here_all, stand_same}
+use Rattle.sdd_space.specs.Frozen.{Frozen, frozen_for}
+use Rattle.sdd_space.proofs.Uses.{held_for, frozen_told}
+use Rattle.sdd_pipe.specs.Pipe.{head, head_processed}
+use Rattle.sdd_pipe.specs.Digest.{empty_digest, IsDigest, take_digest}
+use Rattle.sdd_pipe.specs.Pipes.{update, pipe_at}
+use Rattle.sdd_pipe.proofs.Digests.{is_taken}
+use Rattle.sdd_pipe.proofs.Updates.{length-update}
+use Rattle.sdd_dm.specs.Pipes.{is_processing, is_wait, pipe, waits}
+use Rattle.sdd_dm.specs.Copies.{is_apply, is_answer, changes_in, dated, frozen_at, frozen}
+use Rattle.sdd_dm.specs.Opens.{opens}
+use Rattle.sdd_dm.specs.Fits.{IsHere}
+use Rattle.sdd_dm.specs.Heads.{waits_at}
+use Rattle.sdd_dm.specs.State.{State, frozen_of, frozen_now, head_taken}
+use Rattle.sdd_dm.specs.Stands.{HasCopies, ShowsClass, Shows}
+use Rattle.sdd_dm.proofs.ByClass.{at_own, at_other, same_number, other_number, by_class}
+use Rattle.sdd_dm.proofs.Handed.{head_handed}
+use Rattle.sdd_dm.proofs.Applied.{applied_differ, same_dated, dated_kept}
+
+-- what a record changes of its class, and of another
+
+pipe_own : (c : ℕ) (r : Rec) (sends : List (Site × Msg)) (log : Log) → is_processing r ≡ true
+    → pipe c (Did (Records c r sends) ∷ log) ≡ head_processed (pipe c log)
+pipe_own c r sends log e = rw (same_number c c refl, e) refl
+
+pipe_kept : (c : ℕ) (r : Rec) (sends : List (Site × Msg)) (log : Log) → is_processing r ≡ false → pipe c (Did (Records c r sends) ∷ log) ≡ pipe c log
+pipe_kept c r sends log e = rw (same_number c c refl, e) refl
+
+pipe_other : (k c : ℕ) (r : Rec) (sends : List (Site × Msg)) (log : Log) → c ≢ k → pipe c (Did (Records k r sends) ∷ log) ≡ pipe c log
+pipe_other k c r sends log h = rw (other_number k c h) refl
+
+waits_own : (c : ℕ) (r : Rec) (sends : List (Site × Msg)) (log : Log) → is_processing r ≡ true → waits c (Did (Records c r sends) ∷ log) ≡ false
+waits_own c r sends log e = rw (same_number c c refl, e) refl
+
+waits_begun : (c : ℕ) (r : Rec) (sends : List (Site × Msg)) (log : Log) → is_processing r ≡ false → is_wait r ≡ true
+    → waits c (Did (Records c r sends) ∷ log) ≡ true
+waits_begun c r sends log e f = rw (same_number c c refl, e, f) refl
+
+waits_other : (k c : ℕ) (r : Rec) (sends : List (Site × Msg)) (log : Log) → c ≢ k → waits c (Did (Records k r sends) ∷ log) ≡ waits c log
+waits_other k c r sends log h = rw (other_number k c h) refl
+
+frozen_by : (b c : Bool) (x y : Option Frozen) → c ≡ false → (if b && c then x else y) ≡ y
+frozen_by true c x y e = rw e refl
+frozen_by false c x y e = refl
+
+frozen_kept : (s : Setting) (k c : ℕ) (r : Rec) (sends : List (Site × Msg)) (log : Log) → is_answer r ≡ false
+    → frozen s c (Did (Records k r sends) ∷ log) ≡ frozen s c log
+frozen_kept s k c r sends log e = frozen_by (k == c) (is_answer r) (frozen_at (dated s log) (head (pipe c log))) (frozen s c log) e
+
+frozen_own : (s : Setting) (c : ℕ) (r : Rec) (sends : List (Site × Msg)) (log : Log) → is_answer r ≡ true
+    → frozen s c (Did (Records c r sends) ∷ log) ≡ frozen_at (dated s log) (head (pipe c log))
+frozen_own s c r sends log e = rw (same_number c c refl, e) refl
+
+frozen_other : (s : Setting) (k c : ℕ) (r : Rec) (sends : List (Site × Msg)) (log : Log) → c ≢ k → frozen s c (Did (Records k r sends) ∷ log) ≡ frozen s c log
+frozen_other s k c r sends log h = rw (other_number k c h) refl
+
+-- the head is processed
+
+abbrev taken : ℕ → Kept Held → List (Option Frozen) → State → State
+taken c copies rows st = record {
+  home = st.home;
+  pipes = update c take_digest st.pipes;
+  waits = update c (λ w. false) st.waits;
+  copies = copies;
+  frozen = rows;
+}
+
+taken_class : (s : Setting) (st : State) (log : Log) (c k : ℕ) (r : Rec) (sends : List (Site × Msg)) (copies : Kept Held) (rows : List (Option Frozen))
+    → Shows s st log → c ≤ length s.catalogue.classes → k ≤ length s.catalogue.classes → is_processing r ≡ true
+    → frozen_of rows k ≡ frozen s k (Did (Records c r sends) ∷ log) → ShowsClass s (taken c copies rows st) (Did (Records c r sends) ∷ log) k
+taken_class s st log c k r sends copies rows shows l m e f = record {
+  pipe = by_class (λ j. j ≤ length s.catalogue.classes → IsDigest (pipe_at (update c take_digest st.pipes) j) (pipe j (Did (Records c r sends) ∷ log))) c k
+      (λ p. subst (λ q. IsDigest (pipe_at (update c take_digest st.pipes) c) q) (sym (pipe_own c r sends log e))
+      (subst (λ d. IsDigest d (head_processed (pipe c log))) (sym (at_own take_digest st.pipes c empty_digest (omega (arith, shows.pipes))))
+      (is_taken (pipe_at st.pipes c) (pipe c log) (shows.classes c l).pipe)))
+      (λ h p. subst (λ q. IsDigest (pipe_at (update c take_digest st.pipes) k) q) (sym (pipe_other c k r sends log h))
+      (subst (λ d. IsDigest d (pipe k log)) (sym (at_other take_digest st.pipes c k empty_digest h)) (shows.classes k p).pipe))
+      m;
+  waits = by_class (λ j. j ≤ length s.catalogue.classes → waits_at (update c (λ w. false) st.waits) j ≡ waits j (Did (Records c r sends) ∷ log)) c k
+      (λ p. at_own (λ w. false) st.waits c false (omega (arith, shows.waits)) ∙ sym (waits_own c r sends log e))
+      (λ h p. at_other (λ w. false) st.waits c k false h ∙ (shows.classes k p).waits ∙ sym (waits_other c k r sends log h))
+      m;
+  frozen = f;
+}
+
+-- A record that processes the head of class c. The copies and the held rows are as the log gives them.
+taken_shown : (s : Setting) (st : State) (log : Log) (c : ℕ) (r : Rec) (sends : List (Site × Msg)) (copies : Kept Held) (rows : List (Option Frozen))
+    → Shows s st log → c ≤ length s.catalogue.classes → is_processing r ≡ true → opens (Did (Records c r sends) ∷ log) ≡ opens log
+    → IsTrue copies.live → StandFor copies.value (dated s (Did (Records c r sends) ∷ log)) → ((f : ℕ) → is_here copies.value f ≡ is_here st.copies.value f)
+    → length rows ≡ length st.frozen → ((k : ℕ) → k ≤ length s.catalogue.classes → frozen_of rows k ≡ frozen s k (Did (Records c r sends) ∷ log))
+    → Shows s (taken c copies rows st) (Did (Records c r sends) ∷ log)
+taken_shown s st log c r sends copies rows shows l e same_opens live stand here many held = record {
+  home = shows.home;
+  pipes = length-update c take_digest st.pipes ∙ shows.pipes;
+  waits = length-update c (λ w. false) st.waits ∙ shows.waits;
+  frozen = many ∙ shows.frozen;
+  classes = λ k m. taken_class s st log c k r sends copies rows shows l m e (held k m);
+  answered = same_opens ∙ shows.answered;
+  live = live;
+  copies = stand;
+  here = λ f h. here f ∙ shows.here f h;
+  dates = shows.dates;
+  reads = shows.reads;
+}
+
+-- a NULL passes, a READ is rejected: the copies and the held rows stay
+pub passed_shown : (s : Setting) (st : State) (log : Log) (c : ℕ) (r : Rec) (sends : List (Site × Msg)) → Shows s st log → c ≤ length s.catalogue.classes
+    → is_processing r ≡ true → is_apply r ≡ false → is_answer r ≡ false → opens (Did (Records c r sends) ∷ log) ≡ opens log
+    → Shows s (head_taken c st) (Did (Records c r sends) ∷ log)
+passed_shown s st log c r sends shows l e f g same_opens =
+    taken_shown s st log c r sends st.copies st.frozen shows l e same_opens shows.live
+    (subst (StandFor st.copies.value) (sym (dated_kept s log c r sends f)) shows.copies) (λ f. refl) refl
+    (λ k m. (shows.classes k m).frozen ∙ sym (frozen_kept s c k r sends log g))
+
+-- a WRITE is applied
+
+abbrev copies_with : State → Dated → Kept Held
+copies_with st xs = record { live = true; value = fold with_change st.copies.value xs }
+
+pub applied_shown : (s : Setting) (st : State) (log : Log) (c : ℕ) (r : Rec) (sends : List (Site × Msg)) (xs : Dated) → Shows s st log
+    → c ≤ length s.catalogue.classes
+    → is_processing r ≡ true → is_apply r ≡ true → is_answer r ≡ false → opens (Did (Records c r sends) ∷ log) ≡ opens log → changes_in (head (pipe c log)) ≡ xs
+    → Shows s (taken c (copies_with st xs) st.frozen st) (Did (Records c r sends) ∷ log)
+applied_shown s st log c r sends xs shows l e f g same_opens is =
+    taken_shown s st log c r sends (copies_with st xs) st.frozen shows l e same_opens refl
+    (stand_same (fold with_change st.copies.value xs) (dated s log ++ xs) (dated s (Did (Records c r sends) ∷ log))
+    (subst (λ ys. DatesDiffer (dated s log ++ ys)) is (applied_differ s log c shows.dates))
+    (subst (λ ys. AreSame (dated s log ++ ys) (dated s (Did (Records c r sends) ∷ log))) is (same_dated s log c r sends l f))
+    (stand_all xs st.copies.value (dated s log) shows.copies))
+    (here_all xs st.copies.value) refl
+    (λ k m. (shows.classes k m).frozen ∙ sym (frozen_kept s c k r sends log g))
+
+-- a READ is answered
+
+are_here : (s : Setting) (st : State) (log : Log) → Shows s st log → (uses : List Use) → All (IsHere s) uses → All (AreHere st.copies.value) uses
+are_here s st log shows uses h =
+    All-weaker (IsHere s) (AreHere st.copies.value)
+    (λ u i. All-weaker (λ f. has_copy s.catalogue (number_of s.site) f.0 ≡ true) (λ f. is_here st.copies.value f.0 ≡ true)
+    (λ f p. shows.here f.0 p) u.frags i) uses h
+
+-- the rows of the copies are those of the log
+pub frozen_is : (s : Setting) (st : State) (log : Log) (c : ℕ) (ts : Ts) (class : ClassNo) (txn : TxnNo) (attempt : ℕ) (conds : List Cond) (uses : List Use)
+    → Shows s st log
+    → head (pipe c log) ≡ Some (Read ts class txn attempt conds uses) → frozen_now st ts.0 uses ≡ frozen_for (λ f. contents f (dated s log)) ts.0 uses
+frozen_is s st log c ts class txn attempt conds uses shows e =
+    frozen_told st.copies.value (dated s log) ts.0 uses (map (held_for (rows_at st.copies.value)) uses) (length uses)
+    (ap (map (held_for (rows_at st.copies.value))) (sym (take_all (length uses) uses (omega arith)))) (omega arith) shows.copies
+    (are_here s st log shows uses (head_handed (HasCopies s) c log (Read ts class txn attempt conds uses) shows.reads e))
+
+pub answered_shown : (s : Setting) (st : State) (log : Log) (c : ℕ) (r : Rec) (sends : List (Site × Msg)) (f : Frozen) → Shows s st log
+    → c ≤ length s.catalogue.classes
+    → is_processing r ≡ true → is_apply r ≡ false → is_answer r ≡ true → opens (Did (Records c r sends) ∷ log) ≡ opens log
+    → frozen_at (dated s log) (head (pipe c log)) ≡ Some f
+    → Shows s (taken c st.copies (update c (λ old. Some f) st.frozen) st) (Did (Records c r sends) ∷ log)
+answered_shown s st log c r sends f shows l e g h same_opens is =
+    taken_shown s st log c r sends st.copies (update c (λ old. Some f) st.frozen) shows l e same_opens shows.live
+    (subst (StandFor st.copies.value) (sym (dated_kept s log c r sends g)) shows.copies) (λ f. refl) (length-update c (λ old. Some f) st.frozen)
+    (λ k m. by_class (λ j. j ≤ length s.catalogue.classes → frozen_of (update c (λ old. Some f) st.frozen) j ≡ frozen s j (Did (Records c r sends) ∷ log)) c k
+    (λ p. at_own (λ old. Some f) st.frozen c None (omega (arith, shows.frozen)) ∙ sym (frozen_own s c r sends log h ∙ is))
+    (λ q p. at_other (λ old. Some f) st.frozen c k None q ∙ (shows.classes k p).frozen ∙ sym (frozen_other s c k r sends log q))
+    m)
+
+-- a READ begins to wait
+
+waiting_class : (s : Setting) (st : State) (log : Log) (c k : ℕ) (r : Rec) (sends : List (Site × Msg)) → Shows s st log → c ≤ length s.catalogue.classes
+    → k ≤ length s.catalogue.classes
+    → is_processing r ≡ false → is_wait r ≡ true → is_answer r ≡ false
+    → ShowsClass s (record st { waits = update c (λ w. true) st.waits }) (Did (Records c r sends) ∷ log) k
+waiting_class s st log c k r sends shows l m e f g = record {
+  pipe = by_class (λ j. j ≤ length s.catalogue.classes → IsDigest (pipe_at st.pipes j) (pipe j (Did (Records c r sends) ∷ log))) c k
+      (λ p. subst (IsDigest (pipe_at st.pipes c)) (sym (pipe_kept c r sends log e)) (shows.classes c p).pipe)
+      (λ h p. subst (IsDigest (pipe_at st.pipes k)) (sym (pipe_other c k r sends log h)) (shows.classes k p).pipe)
+      m;
+  waits = by_class (λ j. j ≤ length s.catalogue.classes → waits_at (update c (λ w. true) st.waits) j ≡ waits j (Did (Records c r sends) ∷ log)) c k
+      (λ p. at_own (λ w. true) st.waits c false (omega (arith, shows.waits)) ∙ sym (waits_begun c r sends log e f))
+      (λ h p. at_other (λ w. true) st.waits c k false h ∙ (shows.classes k p).waits ∙ sym (waits_other c k r sends log h))
+      m;
+  frozen = (shows.classes k m).frozen ∙ sym (frozen_kept s c k r sends log g);
+}
+
+pub waiting_shown : (s : Setting) (st : State) (log : Log) (c : ℕ) (r : Rec) (sends : List (Site × Msg)) → Shows s st log → c ≤ length s.catalogue.classes
+    → is_processing r ≡ false → is_wait r ≡ true → is_answer r ≡ false → is_apply r ≡ false → opens (Did (Records c r sends) ∷ log) ≡ opens log
+    → Shows s (record st { waits = update c (λ w. true) st.waits }) (Did (Records c r sends) ∷ log)
+waiting_shown s st log c r sends shows l e f g h same_opens = record {
+  home = shows.home;
+  pipes = shows.pipes;
+  waits = length-update c (λ w. true) st.waits ∙ shows.waits;
+  frozen = shows.frozen;
+  classes = λ k m. waiting_class s st log c k r sends shows l m e f g;
+  answered = same_opens ∙ shows.answered;
+  live = shows.live;
+  copies = subst (StandFor st.copies.value) (sym (dated_kept s log c r sends h)) shows.copies;
+  here = shows.here;
+  dates = shows.dates;
+  reads = shows.reads;
+}

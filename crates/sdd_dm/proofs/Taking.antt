@@ -1,0 +1,34 @@
+-- A call that took a message did what the log has next, and stands for the log after it.
+use Rattle.std.proofs.Common.{Bool, true, List, ◌∷◌, ◌≡◌, refl, ap, ◌∙◌, subst, None}
+use Rattle.sdd_base.specs.Kept.{Kept}
+use Rattle.sdd_base.specs.declared.site.Site.{Site}
+use Rattle.sdd_history.specs.declared.record.Rec.{Rec}
+use Rattle.sdd_wire.specs.declared.msg.Msg.{Msg}
+use Rattle.sdd_module.specs.SiteLog.{Setting, Bases, Log, Handed, Does}
+use Rattle.sdd_module.specs.Notes.{Notes, nothing_noted}
+use Rattle.sdd_module.proofs.Does.{all_noted, does_reached}
+use Rattle.sdd_dm.specs.Views.{home_of}
+use Rattle.sdd_dm.specs.Due.{next}
+use Rattle.sdd_dm.specs.Fits.{fits}
+use Rattle.sdd_dm.specs.Heads.{first_step}
+use Rattle.sdd_dm.specs.State.{State}
+use Rattle.sdd_dm.specs.Stands.{Shows, Worked, Stands}
+use Rattle.sdd_dm.proofs.FirstDue.{act_of, due_is}
+
+-- where no head may do something, nothing is due
+pub nothing_due : (s : Setting) (bases : Bases) (st : State) (log : Log) → first_step st.pipes st.waits ≡ None → Shows s st log → next s bases log ≡ None
+nothing_due s bases st log quiet shows = due_is (home_of s) s st log shows ∙ ap (act_of (home_of s) s log) quiet
+
+abbrev kept : Bool → State → Kept State
+kept live st = record { live = live; value = st }
+
+pub take_does : (s : Setting) (bases : Bases) (log : Log) (from : Site) (m : Msg) (old : Kept State) (st new : State) (notes : Notes) (recs : List Rec)
+    (out : List (Site × Msg))
+    → old.value ≡ st → Worked from m st new notes → first_step new.pipes new.waits ≡ None → recs ≡ notes.recs → out ≡ notes.out
+    → Stands old s log → fits s bases log from m → Does (next s bases) (Handed from m ∷ log) recs out (Stands (kept true new) s)
+take_does s bases log from m old st new notes recs out is work quiet e f stands fit =
+    let start : Log = Handed from m ∷ log in
+    let more = does_reached (λ l. l) (next s bases) ◌∷◌ (λ entry l. refl) (Shows s) start new nothing_noted notes
+    (work s bases log (subst (λ x. Shows s x log) is stands.shows) fit) (λ l shows. nothing_due s bases new l quiet shows)
+    (Stands (kept true new) s) (λ l shows. record { live = refl; shows = shows; quiet = quiet }) in
+    all_noted (next s bases) start notes recs out (Stands (kept true new) s) more e f

@@ -1,0 +1,106 @@
+-- Each step of a head is the act that is due next, and the state after it shows the log with that act.
+use Rattle.std.proofs.Common.{ℕ, ◌≤◌, Bool, true, false, [], ◌∷◌, length, map, ◌≡◌, refl, ap, ◌∙◌, arith, sym, subst, Option, Some, None}
+use Rattle.sdd_base.specs.declared.site.Site.{Site}
+use Rattle.sdd_base.specs.declared.number.ClassNo.{ClassNo}
+use Rattle.sdd_history.specs.declared.record.Rec.TheVariants.{Wait, Answer, Reject as Rejected, Apply, Pass}
+use Rattle.sdd_wire.specs.declared.msg.Msg.{Msg}
+use Rattle.sdd_wire.specs.declared.msg.Msg.TheVariants.{Read, Ready, Reject, Write, Null, Done}
+use Rattle.sdd_module.specs.SiteLog.{Setting, Bases, Log, Handed, Did, Act, Records, Sends}
+use Rattle.sdd_module.specs.Notes.{Notes, nothing_noted, with_act}
+use Rattle.sdd_module.specs.Making.{Reached}
+use Rattle.sdd_module.proofs.Does.{reached_more}
+use Rattle.sdd_copy.specs.Items as items
+use Rattle.sdd_space.specs.Frozen.{Frozen, counts_of}
+use Rattle.sdd_pipe.specs.Pipe.{head}
+use Rattle.sdd_dm.specs.declared.step.Step.{Step}
+use Rattle.sdd_dm.specs.declared.step.Step.TheVariants.{Processes, Refuses, Waits}
+use Rattle.sdd_dm.specs.Pipes.{pipe}
+use Rattle.sdd_dm.specs.Copies.{changes_in, dated, frozen_at, counts_held}
+use Rattle.sdd_dm.specs.Views.{Home, home_of, source_of, view_of, dated_in}
+use Rattle.sdd_dm.specs.Due.{ask_for, done_for, act_by, next}
+use Rattle.sdd_dm.specs.Heads.{head_at, waits_at, step_by, first_step}
+use Rattle.sdd_dm.specs.State.{State, frozen_now, act_in, stepped, state_after, notes_after}
+use Rattle.sdd_dm.specs.Stands.{Shows, Worked}
+use Rattle.sdd_dm.proofs.ViewSteps.{dated_is}
+use Rattle.sdd_dm.proofs.Shown.{head_shown}
+use Rattle.sdd_dm.proofs.FirstDue.{IsFirst, first_is, next_act}
+use Rattle.sdd_dm.proofs.Stepped.{frozen_is, passed_shown, applied_shown, answered_shown, waiting_shown}
+
+-- the act
+
+abbrev answer_by : Home → ℕ → Msg → Frozen → Act
+answer_by h c (Read ts class txn attempt conds uses) f = Records c (Answer txn attempt h.dm) ((source_of h c, Ready ts class (counts_of f)) ∷ [])
+answer_by h c m f = Sends (source_of h c) m None
+
+act_is : (s : Setting) (st : State) (log : Log) (c : ℕ) (m : Msg) (step : Step) → Shows s st log → head (pipe c log) ≡ Some m
+    → act_by (home_of s) (view_of s log) c m step ≡ act_in st c m step
+act_is s st log c (Null class time) step shows e = ap (λ h. Records c (Pass class h.dm time) []) (sym shows.home)
+act_is s st log c (Write ts class txn changes) step shows e = ap (λ h. Records c (Apply txn class h.dm ts) (done_for c (Done ts))) (sym shows.home)
+act_is s st log c (Read ts class txn attempt conds uses) Processes shows e =
+    let m : Msg = Read ts class txn attempt conds uses in
+    let rows : frozen_at (dated_in (view_of s log)) (Some m) ≡ Some (frozen_now st ts.0 uses) =
+    ap (λ xs. frozen_at xs (Some m)) (dated_is s log) ∙ ap Some (sym (frozen_is s st log c ts class txn attempt conds uses shows e)) in
+    ap (λ o. Records c (Answer txn attempt (home_of s).dm) ((source_of (home_of s) c, Ready ts class (counts_held o)) ∷ [])) rows
+    ∙ ap (λ h. answer_by h c m (frozen_now st ts.0 uses)) (sym shows.home)
+act_is s st log c (Read ts class txn attempt conds uses) (Refuses by write) shows e =
+    ap (λ h. Records c (Rejected txn attempt h.dm by write) ((source_of h c, Reject ts class by write) ∷ [])) (sym shows.home)
+act_is s st log c (Read ts class txn attempt conds uses) (Waits ds) shows e =
+    ap (λ h. Records c (Wait txn attempt h.dm ds) (map (ask_for h) ds)) (sym shows.home)
+act_is s st log c m step shows e = refl
+
+-- the state after it
+
+step_shown : (s : Setting) (st : State) (log : Log) (c : ℕ) (w : Bool) (m : Msg) (step : Step) → Shows s st log → c ≤ length s.catalogue.classes
+    → head (pipe c log) ≡ Some m
+    → step_by st.pipes st.waits c w (Some m) ≡ Some step → Shows s (stepped st c m step) (Did (act_in st c m step) ∷ log)
+step_shown s st log c w (Null class time) step shows l e f = passed_shown s st log c (Pass class st.home.dm time) [] shows l refl refl refl refl
+step_shown s st log c w (Write ts class txn changes) step shows l e f =
+    applied_shown s st log c (Apply txn class st.home.dm ts) (done_for c (Done ts)) (items.dated ts.0 changes) shows l refl refl refl refl (ap changes_in e)
+step_shown s st log c w (Read ts class txn attempt conds uses) Processes shows l e f =
+    answered_shown s st log c (Answer txn attempt st.home.dm) ((source_of st.home c, Ready ts class (counts_of (frozen_now st ts.0 uses))) ∷ [])
+    (frozen_now st ts.0 uses) shows l refl refl refl refl
+    (ap (frozen_at (dated s log)) e ∙ ap Some (sym (frozen_is s st log c ts class txn attempt conds uses shows e)))
+step_shown s st log c w (Read ts class txn attempt conds uses) (Refuses by write) shows l e f =
+    passed_shown s st log c (Rejected txn attempt st.home.dm by write) ((source_of st.home c, Reject ts class by write) ∷ []) shows l refl refl refl refl
+step_shown s st log c w (Read ts class txn attempt conds uses) (Waits ds) shows l e f =
+    waiting_shown s st log c (Wait txn attempt st.home.dm ds) (map (ask_for st.home) ds) shows l refl refl refl refl refl
+step_shown s st log c true m step shows l e f = absurd cc
+step_shown s st log c false m step shows l e f = absurd cc
+
+-- one turn of the loop
+
+after_is : (st : State) (c : ℕ) (o : Option Msg) (m : Msg) (step : Step) → o ≡ Some m → state_after st c o step ≡ stepped st c m step
+after_is st c o m step e = rw e refl
+
+notes_are : (st : State) (c : ℕ) (o : Option Msg) (m : Msg) (step : Step) (n : Notes) → o ≡ Some m → notes_after st c o step n ≡ with_act (act_in st c m step) n
+notes_are st c o m step n e = rw e refl
+
+one_step : (s : Setting) (bases : Bases) (st new : State) (p : ClassNo × Step) (log : Log) → first_step st.pipes st.waits ≡ Some p → (f : IsFirst st p)
+    → new ≡ stepped st p.0.0 f.msg p.1
+    → Shows s st log → (next s bases log ≡ Some (act_in st p.0.0 f.msg p.1)) × Shows s new (Did (act_in st p.0.0 f.msg p.1) ∷ log)
+one_step s bases st new p log e f is shows =
+    let few : p.0.0 ≤ length s.catalogue.classes = omega (arith, f.known, shows.pipes) in
+    let there : head (pipe p.0.0 log) ≡ Some f.msg = sym (head_shown s st log p.0.0 shows few) ∙ f.head in (
+      next_act (home_of s) s st log p shows e f ∙ ap Some (act_is s st log p.0.0 f.msg p.1 shows there),
+      subst (λ x. Shows s x (Did (act_in st p.0.0 f.msg p.1) ∷ log)) (sym is)
+          (step_shown s st log p.0.0 (waits_at st.waits p.0.0) f.msg p.1 shows few there
+          (ap (step_by st.pipes st.waits p.0.0 (waits_at st.waits p.0.0)) (sym f.head) ∙ f.step)),
+    )
+
+step_reached : (s : Setting) (bases : Bases) (start : Log) (st new : State) (p : ClassNo × Step) (old notes more : Notes)
+    → Reached (Shows s) (next s bases) ◌∷◌ start st old notes
+    → first_step st.pipes st.waits ≡ Some p → new ≡ state_after st p.0.0 (head_at st.pipes p.0.0) p.1
+    → more ≡ notes_after st p.0.0 (head_at st.pipes p.0.0) p.1 notes
+    → Reached (Shows s) (next s bases) ◌∷◌ start new old more
+step_reached s bases start st new p old notes more r e is note =
+    let f = first_is st p e in
+    reached_more (Shows s) (next s bases) ◌∷◌ start st new (act_in st p.0.0 f.msg p.1) old notes more r
+    (λ log shows. one_step s bases st new p log e f (is ∙ after_is st p.0.0 (head_at st.pipes p.0.0) f.msg p.1 f.head) shows)
+    (note ∙ notes_are st p.0.0 (head_at st.pipes p.0.0) f.msg p.1 notes f.head)
+
+pub works_on : (from : Site) (m : Msg) (old st new : State) (p : ClassNo × Step) (notes more : Notes) → Worked from m old st notes
+    → first_step st.pipes st.waits ≡ Some p → new ≡ state_after st p.0.0 (head_at st.pipes p.0.0) p.1
+    → more ≡ notes_after st p.0.0 (head_at st.pipes p.0.0) p.1 notes
+    → Worked from m old new more
+works_on from m old st new p notes more work e is note =
+    λ s bases log shows fit. step_reached s bases (Handed from m ∷ log) st new p nothing_noted notes more (work s bases log shows fit) e is note

@@ -1,0 +1,19 @@
+use Rattle.std.proofs.Common.{ap, ◌∙◌, [], map, fold, None}
+use Rattle.std.specs.Prelude.{is_some, slice_index_or}
+use Rattle.sdd_lang.specs.Database.{database_of}
+use Rattle.sdd_copy.specs.Copies.{with_change}
+use Rattle.sdd_copy.proofs.Standing.{stand_applied, here_applied}
+use Rattle.sdd_dm.specs.Copies.{first_row}
+use Rattle.sdd_dm.proofs.starting.first_copies.Goals as goal
+
+pub returns-clause-stand : goal.returns-clause-stand
+returns-clause-stand c =
+    stand_applied c.write_rows.new.copies.value c.in_ok-copies.copies.value (map (first_row c.args.cat.now) (database_of c.args.cat.now c.args.rows.now))
+    (c.in_ok-write_rows.ensures.value ∙ ap (λ es. fold with_change c.in_ok-copies.copies.value (map (first_row c.args.cat.now) es)) c.in_ok-last.ensures)
+    [] c.in_ok-copies.ensures.stand
+
+pub returns-clause-here : goal.returns-clause-here
+returns-clause-here c = λ f h.
+    here_applied c.write_rows.new.copies.value c.in_ok-copies.copies.value (map (first_row c.args.cat.now) (database_of c.args.cat.now c.args.rows.now))
+    (c.in_ok-write_rows.ensures.value ∙ ap (λ es. fold with_change c.in_ok-copies.copies.value (map (first_row c.args.cat.now) es)) c.in_ok-last.ensures) f
+    ∙ c.in_ok-copies.ensures.here f ∙ ap (λ keys. is_some (slice_index_or keys f None)) c.as_slice.ensures.value ∙ c.in_ok-keys.ensures f h

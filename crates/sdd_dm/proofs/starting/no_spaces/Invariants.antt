@@ -1,0 +1,6 @@
+use Rattle.std.proofs.Common.{◌≡◌, None}
+use Rattle.std.specs.Prelude.{replicate}
+use Rattle.sdd_dm.proofs.starting.no_spaces.Given as goal
+
+abbrev pub invariant-loop : goal.invariant-loop
+invariant-loop l = l.spaces.items ≡ replicate l.counter None

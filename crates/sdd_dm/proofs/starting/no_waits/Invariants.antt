@@ -1,0 +1,6 @@
+use Rattle.std.proofs.Common.{◌≡◌, false}
+use Rattle.std.specs.Prelude.{replicate}
+use Rattle.sdd_dm.proofs.starting.no_waits.Given as goal
+
+abbrev pub invariant-loop : goal.invariant-loop
+invariant-loop l = l.waits.items ≡ replicate l.counter false

@@ -1,0 +1,6 @@
+use Rattle.std.proofs.Common.{◌≡◌, ◌∷◌, map, take}
+use Rattle.sdd_base.specs.declared.site.Site.TheVariants.{U, T}
+use Rattle.sdd_dm.proofs.starting.sources.Given as goal
+
+abbrev pub invariant-loop-place : goal.invariant-loop-place
+invariant-loop-place l = l.sites.items ≡ U ∷ map (λ class. T class.tm) (take l.place l.cat.classes)

@@ -1,0 +1,16 @@
+use Rattle.std.proofs.Common.{◌≡◌, map, fold}
+use Rattle.std.specs.Prelude.{IsTrue}
+use Rattle.std.specs.List.{All}
+use Rattle.sdd_lang.specs.Sound.{IsEntry}
+use Rattle.sdd_copy.specs.Copies.{with_change}
+use Rattle.sdd_dm.specs.Copies.{first_row}
+use Rattle.sdd_dm.specs.Starts.{lent}
+use Rattle.sdd_dm.proofs.starting.write_rows.Given as goal
+
+abbrev pub invariant-loop-item : goal.invariant-loop-item
+invariant-loop-item l = record {
+  live : IsTrue l.copies.live;
+  entries : All (IsEntry l.cat) (map lent l.item-iterator);
+  value : fold with_change l.copies.value (map (first_row l.cat) (map lent l.item-iterator)) ≡ fold with_change l.initial.copies.value
+      (map (first_row l.cat) (map lent l.last.entries));
+}

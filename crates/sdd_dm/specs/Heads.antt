@@ -1,0 +1,79 @@
+-- What the heads of the pipes may do, by what the module keeps of the pipes and by which heads wait. These are the words of
+-- what is due, said of digests in place of pipes.
+use Rattle.std.specs.Prelude.{ℕ, ◌==◌, Bool, true, false, not, ◌&&◌, if◌then◌else◌, List, [], ◌∷◌, filter, find, length, slice_index_or, Option, Some, None}
+use Rattle.std.specs.List.{list_any, list_all, range_with_len}
+use Rattle.sdd_base.specs.Words.{head_of, first_some}
+use Rattle.sdd_base.specs.Numbers.{class_no, time_at}
+use Rattle.sdd_base.specs.declared.number.ClassNo.{ClassNo}
+use Rattle.sdd_base.specs.declared.condition.Cond.{Cond}
+use Rattle.sdd_base.specs.declared.change.Change.{Change}
+use Rattle.sdd_wire.specs.declared.msg.Msg.{Msg}
+use Rattle.sdd_wire.specs.declared.msg.Msg.TheVariants.{Read, Write, Null}
+use Rattle.sdd_pipe.specs.Digest.{Digest, has_passed, last_in}
+use Rattle.sdd_pipe.specs.Pipes.{pipe_at}
+use Rattle.sdd_dm.specs.declared.step.Step.{Step}
+use Rattle.sdd_dm.specs.declared.step.Step.TheVariants.{Processes, Refuses, Waits}
+use Rattle.sdd_dm.specs.Due.{is_at_least, holds_back, or_zero}
+
+-- the first unprocessed message of class c, and whether it waits
+abbrev pub head_at : List Digest → ℕ → Option Msg
+head_at pipes c = head_of (pipe_at pipes c).unprocessed
+
+abbrev pub waits_at : List Bool → ℕ → Bool
+waits_at waits c = slice_index_or waits c false
+
+-- conditions
+
+abbrev pub is_met_in : List Digest → Cond → Bool
+is_met_in pipes d = has_passed (pipe_at pipes d.class.0) d.time.0
+
+abbrev pub last_write_in : List Digest → Cond → Option ℕ
+last_write_in pipes d = last_in d.frags (pipe_at pipes d.class.0)
+
+abbrev pub spoils_in : List Digest → Cond → Bool
+spoils_in pipes d = is_at_least d.time.0 (last_write_in pipes d)
+
+abbrev pub unmet : List Digest → List Cond → List Cond
+unmet pipes conds = filter (λ d. not (is_met_in pipes d)) conds
+
+abbrev pub spoiler : List Digest → List Cond → Option Cond
+spoiler pipes conds = find (spoils_in pipes) conds
+
+-- held WRITEs
+
+abbrev pub holds_in : List Digest → List Bool → ℕ → ℕ → List Change → ℕ → Bool
+holds_in pipes waits j w changes reader = waits_at waits reader && holds_back j w changes (head_at pipes reader)
+
+abbrev pub is_held_in : List Digest → List Bool → ℕ → ℕ → List Change → Bool
+is_held_in pipes waits j w changes = not (j == 0) && list_any (holds_in pipes waits j w changes) (range_with_len 0 (length pipes))
+
+-- steps
+
+abbrev pub judged_in : List Digest → List Cond → Option Cond → Step
+judged_in pipes lacking (Some d) = Refuses d.class (time_at (or_zero (last_write_in pipes d)))
+judged_in pipes [] None = Processes
+judged_in pipes (d ∷ ds) None = Waits (d ∷ ds)
+
+abbrev pub judge_in : List Digest → List Cond → Step
+judge_in pipes conds = judged_in pipes (unmet pipes conds) (spoiler pipes conds)
+
+abbrev pub step_by : List Digest → List Bool → ℕ → Bool → Option Msg → Option Step
+step_by pipes waits c waiting None = None
+step_by pipes waits c waiting (Some (Null class time)) = Some Processes
+step_by pipes waits c waiting (Some (Write ts class txn changes)) = if is_held_in pipes waits c ts.0 changes then None else Some Processes
+step_by pipes waits c true (Some (Read ts class txn attempt conds uses)) = if list_all (is_met_in pipes) conds then Some Processes else None
+step_by pipes waits c false (Some (Read ts class txn attempt conds uses)) = Some (judge_in pipes conds)
+step_by pipes waits c waiting (Some m) = None
+
+-- what the head of class c may do
+abbrev pub step_at : List Digest → List Bool → ℕ → Option Step
+step_at pipes waits c = step_by pipes waits c (waits_at waits c) (head_at pipes c)
+
+-- the first head that may do something, from class 0 on
+
+abbrev pub of_class : ℕ → Option Step → Option (ClassNo × Step)
+of_class c None = None
+of_class c (Some step) = Some (class_no c, step)
+
+abbrev pub first_step : List Digest → List Bool → Option (ClassNo × Step)
+first_step pipes waits = first_some (λ c. of_class c (step_at pipes waits c)) (range_with_len 0 (length pipes))

@@ -1,0 +1,36 @@
+-- For what the READ at the head of a pipe waits.
+use Rattle.std.specs.Prelude.{ℕ, ◌≡◌, ◌==◌, Bool, not, if◌then◌else◌, List, find, Option, Some, None, MatchOption}
+use Rattle.sdd_base.specs.declared.condition.Cond.{Cond}
+use Rattle.sdd_wire.specs.declared.msg.Msg.{Msg}
+use Rattle.sdd_wire.specs.declared.msg.Msg.TheVariants.{Read}
+use Rattle.sdd_module.specs.SiteLog.{Setting, Log}
+use Rattle.sdd_pipe.specs.Pipe.{head}
+use Rattle.sdd_pipe.specs.Digest.{Digest}
+use Rattle.sdd_dm.specs.Pipes.{pipe, waits}
+use Rattle.sdd_dm.specs.Views.{view_of}
+use Rattle.sdd_dm.specs.Due.{is_met}
+use Rattle.sdd_dm.specs.Heads.{head_at, waits_at, is_met_in}
+
+-- the conditions of a READ with this timestamp
+abbrev pub conds_of : ℕ → Option Msg → Option (List Cond)
+conds_of t (Some (Read ts class txn attempt conds uses)) = if ts.0 == t then Some conds else None
+conds_of t _ = None
+
+-- those of the READ of class c with this timestamp that waits, where there is one
+abbrev pub waiting_at : ℕ → ℕ → Log → Option (List Cond)
+waiting_at c t log = if waits c log then conds_of t (head (pipe c log)) else None
+
+-- None where no such READ waits, and else the first of its conditions that isn't met
+abbrev pub IsAwaited : Setting → Log → ℕ → ℕ → Option Cond → Type 0
+IsAwaited s log c t answer =
+    MatchOption answer (waiting_at c t log ≡ None)
+    (λ d. (conds : List Cond) × (waiting_at c t log ≡ Some conds) × (find (λ e. not (is_met (view_of s log) e)) conds ≡ Some d))
+
+-- the same by digests
+
+abbrev pub waiting_in : List Digest → List Bool → ℕ → ℕ → Option (List Cond)
+waiting_in pipes flags c t = if waits_at flags c then conds_of t (head_at pipes c) else None
+
+abbrev pub first_unmet : List Digest → Option (List Cond) → Option Cond
+first_unmet pipes None = None
+first_unmet pipes (Some conds) = find (λ d. not (is_met_in pipes d)) conds

@@ -1,0 +1,159 @@
+//! What a data module begins with.
+ghost use Rattle.std.specs.Prelude.{◌≡◌, ◌≤◌, ◌∷◌, ℕ, IfOk, OnOk, IsTrue, length, map, fold, replicate, is_some, slice_index_or, true, false, Some, None};
+ghost use Rattle.std.specs.List.{All};
+ghost use Rattle.sdd_base.specs.declared.site.Site.TheVariants.{U, T};
+ghost use Rattle.sdd_catalog.specs.Catalogue.{has_copy};
+ghost use Rattle.sdd_lang.specs.Database.{database_of};
+ghost use Rattle.sdd_lang.specs.Fits.{FitsStart};
+ghost use Rattle.sdd_lang.specs.Sound.{IsEntry};
+ghost use Rattle.sdd_copy.specs.Copies.{is_here, with_change, StandFor};
+ghost use Rattle.sdd_dm.specs.Copies.{first_row};
+ghost use Rattle.sdd_dm.specs.Starts.{lent};
+
+use sdd_base::{Change, ClassNo, DmNo, FragNo, NoMemory, Parcel, RelNo, Row, Site, Ts};
+use sdd_catalog::Catalogue;
+use sdd_copy::Copies;
+use sdd_lang::{key_of, law_rows_make_database};
+use sdd_space::Space;
+use std::alloc::Global;
+use std::collections::BTreeMap;
+
+/// The sites that run the classes, from class 0 on.
+pub fn sources(alloc: Global, cat: &Catalogue) -> Result<Vec<Site>, NoMemory>
+    ensures { IfOk result (λ sites. sites.items ≡ U ∷ map (λ class. T class.tm) cat.now.classes) }
+{
+    let mut sites = Vec::new(alloc);
+    sites.push(Site::U)?;
+    for place in 0..cat.classes() {
+        sites.push(Site::T(cat.class(ClassNo(place + 1)).tm))?;
+    }
+    Ok(sites)
+}
+
+/// No head waits, of so many classes.
+pub fn no_waits(alloc: Global, classes: u32) -> Result<Vec<bool>, NoMemory>
+    ensures { IfOk result (λ waits. waits.items ≡ replicate classes false) }
+{
+    let mut waits = Vec::new(alloc);
+    for _ in 0..classes {
+        waits.push(false)?;
+    }
+    Ok(waits)
+}
+
+/// No rows are held for so many classes.
+pub fn no_spaces(alloc: Global, classes: u32) -> Result<Vec<Option<Space>>, NoMemory>
+    ensures { IfOk result (λ spaces. spaces.items ≡ replicate classes None) }
+{
+    let mut spaces = Vec::new(alloc);
+    for _ in 0..classes {
+        spaces.push(None)?;
+    }
+    Ok(spaces)
+}
+
+/// The copies of a module, with the rows with which it begins.
+///
+/// O(n log n) for n rows, of which those of its fragments are copied.
+pub fn first_copies(
+    alloc: Global,
+    cat: &Catalogue,
+    dm: DmNo,
+    rows: &[(RelNo, Row)],
+) -> Result<Copies, NoMemory>
+    requires { All (FitsStart cat.now) rows.now }
+    ensures live { IfOk result (λ copies. IsTrue copies.live) }
+    ensures stand { IfOk result (λ copies. StandFor copies.value
+        (map (first_row cat.now) (database_of cat.now rows.now))) }
+    ensures here { IfOk result (λ copies. (f : ℕ) →
+        has_copy cat.now dm.0 f ≡ true → is_here copies.value f ≡ true) }
+{
+    law_rows_make_database(cat, rows);
+    let keys = key_columns(alloc, cat, dm)?;
+    let mut copies = Copies::new(alloc, keys.as_slice())?;
+    let last = last_rows(alloc, cat, rows)?;
+    write_rows(&mut copies, cat, &last)?;
+    Ok(copies)
+}
+
+/// By fragment, from number 0 on, the key column of its relation where the module has a copy.
+/// Number 0 stands for fragment 1.
+fn key_columns(alloc: Global, cat: &Catalogue, dm: DmNo) -> Result<Vec<Option<u32>>, NoMemory>
+    ensures { IfOk result (λ keys. (f : ℕ) → has_copy cat.now dm.0 f ≡ true
+        → is_some (slice_index_or keys.items f None) ≡ true) }
+{
+    cat.known();
+    let mut keys = Vec::new(alloc);
+    for number in 0..cat.fragments() + 1 {
+        keys.push(key_column(cat, dm, number))?;
+    }
+    Ok(keys)
+}
+
+fn key_column(cat: &Catalogue, dm: DmNo, number: u32) -> Option<u32>
+    requires { number ≤ length cat.now.fragments }
+    ensures { is_some result ≡ has_copy cat.now dm.0 number }
+{
+    cat.known();
+    let frag = FragNo(number.max(1));
+    if frag.0 > cat.fragments() || !cat.has_copy(dm, frag) {
+        return None;
+    }
+    Some(cat.relation(cat.fragment(frag).rel).key)
+}
+
+/// The row of each item, by relation and key: of two with one key the later stands.
+fn last_rows<'a>(
+    alloc: Global,
+    cat: &Catalogue,
+    rows: &'a [(RelNo, Row)],
+) -> Result<BTreeMap<(u32, i64), &'a Row>, NoMemory>
+    requires { All (FitsStart cat.now) rows.now }
+    ensures { IfOk result (λ last. map lent last.entries ≡ database_of cat.now rows.now) }
+{
+    let mut last = BTreeMap::new(alloc);
+    for (rel, row) in rows {
+        let key = key_of(cat, *rel, row);
+        last.insert((rel.0, key), row)?;
+    }
+    Ok(last)
+}
+
+/// Writes the rows of the fragments that have copies, dated 0.
+fn write_rows(
+    copies: &mut Copies,
+    cat: &Catalogue,
+    last: &BTreeMap<(u32, i64), &Row>,
+) -> Result<(), NoMemory>
+    requires live { IsTrue copies.old.live }
+    requires entries { All (IsEntry cat.now) (map lent last.now.entries) }
+    ensures live { OnOk result (IsTrue copies.new.live) }
+    ensures value { OnOk result (copies.new.value ≡ fold with_change copies.old.value
+        (map (first_row cat.now) (map lent last.now.entries))) }
+{
+    for (item, row) in last.iter() {
+        let frag = cat.fragment_of(RelNo(item.0), item.1);
+        write_row(copies, frag, item.1, row)?;
+    }
+    Ok(())
+}
+
+/// Writes a row, dated 0, where its fragment has a copy.
+fn write_row(copies: &mut Copies, frag: FragNo, key: i64, row: &Row) -> Result<(), NoMemory>
+    requires { IsTrue copies.old.live }
+    ensures live { OnOk result (IsTrue copies.new.live) }
+    ensures value { OnOk result (copies.new.value ≡ with_change copies.old.value
+        (0, record { frag = frag; key = key; row = Some row.now })) }
+{
+    match copies.at(frag) {
+        None => Ok(()),
+        Some(_) => copies.write(
+            Ts(0),
+            Change {
+                frag,
+                key,
+                row: Some(row.copy()?),
+            },
+        ),
+    }
+}

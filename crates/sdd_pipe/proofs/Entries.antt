@@ -1,0 +1,197 @@
+-- What is kept by fragment: room for an entry, and an entry that is raised.
+use Rattle.std.proofs.Common.{ℕ, Bool, true, false, cond, List, [], ◌∷◌, ◌++◌, ◌≡◌, refl, ap, ◌∙◌, sym, arith, Option, Some, None}
+use Rattle.std.specs.Prelude.{◌==◌, ◌||◌, ◌&&◌, nat_le, fold, is_some}
+use Rattle.std.specs.Bool.{if◌then◌else◌}
+use Rattle.std.specs.List.{list_any}
+use Rattle.std.specs.Ordering.{nat_cmp, is_eq, match_ordering}
+use Rattle.std.specs.declared.cmp.Ordering.TheVariants.{Less, Equal, Greater}
+use Rattle.std.specs.BTreeMap.{insert_entry}
+use Rattle.std.proofs.lemmas.Bool.Decides.{nat_tests}
+use Rattle.sdd_base.specs.declared.number.FragNo.{FragNo}
+use Rattle.sdd_base.specs.declared.change.Change.{Change}
+use Rattle.sdd_wire.specs.declared.msg.Msg.{Msg}
+use Rattle.sdd_pipe.specs.Pipe.{raised}
+use Rattle.sdd_pipe.specs.Digest.{Writes, entry_of, with_room, raised_entry, with_write, is_by, or_none, write_in, changes_of, HasRoom, HaveRoom}
+
+-- an entry is put in
+
+eq_at : (a b : ℕ) → is_eq (nat_cmp a b) ≡ (a == b)
+eq_at a b = grind (arith, nat_tests)
+
+Entry : Type 0
+Entry = ℕ × Option ℕ
+
+at_less : (f g a : ℕ) (v w x : Option (Option ℕ)) → cond (is_eq (nat_cmp g f)) v (cond (is_eq (nat_cmp g a)) w x)
+    ≡ (if f == g then v else cond (is_eq (nat_cmp g a)) w x)
+at_less f g a v w x = rw (eq_at g f) (flip g f)
+  where
+    flip : (g f : ℕ) → cond (g == f) v (cond (is_eq (nat_cmp g a)) w x) ≡ (if f == g then v else cond (is_eq (nat_cmp g a)) w x)
+    flip g f = let e : (g == f) ≡ (f == g) = grind (arith, nat_tests) in rw e refl
+
+same_number : (f a : ℕ) → nat_cmp f a ≡ Equal → f ≡ a
+same_number f a e = grind (arith, nat_tests)
+
+not_same : (f a g : ℕ) → nat_cmp f a ≡ Greater → (g == a) ≡ true → (f == g) ≡ false
+not_same f a g e h = grind (arith, nat_tests)
+
+at_equal : (f g a : ℕ) (v w x : Option (Option ℕ)) → nat_cmp f a ≡ Equal → cond (is_eq (nat_cmp g a)) v x
+    ≡ (if f == g then v else cond (is_eq (nat_cmp g a)) w x)
+at_equal f g a v w x e =
+    let same : f ≡ a = same_number f a e in
+    rw (eq_at g a, same) (elim (g == a) as (λ b. (g == a) ≡ b → cond b v x ≡ (if a == g then v else cond b w x)) [
+      | true ↦ λ p. let q : (a == g) ≡ true = grind (arith, nat_tests, p) in rw q refl
+      | false ↦ λ p. let q : (a == g) ≡ false = grind (arith, nat_tests, p) in rw q refl
+    ] refl)
+
+at_greater : (f g a : ℕ) (v w x : Option (Option ℕ)) → nat_cmp f a ≡ Greater → cond (is_eq (nat_cmp g a)) w (if f == g then v else x)
+    ≡ (if f == g then v else cond (is_eq (nat_cmp g a)) w x)
+at_greater f g a v w x e =
+    rw (eq_at g a) (elim (g == a) as (λ b. (g == a) ≡ b → cond b w (if f == g then v else x) ≡ (if f == g then v else cond b w x)) [
+      | true ↦ λ p. rw (not_same f a g e p) refl
+      | false ↦ λ p. refl
+    ] refl)
+
+entry_put : (writes : Writes) (f g : ℕ) (v : Option ℕ) → entry_of g (insert_entry nat_cmp writes f v) ≡ (if f == g then Some v else entry_of g writes)
+entry_put [] f g v = rw (eq_at g f) (let e : (g == f) ≡ (f == g) = grind (arith, nat_tests) in rw e refl)
+entry_put (e ∷ writes) f g v =
+    elim (nat_cmp f e.0) as (λ o. nat_cmp f e.0 ≡ o
+    → entry_of g (match_ordering o ((f, v) ∷ e ∷ writes) ((e.0, v) ∷ writes) (e ∷ insert_entry nat_cmp writes f v))
+    ≡ (if f == g then Some v else entry_of g (e ∷ writes))) [
+      | Less ↦ λ p. at_less f g e.0 (Some v) (Some e.1) (entry_of g writes)
+      | Equal ↦ λ p. at_equal f g e.0 (Some v) (Some e.1) (entry_of g writes) p
+      | Greater ↦ λ p. rw (entry_put writes f g v) (at_greater f g e.0 (Some v) (Some e.1) (entry_of g writes) p)
+    ] refl
+
+-- room
+
+room_by : (writes : Writes) (f g : ℕ) (o : Option (Option ℕ)) → entry_of f writes ≡ o
+    → entry_of g (if is_some o then writes else insert_entry nat_cmp writes f None)
+    ≡ (if is_some o then entry_of g writes else (if f == g then Some None else entry_of g writes))
+room_by writes f g None e = entry_put writes f g None
+room_by writes f g (Some t) e = refl
+
+entry_room : (writes : Writes) (x : Change) (g : ℕ) → entry_of g (with_room writes x)
+    ≡ (if is_some (entry_of x.frag.0 writes) then entry_of g writes else (if x.frag.0 == g then Some None else entry_of g writes))
+entry_room writes x g = room_by writes x.frag.0 g (entry_of x.frag.0 writes) refl
+
+same_entry : (writes : Writes) (f g : ℕ) (o : Option (Option ℕ)) → entry_of f writes ≡ o → (f == g) ≡ true → entry_of g writes ≡ o
+same_entry writes f g o e h = let same : f ≡ g = grind (arith, nat_tests, h) in ap (λ n. entry_of n writes) (sym same) ∙ e
+
+write_room_by : (writes : Writes) (f g : ℕ) (o : Option (Option ℕ)) → entry_of f writes ≡ o
+    → or_none (if is_some o then entry_of g writes else (if f == g then Some None else entry_of g writes)) ≡ or_none (entry_of g writes)
+write_room_by writes f g (Some t) e = refl
+write_room_by writes f g None e =
+    elim (f == g) as (λ b. (f == g) ≡ b → or_none (if b then Some None else entry_of g writes) ≡ or_none (entry_of g writes)) [
+      | true ↦ λ p. ap or_none (sym (same_entry writes f g None e p))
+      | false ↦ λ p. refl
+    ] refl
+
+-- room tells of no write
+pub write_with_room : (changes : List Change) (writes : Writes) (f : FragNo) → write_in (fold with_room writes changes) f ≡ write_in writes f
+write_with_room [] writes f = refl
+write_with_room (x ∷ changes) writes f =
+    write_with_room changes (with_room writes x) f ∙ ap or_none (entry_room writes x f.0) ∙ write_room_by writes x.frag.0 f.0 (entry_of x.frag.0 writes) refl
+
+-- entries that are there stay
+
+abbrev pub Stay : Writes → Writes → Type 0
+Stay old new = (f : ℕ) → is_some (entry_of f old) ≡ true → is_some (entry_of f new) ≡ true
+
+put_stays : (writes : Writes) (f : ℕ) (v : Option ℕ) → Stay writes (insert_entry nat_cmp writes f v)
+put_stays writes f v g h = ap is_some (entry_put writes f g v)
+    ∙ (elim (f == g) as (λ b. is_some (if b then Some v else entry_of g writes) ≡ true) [ true ↦ refl | false ↦ h ])
+
+room_stays_by : (writes : Writes) (f : ℕ) (b : Bool) → Stay writes (if b then writes else insert_entry nat_cmp writes f None)
+room_stays_by writes f true g h = h
+room_stays_by writes f false g h = put_stays writes f None g h
+
+pub room_stays : (changes : List Change) (writes : Writes) → Stay writes (fold with_room writes changes)
+room_stays [] writes g h = h
+room_stays (x ∷ changes) writes g h = room_stays changes (with_room writes x) g (room_stays_by writes x.frag.0 (is_some (entry_of x.frag.0 writes)) g h)
+
+write_stays_by : (writes : Writes) (f time : ℕ) (o : Option (Option ℕ)) → Stay writes (raised_entry f time writes o)
+write_stays_by writes f time None g h = h
+write_stays_by writes f time (Some t) g h = put_stays writes f (raised t time) g h
+
+pub writes_stay : (time : ℕ) (changes : List Change) (writes : Writes) → Stay writes (fold (with_write time) writes changes)
+writes_stay time [] writes g h = h
+writes_stay time (x ∷ changes) writes g h =
+    writes_stay time changes (with_write time writes x) g (write_stays_by writes x.frag.0 time (entry_of x.frag.0 writes) g h)
+
+pub has_room_stays : (changes : List Change) (old new : Writes) → Stay old new → HasRoom old changes → HasRoom new changes
+has_room_stays [] old new s h = tt
+has_room_stays (x ∷ changes) old new s h = (s x.frag.0 h.0, has_room_stays changes old new s h.1)
+
+pub have_room_stays : (messages : List Msg) (old new : Writes) → Stay old new → HaveRoom old messages → HaveRoom new messages
+have_room_stays [] old new s h = tt
+have_room_stays (m ∷ messages) old new s h = (has_room_stays (changes_of m) old new s h.0, have_room_stays messages old new s h.1)
+
+pub have_room_append : (messages more : List Msg) (writes : Writes) → HaveRoom writes messages → HaveRoom writes more → HaveRoom writes (messages ++ more)
+have_room_append [] more writes h g = g
+have_room_append (m ∷ messages) more writes h g = (h.0, have_room_append messages more writes h.1 g)
+
+room_made_by : (writes : Writes) (f : ℕ) (o : Option (Option ℕ)) → entry_of f writes ≡ o
+    → is_some (entry_of f (if is_some o then writes else insert_entry nat_cmp writes f None)) ≡ true
+room_made_by writes f None e = ap is_some (entry_put writes f f None) ∙ (let own : (f == f) ≡ true = grind (arith, nat_tests) in rw own refl)
+room_made_by writes f (Some t) e = ap is_some e
+
+pub room_made : (changes : List Change) (writes : Writes) → HasRoom (fold with_room writes changes) changes
+room_made [] writes = tt
+room_made (x ∷ changes) writes =
+    (room_stays changes (with_room writes x) x.frag.0 (room_made_by writes x.frag.0 (entry_of x.frag.0 writes) refl), room_made changes (with_room writes x))
+
+-- entries are raised
+
+pub by_raised : (t time : ℕ) (o : Option ℕ) → is_by t (raised o time) ≡ (is_by t o || nat_le t time)
+by_raised t time None = refl
+by_raised t time (Some u) = grind (arith, nat_tests)
+
+or_swap : (a b : Bool) → (a || b) ≡ (b || a)
+or_swap true true = refl
+or_swap true false = refl
+or_swap false true = refl
+or_swap false false = refl
+
+or_assoc : (a b c : Bool) → ((a || b) || c) ≡ (a || (b || c))
+or_assoc true b c = refl
+or_assoc false b c = refl
+
+raised_here : (t time : ℕ) (b : Bool) (latest o : Option ℕ) → (b ≡ true → o ≡ latest)
+    → is_by t (or_none (if b then Some (raised latest time) else Some o)) ≡ ((b && nat_le t time) || is_by t o)
+raised_here t time true latest o e = by_raised t time latest ∙ or_swap (is_by t latest) (nat_le t time) ∙ ap (λ x. nat_le t time || is_by t x) (sym (e refl))
+raised_here t time false latest o e = refl
+
+raised_entry_by : (writes : Writes) (t time f g : ℕ) (latest : Option ℕ) (o : Option (Option ℕ)) → entry_of f writes ≡ Some latest → entry_of g writes
+    ≡ o → is_by t (or_none (if f == g then Some (raised latest time) else o)) ≡ (((f == g) && nat_le t time) || is_by t (or_none o))
+raised_entry_by writes t time f g latest (Some last) e h =
+    raised_here t time (f == g) latest last (λ p. let same : Some last ≡ Some latest = sym h ∙ same_entry writes f g (Some latest) e p in cc)
+raised_entry_by writes t time f g latest None e h =
+    elim (f == g) as (λ b. (f == g) ≡ b → is_by t (or_none (if b then Some (raised latest time) else None)) ≡ ((b && nat_le t time) || false)) [
+      | true ↦ λ p. let same : Some latest ≡ None = sym (same_entry writes f g (Some latest) e p) ∙ h in cc
+      | false ↦ λ p. refl
+    ] refl
+
+one_raised : (writes : Writes) (t time f g : ℕ) (o : Option (Option ℕ)) → entry_of f writes ≡ o → is_some o ≡ true
+    → is_by t (or_none (entry_of g (raised_entry f time writes o))) ≡ (((f == g) && nat_le t time) || is_by t (or_none (entry_of g writes)))
+one_raised writes t time f g None e h = cc
+one_raised writes t time f g (Some latest) e h =
+    ap (λ x. is_by t (or_none x)) (entry_put writes f g (raised latest time)) ∙ raised_entry_by writes t time f g latest (entry_of g writes) e refl
+
+any_or : (a b c d : Bool) → ((a && c) || ((b && c) || d)) ≡ (((b || a) && c) || d)
+any_or true true true d = refl
+any_or true true false d = refl
+any_or true false true d = refl
+any_or true false false d = refl
+any_or false true true d = refl
+any_or false true false d = refl
+any_or false false c d = refl
+
+-- the write of fragment g after a WRITE with this time
+pub write_raised : (t time : ℕ) (changes : List Change) (writes : Writes) (g : FragNo) → HasRoom writes changes
+    → is_by t (write_in (fold (with_write time) writes changes) g) ≡ ((list_any (λ x. x.frag.0 == g.0) changes && nat_le t time) || is_by t (write_in writes g))
+write_raised t time [] writes g h = refl
+write_raised t time (x ∷ changes) writes g h =
+    write_raised t time changes (with_write time writes x) g
+    (has_room_stays changes writes (with_write time writes x) (write_stays_by writes x.frag.0 time (entry_of x.frag.0 writes)) h.1)
+    ∙ ap (λ b. (list_any (λ x. x.frag.0 == g.0) changes && nat_le t time) || b) (one_raised writes t time x.frag.0 g.0 (entry_of x.frag.0 writes) refl h.0)
+    ∙ any_or (list_any (λ x. x.frag.0 == g.0) changes) (x.frag.0 == g.0) (nat_le t time) (is_by t (write_in writes g))

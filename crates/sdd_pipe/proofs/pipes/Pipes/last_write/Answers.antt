@@ -1,0 +1,10 @@
+use Rattle.std.proofs.Common.{rules, ◌≡◌, ap, ◌∙◌, sym}
+use Rattle.sdd_pipe.specs.Digest.{last_in, empty_digest}
+use Rattle.sdd_pipe.specs.Pipes.{pipe_at}
+use Rattle.sdd_pipe.proofs.Digests.{no_last}
+use Rattle.sdd_pipe.proofs.pipes.Pipes.last_write.Goals as goal
+
+pub returns-in-None : goal.returns-in-None
+returns-in-None c =
+    let none : pipe_at c.args.self.now.value c.args.class.0 ≡ empty_digest = search rules in
+    sym (ap (last_in c.args.frags.now) none ∙ no_last c.args.frags.now)

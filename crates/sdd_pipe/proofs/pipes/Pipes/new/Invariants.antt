@@ -1,0 +1,7 @@
+use Rattle.std.proofs.Common.{◌≡◌}
+use Rattle.std.specs.Prelude.{replicate}
+use Rattle.sdd_pipe.specs.Digest.{empty_digest}
+use Rattle.sdd_pipe.proofs.pipes.Pipes.new.Given as goal
+
+abbrev pub invariant-loop : goal.invariant-loop
+invariant-loop l = l.pipes.items ≡ replicate l.counter empty_digest
