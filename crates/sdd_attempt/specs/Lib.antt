@@ -1,6 +1,16 @@
 pub mod Acts
 pub mod Attempts
 pub mod Clocks
+pub mod Counts
 pub mod Exchange
 pub mod Fits
+pub mod Lines
+pub mod Modules
+pub mod Outbox
+pub mod Phases
 pub mod Queues
+pub mod Reads
+pub mod Room
+pub mod Sound
+pub mod Standings
+pub mod Writes

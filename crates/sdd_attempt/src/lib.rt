@@ -2,5 +2,26 @@
 //! an attempt asks its modules for rows and reduces them, and how it begins and commits.
 //!
 //! The one contract to the layer above: what is known of each of these is a function of the
-//! site's log, and changes with each entry as its definition says.
+//! site's log, and changes with each entry as its definition says. A `Line` keeps it for one class.
 #![tactic(auto)]
+
+mod begin;
+mod commit;
+mod counts;
+mod exchange;
+mod line;
+mod modules;
+mod outbox;
+mod phase;
+mod queries;
+mod queued;
+mod reads;
+mod running;
+mod sending;
+mod standing;
+mod step;
+mod writes;
+
+pub use line::Line;
+pub use standing::Standing;
+pub use step::LineStep;

@@ -4,6 +4,10 @@
 //! of rows that its uses have now and the steps that are done, as `specs/Steps.antt` defines.
 #![tactic(auto)]
 
+mod choice;
+mod moves;
 mod step;
 
+pub use choice::{next_move, next_step};
+pub use moves::Move;
 pub use step::{Step, Steps};

@@ -1,3 +1,6 @@
+ghost use Rattle.std.specs.Prelude.{◌≡◌};
+ghost use Rattle.sdd_semijoin.specs.Steps.{same_step};
+
 use sdd_base::Listed;
 
 /// A reducer step of a query, by one of its conditions that is an equality between columns of two
@@ -13,3 +16,12 @@ pub struct Step {
 
 /// Reducer steps, in the order in which they are done.
 pub type Steps = Listed<Step>;
+
+impl Step {
+    /// Whether it is the other one.
+    pub(crate) fn is(&self, other: &Step) -> bool
+        ensures { result ≡ same_step self.now other.now }
+    {
+        self.cond == other.cond && self.left == other.left
+    }
+}

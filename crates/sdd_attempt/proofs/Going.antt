@@ -1,0 +1,132 @@
+-- The moves of an exchange: which comes next, and that what is counted only grows.
+use Rattle.std.proofs.Common.{ℕ, ◌+◌, ◌<◌, ◌≤◌, ◌≡◌, refl, ap, sym, ◌∙◌, subst, arith, ◌==◌, ◌&&◌, Bool, true, if◌then◌else◌, List, [], ◌∷◌, ◌++◌, length, drop, get_or, Option, Some, None}
+use Rattle.std.specs.Prelude.{option_map}
+use Rattle.std.proofs.lemmas.List.Elements.{All-tail}
+use Rattle.sdd_attempt.specs.Room.{AreSmall, IsSmallQuery}
+use Rattle.sdd_attempt.specs.declared.phase.Reduction.{Reduction}
+use Rattle.sdd_attempt.specs.Phases.{move_of}
+use Rattle.sdd_base.specs.declared.value.Value.{Value}
+use Rattle.sdd_semijoin.specs.declared.step.Step.{Step}
+use Rattle.sdd_semijoin.specs.Steps.{Move, next_move}
+use Rattle.sdd_attempt.specs.Exchange.{Asking, Exchange, Phase, Reading, Fetching, Reducing, Shipping, Over, without, counts_for, with_use, move_at, reduces, fetches, fetches_from, goes_on, phase_ends, lacking, answered, after_hand}
+use Rattle.sdd_base.specs.Order.{with_values}
+use Rattle.sdd_base.specs.declared.number.Ts.{Ts}
+use Rattle.sdd_base.specs.declared.number.ClassNo.{ClassNo}
+use Rattle.sdd_wire.specs.declared.msg.Msg.TheVariants.{Values}
+
+some_is : {A : Type 0} {a b : A} → Some a ≡ Some b → a ≡ b
+some_is e = cc
+
+no_move : {A B : Type 0} (f : A → B) (o : Option A) → None ≡ option_map f o → o ≡ None
+no_move f None e = refl
+no_move f (Some a) e = cc
+
+a_move : {A B : Type 0} (f : A → B) (o : Option A) (b : B) → Some b ≡ option_map f o → (a : A) × (o ≡ Some a) × (b ≡ f a)
+a_move f None b e = cc
+a_move f (Some a) b e = (a, refl, some_is e)
+
+-- the exchange by the next move of the first query
+abbrev pub goes_by : ℕ → ℕ → Exchange → Asking → List Asking → List Step → Option Move → Exchange
+goes_by ts c x q rest steps None = goes_on ts c x rest []
+goes_by ts c x q rest steps (Some m) = fetches ts c (move_at q.before m) (record x { left = q ∷ rest; done = steps ++ m.step ∷ [] })
+
+pub goes_split : (ts c : ℕ) (x : Exchange) (q : Asking) (rest : List Asking) (steps : List Step) → goes_on ts c x (q ∷ rest) steps ≡ goes_by ts c x q rest steps (next_move q.conds (counts_for x.counts q) steps)
+goes_split ts c x q rest steps = elim (next_move q.conds (counts_for x.counts q) steps) as (λ o. elim o [ None ↦ goes_on ts c x rest [] | Some m ↦ fetches ts c (move_at q.before m) (record x { left = q ∷ rest; done = steps ++ m.step ∷ [] }) ] ≡ goes_by ts c x q rest steps o) [
+  | None ↦ refl
+  | Some m ↦ refl
+]
+
+-- what is left and done doesn't matter where both are given
+goes_same : (ts c : ℕ) (x : Exchange) (left : List Asking) (steps : List Step) (qs : List Asking) (now : List Step) → goes_on ts c (record x { left = left; done = steps }) qs now ≡ goes_on ts c x qs now
+goes_same ts c x left steps [] now = refl
+goes_same ts c x left steps (q ∷ rest) now =
+    elim (next_move q.conds (counts_for x.counts q) now) as (λ o. goes_by ts c (record x { left = left; done = steps }) q rest now o ≡ goes_by ts c x q rest now o) [
+      | None ↦ goes_same ts c x left steps rest []
+      | Some m ↦ refl
+    ]
+
+-- the first query has no move more
+pub goes_past : (ts c : ℕ) (x : Exchange) (q : Asking) (rest : List Asking) (steps : List Step) → next_move q.conds (counts_for x.counts q) steps ≡ None
+    → goes_on ts c (record x { left = rest; done = [] }) rest [] ≡ goes_on ts c x (q ∷ rest) steps
+goes_past ts c x q rest steps e = goes_same ts c x rest [] rest [] ∙ sym (goes_split ts c x q rest steps ∙ ap (goes_by ts c x q rest steps) e)
+
+-- it has one
+pub goes_to : (ts c : ℕ) (x : Exchange) (q : Asking) (rest : List Asking) (steps : List Step) (m : Move) → next_move q.conds (counts_for x.counts q) steps ≡ Some m
+    → fetches ts c (move_at q.before m) (record x { left = q ∷ rest; done = steps ++ m.step ∷ [] }) ≡ goes_on ts c x (q ∷ rest) steps
+goes_to ts c x q rest steps m e = sym (goes_split ts c x q rest steps ∙ ap (goes_by ts c x q rest steps) e)
+
+first_of : (left : List Asking) (q : Asking) → 0 < length left → q ≡ get_or left 0 q → left ≡ q ∷ drop 1 left
+first_of [] q some e = absurd (omega arith)
+first_of (x ∷ left) q some e = ap (λ z. z ∷ left) (sym e)
+
+pub small_rest : (left : List Asking) → AreSmall left → AreSmall (drop 1 left)
+small_rest [] all = all
+small_rest (q ∷ left) all = All-tail IsSmallQuery q left all
+
+-- The same of an exchange x whose first query was looked at: `counts` and `steps` are what its next move was asked of.
+
+pub past_first : (ts c : ℕ) (x z : Exchange) (q : Asking) (counts : List ℕ) (steps none_done : List Step) (rest : List Asking) (next : Option Reduction) → x ≡ z → 0 < length x.left → q ≡ get_or x.left 0 q
+    → counts ≡ counts_for x.counts q → steps ≡ x.done → next ≡ None → option_map move_of next ≡ option_map (move_at q.before) (next_move q.conds counts steps) → rest ≡ drop 1 x.left → none_done ≡ []
+    → goes_on ts c (record x { left = rest; done = none_done }) rest none_done ≡ goes_on ts c z z.left z.done
+past_first ts c x z q counts steps none_done rest next same some first e f none asked g h =
+    let asks : None ≡ option_map (move_at q.before) (next_move q.conds (counts_for x.counts q) x.done) =
+    sym (ap (option_map move_of) none) ∙ asked ∙ ap (λ ns. option_map (move_at q.before) (next_move q.conds ns steps)) e ∙ ap (λ ds. option_map (move_at q.before) (next_move q.conds (counts_for x.counts q) ds)) f in
+    ap (λ l. goes_on ts c (record x { left = l; done = none_done }) l none_done) g ∙ ap (λ ds. goes_on ts c (record x { left = drop 1 x.left; done = ds }) (drop 1 x.left) ds) h
+    ∙ goes_past ts c x q (drop 1 x.left) x.done (no_move (move_at q.before) (next_move q.conds (counts_for x.counts q) x.done) asks)
+    ∙ ap (λ l. goes_on ts c x l x.done) (sym (first_of x.left q some first)) ∙ ap (λ y. goes_on ts c y y.left y.done) same
+
+pub to_first : (ts c : ℕ) (x z : Exchange) (q : Asking) (counts : List ℕ) (steps more : List Step) (one : Reduction) (next : Option Reduction) → x ≡ z → 0 < length x.left → q ≡ get_or x.left 0 q
+    → counts ≡ counts_for x.counts q → steps ≡ x.done → next ≡ Some one → option_map move_of next ≡ option_map (move_at q.before) (next_move q.conds counts steps) → more ≡ x.done ++ one.step ∷ []
+    → fetches ts c (move_of one) (record x { done = more }) ≡ goes_on ts c z z.left z.done
+to_first ts c x z q counts steps more one next same some first e f has asked g =
+    let asks : Some (move_of one) ≡ option_map (move_at q.before) (next_move q.conds (counts_for x.counts q) x.done) =
+    sym (ap (option_map move_of) has) ∙ asked ∙ ap (λ ns. option_map (move_at q.before) (next_move q.conds ns steps)) e ∙ ap (λ ds. option_map (move_at q.before) (next_move q.conds (counts_for x.counts q) ds)) f in
+    let m = a_move (move_at q.before) (next_move q.conds (counts_for x.counts q) x.done) (move_of one) asks in
+    let left : x.left ≡ q ∷ drop 1 x.left = first_of x.left q some first in
+    let step : one.step ≡ m.0.step = ap (λ n. n.step) m.2 in
+    ap (λ l. fetches ts c (move_of one) (record x { left = l; done = more })) left
+    ∙ ap (λ l. fetches ts c (move_of one) (record x { left = q ∷ drop 1 x.left; done = l })) (g ∙ ap (λ s. x.done ++ s ∷ []) step)
+    ∙ ap (λ n. fetches ts c n (record x { left = q ∷ drop 1 x.left; done = x.done ++ m.0.step ∷ [] })) m.2
+    ∙ goes_to ts c x q (drop 1 x.left) x.done m.0 m.1 ∙ ap (λ l. goes_on ts c x l x.done) (sym left) ∙ ap (λ y. goes_on ts c y y.left y.done) same
+
+-- no value is taken back
+
+reduces_grows : (ts c : ℕ) (m : Move) (x : Exchange) → x.values ≤ (reduces ts c m x).values
+reduces_grows ts c m x = omega arith
+
+from_grows : (ts c : ℕ) (m : Move) (x : Exchange) (ds : List ℕ) → x.values ≤ (fetches_from ts c m x ds).values
+from_grows ts c m x [] = omega arith
+from_grows ts c m x (d ∷ ds) = omega arith
+
+by_grows : (ts c : ℕ) (x : Exchange) (q : Asking) (rest : List Asking) (steps : List Step) (o : Option Move) → x.values ≤ (goes_on ts c x rest []).values → x.values ≤ (goes_by ts c x q rest steps o).values
+by_grows ts c x q rest steps None h = h
+by_grows ts c x q rest steps (Some m) h =
+    from_grows ts c (move_at q.before m) (record x { left = q ∷ rest; done = steps ++ m.step ∷ [] }) (with_use x (move_at q.before m).source.part)
+
+goes_grows : (ts c : ℕ) (x : Exchange) (qs : List Asking) (steps : List Step) → x.values ≤ (goes_on ts c x qs steps).values
+goes_grows ts c x [] steps = omega arith
+goes_grows ts c x (q ∷ rest) steps =
+    subst (λ y. x.values ≤ y.values) (sym (goes_split ts c x q rest steps)) (by_grows ts c x q rest steps (next_move q.conds (counts_for x.counts q) steps) (goes_grows ts c x rest []))
+
+ends_grows : (ts c : ℕ) (x : Exchange) (p : Phase) → x.values ≤ (phase_ends ts c x p).values
+ends_grows ts c x Reading = goes_grows ts c x x.left x.done
+ends_grows ts c x (Fetching m) = reduces_grows ts c m x
+ends_grows ts c x (Reducing m) = goes_grows ts c x x.left x.done
+ends_grows ts c x Shipping = omega arith
+ends_grows ts c x Over = omega arith
+
+lacking_grows : (ts c : ℕ) (x : Exchange) (ds : List ℕ) → x.values ≤ (lacking ts c x ds).values
+lacking_grows ts c x [] = ends_grows ts c (record x { lacks = [] }) x.phase
+lacking_grows ts c x (d ∷ ds) = omega arith
+
+pub answered_grows : (ts c d : ℕ) (x : Exchange) → x.values ≤ (answered ts c d x).values
+answered_grows ts c d x = lacking_grows ts c x (without x.lacks d)
+
+-- values that come have room where what follows from them has
+pub values_fit : (ts c d u n : ℕ) (t : Ts) (k : ClassNo) (vs : List Value) (x : Exchange) (b : Bool) → b ≡ ((t.0 == ts) && (k.0 == c)) → b ≡ true
+    → (after_hand ts c d (Values t k u vs) x).values < n → x.values + length vs < n
+values_fit ts c d u n t k vs x b e f room =
+    let own : ((t.0 == ts) && (k.0 == c)) ≡ true = sym e ∙ f in
+    let y : Exchange = record x { union = with_values x.union vs; values = x.values + length vs } in
+    let fits : (answered ts c d y).values < n = subst (λ (z : Bool). (if z then answered ts c d y else x).values < n) own room in
+    omega (arith, answered_grows ts c d y, fits)

@@ -1,0 +1,34 @@
+-- The modules of READs, in both forms.
+use Rattle.std.proofs.Common.{ℕ, ◌≡◌, refl, Bool, true, false, cond, List, map, Some, None}
+use Rattle.std.specs.Prelude.{filter_map, option_map}
+use Rattle.sdd_base.specs.declared.site.Site.{Site}
+use Rattle.sdd_base.specs.declared.site.Site.TheVariants.{U, T, D}
+use Rattle.sdd_wire.specs.declared.msg.Msg.{Msg}
+use Rattle.sdd_wire.specs.declared.msg.Msg.TheVariants as msgs
+use Rattle.sdd_attempt.specs.Exchange.{module_read}
+use Rattle.sdd_attempt.specs.Modules.{numbered, module_of, reading, with_use}
+use Rattle.sdd_attempt.proofs.Lists.{map_both, map-filter_map, map-filter_map_all}
+use Rattle.sdd_base.specs.declared.number.DmNo.{DmNo}
+use Rattle.sdd_base.specs.Words.{contains}
+
+by_msg : (d : DmNo) (m : Msg) → option_map numbered (module_of (D d, m)) ≡ module_read (D d, m)
+by_msg d (msgs.Read ts c txn attempt conds uses) = refl
+by_msg d _ = refl
+
+same_module : (r : Site × Msg) → option_map numbered (module_of r) ≡ module_read r
+same_module (U, m) = refl
+same_module (T t, m) = refl
+same_module (D d, m) = by_msg d m
+
+pub modules_read : (reads : List (Site × Msg)) → map numbered (filter_map module_of reads) ≡ filter_map module_read reads
+modules_read reads = map-filter_map_all numbered module_of module_read same_module reads
+
+pub all_numbered : (ms : List (DmNo × List ℕ)) → map (λ (n : DmNo). n.0) (map (λ (m : DmNo × List ℕ). m.0) ms) ≡ map (λ (m : ℕ × List ℕ). m.0) (map numbered ms)
+all_numbered ms = map_both (λ (m : DmNo × List ℕ). m.0) (λ (n : DmNo). n.0) numbered (λ (m : ℕ × List ℕ). m.0) (λ m. refl) ms
+
+of_test : (t : Bool) (n : DmNo) → option_map (λ (d : DmNo). d.0) (cond t (Some n) None) ≡ cond t (Some n.0) None
+of_test true n = refl
+of_test false n = refl
+
+pub modules_with_use : (ms : List (DmNo × List ℕ)) (u : ℕ) → map (λ n. n.0) (filter_map (reading u) ms) ≡ with_use (map numbered ms) u
+modules_with_use ms u = map-filter_map numbered (λ (n : DmNo). n.0) (reading u) (λ (m : ℕ × List ℕ). cond (contains m.1 u) (Some m.0) None) (λ m. of_test (contains m.1 u) m.0) ms

@@ -1,0 +1,278 @@
+-- An exchange has room from its beginning to its end.
+use Rattle.std.proofs.Common.{ℕ, suc, ◌+◌, ◌*◌, ◌^◌, ◌<◌, ◌≤◌, ◌≡◌, refl, sym, subst, arith, suc-mul, ◌==◌, ◌&&◌, ◌||◌, Bool, true, false, not, cond, if◌then◌else◌, List, [], ◌∷◌, ◌++◌, length, length-append, Option, Some, None}
+use Rattle.std.specs.Prelude.{filter_map}
+use Rattle.std.specs.List.{All}
+use Rattle.std.specs.BTreeSet.{insert_key}
+use Rattle.std.specs.declared.cmp.Ordering.{Ordering}
+use Rattle.std.specs.declared.cmp.Ordering.TheVariants.{Less, Equal, Greater}
+use Rattle.std.specs.Ordering.{match_ordering}
+use Rattle.std.proofs.lemmas.List.Elements.{All-append, All-cons, All-head, All-nil, All-tail, All-weaker}
+use Rattle.std.proofs.lemmas.Nat.{mul-le}
+use Rattle.std.proofs.Math.Nat.{mul-le-mul_right}
+use Rattle.sdd_base.specs.Words.{contains}
+use Rattle.sdd_base.specs.Order.{value_cmp, with_values}
+use Rattle.sdd_base.specs.declared.value.Value.{Value}
+use Rattle.sdd_lang.specs.declared.condition.Condition.{Condition}
+use Rattle.sdd_lang.specs.declared.condition.Condition.TheVariants.{Const, Same}
+use Rattle.sdd_lang.specs.declared.statement.Stmt.{Stmt}
+use Rattle.sdd_lang.specs.declared.statement.Stmt.TheVariants.{Put, Query, Update, Delete}
+use Rattle.sdd_lang.specs.declared.transaction.Txn.{Txn}
+use Rattle.sdd_lang.specs.Database.{Row}
+use Rattle.sdd_lang.specs.Source.{uses_in}
+use Rattle.sdd_base.specs.declared.site.Site.{Site}
+use Rattle.sdd_wire.specs.declared.msg.Msg.{Msg}
+use Rattle.sdd_wire.specs.declared.msg.Msg.TheVariants as msgs
+use Rattle.sdd_semijoin.specs.declared.step.Step.{Step}
+use Rattle.sdd_semijoin.specs.Steps.{Move, next_move}
+use Rattle.sdd_semijoin.proofs.Undone.{fewer_left, few_undone}
+use Rattle.sdd_attempt.specs.Exchange.{Asking, Exchange, Phase, Reading, Fetching, Reducing, Shipping, Over, without, counts_for, with_use, move_at, reduces, fetches, fetches_from, goes_on, phase_ends, lacking, answered, after_hand, after_send, counted, asking_of, askings, begins, first_phase, module_read}
+use Rattle.sdd_attempt.proofs.Going.{goes_by, goes_split}
+use Rattle.sdd_attempt.proofs.Lists.{few_filtered, few_picked}
+use Rattle.sdd_attempt.specs.Room.{AreSmall, IsSmallQuery, HasRoom, HasUnion, for_phase, for_move, for_reduce, most_values, moves_left, is_fetching, AreAwaited, CarriesFew, IsSmallStatement, IsSmallText, JoinsWithin}
+
+-- lengths
+
+pub few_with_use : (x : Exchange) (u : ℕ) → length (with_use x u) ≤ length x.modules
+few_with_use x u = few_picked (λ (m : ℕ × List ℕ). cond (contains m.1 u) (Some m.0) None) x.modules
+
+few_without : (ns : List ℕ) (d : ℕ) → length (without ns d) ≤ length ns
+few_without ns d = few_filtered (λ n. not (n == d)) ns
+
+fewer_without : (ns : List ℕ) (d : ℕ) → contains ns d ≡ true → length (without ns d) < length ns
+fewer_without [] d e = cc
+fewer_without (n ∷ ns) d e =
+    elim (n == d) as (λ t. (t || contains ns d) ≡ true → length (if not t then n ∷ without ns d else without ns d) < suc (length ns)) [
+      | true ↦ λ f. omega (arith, few_without ns d)
+      | false ↦ λ f. omega (arith, fewer_without ns d f)
+    ] e
+
+put_by : (o : Ordering) (v x : Value) (xs ys : List Value) → length ys ≤ suc (length xs) → length (match_ordering o (v ∷ x ∷ xs) (x ∷ xs) (x ∷ ys)) ≤ suc (suc (length xs))
+put_by Less v x xs ys h = omega arith
+put_by Equal v x xs ys h = omega arith
+put_by Greater v x xs ys h = omega (arith, h)
+
+inserted_few : (vs : List Value) (v : Value) → length (insert_key value_cmp vs v) ≤ suc (length vs)
+inserted_few [] v = omega arith
+inserted_few (x ∷ xs) v = put_by (value_cmp v x) v x xs (insert_key value_cmp xs v) (inserted_few xs v)
+
+few_united : (us vs : List Value) → length (with_values us vs) ≤ length us + length vs
+few_united us [] = omega arith
+few_united us (v ∷ vs) = omega (arith, few_united (insert_key value_cmp us v) vs, inserted_few us v)
+
+-- REDUCE
+
+-- the exchange has room to reduce by m
+pub record CanReduce (x : Exchange) : Type 0 where
+  pub small : AreSmall x.left
+  pub values : x.values + for_reduce (length x.modules) + moves_left x.left x.done * for_move (length x.modules) < 2 ^ 128
+  pub union : length x.union ≤ most_values (length x.modules)
+  pub rows : x.rows ≡ length x.found
+
+reduces_room : (ts c : ℕ) (m : Move) (x : Exchange) → CanReduce x → HasRoom (reduces ts c m x)
+reduces_room ts c m x can =
+    let sent : length x.union * length (with_use x m.target.part) ≤ for_reduce (length x.modules) =
+    mul-le (length x.union) (length (with_use x m.target.part)) (most_values (length x.modules)) (length x.modules) can.union (few_with_use x m.target.part) in
+    record { small = can.small; values = omega (arith, sent, can.values); union = tt; rows = can.rows }
+
+-- FETCH
+
+-- the exchange has room for a move
+pub record CanMove (x : Exchange) : Type 0 where
+  pub small : AreSmall x.left
+  pub values : x.values + for_move (length x.modules) + moves_left x.left x.done * for_move (length x.modules) < 2 ^ 128
+  pub rows : x.rows ≡ length x.found
+
+from_room : (ts c : ℕ) (m : Move) (x : Exchange) (ds : List ℕ) → length ds ≤ length x.modules → CanMove x → HasRoom (fetches_from ts c m x ds)
+from_room ts c m x [] few can =
+    reduces_room ts c m (record x { union = [] }) (record { small = can.small; values = omega (arith, can.values); union = omega arith; rows = can.rows })
+from_room ts c m x (d ∷ ds) few can = record { small = can.small; values = omega (arith, can.values, few); union = omega (arith, few); rows = can.rows }
+
+fetches_room : (ts c : ℕ) (m : Move) (x : Exchange) → CanMove x → HasRoom (fetches ts c m x)
+fetches_room ts c m x can = from_room ts c m x (with_use x m.source.part) (few_with_use x m.source.part) can
+
+-- the next move, or SHIP
+
+fewer_moves : (n k f : ℕ) → n < k → f + n * f ≤ k * f
+fewer_moves n k f less = omega (arith, mul-le-mul_right f less, suc-mul n f)
+
+rest_fewer : (q : Asking) (rest : List Asking) (steps : List Step) → moves_left rest [] ≤ moves_left (q ∷ rest) steps
+rest_fewer q rest steps = omega arith
+
+by_room : (ts c : ℕ) (x : Exchange) (q : Asking) (rest : List Asking) (steps : List Step) (o : Option Move) → AreSmall (q ∷ rest) → x.rows ≡ length x.found
+    → x.values + moves_left (q ∷ rest) steps * for_move (length x.modules) < 2 ^ 128 → next_move q.conds (counts_for x.counts q) steps ≡ o
+    → HasRoom (goes_on ts c x rest []) → HasRoom (goes_by ts c x q rest steps o)
+by_room ts c x q rest steps None small rows values e other = other
+by_room ts c x q rest steps (Some m) small rows values e other =
+    let fewer = fewer_left q.conds (counts_for x.counts q) steps m e in
+    fetches_room ts c (move_at q.before m) (record x { left = q ∷ rest; done = steps ++ m.step ∷ [] }) (record {
+      small = small;
+      values = omega (arith, values, fewer_moves (moves_left (q ∷ rest) (steps ++ m.step ∷ [])) (moves_left (q ∷ rest) steps) (for_move (length x.modules)) (omega (arith, fewer)));
+      rows = rows;
+    })
+
+goes_room : (ts c : ℕ) (x : Exchange) (qs : List Asking) (steps : List Step) → AreSmall qs → x.rows ≡ length x.found
+    → x.values + moves_left qs steps * for_move (length x.modules) < 2 ^ 128 → HasRoom (goes_on ts c x qs steps)
+goes_room ts c x [] steps small rows values = record { small = small; values = omega (arith, values); union = tt; rows = rows }
+goes_room ts c x (q ∷ rest) steps small rows values =
+    let fewer = mul-le-mul_right (for_move (length x.modules)) (rest_fewer q rest steps) in
+    subst HasRoom (sym (goes_split ts c x q rest steps))
+    (by_room ts c x q rest steps (next_move q.conds (counts_for x.counts q) steps) small rows values refl
+    (goes_room ts c x rest [] (All-tail IsSmallQuery q rest small) rows (omega (arith, values, fewer))))
+
+-- the end of a phase
+ends_room : (ts c : ℕ) (x : Exchange) (p : Phase) → x.phase ≡ p → HasRoom x → HasRoom (phase_ends ts c x p)
+ends_room ts c x Reading e room = goes_room ts c x x.left x.done room.small room.rows (omega (arith, room.values))
+ends_room ts c x (Fetching m) e room =
+    let values : x.values + for_phase (length x.lacks) (length x.modules) (Fetching m) + moves_left x.left x.done * for_move (length x.modules) < 2 ^ 128 =
+    subst (λ p. x.values + for_phase (length x.lacks) (length x.modules) p + moves_left x.left x.done * for_move (length x.modules) < 2 ^ 128) e room.values in
+    let union : HasUnion (length x.union) (length x.lacks) (length x.modules) (Fetching m) = subst (HasUnion (length x.union) (length x.lacks) (length x.modules)) e room.union in
+    reduces_room ts c m x (record { small = room.small; values = omega (arith, values); union = omega (arith, union); rows = room.rows })
+ends_room ts c x (Reducing m) e room = goes_room ts c x x.left x.done room.small room.rows (omega (arith, room.values))
+ends_room ts c x Shipping e room = record { small = room.small; values = omega (arith, room.values); union = tt; rows = room.rows }
+ends_room ts c x Over e room = room
+
+lacking_room : (ts c : ℕ) (x : Exchange) (ds : List ℕ) → HasRoom (record x { lacks = ds }) → HasRoom (lacking ts c x ds)
+lacking_room ts c x [] room = ends_room ts c (record x { lacks = [] }) x.phase refl room
+lacking_room ts c x (d ∷ ds) room = room
+
+-- answers
+
+-- where fewer answers lack there is as much room
+phase_fewer : (few lacks modules : ℕ) (p : Phase) → few ≤ lacks → for_phase few modules p ≤ for_phase lacks modules p
+phase_fewer few lacks modules Reading le = omega arith
+phase_fewer few lacks modules (Fetching m) le = omega (arith, le)
+phase_fewer few lacks modules (Reducing m) le = omega arith
+phase_fewer few lacks modules Shipping le = omega arith
+phase_fewer few lacks modules Over le = omega arith
+
+union_fewer : (union few lacks modules : ℕ) (p : Phase) → few ≤ lacks → HasUnion union lacks modules p → HasUnion union few modules p
+union_fewer union few lacks modules Reading le h = tt
+union_fewer union few lacks modules (Fetching m) le h = omega (arith, le, h)
+union_fewer union few lacks modules (Reducing m) le h = tt
+union_fewer union few lacks modules Shipping le h = tt
+union_fewer union few lacks modules Over le h = tt
+
+answered_room : (ts c d : ℕ) (x : Exchange) → HasRoom x → HasRoom (answered ts c d x)
+answered_room ts c d x room =
+    let few = few_without x.lacks d in
+    lacking_room ts c x (without x.lacks d)
+    (record {
+      small = room.small;
+      values = omega (arith, room.values, phase_fewer (length (without x.lacks d)) (length x.lacks) (length x.modules) x.phase few);
+      union = union_fewer (length x.union) (length (without x.lacks d)) (length x.lacks) (length x.modules) x.phase few room.union;
+      rows = room.rows;
+    })
+
+-- the values that come have the room of the answer that lacked
+values_by : (values few lacks modules : ℕ) (p : Phase) → is_fetching p ≡ true → few < lacks → values < 2 ^ 64 → values + for_phase few modules p ≤ for_phase lacks modules p
+values_by values few lacks modules Reading e less small = cc
+values_by values few lacks modules (Fetching m) e less small = omega (arith, less, small)
+values_by values few lacks modules (Reducing m) e less small = cc
+values_by values few lacks modules Shipping e less small = cc
+values_by values few lacks modules Over e less small = cc
+
+united_by : (union all values few lacks modules : ℕ) (p : Phase) → is_fetching p ≡ true → few < lacks → values < 2 ^ 64 → all ≤ union + values → HasUnion union lacks modules p → HasUnion all few modules p
+united_by union all values few lacks modules Reading e less small le h = cc
+united_by union all values few lacks modules (Fetching m) e less small le h = omega (arith, less, small, le, h)
+united_by union all values few lacks modules (Reducing m) e less small le h = cc
+united_by union all values few lacks modules Shipping e less small le h = cc
+united_by union all values few lacks modules Over e less small le h = cc
+
+values_room : (ts c d : ℕ) (vs : List Value) (x : Exchange) → HasRoom x → is_fetching x.phase ≡ true → contains x.lacks d ≡ true → length vs < 2 ^ 64
+    → HasRoom (answered ts c d (record x { union = with_values x.union vs; values = x.values + length vs }))
+values_room ts c d vs x room fetching lacks few =
+    let ds : List ℕ = without x.lacks d in
+    let less = fewer_without x.lacks d lacks in
+    lacking_room ts c (record x { union = with_values x.union vs; values = x.values + length vs }) ds
+    (record {
+      small = room.small;
+      values = omega (arith, room.values, values_by (length vs) (length ds) (length x.lacks) (length x.modules) x.phase fetching less few);
+      union = united_by (length x.union) (length (with_values x.union vs)) (length vs) (length ds) (length x.lacks) (length x.modules) x.phase fetching less few (few_united x.union vs) room.union;
+      rows = room.rows;
+    })
+
+rows_room : (ts c d : ℕ) (rows : List (ℕ × Row)) (x : Exchange) → HasRoom x → HasRoom (answered ts c d (record x { found = x.found ++ rows; rows = x.rows + length rows }))
+rows_room ts c d rows x room =
+    answered_room ts c d (record x { found = x.found ++ rows; rows = x.rows + length rows })
+    (record { small = room.small; values = room.values; union = room.union; rows = omega (arith, room.rows, length-append x.found rows) })
+
+counts_room : (ts c d : ℕ) (counts : List ((ℕ × ℕ) × ℕ)) (x : Exchange) → HasRoom x → HasRoom (answered ts c d (record x { counts = counts }))
+counts_room ts c d counts x room = answered_room ts c d (record x { counts = counts }) (record { small = room.small; values = room.values; union = room.union; rows = room.rows })
+
+-- a message
+
+where_own : (own : Bool) (x y : Exchange) → HasRoom x → (own ≡ true → HasRoom y) → HasRoom (if own then y else x)
+where_own true x y room h = h refl
+where_own false x y room h = room
+
+pub handed_room : (ts c d : ℕ) (m : Msg) (x : Exchange) → HasRoom x → AreAwaited ts c d m x → CarriesFew m → HasRoom (after_hand ts c d m x)
+handed_room ts c d (msgs.Ready t k counts) x room awaited few = where_own ((t.0 == ts) && (k.0 == c)) x _ room (λ own. counts_room ts c d (counted d counts x.counts) x room)
+handed_room ts c d (msgs.Values t k u vs) x room awaited few = where_own ((t.0 == ts) && (k.0 == c)) x _ room (λ own. values_room ts c d vs x room (awaited own).0 (awaited own).1 few)
+handed_room ts c d (msgs.Reduced t k u n) x room awaited few = where_own ((t.0 == ts) && (k.0 == c)) x _ room (λ own. counts_room ts c d (counted d ((u, n) ∷ []) x.counts) x room)
+handed_room ts c d (msgs.Rows t k rows) x room awaited few = where_own ((t.0 == ts) && (k.0 == c)) x _ room (λ own. rows_room ts c d rows x room)
+handed_room ts c d _ x room awaited few = room
+
+-- the beginning
+
+joins_within : (before : ℕ) → before ≤ 186 → (c : Condition) → JoinsWithin 0 6 c → JoinsWithin before 192 c
+joins_within before low (Const left op value) h = tt
+joins_within before low (Same left right) h = (omega (arith, low, h.0), omega (arith, low, h.1))
+
+asking_small : (before : ℕ) (s : Stmt) → before + uses_in s ≤ 192 → before ≤ 186 → IsSmallStatement s → AreSmall (asking_of before s)
+asking_small before (Put rel row) few low small = All-nil IsSmallQuery
+asking_small before (Query out rels conds) few low small =
+    All-cons IsSmallQuery (record { before = before; uses = length rels; conds = conds }) [] (record { uses = few; conds = small.1; joins = All-weaker (JoinsWithin 0 6) (JoinsWithin before 192) (joins_within before low) conds small.2 }) (All-nil IsSmallQuery)
+asking_small before (Update rel sets conds) few low small = All-nil IsSmallQuery
+asking_small before (Delete rel conds) few low small = All-nil IsSmallQuery
+
+few_uses : (s : Stmt) → IsSmallStatement s → uses_in s ≤ 6
+few_uses (Put rel row) small = omega arith
+few_uses (Query out rels conds) small = small.0
+few_uses (Update rel sets conds) small = omega arith
+few_uses (Delete rel conds) small = omega arith
+
+askings_small : (before : ℕ) (sts : List Stmt) → before + 6 * length sts ≤ 192 → All IsSmallStatement sts → AreSmall (askings before sts)
+askings_small before [] few all = All-nil IsSmallQuery
+askings_small before (s ∷ rest) few all =
+    let small : IsSmallStatement s = All-head IsSmallStatement s rest all in
+    let uses = few_uses s small in
+    All-append IsSmallQuery (asking_of before s) (askings (before + uses_in s) rest) (asking_small before s (omega (arith, few, uses)) (omega (arith, few)) small)
+    (askings_small (before + uses_in s) rest (omega (arith, few, uses)) (All-tail IsSmallStatement s rest all))
+
+first_moves : (before : ℕ) (s : Stmt) (rest : List Asking) → IsSmallStatement s → moves_left (asking_of before s ++ rest) [] ≤ 32 + moves_left rest []
+first_moves before (Put rel row) rest small = omega arith
+first_moves before (Query out rels conds) rest small = omega (arith, few_undone conds [], small.1)
+first_moves before (Update rel sets conds) rest small = omega arith
+first_moves before (Delete rel conds) rest small = omega arith
+
+few_moves : (before : ℕ) (sts : List Stmt) → All IsSmallStatement sts → moves_left (askings before sts) [] ≤ 32 * length sts
+few_moves before [] all = omega arith
+few_moves before (s ∷ rest) all =
+    omega (arith, first_moves before s (askings (before + uses_in s) rest) (All-head IsSmallStatement s rest all), few_moves (before + uses_in s) rest (All-tail IsSmallStatement s rest all))
+
+-- 32 statements make at most 1024 moves
+begins_values : (moves modules : ℕ) → moves ≤ 1024 → modules ≤ 65536 → moves * for_move modules < 2 ^ 128
+begins_values moves modules few low =
+    let reduce : most_values modules * modules ≤ (65536 * 2 ^ 64) * 65536 = mul-le (most_values modules) modules (65536 * 2 ^ 64) 65536 (omega (arith, low)) low in
+    let all : moves * for_move modules ≤ 1024 * (65536 * 2 ^ 64 + (65536 * 2 ^ 64) * 65536) = mul-le moves (for_move modules) 1024 (65536 * 2 ^ 64 + (65536 * 2 ^ 64) * 65536) few (omega (arith, low, reduce)) in
+    omega (arith, all)
+
+begins_by : (text : Txn) (ms : List (ℕ × List ℕ)) (x : Exchange) → x.phase ≡ first_phase ms → AreSmall x.left → x.values + moves_left x.left x.done * for_move (length x.modules) < 2 ^ 128 → x.rows ≡ length x.found → HasRoom x
+begins_by text [] x e small values rows =
+    record { small = small; values = subst (λ p. x.values + for_phase (length x.lacks) (length x.modules) p + moves_left x.left x.done * for_move (length x.modules) < 2 ^ 128) (sym e) (omega (arith, values)); union = subst (HasUnion (length x.union) (length x.lacks) (length x.modules)) (sym e) tt; rows = rows }
+begins_by text (m ∷ ms) x e small values rows =
+    record { small = small; values = subst (λ p. x.values + for_phase (length x.lacks) (length x.modules) p + moves_left x.left x.done * for_move (length x.modules) < 2 ^ 128) (sym e) (omega (arith, values)); union = subst (HasUnion (length x.union) (length x.lacks) (length x.modules)) (sym e) tt; rows = rows }
+
+pub begins_room : (text : Txn) (sends : List (Site × Msg)) → IsSmallText text → length sends ≤ 65536 → HasRoom (begins text sends)
+begins_room text sends small few =
+    let moves = few_moves 0 text.statements small.statements in
+    begins_by text (filter_map module_read sends) (begins text sends) refl (askings_small 0 text.statements (omega (arith, small.few)) small.statements)
+    (omega (arith, begins_values (moves_left (askings 0 text.statements) []) (length (filter_map module_read sends)) (omega (arith, moves, small.few)) (omega (arith, few_picked module_read sends, few)))) refl
+
+-- what is sent no longer takes no room
+pub sent_room : (x : Exchange) → HasRoom x → HasRoom (after_send x)
+sent_room x room = record { small = room.small; values = room.values; union = room.union; rows = room.rows }
+
+-- the values that come have room
+pub values_below : (x : Exchange) → HasRoom x → x.values < 2 ^ 128
+values_below x room = omega (arith, room.values)

@@ -1,0 +1,81 @@
+-- The clock of a site only goes on, so no READ that it sent has a time that is still to come.
+use Rattle.std.proofs.Common.{ℕ, ◌<◌, ◌≤◌, ◌≡◌, ◌==◌, false, List, [], ◌∷◌, ◌++◌, refl, sym, subst, arith}
+use Rattle.std.proofs.lemmas.Bool.{ne_eqb, and_left}
+use Rattle.sdd_base.specs.Clock.{Ticking, pushed, timestamp}
+use Rattle.sdd_base.specs.declared.site.Site.{Site}
+use Rattle.sdd_history.specs.declared.record.Rec.{Rec}
+use Rattle.sdd_history.specs.declared.record.Rec.TheVariants.{Start}
+use Rattle.sdd_wire.specs.declared.msg.Msg.{Msg}
+use Rattle.sdd_wire.specs.declared.msg.Msg.TheVariants.{Read, Reject, Ask, Release, Held}
+use Rattle.sdd_module.specs.SiteLog.{Setting, Log, Entry, Handed, Ticked, Submits, Redeclared, Did, Act, Records, Sends, sends_of_act}
+use Rattle.sdd_attempt.specs.Clocks.{clock, pushed_by, ticked_by}
+use Rattle.sdd_attempt.specs.Fits.{sent, is_read}
+use Rattle.sdd_attempt.specs.Sound.{IsUpTo, AllUpTo, AreStamped}
+
+-- the clock
+
+abbrev pub NoSooner : Ticking → Ticking → Type 0
+NoSooner k l = (k.ticks ≤ l.ticks) × (l.number ≡ k.number)
+
+pub no_sooner_push : (k : Ticking) (t : ℕ) → NoSooner k (pushed k t)
+no_sooner_push k t = (omega arith, refl)
+
+pub no_sooner_hand : (m : Msg) (k : Ticking) → NoSooner k (pushed_by m k)
+no_sooner_hand (Ask class time) k = no_sooner_push k time.0
+no_sooner_hand (Reject ts class by write) k = no_sooner_push k write.0
+no_sooner_hand (Release ts) k = no_sooner_push k ts.0
+no_sooner_hand (Held time) k = no_sooner_push k time.0
+no_sooner_hand _ k = (omega arith, refl)
+
+no_sooner_record : (c : ℕ) (r : Rec) (sends : List (Site × Msg)) (k : Ticking) → NoSooner k (ticked_by (Records c r sends) k)
+no_sooner_record c (Start txn attempt class ts p2 uses) sends k = (omega arith, refl)
+no_sooner_record c _ sends k = (omega arith, refl)
+
+pub no_sooner_act : (act : Act) (k : Ticking) → NoSooner k (ticked_by act k)
+no_sooner_act (Records c r sends) k = no_sooner_record c r sends k
+no_sooner_act (Sends to m hand) k = (omega arith, refl)
+
+pub no_sooner : (at : Site) (e : Entry) (log : Log) → NoSooner (clock at log) (clock at (e ∷ log))
+no_sooner at (Handed from m) log = no_sooner_hand m (clock at log)
+no_sooner at (Ticked n) log = (omega arith, refl)
+no_sooner at (Submits n txn) log = (omega arith, refl)
+no_sooner at (Redeclared force t) log = no_sooner_push (clock at log) t
+no_sooner at (Did act) log = no_sooner_act act (clock at log)
+
+stamp_later : (k l : Ticking) → NoSooner k l → timestamp k ≤ timestamp l
+stamp_later k l h = let same : l.number ≡ k.number = h.1 in let le : k.ticks ≤ l.ticks = h.0 in omega arith
+
+pub stamps_grow : (at : Site) (e : Entry) (log : Log) → timestamp (clock at log) ≤ timestamp (clock at (e ∷ log))
+stamps_grow at e log = stamp_later (clock at log) (clock at (e ∷ log)) (no_sooner at e log)
+
+-- messages up to a time
+
+later : (t u : ℕ) → t ≤ u → (m : Msg) → IsUpTo t m → IsUpTo u m
+later t u l (Read ts class txn attempt conds uses) h = omega arith
+later t u l _ h = tt
+
+pub all_later : (t u : ℕ) → t ≤ u → (ms : List (Site × Msg)) → AllUpTo t ms → AllUpTo u ms
+all_later t u l [] h = tt
+all_later t u l (m ∷ ms) h = (later t u l m.1 h.0, all_later t u l ms h.1)
+
+pub all_both : (t : ℕ) (ms ns : List (Site × Msg)) → AllUpTo t ms → AllUpTo t ns → AllUpTo t (ms ++ ns)
+all_both t [] ns h k = k
+all_both t (m ∷ ms) ns h k = (h.0, all_both t ms ns h.1 k)
+
+-- a READ with a later time isn't among them
+pub no_read : (t ts c : ℕ) (m : Msg) → t < ts → IsUpTo t m → is_read ts c m ≡ false
+no_read t ts c (Read r class txn attempt conds uses) l h = and_left (r.0 == ts) (class.0 == c) (ne_eqb r.0 ts (λ e. absurd (omega arith)))
+no_read t ts c _ l h = refl
+
+pub stamped_did : (s : Setting) (log : Log) (act : Act) → AreStamped s log → AllUpTo (timestamp (clock s.site (Did act ∷ log))) (sends_of_act act) → AreStamped s (Did act ∷ log)
+stamped_did s log act st h =
+    let now : ℕ = timestamp (clock s.site log) in
+    let next : ℕ = timestamp (clock s.site (Did act ∷ log)) in
+    all_both next (sends_of_act act) (sent log) h (all_later now next (stamps_grow s.site (Did act) log) (sent log) st)
+
+-- an entry by which nothing is sent
+pub stamped_still : (s : Setting) (log : Log) (e : Entry) → sent (e ∷ log) ≡ sent log → AreStamped s log → AreStamped s (e ∷ log)
+stamped_still s log e same st =
+    let now : ℕ = timestamp (clock s.site log) in
+    let next : ℕ = timestamp (clock s.site (e ∷ log)) in
+    subst (AllUpTo next) (sym same) (all_later now next (stamps_grow s.site e log) (sent log) st)

@@ -1,0 +1,6 @@
+use Rattle.std.proofs.Common.{◌≡◌, drop}
+use Rattle.sdd_attempt.specs.Exchange.{counted}
+use Rattle.sdd_attempt.proofs.counts.Counts.put_all.Given as goal
+
+abbrev pub invariant-loop-new : goal.invariant-loop-new
+invariant-loop-new l = counted l.dm.0 (drop l.new-index l.news) l.self ≡ counted l.dm.0 l.news l.initial.self

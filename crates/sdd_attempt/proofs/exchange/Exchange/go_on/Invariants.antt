@@ -1,0 +1,13 @@
+use Rattle.std.proofs.Common.{◌≡◌, length}
+use Rattle.sdd_attempt.specs.Exchange.{goes_on}
+use Rattle.sdd_attempt.specs.Room.{AreSmall}
+use Rattle.sdd_attempt.proofs.exchange.Exchange.go_on.Given as goal
+
+abbrev pub invariant-loop-query : goal.invariant-loop-query
+invariant-loop-query l = record {
+  small : AreSmall l.self.left;
+  goes : goes_on l.ts.0 l.class.0 l.self l.self.left l.self.done ≡ goes_on l.ts.0 l.class.0 l.fn.self l.fn.self.left l.fn.self.done;
+}
+
+abbrev pub decreases-loop-query : goal.decreases-loop-query
+decreases-loop-query l = length l.self.left

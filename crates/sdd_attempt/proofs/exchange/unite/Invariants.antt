@@ -1,0 +1,6 @@
+use Rattle.std.proofs.Common.{◌≡◌}
+use Rattle.sdd_base.specs.Order.{with_values}
+use Rattle.sdd_attempt.proofs.exchange.unite.Given as goal
+
+abbrev pub invariant-loop-value : goal.invariant-loop-value
+invariant-loop-value l = l.union.keys ≡ with_values l.initial.union.keys l.yielded

@@ -1,0 +1,21 @@
+use Rattle.std.proofs.Common.{◌∙◌, ap, sym, subst}
+use Rattle.std.specs.List.{All}
+use Rattle.sdd_base.specs.Words.{ascending}
+use Rattle.sdd_base.specs.declared.usage.Use.{Use}
+use Rattle.sdd_lang.specs.Classes.{fragments_in}
+use Rattle.sdd_lang.proofs.Sets.{reads_there}
+use Rattle.sdd_attempt.specs.Reads.{AreThere}
+use Rattle.sdd_attempt.proofs.Uses.{uses_there}
+use Rattle.sdd_attempt.proofs.reads.Beginning.of.Goals as goal
+
+pub invariant_of-result : goal.invariant_of-result
+invariant_of-result c =
+    let cat = c.args.cat.now in
+    let text = c.queued.inside.text in
+    record {
+      declared = c.requires.declared;
+      tries = c.requires.tries;
+      uses_there = subst (λ us. All (λ (u : Use). AreThere cat u.frags) us) (sym c.in_ok-uses.ensures) (uses_there cat text);
+      frags_are = c.in_ok-frags.ensures ∙ ap (λ us. ascending (fragments_in us)) (sym c.in_ok-uses.ensures);
+      frags_there = reads_there cat text c.in_ok-frags.frags.items c.in_ok-frags.ensures;
+    }

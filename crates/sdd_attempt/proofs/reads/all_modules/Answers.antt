@@ -1,0 +1,12 @@
+use Rattle.std.proofs.Common.{◌∙◌, ◌++◌, ◌∷◌, [], ap, sym, map}
+use Rattle.std.proofs.lemmas.List.{map-append}
+use Rattle.sdd_base.specs.Numbers.{dm_no}
+use Rattle.sdd_base.specs.declared.number.DmNo.{DmNo}
+use Rattle.sdd_graph.proofs.Lists.{up_to}
+use Rattle.sdd_attempt.proofs.reads.all_modules.Goals as goal
+
+pub loop-number-preserved : goal.loop-number-preserved
+loop-number-preserved c =
+    let n = c.loop-number.number in
+    ap (map (λ (d : DmNo). d.0)) c.in_ok-push.ensures.items ∙ map-append (λ (d : DmNo). d.0) c.loop-number.dms.items (dm_no n ∷ [])
+    ∙ ap (λ ns. ns ++ n ∷ []) c.loop-number.invariant ∙ sym (up_to n c.loop-number.auto.number)

@@ -1,0 +1,12 @@
+use Rattle.std.proofs.Common.{◌≡◌, drop, map}
+use Rattle.std.specs.Prelude.{filter_map, fold}
+use Rattle.std.specs.Ordering.{nat_cmp}
+use Rattle.std.specs.BTreeSet.{insert_key}
+use Rattle.sdd_base.specs.Words.{ascending}
+use Rattle.sdd_catalog.specs.Catalogue.{reads_at}
+use Rattle.sdd_attempt.proofs.reads.modules_read.Given as goal
+
+abbrev pub invariant-loop-frag : goal.invariant-loop-frag
+invariant-loop-frag l =
+    fold (λ ks k. insert_key nat_cmp ks k) l.numbers.keys (filter_map (reads_at l.cat l.class.0) (map (λ f. f.0) (drop l.frag-index l.frags)))
+    ≡ ascending (filter_map (reads_at l.cat l.class.0) (map (λ f. f.0) l.frags))

@@ -1,0 +1,7 @@
+use Rattle.std.proofs.Common.{◌≡◌, take}
+use Rattle.std.specs.Prelude.{filter}
+use Rattle.sdd_protocol.specs.Conditions.{is_read_at}
+use Rattle.sdd_attempt.proofs.reads.read_at.Given as goal
+
+abbrev pub invariant-loop-frag : goal.invariant-loop-frag
+invariant-loop-frag l = l.found.items ≡ filter (λ f. is_read_at l.cat l.class.0 l.dm.0 f.0) (take l.frag-index l.frags)

@@ -1,0 +1,6 @@
+use Rattle.std.proofs.Common.{◌≡◌, take}
+use Rattle.sdd_attempt.specs.Writes.{changes_at}
+use Rattle.sdd_attempt.proofs.writes.changes_at.Given as goal
+
+abbrev pub invariant-loop-change : goal.invariant-loop-change
+invariant-loop-change l = l.here.items ≡ changes_at l.cat l.dm.0 (take l.change-index l.changes)

@@ -1,0 +1,136 @@
+-- The line of a class: its queue and its active attempt, at a site that makes its attempts.
+use Rattle.std.specs.Prelude.{ℕ, ◌≡◌, ◌≤◌, ◌==◌, Bool, true, false, if◌then◌else◌, List, [], ◌∷◌, length, map, option_map, Option, Some, None}
+use Rattle.std.specs.List.{All, AllByRecursion}
+use Rattle.sdd_base.specs.Words.{contains, head_of}
+use Rattle.sdd_base.specs.Clock.{Ticking}
+use Rattle.sdd_base.specs.declared.site.Site.{Site}
+use Rattle.sdd_base.specs.declared.site.Site.TheVariants.{D}
+use Rattle.sdd_catalog.specs.Catalogue.{Catalogue}
+use Rattle.sdd_protocol.specs.declared.entry.Entry as line
+use Rattle.sdd_lang.specs.Fits.{Fits}
+use Rattle.sdd_exec.specs.Serves.{Serves}
+use Rattle.sdd_wire.specs.declared.msg.Msg.{Msg}
+use Rattle.sdd_wire.specs.declared.msg.Msg.TheVariants.{Values}
+use Rattle.sdd_module.specs.SiteLog.{Bases, Act}
+use Rattle.sdd_attempt.specs.Acts.{start_act, commit_act}
+use Rattle.sdd_attempt.specs.Attempts.{Attempt, active_after, asks_rows, rejects}
+use Rattle.sdd_attempt.specs.Clocks.{ticked_by}
+use Rattle.sdd_attempt.specs.Exchange.{Exchange, Phase, Over, after_hand, send_due}
+use Rattle.sdd_attempt.specs.Fits.{AwaitsAt, fetches_use}
+use Rattle.sdd_attempt.specs.Queues.{Queued, queue_after}
+use Rattle.sdd_attempt.specs.Room.{AreAwaited, HasRoom}
+use Rattle.sdd_attempt.specs.declared.step.LineStep.{LineStep}
+use Rattle.sdd_attempt.specs.declared.step.LineStep.TheVariants.{Sends, Commits}
+
+-- with the class and the catalogue
+pub record Line : Type 0 where
+  pub catalogue : Catalogue
+  pub class : ℕ
+  pub queue : List Queued
+  pub active : Option Attempt
+
+abbrev pub no_line : Catalogue → ℕ → Line
+no_line cat c = record { catalogue = cat; class = c; queue = []; active = None }
+
+-- the line once an act is done, where there is one
+abbrev pub line_after : Act → Line → Line
+line_after act l = record l { queue = queue_after l.class act l.queue; active = active_after l.class act l.queue l.active }
+
+abbrev pub line_done : Option Act → Line → Line
+line_done None l = l
+line_done (Some act) l = line_after act l
+
+-- the clock then
+abbrev pub clock_done : Option Act → Ticking → Ticking
+clock_done None clock = clock
+clock_done (Some act) clock = ticked_by act clock
+
+-- what an active attempt does next by itself: the next message of its exchange, or once that is over its Commit
+abbrev pub step_by : List (ℕ × Msg) → Phase → Option LineStep
+step_by [] Over = Some Commits
+step_by [] _ = None
+step_by (m ∷ ms) phase = Some Sends
+
+abbrev pub line_step : Option Attempt → Option LineStep
+line_step None = None
+line_step (Some a) = step_by a.exchange.to_send a.exchange.phase
+
+-- the acts
+
+abbrev pub send_next : Option Attempt → Option Act
+send_next None = None
+send_next (Some a) = send_due a.exchange
+
+abbrev pub commit_next : Bases → Line → Option Act
+commit_next bases l = option_map (commit_act l.catalogue bases l.class) l.active
+
+abbrev pub start_next : List line.Entry → Ticking → Line → Option Act
+start_next table clock l = option_map (start_act l.catalogue table l.class clock) (head_of l.queue)
+
+-- the first transaction in the queue has never started
+abbrev pub head_is_untried : List Queued → Bool
+head_is_untried [] = false
+head_is_untried (q ∷ queue) = q.tries == 0
+
+-- what they ask for
+
+-- values come only where they are awaited
+abbrev pub IsAwaited : ℕ → Site → Msg → Option Attempt → Type 0
+IsAwaited c from (Values t k u values) a = k.0 ≡ c → AwaitsAt (fetches_use u) a from t.0
+IsAwaited c from _ a = Unit {0}
+
+-- each try was a Start, which ticks
+abbrev pub AreTried : ℕ → List Queued → Type 0
+AreTried ticks queue = All (λ q. q.tries ≤ ticks) queue
+
+-- the rows that came for the active attempt serve its database
+abbrev pub ServesAt : Catalogue → Bases → Option Attempt → Type 0
+ServesAt cat bases None = Unit {0}
+ServesAt cat bases (Some a) = Serves cat a.text a.exchange.found (bases a.ts)
+
+-- How a site keeps a line: the active attempt is that of the first transaction in the queue.
+
+pub record Running : Type 0 where
+  pub ts : ℕ
+  pub exchange : Exchange
+
+-- a message ends it, or goes to its exchange
+abbrev pub handed_by : ℕ → Site → Msg → Running → Option Running
+handed_by c (D d) m r = if rejects m r.ts c then None else Some (record r { exchange = after_hand r.ts c d.0 m r.exchange })
+handed_by c _ m r = Some r
+
+abbrev pub AreAwaitedFrom : ℕ → Site → Msg → Running → Type 0
+AreAwaitedFrom c (D d) m r = AreAwaited r.ts c d.0 m r.exchange
+AreAwaitedFrom c _ m r = Unit {0}
+
+abbrev pub attempt_of : Queued → Running → Attempt
+attempt_of q r = record { txn = q.number; attempt = q.tries; ts = r.ts; text = q.text; exchange = r.exchange }
+
+abbrev pub active_of : List Queued → Option Running → Option Attempt
+active_of [] r = None
+active_of (q ∷ queue) r = option_map (attempt_of q) r
+
+abbrev pub line_of : Catalogue → ℕ → List Queued → Option Running → Line
+line_of cat c queue r = record { catalogue = cat; class = c; queue = queue; active = active_of queue r }
+
+-- each number once
+abbrev pub AreDistinct : List ℕ → Type 0
+AreDistinct [] = Unit {0}
+AreDistinct (n ∷ ns) = (contains ns n ≡ false) × AreDistinct ns
+
+-- the active attempt started, its numbers have room, and all that it is still to send asks rows for it
+pub record IsRunning (c : ℕ) (q : Queued) (r : Running) : Type 0 where
+  pub started : 1 ≤ q.tries
+  pub room : HasRoom r.exchange
+  pub asks : AllByRecursion (λ m. asks_rows r.ts c m.1 ≡ true) r.exchange.to_send
+
+abbrev pub RunsFirst : ℕ → List Queued → Option Running → Type 0
+RunsFirst c queue None = Unit {0}
+RunsFirst c [] (Some r) = ⊥
+RunsFirst c (q ∷ queue) (Some r) = IsRunning c q r
+
+pub record IsLine (cat : Catalogue) (c : ℕ) (queue : List Queued) (running : Option Running) : Type 0 where
+  pub class : c ≤ length cat.classes
+  pub distinct : AreDistinct (map (λ q. q.number) queue)
+  pub fits : All (λ q. Fits cat q.text) queue
+  pub runs : RunsFirst c queue running

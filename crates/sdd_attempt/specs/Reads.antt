@@ -1,0 +1,44 @@
+-- The READs of an attempt, as a site makes them.
+use Rattle.std.specs.Prelude.{ℕ, suc, ◌<◌, ◌≤◌, ◌^◌, ◌≡◌, List, map, length, Option, Some, None}
+use Rattle.std.specs.List.{All}
+use Rattle.sdd_base.specs.Words.{ascending}
+use Rattle.sdd_base.specs.declared.number.FragNo.{FragNo}
+use Rattle.sdd_base.specs.declared.site.Site.{Site}
+use Rattle.sdd_base.specs.declared.usage.Use.{Use}
+use Rattle.sdd_catalog.specs.Catalogue.{Catalogue}
+use Rattle.sdd_graph.specs.Edges.{IsClassOf}
+use Rattle.sdd_protocol.specs.declared.entry.Entry as line
+use Rattle.sdd_lang.specs.Classes.{fragments_in}
+use Rattle.sdd_wire.specs.declared.msg.Msg.{Msg}
+use Rattle.sdd_attempt.specs.Acts.{modules_of, read_to}
+use Rattle.sdd_attempt.specs.Queues.{Queued}
+
+-- what they have in common: of whom they are, its uses, its timestamp, and the bound of the clock before it
+pub record Beginning : Type 0 where
+  pub catalogue : Catalogue
+  pub table : List line.Entry
+  pub class : ℕ
+  pub queued : Queued
+  pub uses : List Use
+  pub own : ℕ
+  pub p2 : ℕ
+
+-- a declared class has a table, and only undeclared transactions have none
+abbrev pub IsDeclared : Catalogue → ℕ → Option (List line.Entry) → Type 0
+IsDeclared cat c None = c ≡ 0
+IsDeclared cat c (Some table) = IsClassOf cat c
+
+-- the fragments are there
+abbrev pub AreThere : Catalogue → List FragNo → Type 0
+AreThere cat frags = All (λ f. (1 ≤ f.0) × (f.0 ≤ length cat.fragments)) frags
+
+-- the uses with their fragments
+pub record IsBeginning (cat : Catalogue) (table : Option (List line.Entry)) (c count : ℕ) (uses : List Use) (frags : List FragNo) : Type 0 where
+  pub declared : IsDeclared cat c table
+  pub tries : suc count < 2 ^ 64
+  pub uses_there : All (λ u. AreThere cat u.frags) uses
+  pub frags_are : map (λ f. f.0) frags ≡ ascending (fragments_in uses)
+  pub frags_there : AreThere cat frags
+
+abbrev pub reads_of : Beginning → List (Site × Msg)
+reads_of b = map (read_to b.catalogue b.table b.class b.queued b.uses b.own b.p2) (modules_of b.catalogue b.class (ascending (fragments_in b.uses)))

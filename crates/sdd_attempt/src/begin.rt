@@ -1,0 +1,56 @@
+ghost use Rattle.std.specs.Prelude.{◌≡◌, ◌<◌, ◌+◌, ◌^◌, [], suc, option_map, unwrap_or, IfOk, OnOk};
+ghost use Rattle.sdd_base.specs.Clock.{ticked, timestamp};
+ghost use Rattle.sdd_lang.specs.Fits.{Fits};
+ghost use Rattle.sdd_module.specs.Notes.{with_act};
+ghost use Rattle.sdd_module.specs.SiteLog.{sends_of_act};
+ghost use Rattle.sdd_attempt.specs.Acts.{start_act};
+ghost use Rattle.sdd_attempt.specs.Exchange.{begins};
+ghost use Rattle.sdd_attempt.specs.Reads.{IsDeclared};
+
+use crate::exchange::Exchange;
+use crate::queued::Queued;
+use crate::reads::Beginning;
+use crate::running::Running;
+use crate::sending::send_all;
+use sdd_base::{ClassNo, Clock, NoMemory};
+use sdd_catalog::Catalogue;
+use sdd_module::Draft;
+use sdd_protocol::Table;
+use std::alloc::Global;
+
+/// Starts the next attempt of a transaction in the queue of the class: it takes a tick, and its
+/// Start is recorded with its READs.
+pub(crate) fn begun(
+    alloc: Global,
+    cat: &Catalogue,
+    table: Option<&Table>,
+    class: ClassNo,
+    queued: &Queued,
+    clock: &mut Clock,
+    draft: &mut Draft,
+) -> Result<Running, NoMemory>
+    requires fits { Fits cat.now queued.now.text }
+    requires declared { IsDeclared cat.now class.0 (option_map (λ t. t.now) table) }
+    requires tries { suc queued.now.tries < 2 ^ 64 }
+    requires time { clock.old.ticks + 1 < 2 ^ 57 }
+    ensures running { let table = unwrap_or (option_map (λ t. t.now) table.entry) [] in
+        IfOk result (λ running.
+        running
+        ≡ record {
+          ts = timestamp (ticked clock.old 1);
+          exchange = begins queued.now.text (sends_of_act (start_act cat.now table class.0 clock.old queued.now));
+        }) }
+    ensures draft { let table = unwrap_or (option_map (λ t. t.now) table.entry) [] in
+        OnOk result (
+        draft.new ≡ with_act (start_act cat.now table class.0 clock.old queued.now) draft.old) }
+    ensures clock { clock.new ≡ ticked clock.old 1 }
+{
+    let p2 = clock.bound();
+    let own = clock.start();
+    let beginning = Beginning::of(alloc, cat, table, class, queued, own, p2)?;
+    let reads = beginning.reads()?;
+    let exchange = Exchange::begin(alloc, &queued.text, &reads)?;
+    draft.record(beginning.into_record())?;
+    send_all(draft, reads)?;
+    Ok(Running { ts: own, exchange })
+}

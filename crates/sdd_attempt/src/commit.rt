@@ -1,0 +1,86 @@
+ghost use Rattle.std.specs.Prelude.{◌≡◌, ℕ, true, [], IfOk, OnOk};
+ghost use Rattle.sdd_exec.specs.Serves.{Serves};
+ghost use Rattle.sdd_lang.specs.Database.{Database};
+ghost use Rattle.sdd_lang.specs.Effect.{effect};
+ghost use Rattle.sdd_lang.specs.Fits.{Fits};
+ghost use Rattle.sdd_lang.specs.Sound.{IsDatabase};
+ghost use Rattle.sdd_module.specs.Notes.{with_act};
+ghost use Rattle.sdd_module.specs.SiteLog.{Bases};
+ghost use Rattle.sdd_attempt.specs.Acts.{commit_act};
+ghost use Rattle.sdd_attempt.specs.Lines.{attempt_of};
+
+use crate::queued::Queued;
+use crate::running::Running;
+use crate::sending::send_all;
+use crate::writes::{Committing, writes};
+use sdd_base::{ClassNo, NoMemory, Row};
+use sdd_catalog::Catalogue;
+use sdd_exec::{Snapshot, effect};
+use sdd_history::Rec;
+use sdd_lang::{Effect, Txn};
+use sdd_module::Draft;
+use std::alloc::Global;
+
+/// Commits an attempt of the class: its Commit is recorded, with its WRITEs.
+pub(crate) fn committed(
+    alloc: Global,
+    cat: &Catalogue,
+    class: ClassNo,
+    queued: Queued,
+    running: Running,
+    draft: &mut Draft,
+) -> Result<(), NoMemory>
+    requires { Fits cat.now queued.text }
+    ensures { OnOk result (
+        (bases : Bases) → ((ts : ℕ) → IsDatabase cat.now (bases ts))
+        → Serves cat.now queued.text running.exchange.found (bases running.ts)
+        → draft.new ≡ with_act (commit_act cat.now bases class.0 (attempt_of queued running)) draft.old) }
+{
+    let Running { ts, exchange } = running;
+    let values = exchange.values();
+    let rows = exchange.rows();
+    let effect = effect_from(alloc, cat, &queued.text, exchange.into_found())?;
+    let attempt = Committing {
+        class,
+        txn: queued.number,
+        ts,
+    };
+    let writes = writes(alloc, cat, attempt, effect.changes.as_slice())?;
+    draft.record(Rec::Commit {
+        txn: queued.number,
+        attempt: queued.tries,
+        reply: effect.reply,
+        changes: effect.changes,
+        values,
+        rows,
+    })?;
+    send_all(draft, writes)?;
+    Ok(())
+}
+
+/// The effect on each database that the rows serve.
+fn effect_from(
+    alloc: Global,
+    cat: &Catalogue,
+    text: &Txn,
+    rows: Vec<(u32, Row)>,
+) -> Result<Effect, NoMemory>
+    requires { Fits cat.now text.now }
+    ensures { IfOk result (λ made.
+        (db : Database) → IsDatabase cat.now db → Serves cat.now text.now rows.items db
+        → made ≡ effect cat.now db text.now) }
+{
+    let snapshot = snapshot_of(alloc, rows)?;
+    effect(alloc, cat, text, &snapshot)
+}
+
+/// The rows as a snapshot. Moves them.
+fn snapshot_of(alloc: Global, rows: Vec<(u32, Row)>) -> Result<Snapshot, NoMemory>
+    ensures { IfOk result (λ snapshot. snapshot ≡ record { live = true; value = rows.items }) }
+{
+    let mut snapshot = Snapshot::new(alloc);
+    for (use_no, row) in rows {
+        snapshot.add(use_no, row)?;
+    }
+    Ok(snapshot)
+}

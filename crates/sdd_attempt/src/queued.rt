@@ -1,0 +1,32 @@
+ghost use Rattle.std.specs.Prelude.{◌≡◌, ◌<◌, ◌^◌, suc};
+
+use sdd_base::TxnNo;
+use sdd_lang::Txn;
+use std::marker::Model;
+
+/// A transaction in a queue.
+#[derive(Drop)]
+pub(crate) struct Queued {
+    pub(crate) number: TxnNo,
+    pub(crate) text: Txn,
+    /// How often it started.
+    pub(crate) tries: u64,
+}
+
+impl Model for Queued {
+    ghost use Rattle.sdd_attempt.specs.Queues as queues;
+
+    ghost Value = { queues.Queued };
+
+    ghost view = { λ q. record { number = q.number.0; text = q.text; tries = q.tries } };
+}
+
+impl Queued {
+    /// Counts one more start.
+    pub(crate) fn add_try(&mut self)
+        requires { suc self.old.tries < 2 ^ 64 }
+        ensures { self.new ≡ record self.old { tries = suc self.old.tries } }
+    {
+        self.tries += 1;
+    }
+}

@@ -1,0 +1,336 @@
+ghost use Rattle.std.specs.Prelude.{◌≡◌, ◌<◌, ◌≤◌, ◌^◌, ◌++◌, ◌∷◌, [], suc, All, option_to_list, filter, filter_map, fold, length, map, option_map, unwrap_or, IfOk, OnOk};
+ghost use Rattle.std.specs.Ordering.{nat_cmp};
+ghost use Rattle.std.specs.BTreeSet.{insert_key};
+ghost use Rattle.sdd_base.specs.Numbers.{class_no, time_at, txn_no};
+ghost use Rattle.sdd_base.specs.Words.{ascending};
+ghost use Rattle.sdd_catalog.specs.Catalogue.{numbers_to, reads_at};
+ghost use Rattle.sdd_lang.specs.Classes.{fragments_in};
+ghost use Rattle.sdd_lang.specs.Fits.{Fits};
+ghost use Rattle.sdd_lang.specs.Uses.{uses_of};
+ghost use Rattle.sdd_protocol.specs.Conditions.{is_read_at};
+ghost use Rattle.sdd_attempt.specs.Acts.{conditions_at, modules_of, p2_of, read_to, use_there};
+ghost use Rattle.sdd_attempt.specs.Reads.{AreThere, IsDeclared, reads_of};
+ghost use Rattle.sdd_history.specs.declared.record.Rec.TheVariants as recs;
+
+use crate::queued::Queued;
+use sdd_base::{ClassNo, Conds, DmNo, FragNo, Frags, NoMemory, Parcel, Site, Ts, Use, Uses};
+use sdd_catalog::Catalogue;
+use sdd_history::Rec;
+use sdd_lang::{read_set, uses};
+use sdd_protocol::{Table, undeclared};
+use sdd_wire::Msg;
+use std::alloc::Global;
+use std::collections::BTreeSet;
+use std::marker::Model;
+
+/// An attempt that begins: what its READs have in common.
+#[derive(Drop)]
+pub(crate) struct Beginning<'a> {
+    alloc: Global,
+    cat: &'a Catalogue,
+    /// None for an undeclared transaction.
+    table: Option<&'a Table>,
+    class: ClassNo,
+    queued: &'a Queued,
+    uses: Vec<Use>,
+    /// The fragments of the uses, ascending.
+    frags: Vec<FragNo>,
+    own: Ts,
+    p2: Ts,
+}
+
+impl<'a> Model for Beginning<'a> {
+    ghost use Rattle.std.specs.Prelude.{[], option_map, unwrap_or};
+    ghost use Rattle.sdd_attempt.specs.Reads as beginnings;
+
+    ghost Value = { beginnings.Beginning };
+
+    ghost view = { λ b.
+        record {
+          catalogue = b.cat.now;
+          table = unwrap_or (option_map (λ t. t.now) b.table) [];
+          class = b.class.0;
+          queued = b.queued.now;
+          uses = b.uses.items;
+          own = b.own.0;
+          p2 = b.p2.0;
+        } };
+
+    ghost invariant = { λ b.
+        beginnings.IsBeginning b.cat.now (option_map (λ t. t.now) b.table) b.class.0 b.queued.now.tries b.uses.items b.frags.items };
+}
+
+impl<'a> Beginning<'a> {
+    /// The next attempt of a transaction in the queue of the class.
+    pub(crate) fn of(
+        alloc: Global,
+        cat: &'a Catalogue,
+        table: Option<&'a Table>,
+        class: ClassNo,
+        queued: &'a Queued,
+        own: Ts,
+        p2: Ts,
+    ) -> Result<Beginning<'a>, NoMemory>
+        requires fits { Fits cat.now queued.now.text }
+        requires declared { IsDeclared cat.now class.0 (option_map (λ t. t.now) table) }
+        requires tries { suc queued.now.tries < 2 ^ 64 }
+        ensures { IfOk result (λ b.
+            b ≡ record {
+              catalogue = cat.now;
+              table = unwrap_or (option_map (λ t. t.now) table.entry) [];
+              class = class.0;
+              queued = queued.now;
+              uses = uses_of cat.now queued.now.text;
+              own = own.0;
+              p2 = p2.0;
+            }) }
+    {
+        let uses = uses(alloc, cat, &queued.text)?;
+        let frags = read_set(alloc, cat, &queued.text)?;
+        Ok(Beginning {
+            alloc,
+            cat,
+            table,
+            class,
+            queued,
+            uses,
+            frags,
+            own,
+            p2,
+        })
+    }
+
+    /// The READs, ascending by module. Costs time and memory in the modules times what the
+    /// conditions and the uses cost.
+    pub(crate) fn reads(&self) -> Result<Vec<(Site, Msg)>, NoMemory>
+        ensures { IfOk result (λ reads. reads.items ≡ reads_of self.now) }
+    {
+        let dms = self.modules()?;
+        reads_to(self, &dms)
+    }
+
+    /// The record of its Start.
+    pub(crate) fn into_record(self) -> Rec
+        ensures { result
+            ≡ recs.Start (txn_no self.entry.queued.number) (suc self.entry.queued.tries)
+            (class_no self.entry.class) (time_at self.entry.own)
+            (p2_of self.entry.class self.entry.p2) self.entry.uses }
+    {
+        let queued = self.queued;
+        Rec::Start {
+            txn: queued.number,
+            attempt: queued.tries + 1,
+            class: self.class,
+            ts: self.own,
+            p2: if self.class.0 == 0 {
+                None
+            } else {
+                Some(self.p2)
+            },
+            uses: Uses::from_vec(self.uses),
+        }
+    }
+
+    /// The modules to which READs go: those at which it reads, and undeclared all.
+    fn modules(&self) -> Result<Vec<DmNo>, NoMemory>
+        ensures { IfOk result (λ dms.
+            map (λ n. n.0) dms.items
+            ≡ modules_of self.now.catalogue self.now.class (ascending (fragments_in self.now.uses))) }
+    {
+        if self.class.0 == 0 {
+            return all_modules(self.alloc, self.cat);
+        }
+        modules_read(self.alloc, self.cat, self.class, &self.frags)
+    }
+
+    /// The READ to a module.
+    fn read_to(&self, dm: DmNo) -> Result<(Site, Msg), NoMemory>
+        ensures { IfOk result (λ read.
+            read
+            ≡ read_to self.now.catalogue self.now.table self.now.class self.now.queued self.now.uses
+            self.now.own self.now.p2 dm.0) }
+    {
+        let queued = self.queued;
+        let conds = self.conditions(dm)?;
+        let uses = uses_at(self.alloc, self.cat, self.class, dm, &self.uses)?;
+        Ok((
+            Site::D(dm),
+            Msg::Read {
+                ts: self.own,
+                class: self.class,
+                txn: queued.number,
+                attempt: queued.tries + 1,
+                conds,
+                uses: Uses::from_vec(uses),
+            },
+        ))
+    }
+
+    /// Its conditions at a module.
+    fn conditions(&self, dm: DmNo) -> Result<Conds, NoMemory>
+        ensures { IfOk result (λ conds.
+            conds
+            ≡ conditions_at self.now.catalogue self.now.table self.now.class
+            (ascending (fragments_in self.now.uses)) self.now.own self.now.p2 dm.0) }
+    {
+        match self.table {
+            None => Ok(Conds::from_vec(undeclared(self.alloc, self.cat, self.own)?)),
+            Some(table) => {
+                let frags = self.frags.as_slice();
+                let conds = table.condition(self.cat, self.class, dm, frags, self.own, self.p2)?;
+                Ok(Conds::from_vec(conds))
+            }
+        }
+    }
+}
+
+fn reads_to(beginning: &Beginning, dms: &[DmNo]) -> Result<Vec<(Site, Msg)>, NoMemory>
+    ensures { IfOk result (λ reads.
+        reads.items
+        ≡ map (read_to beginning.now.catalogue beginning.now.table beginning.now.class
+        beginning.now.queued beginning.now.uses beginning.now.own beginning.now.p2)
+        (map (λ n. n.0) dms.now)) }
+{
+    let mut reads = Vec::new(beginning.alloc);
+    for dm in dms {
+        reads.push(beginning.read_to(*dm)?)?;
+    }
+    Ok(reads)
+}
+
+/// All data modules.
+fn all_modules(alloc: Global, cat: &Catalogue) -> Result<Vec<DmNo>, NoMemory>
+    ensures { IfOk result (λ dms. map (λ n. n.0) dms.items ≡ numbers_to cat.now.dms) }
+{
+    cat.known();
+    let mut dms = Vec::new(alloc);
+    for number in 1..cat.dms() + 1 {
+        dms.push(DmNo(number as u8))?;
+    }
+    Ok(dms)
+}
+
+/// The modules at which the class reads the fragments, ascending.
+fn modules_read(
+    alloc: Global,
+    cat: &Catalogue,
+    class: ClassNo,
+    frags: &[FragNo],
+) -> Result<Vec<DmNo>, NoMemory>
+    requires class { class.0 ≤ length cat.now.classes }
+    requires there { AreThere cat.now frags.now }
+    ensures { IfOk result (λ dms.
+        map (λ n. n.0) dms.items
+        ≡ ascending (filter_map (reads_at cat.now class.0) (map (λ f. f.0) frags.now))) }
+{
+    let mut numbers = BTreeSet::new(alloc);
+    for frag in frags {
+        add_module(&mut numbers, cat.reads_at(class, *frag))?;
+    }
+    numbered(alloc, &numbers)
+}
+
+/// Adds a module, where there is one.
+fn add_module(numbers: &mut BTreeSet<u8>, dm: Option<DmNo>) -> Result<(), NoMemory>
+    ensures { OnOk result (
+        numbers.new.keys
+        ≡ fold (λ ks k. insert_key nat_cmp ks k) numbers.old.keys
+        (option_to_list (option_map (λ n. n.0) dm))) }
+{
+    match dm {
+        None => Ok(()),
+        Some(dm) => {
+            numbers.insert(dm.0)?;
+            Ok(())
+        }
+    }
+}
+
+/// The modules with these numbers.
+fn numbered(alloc: Global, numbers: &BTreeSet<u8>) -> Result<Vec<DmNo>, NoMemory>
+    ensures { IfOk result (λ dms. map (λ n. n.0) dms.items ≡ numbers.now.keys) }
+{
+    let mut dms = Vec::new(alloc);
+    for number in numbers {
+        dms.push(DmNo(*number))?;
+    }
+    Ok(dms)
+}
+
+/// Of the uses those with a fragment that the class reads at the module, each with these
+/// fragments.
+fn uses_at(
+    alloc: Global,
+    cat: &Catalogue,
+    class: ClassNo,
+    dm: DmNo,
+    uses: &[Use],
+) -> Result<Vec<Use>, NoMemory>
+    requires class { class.0 ≤ length cat.now.classes }
+    requires there { All (λ u. AreThere cat.now u.frags) uses.now }
+    ensures { IfOk result (λ found.
+        found.items ≡ filter_map (use_there cat.now class.0 dm.0) uses.now) }
+{
+    let mut found = Vec::new(alloc);
+    for one in uses {
+        add_use(alloc, cat, class, dm, one, &mut found)?;
+    }
+    Ok(found)
+}
+
+/// Adds the use, where it has such a fragment.
+fn add_use(
+    alloc: Global,
+    cat: &Catalogue,
+    class: ClassNo,
+    dm: DmNo,
+    one: &Use,
+    found: &mut Vec<Use>,
+) -> Result<(), NoMemory>
+    requires class { class.0 ≤ length cat.now.classes }
+    requires there { AreThere cat.now one.now.frags }
+    ensures { OnOk result (
+        found.new.items
+        ≡ found.old.items ++ filter_map (use_there cat.now class.0 dm.0) (one.now ∷ [])) }
+{
+    let frags = read_at(alloc, cat, class, dm, one.frags.as_slice())?;
+    if frags.is_empty() {
+        return Ok(());
+    }
+    found.push(with_frags(one, frags)?)?;
+    Ok(())
+}
+
+/// The use with these fragments.
+fn with_frags(one: &Use, frags: Vec<FragNo>) -> Result<Use, NoMemory>
+    ensures { IfOk result (λ made. made ≡ record one.now { frags = frags.items }) }
+{
+    Ok(Use {
+        number: one.number,
+        rel: one.rel,
+        frags: Frags::from_vec(frags),
+        restrictions: one.restrictions.copy()?,
+    })
+}
+
+/// Of the fragments those that the class reads at the module.
+fn read_at(
+    alloc: Global,
+    cat: &Catalogue,
+    class: ClassNo,
+    dm: DmNo,
+    frags: &[FragNo],
+) -> Result<Vec<FragNo>, NoMemory>
+    requires class { class.0 ≤ length cat.now.classes }
+    requires there { AreThere cat.now frags.now }
+    ensures { IfOk result (λ found.
+        found.items ≡ filter (λ f. is_read_at cat.now class.0 dm.0 f.0) frags.now) }
+{
+    let mut found = Vec::new(alloc);
+    for frag in frags {
+        if cat.reads_at(class, *frag) == Some(dm) {
+            found.push(*frag)?;
+        }
+    }
+    Ok(found)
+}

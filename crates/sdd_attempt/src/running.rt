@@ -1,0 +1,121 @@
+ghost use Rattle.std.specs.Prelude.{◌≡◌, IfOk, OnOk};
+ghost use Rattle.sdd_module.specs.Notes.{noted};
+ghost use Rattle.sdd_attempt.specs.Attempts.{rejects};
+ghost use Rattle.sdd_attempt.specs.Exchange.{after_send, send_due};
+ghost use Rattle.sdd_attempt.specs.Lines.{AreAwaitedFrom, handed_by, step_by};
+ghost use Rattle.sdd_attempt.specs.Room.{CarriesFew, HasRoom};
+ghost use Rattle.sdd_attempt.specs.Standings.{underway};
+
+use crate::exchange::Exchange;
+use crate::standing::Standing;
+use crate::step::LineStep;
+use sdd_base::{ClassNo, NoMemory, Site, Ts};
+use sdd_module::Draft;
+use sdd_wire::Msg;
+use std::marker::Model;
+
+/// An attempt that is under way.
+#[derive(Drop)]
+pub(crate) struct Running {
+    pub(crate) ts: Ts,
+    pub(crate) exchange: Exchange,
+}
+
+impl Model for Running {
+    ghost use Rattle.sdd_attempt.specs.Lines as lines;
+
+    ghost Value = { lines.Running };
+
+    ghost view = { λ r. record { ts = r.ts.0; exchange = r.exchange } };
+}
+
+impl Running {
+    /// What it does next by itself.
+    pub(crate) fn step(&self) -> Option<LineStep>
+        ensures { result ≡ step_by self.now.exchange.to_send self.now.exchange.phase }
+    {
+        if self.exchange.has_to_send() {
+            return Some(LineStep::Sends);
+        }
+        if self.exchange.is_over() {
+            return Some(LineStep::Commits);
+        }
+        None
+    }
+
+    /// That it is under way.
+    pub(crate) fn standing(&self, class: ClassNo) -> Standing
+        ensures { result
+            ≡ underway class.0 self.now.ts self.now.exchange }
+    {
+        let site = match self.exchange.lowest_lacking() {
+            None => Site::U,
+            Some(dm) => Site::D(dm),
+        };
+        Standing::Underway(class, Some(self.ts), site)
+    }
+
+    /// Sends the next message.
+    pub(crate) fn send(&mut self, draft: &mut Draft) -> Result<(), NoMemory>
+        ensures exchange { OnOk result (
+            self.new ≡ record self.old { exchange = after_send self.old.exchange }) }
+        ensures draft { OnOk result (
+            draft.new ≡ noted (send_due self.old.exchange) draft.old) }
+    {
+        match self.exchange.next_send() {
+            None => Ok(()),
+            Some((dm, msg)) => draft.send(Site::D(dm), msg),
+        }
+    }
+
+    /// Takes a message of the attempt's class: it goes on, unless that is a REJECT of it.
+    pub(crate) fn handed(
+        mut self,
+        class: ClassNo,
+        from: Site,
+        msg: Msg,
+    ) -> Result<Option<Running>, NoMemory>
+        requires room { HasRoom self.exchange }
+        requires awaited { AreAwaitedFrom class.0 from msg self }
+        ensures running { IfOk result (λ running. running ≡ handed_by class.0 from msg self) }
+        ensures few { CarriesFew msg }
+    {
+        carries_few(&msg);
+        match from {
+            Site::D(dm) => {
+                if is_rejected(&msg, self.ts, class) {
+                    return Ok(None);
+                }
+                self.exchange.hand(self.ts, class, dm, msg)?;
+                Ok(Some(self))
+            }
+            _ => Ok(Some(self)),
+        }
+    }
+}
+
+/// Whether a message rejects the attempt of the class with this timestamp.
+fn is_rejected(msg: &Msg, ts: Ts, class: ClassNo) -> bool
+    ensures { result ≡ rejects msg.now ts.0 class.0 }
+{
+    match msg {
+        Msg::Reject {
+            ts: t,
+            class: k,
+            ..
+        } => *t == ts && *k == class,
+        _ => false,
+    }
+}
+
+/// A list of values is no longer than memory.
+fn carries_few(msg: &Msg)
+    ensures { CarriesFew msg.now }
+{
+    match msg {
+        Msg::Values { values, .. } => {
+            let _length = values.as_slice().len();
+        }
+        _ => {}
+    }
+}

@@ -1,0 +1,8 @@
+/// What the active attempt of a line does next by itself.
+#[derive(Clone, Copy, Debug, PartialEq, Eq)]
+pub enum LineStep {
+    /// It sends the next message of its exchange.
+    Sends,
+    /// It commits.
+    Commits,
+}

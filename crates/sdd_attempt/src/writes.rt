@@ -1,0 +1,119 @@
+ghost use Rattle.std.specs.Prelude.{◌≡◌, ◌++◌, ◌∷◌, [], filter, filter_map, IfOk, OnOk};
+ghost use Rattle.sdd_catalog.specs.Catalogue.{has_copy, numbers_to};
+ghost use Rattle.sdd_attempt.specs.Writes.{changes_at, write_of};
+
+use sdd_base::{Change, Changes, ClassNo, DmNo, FragNo, NoMemory, Parcel, Site, Ts, TxnNo};
+use sdd_catalog::Catalogue;
+use sdd_wire::Msg;
+use std::alloc::Global;
+
+/// An attempt that commits.
+#[derive(Clone, Copy)]
+pub(crate) struct Committing {
+    pub(crate) class: ClassNo,
+    pub(crate) txn: TxnNo,
+    pub(crate) ts: Ts,
+}
+
+/// Its WRITEs, ascending by module: to each module that has a copy of a changed fragment, and of
+/// an undeclared transaction to every one. Costs time in the modules times the changes and their
+/// copies.
+pub(crate) fn writes(
+    alloc: Global,
+    cat: &Catalogue,
+    attempt: Committing,
+    changes: &[Change],
+) -> Result<Vec<(Site, Msg)>, NoMemory>
+    ensures { IfOk result (λ writes.
+        writes.items
+        ≡ filter_map (write_of cat.now attempt.class.0 attempt.ts.0 attempt.txn.0 changes.now)
+        (numbers_to cat.now.dms)) }
+{
+    cat.known();
+    let mut writes = Vec::new(alloc);
+    for number in 1..cat.dms() + 1 {
+        add_write(
+            alloc,
+            cat,
+            attempt,
+            changes,
+            DmNo(number as u8),
+            &mut writes,
+        )?;
+    }
+    Ok(writes)
+}
+
+/// Adds the WRITE to a module, where one goes there.
+fn add_write(
+    alloc: Global,
+    cat: &Catalogue,
+    attempt: Committing,
+    changes: &[Change],
+    dm: DmNo,
+    writes: &mut Vec<(Site, Msg)>,
+) -> Result<(), NoMemory>
+    ensures { OnOk result (
+        writes.new.items
+        ≡ writes.old.items
+        ++ filter_map (write_of cat.now attempt.class.0 attempt.ts.0 attempt.txn.0 changes.now)
+        (dm.0 ∷ [])) }
+{
+    let here = changes_at(alloc, cat, dm, changes)?;
+    if here.is_empty() && attempt.class.0 != 0 {
+        return Ok(());
+    }
+    writes.push((
+        Site::D(dm),
+        Msg::Write {
+            ts: attempt.ts,
+            class: attempt.class,
+            txn: attempt.txn,
+            changes: Changes::from_vec(here),
+        },
+    ))?;
+    Ok(())
+}
+
+/// Of the changes those of fragments that have a copy at the module.
+fn changes_at(
+    alloc: Global,
+    cat: &Catalogue,
+    dm: DmNo,
+    changes: &[Change],
+) -> Result<Vec<Change>, NoMemory>
+    ensures { IfOk result (λ here. here.items ≡ changes_at cat.now dm.0 changes.now) }
+{
+    let mut here = Vec::new(alloc);
+    for change in changes {
+        add_change(cat, dm, change, &mut here)?;
+    }
+    Ok(here)
+}
+
+/// Adds the change, where its fragment has a copy at the module.
+fn add_change(
+    cat: &Catalogue,
+    dm: DmNo,
+    change: &Change,
+    here: &mut Vec<Change>,
+) -> Result<(), NoMemory>
+    ensures { OnOk result (
+        here.new.items ≡ here.old.items ++ changes_at cat.now dm.0 (change.now ∷ [])) }
+{
+    if has_copy(cat, dm, change.frag) {
+        here.push(change.copy()?)?;
+    }
+    Ok(())
+}
+
+/// Whether the module has a copy of the fragment, whatever its number.
+fn has_copy(cat: &Catalogue, dm: DmNo, frag: FragNo) -> bool
+    ensures { result ≡ has_copy cat.now dm.0 frag.0 }
+{
+    let number = frag.0.max(1);
+    if number > cat.fragments() {
+        return false;
+    }
+    cat.has_copy(dm, FragNo(number))
+}

@@ -1,0 +1,40 @@
+-- In which order the rows arrive doesn't matter.
+use Rattle.std.proofs.Common.{ℕ, ◌+◌, List, [], ◌∷◌}
+use Rattle.sdd_catalog.specs.Catalogue.{Catalogue}
+use Rattle.sdd_lang.specs.declared.statement.Stmt.{Stmt}
+use Rattle.sdd_lang.specs.declared.statement.Stmt.TheVariants.{Put, Query, Update, Delete}
+use Rattle.sdd_lang.specs.declared.transaction.Txn.{Txn}
+use Rattle.sdd_lang.specs.Condition.{part_of}
+use Rattle.sdd_lang.specs.Database.{Row, Database}
+use Rattle.sdd_lang.specs.Source.{uses_in}
+use Rattle.sdd_exec.specs.Choices.{Has}
+use Rattle.sdd_exec.specs.Serves.{AreEnough, AreEnoughAlong, Serves}
+use Rattle.sdd_exec.specs.Snapshots.{Shipped, rows_for}
+use Rattle.sdd_serving.proofs.Held.{use_row, row_of_use}
+
+module _ (few many : Shipped) (go : (s : ℕ × Row) → Has few s → Has many s) where
+  moved : (n : ℕ) (row : Row) → Has (rows_for few n) row → Has (rows_for many n) row
+  moved n row h = row_of_use many n row (go (n, row) (use_row few n row h))
+
+  enough : (db : Database) (before : ℕ) (s : Stmt) → AreEnough db few before s → AreEnough db many before s
+  enough db before (Put rel row) h = tt
+  enough db before (Query out rels conds) h =
+      λ tuple there meets part range. moved (before + part) (part_of tuple part) (h tuple there meets part range)
+  enough db before (Update rel sets conds) h = λ row is. moved (before + 1) row (h row is)
+  enough db before (Delete rel conds) h = λ row is. moved (before + 1) row (h row is)
+
+  enough_along : (db : Database) (before : ℕ) (statements : List Stmt) → AreEnoughAlong db few before statements
+      → AreEnoughAlong db many before statements
+  enough_along db before [] h = tt
+  enough_along db before (s ∷ rest) h = (enough db before s h.0, enough_along db (before + uses_in s) rest h.1)
+
+-- rows with the same members serve the same databases
+pub serves_by_members : (cat : Catalogue) (txn : Txn) (db : Database) (few many : Shipped)
+    → ((s : ℕ × Row) → Has few s → Has many s) → ((s : ℕ × Row) → Has many s → Has few s) → Serves cat txn few db
+    → Serves cat txn many db
+serves_by_members cat txn db few many go come s =
+    record {
+      named = λ r h. s.named r (come r h);
+      held = λ u k row h. s.held u k row (moved many few come u.number row h);
+      enough = enough_along few many go db 0 txn.statements s.enough;
+    }

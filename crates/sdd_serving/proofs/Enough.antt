@@ -1,0 +1,144 @@
+-- What is shipped after any number of reductions serves the database.
+use Rattle.std.proofs.Common.{ℕ, ◌≡◌, ◌+◌, ◌-◌, inl, inr, true, List, [], ◌∷◌, length, refl, sym, subst, arith}
+use Rattle.std.specs.List.{AllByRecursion, list_all}
+use Rattle.std.proofs.lemmas.List.Elements.{recursion_from_All}
+use Rattle.sdd_base.specs.Order.{meets}
+use Rattle.sdd_base.specs.declared.usage.Use.{Use}
+use Rattle.sdd_catalog.specs.Catalogue.{Catalogue}
+use Rattle.sdd_lang.specs.declared.condition.Ref.{Ref}
+use Rattle.sdd_lang.specs.declared.condition.Condition.{Condition}
+use Rattle.sdd_lang.specs.declared.condition.Condition.TheVariants.{Same}
+use Rattle.sdd_lang.specs.declared.statement.Stmt.{Stmt}
+use Rattle.sdd_lang.specs.declared.statement.Stmt.TheVariants.{Put, Query, Update, Delete}
+use Rattle.sdd_lang.specs.declared.transaction.Txn.{Txn}
+use Rattle.sdd_base.specs.declared.number.RelNo.{RelNo}
+use Rattle.sdd_lang.specs.Condition.{part_of}
+use Rattle.sdd_lang.specs.Database.{Row, Database}
+use Rattle.sdd_lang.specs.Fits.{Fits, FitsStatement, FitsCondition, IsFrom1To}
+use Rattle.sdd_lang.specs.Source.{uses_in}
+use Rattle.sdd_lang.specs.Uses.{part_uses, statement_uses, uses_from}
+use Rattle.sdd_lang.proofs.Pushdown.{parts_meet}
+use Rattle.sdd_exec.specs.Choices.{Has}
+use Rattle.sdd_exec.specs.Serves.{IsRowOf, AreEnough, AreEnoughAlong, Serves}
+use Rattle.sdd_exec.proofs.Members.{Has-left, Has-right}
+use Rattle.sdd_serving.specs.Reducing.{Space, IsHeldAt, all_held}
+use Rattle.sdd_serving.proofs.Held.{shipped_held, held_shipped, use_row, row_of_use}
+use Rattle.sdd_serving.proofs.Keeps.{Leads, HoldEnough, HoldEnoughAlong, HasParts, all_keep, all_were}
+use Rattle.sdd_serving.proofs.Uses.{one_use, HasPart, parts_there}
+use Rattle.sdd_lang.proofs.Sources.{length-statement_uses}
+use Rattle.sdd_lang.specs.Uses.{uses_of}
+use Rattle.sdd_space.specs.Frozen.{all_rows}
+
+-- what is held at first: rows of the database for the uses of the transaction, and each row that a use wants somewhere
+pub record Begins (cat : Catalogue) (txn : Txn) (db : Database) (ds : List ℕ) (first : Space) : Type 0 where
+  pub of : (d n : ℕ) (row : Row) → Has (all_rows (first d)) (n, row)
+      → (u : Use) × Has (uses_of cat txn) u × (u.number ≡ n) × IsRowOf db u.rel.0 u.restrictions row
+  pub there : (u : Use) → Has (uses_of cat txn) u → (row : Row) → IsRowOf db u.rel.0 u.restrictions row
+      → IsHeldAt ds first u.number row
+
+-- parts of a statement that fits
+
+each_fits : (cat : Catalogue) (rels : List RelNo) (conds : List Condition) (left right : Ref)
+    → AllByRecursion (FitsCondition cat rels) conds → Has conds (Same left right)
+    → IsFrom1To (length rels) left.part × IsFrom1To (length rels) right.part
+each_fits cat rels [] left right fits h = absurd h
+each_fits cat rels (c ∷ conds) left right fits (inl same) =
+    let here : FitsCondition cat rels (Same left right) = subst (FitsCondition cat rels) same fits.0 in
+    (here.0.0, here.1.0)
+each_fits cat rels (c ∷ conds) left right fits (inr there) = each_fits cat rels conds left right fits.1 there
+
+has_parts : (cat : Catalogue) (s : Stmt) → FitsStatement cat s → HasParts s
+has_parts cat (Put rel row) fits = tt
+has_parts cat (Query out rels conds) fits =
+    λ left right h. each_fits cat rels conds left right (recursion_from_All (FitsCondition cat rels) conds fits.4.1) h
+has_parts cat (Update rel sets conds) fits = tt
+has_parts cat (Delete rel conds) fits = tt
+
+all_have : (cat : Catalogue) (statements : List Stmt) → AllByRecursion (FitsStatement cat) statements
+    → AllByRecursion HasParts statements
+all_have cat [] fits = tt
+all_have cat (s ∷ rest) fits = (has_parts cat s fits.0, all_have cat rest fits.1)
+
+-- at first
+
+module _ (cat : Catalogue) (db : Database) (ds : List ℕ) (first : Space) where
+  abbrev Holds : List Use → Type 0
+  Holds uses =
+      (u : Use) → Has uses u → (row : Row) → IsRowOf db u.rel.0 u.restrictions row → IsHeldAt ds first u.number row
+
+  first_enough : (before : ℕ) (s : Stmt) → Holds (statement_uses cat before s) → HoldEnough db ds first before s
+  first_enough before (Put rel row) h = tt
+  first_enough before (Query out rels conds) h =
+      λ tuple there meet part range.
+      let from = range.0 in
+      let to = range.1 in
+      let e : 1 + (part - 1) ≡ part = omega (arith, from) in
+      let p : HasPart cat db conds (part_uses cat before conds 1 rels) (before + part) part (part_of tuple part) =
+      subst (λ z. HasPart cat db conds (part_uses cat before conds 1 rels) (before + z) z (part_of tuple part)) e
+      (parts_there cat db before conds 1 rels tuple there (part - 1) (omega (arith, from, to))) in
+      let met : list_all (meets (part_of tuple part)) p.usage.restrictions ≡ true =
+      subst (λ z. list_all (meets (part_of tuple part)) z ≡ true) (sym p.restricted)
+      (parts_meet conds tuple part meet) in
+      subst (λ z. IsHeldAt ds first z (part_of tuple part)) p.number_is
+      (h p.usage p.there (part_of tuple part) (p.row_there, met))
+  first_enough before (Update rel sets conds) h = λ row is. h _ (inl refl) row is
+  first_enough before (Delete rel conds) h = λ row is. h _ (inl refl) row is
+
+  first_enough_along : (before : ℕ) (statements : List Stmt) → Holds (uses_from cat before statements)
+      → HoldEnoughAlong db ds first before statements
+  first_enough_along before [] h = tt
+  first_enough_along before (s ∷ rest) h = (
+    first_enough before s
+        (λ u k row is.
+        h u
+        (Has-left (statement_uses cat before s) (uses_from cat (before + length (statement_uses cat before s)) rest) u
+        k)
+        row is),
+    first_enough_along (before + uses_in s) rest
+        (λ u k row is.
+        h u
+        (Has-right (statement_uses cat before s) (uses_from cat (before + length (statement_uses cat before s)) rest) u
+        (subst (λ n. Has (uses_from cat (before + n) rest) u) (sym (length-statement_uses cat before s)) k))
+        row is),
+  )
+
+-- at the end
+
+shipped_enough : (db : Database) (ds : List ℕ) (last : Space) (before : ℕ) (s : Stmt) → HoldEnough db ds last before s
+    → AreEnough db (all_held ds last) before s
+shipped_enough db ds last before (Put rel row) h = tt
+shipped_enough db ds last before (Query out rels conds) h =
+    λ tuple there meet part range.
+    row_of_use (all_held ds last) (before + part) (part_of tuple part)
+    (held_shipped ds last (before + part) (part_of tuple part) (h tuple there meet part range))
+shipped_enough db ds last before (Update rel sets conds) h =
+    λ row is. row_of_use (all_held ds last) (before + 1) row (held_shipped ds last (before + 1) row (h row is))
+shipped_enough db ds last before (Delete rel conds) h =
+    λ row is. row_of_use (all_held ds last) (before + 1) row (held_shipped ds last (before + 1) row (h row is))
+
+shipped_along : (db : Database) (ds : List ℕ) (last : Space) (before : ℕ) (statements : List Stmt)
+    → HoldEnoughAlong db ds last before statements → AreEnoughAlong db (all_held ds last) before statements
+shipped_along db ds last before [] h = tt
+shipped_along db ds last before (s ∷ rest) h =
+    (shipped_enough db ds last before s h.0, shipped_along db ds last (before + uses_in s) rest h.1)
+
+-- the rows that are shipped serve the database
+pub serves : (cat : Catalogue) (txn : Txn) (db : Database) (ds : List ℕ) (first last : Space) → Fits cat txn
+    → Begins cat txn db ds first → Leads ds txn.statements first last → Serves cat txn (all_held ds last) db
+serves cat txn db ds first last fits begins leads =
+    record {
+      named = λ s h. let o = origin s h in (o.0, o.1, o.2);
+      held = λ u there row h.
+          let o = origin (u.number, row) (use_row (all_held ds last) u.number row h) in
+          let same : o.0 ≡ u = one_use cat 0 txn.statements o.0 u o.1 there o.2 in
+          subst (λ (z : Use). IsRowOf db z.rel.0 z.restrictions row) same o.3;
+      enough = shipped_along db ds last 0 txn.statements
+          (all_keep db ds txn.statements (all_have cat txn.statements (recursion_from_All (FitsStatement cat) txn.statements fits.statements)) first last leads
+          (first_enough_along cat db ds first 0 txn.statements (λ u k row is. begins.there u k row is)));
+    }
+  where
+    origin : (s : ℕ × Row) → Has (all_held ds last) s
+        → (u : Use) × Has (uses_of cat txn) u × (u.number ≡ s.0) × IsRowOf db u.rel.0 u.restrictions s.1
+    origin s h =
+        let k = shipped_held ds last s h in
+        begins.of k.at s.0 s.1 (all_were ds txn.statements first last leads k.at s.0 s.1 k.held)

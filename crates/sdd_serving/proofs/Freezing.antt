@@ -1,0 +1,270 @@
+-- What the modules freeze are rows of the database, and each row that a use wants is frozen somewhere.
+use Rattle.std.proofs.Common.{ℕ, ◌+◌, ◌≡◌, ◌==◌, ◌||◌, inl, inr, ℤ, true, false, cond, List, [], ◌∷◌, Some, None, map, length, refl, ap, sym, ◌∙◌, subst}
+use Rattle.std.specs.List.{Contains, filter, flat_map, list_all, fold}
+use Rattle.std.specs.Ordering.{int_cmp}
+use Rattle.std.proofs.lemmas.Bool.Decides.{Decides-eqb}
+use Rattle.std.proofs.lemmas.Cmp.{int_cmp_total}
+use Rattle.std.proofs.lemmas.List.Elements.{All-contains}
+use Rattle.std.proofs.lemmas.Map.Lookups.{exact_signed}
+use Rattle.sdd_base.proofs.Membership.{Contains-nil}
+use Rattle.sdd_base.specs.Numbers.{frag_no}
+use Rattle.sdd_base.specs.Order.{meets}
+use Rattle.sdd_base.specs.Words.{contains}
+use Rattle.sdd_base.specs.declared.number.FragNo.{FragNo}
+use Rattle.sdd_base.specs.declared.number.RelNo.{RelNo}
+use Rattle.sdd_base.specs.declared.usage.Use.{Use}
+use Rattle.sdd_catalog.specs.Catalogue.{Catalogue, fragment_at, fragment_of, key_column, numbers_to}
+use Rattle.sdd_catalog.specs.Rules.{IsSound}
+use Rattle.sdd_protocol.specs.Conditions.{is_read_at}
+use Rattle.sdd_lang.specs.declared.condition.Condition.{Condition}
+use Rattle.sdd_lang.specs.declared.statement.Stmt.{Stmt}
+use Rattle.sdd_lang.specs.declared.statement.Stmt.TheVariants.{Put, Query, Update, Delete}
+use Rattle.sdd_lang.specs.declared.transaction.Txn.{Txn}
+use Rattle.sdd_lang.specs.Agree.{rows_in_fragment}
+use Rattle.sdd_lang.specs.Database.{Item, Row, Database, item_cmp}
+use Rattle.sdd_lang.specs.Database as databases
+use Rattle.sdd_lang.specs.Fits.{Fits}
+use Rattle.sdd_lang.specs.Sound.{IsEntry}
+use Rattle.sdd_lang.specs.Uses.{restrictions_of, use_of, fragments_for, allowed_keys, meets_keys, part_uses, statement_uses, uses_from, uses_of}
+use Rattle.sdd_lang.proofs.Pushdown.{and_parts}
+use Rattle.sdd_lang.proofs.SortedEntries.{item_cmp_total, item_cmp_exact, sorted_nil}
+use Rattle.sdd_exec.specs.Choices.{Has}
+use Rattle.sdd_exec.specs.Serves.{IsRowOf}
+use Rattle.sdd_exec.proofs.Members.{Has-append, Has-map, Has-map_from, Has-filter, Has-filter_from, Has-flat_map, Has-flat_map_from, Has-filter_map, Has-filter_map_from}
+use Rattle.sdd_space.specs.Frozen.{CopyRows, chosen, with_keyed, rows_for, all_rows}
+use Rattle.sdd_attempt.specs.Acts.{with_frags, use_there}
+use Rattle.sdd_contents.specs.Committed.{entries_of}
+use Rattle.sdd_contents.proofs.Gathered.{gathered_from, gathered_there}
+use Rattle.sdd_contents.proofs.LookUps.{one_entry}
+use Rattle.sdd_contents.proofs.Members.{Contains-map, Contains-from_map, Contains-filter, Contains-from_filter}
+use Rattle.sdd_serving.specs.Freezing.{uses_at, frozen_space, HasCopies}
+use Rattle.sdd_serving.specs.Reducing.{IsHeldAt}
+use Rattle.sdd_serving.proofs.Enough.{Begins}
+use Rattle.sdd_serving.proofs.Held.{has_row, row_there}
+use Rattle.sdd_serving.proofs.Lies.{lies_in_fragment}
+use Rattle.sdd_serving.proofs.Members.{to_has, of_has}
+
+-- the fragments of a use are of its relation
+
+abbrev OfRelation : Catalogue → Use → Type 0
+OfRelation cat u = (f : FragNo) → Has u.frags f → (fragment_at cat f.0).rel.0 ≡ u.rel.0
+
+for_relation : (cat : Catalogue) (rel : ℕ) (u : Use) → u.frags ≡ fragments_for cat rel u.restrictions → u.rel.0 ≡ rel
+    → OfRelation cat u
+for_relation cat rel u e r f h =
+    let keys = allowed_keys (key_column cat rel) u.restrictions in
+    let m =
+    Has-map_from frag_no (filter (meets_keys cat rel keys) (numbers_to (length cat.fragments))) f
+    (subst (λ z. Has z f) e h) in
+    let n : ℕ = m.0 in
+    let k = Has-filter_from (meets_keys cat rel keys) (numbers_to (length cat.fragments)) n m.1 in
+    let both = and_parts ((fragment_at cat n).rel.0 == rel) _ k.1 in
+    ap (λ (z : FragNo). (fragment_at cat z.0).rel.0) (sym m.2) ∙ (Decides-eqb (fragment_at cat n).rel.0 rel).0 both.0
+    ∙ sym r
+
+part_of_relation : (cat : Catalogue) (before : ℕ) (conds : List Condition) (k : ℕ) (rels : List RelNo) (u : Use)
+    → Has (part_uses cat before conds k rels) u → OfRelation cat u
+part_of_relation cat before conds k [] u h = absurd h
+part_of_relation cat before conds k (rel ∷ rels) u (inl same) =
+    subst (OfRelation cat) same
+    (for_relation cat rel.0 (use_of cat (before + k) rel (restrictions_of k conds)) refl refl)
+part_of_relation cat before conds k (rel ∷ rels) u (inr there) =
+    part_of_relation cat before conds (k + 1) rels u there
+
+statement_of_relation : (cat : Catalogue) (before : ℕ) (s : Stmt) (u : Use) → Has (statement_uses cat before s) u
+    → OfRelation cat u
+statement_of_relation cat before (Put rel row) u h = absurd h
+statement_of_relation cat before (Query out rels conds) u h = part_of_relation cat before conds 1 rels u h
+statement_of_relation cat before (Update rel sets conds) u h = part_of_relation cat before conds 1 (rel ∷ []) u h
+statement_of_relation cat before (Delete rel conds) u h = part_of_relation cat before conds 1 (rel ∷ []) u h
+
+uses_of_relation : (cat : Catalogue) (before : ℕ) (statements : List Stmt) (u : Use)
+    → Has (uses_from cat before statements) u → OfRelation cat u
+uses_of_relation cat before [] u h = absurd h
+uses_of_relation cat before (s ∷ rest) u h =
+    elim (Has-append (statement_uses cat before s) (uses_from cat (before + length (statement_uses cat before s)) rest) u h) [
+      | inl here ↦ statement_of_relation cat before s u here
+      | inr there ↦ uses_of_relation cat (before + length (statement_uses cat before s)) rest u there
+    ]
+
+-- a use at a module
+
+pub record IsThere (cat : Catalogue) (c d : ℕ) (u v : Use) : Type 0 where
+  pub number : v.number ≡ u.number
+  pub restrictions : v.restrictions ≡ u.restrictions
+  pub from : (f : FragNo) → Has v.frags f → Has u.frags f × (is_read_at cat c d f.0 ≡ true)
+
+pub there_is : (cat : Catalogue) (c d : ℕ) (u v : Use) → use_there cat c d u ≡ Some v → IsThere cat c d u v
+there_is cat c d u v e =
+    by (filter (λ f. is_read_at cat c d f.0) u.frags)
+    (λ f h. Has-filter_from (λ f. is_read_at cat c d f.0) u.frags f h) e
+  where
+    by : (fs : List FragNo) → ((f : FragNo) → Has fs f → Has u.frags f × (is_read_at cat c d f.0 ≡ true))
+        → with_frags u fs ≡ Some v → IsThere cat c d u v
+    by [] h e = cc
+    by (f ∷ fs) h e =
+        let same : ◌≡◌ {A = Use} (record u { frags = f ∷ fs }) v = cc in
+        subst (λ z. IsThere cat c d u z) same (record { number = refl; restrictions = refl; from = h })
+
+is_there : (cat : Catalogue) (c d : ℕ) (u : Use) (f : FragNo) → Has u.frags f → is_read_at cat c d f.0 ≡ true
+    → (v : Use) × (use_there cat c d u ≡ Some v) × Has v.frags f
+is_there cat c d u f h t =
+    by (filter (λ f. is_read_at cat c d f.0) u.frags) (Has-filter (λ f. is_read_at cat c d f.0) u.frags f h t)
+  where
+    by : (fs : List FragNo) → Has fs f → (v : Use) × (with_frags u fs ≡ Some v) × Has v.frags f
+    by [] h = absurd h
+    by (g ∷ fs) h = (record u { frags = g ∷ fs }, refl, h)
+
+-- a number among fragments
+among : (fs : List FragNo) (n : ℕ) → contains (map (λ f. f.0) fs) n ≡ true → (f : FragNo) × Has fs f × (f.0 ≡ n)
+among [] n h = absurd cc
+among (f ∷ fs) n h =
+    elim (f.0 == n) as (λ b. (f.0 == n) ≡ b → (b || contains (map (λ f. f.0) fs) n) ≡ true → (g : FragNo) × Has (f ∷ fs) g × (g.0 ≡ n)) [
+      | true ↦ λ e k. (f, inl refl, (Decides-eqb f.0 n).0 e)
+      | false ↦ λ e k. let r = among fs n k in (r.0, inr r.1, r.2)
+    ] refl h
+
+-- rows of a relation
+
+entry_of : (db : Database) (rel : ℕ) (row : Row) → Has (databases.rows_of db rel) row
+    → (e : Item × Row) × Contains db e × (e.0.0 ≡ rel) × (e.1 ≡ row)
+entry_of db rel row h =
+    let m = Has-filter_map_from (λ (e : Item × Row). cond (e.0.0 == rel) (Some e.1) None) db row h in
+    let e : Item × Row = m.0 in
+    elim (e.0.0 == rel) as (λ b. (e.0.0 == rel) ≡ b → cond b (Some e.1) None ≡ Some row → (e : Item × Row) × Contains db e × (e.0.0 ≡ rel) × (e.1 ≡ row)) [
+      | true ↦ λ q k. (e, of_has db e m.1, (Decides-eqb e.0.0 rel).0 q, cc)
+      | false ↦ λ q k. cc
+    ] refl m.2
+
+row_of : (db : Database) (rel : ℕ) (e : Item × Row) → Contains db e → e.0.0 ≡ rel → Has (databases.rows_of db rel) e.1
+row_of db rel e h r =
+    let t : (e.0.0 == rel) ≡ true = (Decides-eqb e.0.0 rel).1 r in
+    Has-filter_map (λ (e : Item × Row). cond (e.0.0 == rel) (Some e.1) None) db e e.1 (to_has db e h)
+    (ap (λ b. cond b (Some e.1) None) t)
+
+abbrev entry : Catalogue → ℕ → ℤ × Row → Item × Row
+entry cat f e = (((fragment_at cat f).rel.0, e.0), e.1)
+
+module _ (cat : Catalogue) (sound : IsSound cat) (c : ℕ) (txn : Txn) (fits : Fits cat txn) (ds : List ℕ)
+    (copies : ℕ → CopyRows) (db : Database) (ok : HasCopies cat c txn ds copies db) where
+  -- a row of a copy is one of the database
+  copied : (d f : ℕ) (e : ℤ × Row) → rows_in_fragment cat db f ≡ entries_of cat f (copies d f)
+      → Contains (copies d f) e → Contains db (entry cat f e)
+  copied d f e t h =
+      (Contains-from_filter (λ (e : Item × Row). fragment_of cat e.0.0 e.0.1 == f) db (entry cat f e) (subst (λ z. Contains z (entry cat f e)) (sym t) (Contains-map (entry cat f) (copies d f) e h))).0
+
+  -- and a row of the database is in the copy of its fragment
+  in_copy : (d f : ℕ) (e : Item × Row) → rows_in_fragment cat db f ≡ entries_of cat f (copies d f) → Contains db e
+      → fragment_of cat e.0.0 e.0.1 ≡ f → Contains (copies d f) (e.0.1, e.1)
+  in_copy d f e t h at =
+      let there : Contains (rows_in_fragment cat db f) e =
+      Contains-filter (λ (e : Item × Row). fragment_of cat e.0.0 e.0.1 == f) db e h
+      ((Decides-eqb (fragment_of cat e.0.0 e.0.1) f).1 at) in
+      let m = Contains-from_map (entry cat f) (copies d f) e (subst (λ z. Contains z e) t there) in
+      subst (Contains (copies d f)) (ap (λ (z : Item × Row). (z.0.1, z.1)) (sym m.2)) m.1
+
+  -- the rows that a module chooses for a use, with their keys
+  abbrev found : ℕ → Use → List (ℤ × Row)
+  found d v = flat_map (λ f. chosen v.restrictions (copies d f.0)) v.frags
+
+  -- each is one of the database, of the use's relation, and meets its restrictions
+  of_use : (d : ℕ) (u v : Use) (e : ℤ × Row) → Has (uses_of cat txn) u → IsThere cat c d u v → Contains (found d v) e
+      → Contains {X = Item × Row} db ((u.rel.0, e.0), e.1) × (list_all (meets e.1) v.restrictions ≡ true)
+  of_use d u v e h is k =
+      let m =
+      Has-flat_map_from (λ (f : FragNo). chosen v.restrictions (copies d f.0)) v.frags e (to_has (found d v) e k) in
+      let f : FragNo = m.0 in
+      let from = is.from f m.1 in
+      let met = Has-filter_from (λ (e : ℤ × Row). list_all (meets e.1) v.restrictions) (copies d f.0) e m.2 in (
+        subst (λ r. Contains {X = Item × Row} db ((r, e.0), e.1)) (uses_of_relation cat 0 txn.statements u h f from.0)
+            (copied d f.0 e (ok.rows d u f h from.0 from.1) (of_has (copies d f.0) e met.0)),
+        met.1,
+      )
+
+  one_row : (d : ℕ) (u v : Use) (e x : ℤ × Row) → Has (uses_of cat txn) u → IsThere cat c d u v
+      → Contains (found d v) e → Contains (found d v) x → x.0 ≡ e.0 → x ≡ e
+  one_row d u v e x h is i k same =
+      let rows : x.1 ≡ e.1 =
+      one_entry item_cmp item_cmp_total item_cmp_exact db (u.rel.0, e.0) x.1 e.1 ok.is.ascends
+      (subst (λ z. Contains {X = Item × Row} db ((u.rel.0, z), x.1)) same (of_use d u v x h is k).0)
+      (of_use d u v e h is i).0 in
+      ap (λ z. (z, x.1)) same ∙ ap (λ z. (e.0, z)) rows
+
+  first_of : (ts d n : ℕ) (row : Row) → Has (all_rows (frozen_space cat c txn ts copies d)) (n, row)
+      → (u : Use) × Has (uses_of cat txn) u × (u.number ≡ n) × IsRowOf db u.rel.0 u.restrictions row
+  first_of ts d n row h =
+      let k = has_row (frozen_space cat c txn ts copies d) n row h in
+      let w = Has-map_from (λ (u : Use). (u.number, rows_for (copies d) u)) (uses_at cat c txn d) k.entry k.there in
+      let v : Use = w.0 in
+      let p = Has-filter_map_from (use_there cat c d) (uses_of cat txn) v w.1 in
+      let u : Use = p.0 in
+      let is : IsThere cat c d u v = there_is cat c d u v p.2 in
+      let q =
+      Has-map_from (λ (e : ℤ × Row). e.1) (fold with_keyed [] (found d v)) row
+      (subst (λ (z : ℕ × List Row). Has z.1 row) (sym w.2) k.has) in
+      let e : ℤ × Row = q.0 in
+      let there : Contains (found d v) e =
+      elim (gathered_from int_cmp int_cmp_total exact_signed [] (found d v) e (sorted_nil int_cmp) (of_has (fold with_keyed [] (found d v)) e q.1)) [ inl nothing ↦ absurd (Contains-nil e nothing) | inr t ↦ t ] in
+      let o = of_use d u v e p.1 is there in
+      let in_db : Has (databases.rows_of db u.rel.0) e.1 = row_of db u.rel.0 ((u.rel.0, e.0), e.1) o.0 refl in
+      let number : u.number ≡ n = sym is.number ∙ ap (λ (z : ℕ × List Row). z.0) w.2 ∙ k.number in
+      let met : list_all (meets row) u.restrictions ≡ true =
+      subst (λ z. list_all (meets row) z ≡ true) is.restrictions
+      (subst (λ z. list_all (meets z) v.restrictions ≡ true) q.2 o.1) in
+      (u, p.1, number, (subst (Has (databases.rows_of db u.rel.0)) q.2 in_db, met))
+
+  -- an entry that a use wants is chosen for it at the module where its fragment is read
+  in_found : (d : ℕ) (u v : Use) (f : FragNo) (e : Item × Row) → Has (uses_of cat txn) u → IsThere cat c d u v
+      → Has u.frags f → is_read_at cat c d f.0 ≡ true → Has v.frags f → Contains db e
+      → fragment_of cat e.0.0 e.0.1 ≡ f.0
+      → list_all (meets e.1) u.restrictions ≡ true → Contains (found d v) (e.0.1, e.1)
+  in_found d u v f e h is of t k there at met =
+      let x : ℤ × Row = (e.0.1, e.1) in
+      let passes : list_all (meets e.1) v.restrictions ≡ true = ap (list_all (meets e.1)) is.restrictions ∙ met in
+      let here : Has (chosen v.restrictions (copies d f.0)) x =
+      Has-filter (λ (e : ℤ × Row). list_all (meets e.1) v.restrictions) (copies d f.0) x
+      (to_has (copies d f.0) x (in_copy d f.0 e (ok.rows d u f h of t) there at)) passes in
+      of_has (found d v) x (Has-flat_map (λ (f : FragNo). chosen v.restrictions (copies d f.0)) v.frags f x k here)
+
+  -- and what is chosen for a use is frozen
+  chosen_frozen : (ts d : ℕ) (u v : Use) (e : ℤ × Row) → Has (uses_of cat txn) u → use_there cat c d u ≡ Some v
+      → IsThere cat c d u v → Contains (found d v) e
+      → Has (all_rows (frozen_space cat c txn ts copies d)) (u.number, e.1)
+  chosen_frozen ts d u v e h w is k =
+      let folded : Contains (fold with_keyed [] (found d v)) e =
+      gathered_there int_cmp int_cmp_total exact_signed [] (found d v) e (sorted_nil int_cmp)
+      (λ y i same. one_row d u v e y h is k i same) k in
+      row_there (frozen_space cat c txn ts copies d) u.number e.1
+      (record {
+        entry = (v.number, rows_for (copies d) v);
+        there =
+            Has-map (λ (u : Use). (u.number, rows_for (copies d) u)) (uses_at cat c txn d) v
+            (Has-filter_map (use_there cat c d) (uses_of cat txn) u v h w);
+        number = is.number;
+        has =
+            Has-map (λ (e : ℤ × Row). e.1) (fold with_keyed [] (found d v)) e
+            (to_has (fold with_keyed [] (found d v)) e folded);
+      })
+
+  entry_there : (ts : ℕ) (u : Use) → Has (uses_of cat txn) u → (e : Item × Row) → Contains db e → e.0.0 ≡ u.rel.0
+      → list_all (meets e.1) u.restrictions ≡ true → IsHeldAt ds (frozen_space cat c txn ts copies) u.number e.1
+  entry_there ts u h e there rel met =
+      let a =
+      among u.frags (fragment_of cat e.0.0 e.0.1)
+      (lies_in_fragment cat sound e (All-contains (IsEntry cat) db e ok.is.entries there) txn fits u h rel met) in
+      let p = ok.place u a.0 h a.1 in
+      let w = is_there cat c p.0 u a.0 a.1 p.2 in
+      let is : IsThere cat c p.0 u w.0 = there_is cat c p.0 u w.0 w.1 in
+      record
+      { at = p.0; there = p.1; held = chosen_frozen ts p.0 u w.0 (e.0.1, e.1) h w.1 is (in_found p.0 u w.0 a.0 e h is a.1 p.2 w.2 there (sym a.2) met) }
+
+  first_there : (ts : ℕ) (u : Use) → Has (uses_of cat txn) u → (row : Row) → IsRowOf db u.rel.0 u.restrictions row
+      → IsHeldAt ds (frozen_space cat c txn ts copies) u.number row
+  first_there ts u h row r =
+      let g = entry_of db u.rel.0 row r.0 in
+      subst (λ z. IsHeldAt ds (frozen_space cat c txn ts copies) u.number z) g.3
+      (entry_there ts u h g.0 g.1 g.2 (ap (λ z. list_all (meets z) u.restrictions) g.3 ∙ r.1))
+
+  -- what is frozen is a beginning
+  pub begins : (ts : ℕ) → Begins cat txn db ds (frozen_space cat c txn ts copies)
+  begins ts = record { of = first_of ts; there = first_there ts }

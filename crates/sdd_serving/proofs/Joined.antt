@@ -1,0 +1,72 @@
+-- The moves of a query come from its equalities.
+use Rattle.std.proofs.Common.{ℕ, ◌≡◌, ◌==◌, ◌+◌, ◌⊎◌, inl, inr, true, false, List, [], ◌∷◌, ap, sym, ◌∙◌, subst}
+use Rattle.std.specs.Bool.{if◌then◌else◌}
+use Rattle.sdd_base.specs.ValueOrder.{value_decides}
+use Rattle.sdd_lang.specs.declared.condition.Ref.{Ref}
+use Rattle.sdd_lang.specs.declared.condition.Condition.{Condition}
+use Rattle.sdd_lang.specs.declared.condition.Condition.TheVariants.{Const, Same}
+use Rattle.sdd_lang.specs.Condition.{Tuple, value_at, meets, meets_all}
+use Rattle.sdd_lang.proofs.Pushdown.{and_parts}
+use Rattle.sdd_exec.specs.Choices.{Has}
+use Rattle.sdd_exec.proofs.Members.{Has-flat_map_from}
+use Rattle.sdd_semijoin.specs.Steps.{Join, Move, joins_from, moves_by, moves}
+
+-- the two sides of an equality among the conditions
+pub record IsJoined (conds : List Condition) (m : Move) : Type 0 where
+  pub left : Ref
+  pub right : Ref
+  pub there : Has conds (Same left right)
+  pub sides : ((m.source ≡ right) × (m.target ≡ left)) ⊎ ((m.source ≡ left) × (m.target ≡ right))
+
+join_there : (k : ℕ) (conds : List Condition) (j : Join) → Has (joins_from k conds) j
+    → Has conds (Same j.left j.right)
+join_there k [] j h = absurd h
+join_there k (Const left op value ∷ rest) j h = inr (join_there (k + 1) rest j h)
+join_there k (Same left right ∷ rest) j h =
+    elim (left.part == right.part) as (λ b.
+    Has
+    (if b then joins_from (k + 1) rest else record { number = k; left = left; right = right } ∷ joins_from (k + 1) rest)
+    j
+    → Has (Same left right ∷ rest) (Same j.left j.right)) [
+      | true ↦ λ i. inr (join_there (k + 1) rest j i)
+      | false ↦ λ i. elim i [
+        | inl same ↦ inl (ap (λ (z : Join). Same z.left z.right) same)
+        | inr there ↦ inr (join_there (k + 1) rest j there)
+      ]
+    ] h
+
+pub joined : (conds : List Condition) (m : Move) → Has (moves conds) m → IsJoined conds m
+joined conds m h =
+    let f = Has-flat_map_from moves_by (joins_from 1 conds) m h in
+    let j : Join = f.0 in
+    let there : Has conds (Same j.left j.right) = join_there 1 conds j f.1 in
+    elim f.2 [
+      | inl same ↦
+          record
+          { left = j.left; right = j.right; there = there; sides = inl (ap (λ (z : Move). z.source) (sym same), ap (λ (z : Move). z.target) (sym same)) }
+      | inr more ↦ elim more [
+        | inl same ↦
+            record
+            { left = j.left; right = j.right; there = there; sides = inr (ap (λ (z : Move). z.source) (sym same), ap (λ (z : Move). z.target) (sym same)) }
+        | inr nothing ↦ absurd nothing
+      ]
+    ]
+
+meets_each : (tuple : Tuple) (conds : List Condition) (c : Condition) → meets_all conds tuple ≡ true → Has conds c
+    → meets tuple c ≡ true
+meets_each tuple [] c e h = absurd h
+meets_each tuple (d ∷ conds) c e h =
+    let both = and_parts (meets tuple d) (meets_all conds tuple) e in
+    elim h [ inl same ↦ subst (λ z. meets tuple z ≡ true) same both.0 | inr there ↦ meets_each tuple conds c both.1 there ]
+
+-- in a tuple that meets the conditions the columns of a move have one value
+pub one_value : (conds : List Condition) (m : Move) (tuple : Tuple) → IsJoined conds m → meets_all conds tuple ≡ true
+    → value_at tuple m.source ≡ value_at tuple m.target
+one_value conds m tuple j e =
+    let same : value_at tuple j.left ≡ value_at tuple j.right =
+    (value_decides (value_at tuple j.left) (value_at tuple j.right)).0
+    (meets_each tuple conds (Same j.left j.right) e j.there) in
+    elim j.sides [
+      | inl s ↦ ap (value_at tuple) s.0 ∙ sym same ∙ ap (value_at tuple) (sym s.1)
+      | inr s ↦ ap (value_at tuple) s.0 ∙ same ∙ ap (value_at tuple) (sym s.1)
+    ]

@@ -1,0 +1,218 @@
+-- Moves of the queries lose no row that a statement needs.
+use Rattle.std.proofs.Common.{ℕ, ◌≡◌, ◌≢◌, ◌≤◌, ◌<◌, ◌==◌, ◌+◌, ◌⊎◌, inl, inr, true, List, [], ◌∷◌, length, map, ap, sym, ◌∙◌, subst, arith}
+use Rattle.std.specs.List.{AllByRecursion}
+use Rattle.std.proofs.lemmas.Bool.{cases_Bool}
+use Rattle.std.proofs.lemmas.Bool.Decides.{Decides-eqb}
+use Rattle.sdd_base.specs.Order.{column}
+use Rattle.sdd_base.specs.declared.value.Value.{Value}
+use Rattle.sdd_lang.specs.declared.condition.Ref.{Ref}
+use Rattle.sdd_lang.specs.declared.condition.Condition.{Condition}
+use Rattle.sdd_lang.specs.declared.condition.Condition.TheVariants.{Same}
+use Rattle.sdd_lang.specs.declared.statement.Stmt.{Stmt}
+use Rattle.sdd_lang.specs.declared.statement.Stmt.TheVariants.{Put, Query, Update, Delete}
+use Rattle.sdd_lang.specs.Condition.{Tuple, part_of, value_at, meets_all}
+use Rattle.sdd_lang.specs.Database.{Row, Database}
+use Rattle.sdd_lang.specs.Database as databases
+use Rattle.sdd_lang.specs.Fits.{IsFrom1To}
+use Rattle.sdd_lang.specs.Query.{product}
+use Rattle.sdd_lang.specs.Source.{uses_in}
+use Rattle.sdd_lang.specs.Uses.{restrictions_of}
+use Rattle.sdd_exec.specs.Serves.{IsRowOf}
+use Rattle.sdd_exec.specs.Choices.{Has}
+use Rattle.sdd_semijoin.specs.Steps.{Move}
+use Rattle.sdd_space.specs.Frozen.{all_rows, reduced, is_among}
+use Rattle.sdd_attempt.specs.Exchange.{use_at}
+use Rattle.sdd_serving.specs.Reducing.{Space, IsHeldAt, IsMoveOf, IsMoveAlong}
+use Rattle.sdd_serving.proofs.Held.{reduced_from, stays_held}
+use Rattle.sdd_serving.proofs.Joined.{IsJoined, joined, one_value}
+
+-- the values of a move reduce what one module holds: among them are those of all rows that are held for its source
+pub record Reduces (ds : List ℕ) (m : Move) (before after : Space) : Type 0 where
+  pub at : ℕ
+  pub values : List Value
+  pub covers : (row : Row) → IsHeldAt ds before m.source.part row
+      → is_among values (column row m.source.column) ≡ true
+  pub here : after at ≡ reduced m.target.part m.target.column values (before at)
+  pub elsewhere : (d : ℕ) → d ≢ at → after d ≡ before d
+
+-- any number of such reductions lead from the one to the other
+pub data Leads (ds : List ℕ) (statements : List Stmt) (first : Space) : Space → Type 0 where
+  none : Leads ds statements first first
+  more : {before after : Space} → Leads ds statements first before → (m : Move) → IsMoveAlong 0 statements m
+      → Reduces ds m before after → Leads ds statements first after
+
+-- no row that a statement needs is lacking
+abbrev pub HoldEnough : Database → List ℕ → Space → ℕ → Stmt → Type 0
+HoldEnough db ds space before (Put rel row) = Unit {0}
+HoldEnough db ds space before (Query out rels conds) =
+    (tuple : Tuple) → Has (product (map (λ rel. databases.rows_of db rel.0) rels)) tuple → meets_all conds tuple ≡
+    true
+    → (part : ℕ) → IsFrom1To (length rels) part → IsHeldAt ds space (before + part) (part_of tuple part)
+HoldEnough db ds space before (Update rel sets conds) =
+    (row : Row) → IsRowOf db rel.0 (restrictions_of 1 conds) row → IsHeldAt ds space (before + 1) row
+HoldEnough db ds space before (Delete rel conds) =
+    (row : Row) → IsRowOf db rel.0 (restrictions_of 1 conds) row → IsHeldAt ds space (before + 1) row
+
+abbrev pub HoldEnoughAlong : Database → List ℕ → Space → ℕ → List Stmt → Type 0
+HoldEnoughAlong db ds space before [] = Unit {0}
+HoldEnoughAlong db ds space before (s ∷ rest) =
+    HoldEnough db ds space before s × HoldEnoughAlong db ds space (before + uses_in s) rest
+
+-- equalities name parts of their query
+abbrev pub HasParts : Stmt → Type 0
+HasParts (Put rel row) = Unit {0}
+HasParts (Query out rels conds) =
+    (left right : Ref) → Has conds (Same left right) → IsFrom1To (length rels) left.part × IsFrom1To (length rels)
+    right.part
+HasParts (Update rel sets conds) = Unit {0}
+HasParts (Delete rel conds) = Unit {0}
+
+module _ (ds : List ℕ) (m : Move) (before after : Space) (r : Reduces ds m before after) where
+  -- a row stays held, where it has one of the values if it is of the target
+  pub still_held : (u : ℕ) (row : Row) → IsHeldAt ds before u row
+      → (u ≡ m.target.part → is_among r.values (column row m.target.column) ≡ true) → IsHeldAt ds after u row
+  still_held u row h passes =
+      elim (cases_Bool (h.at == r.at)) [
+        | inl same ↦
+            let e : h.at ≡ r.at = (Decides-eqb h.at r.at).0 same in
+            let now : Has (all_rows (reduced m.target.part m.target.column r.values (before h.at))) (u, row) =
+            stays_held m.target.part m.target.column r.values (before h.at) u row h.held passes in
+            let is : after h.at ≡ reduced m.target.part m.target.column r.values (before h.at) =
+            ap after e ∙ r.here ∙ ap (λ d. reduced m.target.part m.target.column r.values (before d)) (sym e) in
+            record { at = h.at; there = h.there; held = subst (λ z. Has (all_rows z) (u, row)) (sym is) now }
+        | inr other ↦
+            let n : h.at ≢ r.at = λ e. let t : (h.at == r.at) ≡ true = (Decides-eqb h.at r.at).1 e in cc in
+            record
+            { at = h.at; there = h.there; held = subst (λ z. Has (all_rows z) (u, row)) (sym (r.elsewhere h.at n)) h.held }
+      ]
+
+  -- what is held was held
+  pub was_held : (d u : ℕ) (row : Row) → Has (all_rows (after d)) (u, row) → Has (all_rows (before d)) (u, row)
+  was_held d u row h =
+      elim (cases_Bool (d == r.at)) [
+        | inl same ↦
+            let e : d ≡ r.at = (Decides-eqb d r.at).0 same in
+            let is : after d ≡ reduced m.target.part m.target.column r.values (before d) =
+            ap after e ∙ r.here ∙ ap (λ d. reduced m.target.part m.target.column r.values (before d)) (sym e) in
+            (reduced_from m.target.part m.target.column r.values (before d) u row (subst (λ z. Has (all_rows z) (u, row)) is h)).0
+        | inr other ↦
+            let n : d ≢ r.at = λ e. let t : (d == r.at) ≡ true = (Decides-eqb d r.at).1 e in cc in
+            subst (λ z. Has (all_rows z) (u, row)) (r.elsewhere d n) h
+      ]
+
+  -- of another use all stays
+  pub other_held : (u : ℕ) (row : Row) → u ≢ m.target.part → IsHeldAt ds before u row → IsHeldAt ds after u row
+  other_held u row n h = still_held u row h (λ e. absurd (n e))
+
+  -- a statement to which the target doesn't belong
+  other_stays : (db : Database) (k : ℕ) (s : Stmt) → (m.target.part ≤ k) ⊎ (k + uses_in s < m.target.part)
+      → HoldEnough db ds before k s → HoldEnough db ds after k s
+  other_stays db k (Put rel row) o h = tt
+  other_stays db k (Query out rels conds) o h =
+      λ tuple there meets part range.
+      other_held (k + part) (part_of tuple part)
+      (λ e.
+      let from = range.0 in let to = range.1 in elim o [ inl a ↦ omega (arith, from) | inr b ↦ omega (arith, to) ])
+      (h tuple there meets part range)
+  other_stays db k (Update rel sets conds) o h =
+      λ row is. other_held (k + 1) row (λ e. elim o [ inl a ↦ omega arith | inr b ↦ omega arith ]) (h row is)
+  other_stays db k (Delete rel conds) o h =
+      λ row is. other_held (k + 1) row (λ e. elim o [ inl a ↦ omega arith | inr b ↦ omega arith ]) (h row is)
+
+  others_stay : (db : Database) (k : ℕ) (statements : List Stmt) → m.target.part ≤ k
+      → HoldEnoughAlong db ds before k statements → HoldEnoughAlong db ds after k statements
+  others_stay db k [] le h = tt
+  others_stay db k (s ∷ rest) le h =
+      (other_stays db k s (inl le) h.0, others_stay db (k + uses_in s) rest (omega arith) h.1)
+
+  -- the query whose move it is
+  record Sides (k n : ℕ) (move : Move) : Type 0 where
+    source : IsFrom1To n move.source.part
+    target : IsFrom1To n move.target.part
+
+  sides : (conds : List Condition) (n : ℕ) (move : Move)
+      → ((left right : Ref) → Has conds (Same left right) → IsFrom1To n left.part × IsFrom1To n right.part)
+      → IsJoined conds move → Sides 0 n move
+  sides conds n move range j =
+      let both = range j.left j.right j.there in
+      elim j.sides [
+        | inl s ↦
+            record
+            { source = subst (λ (z : Ref). IsFrom1To n z.part) (sym s.0) both.1; target = subst (λ (z : Ref). IsFrom1To n z.part) (sym s.1) both.0 }
+        | inr s ↦
+            record
+            { source = subst (λ (z : Ref). IsFrom1To n z.part) (sym s.0) both.0; target = subst (λ (z : Ref). IsFrom1To n z.part) (sym s.1) both.1 }
+      ]
+
+  query_stays : (db : Database) (k : ℕ) (s : Stmt) → HasParts s → IsMoveOf k s m → HoldEnough db ds before k s
+      → HoldEnough db ds after k s
+  query_stays db k (Put rel row) parts q h = absurd q
+  query_stays db k (Update rel sets conds) parts q h = absurd q
+  query_stays db k (Delete rel conds) parts q h = absurd q
+  query_stays db k (Query out rels conds) parts q h =
+      λ tuple there meets part range.
+      let j : IsJoined conds q.move = joined conds q.move q.there in
+      let w = sides conds (length rels) q.move parts j in
+      let source_is : m.source ≡ use_at k q.move.source = ap (λ (z : Move). z.source) q.is in
+      let target_is : m.target ≡ use_at k q.move.target = ap (λ (z : Move). z.target) q.is in
+      let from : IsHeldAt ds before m.source.part (part_of tuple q.move.source.part) =
+      subst (λ (z : Ref). IsHeldAt ds before z.part (part_of tuple q.move.source.part)) (sym source_is)
+      (h tuple there meets q.move.source.part w.source) in
+      let among : is_among r.values (column (part_of tuple q.move.source.part) m.source.column) ≡ true =
+      r.covers (part_of tuple q.move.source.part) from in
+      let at_source : is_among r.values (value_at tuple q.move.source) ≡ true =
+      subst (λ (z : Ref). is_among r.values (column (part_of tuple q.move.source.part) z.column) ≡ true) source_is
+      among in
+      let at_target : is_among r.values (value_at tuple q.move.target) ≡ true =
+      subst (λ z. is_among r.values z ≡ true) (one_value conds q.move tuple j meets) at_source in
+      let passes : k + part ≡ m.target.part → is_among r.values (column (part_of tuple part) m.target.column) ≡ true =
+      λ e.
+      let number : m.target.part ≡ k + q.move.target.part = ap (λ (z : Ref). z.part) target_is in
+      let same : q.move.target.part ≡ part = omega arith in
+      subst (λ c. is_among r.values (column (part_of tuple part) c) ≡ true)
+      (sym (ap (λ (z : Ref). z.column) target_is))
+      (subst (λ z. is_among r.values (column (part_of tuple z) q.move.target.column) ≡ true) same at_target) in
+      still_held (k + part) (part_of tuple part) (h tuple there meets part range) passes
+
+  -- where the target of a move stands
+  target_after : (k : ℕ) (s : Stmt) → HasParts s → IsMoveOf k s m
+      → (k < m.target.part) × (m.target.part ≤ k + uses_in s)
+  target_after k (Put rel row) parts q = absurd q
+  target_after k (Update rel sets conds) parts q = absurd q
+  target_after k (Delete rel conds) parts q = absurd q
+  target_after k (Query out rels conds) parts q =
+      let w = sides conds (length rels) q.move parts (joined conds q.move q.there) in
+      let number : m.target.part ≡ k + q.move.target.part = ap (λ (z : Move). z.target.part) q.is in
+      let from = w.target.0 in
+      let to = w.target.1 in
+      (omega (arith, from), omega (arith, to))
+
+  target_behind : (k : ℕ) (statements : List Stmt) → AllByRecursion HasParts statements → IsMoveAlong k statements m
+      → k < m.target.part
+  target_behind k [] parts q = absurd q
+  target_behind k (s ∷ rest) parts (inl here) = (target_after k s parts.0 here).0
+  target_behind k (s ∷ rest) parts (inr there) =
+      let l = target_behind (k + uses_in s) rest parts.1 there in omega (arith, l)
+
+  pub step_keeps : (db : Database) (k : ℕ) (statements : List Stmt) → AllByRecursion HasParts statements
+      → IsMoveAlong k statements m → HoldEnoughAlong db ds before k statements
+      → HoldEnoughAlong db ds after k statements
+  step_keeps db k [] parts q h = absurd q
+  step_keeps db k (s ∷ rest) parts (inl here) h =
+      (query_stays db k s parts.0 here h.0, others_stay db (k + uses_in s) rest (target_after k s parts.0 here).1 h.1)
+  step_keeps db k (s ∷ rest) parts (inr there) h =
+      (other_stays db k s (inr (target_behind (k + uses_in s) rest parts.1 there)) h.0, step_keeps db (k + uses_in s) rest parts.1 there h.1)
+
+-- after any number of reductions
+pub all_keep : (db : Database) (ds : List ℕ) (statements : List Stmt) → AllByRecursion HasParts statements
+    → (first last : Space) → Leads ds statements first last → HoldEnoughAlong db ds first 0 statements
+    → HoldEnoughAlong db ds last 0 statements
+all_keep db ds statements parts first last none h = h
+all_keep db ds statements parts first last (more {before} {after} l m q r) h =
+    step_keeps ds m before after r db 0 statements parts q (all_keep db ds statements parts first before l h)
+
+pub all_were : (ds : List ℕ) (statements : List Stmt) (first last : Space) → Leads ds statements first last
+    → (d u : ℕ) (row : Row) → Has (all_rows (last d)) (u, row) → Has (all_rows (first d)) (u, row)
+all_were ds statements first last none d u row h = h
+all_were ds statements first last (more {before} {after} l m q r) d u row h =
+    all_were ds statements first before l d u row (was_held ds m before after r d u row h)

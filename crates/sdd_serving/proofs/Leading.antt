@@ -1,0 +1,100 @@
+-- A run of the exchange is a sequence of reductions each of which has the values of all rows of its source.
+use Rattle.std.proofs.Common.{ℕ, ◌≡◌, ◌==◌, ◌⊎◌, inl, inr, Bool, true, not, List, [], ◌∷◌, ap, subst}
+use Rattle.std.proofs.lemmas.Bool.{cases_Bool}
+use Rattle.std.proofs.lemmas.Bool.Decides.{Decides-eqb}
+use Rattle.sdd_base.specs.Order.{column}
+use Rattle.sdd_lang.specs.declared.statement.Stmt.{Stmt}
+use Rattle.sdd_lang.specs.Database.{Row}
+use Rattle.sdd_exec.specs.Choices.{Has}
+use Rattle.sdd_exec.proofs.Members.{Has-filter}
+use Rattle.sdd_space.specs.Frozen.{all_rows, is_among}
+use Rattle.sdd_serving.specs.Reducing.{Space, IsHeldAt, IsMoveAlong}
+use Rattle.sdd_serving.specs.Runs.{Stage, Runs, may_reduce}
+use Rattle.sdd_serving.specs.Runs.Stage.{Resting, Telling, Reducing}
+use Rattle.sdd_serving.specs.Runs.Runs.{begins, asks, tells, sends, reduces, rests}
+use Rattle.sdd_serving.proofs.Keeps.{Leads, Reduces, was_held, all_were}
+use Rattle.sdd_serving.proofs.Keeps.Leads.{none, more}
+use Rattle.sdd_serving.proofs.Told.{old_among, new_among}
+
+none_has : (lacks : List ℕ) → may_reduce lacks ≡ true → (d : ℕ) → ¬ Has lacks d
+none_has [] e d h = h
+none_has (x ∷ lacks) e d h = cc
+
+-- what is known at a stage
+abbrev pub Knows : List ℕ → Space → Stage → Type 0
+Knows ds space Resting = Unit {0}
+Knows ds space (Telling m lacks union) =
+    (row : Row) → (h : IsHeldAt ds space m.source.part row) → Has lacks h.at ⊎
+    (is_among union (column row m.source.column) ≡ true)
+Knows ds space (Reducing m union) =
+    (row : Row) → IsHeldAt ds space m.source.part row → is_among union (column row m.source.column) ≡ true
+
+-- its move is one of the statements'
+abbrev pub IsOf : List Stmt → Stage → Type 0
+IsOf statements Resting = Unit {0}
+IsOf statements (Telling m lacks union) = IsMoveAlong 0 statements m
+IsOf statements (Reducing m union) = IsMoveAlong 0 statements m
+
+pub record State (ds : List ℕ) (statements : List Stmt) (first space : Space) (stage : Stage) : Type 0 where
+  pub leads : Leads ds statements first space
+  pub knows : Knows ds space stage
+  pub move : IsOf statements stage
+
+module _ (ds : List ℕ) (statements : List Stmt) (asked : ℕ → ℕ → Bool) (first : Space)
+    (held_where_asked : (d u : ℕ) (row : Row) → Has (all_rows (first d)) (u, row) → asked d u ≡ true) where
+  pub runs_lead : (space : Space) (stage : Stage) → Runs ds statements asked first space stage
+      → State ds statements first space stage
+  runs_lead space stage begins = record { leads = none; knows = tt; move = tt }
+  runs_lead space stage (asks r m q lacks all) =
+      let s = runs_lead space Resting r in
+      record {
+        leads = s.leads;
+        knows =
+            λ row h.
+            inl
+            (all h.at h.there
+            (held_where_asked h.at m.source.part row
+            (all_were ds statements first space s.leads h.at m.source.part row h.held)));
+        move = q;
+      }
+  runs_lead space stage (tells m lacks union r d values all) =
+      let s = runs_lead space (Telling m lacks union) r in
+      record {
+        leads = s.leads;
+        knows = λ row h. elim (s.knows row h) [
+          | inr old ↦ inr (old_among union values (column row m.source.column) old)
+          | inl lacking ↦ elim (cases_Bool (h.at == d)) [
+            | inl same ↦
+                let e : h.at ≡ d = (Decides-eqb h.at d).0 same in
+                inr
+                (new_among union values (column row m.source.column)
+                (all row (subst (λ z. Has (all_rows (space z)) (m.source.part, row)) e h.held)))
+            | inr other ↦ inl (Has-filter (λ x. not (x == d)) lacks h.at lacking (ap not other))
+          ]
+        ];
+        move = s.move;
+      }
+  runs_lead space stage (sends m lacks union r none_lacks) =
+      let s = runs_lead space (Telling m lacks union) r in
+      record {
+        leads = s.leads;
+        knows =
+            λ row h.
+            elim (s.knows row h) [ inl lacking ↦ absurd (none_has lacks none_lacks h.at lacking) | inr old ↦ old ];
+        move = s.move;
+      }
+  runs_lead space stage (reduces {space = before} m union r at here elsewhere) =
+      let s = runs_lead before (Reducing m union) r in
+      let step : Reduces ds m before space =
+      record { at = at; values = union; covers = s.knows; here = here; elsewhere = elsewhere } in
+      record {
+        leads = more s.leads m s.move step;
+        knows =
+            λ row h.
+            s.knows row
+            (record
+            { at = h.at; there = h.there; held = was_held ds m before space step h.at m.source.part row h.held });
+        move = s.move;
+      }
+  runs_lead space stage (rests m union r) =
+      let s = runs_lead space (Reducing m union) r in record { leads = s.leads; knows = tt; move = tt }

@@ -1,0 +1,79 @@
+-- An entry that meets the restrictions of a use lies in one of its fragments.
+use Rattle.std.proofs.Common.{ℕ, suc, ◌≡◌, ◌<◌, ◌+◌, ◌-◌, inl, inr, true, List, [], ◌∷◌, map, length, get_or, ap, subst, arith}
+use Rattle.std.specs.List.{AllByRecursion, list_all}
+use Rattle.std.proofs.lemmas.List.{get_or_default}
+use Rattle.std.proofs.lemmas.List.Elements.{recursion_from_All}
+use Rattle.std.proofs.lemmas.Bool.Decides.{Decides-eqb}
+use Rattle.sdd_base.specs.Order.{meets}
+use Rattle.sdd_base.specs.Words.{contains}
+use Rattle.sdd_base.specs.declared.number.RelNo.{RelNo}
+use Rattle.sdd_base.specs.declared.usage.Use.{Use}
+use Rattle.sdd_catalog.specs.Catalogue.{Catalogue, fragment_of}
+use Rattle.sdd_catalog.specs.Rules.{IsSound}
+use Rattle.sdd_lang.specs.declared.condition.Condition.{Condition}
+use Rattle.sdd_lang.specs.declared.statement.Stmt.{Stmt}
+use Rattle.sdd_lang.specs.declared.statement.Stmt.TheVariants.{Put, Query, Update, Delete}
+use Rattle.sdd_lang.specs.declared.transaction.Txn.{Txn}
+use Rattle.sdd_lang.specs.Database.{Item, Row}
+use Rattle.sdd_lang.specs.Fits.{Fits, FitsStatement, FitsCondition, IsRelation, rel_of}
+use Rattle.sdd_lang.specs.Sound.{IsEntry}
+use Rattle.sdd_lang.specs.Source.{uses_in}
+use Rattle.sdd_lang.specs.Uses.{part_uses, statement_uses, uses_from, uses_of}
+use Rattle.sdd_lang.proofs.ReadSetDecides.{lies_in_use}
+use Rattle.sdd_exec.specs.Choices.{Has}
+use Rattle.sdd_serving.proofs.Uses.{uses_split}
+
+module _ (cat : Catalogue) (sound : IsSound cat) (e : Item × Row) (entry : IsEntry cat e) where
+  abbrev pub Lies : Use → Type 0
+  Lies u =
+      e.0.0 ≡ u.rel.0 → list_all (meets e.1) u.restrictions ≡ true → contains (map (λ f. f.0) u.frags)
+      (fragment_of cat e.0.0 e.0.1) ≡ true
+
+  part_lies : (all : List RelNo) (conds : List Condition) → AllByRecursion (FitsCondition cat all) conds
+      → (before part : ℕ) (rels : List RelNo)
+      → ((n : ℕ) (d : RelNo) → n < length rels → rel_of all (part + n) ≡ (get_or rels n d).0)
+      → AllByRecursion (λ (rel : RelNo). IsRelation cat rel.0) rels → (u : Use) → Has
+      (part_uses cat before conds part rels) u → Lies u
+  part_lies all conds fits before part [] named there u h = absurd h
+  part_lies all conds fits before part (rel ∷ rels) named there u (inl same) =
+      let z : part + 0 ≡ part = omega arith in
+      let of : rel_of all part ≡ rel.0 = subst (λ p. rel_of all p ≡ rel.0) z (named 0 rel (omega arith)) in
+      subst Lies same
+      (λ is met.
+      lies_in_use cat sound all part conds rel.0 of there.0 fits e entry ((Decides-eqb e.0.0 rel.0).1 is) met)
+  part_lies all conds fits before part (rel ∷ rels) named there u (inr k) =
+      part_lies all conds fits before (part + 1) rels
+      (λ n d within.
+      let e : part + suc n ≡ part + 1 + n = omega arith in
+      subst (λ p. rel_of all p ≡ (get_or rels n d).0) e (named (suc n) d (omega arith)))
+      there.1 u k
+
+  numbered : (rels : List RelNo) (n : ℕ) (d : RelNo) → n < length rels → rel_of rels (1 + n) ≡ (get_or rels n d).0
+  numbered rels n d within =
+      let e : n ≡ 1 + n - 1 = omega arith in
+      ap (λ (r : RelNo). r.0)
+      (subst (λ k. get_or rels k (record { 0 = 0 }) ≡ get_or rels n d) e
+      (get_or_default rels n (record { 0 = 0 }) d within))
+
+  statement_lies : (before : ℕ) (s : Stmt) → FitsStatement cat s → (u : Use) → Has (statement_uses cat before s) u
+      → Lies u
+  statement_lies before (Put rel row) fits u h = absurd h
+  statement_lies before (Query out rels conds) fits u h =
+      part_lies rels conds (recursion_from_All (FitsCondition cat rels) conds fits.4.1) before 1 rels (numbered rels)
+      (recursion_from_All (λ (rel : RelNo). IsRelation cat rel.0) rels fits.1) u h
+  statement_lies before (Update rel sets conds) fits u h =
+      part_lies (rel ∷ []) conds (recursion_from_All (FitsCondition cat (rel ∷ [])) conds fits.3.1) before 1
+      (rel ∷ []) (numbered (rel ∷ [])) (fits.0, tt) u h
+  statement_lies before (Delete rel conds) fits u h =
+      part_lies (rel ∷ []) conds (recursion_from_All (FitsCondition cat (rel ∷ [])) conds fits.1.1) before 1
+      (rel ∷ []) (numbered (rel ∷ [])) (fits.0, tt) u h
+
+  statements_lie : (before : ℕ) (statements : List Stmt) → AllByRecursion (FitsStatement cat) statements → (u : Use)
+      → Has (uses_from cat before statements) u → Lies u
+  statements_lie before [] fits u h = absurd h
+  statements_lie before (s ∷ rest) fits u h =
+      elim (uses_split cat before s rest u h) [ inl here ↦ statement_lies before s fits.0 u here | inr there ↦ statements_lie (before + uses_in s) rest fits.1 u there ]
+
+  pub lies_in_fragment : (txn : Txn) → Fits cat txn → (u : Use) → Has (uses_of cat txn) u → Lies u
+  lies_in_fragment txn fits u h =
+      statements_lie 0 txn.statements (recursion_from_All (FitsStatement cat) txn.statements fits.statements) u h

@@ -1,0 +1,55 @@
+-- The whole exchange: from the copies at the modules' Answers to rows that serve the database which has them.
+use Rattle.std.proofs.Common.{ℕ, ◌≡◌, ◌==◌, ◌||◌, inl, inr, true, false, List, [], ◌∷◌, refl, ap, ◌∙◌}
+use Rattle.std.proofs.lemmas.Bool.Decides.{Decides-eqb}
+use Rattle.sdd_base.specs.declared.usage.Use.{Use}
+use Rattle.sdd_catalog.specs.Catalogue.{Catalogue}
+use Rattle.sdd_catalog.specs.Rules.{IsSound}
+use Rattle.sdd_lang.specs.declared.transaction.Txn.{Txn}
+use Rattle.sdd_lang.specs.Database.{Row, Database}
+use Rattle.sdd_lang.specs.Effect.{effect}
+use Rattle.sdd_lang.specs.Fits.{Fits}
+use Rattle.sdd_lang.specs.Source.{effect_over}
+use Rattle.sdd_exec.specs.Choices.{Has}
+use Rattle.sdd_exec.specs.Serves.{Serves}
+use Rattle.sdd_exec.specs.Snapshots.{found_for, chosen_for}
+use Rattle.sdd_exec.proofs.Members.{Has-map_from}
+use Rattle.sdd_exec.proofs.Serving.{served_effect}
+use Rattle.sdd_space.specs.Frozen.{CopyRows, rows_for, all_rows}
+use Rattle.sdd_serving.specs.Freezing.{uses_at, names_use, asked_at, frozen_space, HasCopies}
+use Rattle.sdd_serving.specs.Reducing.{Space, all_held}
+use Rattle.sdd_serving.specs.Runs.{Stage, Runs}
+use Rattle.sdd_serving.proofs.Enough.{serves}
+use Rattle.sdd_serving.proofs.Freezing.{begins}
+use Rattle.sdd_serving.proofs.Held.{Kept, has_row}
+use Rattle.sdd_serving.proofs.Leading.{runs_lead}
+
+some_number : (us : List Use) (u : Use) (n : ℕ) → Has us u → u.number ≡ n → names_use us n ≡ true
+some_number [] u n h e = absurd h
+some_number (v ∷ us) u n (inl same) e =
+    ap (λ b. b || names_use us n) ((Decides-eqb v.number n).1 (ap (λ (z : Use). z.number) same ∙ e))
+some_number (v ∷ us) u n (inr h) e =
+    let rest = some_number us u n h e in
+    elim (v.number == n) as (λ b. (b || names_use us n) ≡ true) [ true ↦ refl | false ↦ rest ]
+
+-- rows are frozen for the uses that are asked for alone
+frozen_asked : (cat : Catalogue) (c : ℕ) (txn : Txn) (ts : ℕ) (copies : ℕ → CopyRows) (d n : ℕ) (row : Row)
+    → Has (all_rows (frozen_space cat c txn ts copies d)) (n, row) → asked_at cat c txn d n ≡ true
+frozen_asked cat c txn ts copies d n row h =
+    let k = has_row (frozen_space cat c txn ts copies d) n row h in
+    let w = Has-map_from (λ (u : Use). (u.number, rows_for (copies d) u)) (uses_at cat c txn d) k.entry k.there in
+    some_number (uses_at cat c txn d) w.0 n w.1 (ap (λ (z : Kept). z.0) w.2 ∙ k.number)
+
+module _ (cat : Catalogue) (sound : IsSound cat) (c : ℕ) (txn : Txn) (fits : Fits cat txn) (ts : ℕ) (ds : List ℕ)
+    (copies : ℕ → CopyRows) (db : Database) (ok : HasCopies cat c txn ds copies db)
+    (space : Space) (stage : Stage)
+    (runs : Runs ds txn.statements (asked_at cat c txn) (frozen_space cat c txn ts copies) space stage) where
+  -- whatever moves were made, and however far the last one is, the rows that are held serve the database
+  pub exchange_serves : Serves cat txn (all_held ds space) db
+  exchange_serves =
+      serves cat txn db ds (frozen_space cat c txn ts copies) space fits
+      (begins cat sound c txn fits ds copies db ok ts)
+      (runs_lead ds txn.statements (asked_at cat c txn) (frozen_space cat c txn ts copies) (λ d n row h. frozen_asked cat c txn ts copies d n row h) space stage runs).leads
+
+  -- so what is computed from them is the effect on it
+  pub shipped_effect : effect_over cat (found_for (all_held ds space)) (chosen_for cat (all_held ds space)) txn ≡ effect cat db txn
+  shipped_effect = served_effect cat txn (all_held ds space) db ok.is exchange_serves

@@ -1,0 +1,167 @@
+-- What the values that modules tell have, and their union.
+use Rattle.std.proofs.Common.{ℕ, ◌≡◌, ◌==◌, ◌||◌, inl, inr, Bool, true, false, cond, List, [], ◌∷◌, Some, None, map, refl, ap, sym, ◌∙◌, subst, Ordering}
+use Rattle.std.specs.declared.cmp.Ordering.TheVariants.{Less, Equal, Greater}
+use Rattle.std.specs.Ordering.{is_eq, match_ordering, ordering_reverse}
+use Rattle.std.specs.BTreeSet.{insert_key}
+use Rattle.std.proofs.lemmas.Bool.Decides.{Decides-eqb}
+use Rattle.std.proofs.lemmas.Cmp.{tied_itself}
+use Rattle.sdd_base.specs.Order.{column, value_cmp, with_values}
+use Rattle.sdd_base.specs.ValueOrder.{value_cmp_total}
+use Rattle.sdd_base.specs.Words.{or_else, first_some}
+use Rattle.sdd_base.specs.declared.usage.Use.{Use}
+use Rattle.sdd_base.specs.declared.value.Value.{Value}
+use Rattle.sdd_catalog.specs.Catalogue.{Catalogue}
+use Rattle.sdd_lang.specs.declared.condition.Ref.{Ref}
+use Rattle.sdd_lang.specs.declared.transaction.Txn.{Txn}
+use Rattle.sdd_lang.specs.Database.{Row}
+use Rattle.sdd_lang.specs.Uses.{uses_of}
+use Rattle.sdd_exec.specs.Choices.{Has}
+use Rattle.sdd_exec.proofs.Members.{Has-map_from, Has-filter_map_from}
+use Rattle.sdd_space.specs.Frozen.{CopyRows, Frozen, or_nothing, rows_for, rows_of, reduced, is_among, values_in, all_rows}
+use Rattle.sdd_attempt.specs.Acts.{use_there}
+use Rattle.sdd_serving.specs.Freezing.{uses_at, frozen_space}
+use Rattle.sdd_serving.specs.Reducing.{TellsAll}
+use Rattle.sdd_serving.proofs.Freezing.{IsThere, there_is}
+use Rattle.sdd_serving.proofs.Held.{Kept, has_row, lessened, same_number}
+use Rattle.sdd_serving.proofs.Uses.{one_use}
+
+-- values that are put together
+
+either : (a b : Bool) → b ≡ true → (a || b) ≡ true
+either true b e = refl
+either false b e = e
+
+among_self : (v : Value) → is_eq (value_cmp v v) ≡ true
+among_self v = ap is_eq (tied_itself value_cmp_total v)
+
+key_among : (vs : List Value) (v : Value) → is_among (insert_key value_cmp vs v) v ≡ true
+key_among [] v = ap (λ b. b || false) (among_self v)
+key_among (x ∷ vs) v =
+    elim (value_cmp v x) as (λ o. value_cmp v x ≡ o → is_among (match_ordering o (v ∷ x ∷ vs) (x ∷ vs) (x ∷ insert_key value_cmp vs v)) v ≡ true) [
+      | Less ↦ λ h. ap (λ b. b || is_among (x ∷ vs) v) (among_self v)
+      | Equal ↦ λ h. ap (λ b. b || is_among vs v) (ap is_eq (value_cmp_total.antisymm x v ∙ ap ordering_reverse h))
+      | Greater ↦ λ h. either (is_eq (value_cmp x v)) (is_among (insert_key value_cmp vs v) v) (key_among vs v)
+    ] refl
+
+key_keeps : (vs : List Value) (w v : Value) → is_among vs v ≡ true → is_among (insert_key value_cmp vs w) v ≡ true
+key_keeps [] w v h = cc
+key_keeps (x ∷ vs) w v h =
+    elim (value_cmp w x) as (λ o. is_among (match_ordering o (w ∷ x ∷ vs) (x ∷ vs) (x ∷ insert_key value_cmp vs w)) v ≡ true) [
+      | Less ↦ either (is_eq (value_cmp w v)) (is_among (x ∷ vs) v) h
+      | Equal ↦ h
+      | Greater ↦ elim (is_eq (value_cmp x v)) as (λ b.
+          (b || is_among vs v) ≡ true → (b || is_among (insert_key value_cmp vs w) v) ≡ true) [
+            | true ↦ λ k. refl
+            | false ↦ λ k. key_keeps vs w v k
+          ] h
+    ]
+
+pub old_among : (vs ws : List Value) (v : Value) → is_among vs v ≡ true → is_among (with_values vs ws) v ≡ true
+old_among vs [] v h = h
+old_among vs (w ∷ ws) v h = old_among (insert_key value_cmp vs w) ws v (key_keeps vs w v h)
+
+pub new_among : (vs ws : List Value) (v : Value) → is_among ws v ≡ true → is_among (with_values vs ws) v ≡ true
+new_among vs [] v h = cc
+new_among vs (w ∷ ws) v h =
+    elim (is_eq (value_cmp w v)) as (λ b. is_eq (value_cmp w v) ≡ b → (b || is_among ws v) ≡ true → is_among (with_values vs (w ∷ ws)) v ≡ true) [
+      | true ↦ λ e k. old_among (insert_key value_cmp vs w) ws v (one_among vs w v e)
+      | false ↦ λ e k. new_among (insert_key value_cmp vs w) ws v k
+    ] refl h
+  where
+    of_equal : (o : Ordering) → is_eq o ≡ true → o ≡ Equal
+    of_equal Less e = cc
+    of_equal Equal e = refl
+    of_equal Greater e = cc
+
+    same : (vs : List Value) (w v : Value) → value_cmp w v ≡ Equal → is_among vs w ≡ true → is_among vs v ≡ true
+    same [] w v e h = cc
+    same (x ∷ vs) w v e h =
+        let swap : value_cmp x v ≡ value_cmp x w =
+        value_cmp_total.antisymm x v ∙ ap ordering_reverse (sym (value_cmp_total.congr w v x e))
+        ∙ sym (value_cmp_total.antisymm x w) in
+        elim (is_eq (value_cmp x w)) as (λ b. is_eq (value_cmp x w) ≡ b → (b || is_among vs w) ≡ true → is_among (x ∷ vs) v ≡ true) [
+          | true ↦ λ p q. ap (λ b. b || is_among vs v) (ap is_eq swap ∙ p)
+          | false ↦ λ p q. either (is_eq (value_cmp x v)) (is_among vs v) (same vs w v e q)
+        ] refl h
+
+    one_among : (vs : List Value) (w v : Value) → is_eq (value_cmp w v) ≡ true
+        → is_among (insert_key value_cmp vs w) v ≡ true
+    one_among vs w v e = same (insert_key value_cmp vs w) w v (of_equal (value_cmp w v) e) (key_among vs w)
+
+-- the values of rows have that of each
+abbrev map_values : List Row → ℕ → List Value
+map_values rows col = map (λ row. column row col) rows
+
+value_there : (rows : List Row) (col : ℕ) (row : Row) → Has rows row
+    → is_among (map_values rows col) (column row col) ≡ true
+value_there [] col row h = absurd h
+value_there (r ∷ rows) col row (inl e) =
+    ap (λ b. b || is_among (map_values rows col) (column row col))
+    (ap (λ z. is_eq (value_cmp (column z col) (column row col))) e ∙ among_self (column row col))
+value_there (r ∷ rows) col row (inr h) =
+    either (is_eq (value_cmp (column r col) (column row col))) (is_among (map_values rows col) (column row col))
+    (value_there rows col row h)
+
+-- a module keeps the rows of a use once
+
+abbrev pub KeepsOnce : Frozen → Type 0
+KeepsOnce f = (d e : Kept) → Has f.uses d → Has f.uses e → d.0 ≡ e.0 → d ≡ e
+
+pub frozen_once : (cat : Catalogue) (c : ℕ) (txn : Txn) (ts : ℕ) (copies : ℕ → CopyRows) (d : ℕ)
+    → KeepsOnce (frozen_space cat c txn ts copies d)
+frozen_once cat c txn ts copies d a b h k same =
+    let kept : Use → Kept = λ (u : Use). (u.number, rows_for (copies d) u) in
+    let x = Has-map_from kept (uses_at cat c txn d) a h in
+    let y = Has-map_from kept (uses_at cat c txn d) b k in
+    let u = Has-filter_map_from (use_there cat c d) (uses_of cat txn) x.0 x.1 in
+    let v = Has-filter_map_from (use_there cat c d) (uses_of cat txn) y.0 y.1 in
+    let p : IsThere cat c d u.0 x.0 = there_is cat c d u.0 x.0 u.2 in
+    let q : IsThere cat c d v.0 y.0 = there_is cat c d v.0 y.0 v.2 in
+    let number : (u.0).number ≡ (v.0).number =
+    sym p.number ∙ ap (λ (z : Kept). z.0) x.2 ∙ same ∙ ap (λ (z : Kept). z.0) (sym y.2) ∙ q.number in
+    let one : u.0 ≡ v.0 = one_use cat 0 txn.statements u.0 v.0 u.1 v.1 number in
+    let uses : Some x.0 ≡ Some y.0 = sym u.2 ∙ ap (use_there cat c d) one ∙ v.2 in
+    let use_same : x.0 ≡ y.0 = cc in
+    sym x.2 ∙ ap kept use_same ∙ y.2
+
+pub reduced_once : (n col : ℕ) (values : List Value) (f : Frozen) → KeepsOnce f → KeepsOnce (reduced n col values f)
+reduced_once n col values f once a b h k same =
+    let x = Has-map_from (lessened n col values) f.uses a h in
+    let y = Has-map_from (lessened n col values) f.uses b k in
+    let number : (x.0).0 ≡ (y.0).0 =
+    sym (same_number n col values x.0) ∙ ap (λ (z : Kept). z.0) x.2 ∙ same ∙ ap (λ (z : Kept). z.0) (sym y.2)
+    ∙ same_number n col values y.0 in
+    sym x.2 ∙ ap (lessened n col values) (once x.0 y.0 x.1 y.1 number) ∙ y.2
+
+-- so the rows that are told of a use are all of it
+rows_told : (es : List Kept) (e : Kept) → ((d : Kept) → Has es d → d.0 ≡ e.0 → d ≡ e) → Has es e
+    → or_nothing (first_some (λ (z : Kept). cond (z.0 == e.0) (Some z.1) None) es) ≡ e.1
+rows_told [] e once h = absurd h
+rows_told (x ∷ es) e once h =
+    elim (x.0 == e.0) as (λ b.
+    (x.0 == e.0) ≡ b
+    → or_nothing (or_else (cond b (Some x.1) None) (first_some (λ (z : Kept). cond (z.0 == e.0) (Some z.1) None) es)) ≡ e.1) [
+      | true ↦ λ q. ap (λ (z : Kept). z.1) (once x (inl refl) ((Decides-eqb x.0 e.0).0 q))
+      | false ↦ λ q. elim h [
+        | inl same ↦
+            let own : (x.0 == e.0) ≡ true = (Decides-eqb x.0 e.0).1 (ap (λ (z : Kept). z.0) same) in absurd cc
+        | inr later ↦ rows_told es e (λ d k n. once d (inr k) n) later
+      ]
+    ] refl
+
+-- what a module tells has the value of each row that it holds
+pub tells_all : (f : Frozen) → KeepsOnce f → (source : Ref)
+    → TellsAll f source (values_in (rows_of source.part f) source.column)
+tells_all f once source row h =
+    let k = has_row f source.part row h in
+    let rows : rows_of source.part f ≡ (k.entry).1 =
+    ap (λ n. rows_of n f) (sym k.number)
+    ∙ rows_told f.uses k.entry (λ d there same. once d k.entry there k.there same) k.there in
+    new_among [] (map_values (rows_of source.part f) source.column) (column row source.column)
+    (value_there (rows_of source.part f) source.column row (subst (λ rs. Has rs row) (sym rows) k.has))
+
+-- also later, where it holds no more than then
+pub tells_later : (before now : Frozen) (source : Ref) (values : List Value)
+    → ((row : Row) → Has (all_rows now) (source.part, row) → Has (all_rows before) (source.part, row))
+    → TellsAll before source values → TellsAll now source values
+tells_later before now source values fewer all row h = all row (fewer row h)

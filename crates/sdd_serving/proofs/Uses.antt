@@ -1,0 +1,160 @@
+-- The uses of a transaction have different numbers, and each part of a statement has one.
+use Rattle.std.proofs.Common.{ℕ, zero, suc, ◌≡◌, ◌≤◌, ◌<◌, ◌+◌, ◌⊎◌, inl, inr, List, [], ◌∷◌, length, map, slice_index_or, refl, ap, sym, ◌∙◌, subst, arith}
+use Rattle.sdd_base.specs.declared.number.RelNo.{RelNo}
+use Rattle.sdd_base.specs.declared.usage.Use.{Use}
+use Rattle.sdd_catalog.specs.Catalogue.{Catalogue}
+use Rattle.sdd_lang.specs.declared.condition.Condition.{Condition}
+use Rattle.sdd_lang.specs.declared.statement.Stmt.{Stmt}
+use Rattle.sdd_lang.specs.declared.statement.Stmt.TheVariants.{Put, Query, Update, Delete}
+use Rattle.sdd_lang.specs.Condition.{Tuple}
+use Rattle.sdd_lang.specs.Database.{Row, Database}
+use Rattle.sdd_lang.specs.Database as databases
+use Rattle.sdd_lang.specs.Query.{product}
+use Rattle.sdd_lang.specs.Source.{uses_in}
+use Rattle.sdd_lang.specs.Uses.{restrictions_of, use_of, part_uses, statement_uses, uses_from}
+use Rattle.sdd_lang.proofs.Sources.{length-statement_uses}
+use Rattle.sdd_exec.specs.Choices.{Has}
+use Rattle.sdd_exec.proofs.Members.{Has-append, Has-map_from, Has-flat_map_from}
+
+part_range : (cat : Catalogue) (before : ℕ) (conds : List Condition) (k : ℕ) (rels : List RelNo) (u : Use)
+    → Has (part_uses cat before conds k rels) u → (before + k ≤ u.number) × (u.number < before + k + length rels)
+part_range cat before conds k [] u h = absurd h
+part_range cat before conds k (rel ∷ rels) u (inl same) =
+    let e : before + k ≡ u.number = ap (λ (z : Use). z.number) same in (omega arith, omega arith)
+part_range cat before conds k (rel ∷ rels) u (inr there) =
+    let r =
+    part_range cat before conds (k + 1) rels u there in let a = r.0 in let b = r.1 in
+    (omega (arith, a), omega (arith, b))
+
+one_part : (cat : Catalogue) (before : ℕ) (conds : List Condition) (k : ℕ) (rels : List RelNo) (u v : Use)
+    → Has (part_uses cat before conds k rels) u → Has (part_uses cat before conds k rels) v → u.number ≡ v.number
+    → u ≡ v
+one_part cat before conds k [] u v h i e = absurd h
+one_part cat before conds k (rel ∷ rels) u v (inl a) (inl b) e = sym a ∙ b
+one_part cat before conds k (rel ∷ rels) u v (inl a) (inr b) e =
+    let n : before + k ≡ u.number =
+    ap (λ (z : Use). z.number) a in let r = (part_range cat before conds (k + 1) rels v b).0 in absurd
+    (omega (arith, r))
+one_part cat before conds k (rel ∷ rels) u v (inr a) (inl b) e =
+    let n : before + k ≡ v.number =
+    ap (λ (z : Use). z.number) b in let r = (part_range cat before conds (k + 1) rels u a).0 in absurd
+    (omega (arith, r))
+one_part cat before conds k (rel ∷ rels) u v (inr a) (inr b) e = one_part cat before conds (k + 1) rels u v a b e
+
+statement_range : (cat : Catalogue) (before : ℕ) (s : Stmt) (u : Use) → Has (statement_uses cat before s) u
+    → (before < u.number) × (u.number ≤ before + uses_in s)
+statement_range cat before (Put rel row) u h = absurd h
+statement_range cat before (Query out rels conds) u h =
+    let r = part_range cat before conds 1 rels u h in
+    let a = r.0 in let b = r.1 in (omega (arith, a), omega (arith, b))
+statement_range cat before (Update rel sets conds) u h =
+    let r = part_range cat before conds 1 (rel ∷ []) u h in
+    let a = r.0 in let b : u.number < before + 1 + 1 = r.1 in (omega (arith, a), omega arith)
+statement_range cat before (Delete rel conds) u h =
+    let r = part_range cat before conds 1 (rel ∷ []) u h in
+    let a = r.0 in let b : u.number < before + 1 + 1 = r.1 in (omega (arith, a), omega arith)
+
+one_in_statement : (cat : Catalogue) (before : ℕ) (s : Stmt) (u v : Use) → Has (statement_uses cat before s) u
+    → Has (statement_uses cat before s) v → u.number ≡ v.number → u ≡ v
+one_in_statement cat before (Put rel row) u v h i e = absurd h
+one_in_statement cat before (Query out rels conds) u v h i e = one_part cat before conds 1 rels u v h i e
+one_in_statement cat before (Update rel sets conds) u v h i e = one_part cat before conds 1 (rel ∷ []) u v h i e
+one_in_statement cat before (Delete rel conds) u v h i e = one_part cat before conds 1 (rel ∷ []) u v h i e
+
+-- the uses of the first statement, and the others
+pub uses_split : (cat : Catalogue) (before : ℕ) (s : Stmt) (rest : List Stmt) (u : Use)
+    → Has (uses_from cat before (s ∷ rest)) u
+    → Has (statement_uses cat before s) u ⊎ Has (uses_from cat (before + uses_in s) rest) u
+uses_split cat before s rest u h =
+    elim (Has-append (statement_uses cat before s) (uses_from cat (before + length (statement_uses cat before s)) rest) u h) [
+      | inl here ↦ inl here
+      | inr there ↦
+          inr (subst (λ n. Has (uses_from cat (before + n) rest) u) (length-statement_uses cat before s) there)
+    ]
+
+use_behind : (cat : Catalogue) (before : ℕ) (statements : List Stmt) (u : Use)
+    → Has (uses_from cat before statements) u → before < u.number
+use_behind cat before [] u h = absurd h
+use_behind cat before (s ∷ rest) u h =
+    elim (uses_split cat before s rest u h) [
+      | inl here ↦ (statement_range cat before s u here).0
+      | inr there ↦ let l = use_behind cat (before + uses_in s) rest u there in omega (arith, l)
+    ]
+
+-- of a number there is one use
+pub one_use : (cat : Catalogue) (before : ℕ) (statements : List Stmt) (u v : Use)
+    → Has (uses_from cat before statements) u → Has (uses_from cat before statements) v → u.number ≡ v.number → u ≡ v
+one_use cat before [] u v h i e = absurd h
+one_use cat before (s ∷ rest) u v h i e =
+    by (λ a b. one_use cat (before + uses_in s) rest u v a b e) (uses_split cat before s rest u h)
+    (uses_split cat before s rest v i)
+  where
+    by : (Has (uses_from cat (before + uses_in s) rest) u → Has (uses_from cat (before + uses_in s) rest) v → u ≡ v)
+        → Has (statement_uses cat before s) u ⊎ Has (uses_from cat (before + uses_in s) rest) u
+        → Has (statement_uses cat before s) v ⊎ Has (uses_from cat (before + uses_in s) rest) v → u ≡ v
+    by rec (inl a) (inl b) = one_in_statement cat before s u v a b e
+    by rec (inl a) (inr b) =
+        let l = (statement_range cat before s u a).1 in
+        let m = use_behind cat (before + uses_in s) rest v b in absurd (omega (arith, l, m))
+    by rec (inr a) (inl b) =
+        let l = (statement_range cat before s v b).1 in
+        let m = use_behind cat (before + uses_in s) rest u a in absurd (omega (arith, l, m))
+    by rec (inr a) (inr b) = rec a b
+
+-- a tuple has of each part a row of its relation, and the part has a use
+pub record HasPart (cat : Catalogue) (db : Database) (conds : List Condition) (uses : List Use) (number part : ℕ)
+    (row : Row) : Type 0 where
+  pub usage : Use
+  pub there : Has uses usage
+  pub number_is : usage.number ≡ number
+  pub restricted : usage.restrictions ≡ restrictions_of part conds
+  pub row_there : Has (databases.rows_of db usage.rel.0) row
+
+pub parts_there : (cat : Catalogue) (db : Database) (before : ℕ) (conds : List Condition) (k : ℕ) (rels : List RelNo) (tuple : Tuple)
+    → Has (product (map (λ (rel : RelNo). databases.rows_of db rel.0) rels)) tuple → (i : ℕ) → i < length rels
+    → HasPart cat db conds (part_uses cat before conds k rels) (before + (k + i)) (k + i) (slice_index_or tuple i [])
+parts_there cat db before conds k [] tuple h i within = absurd (omega arith)
+parts_there cat db before conds k (rel ∷ rels) tuple h i within =
+    let f =
+    Has-flat_map_from
+    (λ (row : Row).
+    map (λ (tuple : Tuple). row ∷ tuple) (product (map (λ (rel : RelNo). databases.rows_of db rel.0) rels)))
+    (databases.rows_of db rel.0) tuple h in
+    let row : Row = f.0 in
+    let g =
+    Has-map_from (λ (tuple : Tuple). row ∷ tuple) (product (map (λ (rel : RelNo). databases.rows_of db rel.0) rels))
+    tuple f.2 in
+    subst
+    (λ z.
+    HasPart cat db conds (part_uses cat before conds k (rel ∷ rels)) (before + (k + i)) (k + i)
+    (slice_index_or z i []))
+    g.2 (at (λ rest t i l. parts_there cat db before conds (k + 1) rels rest t i l) row g.0 f.1 g.1 i within)
+  where
+    at :
+        ((rest : Tuple) → Has (product (map (λ (rel : RelNo). databases.rows_of db rel.0) rels)) rest → (i : ℕ) → i <
+        length rels → HasPart cat db conds (part_uses cat before conds (k + 1) rels) (before + (k + 1 + i))
+        (k + 1 + i)
+        (slice_index_or rest i []))
+        → (row : Row) (rest : Tuple) → Has (databases.rows_of db rel.0) row → Has
+        (product (map (λ (rel : RelNo). databases.rows_of db rel.0) rels)) rest → (i : ℕ) → i < suc (length rels)
+        → HasPart cat db conds (part_uses cat before conds k (rel ∷ rels)) (before + (k + i)) (k + i)
+        (slice_index_or (row ∷ rest) i [])
+    at rec row rest r t zero l =
+        let e : k ≡ k + zero = omega arith in
+        record {
+          usage = use_of cat (before + k) rel (restrictions_of k conds);
+          there = inl refl;
+          number_is = ap (λ z. before + z) e;
+          restricted = ap (λ z. restrictions_of z conds) e;
+          row_there = r;
+        }
+    at rec row rest r t (suc i) l =
+        let p = rec rest t i (omega arith) in
+        let e : k + 1 + i ≡ k + suc i = omega arith in
+        record {
+          usage = p.usage;
+          there = inr p.there;
+          number_is = p.number_is ∙ ap (λ z. before + z) e;
+          restricted = p.restricted ∙ ap (λ z. restrictions_of z conds) e;
+          row_there = p.row_there;
+        }

@@ -1,0 +1,127 @@
+-- A worked exchange: of the accounts (5, 6) and (6, 7) a query joins those of which one's balance is the other's number.
+-- The rows of its first use are reduced by the balances of its second: (5, 6) is dropped, and what is left serves.
+use Rattle.std.proofs.Common.{ℕ, ◌≡◌, ◌≢◌, ◌==◌, inl, inr, pos, true, false, cond, List, [], ◌∷◌, refl, ap, sym, subst, lit≤}
+use Rattle.std.proofs.lemmas.Bool.Decides.{Decides-eqb}
+use Rattle.std.proofs.lemmas.List.Elements.{All-from_recursion}
+use Rattle.sdd_base.specs.Numbers.{frag_no}
+use Rattle.sdd_base.specs.declared.number.FragNo.{FragNo}
+use Rattle.sdd_base.specs.declared.usage.Use.{Use}
+use Rattle.sdd_base.specs.declared.value.Value.{Value}
+use Rattle.sdd_base.specs.declared.value.Value.TheVariants.{Int}
+use Rattle.sdd_protocol.specs.Conditions.{is_read_at}
+use Rattle.sdd_lang.specs.declared.condition.Condition.{Condition}
+use Rattle.sdd_lang.specs.declared.condition.Condition.TheVariants.{Same}
+use Rattle.sdd_lang.specs.declared.statement.Stmt.TheVariants.{Query}
+use Rattle.sdd_lang.specs.declared.transaction.Txn.{Txn}
+use Rattle.sdd_lang.specs.Agree.{rows_in_fragment}
+use Rattle.sdd_lang.specs.Database.{Row, Database, item_cmp}
+use Rattle.sdd_lang.specs.Examples.{rel, ref, two, accounts, txn}
+use Rattle.sdd_lang.specs.Sound.{IsDatabase, IsEntry}
+use Rattle.sdd_lang.specs.Uses.{uses_of}
+use Rattle.sdd_exec.specs.Choices.{Has}
+use Rattle.sdd_semijoin.specs.Steps.{Move}
+use Rattle.sdd_space.specs.Frozen.{CopyRows, reduced, rows_of, values_in}
+use Rattle.sdd_contents.specs.Committed.{entries_of}
+use Rattle.sdd_contents.proofs.LookUps.{sorted_nil, sorted_cons}
+use Rattle.sdd_serving.specs.Freezing.{asked_at, frozen_space, HasCopies}
+use Rattle.sdd_serving.specs.Reducing.{Space, move_by, all_held}
+use Rattle.sdd_serving.specs.Runs.{Stage, Runs}
+use Rattle.sdd_serving.specs.Runs.Stage.{Resting, Telling, Reducing}
+use Rattle.sdd_serving.specs.Runs.Runs.{begins, asks, tells, sends, reduces, rests}
+use Rattle.sdd_serving.proofs.Told.{frozen_once, tells_all}
+
+abbrev joined : List Condition
+joined = Same (ref 1 1) (ref 2 2) ∷ []
+
+abbrev pub query : Txn
+query = txn (Query (ref 1 1 ∷ []) (rel 1 ∷ rel 1 ∷ []) joined ∷ [])
+
+abbrev five : Row
+five = two (pos 5) (pos 6)
+
+abbrev six : Row
+six = two (pos 6) (pos 7)
+
+abbrev pub copies : ℕ → CopyRows
+copies d f = (pos 5, five) ∷ (pos 6, six) ∷ []
+
+abbrev pub db : Database
+db = ((1, pos 5), five) ∷ ((1, pos 6), six) ∷ []
+
+db_is : IsDatabase accounts db
+db_is =
+    record {
+      ascends =
+          sorted_cons item_cmp (1, pos 5) ((1, pos 6) ∷ []) (refl, tt)
+          (sorted_cons item_cmp (1, pos 6) [] tt (sorted_nil item_cmp));
+      entries = All-from_recursion (IsEntry accounts) db
+          (record { relation = (lit≤ tt, lit≤ tt); row = refl; key = refl; key_held = refl }, (record { relation = (lit≤ tt, lit≤ tt); row = refl; key = refl; key_held = refl }, tt));
+    }
+
+-- both uses are of the one fragment
+one_fragment : (u : Use) (f : FragNo) → Has (uses_of accounts query) u → Has u.frags f → f.0 ≡ 1
+one_fragment u f (inl e) h = in_first (subst (λ (z : Use). Has z.frags f) (sym e) h)
+  where
+    in_first : Has (frag_no 1 ∷ []) f → f.0 ≡ 1
+    in_first (inl same) = ap (λ (z : FragNo). z.0) (sym same)
+    in_first (inr none) = absurd none
+one_fragment u f (inr (inl e)) h = in_second (subst (λ (z : Use). Has z.frags f) (sym e) h)
+  where
+    in_second : Has (frag_no 1 ∷ []) f → f.0 ≡ 1
+    in_second (inl same) = ap (λ (z : FragNo). z.0) (sym same)
+    in_second (inr none) = absurd none
+one_fragment u f (inr (inr none)) h = absurd none
+
+pub has_copies : HasCopies accounts 1 query (1 ∷ []) copies db
+has_copies =
+    record {
+      is = db_is;
+      rows =
+          λ d u f there of t.
+          subst (λ n. rows_in_fragment accounts db n ≡ entries_of accounts n (copies d n))
+          (sym (one_fragment u f there of)) refl;
+      place =
+          λ u f there of.
+          (1, inl refl, subst (λ n. is_read_at accounts 1 1 n ≡ true) (sym (one_fragment u f there of)) refl);
+    }
+
+abbrev move : Move
+move = move_by (record { number = 1; left = ref 1 1; right = ref 2 2 }) true
+
+abbrev first : Space
+first = frozen_space accounts 1 query 65 copies
+
+-- what the module tells of the second use's balances
+abbrev told : List Value
+told = values_in (rows_of 2 (first 1)) 2
+
+pub told_is : told ≡ Int (pos 6) ∷ Int (pos 7) ∷ []
+told_is = refl
+
+abbrev last : Space
+last d = cond (d == 1) (reduced 1 1 told (first 1)) (first d)
+
+elsewhere : (d : ℕ) → d ≢ 1 → last d ≡ first d
+elsewhere d n =
+    elim (d == 1) as (λ b.
+    (d == 1) ≡ b → cond b (reduced 1 1 told (first 1)) (first d) ≡ first d) [
+      | true ↦ λ e. absurd
+          (n ((Decides-eqb d 1).0 e))
+      | false ↦ λ e. refl
+    ] refl
+
+abbrev Run : Space → Stage → Type 0
+Run space stage = Runs (1 ∷ []) query.statements (asked_at accounts 1 query) first space stage
+
+pub run : Run last Resting
+run =
+    let asked : Run first (Telling move (1 ∷ []) []) =
+    asks begins move (inl (record { move = move; there = inl refl; is = refl })) (1 ∷ []) (λ d h t. h) in
+    let answered : Run first (Telling move [] told) =
+    tells move (1 ∷ []) [] asked 1 told (tells_all (first 1) (frozen_once accounts 1 query 65 copies 1) (ref 2 2)) in
+    let sent : Run first (Reducing move told) = sends move [] told answered refl in
+    rests move told (reduces move told sent 1 refl elsewhere)
+
+-- of the first use (5, 6) is dropped
+pub what_is_left : all_held (1 ∷ []) last ≡ (1, six) ∷ (2, five) ∷ (2, six) ∷ []
+what_is_left = refl

@@ -1,0 +1,4 @@
+pub mod Following
+pub mod Freezing
+pub mod Reducing
+pub mod Runs

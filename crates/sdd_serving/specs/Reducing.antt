@@ -1,0 +1,59 @@
+-- The rows that the modules of an attempt hold for its uses, and the steps by which they are reduced.
+use Rattle.std.specs.Prelude.{ℕ, ◌+◌, ◌≡◌, ◌⊎◌, Bool, true, false, List, [], ◌∷◌, refl}
+use Rattle.std.specs.List.{flat_map}
+use Rattle.sdd_base.specs.Order.{column}
+use Rattle.sdd_base.specs.declared.value.Value.{Value}
+use Rattle.sdd_lang.specs.declared.condition.Condition.{Condition}
+use Rattle.sdd_lang.specs.declared.condition.Ref.{Ref}
+use Rattle.sdd_lang.specs.declared.statement.Stmt.{Stmt}
+use Rattle.sdd_lang.specs.declared.statement.Stmt.TheVariants.{Put, Query, Update, Delete}
+use Rattle.sdd_lang.specs.Database.{Row}
+use Rattle.sdd_lang.specs.Source.{uses_in}
+use Rattle.sdd_exec.specs.Choices.{Has}
+use Rattle.sdd_exec.specs.Snapshots.{Shipped}
+use Rattle.sdd_space.specs.Frozen.{Frozen, all_rows, is_among}
+use Rattle.sdd_semijoin.specs.Steps.{Join, Move, moves, moves_by}
+use Rattle.sdd_attempt.specs.Exchange.{move_at}
+
+-- what each module holds frozen, by its number
+abbrev pub Space : Type 0
+Space = ℕ → Frozen
+
+-- one of these modules holds the row for use `number` of the transaction
+pub record IsHeldAt (ds : List ℕ) (space : Space) (number : ℕ) (row : Row) : Type 0 where
+  pub at : ℕ
+  pub there : Has ds at
+  pub held : Has (all_rows (space at)) (number, row)
+
+-- all rows that these modules hold, with the numbers of their uses, as they ship them
+abbrev pub all_held : List ℕ → Space → Shipped
+all_held ds space = flat_map (λ d. all_rows (space d)) ds
+
+-- the values have that of each row which is held for a column's use
+abbrev pub TellsAll : Frozen → Ref → List Value → Type 0
+TellsAll held source values = (row : Row) → Has (all_rows held) (source.part, row) → is_among values (column row source.column) ≡ true
+
+-- the move by a join that reduces its left use, or that which reduces its right one: the values are the other use's
+abbrev pub move_by : Join → Bool → Move
+move_by j true = record { step = record { cond = j.number; left = true }; source = j.right; target = j.left }
+move_by j false = record { step = record { cond = j.number; left = false }; source = j.left; target = j.right }
+
+pub both_moves : (j : Join) → moves_by j ≡ move_by j true ∷ move_by j false ∷ []
+both_moves j = refl
+
+-- a move by a condition of a query, before which so many uses stand
+pub record IsMove (before : ℕ) (conds : List Condition) (m : Move) : Type 0 where
+  pub move : Move
+  pub there : Has (moves conds) move
+  pub is : m ≡ move_at before move
+
+abbrev pub IsMoveOf : ℕ → Stmt → Move → Type 0
+IsMoveOf before (Put rel row) m = ⊥
+IsMoveOf before (Query out rels conds) m = IsMove before conds m
+IsMoveOf before (Update rel sets conds) m = ⊥
+IsMoveOf before (Delete rel conds) m = ⊥
+
+-- a move of one of the queries among statements, with its columns as columns of the transaction's uses
+abbrev pub IsMoveAlong : ℕ → List Stmt → Move → Type 0
+IsMoveAlong before [] m = ⊥
+IsMoveAlong before (s ∷ rest) m = IsMoveOf before s m ⊎ IsMoveAlong (before + uses_in s) rest m

@@ -1,0 +1,43 @@
+-- Runs of an exchange: for a move the modules that hold rows of its source tell their values, one after the other; once
+-- none lacks, modules of the target are reduced by all these values, in any order; then the next move may begin.
+use Rattle.std.specs.Prelude.{ℕ, ◌≡◌, ◌≢◌, Bool, true, List, []}
+use Rattle.sdd_base.specs.Order.{with_values}
+use Rattle.sdd_base.specs.Words.{is_empty}
+use Rattle.sdd_base.specs.declared.value.Value.{Value}
+use Rattle.sdd_lang.specs.declared.statement.Stmt.{Stmt}
+use Rattle.sdd_exec.specs.Choices.{Has}
+use Rattle.sdd_space.specs.Frozen.{reduced}
+use Rattle.sdd_semijoin.specs.Steps.{Move}
+use Rattle.sdd_attempt.specs.Exchange.{without}
+use Rattle.sdd_serving.specs.Reducing.{Space, IsMoveAlong, TellsAll}
+
+-- Between moves; or values of the move's source are told, where the answers of some modules lack and these values came;
+-- or its target is reduced by the values.
+pub data Stage : Type 0 where
+  Resting : Stage
+  Telling : Move → List ℕ → List Value → Stage
+  Reducing : Move → List Value → Stage
+
+-- whether the target may be reduced, where the values of these modules lack
+abbrev pub may_reduce : List ℕ → Bool
+may_reduce lacks = is_empty lacks
+
+-- A run over these modules leads to what they hold and a stage of the exchange. `asked d u` tells whether module d was
+-- asked for the rows of use u, and `first` what each held at first.
+pub data Runs (ds : List ℕ) (statements : List Stmt) (asked : ℕ → ℕ → Bool) (first : Space) : Space → Stage → Type 0 where
+  begins : Runs ds statements asked first first Resting
+  -- each module that was asked for the source's rows lacks
+  asks : {space : Space} → Runs ds statements asked first space Resting → (m : Move) → IsMoveAlong 0 statements m
+      → (lacks : List ℕ) → ((d : ℕ) → Has ds d → asked d m.source.part ≡ true → Has lacks d)
+      → Runs ds statements asked first space (Telling m lacks [])
+  -- the values that come of a module have those of all rows that it holds now
+  tells : {space : Space} (m : Move) (lacks : List ℕ) (union : List Value) → Runs ds statements asked first space (Telling m lacks union)
+      → (d : ℕ) (values : List Value) → TellsAll (space d) m.source values
+      → Runs ds statements asked first space (Telling m (without lacks d) (with_values union values))
+  sends : {space : Space} (m : Move) (lacks : List ℕ) (union : List Value) → Runs ds statements asked first space (Telling m lacks union)
+      → may_reduce lacks ≡ true → Runs ds statements asked first space (Reducing m union)
+  reduces : {space after : Space} (m : Move) (union : List Value) → Runs ds statements asked first space (Reducing m union)
+      → (at : ℕ) → after at ≡ reduced m.target.part m.target.column union (space at) → ((d : ℕ) → d ≢ at → after d ≡ space d)
+      → Runs ds statements asked first after (Reducing m union)
+  rests : {space : Space} (m : Move) (union : List Value) → Runs ds statements asked first space (Reducing m union)
+      → Runs ds statements asked first space Resting

@@ -1,0 +1,81 @@
+//! Laws of the exchange: facts about the definitions, each carried by the contract of a function.
+//! A program has no need to call them.
+ghost use Rattle.std.specs.Prelude.{ℕ, ◌≡◌, ◌≢◌, Bool, List, map};
+ghost use Rattle.sdd_protocol.specs.declared.entry.Entry as table_line;
+ghost use Rattle.sdd_lang.specs.declared.statement.Stmt as statement;
+ghost use Rattle.sdd_lang.specs.Database.{Row, Database};
+ghost use Rattle.sdd_lang.specs.Effect.{effect};
+ghost use Rattle.sdd_lang.specs.Fits.{Fits};
+ghost use Rattle.sdd_lang.specs.Source.{effect_over};
+ghost use Rattle.sdd_lang.specs.Uses.{uses_of};
+ghost use Rattle.sdd_exec.specs.Choices.{Has};
+ghost use Rattle.sdd_exec.specs.Serves.{Serves};
+ghost use Rattle.sdd_exec.specs.Snapshots.{Shipped, found_for, chosen_for};
+ghost use Rattle.sdd_space.specs.Frozen.{CopyRows, reduced};
+ghost use Rattle.sdd_semijoin.specs.Steps.{Move};
+ghost use Rattle.sdd_wire.specs.declared.msg.Msg as message;
+ghost use Rattle.sdd_attempt.specs.Acts.{read_to};
+ghost use Rattle.sdd_attempt.specs.Exchange.{Exchange, begins, after_hand, after_send};
+ghost use Rattle.sdd_attempt.specs.Exchange.Phase.{Reducing};
+ghost use Rattle.sdd_attempt.specs.Queues.{Queued};
+ghost use Rattle.sdd_serving.specs.Following.{Follows, Suits};
+ghost use Rattle.sdd_serving.specs.Freezing.{asked_at, frozen_space, HasCopies};
+ghost use Rattle.sdd_serving.specs.Reducing.{Space, all_held};
+ghost use Rattle.sdd_serving.specs.Runs.{Stage, Runs};
+
+use sdd_catalog::Catalogue;
+use sdd_lang::Txn;
+
+/// What the modules of an attempt hold serves the database that has the copies which they froze,
+/// however far a run of the exchange has come.
+pub fn law_exchange_serves(cat: &Catalogue, txn: &Txn)
+    requires { Fits cat.now txn.now }
+    ensures { (c ts : ℕ) (ds : List ℕ) (copies : ℕ → CopyRows) (db : Database) (space : Space) (stage : Stage)
+        → HasCopies cat.now c txn.now ds copies db
+        → Runs ds txn.now.statements (asked_at cat.now c txn.now)
+        (frozen_space cat.now c txn.now ts copies) space stage
+        → Serves cat.now txn.now (all_held ds space) db }
+{
+    cat.known();
+}
+
+/// So what the transaction does to that database is told by the rows that are held.
+pub fn law_shipped_effect(cat: &Catalogue, txn: &Txn)
+    requires { Fits cat.now txn.now }
+    ensures { (c ts : ℕ) (ds : List ℕ) (copies : ℕ → CopyRows) (db : Database) (space : Space) (stage : Stage)
+        → HasCopies cat.now c txn.now ds copies db
+        → Runs ds txn.now.statements (asked_at cat.now c txn.now)
+        (frozen_space cat.now c txn.now ts copies) space stage
+        → effect_over cat.now (found_for (all_held ds space)) (chosen_for cat.now (all_held ds space)) txn.now
+        ≡ effect cat.now db txn.now }
+{
+    cat.known();
+}
+
+/// In which order rows arrive, and how often one does, tells nothing.
+pub fn law_arrival(cat: &Catalogue, txn: &Txn)
+    ensures { (db : Database) (a b : Shipped)
+        → ((s : ℕ × Row) → Has a s → Has b s) → ((s : ℕ × Row) → Has b s → Has a s)
+        → Serves cat.now txn.now a db → Serves cat.now txn.now b db }
+{}
+
+/// The exchange of an attempt follows a run: from its Start on, with each message that is handed to
+/// it and each that it sends, and with each REDUCE that is handed to one of its modules.
+pub fn law_exchange_follows(cat: &Catalogue)
+    ensures start { (table : List table_line.Entry) (c : ℕ) (q : Queued) (own p2 : ℕ) (ds : List ℕ) (first : Space)
+        → Follows ds q.text.statements (asked_at cat.now c q.text) first first
+        (begins q.text (map (read_to cat.now table c q (uses_of cat.now q.text) own p2) ds)) }
+    ensures hand { (ds : List ℕ) (statements : List statement.Stmt) (asked : ℕ → ℕ → Bool) (first : Space) (ts c : ℕ)
+        (space : Space) (x : Exchange) (d : ℕ) (msg : message.Msg)
+        → Follows ds statements asked first space x → Suits ts c space d x msg
+        → Follows ds statements asked first space (after_hand ts c d msg x) }
+    ensures send { (ds : List ℕ) (statements : List statement.Stmt) (asked : ℕ → ℕ → Bool) (first : Space)
+        (space : Space) (x : Exchange)
+        → Follows ds statements asked first space x → Follows ds statements asked first space (after_send x) }
+    ensures reduce { (ds : List ℕ) (statements : List statement.Stmt) (asked : ℕ → ℕ → Bool) (first : Space)
+        (space after : Space) (x : Exchange) (m : Move) (d : ℕ)
+        → Follows ds statements asked first space x → x.phase ≡ Reducing m
+        → after d ≡ reduced m.target.part m.target.column x.union (space d)
+        → ((b : ℕ) → b ≢ d → after b ≡ space b)
+        → Follows ds statements asked first after x }
+{}

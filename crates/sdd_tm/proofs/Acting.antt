@@ -1,0 +1,371 @@
+-- A class that has a step makes the act that is due, and the module keeps what follows from the log.
+use Rattle.std.proofs.Common.{ℕ, suc, ◌+◌, ◌<◌, ◌≤◌, ◌^◌, ◌≡◌, ◌≢◌, ◌==◌, Bool, true, false, not, ◌&&◌, cond, List, [], ◌∷◌, map, refl, ap, sym, ◌∙◌, subst, arith, Option, Some, None, is_none}
+use Rattle.std.specs.Prelude.{slice_get, slice_set, if◌then◌else◌, option_map}
+use Rattle.std.specs.List.{AllByRecursion, filter, list_any, find}
+use Rattle.std.proofs.lemmas.Bool.{and_from, cond-true, eq-eqb, false≢true}
+use Rattle.sdd_base.specs.Words.{head_of, is_empty}
+use Rattle.sdd_base.specs.Numbers.{dm_no, class_no, time_at}
+use Rattle.sdd_base.specs.Clock.{Ticking, ticked, timestamp}
+use Rattle.sdd_base.specs.declared.site.Site.{Site}
+use Rattle.sdd_base.specs.declared.site.Site.TheVariants.{D}
+use Rattle.sdd_catalog.specs.Catalogue.{Catalogue}
+use Rattle.sdd_protocol.specs.declared.entry.Entry as line
+use Rattle.sdd_history.specs.declared.record.Rec.{Rec}
+use Rattle.sdd_history.specs.declared.record.Rec.TheVariants.{Nothing}
+use Rattle.sdd_wire.specs.declared.msg.Msg.{Msg}
+use Rattle.sdd_wire.specs.declared.msg.Msg.TheVariants.{Null, Read}
+use Rattle.sdd_module.specs.SiteLog.{Setting, Bases, Log, Did, Act, Records, Sends, in_force, hands, submits, sends_of_act}
+use Rattle.sdd_module.specs.Notes.{Notes, with_act, noted}
+use Rattle.sdd_attempt.specs.Clocks.{clock, ticked_by}
+use Rattle.sdd_attempt.specs.Queues.{Queued, queue, queue_after, tried}
+use Rattle.sdd_attempt.specs.Exchange.{after_send, begins, send_due}
+use Rattle.sdd_attempt.specs.Attempts.{Attempt, active, active_after, active_sent, asks_rows, started}
+use Rattle.sdd_attempt.specs.Acts.{start_act, commit_act}
+use Rattle.sdd_attempt.specs.Lines.{line_after, send_next, commit_next, start_next, line_step}
+use Rattle.sdd_attempt.specs.declared.step.LineStep.TheVariants.{Sends as ToSend, Commits as ToCommit}
+use Rattle.sdd_attempt.specs.Fits.{sent, handed, is_read}
+use Rattle.sdd_attempt.specs.Sound.{IsWaiting, IsAsking, IsAskingAt, IsOfHead, IsLineOf, IsUpTo, AllUpTo, IsServed}
+use Rattle.sdd_attempt.proofs.Asking.{NoReads}
+use Rattle.sdd_attempt.proofs.Stamps.{stamped_did}
+use Rattle.sdd_attempt.proofs.SoundLines.{IsApart, IsRequest, request_of, asks_apart, active_apart, line_apart, line_elsewhere, line_sent, line_committed, line_started, commit_no_reads, start_no_reads, start_is_up}
+use Rattle.sdd_tm.specs.declared.step.Step.{Step}
+use Rattle.sdd_tm.specs.declared.step.Step.TheVariants.{Send, Commit, Answer, Start}
+use Rattle.sdd_tm.specs.Views.{asks, holds, holds_acted, class_view, view_of, runs, on_hold}
+use Rattle.sdd_tm.specs.Due.{next, start_due}
+use Rattle.sdd_tm.specs.State.{ClassState, State, asks_of, class_of, state_of}
+use Rattle.sdd_tm.specs.Steps.{can_answer, asks_done, answer_time, answer_to, act_of, class_step, state_done}
+use Rattle.sdd_tm.specs.Stands.{InTurn, IsSound, starts_left, all_starts, IsAmid, IsCalm}
+use Rattle.sdd_tm.proofs.Lists.{some_is, get_map, of_map, by_order}
+use Rattle.sdd_tm.proofs.ClassNumbers.{runs_apart, runs_class}
+use Rattle.sdd_tm.proofs.OpenAsks.{open_did, first_answered}
+use Rattle.sdd_tm.proofs.LineSteps.{has_to_send, commits}
+use Rattle.sdd_tm.proofs.Dues.{IsStep, sends, commits_now, answers, starts, step_is, attempt_is_due, null_is_due, start_is_due}
+use Rattle.sdd_tm.proofs.AfterActs.{no_held, after_request, after_record, after_null}
+use Rattle.sdd_tm.proofs.NoModules.{start_served}
+use Rattle.sdd_tm.proofs.Rooms.{starts_set, starts_sent, starts_started, starts_committed}
+
+-- each class: the one at a place, and the others
+
+each_class : (s : Setting) (P : ℕ → Type 0) (place c : ℕ) → slice_get (runs s) place ≡ Some c → P c
+    → ((i d : ℕ) → slice_get (runs s) i ≡ Some d → i ≢ place → P d) → (i d : ℕ) → slice_get (runs s) i ≡ Some d
+    → P d
+each_class s P place c e own others i d f =
+    by_order (P d) i place (λ l. others i d f (λ q. absurd (omega arith)))
+    (λ same. subst P (some_is (sym e ∙ ap (slice_get (runs s)) (sym same) ∙ f)) own)
+    (λ l. others i d f (λ q. absurd (omega arith)))
+
+-- The act that a class makes by its step is the one that is due, and then the module keeps what follows from the log.
+pub record Makes (s : Setting) (bases : Bases) (log : Log) (place : ℕ) (k : ClassState) (step : Step)
+    (state : State) : Type 0 where
+  pub act : Act
+  pub is_due : next s bases log ≡ Some act
+  pub notes : (n : Notes) → noted (act_of bases state.force.table state.clock k step) n ≡ with_act act n
+  pub amid : IsAmid s bases (state_done bases place k step state) (Did act ∷ log)
+
+abbrev class_made : Step → Act → ClassState → ClassState
+class_made step act k = record { line = line_after act k.line; asks = asks_done step k.line.active k.asks }
+
+abbrev with_class : ℕ → Ticking → ClassState → State → State
+with_class place clock new state = record state { clock = clock; classes = slice_set state.classes place new }
+
+done_is : (bases : Bases) (place : ℕ) (k : ClassState) (step : Step) (state : State) (act : Act)
+    → act_of bases state.force.table state.clock k step ≡ Some act
+    → with_class place (ticked_by act state.clock) (class_made step act k) state ≡ state_done bases place k step state
+done_is bases place k step state act e = rw e refl
+
+-- the room that is left
+
+room_after : (state : State) (place : ℕ) (k new : ClassState) (clock : Ticking)
+    → slice_get state.classes place ≡ Some k → state.clock.ticks + all_starts state.classes + 1 < 2 ^ 57
+    → clock.ticks + starts_left new.line.active new.line.queue ≤ state.clock.ticks + starts_left k.line.active k.line.queue
+    → clock.ticks + all_starts (slice_set state.classes place new) + 1 < 2 ^ 57
+room_after state place k new clock e room l = let sum = starts_set state.classes place k new e in omega arith
+
+-- IsAmid after an act, by its parts
+amid_after : (s : Setting) (bases : Bases) (log : Log) (place c : ℕ) (step : Step) (act made : Act)
+    → IsAmid s bases (state_of s log) log → slice_get (runs s) place ≡ Some c
+    → act_of bases (state_of s log).force.table (state_of s log).clock (class_of s log c) step ≡ Some made
+    → state_of s (Did act ∷ log) ≡ with_class place (ticked_by made (clock s.site log))
+    (class_made step made (class_of s log c)) (state_of s log)
+    → IsSound s (Did act ∷ log)
+    → ((i d : ℕ) → slice_get (runs s) i ≡ Some d → IsServed s.catalogue bases (active s d (Did act ∷ log)))
+    → (ticked_by made (clock s.site log)).ticks + starts_left (line_after made (class_of s log c).line).active
+    (line_after made (class_of s log c).line).queue ≤ (clock s.site log).ticks + starts_left (active s c log)
+    (queue s c log)
+    → IsAmid s bases (state_done bases place (class_of s log c) step (state_of s log)) (Did act ∷ log)
+amid_after s bases log place c step act made amid e makes after sound served less =
+    let k : ClassState = class_of s log c in
+    let is = done_is bases place k step (state_of s log) made makes in
+    record {
+      setting = record { valid = amid.setting.valid; whole = amid.setting.whole; in_force = amid.setting.in_force };
+      sound = sound;
+      state_is = after ∙ is;
+      databases = amid.databases;
+      served = served;
+      room = subst (λ (st : State). st.clock.ticks + all_starts st.classes + 1 < 2 ^ 57) is
+          (room_after (state_of s log) place k (class_made step made k) (ticked_by made (clock s.site log))
+          (get_map (class_of s log) (runs s) place c e) amid.room less);
+    }
+
+-- a message of an exchange
+
+no_read_asked : (t ts c : ℕ) (m : Msg) → asks_rows ts c m ≡ true → IsUpTo t m
+no_read_asked t ts c (Read r class txn attempt conds uses) e = absurd (false≢true e)
+no_read_asked t ts c _ e = tt
+
+pub served_sent : (cat : Catalogue) (bases : Bases) (c : ℕ) (m : Msg) (o : Option Attempt) → IsServed cat bases o
+    → IsServed cat bases (active_sent c m o)
+served_sent cat bases c m None h = tt
+served_sent cat bases c m (Some a) h =
+    elim (asks_rows a.ts c m)
+    as (λ b. IsServed cat bases (if b then Some (record a { exchange = after_send a.exchange }) else Some a))
+    [ true ↦ h | false ↦ h ]
+
+sends_sound : (s : Setting) (log : Log) (place c : ℕ) (a : Attempt) (act : Act) → IsSound s log
+    → slice_get (runs s) place ≡ Some c → active s c log ≡ Some a → send_due a.exchange ≡ Some act
+    → IsRequest c a act → IsSound s (Did act ∷ log)
+sends_sound s log place c a act sound e is send request =
+    let others : (i d : ℕ) → slice_get (runs s) i ≡ Some d → i ≢ place → IsLineOf s d (Did act ∷ log) = λ i d f apart.
+    rw request.act_is (line_apart s d log (D (dm_no request.to)) request.msg None
+    (asks_apart a.ts c d request.msg request.asks (runs_apart s place i c d e f (λ q. apart (sym q))))
+    (sound.lines i d f)) in
+    let up : (t : ℕ) → AllUpTo t (sends_of_act act) =
+    λ t. rw request.act_is (no_read_asked t a.ts c request.msg request.asks, tt) in
+    let same : holds_acted act (holds log) ≡ holds log =
+    rw request.act_is (no_held a.ts c (D (dm_no request.to)) request.msg (holds log) request.asks) in
+    record {
+      lines = each_class s (λ d. IsLineOf s d (Did act ∷ log)) place c e
+          (line_sent s c log act a is send (sound.lines place c e)) others;
+      stamped = stamped_did s log act sound.stamped (up _);
+      unanswered = open_did log act sound.unanswered;
+      turns = subst InTurn (sym same) sound.turns;
+    }
+
+pub asking_of : (s : Setting) (log : Log) (c : ℕ) (a : Attempt) → IsLineOf s c log → active s c log ≡ Some a
+    → IsAsking c (sent log) (handed log) a
+asking_of s log c a h is = subst (IsAskingAt c (sent log) (handed log)) is h.asking
+
+makes_send : (s : Setting) (bases : Bases) (log : Log) (place end c : ℕ) → IsAmid s bases (state_of s log) log
+    → IsCalm place end (state_of s log) → slice_get (runs s) place ≡ Some c
+    → line_step (active s c log) ≡ Some ToSend → Makes s bases log place (class_of s log c) Send (state_of s log)
+makes_send s bases log place end c amid calm e h =
+    let r = has_to_send (active s c log) h in
+    let request = request_of c (sent log) (handed log) r.attempt r.act
+    (asking_of s log c r.attempt (amid.sound.lines place c e) r.active) r.send in
+    let made_by : send_next (active s c log) ≡ Some r.act = ap send_next r.active ∙ r.send in
+    let ticks : ticked_by r.act (clock s.site log) ≡ clock s.site log = rw request.act_is refl in
+    let after = after_request s log place c r.attempt r.act e request in
+    record {
+      act = r.act;
+      is_due = attempt_is_due s bases log place end calm c r.act e (r.due s.catalogue bases c);
+      notes = λ n. ap (λ o. noted o n) made_by;
+      amid = amid_after s bases log place c Send r.act r.act amid e made_by
+          (after ∙ ap (λ k. with_class place k (class_made Send r.act (class_of s log c)) (state_of s log)) (sym ticks))
+          (sends_sound s log place c r.attempt r.act amid.sound e r.active r.send request)
+          (λ i d f. rw request.act_is (served_sent s.catalogue bases d request.msg (active s d log) (amid.served i d f)))
+          (rw request.act_is (let same = starts_sent c request.msg (active s c log) (queue s c log) in omega arith));
+    }
+
+-- a Commit
+
+-- the record of an act that makes one
+abbrev record_in : Act → Rec
+record_in (Records c r messages) = r
+record_in (Sends to m hand) = Nothing
+
+pub own_record : {A : Type 0} (c : ℕ) (x y : A) → cond (c == c) x y ≡ x
+own_record c x y = cond-true (c == c) x y (eq-eqb c c refl)
+
+up_of_no_read : (t ts c : ℕ) (m : Msg) → ((ts c : ℕ) → is_read ts c m ≡ false) → IsUpTo t m
+up_of_no_read t ts c (Read r class txn attempt conds uses) h =
+    absurd (false≢true (sym (h r.0 class.0) ∙ and_from (r.0 == r.0) (class.0 == class.0) (eq-eqb r.0 r.0 refl)
+    (eq-eqb class.0 class.0 refl)))
+up_of_no_read t ts c _ h = tt
+
+all_up_of : (t : ℕ) (ms : List (Site × Msg)) → ((ts c : ℕ) → NoReads ts c ms) → AllUpTo t ms
+all_up_of t [] h = tt
+all_up_of t (m ∷ ms) h = (up_of_no_read t 0 0 m.1 (λ ts c. (h ts c).0), all_up_of t ms (λ ts c. (h ts c).1))
+
+makes_commit : (s : Setting) (bases : Bases) (log : Log) (place end c : ℕ) → IsAmid s bases (state_of s log) log
+    → IsCalm place end (state_of s log) → slice_get (runs s) place ≡ Some c
+    → line_step (active s c log) ≡ Some ToCommit → Makes s bases log place (class_of s log c) Commit
+    (state_of s log)
+makes_commit s bases log place end c amid calm e h =
+    let r = commits (active s c log) h in
+    let a : Attempt = r.attempt in
+    let act : Act = commit_act s.catalogue bases c a in
+    let made_by : commit_next bases (class_of s log c).line ≡ Some act =
+    ap (option_map (commit_act s.catalogue bases c)) r.active in
+    let none : active_after c act (queue s c log) (active s c log) ≡ None = own_record c None (active s c log) in
+    let left : queue_after c act (queue s c log) ≡ filter (λ q. not (q.number == a.txn)) (queue s c log) =
+    own_record c (filter (λ q. not (q.number == a.txn)) (queue s c log)) (queue s c log) in
+    let no_reads : (ts d : ℕ) → NoReads ts d (sends_of_act act) = λ ts d. commit_no_reads s.catalogue bases c a ts d in
+    let head : IsOfHead (queue s c log) (Some a) =
+    subst (IsOfHead (queue s c log)) r.active (amid.sound.lines place c e).of_head in
+    let less = starts_committed a (queue s c log) head in
+    let before : starts_left (active s c log) (queue s c log) ≡ starts_left (Some a) (queue s c log) =
+    ap (λ o. starts_left o (queue s c log)) r.active in
+    let after : starts_left (active_after c act (queue s c log) (active s c log))
+    (queue_after c act (queue s c log)) ≡ starts_left None
+    (filter (λ q. not (q.number == a.txn)) (queue s c log)) = rw (none, left) refl in
+    record {
+      act = act;
+      is_due = attempt_is_due s bases log place end calm c act e (r.due s.catalogue bases c);
+      notes = λ n. ap (λ o. noted o n) made_by;
+      amid = amid_after s bases log place c Commit act act amid e made_by
+          (after_record s log place c (record_in act) (sends_of_act act) e)
+          (record {
+            lines = each_class s (λ d. IsLineOf s d (Did act ∷ log)) place c e
+                (line_committed s bases c log a (amid.sound.lines place c e))
+                (λ i d f apart. line_elsewhere s d c log (record_in act) (sends_of_act act)
+                (runs_apart s place i c d e f (λ q. apart (sym q))) (λ ts. no_reads ts d) (amid.sound.lines i d f));
+            stamped = stamped_did s log act amid.sound.stamped (all_up_of _ (sends_of_act act) no_reads);
+            unanswered = open_did log act amid.sound.unanswered;
+            turns = amid.sound.turns;
+          })
+          (each_class s (λ d. IsServed s.catalogue bases (active s d (Did act ∷ log))) place c e
+          (subst (IsServed s.catalogue bases) (sym none) tt)
+          (λ i d f apart. subst (IsServed s.catalogue bases)
+          (sym (active_apart d c (record_in act) (sends_of_act act) (queue s d log) (active s d log)
+          (runs_apart s place i c d e f (λ q. apart (sym q))))) (amid.served i d f)))
+          (omega arith);
+    }
+
+-- a NULL
+
+null_apart : (c d : ℕ) (time : ℕ) → IsApart d (Null (class_no c) (time_at time))
+null_apart c d time = record { reads = λ ts. refl; asks = λ ts. refl }
+
+makes_answer : (s : Setting) (bases : Bases) (log : Log) (place end c : ℕ) → IsAmid s bases (state_of s log) log
+    → IsCalm place end (state_of s log) → slice_get (runs s) place ≡ Some c → line_step (active s c log) ≡ None
+    → list_any (can_answer (active s c log)) (asks_of c (asks log)) ≡ true
+    → Makes s bases log place (class_of s log c) Answer (state_of s log)
+makes_answer s bases log place end c amid calm e h can =
+    let first = first_answered (view_of s log) (class_view s log c) 0 (hands log) (asks log) amid.sound.unanswered.rise can in
+    let time : ℕ = answer_time (clock s.site log) (active s c log) in
+    let m : Msg = Null (class_no c) (time_at time) in
+    let act : Act = Sends first.question.from m (Some first.question.hand) in
+    let made : Act = Sends first.question.from m None in
+    let made_by : answer_to (clock s.site log) (class_of s log c).line
+    (find (can_answer (active s c log)) (asks_of c (asks log))) ≡ Some made =
+    ap (answer_to (clock s.site log) (class_of s log c).line) first.found in
+    record {
+      act = act;
+      is_due = null_is_due s bases log place end calm c act e h first.due;
+      notes = λ n. ap (λ o. noted o n) made_by;
+      amid = amid_after s bases log place c Answer act made amid e made_by
+          (after_null s log place c e first time)
+          (record {
+            lines = λ i d f. line_apart s d log first.question.from m (Some first.question.hand)
+                (null_apart c d time) (amid.sound.lines i d f);
+            stamped = stamped_did s log act amid.sound.stamped (tt, tt);
+            unanswered = open_did log act amid.sound.unanswered;
+            turns = amid.sound.turns;
+          })
+          (λ i d f. served_sent s.catalogue bases d m (active s d log) (amid.served i d f))
+          (let same = starts_sent c m (active s c log) (queue s c log) in omega arith);
+    }
+
+-- a Start
+
+-- the first of a queue, where the class may start it
+pub record MayStart (on : Bool) (o : Option Attempt) (qs : List Queued) : Type 0 where
+  pub first : Queued
+  pub rest : List Queued
+  pub off : on ≡ false
+  pub idle : o ≡ None
+  pub queue_is : qs ≡ first ∷ rest
+
+pub may_start : (on : Bool) (o : Option Attempt) (qs : List Queued)
+    → (not on && (is_none o && not (is_empty qs))) ≡ true → MayStart on o qs
+may_start true o qs e = absurd (false≢true e)
+may_start false (Some a) qs e = absurd (false≢true e)
+may_start false None [] e = absurd (false≢true e)
+may_start false None (q ∷ rest) e = record { first = q; rest = rest; off = refl; idle = refl; queue_is = refl }
+
+makes_start : (s : Setting) (bases : Bases) (log : Log) (place end c : ℕ) → IsAmid s bases (state_of s log) log
+    → IsCalm place end (state_of s log) → slice_get (runs s) place ≡ Some c → line_step (active s c log) ≡ None
+    → list_any (can_answer (active s c log)) (asks_of c (asks log)) ≡ false → (q : Queued) (rest : List Queued)
+    → on_hold (view_of s log) ≡ false → active s c log ≡ None → queue s c log ≡ q ∷ rest
+    → Makes s bases log place (class_of s log c) Start (state_of s log)
+makes_start s bases log place end c amid calm e h cannot q rest off idle is =
+    let k : Ticking = clock s.site log in
+    let table : List line.Entry = (in_force s log).table in
+    let act : Act = start_act s.catalogue table c k q in
+    let own : ℕ = timestamp (ticked k 1) in
+    let own_line : IsLineOf s c log = amid.sound.lines place c e in
+    let made_by : start_next table k (class_of s log c).line ≡ Some act =
+    ap (λ qs. option_map (start_act s.catalogue table c k) (head_of qs)) is in
+    let due : start_due s.catalogue (view_of s log) (class_view s log c) ≡ Some act = rw (off, idle, is) refl in
+    let waiting : IsWaiting s.catalogue c (submits log) q =
+    (subst (λ qs. AllByRecursion (IsWaiting s.catalogue c (submits log)) qs) is own_line.in_queue.waiting).0 in
+    let begun : active_after c act (queue s c log) (active s c log) ≡ started own (sends_of_act act) (Some q) =
+    own_record c (started own (sends_of_act act) (head_of (queue s c log))) (active s c log)
+    ∙ ap (λ qs. started own (sends_of_act act) (head_of qs)) is in
+    let left : queue_after c act (queue s c log) ≡ map (tried q.number) (q ∷ rest) =
+    own_record c (map (tried q.number) (queue s c log)) (queue s c log) ∙ ap (map (tried q.number)) is in
+    let before : starts_left (active s c log) (queue s c log) ≡ starts_left None (q ∷ rest) = rw (idle, is) refl in
+    let after : starts_left (active_after c act (queue s c log) (active s c log))
+    (queue_after c act (queue s c log)) ≡ starts_left (started own (sends_of_act act) (Some q))
+    (map (tried q.number) (q ∷ rest)) = rw (begun, left) refl in
+    let fewer = starts_started q.number (record {
+      txn = q.number;
+      attempt = suc q.tries;
+      ts = own;
+      text = q.text;
+      exchange = begins q.text (sends_of_act act);
+    }) q rest in
+    record {
+      act = act;
+      is_due = start_is_due s bases log place end calm c act e h cannot off due;
+      notes = λ n. ap (λ o. noted o n) made_by;
+      amid = amid_after s bases log place c Start act act amid e made_by
+          (after_record s log place c (record_in act) (sends_of_act act) e)
+          (record {
+            lines = each_class s (λ d. IsLineOf s d (Did act ∷ log)) place c e
+                (line_started s table c log q rest is amid.sound.stamped own_line)
+                (λ i d f apart. line_elsewhere s d c log (record_in act) (sends_of_act act)
+                (runs_apart s place i c d e f (λ r. apart (sym r)))
+                (λ ts. start_no_reads s.catalogue table c k q ts d
+                (runs_apart s place i c d e f (λ r. apart (sym r)))) (amid.sound.lines i d f));
+            stamped = stamped_did s log act amid.sound.stamped (start_is_up s.catalogue table c k q);
+            unanswered = open_did log act amid.sound.unanswered;
+            turns = amid.sound.turns;
+          })
+          (each_class s (λ d. IsServed s.catalogue bases (active s d (Did act ∷ log))) place c e
+          (subst (IsServed s.catalogue bases) (sym begun) (start_served s.catalogue table bases c (submits log) k q
+          amid.setting.valid amid.databases (runs_class s place c e).0 waiting))
+          (λ i d f apart. subst (IsServed s.catalogue bases)
+          (sym (active_apart d c (record_in act) (sends_of_act act) (queue s d log) (active s d log)
+          (runs_apart s place i c d e f (λ r. apart (sym r))))) (amid.served i d f)))
+          (omega arith);
+    }
+
+-- a step
+
+makes_step : (s : Setting) (bases : Bases) (log : Log) (place end c : ℕ) (step : Step)
+    → IsAmid s bases (state_of s log) log → IsCalm place end (state_of s log) → slice_get (runs s) place ≡ Some c
+    → IsStep (on_hold (view_of s log)) (class_of s log c) step → Makes s bases log place (class_of s log c) step
+    (state_of s log)
+makes_step s bases log place end c Send amid calm e (sends h) = makes_send s bases log place end c amid calm e h
+makes_step s bases log place end c Commit amid calm e (commits_now h) = makes_commit s bases log place end c amid calm e h
+makes_step s bases log place end c Answer amid calm e (answers h can) = makes_answer s bases log place end c amid calm e h can
+makes_step s bases log place end c Start amid calm e (starts h cannot may) =
+    let w = may_start (on_hold (view_of s log)) (active s c log) (queue s c log) may in
+    makes_start s bases log place end c amid calm e h cannot w.first w.rest w.off w.idle w.queue_is
+
+pub makes : (s : Setting) (bases : Bases) (state : State) (log : Log) (place end : ℕ) (k : ClassState) (step : Step)
+    → IsAmid s bases state log → IsCalm place end state → slice_get state.classes place ≡ Some k
+    → class_step state.on_hold k ≡ Some step → Makes s bases log place k step state
+makes s bases state log place end k step amid calm here steps =
+    let is : state_of s log ≡ state = amid.state_is in
+    let r = of_map (class_of s log) (runs s) place k (subst (λ (st : State). slice_get st.classes place ≡ Some k)
+    (sym is) here) in
+    let whole : class_step (on_hold (view_of s log)) (class_of s log r.0) ≡ Some step =
+    subst (λ x. class_step (on_hold (view_of s log)) x ≡ Some step) (sym r.2)
+    (subst (λ (st : State). class_step st.on_hold k ≡ Some step) (sym is) steps) in
+    let m = makes_step s bases log place end r.0 step (subst (λ st. IsAmid s bases st log) (sym is) amid)
+    (subst (IsCalm place end) (sym is) calm) r.1 (step_is (on_hold (view_of s log)) (class_of s log r.0) step
+    whole) in
+    subst (λ x. Makes s bases log place x step state) r.2
+    (subst (λ st. Makes s bases log place (class_of s log r.0) step st) is m)

@@ -1,0 +1,137 @@
+-- What the module keeps of the log after each act: that of one class changes, as its step says.
+use Rattle.std.proofs.Common.{ℕ, ◌≡◌, ◌≢◌, true, false, not, List, [], ◌∷◌, map, refl, ap, sym, ◌∙◌, Option, Some, None}
+use Rattle.std.specs.Prelude.{slice_get, slice_set}
+use Rattle.std.specs.List.{filter}
+use Rattle.sdd_base.specs.Numbers.{dm_no, class_no, time_at}
+use Rattle.sdd_base.specs.Clock.{Ticking}
+use Rattle.sdd_base.specs.declared.site.Site.{Site}
+use Rattle.sdd_base.specs.declared.site.Site.TheVariants.{D}
+use Rattle.sdd_history.specs.declared.record.Rec.{Rec}
+use Rattle.sdd_wire.specs.declared.msg.Msg.{Msg}
+use Rattle.sdd_wire.specs.declared.msg.Msg.TheVariants.{Null, Held}
+use Rattle.sdd_module.specs.SiteLog.{Setting, Log, Did, Act, Records, Sends}
+use Rattle.sdd_attempt.specs.Clocks.{clock, ticked_by}
+use Rattle.sdd_attempt.specs.Queues.{Queued, queue, queue_after}
+use Rattle.sdd_attempt.specs.Attempts.{Attempt, active, active_after, active_sent, asks_rows}
+use Rattle.sdd_attempt.specs.Lines.{line_after}
+use Rattle.sdd_attempt.proofs.SoundLines.{IsApart, IsRequest, asks_apart, sent_apart, queue_apart, active_apart}
+use Rattle.sdd_tm.specs.declared.asked.Asked.{Asked}
+use Rattle.sdd_tm.specs.Views.{Question, HoldCounts, asks, asks_acted, holds, holds_acted, class_view, view_of, runs}
+use Rattle.sdd_tm.specs.State.{ClassState, State, asks_of, class_of, state_of}
+use Rattle.sdd_tm.specs.Steps.{can_answer, without_first}
+use Rattle.sdd_tm.proofs.Lists.{map_is_set}
+use Rattle.sdd_tm.proofs.ClassNumbers.{runs_apart}
+use Rattle.sdd_tm.proofs.OpenAsks.{IsFirst}
+
+-- the other classes are kept as they were
+abbrev pub OthersStay : Setting → Log → Act → ℕ → Type 0
+OthersStay s log act place = (i c : ℕ) → slice_get (runs s) i ≡ Some c → i ≢ place
+    → class_of s (Did act ∷ log) c ≡ class_of s log c
+
+abbrev with_class : ℕ → Ticking → ClassState → State → State
+with_class place clock new state = record state { clock = clock; classes = slice_set state.classes place new }
+
+state_did : (s : Setting) (log : Log) (act : Act) (place c : ℕ) → slice_get (runs s) place ≡ Some c
+    → holds_acted act (holds log) ≡ holds log → OthersStay s log act place
+    → state_of s (Did act ∷ log) ≡ with_class place (ticked_by act (clock s.site log))
+    (class_of s (Did act ∷ log) c) (state_of s log)
+state_did s log act place c e same others =
+    let classes : map (class_of s (Did act ∷ log)) (runs s) ≡ slice_set (map (class_of s log) (runs s)) place
+    (class_of s (Did act ∷ log) c) =
+    map_is_set (class_of s (Did act ∷ log)) (class_of s log) (runs s) place c (class_of s (Did act ∷ log) c) e refl others in
+    rw (same, classes) refl
+
+-- a class after an act, by its parts
+abbrev class_by : Setting → ℕ → List Queued → Option Attempt → List Asked → ClassState
+class_by s c queue active asks =
+    record { line = record { catalogue = s.catalogue; class = c; queue = queue; active = active }; asks = asks }
+
+class_stays : (s : Setting) (log : Log) (act : Act) (c : ℕ) → queue_after c act (queue s c log) ≡ queue s c log
+    → active_after c act (queue s c log) (active s c log) ≡ active s c log
+    → asks_of c (asks_acted act (asks log)) ≡ asks_of c (asks log) → class_of s (Did act ∷ log) c ≡ class_of s log c
+class_stays s log act c e f g =
+    ap (λ q. class_by s c q (active_after c act (queue s c log) (active s c log)) (asks_of c (asks_acted act (asks log)))) e
+    ∙ ap (λ a. class_by s c (queue s c log) a (asks_of c (asks_acted act (asks log)))) f
+    ∙ ap (class_by s c (queue s c log) (active s c log)) g
+
+-- a message that answers no hand leaves the ASKs
+
+all_there : (qs : List Question) → filter (λ (q : Question). not false) qs ≡ qs
+all_there [] = refl
+all_there (q ∷ qs) = ap (λ rest. q ∷ rest) (all_there qs)
+
+pub no_held : (ts c : ℕ) (to : Site) (m : Msg) (h : HoldCounts) → asks_rows ts c m ≡ true → holds_acted (Sends to m None) h ≡ h
+no_held ts c to (Held t) h e = absurd cc
+no_held ts c to _ h e = refl
+
+-- the next message of an exchange
+
+request_others : (s : Setting) (log : Log) (ts place c : ℕ) (to : Site) (m : Msg)
+    → slice_get (runs s) place ≡ Some c → asks_rows ts c m ≡ true → OthersStay s log (Sends to m None) place
+request_others s log ts place c to m e asks_for i d f apart =
+    class_stays s log (Sends to m None) d refl
+    (sent_apart d m (active s d log)
+    (asks_apart ts c d m asks_for (runs_apart s place i c d e f (λ q. apart (sym q)))))
+    (ap (asks_of d) (all_there (asks log)))
+
+request_own : (s : Setting) (log : Log) (c : ℕ) (to : Site) (m : Msg)
+    → class_of s (Did (Sends to m None) ∷ log) c ≡ record {
+      line = line_after (Sends to m None)
+          (class_of s log c).line;
+      asks = asks_of c (asks log);
+    }
+request_own s log c to m =
+    ap (λ qs. class_by s c (queue s c log) (active_sent c m (active s c log)) (asks_of c qs)) (all_there (asks log))
+
+pub after_request : (s : Setting) (log : Log) (place c : ℕ) (a : Attempt) (act : Act)
+    → slice_get (runs s) place ≡ Some c → IsRequest c a act
+    → state_of s (Did act ∷ log) ≡ with_class place (clock s.site log)
+    (record { line = line_after act (class_of s log c).line; asks = asks_of c (asks log) }) (state_of s log)
+after_request s log place c a act e is =
+    let to : Site = D (dm_no is.to) in
+    rw is.act_is
+    (state_did s log (Sends to is.msg None) place c e (no_held a.ts c to is.msg (holds log) is.asks)
+    (request_others s log a.ts place c to is.msg e is.asks)
+    ∙ ap (λ k. with_class place (clock s.site log) k (state_of s log)) (request_own s log c to is.msg))
+
+-- a record
+
+records_others : (s : Setting) (log : Log) (place c : ℕ) (r : Rec) (sends : List (Site × Msg))
+    → slice_get (runs s) place ≡ Some c → OthersStay s log (Records c r sends) place
+records_others s log place c r sends e i d f apart =
+    let other : c ≢ d = runs_apart s place i c d e f (λ q. apart (sym q)) in
+    class_stays s log (Records c r sends) d (queue_apart d c r sends (queue s d log) other)
+    (active_apart d c r sends (queue s d log) (active s d log) other) refl
+
+pub after_record : (s : Setting) (log : Log) (place c : ℕ) (r : Rec) (sends : List (Site × Msg))
+    → slice_get (runs s) place ≡ Some c
+    → state_of s (Did (Records c r sends) ∷ log)
+    ≡ with_class place (ticked_by (Records c r sends) (clock s.site log))
+    (record { line = line_after (Records c r sends) (class_of s log c).line; asks = asks_of c (asks log) })
+    (state_of s log)
+after_record s log place c r sends e =
+    state_did s log (Records c r sends) place c e refl (records_others s log place c r sends e)
+
+-- a NULL
+
+null_apart : (c d : ℕ) (time : ℕ) → IsApart d (Null (class_no c) (time_at time))
+null_apart c d time = record { reads = λ ts. refl; asks = λ ts. refl }
+
+pub after_null : (s : Setting) (log : Log) (place c : ℕ) → slice_get (runs s) place ≡ Some c
+    → (first : IsFirst (view_of s log) (class_view s log c) 0 (asks log)) → (time : ℕ)
+    → state_of s (Did (Sends first.question.from (Null (class_no c) (time_at time)) (Some first.question.hand)) ∷ log)
+    ≡ with_class place (clock s.site log)
+    (record {
+      line = line_after (Sends first.question.from (Null (class_no c) (time_at time)) None)
+          (class_of s log c).line;
+      asks = without_first (can_answer (active s c log)) (asks_of c (asks log));
+    })
+    (state_of s log)
+after_null s log place c e first time =
+    let m : Msg = Null (class_no c) (time_at time) in
+    let act : Act = Sends first.question.from m (Some first.question.hand) in
+    state_did s log act place c e refl
+    (λ i d f apart. class_stays s log act d refl (sent_apart d m (active s d log) (null_apart c d time))
+    (first.others d (runs_apart s place i c d e f (λ q. apart (sym q)))))
+    ∙ ap (λ qs. with_class place (clock s.site log) (class_by s c (queue s c log) (active_sent c m (active s c log))
+    qs) (state_of s log)) first.gone

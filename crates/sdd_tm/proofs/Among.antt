@@ -1,0 +1,36 @@
+-- How several classes have a transaction: the first that has it tells.
+use Rattle.std.proofs.Common.{ℕ, zero, suc, ◌+◌, ◌<◌, ◌≤◌, ◌≡◌, ◌≢◌, List, [], ◌∷◌, map, length, drop, slice_index_or, refl, ap, sym, arith, add-one}
+use Rattle.sdd_attempt.specs.Standings.{standing_of, or_standing, standing_among}
+use Rattle.sdd_attempt.specs.declared.standing.Standing.{Standing}
+use Rattle.sdd_attempt.specs.declared.standing.Standing.TheVariants.{Absent, Queued, Underway}
+use Rattle.sdd_tm.specs.State.{ClassState}
+
+-- those from a place on
+abbrev pub standing_from : List ClassState → ℕ → ℕ → Standing
+standing_from runs i n = standing_among (map (λ (k : ClassState). k.line) (drop i runs)) n
+
+standing_next : (runs : List ClassState) (i n : ℕ) (run : ClassState) → run ≡ slice_index_or runs i run → i < length runs
+    → standing_from runs i n ≡ or_standing (standing_of run.line n) (standing_from runs (suc i) n)
+standing_next [] i n run e within = absurd (omega arith)
+standing_next (x ∷ runs) zero n run e within =
+    ap (λ (k : ClassState). or_standing (standing_of k.line n)
+    (standing_among (map (λ (k : ClassState). k.line) runs) n)) (sym e)
+standing_next (x ∷ runs) (suc i) n run e within = standing_next runs i n run e (omega arith)
+
+pub standing_here : (runs : List ClassState) (i n : ℕ) (run : ClassState) → run ≡ slice_index_or runs i run → i < length runs
+    → standing_from runs i n ≡ or_standing (standing_of run.line n) (standing_from runs (i + 1) n)
+standing_here runs i n run e within = rw (add-one i) (standing_next runs i n run e within)
+
+pub standing_passed : (x next : Standing) → x ≡ Absent → or_standing x next ≡ next
+standing_passed x next e = rw e refl
+
+pub standing_found : (x next : Standing) → x ≢ Absent → or_standing x next ≡ x
+standing_found Absent next h = absurd (h refl)
+standing_found (Queued c place) next h = refl
+standing_found (Underway c ts site) next h = refl
+
+pub standing_past : (runs : List ClassState) (i n : ℕ) → length runs ≤ i → standing_from runs i n ≡ Absent
+standing_past [] zero n past = refl
+standing_past [] (suc i) n past = refl
+standing_past (x ∷ runs) zero n past = absurd (omega arith)
+standing_past (x ∷ runs) (suc i) n past = standing_past runs i n (omega arith)

@@ -1,0 +1,244 @@
+-- What a call of a transaction module does, of every log for which the module stands.
+use Rattle.std.proofs.Common.{ℕ, zero, suc, ◌<◌, ◌^◌, ◌≡◌, false, List, [], ◌∷◌, map, length, refl, ap, sym, ◌∙◌, subst, arith, Some, None}
+use Rattle.std.specs.Prelude.{slice_get, IsTrue}
+use Rattle.sdd_base.specs.Kept.{Kept}
+use Rattle.sdd_base.specs.Clock.{ticked, at_zero}
+use Rattle.sdd_base.specs.declared.number.RelNo.{RelNo}
+use Rattle.sdd_base.specs.declared.number.TmNo.{TmNo}
+use Rattle.sdd_base.specs.declared.number.TxnNo.{TxnNo}
+use Rattle.sdd_base.specs.declared.site.Site.{Site}
+use Rattle.sdd_base.specs.declared.site.Site.TheVariants.{T}
+use Rattle.sdd_catalog.specs.Rules as catalogues
+use Rattle.sdd_catalog.specs.Numbers.{IsWhole}
+use Rattle.sdd_lang.specs.declared.transaction.Txn.{Txn}
+use Rattle.sdd_lang.specs.Classes.{class_for}
+use Rattle.sdd_lang.specs.Database.{Row}
+use Rattle.sdd_history.specs.declared.record.Rec.{Rec}
+use Rattle.sdd_history.specs.declared.record.Rec.TheVariants.{Submit}
+use Rattle.sdd_wire.specs.declared.msg.Msg.{Msg}
+use Rattle.sdd_module.specs.SiteLog.{Setting, Bases, Force, Log, Entry, Handed, Submits, Ticked, Redeclared, Does, in_force, records_of}
+use Rattle.sdd_module.specs.Notes.{Notes, nothing_noted, noted}
+use Rattle.sdd_module.proofs.Does.{DoesMore, does_from, all_noted}
+use Rattle.sdd_attempt.specs.Sound.{IsLineOf}
+use Rattle.sdd_attempt.proofs.Stamps.{stamped_still}
+use Rattle.sdd_attempt.proofs.SoundLines.{line_ticked}
+use Rattle.sdd_tm.specs.Views.{runs}
+use Rattle.sdd_tm.specs.Due.{next}
+use Rattle.sdd_tm.specs.Fits.{fits, FitsSubmit}
+use Rattle.sdd_tm.specs.State.{ClassState, State, class_of, state_of}
+use Rattle.sdd_tm.specs.Steps.{class_step, held_of, told}
+use Rattle.sdd_tm.specs.Handing.{class_handed, state_handed, class_given, state_given, place_of, one_place, touched}
+use Rattle.sdd_tm.specs.declared.places.Places.{Places}
+use Rattle.sdd_tm.specs.Stands.{IsKept, AreSettled, Stands, IsAmid, IsCalm}
+use Rattle.sdd_tm.specs.Works.{Works, first_class, classes_of, first_state}
+use Rattle.sdd_tm.proofs.Lists.{some_is}
+use Rattle.std.proofs.lemmas.List.{length-map}
+use Rattle.sdd_tm.proofs.Handing.{amid_handed}
+use Rattle.sdd_tm.proofs.Taking.{few_kept, apart_kept}
+use Rattle.sdd_tm.proofs.Touching.{calm_handed, calm_given}
+use Rattle.sdd_tm.proofs.Giving.{amid_given}
+use Rattle.sdd_tm.proofs.Telling.{nothing_due, told_once, told_settled, held_ticked}
+use Rattle.sdd_tm.proofs.Ending.{works_told}
+
+-- what a call has done after an entry that it took in
+pub record Called (taken now : State) (old notes new : Notes) : Type 0 where
+  pub settled_state : State
+  pub works : Works taken settled_state old notes
+  pub settled : AreSettled settled_state
+  pub told_is : now ≡ told settled_state
+  pub noted_is : new ≡ noted (held_of settled_state) notes
+
+called_works : (taken now : State) (old notes new : Notes) → Called taken now old notes new → Works taken now old new
+called_works taken now old notes new c =
+    rw (c.told_is, c.noted_is) (works_told taken c.settled_state old notes c.works c.settled)
+
+stands_now : (new : Kept State) (s : Setting) (bases : Bases) (log : Log) → IsTrue new.live → AreSettled new.value
+    → held_of new.value ≡ None → IsAmid s bases new.value log → Stands new s log
+stands_now new s bases log live settled none amid =
+    record {
+      live = live;
+      setting = amid.setting;
+      sound = amid.sound;
+      state_is = amid.state_is;
+      settled = settled;
+      told = none;
+    }
+
+call_does : (taken : State) (new : Kept State) (old notes all : Notes) (s : Setting) (bases : Bases) (start : Log)
+    → IsTrue new.live → Called taken new.value old notes all → IsAmid s bases taken start
+    → DoesMore (next s bases) start old all (Stands new s)
+call_does taken new old notes all s bases start live c amid =
+    let r = called_works taken new.value old notes all c s bases start amid in
+    let settled : AreSettled new.value = rw c.told_is (told_settled c.settled_state c.settled) in
+    let none : held_of new.value ≡ None = rw c.told_is (told_once c.settled_state) in
+    let stands = stands_now new s bases r.view live settled none r.shown in
+    does_from (λ l. l) (next s bases) (λ e l. e ∷ l) (λ e log. refl) start start r.view old all refl r.made
+    (nothing_due s bases new.value r.view r.shown.state_is settled none) (Stands new s)
+    (λ log e. subst (Stands new s) (sym e) stands)
+
+amid_of_state : (s : Setting) (bases : Bases) (log : Log) (f : State → State) (old : State) (taken : State)
+    (e : Entry) → state_of s log ≡ old → taken ≡ f old → IsAmid s bases (f (state_of s log)) (e ∷ log)
+    → IsAmid s bases taken (e ∷ log)
+amid_of_state s bases log f old taken e is t amid = subst (λ st. IsAmid s bases st (e ∷ log)) (ap f is ∙ sym t) amid
+
+-- a message
+
+kept_of : (k : Kept State) (s : Setting) (log : Log) → Stands k s log → IsKept s log k.value
+kept_of k s log st = record { setting = st.setting; sound = st.sound; state_is = st.state_is }
+
+pub few_handed : (k : Kept State) (s : Setting) (log : Log) (from : Site) (m : Msg) (taken : State) → Stands k s log
+    → taken ≡ state_handed from m k.value → length taken.classes < 2 ^ 32
+few_handed k s log from m taken st t =
+    let few = few_kept s log k.value (kept_of k s log st) in
+    let same = ap (λ (x : State). length x.classes) t ∙ length-map k.value.classes (class_handed from m) in
+    omega arith
+
+pub calm_for : (k : Kept State) (s : Setting) (log : Log) (from : Site) (m : Msg) (taken : State) (places : Places)
+    → Stands k s log → taken ≡ state_handed from m k.value → places ≡ touched k.value.classes m
+    → IsCalm places.from places.end taken
+calm_for k s log from m taken places st t e =
+    rw (t, e) (calm_handed k.value from m st.settled (apart_kept s log k.value (kept_of k s log st)))
+
+pub amid_for : (k : Kept State) (s : Setting) (bases : Bases) (log : Log) (from : Site) (m : Msg) (taken : State)
+    → Stands k s log → fits s bases log from m → taken ≡ state_handed from m k.value
+    → IsAmid s bases taken (Handed from m ∷ log)
+amid_for k s bases log from m taken st fit t =
+    amid_of_state s bases log (state_handed from m) k.value taken (Handed from m) st.state_is t
+    (amid_handed s bases log from m st.setting st.sound (subst AreSettled (sym st.state_is) st.settled) fit)
+
+pub take_does : (from : Site) (m : Msg) (old new : Kept State) (taken : State) (notes all : Notes)
+    (records : List Rec) (sends : List (Site × Msg)) → IsTrue new.live → taken ≡ state_handed from m old.value
+    → Called taken new.value nothing_noted notes all
+    → records ≡ all.recs → sends ≡ all.out → (s : Setting) (bases : Bases) (log : Log) → Stands old s log
+    → fits s bases log from m → Does (next s bases) (Handed from m ∷ log) records sends (Stands new s)
+take_does from m old new taken notes all records sends live t c e f s bases log st fit =
+    all_noted (next s bases) (Handed from m ∷ log) all records sends (Stands new s)
+    (call_does taken new nothing_noted notes all s bases (Handed from m ∷ log) live c
+    (amid_for old s bases log from m taken st fit t)) e f
+
+-- a transaction
+
+abbrev pub submitted : TxnNo → Notes
+submitted n = record { recs = Submit n ∷ []; out = [] }
+
+-- its class in the catalogue in force
+abbrev pub given_to : Kept State → ℕ → Txn → State
+given_to k n txn = state_given (class_for k.value.force.catalogue txn) n txn k.value
+
+pub few_given : (k : Kept State) (s : Setting) (log : Log) (n : ℕ) (txn : Txn) (taken : State) → Stands k s log
+    → taken ≡ given_to k n txn → length taken.classes < 2 ^ 32
+few_given k s log n txn taken st t =
+    let few = few_kept s log k.value (kept_of k s log st) in
+    let same = ap (λ (x : State). length x.classes) t
+    ∙ length-map k.value.classes (class_given (class_for k.value.force.catalogue txn) n txn) in
+    omega arith
+
+pub calm_after : (k : Kept State) (s : Setting) (log : Log) (n : ℕ) (txn : Txn) (taken : State) (places : Places)
+    → Stands k s log → taken ≡ given_to k n txn
+    → places ≡ one_place (place_of k.value.classes (class_for k.value.force.catalogue txn))
+    → IsCalm places.from places.end taken
+calm_after k s log n txn taken places st t e =
+    rw (t, e) (calm_given k.value (class_for k.value.force.catalogue txn) n txn st.settled
+    (apart_kept s log k.value (kept_of k s log st)))
+
+pub amid_after : (k : Kept State) (s : Setting) (bases : Bases) (log : Log) (n : ℕ) (txn : Txn) (taken : State)
+    → n < 2 ^ 32 → Stands k s log → FitsSubmit s bases log n txn → taken ≡ given_to k n txn
+    → IsAmid s bases taken (Submits n txn ∷ log)
+amid_after k s bases log n txn taken small st fit t =
+    let here : (in_force s log) ≡ k.value.force = ap (λ (x : State). x.force) st.state_is in
+    let given = λ (x : State). state_given (class_for (in_force s log).catalogue txn) n txn x in
+    amid_of_state s bases log given k.value taken (Submits n txn) st.state_is (t
+    ∙ ap (λ (x : Force). state_given (class_for x.catalogue txn) n txn k.value) (sym here))
+    (amid_given s bases log n txn small st.setting st.sound (subst AreSettled (sym st.state_is) st.settled) fit)
+
+pub submit_does : (n : TxnNo) (txn : Txn) (old new : Kept State) (taken : State) (notes all : Notes)
+    (records : List Rec) (sends : List (Site × Msg)) → n.0 < 2 ^ 32 → IsTrue new.live
+    → taken ≡ given_to old n.0 txn → Called taken new.value (submitted n) notes all → records ≡ all.recs → sends ≡ all.out
+    → (s : Setting) (bases : Bases) (log : Log) → Stands old s log → FitsSubmit s bases log n.0 txn
+    → (rest : List Rec) × (records ≡ Submit n ∷ rest) × Does (next s bases) (Submits n.0 txn ∷ log) rest sends (Stands new s)
+submit_does n txn old new taken notes all records sends small live t c e f s bases log st fit =
+    let d = call_does taken new (submitted n) notes all s bases (Submits n.0 txn ∷ log) live c
+    (amid_after old s bases log n.0 txn taken small st fit t) in (
+      records_of d.acts,
+      e
+          ∙ d.recs_are,
+      subst (λ xs. Does (next s bases) (Submits n.0 txn ∷ log) (records_of d.acts) xs (Stands new s))
+          (sym (f ∙ d.out_is)) d.does,
+    )
+
+-- a tick
+
+pub tick_stands : (old new : Kept State) (n : ℕ)
+    → new ≡ record old { value = record old.value { clock = ticked old.value.clock n } } → (s : Setting) (log : Log)
+    → Stands old s log → Stands new s (Ticked n ∷ log)
+tick_stands old new n e s log st =
+    rw e (record {
+      live = st.live;
+      setting = record { valid = st.setting.valid; whole = st.setting.whole; in_force = st.setting.in_force };
+      sound = record {
+        lines = λ i c f. line_ticked s c log n (st.sound.lines i c f);
+        stamped = stamped_still s log (Ticked n) refl st.sound.stamped;
+        unanswered = record {
+          rise = st.sound.unanswered.rise;
+          last = st.sound.unanswered.last;
+          apart = st.sound.unanswered.apart;
+        };
+        turns = st.sound.turns;
+      };
+      state_is = ap (λ (x : State). record x { clock = ticked x.clock n }) st.state_is;
+      settled = st.settled;
+      told = held_ticked old.value (ticked old.value.clock n) st.told;
+    })
+
+-- before the first message
+
+first_line : (s : Setting) (force : Force) (c : ℕ) → IsLineOf s c (Redeclared force 0 ∷ [])
+first_line s force c = record { in_queue = record { differ = tt; waiting = tt }; of_head = tt; asking = tt }
+
+first_classes : (s : Setting) (force : Force) (cs : List ℕ)
+    → map (class_of s (Redeclared force 0 ∷ [])) cs ≡ map (first_class s.catalogue) cs
+first_classes s force [] = refl
+first_classes s force (c ∷ cs) = ap (λ rest. first_class s.catalogue c ∷ rest) (first_classes s force cs)
+
+abbrev setting_of : Force → TmNo → List (RelNo × Row) → Setting
+setting_of force tm rows = record { catalogue = force.catalogue; site = T tm; rows = rows }
+
+first_at : (force : Force) (tm : TmNo) (rows : List (RelNo × Row))
+    → state_of (setting_of force tm rows) (Redeclared force 0 ∷ []) ≡ first_state force tm.0
+first_at force tm rows =
+    ap (λ cs. record { force = force; clock = at_zero tm.0; on_hold = false; owes_held = false; classes = cs })
+    (first_classes (setting_of force tm rows) force (runs (setting_of force tm rows)))
+
+first_is : (s : Setting) (force : Force) (tm : TmNo) → s.catalogue ≡ force.catalogue → s.site ≡ T tm
+    → state_of s (Redeclared force 0 ∷ []) ≡ first_state force tm.0
+first_is s force tm e f =
+    let is : s ≡ setting_of force tm s.rows =
+    ap (λ x. record s { catalogue = x }) e
+    ∙ ap (λ x. record { catalogue = force.catalogue; site = x; rows = s.rows }) f in
+    ap (λ x. state_of x (Redeclared force 0 ∷ [])) is ∙ first_at force tm s.rows
+
+pub new_stands : (k : Kept State) (force : Force) (tm : TmNo) → IsTrue k.live → k.value ≡ first_state force tm.0
+    → catalogues.IsSound force.catalogue → IsWhole force.catalogue
+    → (s : Setting) → s.catalogue ≡ force.catalogue → s.site ≡ T tm → Stands k s (Redeclared force 0 ∷ [])
+new_stands k force tm live is valid whole s e f =
+    let log : Log = Redeclared force 0 ∷ [] in
+    let state : state_of s log ≡ k.value = first_is s force tm e f ∙ sym is in
+    record {
+      live = live;
+      setting = record { valid = rw e valid; whole = rw e whole; in_force = sym e };
+      sound = record {
+        lines = λ i c g. first_line s force c;
+        stamped = tt;
+        unanswered = record { rise = omega arith; last = omega arith; apart = tt };
+        turns = record { released = omega arith; answered = omega arith; one = omega arith };
+      };
+      state_is = state;
+      settled = rw is (none_yet (classes_of force.catalogue tm.0));
+      told = rw is refl;
+    }
+  where
+    none_yet : (cs : List ℕ) (i : ℕ) (x : ClassState) → slice_get (map (first_class force.catalogue) cs) i ≡ Some x
+        → class_step false x ≡ None
+    none_yet [] i x g = absurd cc
+    none_yet (c ∷ cs) zero x g = subst (λ (y : ClassState). class_step false y ≡ None) (some_is g) refl
+    none_yet (c ∷ cs) (suc i) x g = none_yet cs i x g

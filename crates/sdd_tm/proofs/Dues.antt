@@ -1,0 +1,191 @@
+-- What is due by a log, where at most one class has a step of its own: that class's step.
+use Rattle.std.proofs.Common.{ℕ, ◌≡◌, ◌≢◌, Bool, true, false, not, ◌&&◌, List, [], ◌∷◌, refl, ◌∙◌, subst, Option, Some, None, is_none}
+use Rattle.std.specs.Prelude.{slice_get, if◌then◌else◌}
+use Rattle.std.specs.List.{list_any}
+use Rattle.sdd_base.specs.Words.{or_else, first_some, head_of, is_empty}
+use Rattle.sdd_catalog.specs.Catalogue.{Catalogue}
+use Rattle.sdd_module.specs.SiteLog.{Setting, Bases, Log, Act}
+use Rattle.sdd_attempt.specs.Queues.{Queued, queue}
+use Rattle.sdd_attempt.specs.Attempts.{Attempt, active}
+use Rattle.sdd_attempt.specs.Acts.{attempt_due}
+use Rattle.sdd_attempt.specs.Lines.{line_step}
+use Rattle.sdd_attempt.specs.declared.step.LineStep.{LineStep}
+use Rattle.sdd_attempt.specs.declared.step.LineStep.TheVariants.{Sends as ToSend, Commits as ToCommit}
+use Rattle.sdd_tm.specs.declared.step.Step.{Step}
+use Rattle.sdd_tm.specs.declared.step.Step.TheVariants.{Send, Commit, Answer, Start}
+use Rattle.sdd_tm.specs.Views.{ClassView, View, class_view, view_of, asks, runs, on_hold}
+use Rattle.sdd_tm.specs.Due.{exchange_due, null_due, held_due, start_of, start_due, next}
+use Rattle.sdd_tm.specs.State.{ClassState, asks_of, class_of, state_of}
+use Rattle.sdd_tm.specs.Steps.{can_answer, of_line, own_step, start_step, class_step}
+use Rattle.sdd_tm.specs.Stands.{IsCalm}
+use Rattle.sdd_tm.proofs.Lists.{some_is, get_map, of_map, none_first, only_first, first_at}
+use Rattle.sdd_tm.proofs.OpenAsks.{none_answered}
+use Rattle.sdd_tm.proofs.LineSteps.{none_due}
+
+-- a step of a class
+
+answer_if : (b : Bool) (s : Step) → (if b then Some Answer else None) ≡ Some s → (b ≡ true) × (s ≡ Answer)
+answer_if true s e = (refl, cc)
+answer_if false s e = absurd cc
+
+no_answer_if : (b : Bool) → (if b then Some Answer else None) ≡ None → b ≡ false
+no_answer_if true e = absurd cc
+no_answer_if false e = refl
+
+own_parts : (l : Option LineStep) (b : Bool) → or_else (of_line l) (if b then Some Answer else None) ≡ None
+    → (l ≡ None) × (b ≡ false)
+own_parts None b e = (refl, no_answer_if b e)
+own_parts (Some ToSend) b e = absurd cc
+own_parts (Some ToCommit) b e = absurd cc
+
+-- a class without a step of its own: its attempt does nothing, and no ASK can be answered
+pub own_none : (k : ClassState) → own_step k ≡ None
+    → (line_step k.line.active ≡ None) × (list_any (can_answer k.line.active) k.asks ≡ false)
+own_none k e = own_parts (line_step k.line.active) (list_any (can_answer k.line.active) k.asks) e
+
+pub class_none : (on : Bool) (k : ClassState) → own_step k ≡ None → start_step on k ≡ None → class_step on k ≡ None
+class_none on k e f = rw (e, f) refl
+
+or_parts : {A : Type 0} (x y : Option A) → or_else x y ≡ None → (x ≡ None) × (y ≡ None)
+or_parts None y e = (refl, e)
+or_parts (Some a) y e = absurd cc
+
+pub none_parts : (on : Bool) (k : ClassState) → class_step on k ≡ None → (own_step k ≡ None) × (start_step on k ≡ None)
+none_parts on k e = or_parts (own_step k) (start_step on k) e
+
+pub data IsStep (on : Bool) (k : ClassState) : Step → Type 0 where
+  sends : line_step k.line.active ≡ Some ToSend → IsStep on k Send
+  commits_now : line_step k.line.active ≡ Some ToCommit → IsStep on k Commit
+  answers : line_step k.line.active ≡ None → list_any (can_answer k.line.active) k.asks ≡ true → IsStep on k Answer
+  starts : line_step k.line.active ≡ None → list_any (can_answer k.line.active) k.asks ≡ false
+      → (not on && (is_none k.line.active && not (is_empty k.line.queue))) ≡ true → IsStep on k Start
+
+start_if : (b : Bool) (s : Step) → (if b then Some Start else None) ≡ Some s → (b ≡ true) × (s ≡ Start)
+start_if true s e = (refl, cc)
+start_if false s e = absurd cc
+
+step_by : (on : Bool) (k : ClassState) (l : Option LineStep) (b w : Bool) (s : Step) → line_step k.line.active ≡ l
+    → list_any (can_answer k.line.active) k.asks ≡ b
+    → (not on && (is_none k.line.active && not (is_empty k.line.queue))) ≡ w
+    → or_else (or_else (of_line l) (if b then Some Answer else None)) (if w then Some Start else None) ≡ Some s → IsStep on k s
+step_by on k (Some ToSend) b w s e f g h = subst (IsStep on k) (some_is h) (sends e)
+step_by on k (Some ToCommit) b w s e f g h = subst (IsStep on k) (some_is h) (commits_now e)
+step_by on k None true w s e f g h = subst (IsStep on k) (some_is h) (answers e f)
+step_by on k None false true s e f g h = subst (IsStep on k) (some_is h) (starts e f g)
+step_by on k None false false s e f g h = absurd cc
+
+pub step_is : (on : Bool) (k : ClassState) (s : Step) → class_step on k ≡ Some s → IsStep on k s
+step_is on k s e =
+    step_by on k (line_step k.line.active) (list_any (can_answer k.line.active) k.asks)
+    (not on && (is_none k.line.active && not (is_empty k.line.queue))) s refl refl refl e
+
+-- the ranks of a log
+
+module _ (s : Setting) (bases : Bases) (log : Log) where
+  abbrev cat : Catalogue
+  cat = s.catalogue
+
+  abbrev v : View
+  v = view_of s log
+
+  at_class : (P : ClassView → Type 0) → ((place c : ℕ) → slice_get (runs s) place ≡ Some c → P (class_view s log c))
+      → (place : ℕ) (k : ClassView) → slice_get v.classes place ≡ Some k → P k
+  at_class P h place k e = let r = of_map (class_view s log) (runs s) place k e in subst P r.2 (h place r.0 r.1)
+
+  pub null_none : (c : ℕ) → list_any (can_answer (active s c log)) (asks_of c (asks log)) ≡ false
+      → null_due v (class_view s log c) ≡ None
+  null_none c e = none_answered v (class_view s log c) (asks log) e
+
+  start_none_if : (b w : Bool) (o : Option Act) → (if not b && w then Some Start else None) ≡ None
+      → (if not b && w then o else None) ≡ None
+  start_none_if true w o e = refl
+  start_none_if false true o e = absurd cc
+  start_none_if false false o e = refl
+
+  start_of_none : (c : ℕ) (b : Bool) (a : Option Attempt) (qs : List Queued)
+      → (if not b && (is_none a && not (is_empty qs)) then Some Start else None) ≡ None
+      → (if not b && is_none a then start_of cat v c (head_of qs) else None) ≡ None
+  start_of_none c true a qs e = refl
+  start_of_none c false (Some a) qs e = refl
+  start_of_none c false None [] e = refl
+  start_of_none c false None (q ∷ qs) e = absurd cc
+
+  pub start_none : (c : ℕ) → start_step (on_hold v) (class_of s log c) ≡ None → start_due cat v (class_view s log c) ≡ None
+  start_none c e = start_of_none c (on_hold v) (active s c log) (queue s c log) e
+
+  module _ (place end : ℕ) (calm : IsCalm place end (state_of s log)) where
+    others_own : (i c : ℕ) → slice_get (runs s) i ≡ Some c → i ≢ place
+        → (line_step (active s c log) ≡ None) × (list_any (can_answer (active s c log))
+        (asks_of c (asks log)) ≡ false)
+    others_own i c e apart =
+        own_none (class_of s log c) (calm.own i (class_of s log c) (get_map (class_of s log) (runs s) i c e)
+        (λ q. absurd (apart q)))
+
+    only_exchange : (c : ℕ) → slice_get (runs s) place ≡ Some c
+        → first_some (exchange_due cat bases) v.classes ≡ attempt_due cat bases c (active s c log)
+    only_exchange c e =
+        only_first (exchange_due cat bases) v.classes place (class_view s log c) (get_map (class_view s log) (runs s) place c e)
+        (λ i k g apart. let r = of_map (class_view s log) (runs s) i k g in
+        subst (λ (x : ClassView). exchange_due cat bases x ≡ None) r.2
+        (none_due cat bases r.0 (active s r.0 log) (others_own i r.0 r.1 apart).0))
+
+    only_null : (c : ℕ) → slice_get (runs s) place ≡ Some c → first_some (null_due v) v.classes ≡ null_due v
+        (class_view s log c)
+    only_null c e =
+        only_first (null_due v) v.classes place (class_view s log c) (get_map (class_view s log) (runs s) place c e)
+        (λ i k g apart. let r = of_map (class_view s log) (runs s) i k g in
+        subst (λ (x : ClassView). null_due v x ≡ None) r.2 (null_none r.0 (others_own i r.0 r.1 apart).1))
+
+    -- an act of an attempt
+    pub attempt_is_due : (c : ℕ) (act : Act) → slice_get (runs s) place ≡ Some c
+        → attempt_due cat bases c (active s c log) ≡ Some act → next s bases log ≡ Some act
+    attempt_is_due c act e f = let first : first_some (exchange_due cat bases) v.classes ≡ Some act =
+        only_exchange c e ∙ f in rw first refl
+
+    -- a NULL
+    pub null_is_due : (c : ℕ) (act : Act) → slice_get (runs s) place ≡ Some c → line_step (active s c log) ≡ None
+        → null_due v (class_view s log c) ≡ Some act → next s bases log ≡ Some act
+    null_is_due c act e f g =
+        let first : first_some (exchange_due cat bases) v.classes ≡ None =
+        only_exchange c e ∙ none_due cat bases c (active s c log) f in
+        let second : first_some (null_due v) v.classes ≡ Some act = only_null c e ∙ g in
+        rw (first, second) refl
+
+    -- a Start
+    pub start_is_due : (c : ℕ) (act : Act) → slice_get (runs s) place ≡ Some c → line_step (active s c log) ≡ None
+        → list_any (can_answer (active s c log)) (asks_of c (asks log)) ≡ false
+        → on_hold v ≡ false → start_due cat v (class_view s log c) ≡ Some act → next s bases log ≡ Some act
+    start_is_due c act e f g off h =
+        let first : first_some (exchange_due cat bases) v.classes ≡ None =
+        only_exchange c e ∙ none_due cat bases c (active s c log) f in
+        let second : first_some (null_due v) v.classes ≡ None = only_null c e ∙ null_none c g in
+        let third : held_due v ≡ None = rw off refl in
+        let fourth : first_some (start_due cat v) v.classes ≡ Some act =
+        first_at (start_due cat v) v.classes place (class_view s log c) act (get_map (class_view s log) (runs s) place c e) h
+        (λ i k q less. let r = of_map (class_view s log) (runs s) i k q in
+        subst (λ (x : ClassView). start_due cat v x ≡ None) r.2
+        (start_none r.0 (calm.before i (class_of s log r.0) (get_map (class_of s log) (runs s) i r.0 r.1)
+        less))) in
+        rw (first, second, third, fourth) refl
+
+  -- no class has a step: only a HELD can be due
+  pub held_is_due : ((i : ℕ) (k : ClassState) → slice_get (state_of s log).classes i ≡ Some k
+      → class_step (on_hold v) k ≡ None) → next s bases log ≡ held_due v
+  held_is_due settled =
+      let parts = λ (i c : ℕ) (e : slice_get (runs s) i ≡ Some c). none_parts (on_hold v) (class_of s log c)
+      (settled i (class_of s log c) (get_map (class_of s log) (runs s) i c e)) in
+      let first : first_some (exchange_due cat bases) v.classes ≡ None =
+      none_first (exchange_due cat bases) v.classes (at_class (λ k. exchange_due cat bases k ≡ None)
+      (λ i c e. none_due cat bases c (active s c log) (own_none (class_of s log c) (parts i c e).0).0)) in
+      let second : first_some (null_due v) v.classes ≡ None =
+      none_first (null_due v) v.classes
+      (at_class (λ k. null_due v k ≡ None)
+      (λ i c e. null_none c (own_none (class_of s log c) (parts i c e).0).1)) in
+      let fourth : first_some (start_due cat v) v.classes ≡ None =
+      none_first (start_due cat v) v.classes
+      (at_class (λ k. start_due cat v k ≡ None) (λ i c e. start_none c (parts i c e).1)) in
+      rw (first, second, fourth) (or_nothing (held_due v))
+    where
+      or_nothing : (o : Option Act) → or_else o None ≡ o
+      or_nothing None = refl
+      or_nothing (Some a) = refl

@@ -1,0 +1,72 @@
+-- A call makes the acts that the log has next, until none is due.
+use Rattle.std.proofs.Common.{ℕ, ◌≡◌, false, ◌∷◌, refl, sym, ◌∙◌, subst, Option, Some, None}
+use Rattle.std.specs.Prelude.{slice_get}
+use Rattle.sdd_module.specs.SiteLog.{Setting, Bases, Log, Did, Act}
+use Rattle.sdd_module.specs.Notes.{Notes, with_act, noted}
+use Rattle.sdd_module.proofs.Making.{made_nothing, made_more}
+use Rattle.sdd_tm.specs.Due.{next}
+use Rattle.sdd_tm.specs.State.{ClassState, State}
+use Rattle.sdd_tm.specs.Steps.{act_of, class_step, state_done, held_of, told_by, told}
+use Rattle.sdd_tm.specs.declared.step.Step.{Step}
+use Rattle.sdd_tm.specs.Stands.{AreSettled, IsAmid, IsCalm}
+use Rattle.sdd_tm.specs.Works.{Works}
+use Rattle.sdd_tm.proofs.Acting.{makes}
+use Rattle.sdd_tm.proofs.Telling.{tells}
+
+-- the loop
+
+works_none : (state : State) (notes : Notes) → Works state state notes notes
+works_none state notes s bases log amid =
+    record {
+      view = log;
+      shown = amid;
+      made = made_nothing (next s bases) (λ e l. e ∷ l) log log notes notes refl
+          refl;
+    }
+
+-- one act more, which each log makes due
+works_more : (before now after : State) (old notes new : Notes) → Works before now old notes
+    → ((s : Setting) (bases : Bases) (log : Log) → IsAmid s bases now log
+    → (act : Act) × (next s bases log ≡ Some act) × (new ≡ with_act act notes) × IsAmid s bases after
+    (Did act ∷ log)) → Works before after old new
+works_more before now after old notes new works step s bases log amid =
+    let r = works s bases log amid in
+    let a = step s bases r.view r.shown in
+    record {
+      view = Did a.0 ∷ r.view;
+      shown = a.3;
+      made = made_more (next s bases) (λ e l. e ∷ l) log r.view (Did a.0 ∷ r.view) a.0 old notes new r.made a.1 refl a.2;
+    }
+
+pub works_begin : (state : State) (notes : Notes) → Works state state notes notes
+works_begin = works_none
+
+-- a class makes its step
+pub works_on : (before now : State) (place end : ℕ) (k : ClassState) (step : Step) (after : State)
+    (old notes new : Notes) → Works before now old notes → IsCalm place end now
+    → slice_get now.classes place ≡ Some k → class_step now.on_hold k ≡ Some step
+    → ((bases : Bases) → after ≡ state_done bases place k step now)
+    → ((s : Setting) (bases : Bases) (log : Log) → IsAmid s bases now log
+    → new ≡ noted (act_of bases now.force.table now.clock k step) notes) → Works before after old new
+works_on before now place end k step after old notes new works calm here steps is noted_is =
+    works_more before now after old notes new works
+    (λ s bases log amid.
+    let m = makes s bases now log place end k step amid calm here steps in (
+      m.act,
+      m.is_due,
+      noted_is s bases log amid ∙ m.notes notes,
+      subst (λ st. IsAmid s bases st (Did m.act ∷ log))
+          (sym (is bases)) m.amid,
+    ))
+
+-- HELD
+works_told_by : (before now : State) (old notes : Notes) (o : Option Act) → Works before now old notes
+    → AreSettled now → held_of now ≡ o → Works before (told_by now o) old (noted o notes)
+works_told_by before now old notes None works settled e = works
+works_told_by before now old notes (Some act) works settled e =
+    works_more before now (record now { owes_held = false }) old notes (noted (Some act) notes) works
+    (λ s bases log amid. let t = tells s bases now log act amid settled e in (_, t.is_due, t.notes notes, t.amid))
+
+pub works_told : (before now : State) (old notes : Notes) → Works before now old notes → AreSettled now
+    → Works before (told now) old (noted (held_of now) notes)
+works_told before now old notes works settled = works_told_by before now old notes (held_of now) works settled refl

@@ -1,0 +1,141 @@
+-- A transaction that is given to the module goes to the queue of its class.
+use Rattle.std.proofs.Common.{ℕ, ◌+◌, ◌<◌, ◌≤◌, ◌^◌, ◌≡◌, ◌==◌, Bool, true, false, ◌&&◌, ◌||◌, cond, List, [], ◌∷◌, ◌++◌, map, length, refl, ap, sym, ◌∙◌, subst, arith, is_some}
+use Rattle.std.specs.Prelude.{unwrap_or, if◌then◌else◌}
+use Rattle.std.specs.List.{AllByRecursion, filter, list_all}
+use Rattle.std.proofs.lemmas.Bool.{and_parts, ne_eqb, eqb-true, false≢true}
+use Rattle.std.proofs.lemmas.Bool.Decides.{nat_tests}
+use Rattle.sdd_base.specs.Words.{head_of, contains}
+use Rattle.sdd_catalog.specs.Catalogue.{Catalogue, reads_at, writes, class_at, numbers_to}
+use Rattle.sdd_lang.specs.declared.transaction.Txn.{Txn}
+use Rattle.sdd_lang.specs.Classes.{read_set, write_set, covers, class_for}
+use Rattle.sdd_module.specs.SiteLog.{Setting, Bases, Log, Submits, in_force, submits}
+use Rattle.sdd_attempt.specs.Queues.{Queued, is_for, queue}
+use Rattle.sdd_attempt.specs.Attempts.{active}
+use Rattle.sdd_attempt.specs.Sound.{IsWaiting, IsLineOf}
+use Rattle.sdd_attempt.proofs.Stamps.{stamped_still}
+use Rattle.sdd_attempt.proofs.SoundLines.{line_submitted}
+use Rattle.sdd_tm.specs.Views.{runs}
+use Rattle.sdd_tm.specs.Fits.{FitsSubmit}
+use Rattle.sdd_tm.specs.State.{State, class_of, state_of}
+use Rattle.sdd_tm.specs.Handing.{class_given, state_given}
+use Rattle.sdd_tm.specs.Stands.{IsSound, IsSettingOf, AreSettled, all_starts, IsAmid}
+use Rattle.sdd_tm.proofs.Lists.{map_same}
+use Rattle.sdd_tm.proofs.ClassNumbers.{runs_class}
+use Rattle.sdd_tm.proofs.Handing.{has_room, resting, settled_of, map_map}
+
+-- the class of a transaction covers it
+
+first_covers : (cat : Catalogue) (txn : Txn) (ns : List ℕ) (c : ℕ) → 1 ≤ c
+    → unwrap_or (head_of (filter (covers cat txn) ns)) 0 ≡ c → covers cat txn c ≡ true
+first_covers cat txn [] c low e = absurd (omega arith)
+first_covers cat txn (n ∷ ns) c low e =
+    elim (covers cat txn n) as (λ b. covers cat txn n ≡ b
+    → unwrap_or (head_of (cond b (n ∷ filter (covers cat txn) ns) (filter (covers cat txn) ns))) 0 ≡ c
+    → covers cat txn c ≡ true) [
+      | true ↦ λ h g. subst (λ k. covers cat txn k ≡ true) g h
+      | false ↦ λ h g. first_covers cat txn ns c low g
+    ] refl e
+
+covered : (cat : Catalogue) (txn : Txn) (c : ℕ) → 1 ≤ c → class_for cat txn ≡ c
+    → list_all (λ f. is_some (reads_at cat c f)) (read_set cat txn) ≡ true
+covered cat txn c low e =
+    let all = first_covers cat txn (numbers_to (length cat.classes)) c low e in
+    let both = and_parts ((class_at cat c).tm.0 == txn.tm.0)
+    (list_all (λ f. is_some (reads_at cat c f)) (read_set cat txn) && list_all (writes cat c)
+    (write_set cat txn)) all in
+    (and_parts (list_all (λ f. is_some (reads_at cat c f)) (read_set cat txn))
+    (list_all (writes cat c) (write_set cat txn)) both.1).0
+
+is_of_class : (c k : ℕ) → 1 ≤ c → (c == 0 || k == c) ≡ true → k ≡ c
+is_of_class c k low e = eqb-true k c (subst (λ b. (b || k == c) ≡ true) (ne_eqb c 0 (λ q. absurd (omega arith))) e)
+
+pub class_covers : (s : Setting) (log : Log) (txn : Txn) (c : ℕ) → IsSettingOf s log → 1 ≤ c
+    → is_for c (in_force s log).catalogue txn ≡ true → list_all (λ f. is_some (reads_at s.catalogue c f))
+    (read_set s.catalogue txn) ≡ true
+class_covers s log txn c setting low e =
+    covered s.catalogue txn c low (sym (ap (λ cat. class_for cat txn) setting.in_force)
+    ∙ is_of_class c (class_for (in_force s log).catalogue txn) low e)
+
+-- what is kept of the log
+
+class_kept : (s : Setting) (log : Log) (n : ℕ) (txn : Txn) (c : ℕ) → 1 ≤ c
+    → class_of s (Submits n txn ∷ log) c ≡ class_given (class_for (in_force s log).catalogue txn) n txn
+    (class_of s log c)
+class_kept s log n txn c low =
+    let k : ℕ = class_for (in_force s log).catalogue txn in
+    let test : is_for c (in_force s log).catalogue txn ≡ (c == k) =
+    ap (λ b. b || k == c) (ne_eqb c 0 (λ q. absurd (omega arith))) ∙ turned k c in
+    by (c == k) test
+  where
+    turned : (a b : ℕ) → (a == b) ≡ (b == a)
+    turned a b = grind (arith, nat_tests)
+
+    by : (b : Bool) → is_for c (in_force s log).catalogue txn ≡ b
+        → class_of s (Submits n txn ∷ log)
+        c ≡ (if b then record (class_of s log c) {
+          line = record (class_of s log c).line {
+            queue = queue s c log ++ record {
+              number = n;
+              text = txn;
+              tries = 0;
+            } ∷ [];
+          };
+        } else class_of s log c)
+    by true e = rw e refl
+    by false e = rw e refl
+
+pub state_given_kept : (s : Setting) (log : Log) (n : ℕ) (txn : Txn)
+    → state_of s (Submits n txn ∷ log) ≡ state_given (class_for (in_force s log).catalogue txn) n txn
+    (state_of s log)
+state_given_kept s log n txn =
+    let k : ℕ = class_for (in_force s log).catalogue txn in
+    let classes : map (class_of s (Submits n txn ∷ log)) (runs s) ≡ map (class_given k n txn) (map (class_of s log) (runs s)) =
+    map_same (class_of s (Submits n txn ∷ log)) (λ c. class_given k n txn (class_of s log c)) (runs s)
+    (λ i c e. class_kept s log n txn c (runs_class s i c e).0)
+    ∙ sym (map_map (class_given k n txn) (class_of s log) (runs s)) in
+    rw classes refl
+
+-- what holds of the log
+
+pub sound_given : (s : Setting) (bases : Bases) (log : Log) (n : ℕ) (txn : Txn) → n < 2 ^ 32 → IsSettingOf s log
+    → FitsSubmit s bases log n txn → IsSound s log → IsSound s (Submits n txn ∷ log)
+sound_given s bases log n txn small setting f sound = record {
+  lines = λ i c e. line_submitted s c log n txn f.fresh small f.fitting
+      (class_covers s log txn c setting (runs_class s i c e).0) (sound.lines i c e);
+  stamped = stamped_still s log (Submits n txn) refl sound.stamped;
+  unanswered = record { rise = sound.unanswered.rise; last = sound.unanswered.last; apart = sound.unanswered.apart };
+  turns = sound.turns;
+}
+
+pub amid_given : (s : Setting) (bases : Bases) (log : Log) (n : ℕ) (txn : Txn) → n < 2 ^ 32 → IsSettingOf s log
+    → IsSound s log → AreSettled (state_of s log) → FitsSubmit s bases log n txn
+    → IsAmid s bases (state_given (class_for (in_force s log).catalogue txn) n txn (state_of s log)) (Submits n txn ∷ log)
+amid_given s bases log n txn small setting sound settled f =
+    let now : IsSound s (Submits n txn ∷ log) = sound_given s bases log n txn small setting f sound in
+    let is = state_given_kept s log n txn in
+    let same : IsSettingOf s (Submits n txn ∷ log) =
+    record { valid = setting.valid; whole = setting.whole; in_force = setting.in_force } in
+    record {
+      setting = same;
+      sound = now;
+      state_is = is;
+      databases = f.site.databases;
+      served = λ i c e. resting s.catalogue bases (active s c log) (settled_of s log settled i c e);
+      room = subst (λ (st : State). st.clock.ticks + all_starts st.classes + 1 < 2 ^ 57) is
+          (has_room s (Submits n txn ∷ log) same now f.site.time);
+    }
+
+-- a number that is new isn't in a queue
+
+not_among : (cat : Catalogue) (c n : ℕ) (given : List ℕ) (qs : List Queued)
+    → AllByRecursion (IsWaiting cat c given) qs → contains given n ≡ false
+    → contains (map (λ (q : Queued). q.number) qs) n ≡ false
+not_among cat c n given [] h fresh = refl
+not_among cat c n given (q ∷ qs) h fresh =
+    let apart : (q.number == n) ≡ false =
+    ne_eqb q.number n (λ e. false≢true (sym fresh ∙ ap (contains given) (sym e) ∙ h.0.is_given)) in
+    rw apart (not_among cat c n given qs h.1 fresh)
+
+pub new_in_queue : (s : Setting) (log : Log) (c n : ℕ) → IsLineOf s c log → contains (submits log) n ≡ false
+    → contains (map (λ (q : Queued). q.number) (queue s c log)) n ≡ false
+new_in_queue s log c n h fresh = not_among s.catalogue c n (submits log) (queue s c log) h.in_queue.waiting fresh

@@ -1,0 +1,239 @@
+-- A message that is handed: the module keeps what follows from the log, and only what the message touches may have a step.
+use Rattle.std.proofs.Common.{ℕ, zero, suc, ◌+◌, ◌<◌, ◌≤◌, ◌^◌, ◌≡◌, ◌≢◌, ◌==◌, Bool, true, false, ◌&&◌, cond, List, [], ◌∷◌, ◌++◌, map, length, refl, ap, sym, ◌∙◌, subst, arith, Option, Some, None}
+use Rattle.std.specs.Prelude.{slice_get, nat_lt, if◌then◌else◌}
+use Rattle.std.specs.List.{filter, range_with_len}
+use Rattle.std.proofs.lemmas.Bool.{and_right, ne_eqb, lt-ltb, le-ltb, ltb-true, ltb-false, false≢true}
+use Rattle.sdd_base.specs.Sites.{number_of}
+use Rattle.sdd_base.specs.declared.limits.TheConstants.{MAX_CLASSES}
+use Rattle.sdd_base.specs.declared.number.ClassNo.{ClassNo}
+use Rattle.sdd_base.specs.declared.site.Site.{Site}
+use Rattle.sdd_base.specs.declared.site.Site.TheVariants.{U, T, D}
+use Rattle.sdd_catalog.specs.Catalogue.{Catalogue, class_at, numbers_to}
+use Rattle.sdd_wire.specs.declared.msg.Msg.{Msg}
+use Rattle.sdd_wire.specs.declared.msg.Msg.TheVariants.{Ready, Reject, Values, Reduced, Rows, Ask, Hold, Held, Release}
+use Rattle.sdd_module.specs.SiteLog.{Setting, Bases, Log, Handed, hands}
+use Rattle.sdd_attempt.specs.Clocks.{clock, pushed_by}
+use Rattle.sdd_attempt.specs.Exchange.{Phase, Exchange, after_hand}
+use Rattle.sdd_attempt.specs.Attempts.{Attempt, active, active_handed, rejects}
+use Rattle.sdd_attempt.specs.Fits.{AwaitsAt, fetches_use}
+use Rattle.sdd_attempt.specs.Lines.{IsAwaited, line_step}
+use Rattle.sdd_attempt.specs.Sound.{FitsAnswer, IsServed}
+use Rattle.sdd_attempt.proofs.Stamps.{stamped_still}
+use Rattle.sdd_attempt.proofs.Served.{served_handed}
+use Rattle.sdd_attempt.proofs.SoundLines.{line_handed}
+use Rattle.sdd_tm.specs.declared.asked.Asked.{Asked}
+use Rattle.sdd_tm.specs.Views.{Question, HoldCounts, asks, asks_handed, holds, holds_handed, view_of, on_hold, runs}
+use Rattle.sdd_tm.specs.Fits.{fits_kind, fits}
+use Rattle.sdd_tm.specs.State.{ClassState, State, asked, asks_of, class_of, state_of}
+use Rattle.sdd_tm.specs.Handing.{ask_handed, class_handed, hold_handed, owed_handed, state_handed, class_named}
+use Rattle.sdd_tm.specs.Stands.{InTurn, IsSound, IsSettingOf, AreSettled, all_starts, IsAmid}
+use Rattle.sdd_tm.proofs.Lists.{get_map, map_same}
+use Rattle.sdd_tm.proofs.OpenAsks.{open_handed}
+use Rattle.sdd_tm.proofs.LineSteps.{not_over}
+use Rattle.sdd_tm.proofs.Dues.{own_none, none_parts}
+use Rattle.sdd_tm.proofs.Rooms.{few_starts}
+
+-- a message changes the class that it names alone
+
+abbrev pub Apart : Msg → ℕ → Type 0
+Apart m c = (d : ClassNo) → class_named m ≡ Some d → d.0 ≢ c
+
+test_apart : (t u k c : ℕ) → k ≢ c → ((t == u) && (k == c)) ≡ false
+test_apart t u k c h = and_right (t == u) (k == c) (ne_eqb k c h)
+
+exchange_other : (m : Msg) (ts c d : ℕ) (x : Exchange) → Apart m c → after_hand ts c d m x ≡ x
+exchange_other (Ready t k counts) ts c d x h = rw (test_apart t.0 ts k.0 c (h k refl)) refl
+exchange_other (Values t k u values) ts c d x h = rw (test_apart t.0 ts k.0 c (h k refl)) refl
+exchange_other (Reduced t k u n) ts c d x h = rw (test_apart t.0 ts k.0 c (h k refl)) refl
+exchange_other (Rows t k rows) ts c d x h = rw (test_apart t.0 ts k.0 c (h k refl)) refl
+exchange_other _ ts c d x h = refl
+
+rejects_other : (m : Msg) (ts c : ℕ) → Apart m c → rejects m ts c ≡ false
+rejects_other (Reject t k by write) ts c h = test_apart t.0 ts k.0 c (h k refl)
+rejects_other _ ts c h = refl
+
+active_other : (c : ℕ) (from : Site) (m : Msg) (o : Option Attempt) → Apart m c → active_handed c from m o ≡ o
+active_other c (D d) m (Some a) h = rw (rejects_other m a.ts c h, exchange_other m a.ts c d.0 a.exchange h) refl
+active_other c (D d) m None h = refl
+active_other c U m o h = refl
+active_other c (T t) m o h = refl
+
+ask_other : (c : ℕ) (from : Site) (m : Msg) (qs : List Asked) → Apart m c → ask_handed c from m qs ≡ qs
+ask_other c from (Ask k time) qs h = rw (ne_eqb k.0 c (h k refl)) refl
+ask_other c from _ qs h = refl
+
+pub handed_other : (from : Site) (m : Msg) (k : ClassState) → Apart m k.line.class → class_handed from m k ≡ k
+handed_other from m k h = rw (active_other k.line.class from m k.line.active h, ask_other k.line.class from m k.asks h) refl
+
+-- what is kept of the log
+
+push_if : (qs : List Question) (q : Question) (c : ℕ)
+    → asks_of c (qs ++ q ∷ []) ≡ (if q.class == c then asks_of c qs ++ asked q ∷ [] else asks_of c qs)
+push_if [] q c = elim (q.class == c) as (λ b. map asked (cond b (q ∷ []) []) ≡ (if b then asked q ∷ [] else []))
+    [ true ↦ refl | false ↦ refl ]
+push_if (x ∷ qs) q c =
+    elim (x.class == c) as (λ b. map asked (cond b (x ∷ filter (λ r. r.class == c) (qs ++ q ∷ []))
+    (filter (λ r. r.class == c) (qs ++ q ∷ [])))
+    ≡ (if q.class == c then map asked
+    (cond b (x ∷ filter (λ r. r.class == c) qs) (filter (λ r. r.class == c) qs)) ++ asked q ∷ [] else map asked
+    (cond b (x ∷ filter (λ r. r.class == c) qs) (filter (λ r. r.class == c) qs)))) [
+      | true ↦ ap (λ rest. asked x ∷ rest) (push_if qs q c)
+          ∙ out (q.class == c) (asked x) (asks_of c qs ++ asked q ∷ []) (asks_of c qs)
+      | false ↦ push_if qs q c
+    ]
+  where
+    out : (b : Bool) (y : Asked) (us vs : List Asked) → y ∷ (if b then us else vs) ≡ (if b then y ∷ us else y ∷ vs)
+    out true y us vs = refl
+    out false y us vs = refl
+
+asks_kept : (n c : ℕ) (from : Site) (m : Msg) (qs : List Question)
+    → asks_of c (asks_handed n from m qs) ≡ ask_handed c from m (asks_of c qs)
+asks_kept n c from (Ask class time) qs = push_if qs (record { hand = n; from = from; class = class.0; time = time.0 }) c
+asks_kept n c from _ qs = refl
+
+class_kept : (s : Setting) (log : Log) (from : Site) (m : Msg) (c : ℕ)
+    → class_of s (Handed from m ∷ log) c ≡ class_handed from m (class_of s log c)
+class_kept s log from m c =
+    ap (λ qs. record (class_handed from m (class_of s log c)) { asks = qs })
+    (asks_kept (suc (hands log)) c from m (asks log))
+
+hold_kept : (n : ℕ) (m : Msg) (h : HoldCounts) → InTurn h
+    → nat_lt (holds_handed n m h).releases (holds_handed n m h).holds ≡ hold_handed m (nat_lt h.releases h.holds)
+hold_kept n Hold h turns = let a = turns.released in let b = turns.answered in lt-ltb h.releases (suc h.holds) (omega arith)
+hold_kept n (Release ts) h turns = le-ltb (suc h.releases) h.holds turns.one
+hold_kept n _ h turns = refl
+
+owed_kept : (n : ℕ) (m : Msg) (h : HoldCounts) → InTurn h
+    → nat_lt (holds_handed n m h).helds (holds_handed n m h).holds ≡ owed_handed m (nat_lt h.helds h.holds)
+owed_kept n Hold h turns = let b = turns.answered in lt-ltb h.helds (suc h.holds) (omega arith)
+owed_kept n _ h turns = refl
+
+pub map_map : {A B C : Type 0} (f : B → C) (g : A → B) (xs : List A) → map f (map g xs) ≡ map (λ x. f (g x)) xs
+map_map f g [] = refl
+map_map f g (x ∷ xs) = ap (λ rest. f (g x) ∷ rest) (map_map f g xs)
+
+pub state_kept : (s : Setting) (log : Log) (from : Site) (m : Msg) → InTurn (holds log)
+    → state_of s (Handed from m ∷ log) ≡ state_handed from m (state_of s log)
+state_kept s log from m turns =
+    let classes : map (class_of s (Handed from m ∷ log)) (runs s) ≡ map (class_handed from m) (map (class_of s log) (runs s)) =
+    map_same (class_of s (Handed from m ∷ log)) (λ c. class_handed from m (class_of s log c)) (runs s)
+    (λ i c e. class_kept s log from m c) ∙ sym (map_map (class_handed from m) (class_of s log) (runs s)) in
+    rw (classes, hold_kept (suc (hands log)) m (holds log) turns, owed_kept (suc (hands log)) m (holds log) turns) refl
+
+-- what holds of the log
+
+pub answer_fits : (s : Setting) (bases : Bases) (log : Log) (from : Site) (m : Msg) → fits_kind s bases log from m
+    → FitsAnswer s bases log from m
+answer_fits s bases log from (Ready ts class counts) f = f.answers
+answer_fits s bases log from (Reject ts class by write) f = f.answers
+answer_fits s bases log from (Values ts class u values) f = f
+answer_fits s bases log from (Reduced ts class u n) f = f
+answer_fits s bases log from (Rows ts class rows) f = f
+answer_fits s bases log from _ f = tt
+
+turns_kept : (s : Setting) (bases : Bases) (log : Log) (from : Site) (m : Msg) → fits_kind s bases log from m
+    → InTurn (holds log) → InTurn (holds (Handed from m ∷ log))
+turns_kept s bases log from Hold f turns =
+    let a = turns.released in
+    let b = turns.answered in
+    let free : (holds log).holds ≤ (holds log).releases = ltb-false (holds log).releases (holds log).holds f.free in
+    record { released = a; answered = omega arith; one = omega arith }
+turns_kept s bases log from (Release ts) f turns =
+    let a = turns.released in
+    let b = turns.answered in
+    let one = turns.one in
+    let held : (holds log).releases < (holds log).holds = ltb-true (holds log).releases (holds log).holds f.hold in
+    let all : (holds log).helds ≡ (holds log).holds = f.held in
+    record { released = omega arith; answered = b; one = omega arith }
+turns_kept s bases log from _ f turns = record { released = turns.released; answered = turns.answered; one = turns.one }
+
+pub sound_handed : (s : Setting) (bases : Bases) (log : Log) (from : Site) (m : Msg) → fits_kind s bases log from m
+    → IsSound s log → IsSound s (Handed from m ∷ log)
+sound_handed s bases log from m f sound = record {
+  lines = λ i c e. line_handed s bases c log from m (answer_fits s bases log from m f) (sound.lines i c e);
+  stamped = stamped_still s log (Handed from m) refl sound.stamped;
+  unanswered = open_handed log from m sound.unanswered;
+  turns = turns_kept s bases log from m f sound.turns;
+}
+
+-- an attempt between calls can't commit
+pub resting : (cat : Catalogue) (bases : Bases) (o : Option Attempt) → line_step o ≡ None → IsServed cat bases o
+resting cat bases None e = tt
+resting cat bases (Some a) e = λ over. absurd (false≢true (sym (not_over a e) ∙ over))
+
+pub settled_of : (s : Setting) (log : Log) → AreSettled (state_of s log) → (i c : ℕ) → slice_get (runs s) i ≡ Some c
+    → line_step (active s c log) ≡ None
+settled_of s log settled i c e =
+    (own_none (class_of s log c) (none_parts (on_hold (view_of s log)) (class_of s log c)
+    (settled i (class_of s log c) (get_map (class_of s log) (runs s) i c e))).0).0
+
+-- the clock
+
+pub early : (s : Setting) (bases : Bases) (log : Log) (from : Site) (m : Msg) → fits s bases log from m
+    → (pushed_by m (clock s.site log)).ticks < 2 ^ 56
+early s bases log from (Ask class time) f = let t = f.0.time in let l = f.1.early in omega arith
+early s bases log from (Reject ts class by write) f = let t = f.0.time in let l = f.1.early in omega arith
+early s bases log from (Release ts) f = let t = f.0.time in let l = f.1.early in omega arith
+early s bases log from (Held time) f = absurd f.1
+early s bases log from _ f = f.0.time
+
+shorter : {A : Type 0} (p : A → Bool) (xs : List A) → length (filter p xs) ≤ length xs
+shorter p [] = omega arith
+shorter p (x ∷ xs) = let rest = shorter p xs in
+    elim (p x) as (λ b. length (cond b (x ∷ filter p xs) (filter p xs)) ≤ suc (length xs)) [
+      | true ↦ omega arith
+      | false ↦ omega arith
+    ]
+
+length_range : (a n : ℕ) → length (range_with_len a n) ≡ n
+length_range a zero = refl
+length_range a (suc n) = ap suc (length_range (a + 1) n)
+
+pub few_runs : (s : Setting) (log : Log) → IsSettingOf s log → length (runs s) ≤ 64
+few_runs s log setting =
+    let few : length s.catalogue.classes ≤ MAX_CLASSES = setting.whole.few_classes in
+    let all = shorter (λ c. (class_at s.catalogue c).tm.0 == number_of s.site) (numbers_to (length s.catalogue.classes)) in
+    let n = length_range 1 (length s.catalogue.classes) in
+    omega arith
+
+pub has_room : (s : Setting) (log : Log) → IsSettingOf s log → IsSound s log → (clock s.site log).ticks < 2 ^ 56
+    → (clock s.site log).ticks + all_starts (state_of s log).classes + 1 < 2 ^ 57
+has_room s log setting sound low =
+    let few = few_starts s log (runs s) sound.lines in
+    let runs_few = few_runs s log setting in
+    omega arith
+
+-- the module within the call
+
+pub amid_handed : (s : Setting) (bases : Bases) (log : Log) (from : Site) (m : Msg) → IsSettingOf s log
+    → IsSound s log → AreSettled (state_of s log) → fits s bases log from m
+    → IsAmid s bases (state_handed from m (state_of s log)) (Handed from m ∷ log)
+amid_handed s bases log from m setting sound settled f =
+    let now : IsSound s (Handed from m ∷ log) = sound_handed s bases log from m f.1 sound in
+    let is = state_kept s log from m sound.turns in
+    record {
+      setting = record { valid = setting.valid; whole = setting.whole; in_force = setting.in_force };
+      sound = now;
+      state_is = is;
+      databases = f.0.databases;
+      served = λ i c e. served_handed s bases log c from m (answer_fits s bases log from m f.1)
+          (sound.lines i c e).asking (resting s.catalogue bases (active s c log) (settled_of s log settled i c e));
+      room = subst (λ (st : State). st.clock.ticks + all_starts st.classes + 1 < 2 ^ 57) is
+          (has_room s (Handed from m ∷ log) (record {
+            valid = setting.valid;
+            whole = setting.whole;
+            in_force = setting.in_force;
+          }) now (early s bases log from m f));
+    }
+
+-- what the message touches
+
+awaited_class : (s : Setting) (log : Log) (f : Phase → Bool) (from : Site) (ts k c : ℕ)
+    → AwaitsAt f (active s k log) from ts → k ≡ c → AwaitsAt f (active s c log) from ts
+awaited_class s log f from ts k c h e = subst (λ n. AwaitsAt f (active s n log) from ts) e h
+
+-- an answer is one that its class awaits
+pub is_awaited : (s : Setting) (bases : Bases) (log : Log) (from : Site) (m : Msg) (c : ℕ)
+    → fits_kind s bases log from m → IsAwaited c from m (active s c log)
+is_awaited s bases log from (Values ts class u values) c f = λ e. awaited_class s log (fetches_use u) from ts.0 class.0 c f e
+is_awaited s bases log from _ c f = tt

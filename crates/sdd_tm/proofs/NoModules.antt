@@ -1,0 +1,185 @@
+-- An attempt that reads at no module needs no rows: no row of a database meets the restrictions of one of its uses.
+use Rattle.std.proofs.Common.{ℕ, ◌+◌, ◌≤◌, ◌≡◌, ◌==◌, inl, inr, true, false, cond, List, [], ◌∷◌, ◌++◌, map, length, refl, sym, ◌∙◌, subst, arith, Option, Some, None, is_some}
+use Rattle.std.specs.List.{AllByRecursion, cons_option, list_all, filter_map}
+use Rattle.std.proofs.lemmas.List.Elements.{recursion_from_All}
+use Rattle.std.proofs.lemmas.Bool.{and_parts, ne_eqb, cond-false, false≢true}
+use Rattle.sdd_base.specs.Words.{ascending, contains}
+use Rattle.sdd_base.specs.declared.number.FragNo.{FragNo}
+use Rattle.sdd_base.specs.declared.number.RelNo.{RelNo}
+use Rattle.sdd_base.specs.declared.site.Site.{Site}
+use Rattle.sdd_base.specs.declared.usage.Use.{Use}
+use Rattle.sdd_catalog.specs.Catalogue.{Catalogue, reads_at, numbers_to, fragment_of}
+use Rattle.sdd_catalog.specs.Rules.{IsSound}
+use Rattle.sdd_lang.specs.declared.condition.Condition.{Condition}
+use Rattle.sdd_lang.specs.declared.statement.Stmt.{Stmt}
+use Rattle.sdd_lang.specs.declared.statement.Stmt.TheVariants.{Put, Query, Update, Delete}
+use Rattle.sdd_lang.specs.declared.transaction.Txn.{Txn}
+use Rattle.sdd_lang.specs.Classes.{fragments_in, read_set}
+use Rattle.sdd_lang.specs.Condition.{Tuple, part_of}
+use Rattle.sdd_lang.specs.Database.{Item, Row, Database, rows_of}
+use Rattle.sdd_lang.specs.Fits.{Fits, FitsStatement, FitsCondition, IsRelation, rel_of}
+use Rattle.sdd_lang.specs.Query.{product}
+use Rattle.sdd_lang.specs.Sound.{IsDatabase, IsEntry}
+use Rattle.sdd_lang.specs.Source.{uses_in}
+use Rattle.sdd_lang.specs.Uses.{restrictions_of, fragments_for, statement_uses, uses_from, uses_of}
+use Rattle.sdd_lang.proofs.Pushdown.{meets_restrictions, parts_meet}
+use Rattle.sdd_lang.proofs.ReadSetDecides.{lies_in_use, ascending_back}
+use Rattle.sdd_lang.proofs.Sources.{length-statement_uses}
+use Rattle.sdd_exec.specs.Choices.{Has}
+use Rattle.sdd_exec.specs.Serves.{AreEnough, AreEnoughAlong, Serves}
+use Rattle.sdd_exec.proofs.Members.{Has-map_from, Has-flat_map_from, Has-filter_map_from}
+use Rattle.sdd_protocol.specs.declared.entry.Entry as line
+use Rattle.sdd_wire.specs.declared.msg.Msg.{Msg}
+use Rattle.sdd_base.specs.Clock.{Ticking, ticked, timestamp}
+use Rattle.sdd_module.specs.SiteLog.{Bases, sends_of_act}
+use Rattle.sdd_attempt.specs.Queues.{Queued}
+use Rattle.sdd_attempt.specs.Exchange.{first_phase, module_read, is_over}
+use Rattle.sdd_attempt.specs.Attempts.{started}
+use Rattle.sdd_attempt.specs.Acts.{modules_of, start_act}
+use Rattle.sdd_attempt.specs.Sound.{IsWaiting, IsServed}
+use Rattle.sdd_attempt.proofs.SoundLines.{start_modules}
+
+-- no row of the database
+
+each_has : {A : Type 0} (P : A → Type 0) (xs : List A) (x : A) → AllByRecursion P xs → Has xs x → P x
+each_has P [] x all h = absurd h
+each_has P (y ∷ xs) x all (inl e) = subst P e all.0
+each_has P (y ∷ xs) x all (inr h) = each_has P xs x all.1 h
+
+entry_of : (db : Database) (rel : ℕ) (row : Row) → Has (rows_of db rel) row
+    → (e : Item × Row) × Has db e × ((e.0.0 == rel) ≡ true) × (e.1 ≡ row)
+entry_of db rel row h =
+    let m = Has-filter_map_from (λ (e : Item × Row). cond (e.0.0 == rel) (Some e.1) None) db row h in
+    let e : Item × Row = m.0 in
+    elim (e.0.0 == rel) as (λ b. (e.0.0 == rel) ≡ b → cond b (Some e.1) None ≡ Some row
+    → (e : Item × Row) × Has db e × ((e.0.0 == rel) ≡ true) × (e.1 ≡ row)) [
+      | true ↦ λ q k. (e, m.1, q, cc)
+      | false ↦ λ q k. absurd cc
+    ] refl m.2
+
+no_row : (cat : Catalogue) → IsSound cat → (db : Database) → IsDatabase cat db
+    → (rels : List RelNo) (part : ℕ) (conds : List Condition) (rel : ℕ) → rel_of rels part ≡ rel
+    → IsRelation cat rel → AllByRecursion (FitsCondition cat rels) conds
+    → fragments_for cat rel (restrictions_of part conds) ≡ [] → (row : Row) → Has (rows_of db rel) row
+    → meets_restrictions conds part row ≡ true → ⊥
+no_row cat sound db is rels part conds rel of there fits none row h met =
+    let o = entry_of db rel row h in
+    let e : Item × Row = o.0 in
+    let entry : IsEntry cat e = each_has (IsEntry cat) db e (recursion_from_All (IsEntry cat) db is.entries) o.1 in
+    let lies = lies_in_use cat sound rels part conds rel of there fits e entry o.2
+    (subst (λ r. meets_restrictions conds part r ≡ true) (sym o.3) met) in
+    false≢true (subst (λ (fs : List FragNo). contains (map (λ f. f.0) fs) (fragment_of cat e.0.0 e.0.1) ≡ true) none lies)
+
+-- statements whose uses lie in no fragment
+
+abbrev NoFragments : List Use → Type 0
+NoFragments uses = AllByRecursion (λ (u : Use). u.frags ≡ []) uses
+
+first_of_product : (rows : List Row) (rest : List (List Row)) (tuple : Tuple) → Has (product (rows ∷ rest)) tuple
+    → Has rows (part_of tuple 1)
+first_of_product rows rest tuple h =
+    let m = Has-flat_map_from (λ (row : Row). map (λ (t : Tuple). row ∷ t) (product rest)) rows tuple h in
+    let n = Has-map_from (λ (t : Tuple). m.0 ∷ t) (product rest) tuple m.2 in
+    subst (λ (t : Tuple). Has rows (part_of t 1)) n.2 m.1
+
+enough : (cat : Catalogue) → IsSound cat → (db : Database) → IsDatabase cat db → (before : ℕ) (s : Stmt)
+    → FitsStatement cat s → NoFragments (statement_uses cat before s) → AreEnough db [] before s
+enough cat sound db is before (Put rel row) fits none = tt
+enough cat sound db is before (Query out [] conds) fits none = λ tuple h met part within. let low : 1 ≤ part =
+    within.0 in let high : part ≤ 0 = within.1 in absurd (omega arith)
+enough cat sound db is before (Query out (rel ∷ rels) conds) fits none = λ tuple h met part within.
+    let row = first_of_product (rows_of db rel.0) (map (λ (r : RelNo). rows_of db r.0) rels) tuple h in
+    let there = recursion_from_All (λ (r : RelNo). IsRelation cat r.0) (rel ∷ rels) fits.1 in
+    absurd (no_row cat sound db is (rel ∷ rels) 1 conds rel.0 refl there.0
+    (recursion_from_All (FitsCondition cat (rel ∷ rels)) conds fits.4.1) none.0 (part_of tuple 1) row
+    (parts_meet conds tuple 1 met))
+enough cat sound db is before (Update rel sets conds) fits none = λ row of.
+    absurd (no_row cat sound db is (rel ∷ []) 1 conds rel.0 refl fits.0
+    (recursion_from_All (FitsCondition cat (rel ∷ [])) conds fits.3.1) none.0 row of.0 of.1)
+enough cat sound db is before (Delete rel conds) fits none = λ row of.
+    absurd (no_row cat sound db is (rel ∷ []) 1 conds rel.0 refl fits.0
+    (recursion_from_All (FitsCondition cat (rel ∷ [])) conds fits.1.1) none.0 row of.0 of.1)
+
+all_parts : {A : Type 0} (P : A → Type 0) (xs ys : List A) → AllByRecursion P (xs ++ ys)
+    → AllByRecursion P xs × AllByRecursion P ys
+all_parts P [] ys h = (tt, h)
+all_parts P (x ∷ xs) ys h = let r = all_parts P xs ys h.1 in ((h.0, r.0), r.1)
+
+enough_along : (cat : Catalogue) → IsSound cat → (db : Database) → IsDatabase cat db
+    → (before : ℕ) (statements : List Stmt) → AllByRecursion (FitsStatement cat) statements
+    → NoFragments (uses_from cat before statements) → AreEnoughAlong db [] before statements
+enough_along cat sound db is before [] fits none = tt
+enough_along cat sound db is before (s ∷ rest) fits none =
+    let parts = all_parts (λ (u : Use). u.frags ≡ []) (statement_uses cat before s)
+    (uses_from cat (before + length (statement_uses cat before s)) rest) none in
+    let later : NoFragments (uses_from cat (before + uses_in s) rest) =
+    subst (λ n. NoFragments (uses_from cat (before + n) rest)) (length-statement_uses cat before s) parts.1 in
+    (enough cat sound db is before s fits.0 parts.0, enough_along cat sound db is (before + uses_in s) rest fits.1 later)
+
+nothing_serves : (cat : Catalogue) → IsSound cat → (txn : Txn) → Fits cat txn → (db : Database) → IsDatabase cat db
+    → NoFragments (uses_of cat txn) → Serves cat txn [] db
+nothing_serves cat sound txn fits db is none = record {
+  named = λ s h. absurd h;
+  held = λ u h row r. absurd r;
+  enough = enough_along cat sound db is 0 txn.statements (recursion_from_All (FitsStatement cat) txn.statements
+      fits.statements) none;
+}
+
+-- a class reads all of its transactions' fragments somewhere: where it has no module, there are none
+
+nothing_kept : (cat : Catalogue) (c : ℕ) (fs : List ℕ) → list_all (λ f. is_some (reads_at cat c f)) fs ≡ true
+    → filter_map (reads_at cat c) fs ≡ [] → fs ≡ []
+nothing_kept cat c [] h e = refl
+nothing_kept cat c (f ∷ fs) h e =
+    there (reads_at cat c f) (and_parts (is_some (reads_at cat c f)) (list_all (λ f. is_some (reads_at cat c f)) fs)
+    h).0 e
+  where
+    there : (o : Option ℕ) → is_some o ≡ true → cons_option o (filter_map (reads_at cat c) fs) ≡ [] → f ∷ fs ≡ []
+    there None h e = absurd (false≢true h)
+    there (Some d) h e = absurd cc
+
+not_empty : (xs : List ℕ) → ascending xs ≡ [] → xs ≡ []
+not_empty xs e = by xs (ascending_back (λ n. ⊥) xs (subst (AllByRecursion (λ n. ⊥)) (sym e) tt))
+  where
+    by : (ys : List ℕ) → AllByRecursion (λ n. ⊥) ys → ys ≡ []
+    by [] h = refl
+    by (y ∷ ys) h = absurd h.0
+
+first_is_empty : (u : Use) (fs : List FragNo) (more : List ℕ) → u.frags ≡ fs
+    → map (λ (f : FragNo). f.0) fs ++ more ≡ [] → (u.frags ≡ []) × (more ≡ [])
+first_is_empty u [] more f g = (f, g)
+first_is_empty u (x ∷ fs) more f g = absurd cc
+
+no_fragments : (uses : List Use) → fragments_in uses ≡ [] → NoFragments uses
+no_fragments [] e = tt
+no_fragments (u ∷ uses) e = let p = first_is_empty u u.frags (fragments_in uses) refl e in (p.0, no_fragments uses p.1)
+
+pub no_modules : (cat : Catalogue) (c : ℕ) (txn : Txn) → 1 ≤ c
+    → list_all (λ f. is_some (reads_at cat c f)) (read_set cat txn) ≡ true
+    → modules_of cat c (ascending (fragments_in (uses_of cat txn))) ≡ [] → NoFragments (uses_of cat txn)
+no_modules cat c txn low covered e =
+    let declared : (c == 0) ≡ false = ne_eqb c 0 (λ q. absurd (omega arith)) in
+    let of : ascending (filter_map (reads_at cat c) (read_set cat txn)) ≡ [] =
+    sym (cond-false (c == 0) (numbers_to cat.dms) (ascending (filter_map (reads_at cat c) (read_set cat txn)))
+    declared) ∙ e in
+    no_fragments (uses_of cat txn)
+    (not_empty (fragments_in (uses_of cat txn))
+    (nothing_kept cat c (read_set cat txn) covered (not_empty (filter_map (reads_at cat c) (read_set cat txn))
+    of)))
+
+-- so an attempt that begins is served, where it may commit at once
+
+over_without : (ms : List (ℕ × List ℕ)) → is_over (first_phase ms) ≡ true → map (λ (m : ℕ × List ℕ). m.0) ms ≡ []
+over_without [] e = refl
+over_without (m ∷ ms) e = absurd (false≢true e)
+
+pub start_served : (cat : Catalogue) (table : List line.Entry) (bases : Bases) (c : ℕ) (given : List ℕ)
+    (k : Ticking) (q : Queued) → IsSound cat → ((ts : ℕ) → IsDatabase cat (bases ts)) → 1 ≤ c
+    → IsWaiting cat c given q
+    → IsServed cat bases (started (timestamp (ticked k 1)) (sends_of_act (start_act cat table c k q)) (Some q))
+start_served cat table bases c given k q sound databases low waiting = λ over.
+    let sends : List (Site × Msg) = sends_of_act (start_act cat table c k q) in
+    let none : modules_of cat c (ascending (fragments_in (uses_of cat q.text))) ≡ [] =
+    sym (start_modules cat table c k q) ∙ over_without (filter_map module_read sends) over in
+    nothing_serves cat sound q.text waiting.fitting (bases (timestamp (ticked k 1)))
+    (databases (timestamp (ticked k 1))) (no_modules cat c q.text low waiting.covered none)

@@ -1,0 +1,257 @@
+-- The open ASKs: they keep their order, and the first of a class that can be answered goes away with its NULL.
+use Rattle.std.proofs.Common.{ℕ, suc, ◌<◌, ◌≤◌, ◌≡◌, ◌≢◌, ◌==◌, Bool, true, false, not, ◌||◌, cond, List, [], ◌∷◌, ◌++◌, map, refl, ap, sym, ◌∙◌, arith, Option, Some, None}
+use Rattle.std.specs.Prelude.{if◌then◌else◌}
+use Rattle.std.specs.List.{AllByRecursion, filter, list_any, find}
+use Rattle.std.proofs.lemmas.Bool.{or_parts, eq-eqb, eqb-true, ne_eqb, false≢true}
+use Rattle.sdd_base.specs.Words.{or_else, first_some}
+use Rattle.sdd_base.specs.Numbers.{class_no, time_at}
+use Rattle.sdd_base.specs.Clock.{bound_of}
+use Rattle.sdd_base.specs.declared.site.Site.{Site}
+use Rattle.sdd_wire.specs.declared.msg.Msg.{Msg}
+use Rattle.sdd_wire.specs.declared.msg.Msg.TheVariants.{Null, Ask, Hold, Held}
+use Rattle.sdd_module.specs.SiteLog.{Log, Handed, Did, Act, Records, Sends, hands, answers_hand}
+use Rattle.sdd_attempt.specs.Attempts.{Attempt}
+use Rattle.sdd_tm.specs.Views.{Question, ClassView, View, HoldCounts, asks, holds, holds_acted}
+use Rattle.sdd_tm.specs.Due.{null_time, null_at, null_to}
+use Rattle.sdd_tm.specs.State.{asked, asks_of}
+use Rattle.sdd_tm.specs.Steps.{can_answer, without_first, answer_time}
+use Rattle.sdd_tm.specs.Stands.{Rise, AreOpen}
+
+-- hands that rise
+
+rise_lower : (low mid high : ℕ) (qs : List Question) → low ≤ mid → Rise mid high qs → Rise low high qs
+rise_lower low mid high [] l h = omega arith
+rise_lower low mid high (q ∷ qs) l h = let m : mid < q.hand = h.0 in (omega arith, h.1)
+
+rise_higher : (low high top : ℕ) (qs : List Question) → high ≤ top → Rise low high qs → Rise low top qs
+rise_higher low high top [] l h = omega arith
+rise_higher low high top (q ∷ qs) l h = (h.0, rise_higher q.hand high top qs l h.1)
+
+rise_kept : (p : Question → Bool) (low high : ℕ) (qs : List Question) → Rise low high qs → Rise low high (filter p qs)
+rise_kept p low high [] h = h
+rise_kept p low high (q ∷ qs) h =
+    let m : low < q.hand = h.0 in
+    elim (p q) as (λ b. Rise low high (cond b (q ∷ filter p qs) (filter p qs))) [
+      | true ↦ (h.0, rise_kept p q.hand high qs h.1)
+      | false ↦ rise_lower low q.hand high (filter p qs) (omega arith) (rise_kept p q.hand high qs h.1)
+    ]
+
+rise_pushed : (low high : ℕ) (qs : List Question) (q : Question) → q.hand ≡ suc high → Rise low high qs
+    → Rise low (suc high) (qs ++ q ∷ [])
+rise_pushed low high [] q is h = (omega arith, omega arith)
+rise_pushed low high (x ∷ qs) q is h = (h.0, rise_pushed x.hand high qs q is h.1)
+
+all_below : (low high n : ℕ) (qs : List Question) → high < n → Rise low high qs → AllByRecursion (λ q. q.hand ≢ n) qs
+all_below low high n [] l h = tt
+all_below low high n (q ∷ qs) l h =
+    (λ e. let m = up q.hand high qs h.1 in absurd (omega arith), all_below q.hand high n qs l h.1)
+  where
+    up : (low high : ℕ) (qs : List Question) → Rise low high qs → low ≤ high
+    up low high [] h = h
+    up low high (q ∷ qs) h = let m : low < q.hand = h.0 in let r = up q.hand high qs h.1 in omega arith
+
+all_pushed : (P : Question → Type 0) (qs : List Question) (q : Question) → AllByRecursion P qs → P q
+    → AllByRecursion P (qs ++ q ∷ [])
+all_pushed P [] q h k = (k, tt)
+all_pushed P (x ∷ qs) q h k = (h.0, all_pushed P qs q h.1 k)
+
+all_kept : (P : Question → Type 0) (p : Question → Bool) (qs : List Question) → AllByRecursion P qs
+    → AllByRecursion P (filter p qs)
+all_kept P p [] h = tt
+all_kept P p (q ∷ qs) h =
+    elim (p q) as (λ b. AllByRecursion P (cond b (q ∷ filter p qs) (filter p qs)))
+    [ true ↦ (h.0, all_kept P p qs h.1) | false ↦ all_kept P p qs h.1 ]
+
+-- what is open after a message
+
+open_still : (log : Log) (from : Site) (m : Msg) → AreOpen log → asks (Handed from m ∷ log) ≡ asks log
+    → (holds (Handed from m ∷ log)).last ≡ (holds log).last → AreOpen (Handed from m ∷ log)
+open_still log from m h e f = record {
+  rise = rw e (rise_higher 0 (hands log) (suc (hands log)) (asks log) (omega arith) h.rise);
+  last = let l = h.last in rw f (omega arith);
+  apart = rw (e, f) h.apart;
+}
+
+pub open_handed : (log : Log) (from : Site) (m : Msg) → AreOpen log → AreOpen (Handed from m ∷ log)
+open_handed log from (Ask class time) h =
+    let q : Question = record { hand = suc (hands log); from = from; class = class.0; time = time.0 } in
+    let l = h.last in
+    record {
+      rise = rise_pushed 0 (hands log) (asks log) q refl h.rise;
+      last = omega arith;
+      apart = all_pushed (λ q. q.hand ≢ (holds log).last) (asks log) q h.apart (λ e. absurd (omega arith));
+    }
+open_handed log from Hold h = record {
+  rise = rise_higher 0 (hands log) (suc (hands log)) (asks log) (omega arith) h.rise;
+  last = omega arith;
+  apart = all_below 0 (hands log) (suc (hands log)) (asks log) (omega arith) h.rise;
+}
+open_handed log from m h = open_still log from m h refl refl
+
+-- and after an act
+
+same_last : (act : Act) (h : HoldCounts) → (holds_acted act h).last ≡ h.last
+same_last (Sends to (Held t) hand) h = refl
+same_last _ h = refl
+
+pub open_did : (log : Log) (act : Act) → AreOpen log → AreOpen (Did act ∷ log)
+open_did log (Sends to m hand) h =
+    let e = same_last (Sends to m hand) (holds log) in
+    record {
+      rise = rise_kept (λ q. not (answers_hand hand q.hand)) 0 (hands log) (asks log) h.rise;
+      last = rw e h.last;
+      apart = rw e (all_kept (λ q. q.hand ≢ (holds log).last) (λ q. not (answers_hand hand q.hand)) (asks log) h.apart);
+    }
+open_did log (Records c r sends) h = record { rise = h.rise; last = h.last; apart = h.apart }
+
+-- the ASKs of a class
+
+-- without the one that came by a hand
+abbrev pub without_hand : ℕ → List Question → List Question
+without_hand n qs = filter (λ q. not (n == q.hand)) qs
+
+all_later : (n low high : ℕ) (qs : List Question) → n ≤ low → Rise low high qs → without_hand n qs ≡ qs
+all_later n low high [] l h = refl
+all_later n low high (q ∷ qs) l h =
+    let m : low < q.hand = h.0 in
+    let apart : (n == q.hand) ≡ false = ne_eqb n q.hand (λ e. absurd (omega arith)) in
+    rw apart (ap (λ rest. q ∷ rest) (all_later n q.hand high qs (omega arith) h.1))
+
+not_yet : (v : View) (a : Option Attempt) (q : Question) → can_answer a (asked q) ≡ false
+    → null_at q (null_time v a q.time) ≡ None
+not_yet v None q e = absurd (false≢true (sym e))
+not_yet v (Some a) q e = rw e refl
+
+-- none of a class can be answered
+pub none_answered : (v : View) (k : ClassView) (qs : List Question)
+    → list_any (can_answer k.active) (asks_of k.class qs) ≡ false → first_some (null_to v k) qs ≡ None
+none_answered v k [] h = refl
+none_answered v k (q ∷ qs) h =
+    elim (q.class == k.class)
+    as (λ b. list_any (can_answer k.active)
+    (map asked (cond b (q ∷ filter (λ r. r.class == k.class) qs) (filter (λ r. r.class == k.class) qs)))
+    ≡ false
+    → or_else (if b then null_at q (null_time v k.active q.time) else None) (first_some (null_to v k) qs) ≡ None) [
+      | true ↦ λ g.
+          let p = or_parts (can_answer k.active (asked q)) (list_any (can_answer k.active) (asks_of k.class qs)) g in
+          let here : null_at q (null_time v k.active q.time) ≡ None = not_yet v k.active q p.0 in
+          rw here (none_answered v k qs p.1)
+      | false ↦ λ g. none_answered v k qs g
+    ] h
+
+-- the first of a class that can be answered
+pub record IsFirst (v : View) (k : ClassView) (low : ℕ) (qs : List Question) : Type 0 where
+  pub question : Question
+  pub due : first_some (null_to v k) qs ≡ Some
+      (Sends question.from (Null (class_no k.class) (time_at (answer_time v.clock k.active))) (Some question.hand))
+  pub found : find (can_answer k.active) (asks_of k.class qs) ≡ Some (asked question)
+  pub later : low < question.hand
+  pub gone : asks_of k.class (without_hand question.hand qs) ≡ without_first (can_answer k.active) (asks_of k.class qs)
+  pub others : (c : ℕ) → k.class ≢ c → asks_of c (without_hand question.hand qs) ≡ asks_of c qs
+
+answered_now : (v : View) (k : ClassView) (q : Question) → q.class ≡ k.class → can_answer k.active (asked q) ≡ true
+    → null_at q (null_time v k.active q.time) ≡ Some
+    (Sends q.from (Null (class_no k.class) (time_at (answer_time v.clock k.active))) (Some q.hand))
+answered_now v k q same e = by k.active e
+  where
+    by : (a : Option Attempt) → can_answer a (asked q) ≡ true
+        → null_at q (null_time v a q.time) ≡ Some
+        (Sends q.from (Null (class_no k.class) (time_at (answer_time v.clock a))) (Some q.hand))
+    by None f = ap (λ c. Some (Sends q.from (Null (class_no c) (time_at (bound_of v.clock))) (Some q.hand))) same
+    by (Some a) f = rw f (ap (λ c. Some (Sends q.from (Null (class_no c) (time_at a.ts)) (Some q.hand))) same)
+
+-- one ASK more before them: of another class, or not yet to be answered
+skips : (v : View) (k : ClassView) (low high : ℕ) (q : Question) (qs : List Question) → Rise low high (q ∷ qs)
+    → null_to v k q ≡ None
+    → (q.class ≡ k.class → can_answer k.active (asked q) ≡ false) → IsFirst v k q.hand qs → IsFirst v k low (q ∷ qs)
+skips v k low high q qs h none not_yet first =
+    let m : low < q.hand = h.0 in
+    let l : q.hand < first.question.hand = first.later in
+    let apart : (first.question.hand == q.hand) ≡ false = ne_eqb first.question.hand q.hand (λ e. absurd (omega arith)) in
+    let kept : without_hand first.question.hand (q ∷ qs) ≡ q ∷ without_hand first.question.hand qs = rw apart refl in
+    record {
+      question = first.question;
+      due = rw none first.due;
+      found = find_on (q.class == k.class) (λ e. not_yet (eqb-true q.class k.class e)) first.found;
+      later = omega arith;
+      gone = ap (asks_of k.class) kept ∙ gone_on (q.class == k.class) (λ e. not_yet (eqb-true q.class k.class e)) first.gone;
+      others = λ c d. ap (asks_of c) kept ∙ other_on c (q.class == c) (first.others c d);
+    }
+  where
+    find_on : (b : Bool) → (b ≡ true → can_answer k.active (asked q) ≡ false)
+        → find (can_answer k.active) (asks_of k.class qs) ≡ Some (asked first.question)
+        → find (can_answer k.active)
+        (map asked (cond b (q ∷ filter (λ r. r.class == k.class) qs) (filter (λ r. r.class == k.class) qs))) ≡ Some
+        (asked first.question)
+    find_on true f g = rw (f refl) g
+    find_on false f g = g
+
+    gone_on : (b : Bool) → (b ≡ true → can_answer k.active (asked q) ≡ false)
+        → asks_of k.class (without_hand first.question.hand qs) ≡ without_first (can_answer k.active)
+        (asks_of k.class qs)
+        → map asked (cond b (q ∷ filter (λ r. r.class == k.class) (without_hand first.question.hand qs))
+        (filter (λ r. r.class == k.class) (without_hand first.question.hand qs)))
+        ≡ without_first (can_answer k.active)
+        (map asked (cond b (q ∷ filter (λ r. r.class == k.class) qs) (filter (λ r. r.class == k.class) qs)))
+    gone_on true f g = rw (f refl) (ap (λ rest. asked q ∷ rest) g)
+    gone_on false f g = g
+
+    other_on : (c : ℕ) (b : Bool) → asks_of c (without_hand first.question.hand qs) ≡ asks_of c qs
+        → map asked (cond b (q ∷ filter (λ r. r.class == c) (without_hand first.question.hand qs))
+        (filter (λ r. r.class == c) (without_hand first.question.hand qs)))
+        ≡ map asked (cond b (q ∷ filter (λ r. r.class == c) qs) (filter (λ r. r.class == c) qs))
+    other_on c true g = ap (λ rest. asked q ∷ rest) g
+    other_on c false g = g
+
+first_here : (v : View) (k : ClassView) (low high : ℕ) (q : Question) (qs : List Question) → Rise low high (q ∷ qs)
+    → (q.class == k.class) ≡ true → can_answer k.active (asked q) ≡ true → IsFirst v k low (q ∷ qs)
+first_here v k low high q qs h own yes_now =
+    let same : q.class ≡ k.class = eqb-true q.class k.class own in
+    let gone : without_hand q.hand (q ∷ qs) ≡ qs =
+    rw (eq-eqb q.hand q.hand refl) (all_later q.hand q.hand high qs (omega arith) h.1) in
+    let here : asks_of k.class (q ∷ qs) ≡ asked q ∷ asks_of k.class qs =
+    ap (λ b. map asked (cond b (q ∷ filter (λ r. r.class == k.class) qs) (filter (λ r. r.class == k.class) qs)))
+    own in
+    let to : null_to v k q ≡ Some (Sends q.from (Null (class_no k.class) (time_at (answer_time v.clock k.active)))
+    (Some q.hand)) = rw own (answered_now v k q same yes_now) in
+    record {
+      question = q;
+      due = ap (λ o. or_else o (first_some (null_to v k) qs)) to;
+      found = ap (find (can_answer k.active)) here
+          ∙ ap (λ b. cond b (Some (asked q)) (find (can_answer k.active) (asks_of k.class qs))) yes_now;
+      later = h.0;
+      gone = ap (asks_of k.class) gone
+          ∙ sym (ap (without_first (can_answer k.active)) here
+          ∙ ap (λ b. cond b (asks_of k.class qs)
+          (asked q ∷ without_first (can_answer k.active) (asks_of k.class qs))) yes_now);
+      others = λ c apart.
+          let other : (q.class == c) ≡ false = ne_eqb q.class c (λ e. apart (sym same ∙ e)) in
+          ap (asks_of c) gone ∙ sym (ap (λ b. map asked
+          (cond b (q ∷ filter (λ r. r.class == c) qs) (filter (λ r. r.class == c) qs))) other);
+    }
+
+skips_none : (v : View) (k : ClassView) (q : Question) (b : Bool) → (q.class == k.class) ≡ b
+    → (b ≡ true → can_answer k.active (asked q) ≡ false) → null_to v k q ≡ None
+skips_none v k q true e f = rw e (not_yet v k.active q (f refl))
+skips_none v k q false e f = rw e refl
+
+pub first_answered : (v : View) (k : ClassView) (low high : ℕ) (qs : List Question) → Rise low high qs
+    → list_any (can_answer k.active) (asks_of k.class qs) ≡ true → IsFirst v k low qs
+first_answered v k low high [] h e = absurd (false≢true e)
+first_answered v k low high (q ∷ qs) h e =
+    elim (q.class == k.class) as (λ b. (q.class == k.class) ≡ b
+    → list_any (can_answer k.active)
+    (map asked (cond b (q ∷ filter (λ r. r.class == k.class) qs) (filter (λ r. r.class == k.class) qs))) ≡ true
+    → IsFirst v k low (q ∷ qs)) [
+      | true ↦ λ own g.
+          elim (can_answer k.active (asked q)) as (λ b. can_answer k.active (asked q) ≡ b
+          → (b || list_any (can_answer k.active) (asks_of k.class qs)) ≡ true → IsFirst v k low (q ∷ qs)) [
+            | true ↦ λ yes_now f. first_here v k low high q qs h own yes_now
+            | false ↦ λ not_now f. skips v k low high q qs h (skips_none v k q true own (λ r. not_now))
+                (λ r. not_now) (first_answered v k q.hand high qs h.1 f)
+          ] refl g
+      | false ↦ λ other g.
+          skips v k low high q qs h (skips_none v k q false other (λ r. absurd (false≢true r)))
+          (λ r. absurd (false≢true (sym other ∙ eq-eqb q.class k.class r)))
+          (first_answered v k q.hand high qs h.1 g)
+    ] refl e

@@ -1,0 +1,182 @@
+-- HELD: on hold, once no class is active, it is what is due, and once.
+use Rattle.std.proofs.Common.{ℕ, suc, ◌<◌, ◌≡◌, ◌≢◌, ◌==◌, Bool, true, false, ◌&&◌, List, [], ◌∷◌, map, refl, ap, sym, ◌∙◌, subst, arith, Option, Some, None, is_none}
+use Rattle.std.specs.Prelude.{nat_lt, if◌then◌else◌}
+use Rattle.std.specs.List.{AllByRecursion, list_all}
+use Rattle.std.proofs.lemmas.Bool.{and_parts, ne_eqb, ltb-true, le-ltb}
+use Rattle.sdd_base.specs.Numbers.{time_at}
+use Rattle.sdd_base.specs.Clock.{Ticking, bound_of}
+use Rattle.sdd_base.specs.declared.site.Site.TheVariants.{U}
+use Rattle.sdd_wire.specs.declared.msg.Msg.{Msg}
+use Rattle.sdd_wire.specs.declared.msg.Msg.TheVariants.{Held}
+use Rattle.sdd_module.specs.SiteLog.{Setting, Bases, Log, Did, Act, Sends}
+use Rattle.sdd_module.specs.Notes.{Notes, with_act, noted}
+use Rattle.sdd_attempt.specs.Clocks.{clock}
+use Rattle.sdd_attempt.specs.Queues.{queue}
+use Rattle.sdd_attempt.specs.Attempts.{active}
+use Rattle.sdd_attempt.proofs.Stamps.{stamped_did}
+use Rattle.sdd_attempt.proofs.SoundLines.{IsApart, sent_apart, line_apart}
+use Rattle.sdd_tm.specs.Views.{Question, asks, asks_acted, holds, holds_acted, class_view, view_of, runs, on_hold}
+use Rattle.sdd_tm.specs.Views as views
+use Rattle.sdd_tm.specs.Due.{held_due, next}
+use Rattle.sdd_tm.specs.State.{State, asks_of, class_of, state_of}
+use Rattle.sdd_tm.specs.Steps.{is_idle, held_of, told_by, told}
+use Rattle.sdd_tm.specs.Stands.{AreSettled, IsAmid}
+use Rattle.sdd_tm.proofs.Lists.{some_is, map_same}
+use Rattle.sdd_tm.proofs.OpenAsks.{without_hand, open_did}
+use Rattle.sdd_tm.proofs.Dues.{held_is_due}
+use Rattle.sdd_tm.proofs.Acting.{served_sent}
+
+-- whether all classes are idle, of the log and of what is kept of it
+idle_alike : (s : Setting) (log : Log) (cs : List ℕ) → list_all views.is_idle (map (class_view s log) cs) ≡ list_all
+    is_idle (map (class_of s log) cs)
+idle_alike s log [] = refl
+idle_alike s log (c ∷ cs) = ap (λ b. is_none (active s c log) && b) (idle_alike s log cs)
+
+-- an ASK isn't taken for a HOLD
+asks_stay : (n : ℕ) (qs : List Question) → AllByRecursion (λ q. q.hand ≢ n) qs → without_hand n qs ≡ qs
+asks_stay n [] h = refl
+asks_stay n (q ∷ qs) h = let apart : (n == q.hand) ≡ false = ne_eqb n q.hand (λ e. h.0 (sym e)) in
+    rw apart (ap (λ rest. q ∷ rest) (asks_stay n qs h.1))
+
+held_apart : (c t : ℕ) → IsApart c (Held (time_at t))
+held_apart c t = record { reads = λ ts. refl; asks = λ ts. refl }
+
+-- the HELD of a log
+abbrev held_act : Setting → Log → Act
+held_act s log = Sends U (Held (time_at (bound_of (clock s.site log)))) (Some (holds log).last)
+
+class_stays : (s : Setting) (log : Log) (c : ℕ) → AllByRecursion (λ (q : Question). q.hand ≢ (holds log).last)
+    (asks log) → class_of s (Did (held_act s log) ∷ log) c ≡ class_of s log c
+class_stays s log c apart =
+    let t : ℕ = bound_of (clock s.site log) in
+    ap (λ a. record {
+      line = record { catalogue = s.catalogue; class = c; queue = queue s c log; active = a };
+      asks = asks_of c (asks_acted (held_act s log) (asks log));
+    })
+    (sent_apart c (Held (time_at t)) (active s c log) (held_apart c t))
+    ∙ ap (λ qs. record (class_of s log c) { asks = asks_of c qs }) (asks_stay (holds log).last (asks log) apart)
+
+-- once it is sent
+
+told_amid : (s : Setting) (bases : Bases) (log : Log) → IsAmid s bases (state_of s log) log
+    → (on_hold (view_of s log) && (list_all is_idle (state_of s log).classes && nat_lt (holds log).helds
+    (holds log).holds)) ≡ true
+    → IsAmid s bases (record (state_of s log) { owes_held = false }) (Did (held_act s log) ∷ log)
+told_amid s bases log amid h =
+    let act : Act = held_act s log in
+    let t : ℕ = bound_of (clock s.site log) in
+    let m : Msg = Held (time_at t) in
+    let turns = amid.sound.turns in
+    let released = turns.released in
+    let one = turns.one in
+    let owed : (holds log).helds < (holds log).holds =
+    ltb-true (holds log).helds (holds log).holds (and_parts (list_all is_idle (state_of s log).classes)
+    (nat_lt (holds log).helds (holds log).holds)
+    (and_parts (on_hold (view_of s log)) (list_all is_idle (state_of s log).classes && nat_lt
+    (holds log).helds (holds log).holds) h).1).1 in
+    let classes : map (class_of s (Did act ∷ log)) (runs s) ≡ map (class_of s log) (runs s) =
+    map_same (class_of s (Did act ∷ log)) (class_of s log) (runs s)
+    (λ i c e. class_stays s log c amid.sound.unanswered.apart) in
+    let paid : nat_lt (suc (holds log).helds) (holds log).holds ≡ false =
+    le-ltb (suc (holds log).helds) (holds log).holds (omega arith) in
+    record {
+      setting = record { valid = amid.setting.valid; whole = amid.setting.whole; in_force = amid.setting.in_force };
+      sound = record {
+        lines = λ i c e. line_apart s c log U m (Some (holds log).last) (held_apart c t) (amid.sound.lines i c e);
+        stamped = stamped_did s log act amid.sound.stamped (tt, tt);
+        unanswered = open_did log act amid.sound.unanswered;
+        turns = record { released = omega arith; answered = omega arith; one = one };
+      };
+      state_is = rw (classes, paid) refl;
+      databases = amid.databases;
+      served = λ i c e. served_sent s.catalogue bases c m (active s c log) (amid.served i c e);
+      room = amid.room;
+    }
+
+-- what is due of the module: a HELD, or nothing
+pub record Tells (s : Setting) (bases : Bases) (log : Log) (state : State) (act : Act) : Type 0 where
+  pub hand : ℕ
+  pub is_due : next s bases log ≡ Some (Sends U (Held (time_at (bound_of state.clock))) (Some hand))
+  pub notes : (n : Notes) → noted (Some act) n ≡ with_act (Sends U (Held (time_at (bound_of state.clock))) (Some hand)) n
+  pub amid : IsAmid s bases (record state { owes_held = false })
+      (Did (Sends U (Held (time_at (bound_of state.clock))) (Some hand)) ∷ log)
+
+held_if : (b : Bool) (x act : Act) → (if b then Some x else None) ≡ Some act → (b ≡ true) × (x ≡ act)
+held_if true x act e = (refl, some_is e)
+held_if false x act e = absurd cc
+
+no_held_if : (b : Bool) (x y : Act) → (if b then Some x else None) ≡ None → (if b then Some y else None) ≡ None
+no_held_if true x y e = absurd cc
+no_held_if false x y e = refl
+
+-- as the log has it
+held_same : (s : Setting) (log : Log) → held_due (view_of s log)
+    ≡ (if on_hold (view_of s log) && (list_all is_idle (state_of s log).classes && nat_lt (holds log).helds
+    (holds log).holds) then Some (held_act s log) else None)
+held_same s log = ap (λ b. if on_hold (view_of s log) && (b && nat_lt (holds log).helds (holds log).holds) then Some
+    (held_act s log) else None) (idle_alike s log (runs s))
+
+tells_of : (s : Setting) (bases : Bases) (log : Log) (act : Act) → IsAmid s bases (state_of s log) log
+    → AreSettled (state_of s log) → held_of (state_of s log) ≡ Some act → Tells s bases log (state_of s log) act
+tells_of s bases log act amid settled e =
+    let r = held_if (on_hold (view_of s log) && (list_all is_idle (state_of s log).classes && nat_lt
+    (holds log).helds (holds log).holds)) (Sends U (Held (time_at (bound_of (clock s.site log)))) None) act e in
+    let due : held_due (view_of s log) ≡ Some (held_act s log) =
+    held_same s log ∙ ap (λ b. if b then Some (held_act s log) else None) r.0 in
+    record {
+      hand = (holds log).last;
+      is_due = held_is_due s bases log settled ∙ due;
+      notes = λ n. ap (λ a. with_act a n) (sym r.1);
+      amid = told_amid s bases log amid r.0;
+    }
+
+pub tells : (s : Setting) (bases : Bases) (state : State) (log : Log) (act : Act) → IsAmid s bases state log
+    → AreSettled state → held_of state ≡ Some act → Tells s bases log state act
+tells s bases state log act amid settled e =
+    let is : state_of s log ≡ state = amid.state_is in
+    subst (λ (st : State). Tells s bases log st act) is
+    (tells_of s bases log act (subst (λ st. IsAmid s bases st log) (sym is) amid)
+    (subst AreSettled (sym is) settled) (subst (λ (st : State). held_of st ≡ Some act) (sym is) e))
+
+nothing_of : (s : Setting) (bases : Bases) (log : Log) → AreSettled (state_of s log)
+    → held_of (state_of s log) ≡ None → next s bases log ≡ None
+nothing_of s bases log settled e =
+    held_is_due s bases log settled ∙ held_same s log
+    ∙ no_held_if (on_hold (view_of s log) && (list_all is_idle (state_of s log).classes && nat_lt (holds log).helds
+    (holds log).holds)) (Sends U (Held (time_at (bound_of (clock s.site log)))) None) (held_act s log) e
+
+pub nothing_due : (s : Setting) (bases : Bases) (state : State) (log : Log) → state_of s log ≡ state
+    → AreSettled state → held_of state ≡ None → next s bases log ≡ None
+nothing_due s bases state log is settled e =
+    nothing_of s bases log (subst AreSettled (sym is) settled) (subst (λ (st : State). held_of st ≡ None) (sym is)
+    e)
+
+-- and then it isn't due again
+
+paid_off : (state : State) → held_of (record state { owes_held = false }) ≡ None
+paid_off state = off state.on_hold (list_all is_idle state.classes) (Sends U (Held (time_at (bound_of state.clock))) None)
+  where
+    off : (a b : Bool) (x : Act) → (if a && (b && false) then Some x else None) ≡ None
+    off true true x = refl
+    off true false x = refl
+    off false b x = refl
+
+told_off : (state : State) (o : Option Act) → held_of state ≡ o → held_of (told_by state o) ≡ None
+told_off state None e = e
+told_off state (Some act) e = paid_off state
+
+pub told_once : (state : State) → held_of (told state) ≡ None
+told_once state = told_off state (held_of state) refl
+
+told_settled_by : (state : State) (o : Option Act) → AreSettled state → AreSettled (told_by state o)
+told_settled_by state None settled = settled
+told_settled_by state (Some act) settled = settled
+
+pub told_settled : (state : State) → AreSettled state → AreSettled (told state)
+told_settled state settled = told_settled_by state (held_of state) settled
+
+-- a tick makes none due
+pub held_ticked : (state : State) (clock : Ticking) → held_of state ≡ None → held_of (record state { clock = clock }) ≡ None
+held_ticked state clock e =
+    no_held_if (state.on_hold && (list_all is_idle state.classes && state.owes_held))
+    (Sends U (Held (time_at (bound_of state.clock))) None) (Sends U (Held (time_at (bound_of clock))) None) e

@@ -1,0 +1,178 @@
+-- Each step of a class leaves it less to do.
+use Rattle.std.proofs.Common.{ℕ, zero, suc, ◌<◌, ◌≡◌, ◌==◌, Bool, true, false, not, ◌||◌, cond, List, [], ◌∷◌, map, length, refl, ap, sym, ◌∙◌, subst, arith, Option, Some, None}
+use Rattle.std.specs.Prelude.{slice_get, slice_set, option_map}
+use Rattle.std.specs.List.{filter, list_any}
+use Rattle.std.proofs.lemmas.Bool.{cond-true, false≢true}
+use Rattle.sdd_base.specs.Words.{head_of, tail_of}
+use Rattle.sdd_base.specs.Numbers.{class_no, time_at}
+use Rattle.sdd_base.specs.Clock.{Ticking, ticked, timestamp}
+use Rattle.sdd_base.specs.declared.site.Site.{Site}
+use Rattle.sdd_wire.specs.declared.msg.Msg.{Msg}
+use Rattle.sdd_wire.specs.declared.msg.Msg.TheVariants.{Null}
+use Rattle.sdd_module.specs.SiteLog.{Setting, Bases, Log, Act, Sends, in_force, sends_of_act}
+use Rattle.sdd_attempt.specs.Clocks.{clock}
+use Rattle.sdd_attempt.specs.Queues.{Queued, queue, queue_after, tried}
+use Rattle.sdd_attempt.specs.Exchange.{begins, first_send, after_send, send_due}
+use Rattle.sdd_attempt.specs.Attempts.{Attempt, active, active_after, active_sent, asks_rows, started}
+use Rattle.sdd_attempt.specs.Acts.{start_act, commit_act}
+use Rattle.sdd_attempt.specs.Lines.{Line, line_done, send_next, commit_next, start_next}
+use Rattle.sdd_attempt.specs.Fits.{sent, handed}
+use Rattle.sdd_attempt.specs.Sound.{IsOfHead}
+use Rattle.sdd_attempt.proofs.SoundLines.{request_of}
+use Rattle.sdd_tm.specs.declared.asked.Asked.{Asked}
+use Rattle.sdd_tm.specs.declared.step.Step.{Step}
+use Rattle.sdd_tm.specs.declared.step.Step.TheVariants.{Send, Commit, Answer, Start}
+use Rattle.sdd_tm.specs.Views.{asks, view_of, runs, on_hold}
+use Rattle.sdd_tm.specs.State.{ClassState, State, asks_of, class_of, state_of}
+use Rattle.sdd_tm.specs.Steps.{can_answer, without_first, answer_time, answer_to, act_of, class_step, class_done, state_done}
+use Rattle.sdd_tm.specs.Stands.{IsAmid}
+use Rattle.sdd_tm.specs.Work.{work_of, work_in, work}
+use Rattle.sdd_tm.proofs.Lists.{some_is, of_map}
+use Rattle.sdd_tm.proofs.LineSteps.{has_to_send, commits}
+use Rattle.sdd_tm.proofs.Dues.{IsStep, sends, commits_now, answers, starts, step_is}
+use Rattle.sdd_tm.proofs.Rooms.{starts_started, starts_committed}
+use Rattle.sdd_tm.proofs.Acting.{asking_of, own_record, may_start}
+
+work_set : (classes : List ClassState) (place : ℕ) (k new : ClassState) → slice_get classes place ≡ Some k
+    → work_in new < work_in k → work (slice_set classes place new) < work classes
+work_set [] place k new e l = absurd cc
+work_set (x ∷ classes) zero k new e l = let same : work_in x ≡ work_in k = ap work_in (some_is e) in omega arith
+work_set (x ∷ classes) (suc place) k new e l = let rest = work_set classes place k new e l in omega arith
+
+-- a message of an exchange
+
+one_less : (ms : List (ℕ × Msg)) (act : Act) → first_send ms ≡ Some act → suc (length (tail_of ms)) ≡ length ms
+one_less [] act e = absurd cc
+one_less (m ∷ ms) act e = refl
+
+work_sent : (c : ℕ) (m : Msg) (a : Attempt) (act : Act) (queue : List Queued) → asks_rows a.ts c m ≡ true
+    → send_due a.exchange ≡ Some act → work_of (active_sent c m (Some a)) queue < work_of (Some a) queue
+work_sent c m a act queue e f =
+    let now : active_sent c m (Some a) ≡ Some (record a { exchange = after_send a.exchange }) =
+    cond-true (asks_rows a.ts c m) (Some (record a { exchange = after_send a.exchange })) (Some a) e in
+    let one = one_less a.exchange.to_send act f in
+    rw now (omega arith)
+
+-- a NULL
+
+fewer_asks : (p : Asked → Bool) (qs : List Asked) → list_any p qs ≡ true → length (without_first p qs) < length qs
+fewer_asks p [] e = absurd (false≢true e)
+fewer_asks p (q ∷ qs) e =
+    elim (p q) as (λ b. (b || list_any p qs) ≡ true → length (cond b qs (q ∷ without_first p qs)) < suc (length qs)) [
+      | true ↦ λ g. omega arith
+      | false ↦ λ g. let rest = fewer_asks p qs g in omega arith
+    ] e
+
+null_same : (c d : ℕ) (time : ℕ) (o : Option Attempt) (queue : List Queued)
+    → work_of (active_sent c (Null (class_no d) (time_at time)) o) queue ≡ work_of o queue
+null_same c d time None queue = refl
+null_same c d time (Some a) queue = refl
+
+null_work : (c : ℕ) (l : Line) (time : ℕ) (o : Option Act)
+    → ((act : Act) → o ≡ Some act → (to : Site) × (act ≡ Sends to (Null (class_no l.class) (time_at time)) None))
+    → work_of (line_done o l).active (line_done o l).queue ≡ work_of l.active l.queue
+null_work c l time None h = refl
+null_work c l time (Some act) h = let r = h act refl in rw r.1 (null_same l.class l.class time l.active l.queue)
+
+answer_is : (l : Line) (k : Ticking) (o : Option Asked) (act : Act) → answer_to k l o ≡ Some act
+    → (to : Site) × (act ≡ Sends to (Null (class_no l.class) (time_at (answer_time k l.active))) None)
+answer_is l k None act e = absurd cc
+answer_is l k (Some ask) act e = (ask.from, sym (some_is e))
+
+-- a step of the class c
+
+step_falls : (s : Setting) (bases : Bases) (log : Log) (place c : ℕ) (step : Step)
+    → IsAmid s bases (state_of s log) log → slice_get (runs s) place ≡ Some c
+    → IsStep (on_hold (view_of s log)) (class_of s log c) step
+    → work_in (class_done bases (in_force s log).table (clock s.site log) step (class_of s log c)) < work_in (class_of s log c)
+step_falls s bases log place c Send amid e (sends h) =
+    let r = has_to_send (active s c log) h in
+    let request = request_of c (sent log) (handed log) r.attempt r.act
+    (asking_of s log c r.attempt (amid.sound.lines place c e) r.active) r.send in
+    let to_do : send_next (active s c log) ≡ Some r.act = ap send_next r.active ∙ r.send in
+    let less = work_sent c request.msg r.attempt r.act (queue s c log) request.asks r.send in
+    let now : work_of (active_sent c request.msg (active s c log)) (queue s c log) ≡ work_of
+    (active_sent c request.msg (Some r.attempt)) (queue s c log) =
+    ap (λ o. work_of (active_sent c request.msg o) (queue s c log)) r.active in
+    let before : work_of (active s c log) (queue s c log) ≡ work_of (Some r.attempt) (queue s c log) =
+    ap (λ o. work_of o (queue s c log)) r.active in
+    rw (to_do, request.act_is) (omega arith)
+step_falls s bases log place c Commit amid e (commits_now h) =
+    let r = commits (active s c log) h in
+    let a : Attempt = r.attempt in
+    let act : Act = commit_act s.catalogue bases c a in
+    let to_do : commit_next bases (class_of s log c).line ≡ Some act =
+    ap (option_map (commit_act s.catalogue bases c)) r.active in
+    let none : active_after c act (queue s c log) (active s c log) ≡ None = own_record c None (active s c log) in
+    let left : queue_after c act (queue s c log) ≡ filter (λ q. not (q.number == a.txn)) (queue s c log) =
+    own_record c (filter (λ q. not (q.number == a.txn)) (queue s c log)) (queue s c log) in
+    let head : IsOfHead (queue s c log) (Some a) =
+    subst (IsOfHead (queue s c log)) r.active (amid.sound.lines place c e).of_head in
+    let less = starts_committed a (queue s c log) head in
+    let now : work_of (active_after c act (queue s c log) (active s c log))
+    (queue_after c act (queue s c log)) ≡ work_of None (filter (λ q. not (q.number == a.txn)) (queue s c log)) =
+    rw (none, left) refl in
+    let before : work_of (active s c log) (queue s c log) ≡ work_of (Some a) (queue s c log) =
+    ap (λ o. work_of o (queue s c log)) r.active in
+    rw to_do (omega arith)
+step_falls s bases log place c Answer amid e (answers h can) =
+    let l : Line = (class_of s log c).line in
+    let o : Option Act = act_of bases (in_force s log).table (clock s.site log) (class_of s log c) Answer in
+    let same = null_work c l (answer_time (clock s.site log) (active s c log)) o
+    (λ act f. answer_is l (clock s.site log) _ act f) in
+    let less = fewer_asks (can_answer (active s c log)) (asks_of c (asks log)) can in
+    omega arith
+step_falls s bases log place c Start amid e (starts h cannot may) =
+    let w = may_start (on_hold (view_of s log)) (active s c log) (queue s c log) may in
+    by_start w.first w.rest w.idle w.queue_is
+  where
+    by_start : (q : Queued) (rest : List Queued) → active s c log ≡ None → queue s c log ≡ q ∷ rest
+        → work_in (class_done bases (in_force s log).table (clock s.site log) Start (class_of s log c)) < work_in
+        (class_of s log c)
+    by_start q rest idle is =
+        let act : Act = start_act s.catalogue (in_force s log).table c (clock s.site log) q in
+        let sent_now = sends_of_act act in
+        let to_do : start_next (in_force s log).table (clock s.site log) (class_of s log c).line ≡ Some act =
+        ap (λ qs. option_map (start_act s.catalogue (in_force s log).table c (clock s.site log)) (head_of qs))
+        is in
+        let begun : active_after c act (queue s c log) (active s c log) ≡ started
+        (timestamp (ticked (clock s.site log) 1)) sent_now (Some q) =
+        own_record c (started (timestamp (ticked (clock s.site log) 1)) sent_now (head_of (queue s c log)))
+        (active s c log) ∙ ap (λ qs. started (timestamp (ticked (clock s.site log) 1)) sent_now
+        (head_of qs)) is in
+        let left : queue_after c act (queue s c log) ≡ map (tried q.number) (q ∷ rest) =
+        own_record c (map (tried q.number) (queue s c log)) (queue s c log) ∙ ap (map (tried q.number)) is in
+        let fewer = starts_started q.number (record {
+          txn = q.number;
+          attempt = suc q.tries;
+          ts = timestamp (ticked (clock s.site log) 1);
+          text = q.text;
+          exchange = begins q.text sent_now;
+        }) q
+        rest in
+        let now : work_of (active_after c act (queue s c log) (active s c log))
+        (queue_after c act (queue s c log)) ≡ work_of (started (timestamp (ticked (clock s.site log) 1))
+        sent_now (Some q)) (map (tried q.number) (q ∷ rest)) = rw (begun, left) refl in
+        let before : work_of (active s c log) (queue s c log) ≡ work_of None (q ∷ rest) = rw (idle, is) refl in
+        rw to_do (omega arith)
+
+-- of the module
+pub work_falls : (s : Setting) (bases : Bases) (state : State) (log : Log) (place : ℕ) (k : ClassState)
+    (step : Step) → IsAmid s bases state log → slice_get state.classes place ≡ Some k
+    → class_step state.on_hold k ≡ Some step
+    → work (state_done bases place k step state).classes < work state.classes
+work_falls s bases state log place k step amid here steps =
+    let is : state_of s log ≡ state = amid.state_is in
+    let r = of_map (class_of s log) (runs s) place k (subst (λ (st : State). slice_get st.classes place ≡ Some k)
+    (sym is) here) in
+    let whole : class_step (on_hold (view_of s log)) (class_of s log r.0) ≡ Some step =
+    subst (λ x. class_step (on_hold (view_of s log)) x ≡ Some step) (sym r.2)
+    (subst (λ (st : State). class_step st.on_hold k ≡ Some step) (sym is) steps) in
+    let falls = step_falls s bases log place r.0 step (subst (λ st. IsAmid s bases st log) (sym is) amid) r.1
+    (step_is (on_hold (view_of s log)) (class_of s log r.0) step whole) in
+    let on_class : work_in (class_done bases state.force.table state.clock step k) < work_in k =
+    subst (λ x. work_in (class_done bases state.force.table state.clock step x) < work_in x) r.2
+    (subst (λ (st : State). work_in
+    (class_done bases st.force.table st.clock step (class_of s log r.0)) < work_in (class_of s log r.0)) is
+    falls) in
+    work_set state.classes place k (class_done bases state.force.table state.clock step k) here on_class

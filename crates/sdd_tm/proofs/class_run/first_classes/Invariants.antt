@@ -1,0 +1,7 @@
+use Rattle.std.proofs.Common.{◌≡◌, ◌-◌, map}
+use Rattle.sdd_tm.specs.Works.{first_class}
+use Rattle.sdd_tm.proofs.FirstClasses.{classes_to}
+use Rattle.sdd_tm.proofs.class_run.first_classes.Given as goal
+
+abbrev pub invariant-loop-number : goal.invariant-loop-number
+invariant-loop-number l = l.runs.items ≡ map (first_class l.catalogue) (classes_to l.catalogue l.tm.0 (l.number - 1))

@@ -1,0 +1,38 @@
+-- What is kept of a log has few classes, each number once, and the message is one that its class awaits.
+use Rattle.std.proofs.Common.{◌≡◌, ◌<◌, ◌^◌, sym, subst, length}
+use Rattle.sdd_attempt.specs.Lines.{IsAwaited}
+use Rattle.sdd_tm.specs.State.{ClassState, State}
+use Rattle.std.specs.Prelude.{slice_get, Some}
+use Rattle.std.proofs.Common.{ℕ}
+use Rattle.sdd_tm.specs.Stands.{AreApart}
+use Rattle.sdd_tm.proofs.Taking.{few_kept, apart_kept, awaited_kept, push_early, handed_unnamed}
+use Rattle.sdd_tm.proofs.parts.Parts.hand.Goals as goal
+
+pub heed-requires : goal.heed-requires
+heed-requires c = let r = c.requires in push_early r.0 r.1 r.2 c.args.from c.args.msg r.4.1
+
+pub all_places-requires : goal.all_places-requires
+all_places-requires c =
+    let r = c.requires in
+    subst (λ (st : State). length st.classes < 2 ^ 32) (sym c.heed.ensures) (few_kept r.0 r.2 c.args.self.now r.3)
+
+pub hand_class-requires-clause-few : goal.hand_class-requires-clause-few
+hand_class-requires-clause-few c =
+    let r = c.requires in
+    subst (λ (st : State). length st.classes < 2 ^ 32) (sym c.heed.ensures) (few_kept r.0 r.2 c.args.self.now r.3)
+
+pub hand_class-requires-clause-apart : goal.hand_class-requires-clause-apart
+hand_class-requires-clause-apart c =
+    let r = c.requires in
+    subst (λ (st : State). AreApart st.classes) (sym c.heed.ensures) (apart_kept r.0 r.2 c.args.self.now r.3)
+
+pub hand_class-requires-clause-awaited : goal.hand_class-requires-clause-awaited
+hand_class-requires-clause-awaited c =
+    let r = c.requires in
+    subst (λ (st : State). (place : ℕ) (k : ClassState) → slice_get st.classes place ≡ Some k
+    → IsAwaited k.line.class c.args.from c.args.msg k.line.active) (sym c.heed.ensures)
+    (awaited_kept r.0 r.1 r.2 c.args.self.now c.args.from c.args.msg r.3 r.4.1)
+
+pub returns-in-None-clause-state : goal.returns-in-None-clause-state
+returns-in-None-clause-state c =
+    handed_unnamed c.args.self.now c.heed.new.self c.args.from c.args.msg c.heed.ensures c.in-None.ensures

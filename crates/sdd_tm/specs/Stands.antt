@@ -1,0 +1,100 @@
+-- For which logs a transaction module stands, and what holds between the acts of a call.
+use Rattle.std.specs.Prelude.{ℕ, suc, ◌+◌, ◌<◌, ◌≤◌, ◌^◌, ◌≡◌, ◌≢◌, IsTrue, List, [], ◌∷◌, length, slice_get, Option, Some, None}
+use Rattle.std.specs.List.{AllByRecursion}
+use Rattle.sdd_base.specs.Kept.{Kept}
+use Rattle.sdd_base.specs.Words.{tail_of}
+use Rattle.sdd_catalog.specs.Rules as catalogues
+use Rattle.sdd_catalog.specs.Numbers.{IsWhole}
+use Rattle.sdd_lang.specs.Sound.{IsDatabase}
+use Rattle.sdd_module.specs.SiteLog.{Setting, Bases, Log, in_force, hands}
+use Rattle.sdd_attempt.specs.Queues.{Queued}
+use Rattle.sdd_attempt.specs.Attempts.{Attempt, active}
+use Rattle.sdd_attempt.specs.Sound.{IsLineOf, AreStamped, IsServed}
+use Rattle.sdd_tm.specs.Views.{Question, HoldCounts, asks, holds, runs}
+use Rattle.sdd_tm.specs.State.{ClassState, State, state_of}
+use Rattle.sdd_tm.specs.Steps.{own_step, start_step, class_step, held_of}
+
+-- every log of the site
+
+-- the hands of these ASKs rise, all above the first number and up to the second
+abbrev pub Rise : ℕ → ℕ → List Question → Type 0
+Rise low high [] = low ≤ high
+Rise low high (q ∷ qs) = (low < q.hand) × Rise q.hand high qs
+
+-- the open ASKs came by different hands, in order, and no HOLD came by one of them
+pub record AreOpen (log : Log) : Type 0 where
+  pub rise : Rise 0 (hands log) (asks log)
+  pub last : (holds log).last ≤ hands log
+  pub apart : AllByRecursion (λ q. q.hand ≢ (holds log).last) (asks log)
+
+-- a HOLD is answered by at most one HELD, and then released, before the next one comes
+pub record InTurn (h : HoldCounts) : Type 0 where
+  pub released : h.releases ≤ h.helds
+  pub answered : h.helds ≤ h.holds
+  pub one : h.holds ≤ suc h.releases
+
+pub record IsSound (s : Setting) (log : Log) : Type 0 where
+  pub lines : (place c : ℕ) → slice_get (runs s) place ≡ Some c → IsLineOf s c log
+  pub stamped : AreStamped s log
+  pub unanswered : AreOpen log
+  pub turns : InTurn (holds log)
+
+-- the setting: its catalogue is one of valid parts, and its classes are those in force
+pub record IsSettingOf (s : Setting) (log : Log) : Type 0 where
+  pub valid : catalogues.IsSound s.catalogue
+  pub whole : IsWhole s.catalogue
+  pub in_force : (in_force s log).catalogue ≡ s.catalogue
+
+-- what the module keeps follows from the log
+pub record IsKept (s : Setting) (log : Log) (state : State) : Type 0 where
+  pub setting : IsSettingOf s log
+  pub sound : IsSound s log
+  pub state_is : state_of s log ≡ state
+
+-- between calls
+
+-- nothing is due of a class
+abbrev pub AreSettled : State → Type 0
+AreSettled state = (place : ℕ) (k : ClassState) → slice_get state.classes place ≡ Some k → class_step state.on_hold k ≡ None
+
+-- the module stands for the log: it keeps what follows from the log, and nothing is due
+pub record Stands (k : Kept State) (s : Setting) (log : Log) : Type 0 where
+  pub live : IsTrue k.live
+  pub setting : IsSettingOf s log
+  pub sound : IsSound s log
+  pub state_is : state_of s log ≡ k.value
+  pub settled : AreSettled k.value
+  pub told : held_of k.value ≡ None
+
+-- within a call
+
+-- how many transactions of a class may start before the next message comes
+abbrev pub starts_left : Option Attempt → List Queued → ℕ
+starts_left None queue = length queue
+starts_left (Some a) queue = length (tail_of queue)
+
+abbrev pub all_starts : List ClassState → ℕ
+all_starts [] = 0
+all_starts (k ∷ classes) = starts_left k.line.active k.line.queue + all_starts classes
+
+-- The module is within a call, and keeps what follows from the log: each attempt that may commit has the rows that serve
+-- its database, and the clock has room for all that may start.
+pub record IsAmid (s : Setting) (bases : Bases) (state : State) (log : Log) : Type 0 where
+  pub setting : IsSettingOf s log
+  pub sound : IsSound s log
+  pub state_is : state_of s log ≡ state
+  pub databases : (ts : ℕ) → IsDatabase s.catalogue (bases ts)
+  pub served : (place c : ℕ) → slice_get (runs s) place ≡ Some c → IsServed s.catalogue bases (active s c log)
+  pub room : state.clock.ticks + all_starts state.classes + 1 < 2 ^ 57
+
+-- The classes are gone through from one place on, up to another. No class but the one at the place has a step of its own,
+-- those before it can't start, and neither can those from the end on.
+pub record IsCalm (place end : ℕ) (state : State) : Type 0 where
+  pub own : (j : ℕ) (k : ClassState) → slice_get state.classes j ≡ Some k → (j ≡ place → end ≤ place) → own_step k ≡ None
+  pub before : (j : ℕ) (k : ClassState) → slice_get state.classes j ≡ Some k → j < place → start_step state.on_hold k ≡ None
+  pub behind : (j : ℕ) (k : ClassState) → slice_get state.classes j ≡ Some k → end ≤ j → start_step state.on_hold k ≡ None
+
+-- no two classes have one number
+abbrev pub AreApart : List ClassState → Type 0
+AreApart classes = (i j : ℕ) (x y : ClassState) → slice_get classes i ≡ Some x → slice_get classes j ≡ Some y
+    → i ≢ j → x.line.class ≢ y.line.class

@@ -1,0 +1,116 @@
+-- What the classes of a transaction module do next by themselves, and what becomes of them.
+use Rattle.std.specs.Prelude.{ℕ, nat_le, Bool, true, false, not, ◌&&◌, cond, if◌then◌else◌, List, [], ◌∷◌, is_none, slice_set, Option, Some, None, option_map}
+use Rattle.std.specs.List.{list_any, list_all, find}
+use Rattle.sdd_base.specs.Words.{or_else, is_empty}
+use Rattle.sdd_base.specs.Numbers.{class_no, time_at}
+use Rattle.sdd_base.specs.Clock.{Ticking, bound_of}
+use Rattle.sdd_base.specs.declared.site.Site.TheVariants.{U}
+use Rattle.sdd_protocol.specs.declared.entry.Entry as line
+use Rattle.sdd_wire.specs.declared.msg.Msg.TheVariants.{Null, Held}
+use Rattle.sdd_module.specs.SiteLog.{Bases, Act, Sends}
+use Rattle.sdd_attempt.specs.Attempts.{Attempt}
+use Rattle.sdd_attempt.specs.Lines.{Line, line_done, clock_done, send_next, commit_next, start_next, line_step}
+use Rattle.sdd_attempt.specs.declared.step.LineStep.{LineStep}
+use Rattle.sdd_attempt.specs.declared.step.LineStep.TheVariants.{Sends as ToSend, Commits as ToCommit}
+use Rattle.sdd_tm.specs.declared.asked.Asked.{Asked}
+use Rattle.sdd_tm.specs.declared.step.Step.{Step}
+use Rattle.sdd_tm.specs.declared.step.Step.TheVariants.{Send, Commit, Answer, Start}
+use Rattle.sdd_tm.specs.State.{ClassState, State}
+
+-- the next step of a class
+
+-- the timestamp of an active attempt
+abbrev pub stamp_of : Option Attempt → Option ℕ
+stamp_of a = option_map (λ x. x.ts) a
+
+-- an idle class can answer every ASK, an active one those for times up to its timestamp
+abbrev pub answers : Option ℕ → Asked → Bool
+answers None ask = true
+answers (Some ts) ask = nat_le ask.time.0 ts
+
+abbrev pub can_answer : Option Attempt → Asked → Bool
+can_answer a ask = answers (stamp_of a) ask
+
+abbrev pub of_line : Option LineStep → Option Step
+of_line None = None
+of_line (Some ToSend) = Some Send
+of_line (Some ToCommit) = Some Commit
+
+abbrev pub answer_step : ClassState → Option Step
+answer_step k = if list_any (can_answer k.line.active) k.asks then Some Answer else None
+
+-- what a class does whether the module is on hold or not
+abbrev pub own_step : ClassState → Option Step
+own_step k = or_else (of_line (line_step k.line.active)) (answer_step k)
+
+abbrev pub start_step : Bool → ClassState → Option Step
+start_step on_hold k = if not on_hold && (is_none k.line.active && not (is_empty k.line.queue)) then Some Start else None
+
+abbrev pub class_step : Bool → ClassState → Option Step
+class_step on_hold k = or_else (own_step k) (start_step on_hold k)
+
+abbrev pub step_at : Bool → Option ClassState → Option Step
+step_at on_hold None = None
+step_at on_hold (Some k) = class_step on_hold k
+
+-- the act that a step makes; the number of the hand that it answers, which isn't kept, is left out
+
+-- the time of a NULL: of an idle class the clock's bound, else the attempt's timestamp
+abbrev pub time_by : Ticking → Option ℕ → ℕ
+time_by clock None = bound_of clock
+time_by clock (Some ts) = ts
+
+abbrev pub answer_time : Ticking → Option Attempt → ℕ
+answer_time clock a = time_by clock (stamp_of a)
+
+abbrev pub answer_to : Ticking → Line → Option Asked → Option Act
+answer_to clock l None = None
+answer_to clock l (Some ask) = Some (Sends ask.from (Null (class_no l.class) (time_at (answer_time clock l.active))) None)
+
+abbrev pub act_of : Bases → List line.Entry → Ticking → ClassState → Step → Option Act
+act_of bases table clock k Send = send_next k.line.active
+act_of bases table clock k Commit = commit_next bases k.line
+act_of bases table clock k Answer = answer_to clock k.line (find (can_answer k.line.active) k.asks)
+act_of bases table clock k Start = start_next table clock k.line
+
+-- what becomes of a class
+
+-- without the first that passes
+abbrev pub without_first : {A : Type 0} → (A → Bool) → List A → List A
+without_first p [] = []
+without_first p (x ∷ xs) = cond (p x) xs (x ∷ without_first p xs)
+
+abbrev pub asks_done : Step → Option Attempt → List Asked → List Asked
+asks_done Answer a asks = without_first (can_answer a) asks
+asks_done _ a asks = asks
+
+abbrev pub class_done : Bases → List line.Entry → Ticking → Step → ClassState → ClassState
+class_done bases table clock step k = record {
+  line = line_done (act_of bases table clock k step) k.line;
+  asks = asks_done step k.line.active k.asks;
+}
+
+-- and of the module, whose class at a place makes a step
+abbrev pub state_done : Bases → ℕ → ClassState → Step → State → State
+state_done bases place k step state = record state {
+  clock = clock_done (act_of bases state.force.table state.clock k step) state.clock;
+  classes = slice_set state.classes place (class_done bases state.force.table state.clock step k);
+}
+
+-- HELD
+
+abbrev pub is_idle : ClassState → Bool
+is_idle k = is_none k.line.active
+
+abbrev pub held_of : State → Option Act
+held_of state =
+    if state.on_hold && (list_all is_idle state.classes && state.owes_held) then Some
+    (Sends U (Held (time_at (bound_of state.clock))) None) else None
+
+abbrev pub told_by : State → Option Act → State
+told_by state None = state
+told_by state (Some act) = record state { owes_held = false }
+
+-- once HELD is sent, where it is due
+abbrev pub told : State → State
+told state = told_by state (held_of state)

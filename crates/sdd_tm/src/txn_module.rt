@@ -1,0 +1,132 @@
+ghost use Rattle.std.specs.Prelude.{◌≡◌, ◌∷◌, [], ◌+◌, ◌<◌, ◌^◌, List, map, IfOk, OnErr, IsTrue};
+ghost use Rattle.sdd_base.specs.declared.site.Site.TheVariants.{T};
+ghost use Rattle.sdd_history.specs.declared.record.Rec.{Rec as Record};
+ghost use Rattle.sdd_history.specs.declared.record.Rec.TheVariants.{Submit};
+ghost use Rattle.sdd_module.specs.SiteLog.{Setting, Bases, Log, Redeclared, Submits, Ticked, Does};
+ghost use Rattle.sdd_attempt.specs.Fits.{FitsSite};
+ghost use Rattle.sdd_attempt.specs.Standings.{standing_among};
+ghost use Rattle.sdd_tm.specs.Due.{next};
+ghost use Rattle.sdd_tm.specs.Fits.{fits, FitsSubmit};
+ghost use Rattle.sdd_tm.specs.State.{ClassState};
+ghost use Rattle.sdd_tm.specs.Stands.{Stands};
+
+use crate::parts::Parts;
+use sdd_attempt::Standing;
+use sdd_base::{NoMemory, Site, TmNo, TxnNo};
+use sdd_catalog::Catalogue;
+use sdd_history::Rec;
+use sdd_lang::Txn;
+use sdd_module::Module;
+use sdd_protocol::Table;
+use sdd_wire::{Msg, Outcome};
+use std::alloc::Global;
+use std::marker::Model;
+
+/// A transaction module.
+#[derive(Drop)]
+pub struct TxnModule<'a> {
+    parts: Parts<'a>,
+    live: bool,
+}
+
+impl<'a> Model for TxnModule<'a> {
+    ghost use Rattle.sdd_base.specs.Kept.{Kept};
+    ghost use Rattle.sdd_tm.specs.State.{State};
+
+    ghost Value = { Kept State };
+
+    ghost view = { λ m. record { live = m.live; value = m.parts } };
+}
+
+impl<'a> TxnModule<'a> {
+    /// A module before its first message, where this catalogue and its protocol table are in
+    /// force. Costs a look at each class.
+    pub fn new(
+        alloc: Global,
+        catalogue: &'a Catalogue,
+        table: &'a Table,
+        tm: TmNo,
+    ) -> Result<TxnModule<'a>, NoMemory>
+        ensures { IfOk result (λ new. (setting : Setting)
+            → setting.catalogue ≡ catalogue.now → setting.site ≡ T tm
+            → Stands new setting
+            (Redeclared (record { catalogue = catalogue.now; table = table.now }) 0 ∷ [])) }
+    {
+        catalogue.known();
+        Ok(TxnModule {
+            parts: Parts::new(alloc, catalogue, table, tm)?,
+            live: true,
+        })
+    }
+
+    /// How the module has a transaction. Costs a look at each transaction that waits; takes no
+    /// memory.
+    pub fn standing(&self, number: TxnNo) -> Standing
+        requires { IsTrue self.now.live }
+        ensures { result ≡ standing_among
+            (map (λ (k : ClassState). k.line) self.now.value.classes) number.0 }
+    {
+        self.parts.standing(number)
+    }
+
+    /// Takes a new transaction, and then makes each act that is due, one after the other, until
+    /// none is: it answers what these send and record, behind the record of the submission. After
+    /// want of memory it takes nothing more.
+    pub fn submit(&mut self, number: TxnNo, txn: &Txn) -> Result<Outcome, NoMemory>
+        requires lives { IsTrue self.old.live }
+        requires stands { (setting : Setting) × (bases : Bases) × (log : Log)
+            × Stands self.old setting log × FitsSubmit setting bases log number.0 txn.now }
+        ensures law { IfOk result (λ outcome. (setting : Setting) (bases : Bases) (log : Log)
+            → Stands self.old setting log → FitsSubmit setting bases log number.0 txn.now
+            → (recs : List Record) × (outcome.recs ≡ Submit number ∷ recs)
+            × Does (next setting bases) (Submits number.0 txn.now ∷ log) recs outcome.out
+            (Stands self.new setting)) }
+        ensures lives_on { IfOk result (λ _. IsTrue self.new.live) }
+        ensures dies { OnErr result (¬ IsTrue self.new.live) }
+    {
+        self.live = false;
+        let mut draft = self.parts.draft();
+        draft.record(Rec::Submit(number))?;
+        let places = self.parts.submit(number, txn)?;
+        self.parts.settle(places, &mut draft)?;
+        self.parts.tell_held(&mut draft)?;
+        self.live = true;
+        Ok(draft.finish())
+    }
+
+    /// Lets time pass. Takes no memory.
+    pub fn tick(&mut self, n: u32)
+        requires lives { IsTrue self.old.live }
+        requires stands { (setting : Setting) × (bases : Bases) × (log : Log)
+            × Stands self.old setting log × FitsSite setting bases log }
+        ensures law { (setting : Setting) (log : Log)
+            → Stands self.old setting log → Stands self.new setting (Ticked n ∷ log) }
+        ensures lives_on { IsTrue self.new.live }
+    {
+        self.parts.tick(n);
+    }
+}
+
+impl<'a> Module for TxnModule<'a> {
+    ghost stands = { Stands };
+
+    ghost next = { next };
+
+    ghost fits = { fits };
+
+    ghost is_live = { λ m. m.live };
+
+    fn live(&self) -> bool {
+        self.live
+    }
+
+    fn take(&mut self, from: Site, msg: Msg) -> Result<Outcome, NoMemory> {
+        self.live = false;
+        let mut draft = self.parts.draft();
+        let places = self.parts.hand(from, msg)?;
+        self.parts.settle(places, &mut draft)?;
+        self.parts.tell_held(&mut draft)?;
+        self.live = true;
+        Ok(draft.finish())
+    }
+}
