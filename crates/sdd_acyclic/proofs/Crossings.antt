@@ -1,0 +1,184 @@
+-- From a closed path of precedence to a tour of crossings; no tour of two crossings goes both ways along one edge.
+use Rattle.std.proofs.Common.{ℕ, ◌<◌, ◌≤◌, ◌≡◌, ◌≢◌, Bool, true, false, List, [], ◌∷◌, refl, sym, ap, ◌∙◌, subst, ◌⊎◌, inl, inr, arith}
+use Rattle.std.proofs.lemmas.Bool.{cases_eq, cases_lt}
+use Rattle.sdd_base.specs.declared.number.ClassNo.{ClassNo}
+use Rattle.sdd_base.specs.declared.number.FragNo.{FragNo}
+use Rattle.sdd_base.specs.Numbers.{class_no, frag_no}
+use Rattle.sdd_graph.specs.declared.edge.Edge.{Edge}
+use Rattle.sdd_acyclic.specs.Graphs.{IsHorizontal, IsDiagonal, Covers}
+use Rattle.sdd_topological.specs.Paths.{IsPath}
+use Rattle.sdd_acyclic.specs.System.{System, Precedes, Below, Facts}
+use Rattle.sdd_acyclic.specs.System.Precedes.{by_class, by_writes, by_unseen, by_seen}
+use Rattle.sdd_acyclic.proofs.Tours.{Crosses, Crossing, Run, below_on, run_on}
+use Rattle.sdd_acyclic.proofs.Tours.Crosses.{write_write, read_write, write_read}
+
+-- the first stands earlier in the class of the second
+pub record Earlier {T : Type 0} (S : System T) (x y : T) : Type 0 where
+  pub class : S.class x ≡ S.class y
+  pub time : S.ts x < S.ts y
+
+-- a crossing leaves the class of x not earlier than x, and comes to the class of y not later than y
+pub record CrossesOver {T : Type 0} (S : System T) (graph : List Edge) (x y : T) : Type 0 where
+  pub crossing : Crossing S graph
+  pub leaves : Below S x crossing.from
+  pub comes : Below S crossing.to y
+
+-- a run does so
+pub record RunsOver {T : Type 0} (S : System T) (graph : List Edge) (x y : T) : Type 0 where
+  pub start : Crossing S graph
+  pub rest : List (Crossing S graph)
+  pub leaves : Below S x start.from
+  pub run : Run S graph start rest y
+
+pub record Tour {T : Type 0} (S : System T) (graph : List Edge) : Type 0 where
+  pub start : Crossing S graph
+  pub rest : List (Crossing S graph)
+  pub closes : Run S graph start rest start.from
+
+-- one edge is one diagonal
+same_diagonal : (graph : List Edge) (k i j f i' j' f' : ℕ) → IsDiagonal graph k i j f
+    → IsDiagonal graph k i' j' f' → (i ≡ i') × (j ≡ j') × (f ≡ f')
+same_diagonal graph k i j f i' j' f' p q =
+    let e : class_no i ≡ class_no i' = cc in
+    let g : class_no j ≡ class_no j' = cc in
+    let h : frag_no f ≡ frag_no f' = cc in
+    (ap (λ (z : ClassNo). z.0) e, ap (λ (z : ClassNo). z.0) g, ap (λ (z : FragNo). z.0) h)
+
+-- and no horizontal
+not_both : (graph : List Edge) (k i j a b f : ℕ) → IsHorizontal graph k i j
+    → ¬ IsDiagonal graph k a b f
+not_both graph k i j a b f (inl p) q = cc
+not_both graph k i j a b f (inr p) q = cc
+
+module _ {T : Type 0} (S : System T) (facts : Facts S) where
+  -- different transactions of which the second is not later
+  earlier : (x y : T) → S.name x ≢ S.name y → S.ts y ≤ S.ts x → S.ts y < S.ts x
+  earlier x y n l = elim (cases_lt (S.ts y) (S.ts x)) [ inl h ↦ h | inr h ↦ absurd
+      (n (facts.one_time x y (omega arith))) ]
+
+  -- within a class what precedes is earlier
+  one_class : (x y : T) → Precedes S x y → S.class x ≡ S.class y → S.ts x < S.ts y
+  one_class x y (by_class n c l) e = l
+  one_class x y (by_writes n f a b l) e = l
+  one_class x y (by_unseen n f a b u) e =
+      elim (cases_lt (S.ts x) (S.ts y)) [
+        | inl l ↦ l
+        | inr l ↦ absurd (u (facts.own_earlier y x f (sym e) (earlier x y n l) b a))
+      ]
+  one_class x y (by_seen n f a b s) e =
+      elim (cases_lt (S.ts x) (S.ts y)) [
+        | inl l ↦ l
+        | inr l ↦ absurd (facts.own_later x y f e l b s)
+      ]
+
+  -- a writer is not seen by the later reader where a later writer is seen by the earlier reader
+  clash : (w w' r r' : T) (f : ℕ) → Below S w w' → Below S r r' → S.Changes w f → S.Reads r f
+      → S.Reads r' f → S.Seen w' (S.dm (S.class r) f) r → S.Seen w (S.dm (S.class r') f) r'
+  clash w w' r r' f b c a d e s =
+      facts.readers_above w r r' f c d e (facts.writers_below w w' r f b a d s)
+
+  module _ (graph : List Edge) where
+    -- one edge is not crossed forth and then back
+    both_ways : (x y x' y' : T) (k : ℕ) (a b a' b' : Bool) → S.class x ≢ S.class y → Below S y x'
+        → Below S y' x → Crosses S graph x y k a b → ¬ Crosses S graph x' y' k a' b'
+    both_ways x y x' y' k _ _ _ _ d p q (write_write l e) (write_write m g) = omega arith
+    both_ways x y x' y' k _ _ _ _ d p q (write_write l e) (read_write f' r' w' u' g) =
+        not_both graph k (S.class x) (S.class y) (S.class x') (S.class y') f' e g
+    both_ways x y x' y' k _ _ _ _ d p q (write_write l e) (write_read f' w' r' s' g) =
+        not_both graph k (S.class x) (S.class y) (S.class y') (S.class x') f' e g
+    both_ways x y x' y' k _ _ _ _ d p q (read_write f r w u e) (write_write m g) =
+        not_both graph k (S.class x') (S.class y') (S.class x) (S.class y) f g e
+    both_ways x y x' y' k _ _ _ _ d p q (read_write f r w u e) (read_write f' r' w' u' g) =
+        d ((same_diagonal graph k (S.class x) (S.class y) f (S.class x') (S.class y') f' e g).0
+            ∙ sym p.class)
+    both_ways x y x' y' k _ _ _ _ d p q (read_write f r w u e) (write_read f' w' r' s' g) =
+        let o : f' ≡ f = (same_diagonal graph k (S.class y') (S.class x') f' (S.class x)
+            (S.class y) f g e).2 in
+        u (clash y x' y' x f p q w (subst (λ z. S.Reads y' z) o r') r
+            (subst (λ z. S.Seen x' (S.dm (S.class y') z) y') o s'))
+    both_ways x y x' y' k _ _ _ _ d p q (write_read f w r s e) (write_write m g) =
+        not_both graph k (S.class x') (S.class y') (S.class y) (S.class x) f g e
+    both_ways x y x' y' k _ _ _ _ d p q (write_read f w r s e) (read_write f' r' w' u' g) =
+        let o : f ≡ f' = (same_diagonal graph k (S.class y) (S.class x) f (S.class x')
+            (S.class y') f' e g).2 in
+        u' (clash y' x y x' f' q p w' (subst (λ z. S.Reads y z) o r) r'
+            (subst (λ z. S.Seen x (S.dm (S.class y) z) y) o s))
+    both_ways x y x' y' k _ _ _ _ d p q (write_read f w r s e) (write_read f' w' r' s' g) =
+        d ((same_diagonal graph k (S.class y) (S.class x) f (S.class y') (S.class x') f' e g).1
+            ∙ sym p.class)
+
+    -- two crossings that close a tour go along different edges
+    pub two_edges : (k l : Crossing S graph) → Run S graph k (l ∷ []) k.from → k.edge ≢ l.edge
+    two_edges k l r e =
+        both_ways k.from k.to l.from l.to k.edge k.out k.into l.out l.into k.apart r.0 r.1 k.crosses
+        (subst (λ z. Crosses S graph l.from l.to z l.out l.into) (sym e) l.crosses)
+
+    module _ (covers : Covers S graph) where
+      same : (x y : T) → x ≡ y → Below S x y
+      same x y e = record { class = ap (λ z. S.class z) e;
+          time = let t : S.ts x ≡ S.ts y = ap (λ z. S.ts z) e in omega arith }
+
+      over : (k : Crossing S graph) → CrossesOver S graph k.from k.to
+      over k =
+          record { crossing = k; leaves = same k.from k.from refl; comes = same k.to k.to refl }
+
+      -- between classes there is a crossing
+      crossing : (x y : T) → Precedes S x y → S.class x ≢ S.class y → CrossesOver S graph x y
+      crossing x y (by_class n c l) d = absurd (d c)
+      crossing x y (by_writes n f a b l) d =
+          let h = covers.horizontal x y f d a b in
+          over (record { from = x; to = y; other = n; apart = d; edge = h.0; out = false;
+              into = false; crosses = write_write l h.1 })
+      crossing x y (by_unseen n f a b u) d =
+          let h = covers.diagonal x y f d a b in
+          over (record { from = x; to = y; other = n; apart = d; edge = h.0; out = true;
+              into = false; crosses = read_write f a b u h.1 })
+      crossing x y (by_seen n f a b s) d =
+          let h = covers.diagonal y x f (λ e. d (sym e)) b a in
+          over (record { from = x; to = y; other = n; apart = d; edge = h.0; out = false;
+              into = true; crosses = write_read f a b s h.1 })
+
+      -- each step stays in a class or crosses over
+      step : (x y : T) → Precedes S x y → Earlier S x y ⊎ CrossesOver S graph x y
+      step x y p = elim (cases_eq (S.class x) (S.class y)) [ inl e ↦ inl
+          (record { class = e; time = one_class x y p e }) | inr n ↦ inr (crossing x y p n) ]
+
+      below : (x y : T) → Earlier S x y → Below S x y
+      below x y e = record { class = e.class; time = let t = e.time in omega arith }
+
+      -- and so does a path
+      along : (x : T) (m : List T) (y : T) → IsPath (Precedes S) x m y
+          → Earlier S x y ⊎ RunsOver S graph x y
+      along x [] y p =
+          elim (step x y p) [
+            | inl e ↦ inl e
+            | inr c ↦ inr (record { start = c.crossing; rest = []; leaves = c.leaves;
+                run = c.comes })
+          ]
+      along x (z ∷ m) y p =
+          elim (step x z p.0) [
+            | inl e ↦ elim (along z m y p.1) [
+              | inl g ↦ inl (record { class = e.class ∙ g.class; time = omega arith })
+              | inr r ↦ inr (record { start = r.start; rest = r.rest;
+                  leaves = below_on S x z r.start.from (below x z e) r.leaves; run = r.run })
+            ]
+            | inr c ↦ elim (along z m y p.1) [
+              | inl g ↦ inr (record { start = c.crossing; rest = []; leaves = c.leaves;
+                  run = below_on S c.crossing.to z y c.comes (below z y g) })
+              | inr r ↦ inr (record {
+                start = c.crossing;
+                rest = r.start ∷ r.rest;
+                leaves = c.leaves;
+                run = (below_on S c.crossing.to z r.start.from c.comes r.leaves, r.run);
+              })
+            ]
+          ]
+
+      -- a path that leads back makes a tour
+      pub tour : (x : T) (m : List T) → IsPath (Precedes S) x m x → Tour S graph
+      tour x m p =
+          elim (along x m x p) [
+            | inl e ↦ absurd (omega arith)
+            | inr r ↦ record { start = r.start; rest = r.rest;
+                closes = run_on S graph r.start r.rest x r.start.from r.run r.leaves }
+          ]

@@ -1,0 +1,108 @@
+-- Along the walk of a tour whose edges lie in one block a level rises.
+use Rattle.std.proofs.Common.{ℕ, ◌+◌, ◌-◌, ◌*◌, ◌<◌, ◌≤◌, ◌==◌, ◌≡◌, ◌≢◌, Bool, true, false, cond, List, [], ◌∷◌, refl, sym, ap, ◌∙◌, subst, inl, inr, arith}
+use Rattle.std.specs.Prelude.{slice_index}
+use Rattle.std.proofs.lemmas.Bool.{eq-eqb}
+use Rattle.sdd_blocks.specs.Graph.{Step, edges_of, Has}
+use Rattle.sdd_graph.specs.declared.edge.Edge.{Edge}
+use Rattle.sdd_acyclic.specs.Graphs.{Waits}
+use Rattle.sdd_acyclic.specs.System.{System, Below, Facts}
+use Rattle.sdd_acyclic.proofs.Tours.{Crosses, Crossing, Run}
+use Rattle.sdd_acyclic.proofs.Tours.Crosses.{write_write, read_write, write_read}
+use Rattle.sdd_acyclic.proofs.Walks.{turn, stretch, walk}
+
+-- the level of a transaction at the read node of its class, or at its write node: its timestamp, or for a reader
+-- that waits up to another time that time, which may be equal to the timestamp of a writer that it does not see
+abbrev pub level : {T : Type 0} → System T → List ℕ → ℕ → T → Bool → ℕ
+level S blocks n x true =
+    cond (slice_index blocks (S.class x - 1) == n) (2 * S.ts x + 1) (2 * S.p2 x)
+level S blocks n x false = 2 * S.ts x + 1
+
+-- the edges that the steps go along lie in the block
+abbrev pub LieIn : List ℕ → ℕ → List Step → Type 0
+LieIn blocks n steps = (j : ℕ) → Has (edges_of steps) j → slice_index blocks j ≡ n
+
+turn_rest : (blocks : List ℕ) (n c : ℕ) (a b : Bool) (rest : List Step)
+    → LieIn blocks n (turn c a b rest) → LieIn blocks n rest
+turn_rest blocks n c true true rest h = h
+turn_rest blocks n c true false rest h = λ j m. h j (inr m)
+turn_rest blocks n c false true rest h = λ j m. h j (inr m)
+turn_rest blocks n c false false rest h = h
+
+-- not seen: the reader's time is at most the writer's
+unseen : (b : Bool) (t s p : ℕ) → t ≢ s → ¬ (s < cond b t p)
+    → cond b (2 * t + 1) (2 * p) < 2 * s + 1
+unseen true t s p n h = omega arith
+unseen false t s p n h = omega arith
+
+seen : (b : Bool) (t s p : ℕ) → s < cond b t p → 2 * s + 1 < cond b (2 * t + 1) (2 * p)
+seen true t s p h = omega arith
+seen false t s p h = omega arith
+
+within : (b : Bool) (s t p q : ℕ) → s ≤ t → p ≤ q
+    → cond b (2 * s + 1) (2 * p) ≤ cond b (2 * t + 1) (2 * q)
+within true s t p q h g = omega arith
+within false s t p q h g = omega arith
+
+module _ {T : Type 0} (S : System T) (graph : List Edge) (blocks : List ℕ) (facts : Facts S)
+    (waits : Waits S graph blocks) where
+  -- a crossing rises
+  crossing_rises : (x y : T) (k : ℕ) (a b : Bool) → Crosses S graph x y k a b → S.name x ≢ S.name y
+      → S.class x ≢ S.class y → slice_index blocks k ≢ 0
+      → level S blocks (slice_index blocks k) x a < level S blocks (slice_index blocks k) y b
+  crossing_rises x y k _ _ (write_write l e) o d z = omega arith
+  crossing_rises x y k _ _ (read_write f r w u e) o d z =
+      unseen (slice_index blocks (S.class x - 1) == slice_index blocks k) (S.ts x) (S.ts y)
+          (S.p2 x) (λ t. o (facts.one_time x y t))
+      (λ l. u ((waits.split y x f k d r w e z).1 l))
+  crossing_rises x y k _ _ (write_read f w r s e) o d z =
+      seen (slice_index blocks (S.class y - 1) == slice_index blocks k) (S.ts y) (S.ts x) (S.p2 y)
+          ((waits.split x y f k (λ t. d (sym t)) r w e z).0 s)
+
+  -- within a class the level does not fall, from one node to another where the vertical edge lies in the block
+  turn_rises : (n : ℕ) (x y : T) (a b : Bool) (rest : List Step) → Below S x y
+      → LieIn blocks n (turn (S.class y) a b rest) → level S blocks n x a ≤ level S blocks n y b
+  turn_rises n x y true true rest h g =
+      subst (λ z. cond (slice_index blocks (z - 1) == n) (2 * S.ts x + 1)
+          (2 * S.p2 x) ≤ level S blocks n y true) (sym h.class)
+      (within (slice_index blocks (S.class y - 1) == n) (S.ts x) (S.ts y) (S.p2 x) (S.p2 y) h.time
+          (waits.rises x y h.class h.time))
+  turn_rises n x y true false rest h g =
+      let e : (slice_index blocks (S.class x - 1) == n) ≡ true =
+          eq-eqb (slice_index blocks (S.class x - 1)) n
+          (ap (λ z. slice_index blocks (z - 1)) h.class ∙ g (S.class y - 1) (inl refl)) in
+      subst (λ z. cond z (2 * S.ts x + 1) (2 * S.p2 x) ≤ 2 * S.ts y + 1) (sym e) (omega arith)
+  turn_rises n x y false true rest h g =
+      let e : (slice_index blocks (S.class y - 1) == n) ≡ true =
+          eq-eqb (slice_index blocks (S.class y - 1)) n (g (S.class y - 1) (inl refl)) in
+      subst (λ z. 2 * S.ts x + 1 ≤ cond z (2 * S.ts y + 1) (2 * S.p2 y)) (sym e) (omega arith)
+  turn_rises n x y false false rest h g = omega arith
+
+  stretch_rises : (n : ℕ) (k l : Crossing S graph) (rest : List Step) → n ≢ 0 → Below S k.to l.from
+      → LieIn blocks n (stretch S graph k l rest)
+      → level S blocks n k.from k.out < level S blocks n l.from l.out
+  stretch_rises n k l rest z b h =
+      let e : slice_index blocks k.edge ≡ n = h k.edge (inl refl) in
+      let up : level S blocks n k.from k.out < level S blocks n k.to k.into =
+      subst (λ m. level S blocks m k.from k.out < level S blocks m k.to k.into) e
+          (crossing_rises k.from k.to k.edge k.out k.into k.crosses k.other k.apart
+          (λ t. z (sym e ∙ t))) in
+      let on : level S blocks n k.to k.into ≤ level S blocks n l.from l.out =
+          turn_rises n k.to l.from k.into l.out rest b (λ j m. h j (inr m)) in
+      omega arith
+
+  stretch_rest : (n : ℕ) (k l : Crossing S graph) (rest : List Step)
+      → LieIn blocks n (stretch S graph k l rest) → LieIn blocks n rest
+  stretch_rest n k l rest h =
+      turn_rest blocks n (S.class l.from) k.into l.out rest (λ j m. h j (inr m))
+
+  -- so does the walk
+  pub walk_rises : (n : ℕ) (k : Crossing S graph) (w : List (Crossing S graph))
+      (l : Crossing S graph) → n ≢ 0 → Run S graph k w l.from → LieIn blocks n (walk S graph k w l)
+      → level S blocks n k.from k.out < level S blocks n l.from l.out
+  walk_rises n k [] l z r h = stretch_rises n k l [] z r h
+  walk_rises n k (a ∷ w) l z r h =
+      let first : level S blocks n k.from k.out < level S blocks n a.from a.out =
+          stretch_rises n k a (walk S graph a w l) z r.0 h in
+      let rest : level S blocks n a.from a.out < level S blocks n l.from l.out =
+          walk_rises n a w l z r.1 (stretch_rest n k a (walk S graph a w l) h) in
+      omega arith

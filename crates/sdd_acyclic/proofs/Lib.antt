@@ -1,0 +1,16 @@
+pub mod Apart
+pub mod Barriers
+pub mod ByRank
+pub mod Covers
+pub mod Crossings
+pub mod Deeds
+pub mod Levels
+pub mod Orderly
+pub mod Over
+pub mod SomeBlocks
+pub mod SomeTable
+pub mod Splits
+pub mod Theorems
+pub mod Tours
+pub mod Walks
+pub mod Worked

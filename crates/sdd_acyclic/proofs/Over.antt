@@ -1,0 +1,29 @@
+-- What holds of transactions holds of some of them.
+use Rattle.sdd_acyclic.specs.System.{System, Precedes, Facts, over}
+use Rattle.sdd_acyclic.specs.System.Precedes.{by_class, by_writes, by_unseen, by_seen}
+
+module _ {A B : Type 0} (f : B → A) (S : System A) where
+  -- precedence among them is the same
+  pub precedes_over : (x y : B) → Precedes S (f x) (f y) → Precedes (over f S) x y
+  precedes_over x y (by_class n c l) = by_class n c l
+  precedes_over x y (by_writes n g a b l) = by_writes n g a b l
+  precedes_over x y (by_unseen n g a b u) = by_unseen n g a b u
+  precedes_over x y (by_seen n g a b s) = by_seen n g a b s
+
+  pub precedes_from_over : (x y : B) → Precedes (over f S) x y → Precedes S (f x) (f y)
+  precedes_from_over x y (by_class n c l) = by_class n c l
+  precedes_from_over x y (by_writes n g a b l) = by_writes n g a b l
+  precedes_from_over x y (by_unseen n g a b u) = by_unseen n g a b u
+  precedes_from_over x y (by_seen n g a b s) = by_seen n g a b s
+
+  pub facts_over : Facts S → Facts (over f S)
+  facts_over h =
+      record {
+        one_time = λ x y. h.one_time (f x) (f y);
+        own_earlier = λ x y. h.own_earlier (f x) (f y);
+        own_later = λ x y. h.own_later (f x) (f y);
+        writers_below = λ x x' y g b.
+            h.writers_below (f x) (f x') (f y) g (record { class = b.class; time = b.time });
+        readers_above = λ x y y' g b.
+            h.readers_above (f x) (f y) (f y') g (record { class = b.class; time = b.time });
+      }

@@ -1,0 +1,235 @@
+-- Every graph has block numbers: it can't be that it has none. Which edges are linked isn't decided here, so that this is
+-- said with two negations; a contradiction may use it.
+use Rattle.std.proofs.Common.{ℕ, zero, suc, ◌+◌, ◌<◌, ◌≤◌, ◌≡◌, ◌≢◌, List, [], ◌∷◌, ◌++◌, length, get_or, set, replicate, Some, refl, sym, ap, ◌∙◌, subst, ◌⊎◌, inl, inr, arith}
+use Rattle.std.specs.Prelude.{slice_get}
+use Rattle.std.proofs.lemmas.Bool.{cases_eq, cases_lt}
+use Rattle.std.proofs.lemmas.List.{length_push, get_or_append_left, get_or_push, length-replicate, length-set}
+use Rattle.std.proofs.lemmas.Option.{slice_get_within, slice_get-get_or, get_or_from_slice_get, same_Some}
+use Rattle.sdd_blocks.specs.Blocks.{OnACycle, Linked, AreBlocks}
+use Rattle.sdd_blocks.specs.Blocks.Linked.{last}
+use Rattle.sdd_blocks.specs.Numbered.{AreNumbered}
+use Rattle.sdd_blocks.proofs.Linked.{linked_first, linked_second, linked_on, linked_back}
+use Rattle.sdd_blocks.proofs.Numbering.{IsNumberingAt, no_numbers_yet, number_given, number_made, all_numbered}
+
+abbrev pub NotNot : Type 0 → Type 0
+NotNot A = (A → ⊥) → ⊥
+
+abbrev pub Decided : Type 0 → Type 0
+Decided A = A ⊎ (A → ⊥)
+
+decided : {A : Type 0} → NotNot (Decided A)
+decided n = n (inr (λ a. n (inl a)))
+
+-- what can't fail at any number can't fail at one of the first n
+each_below : (P : ℕ → Type 0) → ((k : ℕ) → NotNot (P k)) → (n : ℕ)
+    → NotNot ((k : ℕ) → k < n → P k)
+each_below P h zero none = none (λ k l. absurd (omega arith))
+each_below P h (suc n) none =
+    each_below P h n (λ below. h n (λ here. none (λ k l.
+    elim (cases_lt k n) [ inl m ↦ below k m | inr m ↦ let e : n ≡ k = omega arith in subst P e here ])))
+
+-- a list with an item for each of the first n numbers
+pub record ItemsBelow (P : ℕ → ℕ → Type 0) (n : ℕ) : Type 0 where
+  pub items : List ℕ
+  pub one_each : length items ≡ n
+  pub each : (k : ℕ) → k < n → P k (get_or items k 0)
+
+items_below : (P : ℕ → ℕ → Type 0) (n : ℕ) → ((k : ℕ) → k < n → (x : ℕ) × P k x) → ItemsBelow P n
+items_below P zero h = record { items = []; one_each = refl; each = λ k l. absurd (omega arith) }
+items_below P (suc n) h =
+    let rest = items_below P n (λ k l. h k (omega arith)) in
+    let x = h n (omega arith) in
+    record {
+      items = rest.items ++ x.0 ∷ [];
+      one_each = length_push rest.items x.0 ∙ (let l = rest.one_each in omega arith);
+      each = λ k l.
+          elim (cases_lt k n) [
+            | inl m ↦
+                subst (P k) (sym (get_or_append_left rest.items (x.0 ∷ []) 0 k (omega (arith, rest.one_each))))
+                (rest.each k m)
+            | inr m ↦
+                let e : n ≡ k = omega arith in
+                subst (λ z. P z (get_or (rest.items ++ x.0 ∷ []) z 0)) e
+                (subst (P n) (sym (get_or_push rest.items x.0 0 n rest.one_each)) x.1)
+          ];
+    }
+
+module _ (edges : List (ℕ × ℕ)) where
+  -- the first of the edges that are linked with an edge
+  pub record IsFirstLinked (k j : ℕ) : Type 0 where
+    pub linked : Linked edges j k
+    pub first : (i : ℕ) → i < j → Linked edges i k → ⊥
+
+  first_linked : (k n : ℕ) → ((j : ℕ) → j < n → Decided (Linked edges j k))
+      → ((j : ℕ) × (j < n) × IsFirstLinked k j) ⊎ ((j : ℕ) → j < n → Linked edges j k → ⊥)
+  first_linked k zero d = inr (λ j l. absurd (omega arith))
+  first_linked k (suc n) d =
+      elim (first_linked k n (λ j l. d j (omega arith))) [
+        | inl r ↦ let l = r.1 in inl (r.0, omega arith, r.2)
+        | inr none ↦ elim (d n (omega arith)) [
+          | inl here ↦ inl (n, omega arith, record { linked = here; first = none })
+          | inr not_here ↦ inr (λ j l h.
+              elim (cases_lt j n) [
+                | inl m ↦ none j m h
+                | inr m ↦ let e : j ≡ n = omega arith in not_here (subst (λ z. Linked edges z k) e h)
+              ])
+        ]
+      ]
+
+  -- the mark of an edge: 0 where it is on no simple cycle, else one more than the first edge that is linked with it
+  pub data IsMark (k x : ℕ) : Type 0 where
+    off : x ≡ 0 → (OnACycle edges k → ⊥) → IsMark k x
+    on : (j : ℕ) → x ≡ suc j → j < length edges → IsFirstLinked k j → IsMark k x
+
+  mark_of : (k : ℕ) → k < length edges → ((j : ℕ) → j < length edges → Decided (Linked edges j k))
+      → (x : ℕ) × IsMark k x
+  mark_of k l d =
+      elim (first_linked k (length edges) d) [
+        | inl r ↦ (suc r.0, on r.0 refl r.1 r.2)
+        | inr none ↦ (0, off refl (λ c. none k l (last c)))
+      ]
+
+  mark_bound : (k x : ℕ) → IsMark k x → x ≤ length edges
+  mark_bound k x (off e n) = omega arith
+  mark_bound k x (on j e l f) = omega arith
+
+  mark_on : (k x : ℕ) → IsMark k x → x ≢ 0 → OnACycle edges k
+  mark_on k x (off e n) z = absurd (z e)
+  mark_on k x (on j e l f) z = linked_second edges j k f.linked
+
+  mark_off : (k x : ℕ) → IsMark k x → x ≡ 0 → OnACycle edges k → ⊥
+  mark_off k x (off e n) z c = n c
+  mark_off k x (on j e l f) z c = absurd (omega arith)
+
+  -- equal marks other than 0 are those of linked edges
+  marks_link : (j k x y : ℕ) → IsMark j x → IsMark k y → x ≢ 0 → x ≡ y → Linked edges j k
+  marks_link j k x y (off e n) q z s = absurd (z e)
+  marks_link j k x y (on i e l f) (off d n) z s = absurd (omega arith)
+  marks_link j k x y (on i e l f) (on m d h g) z s =
+      let same : m ≡ i = omega arith in
+      linked_on edges j i k (linked_back edges i j f.linked) (subst (λ w. Linked edges w k) same g.linked)
+
+  linked_marks : (j k x y : ℕ) → IsMark j x → IsMark k y → Linked edges j k → x ≡ y
+  linked_marks j k x y (off e n) q h = absurd (n (linked_first edges j k h))
+  linked_marks j k x y (on i e l f) (off d n) h = absurd (n (linked_second edges j k h))
+  linked_marks j k x y (on i e l f) (on m d b g) h =
+      elim (cases_lt i m) [
+        | inl s ↦ absurd (g.first i s (linked_on edges i j k f.linked h))
+        | inr s ↦ elim (cases_lt m i) [
+          | inl t ↦ absurd (f.first m t (linked_on edges m k j g.linked (linked_back edges j k h)))
+          | inr t ↦ omega arith
+        ]
+      ]
+
+  module _ (marks : ItemsBelow IsMark (length edges)) where
+    mark_is : (k : ℕ) → k < length edges → IsMark k (get_or marks.items k 0)
+    mark_is = marks.each
+
+    -- numbers for the first marks
+    pub record SomeNumbers (count : ℕ) : Type 0 where
+      pub given : List ℕ
+      pub numbers : List ℕ
+      pub last : ℕ
+      pub are : IsNumberingAt marks.items given numbers last count
+      pub room : length given ≡ suc (length edges)
+
+    abbrev zeros : ℕ → List ℕ
+    zeros n = replicate n 0
+
+    no_given : (n x : ℕ) → get_or (zeros n) x 0 ≡ 0
+    no_given zero x = refl
+    no_given (suc n) zero = refl
+    no_given (suc n) (suc x) = no_given n x
+
+    some_numbers : (count : ℕ) → count ≤ length edges → SomeNumbers count
+    some_numbers zero l =
+        let given = zeros (suc (length edges)) in
+        record {
+          given = given;
+          numbers = [];
+          last = 0;
+          are = no_numbers_yet marks.items given (no_given (suc (length edges)));
+          room = length-replicate (suc (length edges)) 0;
+        }
+    some_numbers (suc count) l =
+        let before = some_numbers count (omega arith) in
+        let mark = get_or marks.items count 0 in
+        let next : suc count ≡ count + 1 = omega arith in
+        elim (cases_eq mark 0) [
+          | inl z ↦
+              record {
+                given = before.given;
+                numbers = before.numbers ++ get_or before.given mark 0 ∷ [];
+                last = before.last;
+                are =
+                subst (λ c. IsNumberingAt marks.items before.given (before.numbers ++ get_or before.given mark 0 ∷ []) before.last c) (sym next)
+                (number_given marks.items before.given before.numbers before.last count before.are (λ n. absurd (n z)));
+                room = before.room;
+              }
+          | inr n ↦ elim (cases_eq (get_or before.given mark 0) 0) [
+            | inl fresh ↦
+                record {
+                  given = set before.given mark (before.last + 1);
+                  numbers = before.numbers ++ (before.last + 1) ∷ [];
+                  last = before.last + 1;
+                  are =
+                  subst (λ c. IsNumberingAt marks.items (set before.given mark (before.last + 1)) (before.numbers ++ (before.last + 1) ∷ []) (before.last + 1) c) (sym next)
+                  (number_made marks.items before.given before.numbers before.last count before.are n fresh
+                  (let b = mark_bound count mark (mark_is count (omega arith)) in omega (arith, before.room)));
+                  room = length-set before.given mark (before.last + 1) ∙ before.room;
+                }
+            | inr known ↦
+                record {
+                  given = before.given;
+                  numbers = before.numbers ++ get_or before.given mark 0 ∷ [];
+                  last = before.last;
+                  are =
+                  subst (λ c. IsNumberingAt marks.items before.given (before.numbers ++ get_or before.given mark 0 ∷ []) before.last c) (sym next)
+                  (number_given marks.items before.given before.numbers before.last count before.are (λ z. known));
+                  room = before.room;
+                }
+          ]
+        ]
+
+    module _ (numbers : List ℕ) (numbered : AreNumbered marks.items numbers) where
+      within : (k b : ℕ) → slice_get numbers k ≡ Some b → k < length edges
+      within k b e = let h = slice_get_within numbers k b e in omega (arith, numbered.one_each, marks.one_each)
+
+      mark_at : (k b : ℕ) → slice_get numbers k ≡ Some b
+          → slice_get marks.items k ≡ Some (get_or marks.items k 0)
+      mark_at k b e = slice_get-get_or marks.items k 0 (let h = within k b e in omega (arith, marks.one_each))
+
+      -- a number is 0 where its mark is
+      not_zero : (k b : ℕ) → slice_get numbers k ≡ Some b → b ≢ 0 → get_or marks.items k 0 ≢ 0
+      not_zero k b e n z = n ((numbered.none k b (get_or marks.items k 0) e (mark_at k b e)).1 z)
+
+      pub blocks_are : AreBlocks edges numbers
+      blocks_are =
+          record {
+            one_each = numbered.one_each ∙ marks.one_each;
+            none = λ k e.
+                mark_off k (get_or marks.items k 0) (mark_is k (within k 0 e))
+                ((numbered.none k 0 (get_or marks.items k 0) e (mark_at k 0 e)).0 refl);
+            some = λ k b e.
+                mark_on k (get_or marks.items k 0) (mark_is k (within k (suc b) e))
+                (not_zero k (suc b) e (λ z. absurd (omega arith)));
+            same = λ j k a b p q n. (
+              (λ s.
+                  marks_link j k (get_or marks.items j 0) (get_or marks.items k 0) (mark_is j (within j a p)) (mark_is k (within k b q)) (not_zero j a p n)
+                  ((numbered.same j k a b (get_or marks.items j 0) (get_or marks.items k 0) p q (mark_at j a p) (mark_at k b q)).0 s)),
+              λ h.
+                  (numbered.same j k a b (get_or marks.items j 0) (get_or marks.items k 0) p q (mark_at j a p) (mark_at k b q)).1
+                  (linked_marks j k (get_or marks.items j 0) (get_or marks.items k 0) (mark_is j (within j a p)) (mark_is k (within k b q)) h),
+            );
+            in_order = numbered.in_order;
+          }
+
+-- it can't be that a graph has no block numbers
+pub some_blocks : (edges : List (ℕ × ℕ)) → NotNot ((blocks : List ℕ) × AreBlocks edges blocks)
+some_blocks edges none =
+    each_below (λ k. (j : ℕ) → j < length edges → Decided (Linked edges j k))
+    (λ k. each_below (λ j. Decided (Linked edges j k)) (λ j. decided) (length edges)) (length edges) (λ d.
+    let marks = items_below (IsMark edges) (length edges) (λ k l. mark_of edges k l (d k l)) in
+    let all = some_numbers edges marks (length edges) (omega arith) in
+    none (all.numbers, blocks_are edges marks all.numbers
+    (all_numbered marks.items all.given all.numbers all.last (length edges) all.are marks.one_each)))

@@ -1,0 +1,58 @@
+-- Every catalogue has a protocol table: it can't be that it has none.
+use Rattle.std.proofs.Common.{ℕ, suc, ◌≡◌, List, [], ◌∷◌, length, map, refl, sym, ap, ◌∙◌, arith}
+use Rattle.std.specs.Prelude.{All}
+use Rattle.std.specs.List.{AllByRecursion}
+use Rattle.std.proofs.lemmas.List.{take_all, length-map}
+use Rattle.std.proofs.lemmas.List.Elements.{All-from_recursion}
+use Rattle.sdd_blocks.specs.Blocks.{AreBlocks}
+use Rattle.sdd_catalog.specs.Catalogue.{Catalogue}
+use Rattle.sdd_graph.specs.Graph.{conflict_graph, ends}
+use Rattle.sdd_graph.specs.declared.edge.Edge.{Edge}
+use Rattle.sdd_protocol.specs.Entries.{protocol_by, entry_by, AreEntries}
+use Rattle.sdd_protocol.specs.Protocols.{IsTable}
+use Rattle.sdd_protocol.specs.declared.entry.Entry.{Entry}
+use Rattle.sdd_protocol.proofs.MadeTable.{is_table}
+use Rattle.sdd_protocol.proofs.Tables.{edges_of, blocks_of}
+use Rattle.sdd_acyclic.proofs.SomeBlocks.{NotNot, some_blocks}
+
+-- the entries of edges with their blocks
+abbrev entries_by : List ℕ → List Edge → List ℕ → List Entry
+entries_by all [] blocks = []
+entries_by all (e ∷ edges) [] = []
+entries_by all (e ∷ edges) (b ∷ blocks) = entry_by all e b ∷ entries_by all edges blocks
+
+edges_are : (all : List ℕ) (edges : List Edge) (blocks : List ℕ) → length blocks ≡ length edges
+    → edges_of (entries_by all edges blocks) ≡ edges
+edges_are all [] blocks l = refl
+edges_are all (e ∷ edges) [] l = absurd (omega arith)
+edges_are all (e ∷ edges) (b ∷ blocks) l = ap (λ z. e ∷ z) (edges_are all edges blocks (omega arith))
+
+blocks_are : (all : List ℕ) (edges : List Edge) (blocks : List ℕ) → length blocks ≡ length edges
+    → blocks_of (entries_by all edges blocks) ≡ blocks
+blocks_are all [] [] l = refl
+blocks_are all [] (b ∷ blocks) l = absurd (omega arith)
+blocks_are all (e ∷ edges) [] l = absurd (omega arith)
+blocks_are all (e ∷ edges) (b ∷ blocks) l = ap (λ z. b ∷ z) (blocks_are all edges blocks (omega arith))
+
+protocols_are : (all : List ℕ) (edges : List Edge) (blocks : List ℕ)
+    → AllByRecursion (λ x. x.protocol ≡ protocol_by all x.edge x.block) (entries_by all edges blocks)
+protocols_are all [] blocks = tt
+protocols_are all (e ∷ edges) [] = tt
+protocols_are all (e ∷ edges) (b ∷ blocks) = (refl, protocols_are all edges blocks)
+
+table_by : (cat : Catalogue) (blocks : List ℕ) → AreBlocks (map ends (conflict_graph cat)) blocks
+    → IsTable cat (entries_by blocks (conflict_graph cat) blocks)
+table_by cat blocks are =
+    let edges = conflict_graph cat in
+    let entries = entries_by blocks edges blocks in
+    let long : length blocks ≡ length edges = are.one_each ∙ length-map edges ends in
+    is_table cat edges blocks entries refl are
+    (record {
+      same_edges = edges_are blocks edges blocks long ∙ sym (take_all (length edges) edges (omega arith));
+      same_blocks = blocks_are blocks edges blocks long ∙ sym (take_all (length edges) blocks (omega arith));
+      protocols = All-from_recursion (λ (x : Entry). x.protocol ≡ protocol_by blocks x.edge x.block) entries (protocols_are blocks edges blocks);
+    })
+
+pub some_table : (cat : Catalogue) → NotNot ((entries : List Entry) × IsTable cat entries)
+some_table cat none =
+    some_blocks (map ends (conflict_graph cat)) (λ b. none (entries_by b.0 (conflict_graph cat) b.0, table_by cat b.0 b.1))

@@ -1,0 +1,246 @@
+-- What a reader sees of the writers of a block: those below its time.
+use Rattle.std.proofs.Common.{ℕ, zero, suc, ◌+◌, ◌-◌, ◌<◌, ◌≤◌, ◌==◌, ◌≡◌, ◌≢◌, ◌↔◌, Bool, true, false, cond, ◌&&◌, ◌||◌, List, [], ◌∷◌, ◌++◌, map, length, get_or, Option, Some, None, refl, sym, ap, ◌∙◌, subst, inl, inr, arith, eq-eqb, length-append}
+use Rattle.std.specs.Prelude.{slice_get, slice_index, is_some, unwrap_or, option_map, Contains, filter_map}
+use Rattle.std.specs.List.{list_any, cons_option}
+use Rattle.std.specs.Option.{option_eq, option_or}
+use Rattle.std.proofs.lemmas.Bool.{cases_eq, cases_Bool, eqb-true, ne_eqb, and_parts, and_from}
+use Rattle.std.proofs.lemmas.List.{length-map, get_or-map}
+use Rattle.std.proofs.lemmas.List.FromFn.{length-map-range_with_len}
+use Rattle.std.proofs.lemmas.Option.{slice_get-map, slice_get_within, slice_get-get_or, same_Some}
+use Rattle.sdd_base.specs.Numbers.{class_no, frag_no}
+use Rattle.sdd_base.specs.Words.{contains}
+use Rattle.sdd_base.specs.declared.condition.Cond.{Cond}
+use Rattle.sdd_base.specs.declared.number.ClassNo.{ClassNo}
+use Rattle.sdd_base.specs.declared.number.FragNo.{FragNo}
+use Rattle.sdd_base.proofs.Membership.{Contains-nil}
+use Rattle.sdd_catalog.specs.Catalogue.{Catalogue, reads_at, numbers_to}
+use Rattle.sdd_graph.specs.Edges.{IsClassOf}
+use Rattle.sdd_graph.specs.Graph.{ends, conflict_graph, vertical_edges, horizontal_edges, diagonal_edges}
+use Rattle.sdd_graph.specs.declared.edge.Edge.{Edge}
+use Rattle.sdd_graph.specs.declared.edge.Edge.TheVariants.{Vertical, Horizontal, Diagonal}
+use Rattle.sdd_protocol.specs.Conditions.{is_read_at, is_asked, asked_on, asked_in, asked_by, cond_of, cond_for, condition_on}
+use Rattle.sdd_protocol.specs.Protocols.{same_protocol, vertical_block, diagonal_protocol, protocol_in, is_vertical_of, IsTable}
+use Rattle.sdd_protocol.specs.declared.protocol.Protocol.{Protocol}
+use Rattle.sdd_protocol.specs.declared.protocol.Protocol.TheVariants.{P1, P2, P3}
+use Rattle.sdd_protocol.specs.declared.entry.Entry.{Entry}
+use Rattle.sdd_protocol.proofs.Laws.{one_protocol}
+use Rattle.sdd_protocol.proofs.Tables.{edges_of, blocks_of, all_at, vertical_block-lists, first_block, first_block-vertical}
+use Rattle.sdd_acyclic.specs.Fits.{Fits, Meets}
+use Rattle.sdd_acyclic.specs.Graphs.{IsDiagonal, Waits, time_in}
+use Rattle.sdd_acyclic.specs.System.{System}
+use Rattle.sdd_topological.proofs.Members.{Contains-filter_map, Contains-map, passes_member}
+use Rattle.sdd_acyclic.proofs.Covers.{class_is}
+
+-- an edge is a diagonal between the two classes
+pub record IsBetween (i j : ℕ) (e : Edge) : Type 0 where
+  pub reader : ClassNo
+  pub writer : ClassNo
+  pub fragment : FragNo
+  pub is : e ≡ Diagonal reader writer fragment
+  pub reads : reader.0 ≡ i
+  pub writes : writer.0 ≡ j
+
+-- an entry asks for its fragment where it is a diagonal between the classes, with the protocol
+asked_here : (protocol : Protocol) (test : ℕ → Bool) (i j f : ℕ) (x : Entry)
+    → x.edge ≡ Diagonal (class_no i) (class_no j) (frag_no f) → same_protocol x.protocol protocol ≡ true
+    → test f ≡ true → asked_in protocol test i j x ≡ Some (frag_no f)
+asked_here protocol test i j f x e p t =
+    ap (λ b. cond b (asked_on test i j x.edge) None) p
+    ∙ ap (asked_on test i j) e
+    ∙ ap (λ b. cond b (Some (frag_no f)) None)
+    (and_from (i == i) ((j == j) && test f) (eq-eqb i i refl) (and_from (j == j) (test f) (eq-eqb j j refl) t))
+
+-- an entry that isn't one asks for nothing
+not_asked_on : (test : ℕ → Bool) (i j : ℕ) (e : Edge) → (IsBetween i j e → ⊥) → asked_on test i j e ≡ None
+not_asked_on test i j (Vertical c) n = refl
+not_asked_on test i j (Horizontal c d) n = refl
+not_asked_on test i j (Diagonal a b f) n =
+    elim (cases_Bool ((a.0 == i) && ((b.0 == j) && test f.0))) [
+      | inl t ↦
+          let one = and_parts (a.0 == i) ((b.0 == j) && test f.0) t in
+          let two = and_parts (b.0 == j) (test f.0) one.1 in
+          absurd (n (record { reader = a; writer = b; fragment = f; is = refl; reads = eqb-true a.0 i one.0; writes = eqb-true b.0 j two.0 }))
+      | inr u ↦ ap (λ z. cond z (Some f) None) u
+    ]
+
+is_third : (protocol : Protocol) → same_protocol protocol P3 ≡ true → protocol ≡ P3
+is_third P1 e = cc
+is_third P2 e = cc
+is_third P3 e = refl
+
+not_asked_here : (test : ℕ → Bool) (i j : ℕ) (x : Entry) → (IsBetween i j x.edge → x.protocol ≡ P3 → ⊥)
+    → asked_in P3 test i j x ≡ None
+not_asked_here test i j x n =
+    elim (cases_Bool (same_protocol x.protocol P3)) [
+      | inl t ↦
+          ap (λ b. cond b (asked_on test i j x.edge) None) t
+          ∙ not_asked_on test i j x.edge (λ b. n b (is_third x.protocol t))
+      | inr f ↦ ap (λ b. cond b (asked_on test i j x.edge) None) f
+    ]
+
+filter_map_none : {X Y : Type 0} (f : X → Option Y) (xs : List X)
+    → ((k : ℕ) (x : X) → slice_get xs k ≡ Some x → f x ≡ None) → filter_map f xs ≡ []
+filter_map_none f [] h = refl
+filter_map_none f (x ∷ xs) h =
+    ap (λ o. cons_option o (filter_map f xs)) (h zero x refl) ∙ filter_map_none f xs (λ k. h (suc k))
+
+-- a condition for fragments is there where there are some
+cond_there : (j t : ℕ) (frags : List FragNo) (f : FragNo) → Contains frags f
+    → cond_for j t frags ≡ Some (cond_of j t frags)
+cond_there j t [] f h = absurd (Contains-nil f h)
+cond_there j t (g ∷ frags) f h = refl
+
+pub names_fragment : (frags : List FragNo) (f : FragNo) → Contains frags f
+    → contains (map (λ g. g.0) frags) f.0 ≡ true
+names_fragment frags f h =
+    passes_member (λ x. x == f.0) (map (λ g. g.0) frags) f.0 (Contains-map (λ (g : FragNo). g.0) frags f h)
+    (eq-eqb f.0 f.0 refl)
+
+pub any_of_map : {X Y : Type 0} (p : Y → Bool) (g : X → Y) (xs : List X)
+    → list_any (λ x. p (g x)) xs ≡ list_any p (map g xs)
+any_of_map p g [] = refl
+any_of_map p g (x ∷ xs) = ap (λ b. p (g x) || b) (any_of_map p g xs)
+
+-- the protocol of a diagonal by its block
+by_block : (here own : ℕ) → here ≢ 0 → diagonal_protocol here own ≡ cond (own == here) P3 P2
+by_block here own n =
+    ap (λ z. cond z P1 (cond (here == own) P3 P2)) (ne_eqb here 0 n)
+    ∙ elim (cases_eq own here) [
+      | inl e ↦ ap (λ z. cond z P3 P2) (eq-eqb here own (sym e) ∙ sym (eq-eqb own here e))
+      | inr d ↦ ap (λ z. cond z P3 P2) (ne_eqb here own (λ e. d (sym e)) ∙ sym (ne_eqb own here d))
+    ]
+
+-- a condition on class j up to time t, for a fragment among others
+pub record Asks (found : Option Cond) (j t f : ℕ) : Type 0 where
+  pub condition : Cond
+  pub is : found ≡ Some condition
+  pub class_is : condition.class.0 ≡ j
+  pub time_is : condition.time.0 ≡ t
+  pub named : contains (map (λ g. g.0) condition.frags) f ≡ true
+
+asks_for : (found : Option Cond) (j t : ℕ) (frags : List FragNo) (f : ℕ) → found ≡ Some (cond_of j t frags)
+    → Contains frags (frag_no f) → Asks found j t f
+asks_for found j t frags f e h =
+    record { condition = cond_of j t frags; is = e; class_is = refl; time_is = refl; named = names_fragment frags (frag_no f) h }
+
+module _ (era : Catalogue) (entries : List Entry) (table : IsTable era entries) where
+  -- the entry at the place of an edge
+  entry_at : (k : ℕ) (e : Edge) → slice_get (conflict_graph era) k ≡ Some e
+      → (x : Entry) × (slice_get entries k ≡ Some x) × (x.edge ≡ e) × (slice_index (blocks_of entries) k ≡ x.block)
+  entry_at k e h =
+      let first : Entry = record { edge = e; block = 0; protocol = P1 } in
+      let edge : slice_get (edges_of entries) k ≡ Some e = ap (λ z. slice_get z k) table.edges ∙ h in
+      let within = slice_get_within (edges_of entries) k e edge in
+      let l : k < length entries = omega (arith, length-map entries (λ (z : Entry). z.edge)) in
+      let there : slice_get entries k ≡ Some (get_or entries k first) = slice_get-get_or entries k first l in
+      let same : Some (get_or entries k first).edge ≡ Some e =
+      sym (slice_get-map (λ (z : Entry). z.edge) entries k ∙ ap (λ o. option_map (λ (z : Entry). z.edge) o) there) ∙ edge in
+      (get_or entries k first, there, same_Some (get_or entries k first).edge e same, get_or-map (λ (z : Entry). z.block) entries k first 0 l)
+
+  -- the block of a vertical edge stands at the place of its class
+  vertical_is : (i : ℕ) → IsClassOf era i → vertical_block entries i ≡ slice_index (blocks_of entries) (i - 1)
+  vertical_is i c =
+      let rest = horizontal_edges era ++ diagonal_edges era in
+      let from = c.from in
+      let to = c.to in
+      let many : length era.classes ≤ length (conflict_graph era) =
+      omega (arith, length-append (vertical_edges era) rest, length-map-range_with_len (λ z. Vertical (class_no z)) 1 (length era.classes)) in
+      let long : length (blocks_of entries) ≡ length (conflict_graph era) =
+      table.blocks.one_each ∙ length-map (conflict_graph era) ends in
+      vertical_block-lists entries i
+      ∙ ap (λ z. first_block (is_vertical_of i) z (blocks_of entries)) table.edges
+      ∙ first_block-vertical (length era.classes) 1 (i - 1) i rest (blocks_of entries) (omega arith) (omega arith) (omega arith)
+
+  -- the entry of a diagonal in a block has P3 where the edge of its reader's nodes lies in the block, else P2
+  pub record IsDiagonalEntry (i j f k : ℕ) : Type 0 where
+    pub entry : Entry
+    pub there : slice_get entries k ≡ Some entry
+    pub edge : entry.edge ≡ Diagonal (class_no i) (class_no j) (frag_no f)
+    pub protocol : entry.protocol ≡ cond (slice_index (blocks_of entries) (i - 1) == slice_index (blocks_of entries) k) P3 P2
+
+  protocol_is : (i j f k : ℕ) → IsClassOf era i → IsDiagonal (conflict_graph era) k i j f
+      → slice_index (blocks_of entries) k ≢ 0 → IsDiagonalEntry i j f k
+  protocol_is i j f k c e z =
+      let q = entry_at k (Diagonal (class_no i) (class_no j) (frag_no f)) e in
+      let x = q.0 in
+      let own = slice_index (blocks_of entries) (i - 1) in
+      let here = slice_index (blocks_of entries) k in
+      let p : x.protocol ≡ diagonal_protocol here own =
+      all_at (λ w. w.protocol ≡ protocol_in entries w.edge w.block) entries k x table.protocols q.1
+      ∙ ap (λ w. protocol_in entries w x.block) q.2
+      ∙ ap (λ w. diagonal_protocol x.block w) (vertical_is i c)
+      ∙ ap (λ w. diagonal_protocol w own) (sym q.3) in
+      record { entry = x; there = q.1; edge = q.2; protocol = p ∙ by_block here own z }
+
+  -- such an entry asks for its fragment
+  in_asked : (i j f k : ℕ) (test : ℕ → Bool) (protocol : Protocol) (d : IsDiagonalEntry i j f k)
+      → same_protocol d.entry.protocol protocol ≡ true → test f ≡ true
+      → Contains (asked_by protocol test entries i j) (frag_no f)
+  in_asked i j f k test protocol d p t =
+      let l = slice_get_within entries k d.entry d.there in
+      let here : get_or entries k d.entry ≡ d.entry =
+      same_Some (get_or entries k d.entry) d.entry (sym (slice_get-get_or entries k d.entry l) ∙ d.there) in
+      Contains-filter_map (asked_in protocol test i j) entries d.entry (frag_no f) (k, l, here)
+      (asked_here protocol test i j f d.entry d.edge p t)
+
+  -- all diagonals between two classes have one protocol: where one has P2, none asks by P3
+  none_by_third : (i j f k : ℕ) (test : ℕ → Bool) (d : IsDiagonalEntry i j f k) → d.entry.protocol ≡ P2
+      → asked_by P3 test entries i j ≡ []
+  none_by_third i j f k test d p =
+      filter_map_none (asked_in P3 test i j) entries (λ n x there.
+      not_asked_here test i j x (λ b third.
+      let edge : x.edge ≡ Diagonal (class_no i) (class_no j) b.fragment =
+      b.is ∙ ap (λ w. Diagonal (class_no w) b.writer b.fragment) b.reads ∙ ap (λ w. Diagonal (class_no i) (class_no w) b.fragment) b.writes in
+      let alike : d.entry.protocol ≡ x.protocol =
+      one_protocol era entries table k n d.entry x (class_no i) (class_no j) (frag_no f) b.fragment d.there there d.edge edge in
+      let wrong : P2 ≡ P3 = sym p ∙ alike ∙ third in
+      cc))
+
+  -- the condition of a reader on the writers of a class with which it shares a diagonal in a block
+  condition_there : (i j f k own p2 : ℕ) (test : ℕ → Bool) → IsClassOf era i → IsDiagonal (conflict_graph era) k i j f
+      → slice_index (blocks_of entries) k ≢ 0 → test f ≡ true
+      → Asks (condition_on test entries i own p2 j) j
+      (cond (slice_index (blocks_of entries) (i - 1) == slice_index (blocks_of entries) k) own p2) f
+  condition_there i j f k own p2 test c e z t =
+      let d = protocol_is i j f k c e z in
+      let thirds = asked_by P3 test entries i j in
+      let seconds = asked_by P2 test entries i j in
+      let whole : Option Cond = condition_on test entries i own p2 j in
+      elim (slice_index (blocks_of entries) (i - 1) == slice_index (blocks_of entries) k) as (λ b. d.entry.protocol ≡ cond b P3 P2 → Asks whole j (cond b own p2) f) [
+        | true ↦ λ p.
+            let m = in_asked i j f k test P3 d (ap (λ w. same_protocol w P3) p) t in
+            asks_for whole j own thirds f
+            (ap (λ o. option_or o (cond_for j p2 seconds)) (cond_there j own thirds (frag_no f) m)) m
+        | false ↦ λ p.
+            let m = in_asked i j f k test P2 d (ap (λ w. same_protocol w P2) p) t in
+            let none : thirds ≡ [] = none_by_third i j f k test d p in
+            asks_for whole j p2 seconds f
+            (ap (λ l. option_or (cond_for j own l) (cond_for j p2 seconds)) none ∙ cond_there j p2 seconds (frag_no f) m) m
+      ] d.protocol
+
+  module _ (cat : Catalogue) {T : Type 0} (S : System T) (fits : Fits era S) (frags : T → List FragNo) (meets : Meets cat entries S frags) where
+    asked_of : (y : T) (f : ℕ) → S.Reads y f → is_asked cat (S.class y) (S.dm (S.class y) f) (frags y) f ≡ true
+    asked_of y f r =
+        let d = S.dm (S.class y) f in
+        let here : is_read_at cat (S.class y) d f ≡ true =
+        ap (λ o. option_eq ◌==◌ o (Some d)) (meets.dm y f r) ∙ eq-eqb d d refl in
+        and_from (list_any (λ g. g.0 == f) (frags y)) (is_read_at cat (S.class y) d f)
+        (any_of_map (λ n. n == f) (λ (g : FragNo). g.0) (frags y) ∙ meets.reads y f r) here
+
+    split : (x y : T) (f k : ℕ) → S.class y ≢ S.class x → S.Reads y f → S.Changes x f
+        → IsDiagonal (conflict_graph era) k (S.class y) (S.class x) f → slice_index (blocks_of entries) k ≢ 0
+        → S.Seen x (S.dm (S.class y) f) y ↔ (S.ts x < time_in S (blocks_of entries) (slice_index (blocks_of entries) k) y)
+    split x y f k n r w e z =
+        let i = S.class y in
+        let d = S.dm i f in
+        let test = is_asked cat i d (frags y) in
+        let c = condition_there i (S.class x) f k (S.ts y) (S.p2 y) test (fits.class y) e z (asked_of y f r) in
+        let member =
+        Contains-filter_map (condition_on test entries i (S.ts y) (S.p2 y)) (numbers_to (length cat.classes)) (S.class x)
+        c.condition (class_is cat (S.class x) (meets.class x)) c.is in
+        let met = meets.met x y f f c.condition r member c.class_is w c.named (meets.copies y f r) in
+        subst (λ t. S.Seen x d y ↔ (S.ts x < t)) c.time_is met
+
+    pub waits : ((x y : T) → S.class x ≡ S.class y → S.ts x ≤ S.ts y → S.p2 x ≤ S.p2 y)
+        → Waits S (conflict_graph era) (blocks_of entries)
+    waits rises = record { split = split; rises = rises }

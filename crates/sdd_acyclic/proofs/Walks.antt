@@ -1,0 +1,202 @@
+-- The walk of a tour in the conflict graph.
+use Rattle.std.proofs.Common.{ℕ, ◌-◌, ◌≤◌, ◌≡◌, ◌≢◌, Bool, true, false, List, [], ◌∷◌, map, Some, refl, sym, ap, ◌∙◌, subst, inl, inr, arith}
+use Rattle.std.specs.Prelude.{slice_get, option_map}
+use Rattle.std.proofs.lemmas.Option.{slice_get-map}
+use Rattle.sdd_blocks.specs.Graph.{Step, Joins, IsWalk, nodes_of, Has, Differ, IsSimpleCycle}
+use Rattle.sdd_blocks.proofs.Walks.{joins_back}
+use Rattle.sdd_base.specs.Numbers.{class_no, frag_no}
+use Rattle.sdd_graph.specs.Graph.{read_node, write_node, ends}
+use Rattle.sdd_graph.specs.declared.edge.Edge.{Edge}
+use Rattle.sdd_graph.specs.declared.edge.Edge.TheVariants.{Vertical, Horizontal, Diagonal}
+use Rattle.sdd_acyclic.specs.Graphs.{Covers}
+use Rattle.sdd_acyclic.specs.System.{System, Below}
+use Rattle.sdd_acyclic.proofs.Tours.{Crosses, Crossing, Run, classes}
+use Rattle.sdd_acyclic.proofs.Tours.Crosses.{write_write, read_write, write_read}
+use Rattle.sdd_blocks.proofs.ClosedWalks.{closed_walks_are_cycles}
+
+-- the graph, as pairs of nodes
+abbrev pub pairs : List Edge → List (ℕ × ℕ)
+pairs graph = map ends graph
+
+-- the read node of a class, or its write node
+abbrev pub node : ℕ → Bool → ℕ
+node c true = read_node c
+node c false = write_node c
+
+one_class : (c d : ℕ) (x y : Bool) → 1 ≤ c → 1 ≤ d → node c x ≡ node d y → c ≡ d
+one_class c d true true p q e = omega arith
+one_class c d true false p q e = omega arith
+one_class c d false true p q e = omega arith
+one_class c d false false p q e = omega arith
+
+-- within a class from one of its nodes to the other, where they differ
+abbrev pub turn : ℕ → Bool → Bool → List Step → List Step
+turn c true true rest = rest
+turn c true false rest = record { edge = c - 1; to = write_node c } ∷ rest
+turn c false true rest = record { edge = c - 1; to = read_node c } ∷ rest
+turn c false false rest = rest
+
+-- no step leads to a node of the class
+abbrev pub Avoids : ℕ → List Step → Type 0
+Avoids c steps = (b : Bool) → ¬ Has (nodes_of steps) (node c b)
+
+turn_avoids : (c d : ℕ) (a b : Bool) (rest : List Step) → 1 ≤ c → 1 ≤ d → c ≢ d → Avoids c rest
+    → Avoids c (turn d a b rest)
+turn_avoids c d true true rest p q n h = h
+turn_avoids c d true false rest p q n h =
+    λ z m. elim m [ inl e ↦ n (sym (one_class d c false z q p e)) | inr k ↦ h z k ]
+turn_avoids c d false true rest p q n h =
+    λ z m. elim m [ inl e ↦ n (sym (one_class d c true z q p e)) | inr k ↦ h z k ]
+turn_avoids c d false false rest p q n h = h
+
+-- the nodes at which the class is entered and left differ
+turn_differs : (c : ℕ) (a b : Bool) (rest : List Step) → 1 ≤ c → Avoids c rest
+    → Differ (nodes_of rest) → Differ (node c a ∷ nodes_of (turn c a b rest))
+turn_differs c true true rest p h d = (h true, d)
+turn_differs c true false rest p h d =
+    ((λ m. elim m [ inl e ↦ absurd (omega arith) | inr k ↦ h true k ]), (h false, d))
+turn_differs c false true rest p h d =
+    ((λ m. elim m [ inl e ↦ absurd (omega arith) | inr k ↦ h false k ]), (h true, d))
+turn_differs c false false rest p h d = (h false, d)
+
+-- a closed walk that begins with a step and a turn
+closed_turn : (edges : List (ℕ × ℕ)) (start : ℕ) (first : Step) (c : ℕ) (a b : Bool) (s : Step)
+    (rest : List Step)
+    → IsWalk edges start (first ∷ turn c a b (s ∷ rest)) start
+        → Differ (nodes_of (first ∷ turn c a b (s ∷ rest))) → (rest ≡ [] → first.edge ≢ s.edge)
+    → IsSimpleCycle edges start (first ∷ turn c a b (s ∷ rest))
+closed_turn edges start first c true true s rest w d n =
+    closed_walks_are_cycles edges start first s rest w d n
+closed_turn edges start first c true false s rest w d n =
+    closed_walks_are_cycles edges start first (record { edge = c - 1; to = write_node c })
+        (s ∷ rest) w d (λ e. cc)
+closed_turn edges start first c false true s rest w d n =
+    closed_walks_are_cycles edges start first (record { edge = c - 1; to = read_node c })
+        (s ∷ rest) w d (λ e. cc)
+closed_turn edges start first c false false s rest w d n =
+    closed_walks_are_cycles edges start first s rest w d n
+
+turn_some : (c : ℕ) (a b : Bool) (s : Step) (rest : List Step) → turn c a b (s ∷ rest) ≢ []
+turn_some c true true s rest e = cc
+turn_some c true false s rest e = cc
+turn_some c false true s rest e = cc
+turn_some c false false s rest e = cc
+
+module _ {T : Type 0} (S : System T) (graph : List Edge) where
+  -- along the edge of k, and on to the node at which l leaves the class
+  abbrev pub stretch : Crossing S graph → Crossing S graph → List Step → List Step
+  stretch k l rest = record { edge = k.edge; to = node (S.class l.from) k.into } ∷ turn
+      (S.class l.from) k.into l.out rest
+
+  -- from the node that k leaves to the node that l leaves
+  abbrev pub walk : Crossing S graph → List (Crossing S graph) → Crossing S graph → List Step
+  walk k [] l = stretch k l []
+  walk k (a ∷ w) l = stretch k a (walk a w l)
+
+  joins_at : (k : ℕ) (e : Edge) → slice_get graph k ≡ Some e
+      → Joins (pairs graph) k (ends e).0 (ends e).1
+  joins_at k e h = inl (slice_get-map ends graph k ∙ ap (λ z. option_map ends z) h)
+
+  joins : (x y : T) (k : ℕ) (a b : Bool) → Crosses S graph x y k a b
+      → Joins (pairs graph) k (node (S.class x) a) (node (S.class y) b)
+  joins x y k _ _ (write_write l (inl e)) =
+      joins_at k (Horizontal (class_no (S.class x)) (class_no (S.class y))) e
+  joins x y k _ _ (write_write l (inr e)) =
+      joins_back (pairs graph) k (write_node (S.class y)) (write_node (S.class x))
+          (joins_at k (Horizontal (class_no (S.class y)) (class_no (S.class x))) e)
+  joins x y k _ _ (read_write f r w u e) =
+      joins_at k (Diagonal (class_no (S.class x)) (class_no (S.class y)) (frag_no f)) e
+  joins x y k _ _ (write_read f w r s e) =
+      joins_back (pairs graph) k (read_node (S.class y)) (write_node (S.class x))
+          (joins_at k (Diagonal (class_no (S.class y)) (class_no (S.class x)) (frag_no f)) e)
+
+  module _ (covers : Covers S graph) where
+    turns : (x : T) (a b : Bool) (rest : List Step) (to : ℕ)
+        → IsWalk (pairs graph) (node (S.class x) b) rest to
+        → IsWalk (pairs graph) (node (S.class x) a) (turn (S.class x) a b rest) to
+    turns x true true rest to w = w
+    turns x true false rest to w =
+        (joins_at (S.class x - 1) (Vertical (class_no (S.class x))) (covers.vertical x), w)
+    turns x false true rest to w = (joins_back (pairs graph) (S.class x - 1)
+        (read_node (S.class x)) (write_node (S.class x))
+        (joins_at (S.class x - 1) (Vertical (class_no (S.class x))) (covers.vertical x)), w)
+    turns x false false rest to w = w
+
+    stretches : (k l : Crossing S graph) (rest : List Step) (to : ℕ) → Below S k.to l.from
+        → IsWalk (pairs graph) (node (S.class l.from) l.out) rest to
+        → IsWalk (pairs graph) (node (S.class k.from) k.out) (stretch k l rest) to
+    stretches k l rest to b w = (
+      subst (λ z. Joins (pairs graph) k.edge (node (S.class k.from) k.out) (node z k.into)) b.class
+          (joins k.from k.to k.edge k.out k.into k.crosses),
+      turns l.from k.into l.out rest to w,
+    )
+
+    is_walk : (k : Crossing S graph) (w : List (Crossing S graph)) (l : Crossing S graph)
+        → Run S graph k w l.from → IsWalk (pairs graph) (node (S.class k.from) k.out) (walk k w l)
+        (node (S.class l.from) l.out)
+    is_walk k [] l r = stretches k l [] (node (S.class l.from) l.out) r refl
+    is_walk k (a ∷ w) l r =
+        stretches k a (walk a w l) (node (S.class l.from) l.out) r.0 (is_walk a w l r.1)
+
+    stretch_avoids : (c : ℕ) (k l : Crossing S graph) (rest : List Step) → 1 ≤ c
+        → c ≢ S.class l.from → Avoids c rest → Avoids c (stretch k l rest)
+    stretch_avoids c k l rest p n h z m =
+        elim m [
+          | inl e ↦ n (sym (one_class (S.class l.from) c k.into z (covers.declared l.from) p e))
+          | inr q ↦ turn_avoids c (S.class l.from) k.into l.out rest p
+              (covers.declared l.from) n h z q
+        ]
+
+    -- a walk comes to the classes of its crossings only
+    walk_avoids : (c : ℕ) (k : Crossing S graph) (w : List (Crossing S graph))
+        (l : Crossing S graph) → 1 ≤ c → (¬ Has (classes S graph w) c) → c ≢ S.class l.from
+        → Avoids c (walk k w l)
+    walk_avoids c k [] l p h n = stretch_avoids c k l [] p n (λ z m. m)
+    walk_avoids c k (a ∷ w) l p h n =
+        stretch_avoids c k a (walk a w l) p (λ e. h (inl (sym e)))
+            (walk_avoids c a w l p (λ m. h (inr m)) n)
+
+    stretch_differs : (k l : Crossing S graph) (rest : List Step) → Avoids (S.class l.from) rest
+        → Differ (nodes_of rest) → Differ (nodes_of (stretch k l rest))
+    stretch_differs k l rest h d =
+        turn_differs (S.class l.from) k.into l.out rest (covers.declared l.from) h d
+
+    -- where these differ it meets no node twice
+    walk_differs : (k : Crossing S graph) (w : List (Crossing S graph)) (l : Crossing S graph)
+        → Differ (classes S graph w) → (¬ Has (classes S graph w) (S.class l.from))
+        → Differ (nodes_of (walk k w l))
+    walk_differs k [] l d n = stretch_differs k l [] (λ z m. m) tt
+    walk_differs k (a ∷ w) l d n =
+        stretch_differs k a (walk a w l) (walk_avoids (S.class a.from) a w l
+            (covers.declared a.from) d.0 (λ e. n (inl e))) (walk_differs a w l d.1 (λ m. n (inr m)))
+
+    walk_some : (k : Crossing S graph) (w : List (Crossing S graph)) (l : Crossing S graph)
+        → (s : Step) × (rest : List Step) × (walk k w l ≡ s ∷ rest)
+    walk_some k [] l = (record { edge = k.edge; to = node (S.class l.from) k.into }, turn
+        (S.class l.from) k.into l.out [], refl)
+    walk_some k (a ∷ w) l = (record { edge = k.edge; to = node (S.class a.from) k.into }, turn
+        (S.class a.from) k.into a.out (walk a w l), refl)
+
+    -- the walk of a tour of different classes is a simple cycle, unless the tour goes along one edge and back
+    pub cycle_of_tour : (k : Crossing S graph) (w : List (Crossing S graph))
+        → Run S graph k w k.from → Differ (classes S graph (k ∷ w))
+        → ((l : Crossing S graph) → w ≡ l ∷ [] → k.edge ≢ l.edge)
+        → IsSimpleCycle (pairs graph) (node (S.class k.from) k.out) (walk k w k)
+    cycle_of_tour k [] r d n = absurd (k.apart (sym r.class))
+    cycle_of_tour k (l ∷ []) r d n =
+        closed_turn (pairs graph) (node (S.class k.from) k.out)
+            (record { edge = k.edge; to = node (S.class l.from) k.into })
+            (S.class l.from) k.into l.out
+        (record { edge = l.edge; to = node (S.class k.from) l.into })
+            (turn (S.class k.from) l.into k.out [])
+        (is_walk k (l ∷ []) k r) (walk_differs k (l ∷ []) k d.1 d.0) (λ e. n l refl)
+    cycle_of_tour k (l ∷ m ∷ w) r d n =
+        let q = walk_some m w k in
+        closed_turn (pairs graph) (node (S.class k.from) k.out)
+            (record { edge = k.edge; to = node (S.class l.from) k.into })
+            (S.class l.from) k.into l.out
+        (record { edge = l.edge; to = node (S.class m.from) l.into })
+            (turn (S.class m.from) l.into m.out (walk m w k))
+        (is_walk k (l ∷ m ∷ w) k r) (walk_differs k (l ∷ m ∷ w) k d.1 d.0)
+        (λ e. absurd (turn_some (S.class m.from) l.into m.out q.0 q.1
+            (subst (λ z. turn (S.class m.from) l.into m.out z ≡ []) q.2 e)))

@@ -1,0 +1,13 @@
+//! No cycle of precedence: why a serial order always exists.
+//!
+//! The one contract to the layer above: where what happened gives the core's facts
+//! (`specs/Deeds.antt`), the catalogue in force and its table fit the transactions (`specs/Fits.antt`)
+//! and eras follow one another, precedence has no cycle (`orderly_in_eras` in `proofs/Apart.antt`).
+//! The core alone, over any transactions, is what the laws here say.
+#![tactic(auto)]
+
+mod law;
+mod waiting;
+
+pub use law::{law_forests_leave_no_cycle, law_protocols_leave_no_cycle};
+pub use waiting::time_for;

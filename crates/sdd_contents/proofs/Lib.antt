@@ -1,0 +1,11 @@
+pub mod CopyEntries
+pub mod CopyValues
+pub mod Gathered
+pub mod Latest
+pub mod LookUps
+pub mod Members
+pub mod Origins
+pub mod SameCopies
+pub mod Together
+pub mod Values
+pub mod Worked

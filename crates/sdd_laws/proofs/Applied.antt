@@ -1,0 +1,66 @@
+-- Applied before a place, as a test and by places.
+use Rattle.std.proofs.Common.{ℕ, zero, suc, ◌<◌, ◌≡◌, ◌↔◌, Bool, true, false, [], ◌∷◌, take, refl, ap, sym, ◌∙◌, inl, inr, arith}
+use Rattle.std.specs.List.{list_any}
+use Rattle.sdd_history.specs.declared.record.Rec.{Rec}
+use Rattle.sdd_history.specs.Records.{History}
+use Rattle.sdd_order.specs.Places.{Stands}
+use Rattle.sdd_order.specs.Precedence.{is_apply}
+use Rattle.sdd_order.proofs.Before.{or_cases, or_left, or_right, apply_passes}
+use Rattle.sdd_laws.specs.Deeds.{AppliedBefore}
+use Rattle.sdd_laws.specs.Snapshots.{is_applied}
+use Rattle.sdd_laws.proofs.Precedes as by_places
+
+-- a record before the place passes
+record PassesBefore (p : Rec → Bool) (h : History) (k : ℕ) : Type 0 where
+  place : ℕ
+  rec : Rec
+  stands : Stands h place rec
+  passes : p rec ≡ true
+  before : place < k
+
+passes_before : (p : Rec → Bool) (h : History) (k : ℕ) → list_any (λ e. p e.1) (take k h) ≡ true → PassesBefore p h k
+passes_before p [] zero e = absurd (cc)
+passes_before p [] (suc k) e = absurd (cc)
+passes_before p (x ∷ h) zero e = absurd (cc)
+passes_before p (x ∷ h) (suc k) e =
+    elim (or_cases (p x.1) (list_any (λ e. p e.1) (take k h)) e) [
+      | inl t ↦ record { place = 0; rec = x.1; stands = refl; passes = t; before = omega arith }
+      | inr t ↦
+          let r = passes_before p h k t in
+          let l = r.before in
+          record { place = suc r.place; rec = r.rec; stands = r.stands; passes = r.passes; before = omega arith }
+    ]
+
+before_passes : (p : Rec → Bool) (h : History) (k j : ℕ) (r : Rec) → Stands h j r → p r ≡ true → j < k
+    → list_any (λ e. p e.1) (take k h) ≡ true
+before_passes p [] k j r s t l = absurd (cc)
+before_passes p (x ∷ h) zero j r s t l = absurd (omega arith)
+before_passes p (x ∷ h) (suc k) zero r s t l =
+    let same : x.1 ≡ r = cc in
+    or_left (p x.1) (list_any (λ e. p e.1) (take k h)) (ap p same ∙ t)
+before_passes p (x ∷ h) (suc k) (suc j) r s t l =
+    or_right (p x.1) (list_any (λ e. p e.1) (take k h)) (before_passes p h k j r s t (omega arith))
+
+pub applied_before : (h : History) (n d k : ℕ) → is_applied h d k n ≡ true → AppliedBefore h n d k
+applied_before h n d k e =
+    let r = passes_before (is_apply n d) h k e in
+    record
+    { place = r.place; applied = by_places.is_applied h n d r.place r.rec r.stands r.passes; before = r.before }
+
+pub before_applied : (h : History) (n d k : ℕ) → AppliedBefore h n d k → is_applied h d k n ≡ true
+before_applied h n d k a =
+    before_passes (is_apply n d) h k a.place _ a.applied.stands (apply_passes n d a.applied.class a.applied.ts)
+    a.before
+
+-- tests that follow from one another are the same
+same_test : (a b : Bool) → (a ≡ true → b ≡ true) → (b ≡ true → a ≡ true) → a ≡ b
+same_test true b f g = sym (f refl)
+same_test false true f g = g refl
+same_test false false f g = refl
+
+pub applied_alike : (h : History) (n a j b k : ℕ) → AppliedBefore h n a j ↔ AppliedBefore h n b k
+    → is_applied h a j n ≡ is_applied h b k n
+applied_alike h n a j b k alike =
+    same_test (is_applied h a j n) (is_applied h b k n)
+    (λ e. before_applied h n b k (alike.0 (applied_before h n a j e)))
+    (λ e. before_applied h n a j (alike.1 (applied_before h n b k e)))

@@ -1,0 +1,71 @@
+-- In every catalogue a fragment has a copy, so that class 0 reads it somewhere.
+use Rattle.std.proofs.Common.{ℕ, zero, suc, ◌+◌, ◌-◌, ◌<◌, ◌≤◌, ◌==◌, ◌≡◌, true, false, List, [], ◌∷◌, map, length, get_or, Some, refl, sym, ap, ◌∙◌, subst, arith, eq-eqb}
+use Rattle.std.specs.Prelude.{slice_index_or, Contains}
+use Rattle.std.specs.List.{All, AllByRecursion, list_any}
+use Rattle.std.proofs.lemmas.Bool.{eqb-false}
+use Rattle.std.proofs.lemmas.List.{length-map}
+use Rattle.sdd_base.specs.Numbers.{dm_no}
+use Rattle.sdd_base.specs.declared.number.DmNo.{DmNo}
+use Rattle.sdd_base.proofs.Membership.{Contains-here}
+use Rattle.sdd_catalog.specs.Catalogue.{Catalogue, catalogue_of, parts_of, fragment_from, fragment_at, relation_names, has_copy, lowest_copy, numbers_to}
+use Rattle.sdd_catalog.specs.Numbers.{IsPlaced}
+use Rattle.sdd_catalog.specs.Rules.{IsSound, fragment_rules}
+use Rattle.sdd_catalog.specs.declared.parts.FragmentPart.{FragmentPart}
+use Rattle.sdd_catalog.specs.declared.parts.Parts.{Parts}
+use Rattle.sdd_catalog.specs.declared.resolved.Fragment.{Fragment}
+use Rattle.sdd_catalog.proofs.Found.{both_empty, each_unfound, empty_of_map}
+use Rattle.sdd_catalog.proofs.Sound.{at_number, each_image, sound_fragments}
+use Rattle.sdd_catalog.proofs.Validity.{no_faults, unbroken}
+use Rattle.sdd_topological.proofs.Members.{Contains-range, passes_member}
+use Rattle.sdd_laws.proofs.Lists.{found_where_any}
+
+abbrev HasCopies : Fragment → Type 0
+HasCopies f = 1 ≤ length f.copies
+
+-- the parts of a fragment that breaks no rule have a copy
+some_copy_part : (parts : Parts) (before : List FragmentPart) (f : FragmentPart)
+    → fragment_rules parts before f ≡ [] → 1 ≤ length f.copies
+some_copy_part parts before f e =
+    let rules = both_empty _ _ e in
+    let copies = both_empty _ _ rules.0 in
+    let some : (length f.copies == 0) ≡ false = unbroken _ _ copies.1 in
+    let n = eqb-false (length f.copies) 0 some in
+    above_zero (length f.copies) n
+  where
+    above_zero : (n : ℕ) → (n ≡ 0 → ⊥) → 1 ≤ n
+    above_zero zero h = absurd (h refl)
+    above_zero (suc n) h = omega arith
+
+each_copied : (cat : Catalogue) → IsSound cat → AllByRecursion HasCopies cat.fragments
+each_copied cat sound =
+    let parts : Parts = parts_of cat in
+    let none = no_faults parts sound.valid in
+    let each =
+    each_unfound _ (λ f. 1 ≤ length f.copies) (λ before f found. some_copy_part parts before f (empty_of_map _ _ found)) [] parts.fragments none.fragments in
+    let there : AllByRecursion HasCopies (map (fragment_from (relation_names parts.relations)) parts.fragments) =
+    each_image (fragment_from (relation_names parts.relations)) (λ (f : FragmentPart). 1 ≤ length f.copies) HasCopies
+    (λ f h. subst (λ n. 1 ≤ n) (sym (length-map f.copies dm_no)) h) parts.fragments each in
+    subst (λ c. AllByRecursion HasCopies c.fragments) sound.same there
+
+-- the first copy
+copy_in : (copies : List DmNo) → 1 ≤ length copies → (d : DmNo) × Contains copies d
+copy_in [] l = absurd (omega arith)
+copy_in (d ∷ copies) l = (d, Contains-here d copies)
+
+pub some_copy : (cat : Catalogue) → IsSound cat → (f : ℕ) → 1 ≤ f → f ≤ length cat.fragments
+    → (d : ℕ) × (lowest_copy cat f ≡ Some d)
+some_copy cat sound f from to =
+    let part = fragment_at cat f in
+    let some : 1 ≤ length part.copies = at_number HasCopies cat.fragments f _ (each_copied cat sound) from to in
+    let placed : IsPlaced (length cat.relations) cat.dms part =
+    at_number (IsPlaced (length cat.relations) cat.dms) cat.fragments f _ (sound_fragments cat sound) from to in
+    let first = copy_in part.copies some in
+    let here = first.1 in
+    let within : (1 ≤ first.0.0) × (first.0.0 ≤ cat.dms) =
+    subst (λ (d : DmNo). (1 ≤ d.0) × (d.0 ≤ cat.dms)) here.2 (placed.copies here.0 first.0 here.1) in
+    let low = within.0 in
+    let high = within.1 in
+    let has : has_copy cat first.0.0 f ≡ true =
+    passes_member (λ (d : DmNo). d.0 == first.0.0) part.copies first.0 here (eq-eqb first.0.0 first.0.0 refl) in
+    found_where_any (λ dm. has_copy cat dm f) (numbers_to cat.dms)
+    (passes_member (λ dm. has_copy cat dm f) (numbers_to cat.dms) first.0.0 (Contains-range 1 cat.dms first.0.0 low (omega arith)) has)

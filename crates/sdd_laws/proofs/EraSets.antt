@@ -1,0 +1,136 @@
+-- The sets of a class in an era, and of its transactions.
+use Rattle.std.proofs.Common.{ℕ, zero, suc, ◌+◌, ◌-◌, ◌<◌, ◌≤◌, ◌==◌, ◌≡◌, Bool, true, false, cond, ◌&&◌, List, [], ◌∷◌, ◌++◌, map, length, Option, Some, None, refl, sym, ap, ◌∙◌, subst, ◌⊎◌, inl, inr, arith}
+use Rattle.std.specs.Prelude.{is_some, unwrap_or, option_map, filter, find}
+use Rattle.std.specs.List.{AllByRecursion, flat_map, list_all}
+use Rattle.std.proofs.lemmas.Bool.{and_parts, ne_eqb}
+use Rattle.sdd_base.specs.Words.{ascending, contains, head_of}
+use Rattle.sdd_base.specs.declared.number.FragNo.{FragNo}
+use Rattle.sdd_base.specs.declared.number.RelNo.{RelNo}
+use Rattle.sdd_base.specs.declared.usage.Use.{Use}
+use Rattle.sdd_catalog.specs.Catalogue.{Catalogue, class_at, lowest_copy, numbers_to, reads_at, writes}
+use Rattle.sdd_catalog.specs.declared.resolved.Class.{Class}
+use Rattle.sdd_catalog.specs.declared.resolved.Read.{Read}
+use Rattle.sdd_catalog.proofs.Sound.{each_in_range}
+use Rattle.sdd_graph.specs.Edges.{IsClassOf}
+use Rattle.sdd_lang.specs.declared.condition.Condition.{Condition}
+use Rattle.sdd_lang.specs.declared.statement.Stmt.{Stmt}
+use Rattle.sdd_lang.specs.declared.statement.Stmt.TheVariants.{Put, Query, Update, Delete}
+use Rattle.sdd_lang.specs.declared.transaction.Txn.{Txn}
+use Rattle.sdd_lang.specs.Classes.{covers, class_for, fragments_in, read_set, write_set, written_by}
+use Rattle.sdd_lang.specs.Uses.{restrictions_of, use_of, part_uses, statement_uses, uses_from, uses_of}
+use Rattle.sdd_lang.proofs.ReadSetDecides.{ascending_back}
+use Rattle.sdd_laws.specs.Eras.{HasSets, IsEraOf}
+use Rattle.sdd_laws.proofs.Lists.{each_passes, at_member, first_passes, first_has}
+
+-- a catalogue with other classes
+abbrev pub with_classes : Catalogue → List Class → Catalogue
+with_classes cat classes = record cat { classes = classes }
+
+-- has the same uses, whatever its classes
+part_same : (cat : Catalogue) (classes : List Class) (before : ℕ) (conds : List Condition) (part : ℕ) (rels : List RelNo)
+    → part_uses (with_classes cat classes) before conds part rels ≡ part_uses cat before conds part rels
+part_same cat classes before conds part [] = refl
+part_same cat classes before conds part (rel ∷ rels) =
+    ap (λ z. use_of cat (before + part) rel (restrictions_of part conds) ∷ z)
+    (part_same cat classes before conds (part + 1) rels)
+
+statement_same : (cat : Catalogue) (classes : List Class) (before : ℕ) (s : Stmt)
+    → statement_uses (with_classes cat classes) before s ≡ statement_uses cat before s
+statement_same cat classes before (Put rel row) = refl
+statement_same cat classes before (Query out rels conds) = part_same cat classes before conds 1 rels
+statement_same cat classes before (Update rel sets conds) = part_same cat classes before conds 1 (rel ∷ [])
+statement_same cat classes before (Delete rel conds) = part_same cat classes before conds 1 (rel ∷ [])
+
+uses_same : (cat : Catalogue) (classes : List Class) (before : ℕ) (statements : List Stmt)
+    → uses_from (with_classes cat classes) before statements ≡ uses_from cat before statements
+uses_same cat classes before [] = refl
+uses_same cat classes before (s ∷ rest) =
+    ap (λ (found : List Use). found ++ uses_from (with_classes cat classes) (before + length found) rest) (statement_same cat classes before s)
+    ∙ ap (λ z. statement_uses cat before s ++ z) (uses_same cat classes (before + length (statement_uses cat before s)) rest)
+
+written_same : (cat : Catalogue) (classes : List Class) (s : Stmt)
+    → written_by (with_classes cat classes) s ≡ written_by cat s
+written_same cat classes (Put rel row) = refl
+written_same cat classes (Query out rels conds) = refl
+written_same cat classes (Update rel sets conds) = ap fragments_in (statement_same cat classes 0 (Update rel sets conds))
+written_same cat classes (Delete rel conds) = ap fragments_in (statement_same cat classes 0 (Delete rel conds))
+
+all_written_same : (cat : Catalogue) (classes : List Class) (statements : List Stmt)
+    → flat_map (written_by (with_classes cat classes)) statements ≡ flat_map (written_by cat) statements
+all_written_same cat classes [] = refl
+all_written_same cat classes (s ∷ rest) =
+    ap (λ z. z ++ flat_map (written_by (with_classes cat classes)) rest) (written_same cat classes s)
+    ∙ ap (λ z. written_by cat s ++ z) (all_written_same cat classes rest)
+
+-- an era differs in its classes alone
+era_is : (cat era : Catalogue) → IsEraOf cat era → era ≡ with_classes cat era.classes
+era_is cat era h =
+    λ i. record {
+      tms = h.tms i;
+      dms = h.dms i;
+      relations = h.relations i;
+      fragments = h.fragments i;
+      classes = era.classes;
+    }
+
+pub uses_in_era : (cat era : Catalogue) → IsEraOf cat era → (txn : Txn) → uses_of era txn ≡ uses_of cat txn
+uses_in_era cat era h txn =
+    ap (λ c. uses_of c txn) (era_is cat era h) ∙ uses_same cat era.classes 0 txn.statements
+
+pub write_set_in_era : (cat era : Catalogue) → IsEraOf cat era → (txn : Txn)
+    → write_set era txn ≡ write_set cat txn
+write_set_in_era cat era h txn =
+    ap (λ c. write_set c txn) (era_is cat era h) ∙ ap ascending (all_written_same cat era.classes txn.statements)
+
+-- a class covers a transaction
+pub record IsCovered (cat : Catalogue) (txn : Txn) (n : ℕ) : Type 0 where
+  pub class : IsClassOf cat n
+  pub reads : (f : ℕ) → contains (fragments_in (uses_of cat txn)) f ≡ true → is_some (reads_at cat n f) ≡ true
+  pub writes : (f : ℕ) → contains (write_set cat txn) f ≡ true → writes cat n f ≡ true
+
+covered_by : (cat : Catalogue) (txn : Txn) (n : ℕ) → (1 ≤ n) × (n < 1 + length cat.classes)
+    → covers cat txn n ≡ true → IsCovered cat txn n
+covered_by cat txn n l e =
+    let high = l.1 in
+    let parts = and_parts ((class_at cat n).tm.0 == txn.tm.0) (list_all (λ f. is_some (reads_at cat n f)) (read_set cat txn) && list_all (writes cat n) (write_set cat txn)) e in
+    let sets = and_parts (list_all (λ f. is_some (reads_at cat n f)) (read_set cat txn)) (list_all (writes cat n) (write_set cat txn)) parts.1 in
+    let read =
+    ascending_back (λ f. is_some (reads_at cat n f) ≡ true) (fragments_in (uses_of cat txn))
+    (each_passes (λ f. is_some (reads_at cat n f)) (read_set cat txn) sets.0) in
+    record {
+      class = record { from = l.0; to = omega arith };
+      reads = λ f c. at_member (λ g. is_some (reads_at cat n g) ≡ true) (fragments_in (uses_of cat txn)) f read c;
+      writes = λ f c.
+          at_member (λ g. writes cat n g ≡ true) (write_set cat txn) f (each_passes (writes cat n) (write_set cat txn) sets.1) c;
+    }
+
+pub covered : (cat : Catalogue) (txn : Txn) (n : ℕ) → n ≡ class_for cat txn → 1 ≤ n → IsCovered cat txn n
+covered cat txn n e l =
+    elim (head_of (filter (covers cat txn) (numbers_to (length cat.classes)))) as (λ o. head_of (filter (covers cat txn) (numbers_to (length cat.classes))) ≡ o → n ≡ unwrap_or o 0 → IsCovered cat txn n) [
+      | None ↦ λ h z. absurd (omega arith)
+      | Some x ↦ λ h z.
+          subst (IsCovered cat txn) (sym z)
+          (covered_by cat txn x
+          (first_has (λ i. (1 ≤ i) × (i < 1 + length cat.classes)) (covers cat txn) (numbers_to (length cat.classes)) x (each_in_range 1 (length cat.classes)) h)
+          (first_passes (covers cat txn) (numbers_to (length cat.classes)) x h))
+    ] refl e
+
+-- where a class reads a fragment in an era, it reads it there in the whole catalogue
+pub read_in_era : (cat era : Catalogue) → IsEraOf cat era → (n f : ℕ) → IsClassOf era n
+    → is_some (reads_at era n f) ≡ true → reads_at era n f ≡ reads_at cat n f
+read_in_era cat era h n f c e =
+    let from = c.from in
+    let declared : (n == 0) ≡ false = ne_eqb n 0 (λ z. absurd (omega arith)) in
+    let by_class : (k : Catalogue) → reads_at k n f ≡ option_map (λ (r : Read). r.at.0) (find (λ r. r.fragment.0 == f) (class_at k n).reads) =
+    λ k. ap (λ b. cond b (lowest_copy k f) (option_map (λ (r : Read). r.at.0) (find (λ r. r.fragment.0 == f) (class_at k n).reads))) declared in
+    elim (h.sets n c.from c.to) [
+      | inl same ↦
+          by_class era
+          ∙ ap (λ reads. option_map (λ (r : Read). r.at.0) (find (λ r. r.fragment.0 == f) reads)) same.0
+          ∙ sym (by_class cat)
+      | inr empty ↦
+          let none : reads_at era n f ≡ None =
+          by_class era ∙ ap (λ reads. option_map (λ (r : Read). r.at.0) (find (λ r. r.fragment.0 == f) reads)) empty.0 in
+          let wrong : false ≡ true = ap is_some (sym none) ∙ e in
+          absurd (cc)
+    ]

@@ -1,0 +1,279 @@
+-- A transaction starts again only since another one was committed: each Start but the first has a writer of its own.
+use Rattle.std.proofs.Common.{ℕ, zero, suc, ◌+◌, ◌<◌, ◌≤◌, ◌==◌, ◌≡◌, ◌≢◌, eqb, Bool, true, false, not, cond, ◌||◌, List, [], ◌∷◌, map, length, take, Option, Some, None, refl, sym, ap, ◌∙◌, subst, ◌⊎◌, inl, inr, arith, eq-eqb}
+use Rattle.std.specs.Prelude.{filter, slice_get, option_map, unwrap_or, is_some}
+use Rattle.std.specs.List.{IsDistinct, AllByRecursion, list_any}
+use Rattle.std.specs.Cmp.{nat_eq_equiv}
+use Rattle.std.proofs.lemmas.Bool.{cases_Bool, cases_eq, cases_lt, ne_eqb, eqb-true}
+use Rattle.std.proofs.lemmas.List.{length-map}
+use Rattle.std.proofs.lemmas.Map.Made.{length-le_from_is_member}
+use Rattle.std.proofs.lemmas.Option.{same_Some}
+use Rattle.sdd_base.specs.Numbers.{txn_no}
+use Rattle.sdd_base.specs.declared.number.Ts.{Ts}
+use Rattle.sdd_catalog.specs.Catalogue.{Catalogue}
+use Rattle.sdd_history.specs.declared.record.Rec.{Rec}
+use Rattle.sdd_history.specs.declared.record.Rec.TheVariants.{Submit, Start, Arrive, Wait, Answer, Reject, Commit, Apply, Pass, Nothing}
+use Rattle.sdd_history.specs.Records.{History}
+use Rattle.sdd_lang.specs.declared.transaction.Txn.{Txn}
+use Rattle.sdd_lang.specs.Classes.{class_for}
+use Rattle.sdd_order.specs.Attempts.{Attempt, Committed, IsAttempt, IsCommitted, HasCommit, p2_time}
+use Rattle.sdd_order.specs.Places.{Stands, event_at}
+use Rattle.sdd_laws.specs.Deeds.{txn_at}
+use Rattle.sdd_laws.specs.Eras.{Eras, in_force}
+use Rattle.sdd_laws.specs.Few.{is_commit_of_other, starts_of, commits_of_others, AreFew}
+use Rattle.sdd_laws.specs.Rejections.{IsAgain, KeepsRejections}
+use Rattle.sdd_laws.specs.Starts.{is_start_of, starts_before, KeepsStarts}
+use Rattle.sdd_order.proofs.Before.{or_left, or_right}
+use Rattle.sdd_laws.proofs.Counts.{one_start, start_counts}
+use Rattle.sdd_order.proofs.Places.{same_start, same_commit}
+use Rattle.sdd_laws.proofs.Times.{condition_time}
+
+-- places of records that pass a test
+
+places_of : (Rec → Bool) → ℕ → History → List ℕ
+places_of test k [] = []
+places_of test k (e ∷ h) = cond (test e.1) (k ∷ places_of test (suc k) h) (places_of test (suc k) h)
+
+as_many : (test : Rec → Bool) (k : ℕ) (h : History) → length (places_of test k h) ≡ length (filter (λ e. test e.1) h)
+unfolding places_of
+as_many test k [] = refl
+as_many test k (e ∷ h) =
+    elim (test e.1) as (λ b. length (cond b (k ∷ places_of test (suc k) h) (places_of test (suc k) h)) ≡ length (cond b (e ∷ filter (λ d. test d.1) h) (filter (λ d. test d.1) h))) [
+      | true ↦ ap suc (as_many test (suc k) h)
+      | false ↦ as_many test (suc k) h
+    ]
+
+place_there : (test : Rec → Bool) (k : ℕ) (h : History) (j : ℕ) (r : Rec) → Stands h j r → test r ≡ true
+    → list_any (eqb (k + j)) (places_of test k h) ≡ true
+unfolding places_of
+place_there test k [] j r s t = absurd (cc)
+place_there test k (e ∷ h) zero r s t =
+    let same : k + 0 ≡ k = omega arith in
+    ap (λ b. list_any (eqb (k + 0)) (cond b (k ∷ places_of test (suc k) h) (places_of test (suc k) h))) (ap test (same_Some e.1 r s) ∙ t)
+    ∙ or_left (eqb (k + 0) k) (list_any (eqb (k + 0)) (places_of test (suc k) h)) (eq-eqb (k + 0) k same)
+place_there test k (e ∷ h) (suc j) r s t =
+    let same : suc k + j ≡ k + suc j = omega arith in
+    let rest : list_any (eqb (k + suc j)) (places_of test (suc k) h) ≡ true =
+    subst (λ m. list_any (eqb m) (places_of test (suc k) h) ≡ true) same (place_there test (suc k) h j r s t) in
+    elim (test e.1) as (λ b. list_any (eqb (k + suc j)) (cond b (k ∷ places_of test (suc k) h) (places_of test (suc k) h)) ≡ true) [
+      | true ↦ or_right (eqb (k + suc j) k) (list_any (eqb (k + suc j)) (places_of test (suc k) h)) rest
+      | false ↦ rest
+    ]
+
+-- the last of the records that pass
+pub record LastPassing (test : Rec → Bool) (h : History) (n : ℕ) : Type 0 where
+  pub place : ℕ
+  pub rec : Rec
+  pub stands : Stands h place rec
+  pub passes : test rec ≡ true
+  pub before : length (filter (λ e. test e.1) (take place h)) ≡ n
+
+last_passing : (test : Rec → Bool) (h : History) (n : ℕ) → length (filter (λ e. test e.1) h) ≡ suc n → LastPassing test h n
+last_passing test [] n e = absurd (omega arith)
+last_passing test (x ∷ h) n e =
+    elim (test x.1) as (λ b. test x.1 ≡ b → length (cond b (x ∷ filter (λ d. test d.1) h) (filter (λ d. test d.1) h)) ≡ suc n → LastPassing test (x ∷ h) n) [
+      | true ↦ λ t l. elim n as (λ m. n ≡ m → LastPassing test (x ∷ h) m) [
+        | zero ↦ λ z. record { place = 0; rec = x.1; stands = refl; passes = t; before = refl }
+        | suc m ↦ λ z.
+            let r = last_passing test h m (omega arith) in
+            record {
+              place = suc r.place;
+              rec = r.rec;
+              stands = r.stands;
+              passes = r.passes;
+              before = ap (λ b. length (cond b (x ∷ filter (λ d. test d.1) (take r.place h)) (filter (λ d. test d.1) (take r.place h)))) t ∙ ap suc r.before;
+            }
+      ] refl
+      | false ↦ λ t l.
+          let r = last_passing test h n l in
+          record {
+            place = suc r.place;
+            rec = r.rec;
+            stands = r.stands;
+            passes = r.passes;
+            before = ap (λ b. length (cond b (x ∷ filter (λ d. test d.1) (take r.place h)) (filter (λ d. test d.1) (take r.place h)))) t ∙ r.before;
+          }
+    ] refl e
+
+-- a Start at a place is that of an attempt
+attempt_at : (h : History) (n k : ℕ) (r : Rec) → Stands h k r → is_start_of n r ≡ true
+    → (a : Attempt) × IsAttempt h a × (a.txn ≡ n) × (a.place ≡ k)
+attempt_at h n k (Start txn attempt class ts p2 uses) s t = (
+  record { txn = txn.0; number = attempt; class = class.0; ts = ts.0; p2 = p2; uses = uses; place = k },
+  s,
+  eqb-true txn.0 n t,
+  refl,
+)
+attempt_at h n k (Submit txn) s t = absurd (cc)
+attempt_at h n k (Arrive txn attempt dm) s t = absurd (cc)
+attempt_at h n k (Wait txn attempt dm conds) s t = absurd (cc)
+attempt_at h n k (Answer txn attempt dm) s t = absurd (cc)
+attempt_at h n k (Reject txn attempt dm class ts) s t = absurd (cc)
+attempt_at h n k (Commit txn attempt reply changes values rows) s t = absurd (cc)
+attempt_at h n k (Apply txn class dm ts) s t = absurd (cc)
+attempt_at h n k (Pass class dm time) s t = absurd (cc)
+attempt_at h n k Nothing s t = absurd (cc)
+
+no_places : IsDistinct eqb []
+unfolding IsDistinct
+no_places = tt
+
+one_place_more : (k : ℕ) (ks : List ℕ) → AllByRecursion (λ q. eqb k q ≡ false) ks → IsDistinct eqb ks → IsDistinct eqb (k ∷ ks)
+unfolding IsDistinct
+one_place_more k ks apart d = (apart, d)
+
+each_more : {A : Type 0} (P Q : A → Type 0) → ((x : A) → P x → Q x) → (xs : List A) → AllByRecursion P xs → AllByRecursion Q xs
+each_more P Q f [] all = tt
+each_more P Q f (x ∷ xs) all = (f x all.0, each_more P Q f xs all.1)
+
+module _ (cat : Catalogue) (eras : Eras) (txns : List Txn) (h : History) (starting : KeepsStarts cat eras txns h) (rejecting : KeepsRejections cat eras h) where
+  -- the attempts of a transaction have one class
+  one_class : (a b : Attempt) → IsAttempt h a → IsAttempt h b → a.txn ≡ b.txn → a.class ≡ b.class
+  one_class a b p q e =
+      let s = starting.submitted a p in
+      let t = starting.submitted b q in
+      let at : s.place ≡ t.place =
+      starting.one_submit b.txn s.place t.place (subst (λ n. Stands h s.place (Submit (txn_no n))) e s.submitted) t.submitted in
+      let text : s.txn ≡ t.txn = same_Some s.txn t.txn (sym s.txn_is ∙ ap (txn_at txns) e ∙ t.txn_is) in
+      s.class_is
+      ∙ ap (λ k. class_for (in_force cat eras (event_at h k)) s.txn) at
+      ∙ ap (class_for (in_force cat eras (event_at h t.place))) text
+      ∙ sym t.class_is
+
+  -- a later attempt has a greater timestamp
+  later_time : (a b : Attempt) → IsAttempt h a → IsAttempt h b → a.txn ≡ b.txn → a.number ≤ b.number → a.ts ≤ b.ts
+  later_time a b p q e l =
+      elim (cases_lt b.place a.place) [
+        | inl m ↦
+            let c = start_counts h b a.place q m in
+            let one = starting.numbered a p in
+            let two = starting.numbered b q in
+            let same : starts_before h b.txn a.place ≡ starts_before h a.txn a.place = ap (λ n. starts_before h n a.place) (sym e) in
+            absurd (omega arith)
+        | inr m ↦ elim (cases_lt a.place b.place) [
+          | inl k ↦ let r = starting.rise a b p q (one_class a b p q e) k in omega arith
+          | inr k ↦ let t = (same_start h a b p q (omega arith)).ts in omega arith
+        ]
+      ]
+
+  -- the place of the Commit of a transaction other than that of the attempt, with a timestamp below the attempt's times
+  pub record IsWriterOf (a : Attempt) (place : ℕ) : Type 0 where
+    pub txn : Committed
+    pub committed : IsCommitted h txn
+    pub at : txn.place ≡ place
+    pub other : txn.start.txn ≢ a.txn
+    pub below : txn.start.ts < a.ts
+    pub below_bound : (p2 : Ts) → a.p2 ≡ Some p2 → txn.start.ts < p2.0
+
+  -- as many of them as there were attempts before
+  pub record Writers (a : Attempt) (n : ℕ) : Type 0 where
+    pub places : List ℕ
+    pub many : length places ≡ n
+    pub differ : IsDistinct eqb places
+    pub each : AllByRecursion (IsWriterOf a) places
+
+  -- the writer on which an attempt starts again isn't one of those before
+  writer_of : (a : Attempt) (p : IsAttempt h a) (g : IsAgain cat eras h a) → IsWriterOf a g.writer.place
+  writer_of a p g =
+      record {
+        txn = g.writer;
+        committed = g.committed;
+        at = refl;
+        other = λ e.
+            let last = starting.by_last g.writer a g.committed p (sym e) in
+            let time = later_time a g.writer.start p g.committed.started (sym e) last in
+            let below = g.below in
+            let same = g.writer_time in
+            absurd (omega arith);
+        below = let l = g.below in let same = g.writer_time in omega arith;
+        below_bound = λ p2 e. let l = g.below_bound p2 e in let same = g.writer_time in omega arith;
+      }
+
+  -- an earlier writer is below the writer
+  below_writer : (a : Attempt) (g : IsAgain cat eras h a) (q : ℕ) (w : IsWriterOf g.earlier q) → w.txn.start.ts < g.writer.start.ts
+  below_writer a g q w =
+      let late = g.late in
+      let same = g.writer_time in
+      elim (condition_time cat g.condition.table g.earlier g.dm g.cond g.condition.there (starting.bound_there g.earlier g.started)) [
+        | inl e ↦ let l = w.below in omega arith
+        | inr e ↦ let l = w.below_bound e.0 e.1 in let f = e.2 in omega arith
+      ]
+
+  later_writer : (a : Attempt) (g : IsAgain cat eras h a) (q : ℕ) → IsWriterOf g.earlier q → IsWriterOf a q
+  later_writer a g q w =
+      let m = below_writer a g q w in
+      let same = g.writer_time in
+      record {
+        txn = w.txn;
+        committed = w.committed;
+        at = w.at;
+        other = λ e. w.other (e ∙ sym g.txn_is);
+        below = let l = g.below in omega arith;
+        below_bound = λ p2 e. let l = g.below_bound p2 e in omega arith;
+      }
+
+  -- two Commits at one place have one timestamp
+  one_time_at : (t u : Committed) → IsCommitted h t → IsCommitted h u → t.place ≡ u.place → t.start.ts ≡ u.start.ts
+  one_time_at t u p q e =
+      let same = same_commit h t u p q e in
+      let at = one_start h starting.numbered t.start u.start p.started q.started same.txn same.number in
+      (same_start h t.start u.start p.started q.started at).ts
+
+  apart_from : (a : Attempt) (g : IsAgain cat eras h a) (q : ℕ) → IsWriterOf g.earlier q → eqb g.writer.place q ≡ false
+  apart_from a g q w =
+      let m = below_writer a g q w in
+      ne_eqb g.writer.place q (λ e. let t = one_time_at w.txn g.writer w.committed g.committed (w.at ∙ sym e) in absurd (omega arith))
+
+  one_writer_more : (a : Attempt) → IsAttempt h a → (g : IsAgain cat eras h a) (n : ℕ) → Writers g.earlier n → Writers a (suc n)
+  one_writer_more a p g n rest =
+      record {
+        places = g.writer.place ∷ rest.places;
+        many = let m = rest.many in omega arith;
+        differ =
+        one_place_more g.writer.place rest.places
+        (each_more (IsWriterOf g.earlier) (λ q. eqb g.writer.place q ≡ false) (apart_from a g) rest.places rest.each) rest.differ;
+        each = (writer_of a p g, each_more (IsWriterOf g.earlier) (IsWriterOf a) (later_writer a g) rest.places rest.each);
+      }
+
+  writers : (n : ℕ) (a : Attempt) → IsAttempt h a → a.number ≡ suc n → Writers a n
+  writers zero a p e = record { places = []; many = refl; differ = no_places; each = tt }
+  writers (suc n) a p e =
+      let g = rejecting.again a p (omega arith) in
+      let number = g.number_is in
+      one_writer_more a p g n (writers n g.earlier g.started (omega arith))
+
+  -- they are among the Commits of other transactions
+  counted_place : (a : Attempt) (q : ℕ) → IsWriterOf a q → list_any (eqb q) (places_of (is_commit_of_other a.txn) 0 h) ≡ true
+  counted_place a q w =
+      let t = w.txn in
+      let r : Rec = Commit (txn_no t.start.txn) t.start.number t.reply t.changes t.values t.rows in
+      let from_0 : 0 + t.place ≡ q = omega (arith, w.at) in
+      subst (λ k. list_any (eqb k) (places_of (is_commit_of_other a.txn) 0 h) ≡ true) from_0
+      (place_there (is_commit_of_other a.txn) 0 h t.place r w.committed.committed (ap not (ne_eqb t.start.txn a.txn w.other)))
+
+  counted : (a : Attempt) (places : List ℕ) → AllByRecursion (IsWriterOf a) places → (q : ℕ) → list_any (eqb q) places ≡ true
+      → list_any (eqb q) (places_of (is_commit_of_other a.txn) 0 h) ≡ true
+  counted a [] all q e = absurd (cc)
+  counted a (k ∷ places) all q e =
+      elim (cases_Bool (eqb q k)) [
+        | inl t ↦ subst (λ z. list_any (eqb z) (places_of (is_commit_of_other a.txn) 0 h) ≡ true) (sym (eqb-true q k t)) (counted_place a k all.0)
+        | inr f ↦ counted a places all.1 q (ap (λ b. b || list_any (eqb q) places) (sym f) ∙ e)
+      ]
+
+  few_of : (n m : ℕ) → starts_of h n ≡ suc m → m ≤ commits_of_others h n
+  few_of n m e =
+      let l = last_passing (is_start_of n) h m e in
+      let at = attempt_at h n l.place l.rec l.stands l.passes in
+      let a = at.0 in
+      let number : a.number ≡ suc m =
+      starting.numbered a at.1 ∙ ap suc (ap (λ z. starts_before h z a.place) at.2 ∙ ap (λ z. starts_before h n z) at.3 ∙ l.before) in
+      let w = writers m a at.1 number in
+      let fits = length-le_from_is_member nat_eq_equiv w.places (places_of (is_commit_of_other a.txn) 0 h) w.differ (counted a w.places w.each) in
+      let same : commits_of_others h a.txn ≡ commits_of_others h n = ap (commits_of_others h) at.2 in
+      omega (arith, fits, w.many, as_many (is_commit_of_other a.txn) 0 h)
+
+  pub are_few : AreFew h
+  are_few n =
+      elim (starts_of h n) as (λ m. starts_of h n ≡ m → m ≤ suc (commits_of_others h n)) [
+        | zero ↦ λ e. omega arith
+        | suc m ↦ λ e. let l = few_of n m e in omega arith
+      ] refl

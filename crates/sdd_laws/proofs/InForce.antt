@@ -1,0 +1,25 @@
+-- The catalogue in force is that of an era.
+use Rattle.std.proofs.Common.{ℕ, zero, suc, ◌-◌, ◌<◌, ◌≤◌, ◌≡◌, nat_le, Bool, true, false, cond, List, [], ◌∷◌, length, get_or, Some, refl, sym, ap, ◌∙◌, subst, inl, inr, arith}
+use Rattle.std.specs.Prelude.{filter, slice_get}
+use Rattle.std.proofs.lemmas.List.Sums.{length-filter, count_by-le-length}
+use Rattle.std.proofs.lemmas.Option.{slice_get-get_or, slice_get_within}
+use Rattle.sdd_catalog.specs.Catalogue.{Catalogue}
+use Rattle.sdd_laws.specs.Eras.{Eras, AreEras, IsEraOf, begun, in_force}
+
+-- no more eras have begun than there are
+begun_few : (eras : Eras) (event : ℕ) → begun eras event ≤ length eras
+begun_few [] event = omega arith
+begun_few (e ∷ eras) event =
+    let rest = begun_few eras event in
+    elim (nat_le e.0 event) as (λ b. length (cond b (e ∷ filter (λ d. nat_le d.0 event) eras) (filter (λ d. nat_le d.0 event) eras)) ≤ length (e ∷ eras)) [
+      | true ↦ omega arith
+      | false ↦ omega arith
+    ]
+
+pub force_is : (cat : Catalogue) (eras : Eras) → AreEras cat eras → (event : ℕ) → IsEraOf cat (in_force cat eras event)
+force_is cat eras are event =
+    let k = begun eras event - 1 in
+    let some = slice_get_within eras 0 (0, are.first.0) are.first.1 in
+    let few = begun_few eras event in
+    let within : k < length eras = omega arith in
+    are.each k (get_or eras k (0, cat)) (slice_get-get_or eras k (0, cat) within)

@@ -1,0 +1,17 @@
+pub mod Acyclic
+pub mod Applied
+pub mod Copied
+pub mod Counts
+pub mod Deeds
+pub mod EraSets
+pub mod Few
+pub mod Fitting
+pub mod InForce
+pub mod Lists
+pub mod Orders
+pub mod Precedes
+pub mod Reading
+pub mod Recorded
+pub mod Replayed
+pub mod SameCopies
+pub mod Times

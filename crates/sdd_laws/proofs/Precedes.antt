@@ -1,0 +1,133 @@
+-- What precedes by the test precedes by the deeds, so that a cycle of the one is one of the other.
+use Rattle.std.proofs.Common.{ℕ, subst, ◌<◌, ◌==◌, ◌≡◌, ◌≢◌, nat_lt, Bool, true, false, not, ◌&&◌, ◌||◌, List, [], ◌∷◌, refl, sym, ap, ◌∙◌, ◌⊎◌, inl, inr, eq-eqb}
+use Rattle.std.specs.Prelude.{Contains}
+use Rattle.std.specs.List.{list_any}
+use Rattle.std.proofs.lemmas.Bool.{and_parts, eqb-true, eqb-false, not-true, ltb-true, false≢true}
+use Rattle.sdd_base.specs.declared.change.Change.{Change}
+use Rattle.sdd_catalog.specs.Catalogue.{Catalogue}
+use Rattle.sdd_base.specs.Numbers.{class_no, dm_no, txn_no, time_at}
+use Rattle.sdd_history.specs.declared.record.Rec.{Rec}
+use Rattle.sdd_history.specs.declared.record.Rec.TheVariants.{Submit, Start, Arrive, Wait, Answer, Reject, Commit, Apply, Pass, Nothing}
+use Rattle.sdd_history.specs.Records.{History}
+use Rattle.sdd_lang.specs.Classes.{fragments_in}
+use Rattle.sdd_order.specs.Attempts.{Attempt, Committed, IsCommitted, reads, changes}
+use Rattle.sdd_topological.specs.Paths.{IsPath, IsOrderly}
+use Rattle.sdd_order.specs.Places.{Stands}
+use Rattle.sdd_order.specs.Precedence.{module_of, is_answer, is_apply, was_seen, is_earlier, is_overwritten, misses, is_read_by, precedes, Precedes, HasNoCycle}
+use Rattle.sdd_acyclic.specs.Deeds.{Txn, IsSeen, system}
+use Rattle.sdd_acyclic.specs.System as core
+use Rattle.sdd_acyclic.specs.System.Precedes.{by_class, by_writes, by_unseen, by_seen}
+use Rattle.sdd_topological.proofs.Members.{member_passes, passes_member}
+use Rattle.sdd_laws.specs.Deeds.{IsSubmitted, IsApplied}
+use Rattle.sdd_order.proofs.Before.{or_cases, in_turn, comes_from, apply_passes, answer_passes, is_answered}
+use Rattle.sdd_laws.proofs.Deeds.{Placed, IsPlaced, deeds}
+
+pub is_applied : (h : History) (n d k : ℕ) (r : Rec) → Stands h k r → is_apply n d r ≡ true → IsApplied h n d k
+is_applied h n d k (Apply txn class dm ts) s t =
+    let both = and_parts (txn.0 == n) (dm.0 == d) t in
+    let one : txn.0 ≡ n = eqb-true txn.0 n both.0 in
+    let two : dm.0 ≡ d = eqb-true dm.0 d both.1 in
+    record {
+      class = class.0;
+      ts = ts.0;
+      stands =
+      subst (λ m. Stands h k (Apply (txn_no m) class (dm_no d) ts)) one
+      (subst (λ m. Stands h k (Apply txn class (dm_no m) ts)) two s);
+    }
+is_applied h n d k (Submit txn) s t = absurd (cc)
+is_applied h n d k (Start txn attempt class ts p2 uses) s t = absurd (cc)
+is_applied h n d k (Arrive txn attempt dm) s t = absurd (cc)
+is_applied h n d k (Wait txn attempt dm conds) s t = absurd (cc)
+is_applied h n d k (Answer txn attempt dm) s t = absurd (cc)
+is_applied h n d k (Reject txn attempt dm class ts) s t = absurd (cc)
+is_applied h n d k (Commit txn attempt reply changes values rows) s t = absurd (cc)
+is_applied h n d k (Pass class dm time) s t = absurd (cc)
+is_applied h n d k Nothing s t = absurd (cc)
+
+pub reads_member : (a : Attempt) (f : ℕ) → Contains (fragments_in a.uses) f → reads a f ≡ true
+reads_member a f h = passes_member (λ x. x == f) (fragments_in a.uses) f h (eq-eqb f f refl)
+
+pub changes_member : (t : Committed) (c : Change) → Contains t.changes c → changes t c.frag.0 ≡ true
+changes_member t c h = passes_member (λ (x : Change). x.frag.0 == c.frag.0) t.changes c h (eq-eqb c.frag.0 c.frag.0 refl)
+
+module _ (cat : Catalogue) (h : History) where
+  -- seen, as a test and by places
+  pub seen_is : (x y : Placed) (d : ℕ) → was_seen h x.txn d y.txn ≡ true → IsSeen (deeds cat h) x d y
+  seen_is x y d e =
+      let p = is_apply x.txn.start.txn d in
+      let q = is_answer y.txn.start.txn y.txn.start.number d in
+      let t = in_turn p q h e in
+      record {
+        answer = t.second.place;
+        answered = is_answered h y.txn.start.txn y.txn.start.number d t.second.place t.second.rec t.second.stands t.second.passes;
+        applied = record {
+          place = t.first.place;
+          applied = is_applied h x.txn.start.txn d t.first.place t.first.rec t.first.stands t.first.passes;
+          before = t.before;
+        };
+      }
+
+  pub is_seen : (x y : Placed) (d : ℕ) → IsSeen (deeds cat h) x d y → was_seen h x.txn d y.txn ≡ true
+  is_seen x y d s =
+      let a = s.applied.applied in
+      comes_from (is_apply x.txn.start.txn d) (is_answer y.txn.start.txn y.txn.start.number d) h s.applied.place s.answer _ _
+      a.stands s.answered s.applied.before (apply_passes x.txn.start.txn d a.class a.ts)
+      (answer_passes y.txn.start.txn y.txn.start.number d)
+
+  pub precedes_is : (x y : Txn (deeds cat h)) → precedes cat h x.no.txn y.no.txn ≡ true → core.Precedes (system (deeds cat h)) x y
+  precedes_is x y e =
+      let t = x.no.txn in
+      let u = y.no.txn in
+      let both = and_parts (not (t.start.txn == u.start.txn)) ((is_earlier t u || is_overwritten t u) || (misses cat h t u || is_read_by cat h t u)) e in
+      let other : t.start.txn ≢ u.start.txn = eqb-false t.start.txn u.start.txn (not-true (t.start.txn == u.start.txn) both.0) in
+      elim (or_cases (is_earlier t u || is_overwritten t u) (misses cat h t u || is_read_by cat h t u) both.1) [
+        | inl a ↦ elim (or_cases (is_earlier t u) (is_overwritten t u) a) [
+          | inl b ↦
+              let parts = and_parts (t.start.class == u.start.class) (nat_lt t.start.ts u.start.ts) b in
+              by_class other (eqb-true t.start.class u.start.class parts.0) (ltb-true t.start.ts u.start.ts parts.1)
+          | inr b ↦
+              let parts = and_parts (list_any (λ (c : Change). changes u c.frag.0) t.changes) (nat_lt t.start.ts u.start.ts) b in
+              let m = member_passes (λ (c : Change). changes u c.frag.0) t.changes parts.0 in
+              by_writes other m.0.frag.0 (changes_member t m.0 m.1) m.2 (ltb-true t.start.ts u.start.ts parts.1)
+        ]
+        | inr a ↦ elim (or_cases (misses cat h t u) (is_read_by cat h t u) a) [
+          | inl b ↦
+              let m = member_passes (λ f. changes u f && not (was_seen h u (module_of cat t.start.class f) t)) (fragments_in t.start.uses) b in
+              let d = module_of cat t.start.class m.0 in
+              let parts = and_parts (changes u m.0) (not (was_seen h u d t)) m.2 in
+              by_unseen other m.0 (reads_member t.start m.0 m.1) parts.0
+              (λ s. false≢true (sym (not-true (was_seen h u d t) parts.1) ∙ is_seen y.no x.no d s))
+          | inr b ↦
+              let m = member_passes (λ f. changes t f && was_seen h t (module_of cat u.start.class f) u) (fragments_in u.start.uses) b in
+              let d = module_of cat u.start.class m.0 in
+              let parts = and_parts (changes t m.0) (was_seen h t d u) m.2 in
+              by_seen other m.0 parts.0 (reads_member u.start m.0 m.1) (seen_is x.no y.no d parts.1)
+        ]
+      ]
+
+  -- a committed transaction with the place of its Submit
+  abbrev pub at_place : (t : Committed) (k : ℕ) → IsCommitted h t → IsSubmitted h t.start.txn k → Txn (deeds cat h)
+  at_place t k c s = record { no = record { txn = t; submit = k }; is = record { committed = c; submitted = s } }
+
+  module _ (submitted : (t : Committed) → IsCommitted h t → (k : ℕ) × IsSubmitted h t.start.txn k) where
+    path_of_deeds : (x : Committed) (j : ℕ) (a : IsCommitted h x) (p : IsSubmitted h x.start.txn j) (m : List Committed)
+        (y : Committed) (k : ℕ) (b : IsCommitted h y) (q : IsSubmitted h y.start.txn k) → IsPath (Precedes cat h) x m y
+        → (l : List (Txn (deeds cat h))) × IsPath (core.Precedes (system (deeds cat h))) (at_place x j a p) l (at_place y k b q)
+    path_of_deeds x j a p [] y k b q r = ([], precedes_is (at_place x j a p) (at_place y k b q) r.precedes)
+    path_of_deeds x j a p (z ∷ m) y k b q r =
+        let c = r.0.second in
+        let s = submitted z c in
+        let here : Txn (deeds cat h) = at_place z s.0 c s.1 in
+        let rest = path_of_deeds z s.0 c s.1 m y k b q r.1 in
+        (here ∷ rest.0, (precedes_is (at_place x j a p) here r.0.precedes, rest.1))
+
+    first_committed : (x : Committed) (m : List Committed) (y : Committed) → IsPath (Precedes cat h) x m y → IsCommitted h x
+    first_committed x [] y r = r.first
+    first_committed x (z ∷ m) y r = r.0.first
+
+    pub no_cycle_of_deeds : IsOrderly (core.Precedes (system (deeds cat h))) → HasNoCycle cat h
+    no_cycle_of_deeds o x m r =
+        let c = first_committed x m x r in
+        let s = submitted x c in
+        let p = path_of_deeds x s.0 c s.1 m x s.0 c s.1 r in
+        o (at_place x s.0 c s.1) p.0 p.1

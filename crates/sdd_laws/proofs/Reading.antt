@@ -1,0 +1,94 @@
+-- Where attempts read: at modules that have copies of what they read.
+use Rattle.std.proofs.Common.{ℕ, ◌<◌, ◌≤◌, ◌==◌, ◌≡◌, true, List, length, Option, Some, None, refl, sym, ap, ◌∙◌, subst, ◌⊎◌, inl, inr, arith}
+use Rattle.std.specs.Prelude.{is_some, unwrap_or, map}
+use Rattle.std.specs.List.{AllByRecursion}
+use Rattle.std.proofs.lemmas.Bool.{cases_lt}
+use Rattle.std.proofs.lemmas.List.Elements.{recursion_from_All}
+use Rattle.sdd_base.specs.Words.{contains}
+use Rattle.sdd_catalog.specs.Catalogue.{Catalogue, has_copy, reads_at}
+use Rattle.sdd_catalog.specs.Rules.{IsSound}
+use Rattle.sdd_catalog.proofs.Sound.{served_read}
+use Rattle.sdd_history.specs.Records.{History}
+use Rattle.sdd_lang.specs.declared.transaction.Txn.{Txn}
+use Rattle.sdd_lang.specs.Classes.{class_for, fragments_in, read_set}
+use Rattle.sdd_lang.specs.Uses.{uses_of}
+use Rattle.sdd_lang.proofs.Sets.{IsThere, read_set_there}
+use Rattle.sdd_lang.proofs.ReadSetDecides.{ascending_back}
+use Rattle.sdd_order.specs.Attempts.{Attempt, IsAttempt, reads}
+use Rattle.sdd_order.specs.Numbers.{IsModule, IsFragment, IsClass}
+use Rattle.sdd_order.specs.Places.{event_at}
+use Rattle.sdd_order.specs.Precedence.{module_of}
+use Rattle.sdd_laws.specs.Eras.{Eras, AreEras, IsEraOf, in_force}
+use Rattle.sdd_laws.specs.Starts.{IsOfSubmit, KeepsStarts}
+use Rattle.sdd_laws.proofs.Copied.{some_copy}
+use Rattle.sdd_laws.proofs.EraSets.{uses_in_era, IsCovered, covered, read_in_era}
+use Rattle.sdd_laws.proofs.InForce.{force_is}
+use Rattle.sdd_laws.proofs.Lists.{at_member}
+
+-- a fragment is read at a module that has a copy of it
+pub record IsReadAt (cat : Catalogue) (class f : ℕ) : Type 0 where
+  pub fragment : IsFragment cat f
+  pub read : reads_at cat class f ≡ Some (module_of cat class f)
+  pub is_module : IsModule cat (module_of cat class f)
+  pub copy : has_copy cat (module_of cat class f) f ≡ true
+
+some_module : (o : Option ℕ) → is_some o ≡ true → o ≡ Some (unwrap_or o 0)
+some_module None e = cc
+some_module (Some d) e = refl
+
+module _ (cat : Catalogue) (sound : IsSound cat) where
+  served : (class f : ℕ) → IsClass cat class → IsFragment cat f → is_some (reads_at cat class f) ≡ true
+      → IsReadAt cat class f
+  served class f c there e =
+      let at = some_module (reads_at cat class f) e in
+      let s = served_read cat class f (module_of cat class f) sound c there.0 there.1 at in
+      record { fragment = there; read = at; is_module = (s.module_from, s.module_to); copy = s.copy }
+
+  -- class 0 reads every fragment
+  read_by_none : (f : ℕ) → IsFragment cat f → IsReadAt cat 0 f
+  read_by_none f there =
+      let d = some_copy cat sound f there.0 there.1 in
+      served 0 f (omega arith) there (ap is_some d.1)
+
+  module _ (eras : Eras) (are : AreEras cat eras) (txns : List Txn) (h : History) (starts : KeepsStarts cat eras txns h) where
+    -- the catalogue in force when an attempt's transaction was submitted
+    abbrev pub force_of : (a : Attempt) → IsOfSubmit cat eras txns h a → Catalogue
+    force_of a s = in_force cat eras (event_at h s.place)
+
+    pub class_covers : (a : Attempt) (s : IsOfSubmit cat eras txns h a) → 1 ≤ a.class → IsCovered (force_of a s) s.txn a.class
+    class_covers a s l = covered (force_of a s) s.txn a.class s.class_is l
+
+    fragment_there : (a : Attempt) → IsOfSubmit cat eras txns h a → (f : ℕ) → reads a f ≡ true → IsFragment cat f
+    fragment_there a s f r =
+        let each =
+        ascending_back (IsThere cat) (fragments_in (uses_of cat s.txn))
+        (recursion_from_All (IsThere cat) (read_set cat s.txn) (read_set_there cat s.txn)) in
+        at_member (IsThere cat) (fragments_in (uses_of cat s.txn)) f each
+        (ap (λ u. contains (fragments_in u) f) (sym s.uses_are) ∙ r)
+
+    -- what an attempt of a class reads, the class reads in its era
+    pub read_in_force : (a : Attempt) (s : IsOfSubmit cat eras txns h a) (f : ℕ) → 1 ≤ a.class → reads a f ≡ true
+        → is_some (reads_at (force_of a s) a.class f) ≡ true
+    read_in_force a s f l r =
+        let era = force_of a s in
+        let uses = uses_in_era cat era (force_is cat eras are (event_at h s.place)) s.txn in
+        (class_covers a s l).reads f (ap (λ u. contains (fragments_in u) f) (uses ∙ sym s.uses_are) ∙ r)
+
+    pub reads_there : (a : Attempt) (f : ℕ) → IsAttempt h a → reads a f ≡ true → IsReadAt cat a.class f
+    reads_there a f p r =
+        let s = starts.submitted a p in
+        let there = fragment_there a s f r in
+        elim (cases_lt 0 a.class) [
+          | inl l ↦
+              let era = force_of a s in
+              let is_era = force_is cat eras are (event_at h s.place) in
+              let class = (class_covers a s l).class in
+              let in_era = read_in_force a s f l r in
+              let same = read_in_era cat era is_era a.class f class in_era in
+              let few = is_era.classes in
+              let to = class.to in
+              served a.class f (omega arith) there (ap is_some (sym same) ∙ in_era)
+          | inr l ↦
+              let none : 0 ≡ a.class = omega arith in
+              subst (λ c. IsReadAt cat c f) none (read_by_none f there)
+        ]

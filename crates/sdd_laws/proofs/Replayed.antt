@@ -1,0 +1,90 @@
+-- The serial run along a serial order gives the replies of the Commits, and leaves what the copies hold.
+use Rattle.std.proofs.Common.{ℕ, ◌≡◌, true, List, [], ◌∷◌, map, Some, refl, sym, ap, ◌∙◌, subst}
+use Rattle.std.specs.List.{All, AllZip, cons_option}
+use Rattle.sdd_base.proofs.Membership.{Contains-here}
+use Rattle.sdd_base.specs.declared.number.RelNo.{RelNo}
+use Rattle.sdd_base.specs.declared.number.TxnNo.{TxnNo}
+use Rattle.sdd_catalog.specs.Catalogue.{Catalogue}
+use Rattle.sdd_catalog.specs.Rules.{IsSound}
+use Rattle.sdd_history.specs.Records.{History}
+use Rattle.sdd_lang.specs.declared.transaction.Txn.{Txn}
+use Rattle.sdd_lang.specs.Agree.{rows_in_fragment}
+use Rattle.sdd_lang.specs.Database.{Row, database_of}
+use Rattle.sdd_lang.specs.Fits.{Fits}
+use Rattle.sdd_lang.specs.Serial.{serial}
+use Rattle.sdd_lang.specs.Sound.{IsDatabase, PutsHeld}
+use Rattle.sdd_replay.specs.Ledger.{Ledger}
+use Rattle.sdd_replay.specs.Replayed.{IsReplayed}
+use Rattle.sdd_replay.proofs.Run.{replayed}
+use Rattle.sdd_order.specs.Attempts.{Committed, IsCommitted, changes, committed}
+use Rattle.sdd_order.specs.Orders.{IsSerial}
+use Rattle.sdd_order.proofs.Found.{from_committed}
+use Rattle.sdd_laws.specs.Answers.{KeepsAnswers}
+use Rattle.sdd_laws.specs.Applies.{KeepsApplies}
+use Rattle.sdd_laws.specs.Deeds.{txn_at}
+use Rattle.sdd_laws.specs.Eras.{Eras, AreEras}
+use Rattle.sdd_laws.specs.Replay.{texts_of, run, IsReplyOf, AreAllApplied}
+use Rattle.sdd_laws.specs.Snapshots.{is_applied, copy_at, items_of}
+use Rattle.sdd_laws.specs.Starts.{IsOfSubmit, KeepsStarts}
+use Rattle.sdd_laws.proofs.Applied.{before_applied}
+use Rattle.sdd_laws.proofs.Orders.{OfEach, rest_of, listed, agrees}
+use Rattle.sdd_laws.proofs.Precedes.{changes_member}
+use Rattle.sdd_laws.proofs.Recorded.{ledger, text_is, are_recorded}
+
+module _ (cat : Catalogue) (sound : IsSound cat) (eras : Eras) (are : AreEras cat eras) (rows : List (RelNo × Row)) (txns : List Txn) (h : History)
+    (fit : All (Fits cat) txns) (held : All (λ (t : Txn). All PutsHeld t.statements) txns)
+    (starting : KeepsStarts cat eras txns h) (answering : KeepsAnswers cat rows txns h)
+    (applying : KeepsApplies cat h)
+  where
+    abbrev told : Ledger Committed
+    told = ledger cat txns h
+
+    -- the texts of an order are those of its transactions
+    text_at : (t : Committed) → IsCommitted h t → txn_at txns t.start.txn ≡ Some (told.text t)
+    text_at t c =
+        let s : IsOfSubmit cat eras txns h t.start = starting.submitted t.start c.started in
+        s.txn_is
+        ∙ ap (λ z. Some z) (sym (text_is cat sound eras are rows txns h fit held starting answering applying t c))
+
+    texts_are : (order : List TxnNo) (of : OfEach h order)
+        → texts_of txns order ≡ map (λ t. told.text t) (listed h order of)
+    texts_are [] of = refl
+    texts_are (n ∷ rest) of =
+        let t = of n (Contains-here n rest) in
+        let here : txn_at txns n.0 ≡ Some (told.text t.0) = ap (λ k. txn_at txns k) (sym t.2) ∙ text_at t.0 t.1 in
+        ap (λ o. cons_option o (texts_of txns rest)) here
+        ∙ ap (λ zs. told.text t.0 ∷ zs) (texts_are rest (rest_of h n rest of))
+
+    replies_are : (order : List TxnNo) (of : OfEach h order)
+        → AllZip (IsReplyOf h) order (map (λ t. (told.result t).reply) (listed h order of))
+    replies_are [] of = tt
+    replies_are (n ∷ rest) of =
+        let t = of n (Contains-here n rest) in
+        (record { committed = t.0; is_committed = t.1; txn_is = t.2; reply_is = refl }, replies_are rest (rest_of h n rest of))
+
+    module _ (first : IsDatabase cat (database_of cat rows)) (order : List TxnNo) (in_turn : IsSerial cat h order) where
+      whole : IsReplayed cat (database_of cat rows) told (committed h) (listed h order in_turn.committed)
+      whole =
+          replayed cat sound (database_of cat rows) first told (committed h)
+          (are_recorded cat sound eras are rows txns h fit held starting answering applying)
+          (listed h order in_turn.committed)
+          (agrees cat sound eras are rows txns h fit held starting answering applying order in_turn)
+
+      run_is : run cat rows txns order ≡ serial cat (database_of cat rows) (map (λ t. told.text t) (listed h order in_turn.committed))
+      run_is = ap (serial cat (database_of cat rows)) (texts_are order in_turn.committed)
+
+      -- each reply of the run is that of the Commit
+      pub gives_replies : AllZip (IsReplyOf h) order (run cat rows txns order).0
+      gives_replies =
+          subst (AllZip (IsReplyOf h) order) (sym (ap (λ z. z.0) run_is ∙ whole.replies))
+          (replies_are order in_turn.committed)
+
+      -- and a copy at which all that change its fragment are applied has the rows that are left
+      pub leaves_copies : (f d k : ℕ) → AreAllApplied h f d k
+          → rows_in_fragment cat (run cat rows txns order).1 f ≡ items_of cat f (copy_at cat rows h d k f)
+      leaves_copies f d k all =
+          ap (λ z. rows_in_fragment cat z.1 f) run_is
+          ∙ whole.copies f (λ t. is_applied h d k t.start.txn)
+          (λ t m c.
+          before_applied h t.start.txn d k
+          (all t (from_committed h t m) (subst (λ n. changes t n ≡ true) c.2 (changes_member t c.0 c.1))))

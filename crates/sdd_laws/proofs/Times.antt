@@ -1,0 +1,55 @@
+-- The times of read conditions.
+use Rattle.std.proofs.Common.{ℕ, ◌≡◌, ◌==◌, Bool, true, false, not, cond, List, [], ◌∷◌, Option, Some, None, refl, sym, ap, ◌∙◌, subst, ◌⊎◌, inl, inr}
+use Rattle.std.specs.Prelude.{is_some, unwrap_or, option_map, filter_map, map, Contains}
+use Rattle.std.specs.Option.{option_or}
+use Rattle.sdd_base.specs.Numbers.{frag_no}
+use Rattle.sdd_base.specs.Words.{ascending}
+use Rattle.sdd_base.specs.declared.condition.Cond.{Cond}
+use Rattle.sdd_base.specs.declared.number.FragNo.{FragNo}
+use Rattle.sdd_base.specs.declared.number.Ts.{Ts}
+use Rattle.sdd_catalog.specs.Catalogue.{Catalogue}
+use Rattle.sdd_graph.specs.Graph.{classes_of, fragments_of}
+use Rattle.sdd_lang.specs.Classes.{fragments_in}
+use Rattle.sdd_protocol.specs.Conditions.{is_asked, asked_by, cond_of, cond_for, condition_on, conditions, undeclared_conditions}
+use Rattle.sdd_protocol.specs.declared.entry.Entry.{Entry}
+use Rattle.sdd_protocol.specs.declared.protocol.Protocol.TheVariants.{P2, P3}
+use Rattle.sdd_order.specs.Attempts.{Attempt, p2_time}
+use Rattle.sdd_topological.proofs.Members.{Contains-from_map, Contains-from_filter_map}
+use Rattle.sdd_laws.specs.Conditions.{conditions_of}
+
+-- the time of a condition for fragments
+time_of : (j t : ℕ) (frags : List FragNo) (c : Cond) → cond_for j t frags ≡ Some c → c.time.0 ≡ t
+time_of j t [] c e = absurd (cc)
+time_of j t (f ∷ frags) c e =
+    let same : cond_of j t (f ∷ frags) ≡ c = cc in
+    ap (λ (z : Cond). z.time.0) (sym same)
+
+-- it is one of two times
+one_of_two : (j own p2 : ℕ) (thirds seconds : List FragNo) (c : Cond)
+    → option_or (cond_for j own thirds) (cond_for j p2 seconds) ≡ Some c → (c.time.0 ≡ own) ⊎ (c.time.0 ≡ p2)
+one_of_two j own p2 [] seconds c e = inr (time_of j p2 seconds c e)
+one_of_two j own p2 (f ∷ thirds) seconds c e = inl (time_of j own (f ∷ thirds) c e)
+
+p2_there : (o : Option Ts) → is_some o ≡ true → (t : Ts) × (o ≡ Some t) × (unwrap_or (option_map (λ (z : Ts). z.0) o) 0 ≡ t.0)
+p2_there None e = absurd (cc)
+p2_there (Some t) e = (t, refl, refl)
+
+-- a condition of an attempt is up to its timestamp or up to its time of P2
+pub condition_time : (cat : Catalogue) (table : List Entry) (a : Attempt) (d : ℕ) (c : Cond)
+    → Contains (conditions_of cat table a d) c → is_some a.p2 ≡ not (a.class == 0)
+    → (c.time.0 ≡ a.ts) ⊎ ((t : Ts) × (a.p2 ≡ Some t) × (c.time.0 ≡ t.0))
+condition_time cat table a d c =
+    let frags = map frag_no (ascending (fragments_in a.uses)) in
+    elim (a.class == 0) as (λ b. Contains (cond b (undeclared_conditions cat a.ts) (conditions cat table a.class d frags a.ts (p2_time a))) c → is_some a.p2 ≡ not b → (c.time.0 ≡ a.ts) ⊎ ((t : Ts) × (a.p2 ≡ Some t) × (c.time.0 ≡ t.0))) [
+      | true ↦ λ m e.
+          let of = Contains-from_map (λ k. cond_of k a.ts (map frag_no (fragments_of cat))) (classes_of cat) c m in
+          inl (ap (λ (z : Cond). z.time.0) of.2)
+      | false ↦ λ m e.
+          let of = Contains-from_filter_map (condition_on (is_asked cat a.class d frags) table a.class a.ts (p2_time a)) (classes_of cat) c m in
+          let test = is_asked cat a.class d frags in
+          let p2 = p2_there a.p2 e in
+          elim (one_of_two of.0 a.ts (p2_time a) (asked_by P3 test table a.class of.0) (asked_by P2 test table a.class of.0) c of.2) [
+            | inl t ↦ inl t
+            | inr t ↦ inr (p2.0, p2.1, t ∙ p2.2)
+          ]
+    ]

@@ -1,0 +1,15 @@
+pub mod Answers
+pub mod Applies
+pub mod Conditions
+pub mod Copied
+pub mod Deeds
+pub mod Eras
+pub mod Few
+pub mod Kept
+pub mod Numbers
+pub mod Redeclares
+pub mod Rejections
+pub mod Replay
+pub mod Snapshots
+pub mod Starts
+pub mod Undeclared

@@ -1,0 +1,67 @@
+-- What one plain database gives that runs the transactions of an order one by one.
+use Rattle.std.specs.Prelude.{ℕ, ◌≡◌, pos, true, List, [], ◌∷◌, filter_map, refl}
+use Rattle.sdd_base.specs.Numbers.{rel_no, tm_no, txn_no}
+use Rattle.sdd_base.specs.declared.number.RelNo.{RelNo}
+use Rattle.sdd_base.specs.declared.number.TxnNo.{TxnNo}
+use Rattle.sdd_base.specs.declared.reply.Reply.{Reply}
+use Rattle.sdd_base.specs.declared.reply.Reply.TheVariants.{Rows}
+use Rattle.sdd_base.specs.declared.restriction.Op.{Op}
+use Rattle.sdd_base.specs.declared.restriction.Op.TheVariants.{Le, Ge}
+use Rattle.sdd_base.specs.declared.value.Value.TheVariants.{Int}
+use Rattle.sdd_catalog.specs.Catalogue.{Catalogue}
+use Rattle.sdd_history.specs.Records.{History}
+use Rattle.sdd_lang.specs.declared.condition.Condition.TheVariants.{Const}
+use Rattle.sdd_lang.specs.declared.statement.Stmt.TheVariants.{Put, Query}
+use Rattle.sdd_lang.specs.declared.transaction.Txn.{Txn}
+use Rattle.sdd_lang.specs.Database.{Row, Database, database_of}
+use Rattle.sdd_lang.specs.Serial.{serial}
+use Rattle.sdd_order.specs.Attempts.{Committed, IsCommitted, changes}
+use Rattle.sdd_order.specs.Examples.{crossing, row_of, waits_for_other}
+use Rattle.sdd_order.specs.SerialOrder.{serial_order}
+use Rattle.sdd_laws.specs.Deeds.{txn_at, AppliedBefore}
+
+-- the texts of the transactions with these numbers
+abbrev pub texts_of : List Txn → List TxnNo → List Txn
+texts_of txns order = filter_map (λ n. txn_at txns n.0) order
+
+-- the replies, in order, and the last database, where the database begins with these rows
+abbrev pub run : Catalogue → List (RelNo × Row) → List Txn → List TxnNo → List Reply × Database
+run cat rows txns order = serial cat (database_of cat rows) (texts_of txns order)
+
+-- the Commit of a transaction has the reply
+pub record IsReplyOf (h : History) (n : TxnNo) (reply : Reply) : Type 0 where
+  pub committed : Committed
+  pub is_committed : IsCommitted h committed
+  pub txn_is : committed.start.txn ≡ n.0
+  pub reply_is : committed.reply ≡ reply
+
+-- at module d before place k all committed transactions are applied that change a fragment
+abbrev pub AreAllApplied : History → ℕ → ℕ → ℕ → Type 0
+AreAllApplied h f d k = (t : Committed) → IsCommitted h t → changes t f ≡ true → AppliedBefore h t.start.txn d k
+
+-- Worked: each of two transactions asks for the values of one half of the keys and puts a row into the other half. The
+-- second saw the row that the first put, and so it stands behind it.
+
+abbrev halves : Op → ℕ → Row → Txn
+halves op bound row =
+    record {
+      name = [];
+      tm = tm_no 1;
+      statements =
+          Query (record { part = 1; column = 2 } ∷ []) (rel_no 1 ∷ []) (Const (record { part = 1; column = 1 }) op (Int (pos bound)) ∷ [])
+          ∷ Put (rel_no 1) row
+          ∷ [];
+    }
+
+abbrev two_texts : List Txn
+two_texts = halves Le 9 (row_of 11 1) ∷ halves Ge 10 (row_of 1 1) ∷ []
+
+-- along the serial order the run gives the replies that the Commits tell
+pub replies_along : (run crossing [] two_texts (serial_order crossing waits_for_other)).0
+    ≡ Rows ([] ∷ []) ∷ Rows (((Int (pos 1) ∷ []) ∷ []) ∷ []) ∷ []
+replies_along = refl
+
+-- along the other order the second, which then runs first, sees nothing, and the first sees its row
+pub replies_turned : (run crossing [] two_texts (txn_no 2 ∷ txn_no 1 ∷ [])).0
+    ≡ Rows ([] ∷ []) ∷ Rows (((Int (pos 1) ∷ []) ∷ []) ∷ []) ∷ []
+replies_turned = refl

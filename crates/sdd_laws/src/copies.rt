@@ -1,0 +1,56 @@
+ghost use Rattle.std.specs.Prelude.{ℕ, ◌≡◌, option_map};
+ghost use Rattle.sdd_base.specs.Numbers.{time_at};
+ghost use Rattle.sdd_order.specs.Attempts.{attempt_of};
+ghost use Rattle.sdd_order.specs.Precedence as precedence;
+ghost use Rattle.sdd_laws.specs.Copied.{AreAppliedAlike};
+ghost use Rattle.sdd_laws.specs.Snapshots as snapshots;
+
+use sdd_base::{DmNo, RelNo, Row, Ts, TxnNo};
+use sdd_catalog::Catalogue;
+use sdd_history::Rec;
+
+/// Equal copies: two copies of a fragment are equal, each before some place of the history, where of
+/// the transactions that change the fragment the same are applied. Takes no memory.
+pub fn law_copies(cat: &Catalogue, rows: &[(RelNo, Row)], history: &[(u32, Rec)])
+    ensures { (f a j b k : ℕ) → AreAppliedAlike history.now f a j b k
+        → snapshots.copy_at cat.now rows.now history.now a j f
+        ≡ snapshots.copy_at cat.now rows.now history.now b k f }
+{}
+
+/// The date that an attempt gives the changes of its transaction, by its Start; other records give
+/// none, also the Apply, which names the timestamp too.
+pub fn date_of(rec: &Rec) -> Option<Ts>
+    ensures { result ≡ option_map (λ a. time_at a.ts) (attempt_of (0, rec.now)) }
+{
+    match rec {
+        Rec::Start { ts, .. } => Some(*ts),
+        Rec::Apply { .. } => None,
+        _ => None,
+    }
+}
+
+/// Whether a transaction is applied at a module before a place of the history: whether a snapshot
+/// that is taken there at that place has its changes.
+///
+/// O(n) for n records.
+pub fn is_applied(history: &[(u32, Rec)], dm: DmNo, place: usize, txn: TxnNo) -> bool
+    ensures { result ≡ snapshots.is_applied history.now dm.0 place txn.0 }
+{
+    history
+        .iter()
+        .take(place)
+        .any(|entry| is_apply(txn, dm, &entry.1))
+}
+
+fn is_apply(txn: TxnNo, dm: DmNo, rec: &Rec) -> bool
+    ensures { result ≡ precedence.is_apply txn.0 dm.0 rec.now }
+{
+    match rec {
+        Rec::Apply {
+            txn: of,
+            dm: at,
+            ..
+        } => of.0 == txn.0 && at.0 == dm.0,
+        _ => false,
+    }
+}

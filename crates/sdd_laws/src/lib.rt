@@ -1,0 +1,10 @@
+//! The laws that the history of every run keeps, and what follows from them.
+#![tactic(auto)]
+
+mod copies;
+mod law;
+mod replay;
+
+pub use copies::{date_of, is_applied, law_copies};
+pub use law::{law_acyclic, law_attempts};
+pub use replay::law_replay;

@@ -1,0 +1,118 @@
+-- That a record comes before another, as a test and by their places.
+use Rattle.std.proofs.Common.{ℕ, zero, suc, ◌<◌, ◌==◌, ◌≡◌, Bool, true, false, ◌&&◌, ◌||◌, List, [], ◌∷◌, Option, Some, refl, sym, ap, ◌∙◌, subst, ◌⊎◌, inl, inr, arith, eq-eqb}
+use Rattle.std.specs.Prelude.{slice_get, option_map}
+use Rattle.std.specs.List.{list_any}
+use Rattle.std.proofs.lemmas.Bool.{cases_Bool, and_parts, and_from, eqb-true}
+use Rattle.std.proofs.lemmas.Option.{same_Some}
+use Rattle.sdd_base.specs.Numbers.{class_no, dm_no, txn_no, time_at}
+use Rattle.sdd_history.specs.declared.record.Rec.{Rec}
+use Rattle.sdd_history.specs.declared.record.Rec.TheVariants.{Submit, Start, Arrive, Wait, Answer, Reject, Commit, Apply, Pass, Nothing}
+use Rattle.sdd_history.specs.Records.{History}
+use Rattle.sdd_order.specs.Places.{Stands, record_at, comes_before}
+use Rattle.sdd_order.specs.Precedence.{is_answer, is_apply}
+
+-- either of two tests
+pub or_cases : (a b : Bool) → (a || b) ≡ true → (a ≡ true) ⊎ (b ≡ true)
+or_cases true b e = inl refl
+or_cases false b e = inr e
+
+pub or_left : (a b : Bool) → a ≡ true → (a || b) ≡ true
+or_left true b e = refl
+or_left false b e = cc
+
+pub or_right : (a b : Bool) → b ≡ true → (a || b) ≡ true
+or_right true b e = refl
+or_right false b e = e
+
+-- a record that passes a test
+pub record Passing (p : Rec → Bool) (h : History) : Type 0 where
+  pub place : ℕ
+  pub rec : Rec
+  pub stands : Stands h place rec
+  pub passes : p rec ≡ true
+
+passing : (p : Rec → Bool) (h : History) → list_any (λ e. p e.1) h ≡ true → Passing p h
+passing p [] e = absurd (cc)
+passing p (x ∷ h) e =
+    elim (or_cases (p x.1) (list_any (λ y. p y.1) h) e) [
+      | inl t ↦ record { place = 0; rec = x.1; stands = refl; passes = t }
+      | inr t ↦
+          let r = passing p h t in
+          record { place = suc r.place; rec = r.rec; stands = r.stands; passes = r.passes }
+    ]
+
+pub any_from : (p : Rec → Bool) (h : History) (k : ℕ) (r : Rec) → Stands h k r → p r ≡ true
+    → list_any (λ e. p e.1) h ≡ true
+any_from p [] k r s t = absurd (cc)
+any_from p (x ∷ h) zero r s t = or_left (p x.1) (list_any (λ y. p y.1) h) (ap p (same_Some x.1 r s) ∙ t)
+any_from p (x ∷ h) (suc k) r s t = or_right (p x.1) (list_any (λ y. p y.1) h) (any_from p h k r s t)
+
+-- two records that pass tests, the first before the second
+pub record InTurn (p q : Rec → Bool) (h : History) : Type 0 where
+  pub first : Passing p h
+  pub second : Passing q h
+  pub before : first.place < second.place
+
+pub in_turn : (p q : Rec → Bool) (h : History) → comes_before p q h ≡ true → InTurn p q h
+in_turn p q [] e = absurd (cc)
+in_turn p q (x ∷ h) e =
+    elim (or_cases (p x.1 && list_any (λ d. q d.1) h) (comes_before p q h) e) [
+      | inl t ↦
+          let both = and_parts (p x.1) (list_any (λ d. q d.1) h) t in
+          let r = passing q h both.1 in
+          record {
+            first = record { place = 0; rec = x.1; stands = refl; passes = both.0 };
+            second = record { place = suc r.place; rec = r.rec; stands = r.stands; passes = r.passes };
+            before = omega arith;
+          }
+      | inr t ↦
+          let r = in_turn p q h t in
+          let l = r.before in
+          record {
+            first = record { place = suc r.first.place; rec = r.first.rec; stands = r.first.stands; passes = r.first.passes };
+            second = record { place = suc r.second.place; rec = r.second.rec; stands = r.second.stands; passes = r.second.passes };
+            before = omega arith;
+          }
+    ]
+
+pub comes_from : (p q : Rec → Bool) (h : History) (j k : ℕ) (r s : Rec) → Stands h j r → Stands h k s → j < k
+    → p r ≡ true → q s ≡ true → comes_before p q h ≡ true
+comes_from p q [] j k r s a b l t u = absurd (cc)
+comes_from p q (x ∷ h) zero zero r s a b l t u = absurd (omega arith)
+comes_from p q (x ∷ h) zero (suc k) r s a b l t u =
+    or_left (p x.1 && list_any (λ d. q d.1) h) (comes_before p q h)
+    (and_from (p x.1) (list_any (λ d. q d.1) h) (ap p (same_Some x.1 r a) ∙ t) (any_from q h k s b u))
+comes_from p q (x ∷ h) (suc j) zero r s a b l t u = absurd (omega arith)
+comes_from p q (x ∷ h) (suc j) (suc k) r s a b l t u =
+    or_right (p x.1 && list_any (λ d. q d.1) h) (comes_before p q h) (comes_from p q h j k r s a b (omega arith) t u)
+
+-- what is an Apply, and an Answer
+
+pub apply_passes : (n d class ts : ℕ) → is_apply n d (Apply (txn_no n) (class_no class) (dm_no d) (time_at ts)) ≡ true
+apply_passes n d class ts = and_from (n == n) (d == d) (eq-eqb n n refl) (eq-eqb d d refl)
+
+pub answer_passes : (n number d : ℕ) → is_answer n number d (Answer (txn_no n) number (dm_no d)) ≡ true
+answer_passes n number d =
+    and_from (n == n) ((number == number) && (d == d)) (eq-eqb n n refl)
+    (and_from (number == number) (d == d) (eq-eqb number number refl) (eq-eqb d d refl))
+
+pub is_answered : (h : History) (n number d k : ℕ) (r : Rec) → Stands h k r → is_answer n number d r ≡ true
+    → Stands h k (Answer (txn_no n) number (dm_no d))
+is_answered h n number d k (Answer txn attempt dm) s t =
+    let both = and_parts (txn.0 == n) ((attempt == number) && (dm.0 == d)) t in
+    let rest = and_parts (attempt == number) (dm.0 == d) both.1 in
+    let one : txn.0 ≡ n = eqb-true txn.0 n both.0 in
+    let two : attempt ≡ number = eqb-true attempt number rest.0 in
+    let three : dm.0 ≡ d = eqb-true dm.0 d rest.1 in
+    subst (λ m. Stands h k (Answer (txn_no m) number (dm_no d))) one
+    (subst (λ m. Stands h k (Answer txn m (dm_no d))) two
+    (subst (λ m. Stands h k (Answer txn attempt (dm_no m))) three s))
+is_answered h n number d k (Submit txn) s t = absurd (cc)
+is_answered h n number d k (Start txn attempt class ts p2 uses) s t = absurd (cc)
+is_answered h n number d k (Arrive txn attempt dm) s t = absurd (cc)
+is_answered h n number d k (Wait txn attempt dm conds) s t = absurd (cc)
+is_answered h n number d k (Reject txn attempt dm class ts) s t = absurd (cc)
+is_answered h n number d k (Commit txn attempt reply changes values rows) s t = absurd (cc)
+is_answered h n number d k (Apply txn class dm ts) s t = absurd (cc)
+is_answered h n number d k (Pass class dm time) s t = absurd (cc)
+is_answered h n number d k Nothing s t = absurd (cc)

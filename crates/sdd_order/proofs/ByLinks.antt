@@ -1,0 +1,157 @@
+-- Along the links the serial order is found.
+use Rattle.std.proofs.Common.{ℕ, zero, suc, ◌+◌, ◌<◌, ◌≤◌, ◌==◌, ◌≡◌, ◌&&◌, Bool, true, false, List, [], ◌∷◌, ◌⊎◌, inl, inr, length, map, get_or, Option, Some, None, refl, sym, ap, ◌∙◌, subst, arith, eq-eqb}
+use Rattle.std.specs.Prelude.{All, Contains, filter_map, option_map, slice_get}
+use Rattle.std.specs.List.{cons_option, range_with_len}
+use Rattle.std.proofs.lemmas.Bool.{and_parts, and_from, eqb-true}
+use Rattle.std.proofs.lemmas.List.{same_lists, get_or_default}
+use Rattle.std.proofs.lemmas.List.FromFn.{get_or-map-range_with_len, length-map-range_with_len}
+use Rattle.std.proofs.lemmas.Option.{slice_get_within, slice_get-get_or, same_Some}
+use Rattle.sdd_base.proofs.Membership.{Contains-here, Contains-later}
+use Rattle.sdd_base.specs.Numbers.{txn_no}
+use Rattle.sdd_base.specs.declared.number.TxnNo.{TxnNo}
+use Rattle.sdd_catalog.specs.Catalogue.{Catalogue}
+use Rattle.sdd_history.specs.Records.{History}
+use Rattle.sdd_order.specs.Attempts.{Committed, committed}
+use Rattle.sdd_order.specs.declared.seen.Marks.{Marks}
+use Rattle.sdd_order.specs.Finding.{AreMarks}
+use Rattle.sdd_order.specs.Linked.{links, numbers_at}
+use Rattle.sdd_order.specs.Numbers.{UseExists, IsClass}
+use Rattle.sdd_order.specs.Orders.{IsOrderable}
+use Rattle.sdd_order.specs.Precedence.{precedes}
+use Rattle.sdd_order.specs.SerialOrder.{in_order, serial_order}
+use Rattle.sdd_topological.specs.Paths.{IsPath}
+use Rattle.sdd_topological.specs.Taken.{taken}
+use Rattle.sdd_topological.specs.Taking.{Links, has_link, nodes, order_of}
+use Rattle.sdd_topological.proofs.Alike.{taken_by_members, taken-map, taken_by_links}
+use Rattle.sdd_topological.proofs.Ascending.{from_range}
+use Rattle.sdd_topological.proofs.Members.{All-members, Contains-range, member_passes, passes_member}
+use Rattle.sdd_topological.proofs.Paths.{path_as}
+use Rattle.sdd_topological.proofs.Taken.{taken_is}
+use Rattle.sdd_order.proofs.EachLink.{class_exists, uses_exist, link_precedes}
+use Rattle.sdd_order.proofs.EachPrecedence.{precedence_linked}
+use Rattle.sdd_order.proofs.Implied.{AreInOrder}
+use Rattle.sdd_order.proofs.Serial.{differ}
+
+-- the test and the links
+from_link : (some : Links) (i j : ℕ) → has_link some i j ≡ true → Contains some (i, j)
+from_link some i j e =
+    let r = member_passes (λ l. (l.0 == i) && (l.1 == j)) some e in
+    let both = and_parts (r.0.0 == i) (r.0.1 == j) r.2 in
+    let first : r.0.0 ≡ i = eqb-true r.0.0 i both.0 in
+    let second : r.0.1 ≡ j = eqb-true r.0.1 j both.1 in
+    subst (λ (k : ℕ). Contains some (k, j)) first (subst (λ (k : ℕ). Contains some (r.0.0, k)) second r.1)
+
+is_link : (some : Links) (i j : ℕ) → Contains some (i, j) → has_link some i j ≡ true
+is_link some i j c =
+    passes_member (λ l. (l.0 == i) && (l.1 == j)) some (i, j) c (and_from (i == i) (j == j) (eq-eqb i i refl) (eq-eqb j j refl))
+
+first_or_none : (xs : List Committed) → (xs ≡ []) ⊎ Committed
+first_or_none [] = inl refl
+first_or_none (x ∷ xs) = inr x
+
+module _ (cat : Catalogue) (h : History) (o : IsOrderable cat h) (marks : Marks) (are : AreMarks h marks) (txns : List Committed)
+    (ordered : AreInOrder h txns) where
+  -- what is asked for, for links to be found and gone along
+  pub all_exist : All (λ t. IsClass cat t.start.class × All (UseExists cat) t.start.uses) txns
+  all_exist =
+      All-members (λ t. IsClass cat t.start.class × All (UseExists cat) t.start.uses) txns
+      (λ t c.
+          let is = place_of t c in
+          let committed = ordered.committed is.0 t is.1 in
+          (class_exists cat h o.numbers_exist t committed, uses_exist cat h o.numbers_exist t committed))
+    where
+      place_of : (t : Committed) → Contains txns t → (k : ℕ) × (slice_get txns k ≡ Some t)
+      place_of t c = (c.0, slice_get-get_or txns c.0 t c.1 ∙ ap (λ u. Some u) c.2)
+
+  pub ends_within : All (λ l. (l.0 < length txns) × (l.1 < length txns)) (links cat marks txns)
+  ends_within =
+      All-members (λ (l : ℕ × ℕ). (l.0 < length txns) × (l.1 < length txns)) (links cat marks txns)
+      (λ l c.
+          let p = link_precedes cat h o marks are txns ordered l c in
+          (slice_get_within txns l.0 p.first p.first_is, slice_get_within txns l.1 p.second p.second_is))
+
+  module _ (d : Committed) where
+    abbrev at : ℕ → Committed
+    at i = get_or txns i d
+
+    at_is : (i : ℕ) → i < length txns → slice_get txns i ≡ Some (at i)
+    at_is i l = slice_get-get_or txns i d l
+
+    within : (i : ℕ) → Contains (nodes (length txns)) i → i < length txns
+    within i c = let r = from_range 0 (length txns) i c in let l = r.1 in omega arith
+
+    all_at : map at (nodes (length txns)) ≡ txns
+    all_at =
+        let long = length-map-range_with_len at 0 (length txns) in
+        same_lists (map at (nodes (length txns))) txns long
+        (λ i e l.
+            let below : i < length txns = omega (arith, l, long) in
+            get_or-map-range_with_len at 0 (length txns) i i e below (omega arith) ∙ get_or_default txns i d e below)
+
+    link_before : (i j : ℕ) → has_link (links cat marks txns) i j ≡ true → precedes cat h (at i) (at j) ≡ true
+    link_before i j e =
+        let p = link_precedes cat h o marks are txns ordered (i, j) (from_link (links cat marks txns) i j e) in
+        let first : p.first ≡ at i = same_Some p.first (at i) (sym p.first_is ∙ at_is i (slice_get_within txns i p.first p.first_is)) in
+        let second : p.second ≡ at j = same_Some p.second (at j) (sym p.second_is ∙ at_is j (slice_get_within txns j p.second p.second_is)) in
+        ap (λ t. precedes cat h t (at j)) (sym first) ∙ ap (precedes cat h p.first) (sym second) ∙ p.precedes
+
+    link_to : (i j : ℕ) → has_link (links cat marks txns) i j ≡ true → Contains (nodes (length txns)) j
+    link_to i j e =
+        let p = link_precedes cat h o marks are txns ordered (i, j) (from_link (links cat marks txns) i j e) in
+        let l = slice_get_within txns j p.second p.second_is in
+        Contains-range 0 (length txns) j (omega arith) (omega arith)
+
+    linked : (i j : ℕ) → Contains (nodes (length txns)) i → Contains (nodes (length txns)) j → precedes cat h (at i) (at j) ≡ true
+        → (m : List ℕ) × IsPath (λ k l. has_link (links cat marks txns) k l ≡ true) i m j
+    linked i j c e p =
+        let path = precedence_linked cat h o marks are txns ordered i j (at i) (at j) (at_is i (within i c)) (at_is j (within j e)) p in
+        (path.0,
+        path_as (λ a b. Contains (links cat marks txns) (a, b)) (λ a b. has_link (links cat marks txns) a b ≡ true)
+        (λ a b. is_link (links cat marks txns) a b) i path.0 j path.1)
+
+    rises : (i j : ℕ) → Contains (nodes (length txns)) i → Contains (nodes (length txns)) j → i < j → (at i).start.ts < (at j).start.ts
+    rises i j c e l = ordered.rise i j (at i) (at j) (at_is i (within i c)) (at_is j (within j e)) l
+
+    -- the same nodes are taken
+    nodes_taken : order_of (links cat marks txns) (length txns)
+        ≡ taken (λ i j. precedes cat h (at i) (at j)) (λ i. (at i).start.ts) (length txns) (nodes (length txns))
+    nodes_taken =
+        taken_by_links (nodes (length txns)) (has_link (links cat marks txns)) (λ i j. precedes cat h (at i) (at j)) (λ i. (at i).start.ts)
+        link_before link_to linked rises (length txns) (nodes (length txns)) (λ i c. c) (λ i j c e. link_to i j e)
+
+    numbers_are : (places : List ℕ) → ((i : ℕ) → Contains places i → i < length txns)
+        → numbers_at txns places ≡ map (λ t. txn_no t.start.txn) (map at places)
+    numbers_are [] h = refl
+    numbers_are (i ∷ places) h =
+        ap (λ z. cons_option (option_map (λ (t : Committed). txn_no t.start.txn) z) (numbers_at txns places)) (at_is i (h i (Contains-here i places)))
+        ∙ ap (λ l. txn_no (at i).start.txn ∷ l) (numbers_are places (λ j c. h j (Contains-later i places j c)))
+
+    in_txns : numbers_at txns (order_of (links cat marks txns) (length txns))
+        ≡ map (λ t. txn_no t.start.txn) (taken (precedes cat h) (λ t. t.start.ts) (length txns) txns)
+    in_txns =
+        numbers_are (order_of (links cat marks txns) (length txns))
+        (λ i c. within i (taken_is (λ k. k) (has_link (links cat marks txns)) (length txns) (nodes (length txns)) i c))
+        ∙ ap (map (λ (t : Committed). txn_no t.start.txn))
+        (ap (map at) nodes_taken
+        ∙ sym (taken-map at (precedes cat h) (λ t. t.start.ts) (length txns) (nodes (length txns)))
+        ∙ ap (taken (precedes cat h) (λ t. t.start.ts) (length txns)) all_at)
+
+  module _ (long : length txns ≡ length (committed h)) (forth : (t : Committed) → Contains (committed h) t → Contains txns t)
+      (back : (t : Committed) → Contains txns t → Contains (committed h) t) where
+    in_committed : taken (precedes cat h) (λ t. t.start.ts) (length txns) txns ≡ in_order cat h
+    in_committed =
+        ap (λ n. taken (precedes cat h) (λ t. t.start.ts) n txns) long
+        ∙ sym (taken_by_members (precedes cat h) (λ t. t.start.ts) (length (committed h)) (committed h) txns (differ cat h o) forth back)
+
+    nothing : txns ≡ [] → numbers_at txns (order_of (links cat marks txns) (length txns)) ≡ serial_order cat h
+    nothing none =
+        let zero_long : length txns ≡ 0 = ap length none in
+        ap (λ n. numbers_at txns (order_of (links cat marks txns) n)) zero_long
+        ∙ ap (λ n. map (λ (t : Committed). txn_no t.start.txn) (taken (precedes cat h) (λ t. t.start.ts) n (committed h))) (sym zero_long ∙ long)
+
+    pub order_found : numbers_at txns (order_of (links cat marks txns) (length txns)) ≡ serial_order cat h
+    order_found =
+        elim (first_or_none txns) [
+          | inl none ↦ nothing none
+          | inr d ↦ in_txns d ∙ ap (map (λ (t : Committed). txn_no t.start.txn)) in_committed
+        ]

@@ -1,0 +1,153 @@
+-- The lists of attempts and of committed transactions have exactly those that the history has.
+use Rattle.std.proofs.Common.{ℕ, zero, suc, ◌+◌, ◌<◌, ◌==◌, ◌≡◌, Bool, true, false, ◌&&◌, cond, List, [], ◌∷◌, length, Option, Some, None, refl, sym, ap, ◌∙◌, subst, ◌⊎◌, inl, inr, arith, eq-eqb}
+use Rattle.std.specs.Prelude.{find, option_map, slice_get, Contains}
+use Rattle.std.proofs.lemmas.Bool.{cases_Bool, and_parts, and_from, eqb-true}
+use Rattle.std.proofs.lemmas.Option.{same_Some}
+use Rattle.sdd_base.specs.Numbers.{class_no, txn_no, time_at}
+use Rattle.sdd_base.proofs.Membership.{Contains-nil, Contains-here, Contains-later, Contains-cases}
+use Rattle.sdd_history.specs.declared.record.Rec.{Rec}
+use Rattle.sdd_history.specs.declared.record.Rec.TheVariants.{Submit, Start, Arrive, Wait, Answer, Reject, Commit, Apply, Pass, Nothing}
+use Rattle.sdd_history.specs.Records.{History}
+use Rattle.sdd_order.specs.Attempts.{Attempt, Committed, IsAttempt, IsCommitted, attempt_of, attempts, is_attempt_of, committed_of, committed}
+use Rattle.sdd_order.specs.Places.{Stands, placed}
+use Rattle.sdd_topological.proofs.Members.{Contains-filter_map, Contains-from_filter_map}
+use Rattle.sdd_order.proofs.Places.{same_start, one_attempt}
+
+-- each record is there with its place
+
+placed_there : (h : History) (k j : ℕ) (r : Rec) → Stands h j r → Contains (placed k h) (k + j, r)
+placed_there [] k j r s = absurd (cc)
+placed_there (e ∷ h) k zero r s =
+    let same : k ≡ k + 0 = omega arith in
+    subst (λ z. Contains (placed k (e ∷ h)) (z, r)) same
+    (subst (λ z. Contains (placed k (e ∷ h)) (k, z)) (same_Some e.1 r s) (Contains-here (k, e.1) (placed (suc k) h)))
+placed_there (e ∷ h) k (suc j) r s =
+    let same : suc k + j ≡ k + suc j = omega arith in
+    Contains-later (k, e.1) (placed (suc k) h) (k + suc j, r)
+    (subst (λ z. Contains (placed (suc k) h) (z, r)) same (placed_there h (suc k) j r s))
+
+placed_from : (h : History) (k : ℕ) (x : ℕ × Rec) → Contains (placed k h) x → (j : ℕ) × (x.0 ≡ k + j) × Stands h j x.1
+placed_from [] k x h = absurd (Contains-nil x h)
+placed_from (e ∷ rest) k x h =
+    elim (Contains-cases (k, e.1) (placed (suc k) rest) x h) [
+      | inl same ↦
+          let place : x.0 ≡ k = ap (λ (z : ℕ × Rec). z.0) same in
+          (0, omega arith, ap (λ (z : ℕ × Rec). Some z.1) (sym same))
+      | inr later ↦
+          let r = placed_from rest (suc k) x later in
+          let place = r.1 in
+          (suc r.0, omega arith, r.2)
+    ]
+
+pub at_place : (h : History) (k : ℕ) (r : Rec) → Stands h k r → Contains (placed 0 h) (k, r)
+at_place h k r s = let same : 0 + k ≡ k = omega arith in subst (λ z. Contains (placed 0 h) (z, r)) same (placed_there h 0 k r s)
+
+pub stands_at : (h : History) (x : ℕ × Rec) → Contains (placed 0 h) x → Stands h x.0 x.1
+stands_at h x m =
+    let r = placed_from h 0 x m in
+    let same : r.0 ≡ x.0 = let p = r.1 in omega arith in
+    subst (λ k. Stands h k x.1) same r.2
+
+-- attempts
+
+pub in_attempts : (h : History) (a : Attempt) → IsAttempt h a → Contains (attempts h) a
+in_attempts h a s =
+    let r : Rec = Start (txn_no a.txn) a.number (class_no a.class) (time_at a.ts) a.p2 a.uses in
+    Contains-filter_map attempt_of (placed 0 h) (a.place, r) a (at_place h a.place r s) refl
+
+attempt_from : (h : History) (x : ℕ × Rec) (a : Attempt) → Stands h x.0 x.1 → attempt_of x ≡ Some a → IsAttempt h a
+attempt_from h (k, Start txn attempt class ts p2 uses) a s e =
+    let found : Attempt = record { txn = txn.0; number = attempt; class = class.0; ts = ts.0; p2 = p2; uses = uses; place = k } in
+    let same : found ≡ a = same_Some found a e in
+    subst (IsAttempt h) same s
+attempt_from h (k, Submit txn) a s e = absurd (cc)
+attempt_from h (k, Arrive txn attempt dm) a s e = absurd (cc)
+attempt_from h (k, Wait txn attempt dm conds) a s e = absurd (cc)
+attempt_from h (k, Answer txn attempt dm) a s e = absurd (cc)
+attempt_from h (k, Reject txn attempt dm class ts) a s e = absurd (cc)
+attempt_from h (k, Commit txn attempt reply changes values rows) a s e = absurd (cc)
+attempt_from h (k, Apply txn class dm ts) a s e = absurd (cc)
+attempt_from h (k, Pass class dm time) a s e = absurd (cc)
+attempt_from h (k, Nothing) a s e = absurd (cc)
+
+pub from_attempts : (h : History) (a : Attempt) → Contains (attempts h) a → IsAttempt h a
+from_attempts h a m =
+    let r = Contains-from_filter_map attempt_of (placed 0 h) a m in
+    attempt_from h r.0 a (stands_at h r.0 r.1) r.2
+
+-- the attempt that is found
+
+find_from : {A : Type 0} (p : A → Bool) (xs : List A) (x : A) → find p xs ≡ Some x → Contains xs x × (p x ≡ true)
+find_from p [] x e = absurd (cc)
+find_from p (y ∷ xs) x e =
+    elim (p y) as (λ b. p y ≡ b → cond b (Some y) (find p xs) ≡ Some x → Contains (y ∷ xs) x × (p x ≡ true)) [
+      | true ↦ λ t s.
+          let same : y ≡ x = same_Some y x s in
+          (subst (Contains (y ∷ xs)) same (Contains-here y xs), ap p (sym same) ∙ t)
+      | false ↦ λ t s.
+          let r = find_from p xs x s in
+          (Contains-later y xs x r.0, r.1)
+    ] refl e
+
+find_there : {A : Type 0} (p : A → Bool) (xs : List A) (x : A) → Contains xs x → p x ≡ true → (y : A) × (find p xs ≡ Some y)
+find_there p [] x m t = absurd (Contains-nil x m)
+find_there p (y ∷ xs) x m t =
+    elim (p y) as (λ b. p y ≡ b → (z : _) × (cond b (Some y) (find p xs) ≡ Some z)) [
+      | true ↦ λ e. (y, refl)
+      | false ↦ λ e. elim (Contains-cases y xs x m) [
+        | inl same ↦ let wrong : false ≡ true = sym e ∙ ap p (sym same) ∙ t in absurd (cc)
+        | inr later ↦ find_there p xs x later t
+      ]
+    ] refl
+
+-- committed transactions
+
+committed_from : (h : History) (x : ℕ × Rec) (t : Committed) → Stands h x.0 x.1 → committed_of (attempts h) x ≡ Some t → IsCommitted h t
+committed_from h (k, Commit txn attempt reply changes values rows) t s e =
+    elim (find (is_attempt_of txn.0 attempt) (attempts h)) as (λ o. find (is_attempt_of txn.0 attempt) (attempts h) ≡ o → option_map (λ (a : Attempt). record { start = a; reply = reply; changes = changes; values = values; rows = rows; place = k }) o ≡ Some t → IsCommitted h t) [
+      | None ↦ λ f g. absurd (cc)
+      | Some a ↦ λ f g.
+          let found = find_from (is_attempt_of txn.0 attempt) (attempts h) a f in
+          let both = and_parts (a.txn == txn.0) (a.number == attempt) found.1 in
+          let made : Committed = record { start = a; reply = reply; changes = changes; values = values; rows = rows; place = k } in
+          let same : made ≡ t = same_Some made t g in
+          let one : a.txn ≡ txn.0 = eqb-true a.txn txn.0 both.0 in
+          let two : a.number ≡ attempt = eqb-true a.number attempt both.1 in
+          let commit : Stands h k (Commit (txn_no a.txn) a.number reply changes values rows) =
+          subst (λ n. Stands h k (Commit (txn_no n) a.number reply changes values rows)) (sym one)
+          (subst (λ n. Stands h k (Commit txn n reply changes values rows)) (sym two) s) in
+          let is : IsCommitted h made = record { started = from_attempts h a found.0; committed = commit } in
+          subst (IsCommitted h) same is
+    ] refl e
+committed_from h (k, Submit txn) t s e = absurd (cc)
+committed_from h (k, Start txn attempt class ts p2 uses) t s e = absurd (cc)
+committed_from h (k, Arrive txn attempt dm) t s e = absurd (cc)
+committed_from h (k, Wait txn attempt dm conds) t s e = absurd (cc)
+committed_from h (k, Answer txn attempt dm) t s e = absurd (cc)
+committed_from h (k, Reject txn attempt dm class ts) t s e = absurd (cc)
+committed_from h (k, Apply txn class dm ts) t s e = absurd (cc)
+committed_from h (k, Pass class dm time) t s e = absurd (cc)
+committed_from h (k, Nothing) t s e = absurd (cc)
+
+pub from_committed : (h : History) (t : Committed) → Contains (committed h) t → IsCommitted h t
+from_committed h t m =
+    let r = Contains-from_filter_map (committed_of (attempts h)) (placed 0 h) t m in
+    committed_from h r.0 t (stands_at h r.0 r.1) r.2
+
+-- where of a transaction and number there is one Start
+pub in_committed : (h : History)
+    → ((a b : Attempt) → IsAttempt h a → IsAttempt h b → a.txn ≡ b.txn → a.number ≡ b.number → a.place ≡ b.place)
+    → (t : Committed) → IsCommitted h t → Contains (committed h) t
+in_committed h one_start t c =
+    let a = t.start in
+    let r : Rec = Commit (txn_no a.txn) a.number t.reply t.changes t.values t.rows in
+    let passes : is_attempt_of a.txn a.number a ≡ true = and_from (a.txn == a.txn) (a.number == a.number) (eq-eqb a.txn a.txn refl) (eq-eqb a.number a.number refl) in
+    let found = find_there (is_attempt_of a.txn a.number) (attempts h) a (in_attempts h a c.started) passes in
+    let b = found.0 in
+    let is = find_from (is_attempt_of a.txn a.number) (attempts h) b found.1 in
+    let both = and_parts (b.txn == a.txn) (b.number == a.number) is.1 in
+    let start = from_attempts h b is.0 in
+    let place = one_start b a start c.started (eqb-true b.txn a.txn both.0) (eqb-true b.number a.number both.1) in
+    let same : b ≡ a = one_attempt b a (same_start h b a start c.started place) in
+    Contains-filter_map (committed_of (attempts h)) (placed 0 h) (t.place, r) t (at_place h t.place r c.committed)
+    (ap (λ o. option_map (λ (s : Attempt). record { start = s; reply = t.reply; changes = t.changes; values = t.values; rows = t.rows; place = t.place }) o) (found.1 ∙ ap (λ z. Some z) same))

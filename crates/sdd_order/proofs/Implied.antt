@@ -1,0 +1,116 @@
+-- Each link is a precedence.
+use Rattle.std.proofs.Common.{ℕ, zero, suc, ◌+◌, ◌-◌, ◌<◌, ◌≤◌, ◌==◌, ◌≡◌, ◌≢◌, nat_lt, Bool, true, false, not, ◌&&◌, ◌||◌, cond, List, [], ◌∷◌, ◌++◌, length, get_or, Option, Some, None, refl, sym, ap, ◌∙◌, subst, ◌⊎◌, inl, inr, arith, eq-eqb}
+use Rattle.std.specs.Prelude.{slice_get, slice_index_or, Contains}
+use Rattle.std.specs.List.{enumerate_from, flat_map, list_any}
+use Rattle.std.specs.BTreeMap.{get}
+use Rattle.std.proofs.lemmas.Bool.{cases_Bool, and_parts, and_from, eqb-true, ne_eqb, lt-ltb, ltb-true}
+use Rattle.std.proofs.lemmas.List.Elements.{Contains-append_cases, Contains-get_or}
+use Rattle.std.proofs.lemmas.Option.{same_Some}
+use Rattle.sdd_base.proofs.Membership.{Contains-nil, Contains-cases}
+use Rattle.sdd_catalog.specs.Catalogue.{Catalogue}
+use Rattle.sdd_history.specs.Records.{History}
+use Rattle.sdd_lang.specs.Classes.{fragments_in}
+use Rattle.sdd_order.specs.Attempts.{Committed, IsCommitted, changes}
+use Rattle.sdd_order.specs.declared.seen.Marks.{Marks}
+use Rattle.sdd_order.specs.Finding.{AreMarks, pair_cmp, triple_cmp, is_below, last_place, sees}
+use Rattle.sdd_order.specs.Linked.{by_class, by_fragment, end_of, has_seen, links_at, fragment_links, read_links, links}
+use Rattle.sdd_order.specs.Orders.{IsOrderable}
+use Rattle.sdd_order.specs.Precedence.{module_of, is_apply, is_answer, was_seen, is_earlier, is_overwritten, misses, is_read_by, precedes}
+use Rattle.sdd_topological.specs.Groups.{group, groups}
+use Rattle.sdd_topological.proofs.Chained.{from_group, chains_are}
+use Rattle.sdd_topological.proofs.Grouped.{group_at}
+use Rattle.sdd_topological.proofs.Members.{Contains-from_flat_map, passes_member, member_passes}
+use Rattle.sdd_order.proofs.Before.{or_left, or_right}
+use Rattle.sdd_order.proofs.Firsts.{comes_before_is}
+use Rattle.sdd_order.proofs.Halves.{end_of_is}
+use Rattle.sdd_order.proofs.Nodes.{at_enumerated, from_class, from_fragment, classes_rise, fragments_rise}
+use Rattle.sdd_order.proofs.Serial.{one_txn}
+
+-- what a kind of precedence asks for
+pub overwrites : (x y : Committed) (f : ℕ) → changes x f ≡ true → changes y f ≡ true → x.start.ts < y.start.ts → is_overwritten x y ≡ true
+overwrites x y f a b l =
+    let r = member_passes (λ c. c.frag.0 == f) x.changes a in
+    let frag : r.0.frag.0 ≡ f = eqb-true r.0.frag.0 f r.2 in
+    and_from (list_any (λ c. changes y c.frag.0) x.changes) (nat_lt x.start.ts y.start.ts)
+    (passes_member (λ c. changes y c.frag.0) x.changes r.0 r.1 (ap (changes y) frag ∙ b)) (lt-ltb x.start.ts y.start.ts l)
+
+pub goes_before : (x y : Committed) → x.start.class ≡ y.start.class → x.start.ts < y.start.ts → is_earlier x y ≡ true
+goes_before x y e l =
+    and_from (x.start.class == y.start.class) (nat_lt x.start.ts y.start.ts) (eq-eqb x.start.class y.start.class e) (lt-ltb x.start.ts y.start.ts l)
+
+module _ (cat : Catalogue) (h : History) where
+  pub reads_from : (x y : Committed) (f : ℕ) → Contains (fragments_in y.start.uses) f → changes x f ≡ true
+      → was_seen h x (module_of cat y.start.class f) y ≡ true → is_read_by cat h x y ≡ true
+  reads_from x y f c b s =
+      passes_member (λ g. changes x g && was_seen h x (module_of cat y.start.class g) y) (fragments_in y.start.uses) f c
+      (and_from (changes x f) (was_seen h x (module_of cat y.start.class f) y) b s)
+
+  pub misses_it : (x y : Committed) (f : ℕ) → Contains (fragments_in x.start.uses) f → changes y f ≡ true
+      → was_seen h y (module_of cat x.start.class f) x ≡ false → misses cat h x y ≡ true
+  misses_it x y f c b s =
+      passes_member (λ g. changes y g && not (was_seen h y (module_of cat x.start.class g) x)) (fragments_in x.start.uses) f c
+      (and_from (changes y f) (not (was_seen h y (module_of cat x.start.class f) x)) b (ap not s))
+
+  by_kind : (x y : Committed) → x.start.txn ≢ y.start.txn
+      → ((is_earlier x y || is_overwritten x y) || (misses cat h x y || is_read_by cat h x y)) ≡ true → precedes cat h x y ≡ true
+  by_kind x y d e =
+      and_from (not (x.start.txn == y.start.txn)) ((is_earlier x y || is_overwritten x y) || (misses cat h x y || is_read_by cat h x y))
+      (ap not (ne_eqb x.start.txn y.start.txn d)) e
+
+  module _ (x y : Committed) (d : x.start.txn ≢ y.start.txn) where
+    pub by_class_order : is_earlier x y ≡ true → precedes cat h x y ≡ true
+    by_class_order e =
+        by_kind x y d (or_left (is_earlier x y || is_overwritten x y) (misses cat h x y || is_read_by cat h x y)
+        (or_left (is_earlier x y) (is_overwritten x y) e))
+
+    pub by_writing : is_overwritten x y ≡ true → precedes cat h x y ≡ true
+    by_writing e =
+        by_kind x y d (or_left (is_earlier x y || is_overwritten x y) (misses cat h x y || is_read_by cat h x y)
+        (or_right (is_earlier x y) (is_overwritten x y) e))
+
+    pub by_missing : misses cat h x y ≡ true → precedes cat h x y ≡ true
+    by_missing e =
+        by_kind x y d (or_right (is_earlier x y || is_overwritten x y) (misses cat h x y || is_read_by cat h x y)
+        (or_left (misses cat h x y) (is_read_by cat h x y) e))
+
+    pub by_reading : is_read_by cat h x y ≡ true → precedes cat h x y ≡ true
+    by_reading e =
+        by_kind x y d (or_right (is_earlier x y || is_overwritten x y) (misses cat h x y || is_read_by cat h x y)
+        (or_right (misses cat h x y) (is_read_by cat h x y) e))
+
+-- The transactions of an orderable history in the order of their timestamps.
+pub record AreInOrder (h : History) (txns : List Committed) : Type 0 where
+  pub committed : (i : ℕ) (x : Committed) → slice_get txns i ≡ Some x → IsCommitted h x
+  pub rise : (i j : ℕ) (x y : Committed) → slice_get txns i ≡ Some x → slice_get txns j ≡ Some y → i < j → x.start.ts < y.start.ts
+
+-- two of them, of which the first precedes the second
+pub record Precedence (cat : Catalogue) (h : History) (txns : List Committed) (i j : ℕ) : Type 0 where
+  pub first : Committed
+  pub second : Committed
+  pub first_is : slice_get txns i ≡ Some first
+  pub second_is : slice_get txns j ≡ Some second
+  pub precedes : precedes cat h first second ≡ true
+
+module _ (cat : Catalogue) (h : History) (o : IsOrderable cat h) (marks : Marks) (are : AreMarks h marks) (txns : List Committed)
+    (ordered : AreInOrder h txns) where
+  -- those with different timestamps, and those of which one changes what the other doesn't, are of two transactions
+  pub other_time : (x y : Committed) → x.start.ts < y.start.ts → IsCommitted h x → IsCommitted h y → x.start.txn ≢ y.start.txn
+  other_time x y l p q e = let same : x.start.ts ≡ y.start.ts = ap (λ (t : Committed). t.start.ts) (one_txn cat h o x y p q e) in absurd (omega arith)
+
+  pub other_changes : (x y : Committed) (f : ℕ) → changes x f ≡ true → changes y f ≡ false → IsCommitted h x → IsCommitted h y
+      → x.start.txn ≢ y.start.txn
+  other_changes x y f a b p q e =
+      let wrong : true ≡ false = sym a ∙ ap (λ t. changes t f) (one_txn cat h o x y p q e) ∙ b in
+      absurd (cc)
+
+  pub sees_is : (w : Committed) (d : ℕ) (t : Committed) → sees marks w.start.txn d t.start.txn t.start.number ≡ was_seen h w d t
+  sees_is w d t =
+      let p = is_apply w.start.txn d in
+      let q = is_answer t.start.txn t.start.number d in
+      ap (λ z. is_below z (get triple_cmp marks.answered (t.start.txn, t.start.number, d))) (are.applied w.start.txn d)
+      ∙ ap (is_below _) (are.answered t.start.txn t.start.number d)
+      ∙ sym (comes_before_is p q h)
+
+  pub seen_is : (d : ℕ) (t : Committed) (writers : List ℕ) (k : ℕ) (w : Committed) → slice_get txns (slice_index_or writers k 0) ≡ Some w
+      → has_seen marks txns d t writers k ≡ was_seen h w d t
+  seen_is d t writers k w e = ap (λ z. elim z as (λ y. Bool) [ None ↦ false | Some x ↦ sees marks x.start.txn d t.start.txn t.start.number ]) e ∙ sees_is w d t

@@ -1,0 +1,163 @@
+-- The committed transactions, sorted by their timestamps.
+use Rattle.std.proofs.Common.{ℕ, zero, suc, ◌+◌, ◌<◌, ◌≤◌, ◌==◌, ◌≡◌, Bool, true, false, List, [], ◌∷◌, length, get_or, Option, Some, None, refl, sym, ap, ◌∙◌, subst, inl, inr, arith, eq-eqb}
+use Rattle.std.specs.Prelude.{All, Contains, filter_map, find, option_map, slice_get}
+use Rattle.std.specs.List.{cons_option, AllByRecursion, IsDistinct}
+use Rattle.std.specs.List.Sorted.{IsPermutation, IsNonDecreasingBy}
+use Rattle.std.proofs.lemmas.Bool.{cases_eq, ne_eqb, eqb-true}
+use Rattle.std.proofs.lemmas.List.Elements.{All-contains, All-contains_itself, Contains-get_or}
+use Rattle.std.proofs.lemmas.List.Sorted.{All-permutation, IsPermutation-sym}
+use Rattle.std.proofs.lemmas.Map.Keys.{IsDistinct-IsPermutation, IsDistinct-head, IsDistinct-tail, IsDistinct-cons}
+use Rattle.std.proofs.lemmas.Option.{same_Some}
+use Rattle.sdd_base.proofs.Membership.{Contains-nil, Contains-here, Contains-later, Contains-cases}
+use Rattle.sdd_catalog.specs.Catalogue.{Catalogue}
+use Rattle.sdd_history.specs.declared.record.Rec.{Rec}
+use Rattle.sdd_history.specs.declared.record.Rec.TheVariants.{Submit, Start, Arrive, Wait, Answer, Reject, Commit, Apply, Pass, Nothing}
+use Rattle.sdd_history.specs.Records.{History}
+use Rattle.sdd_order.specs.Attempts.{Attempt, Committed, IsCommitted, attempts, is_attempt_of, committed_of, committed}
+use Rattle.sdd_order.specs.Orders.{IsOrderable}
+use Rattle.sdd_order.specs.Places.{placed}
+use Rattle.sdd_order.proofs.Found.{from_committed}
+use Rattle.sdd_order.proofs.Implied.{AreInOrder}
+use Rattle.sdd_order.proofs.Serial.{one_of_time}
+
+abbrev same_place : Committed → Committed → Bool
+same_place x y = x.place == y.place
+
+abbrev same_time : Committed → Committed → Bool
+same_time x y = x.start.ts == y.start.ts
+
+every : {X : Type 0} (P : X → Type 0) (xs : List X) → ((x : X) → Contains xs x → P x) → AllByRecursion P xs
+every P [] h = tt
+every P (x ∷ xs) h = (h x (Contains-here x xs), every P xs (λ y m. h y (Contains-later x xs y m)))
+
+each : {X : Type 0} (P : X → Type 0) (xs : List X) → AllByRecursion P xs → (x : X) → Contains xs x → P x
+each P [] a x m = absurd (Contains-nil x m)
+each P (y ∷ xs) a x m = elim (Contains-cases y xs x m) [ inl e ↦ subst P (sym e) a.0 | inr k ↦ each P xs a.1 x k ]
+
+-- a committed transaction has the place of its Commit
+committed_place : (starts : List Attempt) (k : ℕ) (r : Rec) (c : Committed) → committed_of starts (k, r) ≡ Some c → c.place ≡ k
+committed_place starts k (Commit txn attempt reply changes values rows) c e = found (find (is_attempt_of txn.0 attempt) starts) e
+  where
+    found : (o : Option Attempt) → option_map (λ s. record { start = s; reply = reply; changes = changes; values = values; rows = rows; place = k }) o ≡ Some c
+        → c.place ≡ k
+    found None f = absurd (cc)
+    found (Some s) f = sym (ap (λ (t : Committed). t.place) (same_Some _ c f))
+committed_place starts k (Submit txn) c e = absurd (cc)
+committed_place starts k (Start txn attempt class ts p2 uses) c e = absurd (cc)
+committed_place starts k (Arrive txn attempt dm) c e = absurd (cc)
+committed_place starts k (Wait txn attempt dm conds) c e = absurd (cc)
+committed_place starts k (Answer txn attempt dm) c e = absurd (cc)
+committed_place starts k (Reject txn attempt dm class ts) c e = absurd (cc)
+committed_place starts k (Apply txn class dm ts) c e = absurd (cc)
+committed_place starts k (Pass class dm time) c e = absurd (cc)
+committed_place starts k Nothing c e = absurd (cc)
+
+later_place : (starts : List Attempt) (k : ℕ) (h : History) (c : Committed) → Contains (filter_map (committed_of starts) (placed k h)) c → k ≤ c.place
+later_place starts k [] c m = absurd (Contains-nil c m)
+later_place starts k (e ∷ h) c m =
+    let rest = filter_map (committed_of starts) (placed (suc k) h) in
+    elim (committed_of starts (k, e.1)) as (λ o. committed_of starts (k, e.1) ≡ o → Contains (cons_option o rest) c → k ≤ c.place) [
+      | None ↦ λ f n. let l = later_place starts (suc k) h c n in omega arith
+      | Some d ↦ λ f n. elim (Contains-cases d rest c n) [
+        | inl same ↦ let place : c.place ≡ k = ap (λ (t : Committed). t.place) same ∙ committed_place starts k e.1 d f in omega (arith, place)
+        | inr r ↦ let l = later_place starts (suc k) h c r in omega arith
+      ]
+    ] refl m
+
+distinct_places : (starts : List Attempt) (k : ℕ) (h : History) → IsDistinct same_place (filter_map (committed_of starts) (placed k h))
+unfolding IsDistinct
+distinct_places starts k [] = tt
+distinct_places starts k (e ∷ h) =
+    let rest = filter_map (committed_of starts) (placed (suc k) h) in
+    elim (committed_of starts (k, e.1)) as (λ o. committed_of starts (k, e.1) ≡ o → IsDistinct same_place (cons_option o rest)) [
+      | None ↦ λ f. distinct_places starts (suc k) h
+      | Some d ↦ λ f.
+          IsDistinct-cons same_place d rest
+          (every (λ c. same_place d c ≡ false) rest
+          (λ c m.
+              let place = committed_place starts k e.1 d f in
+              let l = later_place starts (suc k) h c m in
+              ne_eqb d.place c.place (λ same. absurd (omega (arith, same, place, l)))))
+          (distinct_places starts (suc k) h)
+    ] refl
+
+module _ (cat : Catalogue) (h : History) (o : IsOrderable cat h) where
+  -- so their timestamps differ
+  times_from : (some : List Committed) → ((t : Committed) → Contains some t → IsCommitted h t) → IsDistinct same_place some → IsDistinct same_time some
+  unfolding IsDistinct
+  times_from [] all d = tt
+  times_from (x ∷ some) all d =
+      IsDistinct-cons same_time x some
+      (every (λ y. same_time x y ≡ false) some
+      (λ y m. ne_eqb x.start.ts y.start.ts
+      (λ e.
+          let same = one_of_time cat h o x y (all x (Contains-here x some)) (all y (Contains-later x some y m)) e in
+          let apart = each (λ z. same_place x z ≡ false) some (IsDistinct-head same_place x some d) y m in
+          let wrong : true ≡ false = sym (eq-eqb x.place y.place (ap (λ (t : Committed). t.place) same)) ∙ apart in
+          absurd (cc))))
+      (times_from some (λ t m. all t (Contains-later x some t m)) (IsDistinct-tail same_place x some d))
+
+  distinct_times : IsDistinct same_time (committed h)
+  distinct_times = times_from (committed h) (from_committed h) (distinct_places (attempts h) 0 h)
+
+  apart : (xs : List Committed) → IsDistinct same_time xs → (i j : ℕ) (x y : Committed) → slice_get xs i ≡ Some x → slice_get xs j ≡ Some y → i < j
+      → same_time x y ≡ false
+  apart [] d i j x y p q l = absurd (cc)
+  apart (z ∷ xs) d i zero x y p q l = absurd (omega arith)
+  apart (z ∷ xs) d zero (suc j) x y p q l =
+      subst (λ w. same_time w y ≡ false) (same_Some z x p)
+      (each (λ w. same_time z w ≡ false) xs (IsDistinct-head same_time z xs d) y (member xs j y q))
+    where
+      member : {X : Type 0} (ys : List X) (k : ℕ) (w : X) → slice_get ys k ≡ Some w → Contains ys w
+      member [] k w e = absurd (cc)
+      member (v ∷ ys) zero w e = subst (Contains (v ∷ ys)) (same_Some v w e) (Contains-here v ys)
+      member (v ∷ ys) (suc k) w e = Contains-later v ys w (member ys k w e)
+  apart (z ∷ xs) d (suc i) (suc j) x y p q l = apart xs (IsDistinct-tail same_time z xs d) i j x y p q (omega arith)
+
+  module _ (txns : List Committed) (moved : IsPermutation (committed h) txns) (sorted : IsNonDecreasingBy (λ (t : Committed). t.start.ts) txns) where
+    pub in_sorted : (t : Committed) → Contains (committed h) t → Contains txns t
+    in_sorted t m =
+        All-contains (Contains txns) (committed h) t
+        (All-permutation (Contains txns) txns (committed h) (IsPermutation-sym (committed h) txns moved) (All-contains_itself txns)) m
+
+    pub from_sorted : (t : Committed) → Contains txns t → Contains (committed h) t
+    from_sorted t m =
+        All-contains (Contains (committed h)) txns t (All-permutation (Contains (committed h)) (committed h) txns moved (All-contains_itself (committed h))) m
+
+    pub in_order_of_time : AreInOrder h txns
+    in_order_of_time = record {
+      committed = λ i x e. from_committed h x (from_sorted x (at_place txns i x e));
+      rise = λ i j x y p q l.
+          let flips : (a b : Committed) → same_time a b ≡ same_time b a = λ a b. eqb_flips a.start.ts b.start.ts in
+          let distinct = IsDistinct-IsPermutation same_time flips (committed h) txns moved distinct_times in
+          let differ = apart txns distinct i j x y p q l in
+          let at_i = place_is txns i x p in
+          let at_j = place_is txns j y q in
+          let most = sorted i j x (omega arith) at_j.0 in
+          let first : x.start.ts ≡ (get_or txns i x).start.ts = ap (λ (t : Committed). t.start.ts) (sym (at_i.1 x)) in
+          let second : y.start.ts ≡ (get_or txns j x).start.ts = ap (λ (t : Committed). t.start.ts) (sym (at_j.1 x)) in
+          strictly x.start.ts y.start.ts differ (omega (arith, first, second, most));
+    }
+      where
+        at_place : {X : Type 0} (ys : List X) (k : ℕ) (w : X) → slice_get ys k ≡ Some w → Contains ys w
+        at_place [] k w e = absurd (cc)
+        at_place (v ∷ ys) zero w e = subst (Contains (v ∷ ys)) (same_Some v w e) (Contains-here v ys)
+        at_place (v ∷ ys) (suc k) w e = Contains-later v ys w (at_place ys k w e)
+        place_is : {X : Type 0} (ys : List X) (k : ℕ) (w : X) → slice_get ys k ≡ Some w → (k < length ys) × ((d : X) → get_or ys k d ≡ w)
+        place_is [] k w e = absurd (cc)
+        place_is (v ∷ ys) zero w e = (omega arith, λ d. same_Some v w e)
+        place_is (v ∷ ys) (suc k) w e = let r = place_is ys k w e in let l = r.0 in (omega arith, r.1)
+        eqb_flips : (a b : ℕ) → (a == b) ≡ (b == a)
+        eqb_flips a b = elim (cases_eq a b) [ inl e ↦ eq-eqb a b e ∙ sym (eq-eqb b a (sym e)) | inr n ↦ ne_eqb a b n ∙ sym (ne_eqb b a (λ e. n (sym e))) ]
+        strictly : (a b : ℕ) → (a == b) ≡ false → a ≤ b → a < b
+        strictly a b d l =
+            elim (cases_eq a b) [
+              | inl e ↦ absurd (let wrong : true ≡ false = sym (eq-eqb a b e) ∙ d in cc)
+              | inr n ↦ below a b n l
+            ]
+          where
+            below : (a b : ℕ) → (a ≡ b → ⊥) → a ≤ b → a < b
+            below zero zero n l = absurd (n refl)
+            below zero (suc b) n l = omega arith
+            below (suc a) zero n l = absurd (omega arith)
+            below (suc a) (suc b) n l = let s = below a b (λ e. n (ap suc e)) (omega arith) in omega arith

@@ -1,0 +1,16 @@
+pub mod Before
+pub mod ByLinks
+pub mod EachLink
+pub mod EachPrecedence
+pub mod Firsts
+pub mod Halves
+pub mod Implied
+pub mod InOrder
+pub mod Linking
+pub mod Marking
+pub mod Nodes
+pub mod Numbered
+pub mod Found
+pub mod Places
+pub mod Reading
+pub mod Serial

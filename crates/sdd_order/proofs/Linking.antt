@@ -1,0 +1,51 @@
+-- The links of one reader, as they are found.
+use Rattle.std.proofs.Common.{ℕ, ◌≡◌, ◌++◌, Bool, true, false, cond, List, [], ◌∷◌, length, map, drop, Option, Some, None, refl, sym, ap, ◌∙◌}
+use Rattle.std.specs.Prelude.{option_map, unwrap_or, slice_index_or}
+use Rattle.std.specs.List.{flat_map}
+use Rattle.std.proofs.lemmas.List.{append-nil, drop_all}
+use Rattle.std.proofs.lemmas.Grind.{flat_map-append}
+use Rattle.sdd_base.specs.Numbers.{dm_no}
+use Rattle.sdd_base.specs.declared.number.DmNo.{DmNo}
+use Rattle.sdd_base.specs.declared.number.FragNo.{FragNo}
+use Rattle.sdd_base.specs.declared.usage.Use.{Use}
+use Rattle.sdd_catalog.specs.Catalogue.{Catalogue}
+use Rattle.sdd_lang.specs.Classes.{fragments_in}
+use Rattle.sdd_order.specs.Attempts.{Committed, changes}
+use Rattle.sdd_order.specs.declared.seen.Marks.{Marks}
+use Rattle.sdd_order.specs.Linked.{end_of, has_seen, links_at, fragment_links}
+use Rattle.sdd_order.specs.Precedence.{module_of}
+use Rattle.sdd_topological.specs.Groups.{Groups}
+
+-- a module that may not be there
+pub number_or : (o : Option DmNo) → (unwrap_or o (dm_no 0)).0 ≡ unwrap_or (option_map (λ d. d.0) o) 0
+number_or None = refl
+number_or (Some d) = refl
+
+-- a reader that doesn't change the fragment
+pub fragment_links_are : (cat : Catalogue) (marks : Marks) (txns : List Committed) (writers : Groups) (reader : ℕ) (t : Committed) (f d k : ℕ)
+    (of_f : List ℕ) → changes t f ≡ false → d ≡ module_of cat t.start.class f → of_f ≡ slice_index_or writers f []
+    → k ≡ end_of (has_seen marks txns d t of_f) (length of_f) 0 (length of_f)
+    → links_at of_f reader k ≡ fragment_links cat marks txns writers (reader, t) f
+fragment_links_are cat marks txns writers reader t f d k of_f unchanged at there is =
+    let found : ℕ → List ℕ → ℕ = λ m l. end_of (has_seen marks txns m t l) (length l) 0 (length l) in
+    ap (links_at of_f reader) (is ∙ ap (λ m. found m of_f) at)
+    ∙ ap (λ l. links_at l reader (found (module_of cat t.start.class f) l)) there
+    ∙ ap (λ b. cond b [] (links_at (slice_index_or writers f []) reader (found (module_of cat t.start.class f) (slice_index_or writers f [])))) (sym unchanged)
+
+pub no_fragment_links : (cat : Catalogue) (marks : Marks) (txns : List Committed) (writers : Groups) (reader : ℕ) (t : Committed) (f : ℕ)
+    → changes t f ≡ true → [] ≡ fragment_links cat marks txns writers (reader, t) f
+no_fragment_links cat marks txns writers reader t f changed =
+    let found : ℕ → List ℕ → ℕ = λ m l. end_of (has_seen marks txns m t l) (length l) 0 (length l) in
+    ap (λ b. cond b [] (links_at (slice_index_or writers f []) reader (found (module_of cat t.start.class f) (slice_index_or writers f [])))) (sym changed)
+
+-- fragment by fragment, and use by use
+over_frags : {A : Type 0} (g : ℕ → List A) (frags : List FragNo) → flat_map g (map (λ f. f.0) frags) ≡ flat_map (λ f. g f.0) frags
+over_frags g [] = refl
+over_frags g (f ∷ frags) = ap (λ l. g f.0 ++ l) (over_frags g frags)
+
+pub over_uses : {A : Type 0} (g : ℕ → List A) (uses : List Use) → flat_map (λ u. flat_map (λ f. g f.0) u.frags) uses ≡ flat_map g (fragments_in uses)
+over_uses g [] = refl
+over_uses g (u ∷ uses) =
+    ap (λ l. l ++ flat_map (λ v. flat_map (λ f. g f.0) v.frags) uses) (sym (over_frags g u.frags))
+    ∙ ap (λ l. flat_map g (map (λ f. f.0) u.frags) ++ l) (over_uses g uses)
+    ∙ sym (flat_map-append g (map (λ f. f.0) u.frags) (fragments_in uses))

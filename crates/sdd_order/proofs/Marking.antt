@@ -1,0 +1,176 @@
+-- Where transactions were applied and answered, one record after the other.
+use Rattle.std.proofs.Common.{ℕ, ◌+◌, ◌<◌, ◌==◌, ◌≡◌, Bool, true, false, ◌&&◌, cond, List, length, get_or, take, Option, Some, None, refl, sym, ap, ◌∙◌, subst, inl, inr}
+use Rattle.std.specs.Option.{is_some, option_or}
+use Rattle.std.specs.Ordering.{nat_cmp, is_eq}
+use Rattle.std.specs.BTreeMap.{is_at}
+use Rattle.std.proofs.lemmas.Bool.{cases_Bool, and_parts, eqb-true}
+use Rattle.sdd_history.specs.declared.record.Rec.{Rec}
+use Rattle.sdd_history.specs.declared.record.Rec.TheVariants.{Submit, Start, Arrive, Wait, Answer, Reject, Commit, Apply, Pass, Nothing}
+use Rattle.sdd_history.specs.Records.{History}
+use Rattle.sdd_order.specs.Finding.{pair_cmp, triple_cmp, first_place, last_place, apply_key, answer_key, Applied, Answered}
+use Rattle.sdd_order.specs.Precedence.{is_answer, is_apply}
+use Rattle.sdd_order.proofs.Firsts.{first_more, last_more}
+use Rattle.sdd_order.proofs.Reading.{is_eq_nat, is_eq_then, same_pair}
+
+-- a record of a key passes the tests of that key
+abbrev pub passes_by : {K : Type 0} → (K → K → Bool) → Option K → K → Bool
+passes_by same None k = false
+passes_by same (Some j) k = same j k
+
+apply_passes_by : (k : ℕ × ℕ) (r : Rec) → is_apply k.0 k.1 r ≡ passes_by (λ a b. is_at (pair_cmp a) b) (apply_key r) k
+apply_passes_by k (Apply txn class dm ts) = sym (same_pair (txn.0, dm.0) k)
+apply_passes_by k (Submit txn) = refl
+apply_passes_by k (Start txn attempt class ts p2 uses) = refl
+apply_passes_by k (Arrive txn attempt dm) = refl
+apply_passes_by k (Wait txn attempt dm conds) = refl
+apply_passes_by k (Answer txn attempt dm) = refl
+apply_passes_by k (Reject txn attempt dm class ts) = refl
+apply_passes_by k (Commit txn attempt reply changes values rows) = refl
+apply_passes_by k (Pass class dm time) = refl
+apply_passes_by k Nothing = refl
+
+same_triple : (a b : ℕ × ℕ × ℕ) → is_at (triple_cmp a) b ≡ ((a.0 == b.0) && ((a.1 == b.1) && (a.2 == b.2)))
+same_triple a b =
+    is_eq_then (pair_cmp (a.0, a.1) (b.0, b.1)) (nat_cmp a.2 b.2)
+    ∙ ap (λ z. z && is_eq (nat_cmp a.2 b.2)) (same_pair (a.0, a.1) (b.0, b.1))
+    ∙ ap (λ z. ((a.0 == b.0) && (a.1 == b.1)) && z) (is_eq_nat a.2 b.2)
+    ∙ and_in (a.0 == b.0) (a.1 == b.1) (a.2 == b.2)
+  where
+    and_in : (x y z : Bool) → ((x && y) && z) ≡ (x && (y && z))
+    and_in true y z = refl
+    and_in false y z = refl
+
+answer_passes_by : (k : ℕ × ℕ × ℕ) (r : Rec) → is_answer k.0 k.1 k.2 r ≡ passes_by (λ a b. is_at (triple_cmp a) b) (answer_key r) k
+answer_passes_by k (Answer txn attempt dm) = sym (same_triple (txn.0, attempt, dm.0) k)
+answer_passes_by k (Submit txn) = refl
+answer_passes_by k (Start txn attempt class ts p2 uses) = refl
+answer_passes_by k (Arrive txn attempt dm) = refl
+answer_passes_by k (Wait txn attempt dm conds) = refl
+answer_passes_by k (Reject txn attempt dm class ts) = refl
+answer_passes_by k (Commit txn attempt reply changes values rows) = refl
+answer_passes_by k (Apply txn class dm ts) = refl
+answer_passes_by k (Pass class dm time) = refl
+answer_passes_by k Nothing = refl
+
+same_pair_is : (a b : ℕ × ℕ) → is_at (pair_cmp a) b ≡ true → a ≡ b
+same_pair_is a b e =
+    let both = and_parts (a.0 == b.0) (a.1 == b.1) (sym (same_pair a b) ∙ e) in
+    let first : a.0 ≡ b.0 = eqb-true a.0 b.0 both.0 in
+    let second : a.1 ≡ b.1 = eqb-true a.1 b.1 both.1 in
+    ap (λ (x : ℕ). (x, a.1)) first ∙ ap (λ (y : ℕ). (b.0, y)) second
+
+-- Of each key the place of the first record, or of the last, in a map.
+module _ {K : Type 0} (same : K → K → Bool) (key : Rec → Option K) (test : K → Rec → Bool)
+    (by : (k : K) (r : Rec) → test k r ≡ passes_by same (key r) k) where
+  abbrev First : (K → Option ℕ) → History → Type 0
+  First made h = (k : K) → made k ≡ first_place (test k) h
+
+  abbrev Last : (K → Option ℕ) → History → Type 0
+  Last made h = (k : K) → made k ≡ last_place (test k) h
+
+  module _ (h : History) (i : ℕ) (e : ℕ × Rec) (within : i < length h) (there : e ≡ get_or h i e) (made new : K → Option ℕ) where
+    first_with : (o : Option K) → key e.1 ≡ o → First made (take i h)
+        → ((k : K) → new k ≡ option_or (made k) (cond (passes_by same o k) (Some i) None)) → First new (take (i + 1) h)
+    first_with o is old with k =
+        with k ∙ ap (λ p. option_or p (cond (passes_by same o k) (Some i) None)) (old k)
+        ∙ sym (first_more (test k) h i e within there
+        ∙ ap (λ b. option_or (first_place (test k) (take i h)) (cond b (Some i) None)) (by k e.1 ∙ ap (λ p. passes_by same p k) is))
+
+    last_with : (o : Option K) → key e.1 ≡ o → Last made (take i h)
+        → ((k : K) → new k ≡ cond (passes_by same o k) (Some i) (made k)) → Last new (take (i + 1) h)
+    last_with o is old with k =
+        with k ∙ ap (λ p. cond (passes_by same o k) (Some i) p) (old k)
+        ∙ sym (last_more (test k) h i e within there
+        ∙ ap (λ b. cond b (Some i) (last_place (test k) (take i h))) (by k e.1 ∙ ap (λ p. passes_by same p k) is))
+
+    -- a key that the map didn't have
+    first_new : (j : K) → key e.1 ≡ Some j → is_some (made j) ≡ false → ((a b : K) → same a b ≡ true → a ≡ b)
+        → ((k : K) → new k ≡ cond (same j k) (Some i) (made k)) → First made (take i h) → First new (take (i + 1) h)
+    first_new j is absent equal updates old =
+        first_with (Some j) is old
+        (λ k. elim (cases_Bool (same j k)) [
+          | inl t ↦
+              let none : is_some (made k) ≡ false = subst (λ z. is_some (made z) ≡ false) (equal j k t) absent in
+              updates k ∙ ap (λ b. cond b (Some i) (made k)) t
+              ∙ sym (ap (λ b. option_or (made k) (cond b (Some i) None)) t ∙ second (made k) (Some i) none)
+          | inr f ↦
+              updates k ∙ ap (λ b. cond b (Some i) (made k)) f
+              ∙ sym (ap (λ b. option_or (made k) (cond b (Some i) None)) f ∙ or_none (made k))
+        ])
+      where
+        second : (o p : Option ℕ) → is_some o ≡ false → option_or o p ≡ p
+        second None p e = refl
+        second (Some x) p e = absurd (cc)
+        or_none : (o : Option ℕ) → option_or o None ≡ o
+        or_none None = refl
+        or_none (Some x) = refl
+
+    last_new : (j : K) → key e.1 ≡ Some j → ((k : K) → new k ≡ cond (same j k) (Some i) (made k))
+        → Last made (take i h) → Last new (take (i + 1) h)
+    last_new j is updates old = last_with (Some j) is old updates
+
+  module _ (h : History) (i : ℕ) (e : ℕ × Rec) (within : i < length h) (there : e ≡ get_or h i e) (made : K → Option ℕ) where
+    -- a record without a key, and a key that the map has
+    first_same : key e.1 ≡ None → First made (take i h) → First made (take (i + 1) h)
+    first_same none old = first_with h i e within there made made None none old (λ k. keeps (made k))
+      where
+        keeps : (o : Option ℕ) → o ≡ option_or o None
+        keeps None = refl
+        keeps (Some x) = refl
+
+    first_again : (j : K) → key e.1 ≡ Some j → is_some (made j) ≡ true → ((a b : K) → same a b ≡ true → a ≡ b)
+        → First made (take i h) → First made (take (i + 1) h)
+    first_again j is has equal old =
+        first_with h i e within there made made (Some j) is old
+        (λ k. elim (cases_Bool (same j k)) [
+          | inl t ↦ keeps (made k) (cond (same j k) (Some i) None) (subst (λ z. is_some (made z) ≡ true) (equal j k t) has)
+          | inr f ↦ none_keeps (made k) ∙ sym (ap (λ b. option_or (made k) (cond b (Some i) None)) f)
+        ])
+      where
+        keeps : (o p : Option ℕ) → is_some o ≡ true → o ≡ option_or o p
+        keeps None p e = absurd (cc)
+        keeps (Some x) p e = refl
+        none_keeps : (o : Option ℕ) → o ≡ option_or o None
+        none_keeps None = refl
+        none_keeps (Some x) = refl
+
+    last_same : key e.1 ≡ None → Last made (take i h) → Last made (take (i + 1) h)
+    last_same none old = last_with h i e within there made made None none old (λ k. refl)
+
+-- the two maps
+module _ (h : History) (i : ℕ) (e : ℕ × Rec) (within : i < length h) (there : e ≡ get_or h i e) where
+  abbrev same_pairs : ℕ × ℕ → ℕ × ℕ → Bool
+  same_pairs a b = is_at (pair_cmp a) b
+
+  abbrev same_triples : ℕ × ℕ × ℕ → ℕ × ℕ × ℕ → Bool
+  same_triples a b = is_at (triple_cmp a) b
+
+  pub no_apply : (made : ℕ → ℕ → Option ℕ) → apply_key e.1 ≡ None → Applied made (take i h) → Applied made (take (i + 1) h)
+  no_apply made none old n d =
+      first_same same_pairs apply_key (λ k. is_apply k.0 k.1) apply_passes_by h i e within there (λ k. made k.0 k.1) none
+      (λ k. old k.0 k.1) (n, d)
+
+  pub applied_again : (made : ℕ → ℕ → Option ℕ) (j : ℕ × ℕ) → apply_key e.1 ≡ Some j → is_some (made j.0 j.1) ≡ true
+      → Applied made (take i h) → Applied made (take (i + 1) h)
+  applied_again made j is has old n d =
+      first_again same_pairs apply_key (λ k. is_apply k.0 k.1) apply_passes_by h i e within there (λ k. made k.0 k.1) j is has same_pair_is
+      (λ k. old k.0 k.1) (n, d)
+
+  pub applied_first : (made new : ℕ → ℕ → Option ℕ) (j : ℕ × ℕ) → apply_key e.1 ≡ Some j → is_some (made j.0 j.1) ≡ false
+      → ((k : ℕ × ℕ) → new k.0 k.1 ≡ cond (is_at (pair_cmp j) k) (Some i) (made k.0 k.1))
+      → Applied made (take i h) → Applied new (take (i + 1) h)
+  applied_first made new j is absent updates old n d =
+      first_new same_pairs apply_key (λ k. is_apply k.0 k.1) apply_passes_by h i e within there (λ k. made k.0 k.1) (λ k. new k.0 k.1) j
+      is absent same_pair_is updates (λ k. old k.0 k.1) (n, d)
+
+  pub no_answer : (made : ℕ → ℕ → ℕ → Option ℕ) → answer_key e.1 ≡ None → Answered made (take i h) → Answered made (take (i + 1) h)
+  no_answer made none old n k d =
+      last_same same_triples answer_key (λ a. is_answer a.0 a.1 a.2) answer_passes_by h i e within there (λ a. made a.0 a.1 a.2) none
+      (λ a. old a.0 a.1 a.2) (n, k, d)
+
+  pub answered_last : (made new : ℕ → ℕ → ℕ → Option ℕ) (j : ℕ × ℕ × ℕ) → answer_key e.1 ≡ Some j
+      → ((a : ℕ × ℕ × ℕ) → new a.0 a.1 a.2 ≡ cond (is_at (triple_cmp j) a) (Some i) (made a.0 a.1 a.2))
+      → Answered made (take i h) → Answered new (take (i + 1) h)
+  answered_last made new j is updates old n k d =
+      last_new same_triples answer_key (λ a. is_answer a.0 a.1 a.2) answer_passes_by h i e within there (λ a. made a.0 a.1 a.2)
+      (λ a. new a.0 a.1 a.2) j is updates (λ a. old a.0 a.1 a.2) (n, k, d)

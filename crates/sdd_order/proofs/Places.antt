@@ -1,0 +1,106 @@
+-- A record at a place is one record.
+use Rattle.std.proofs.Common.{ℕ, ◌≡◌, List, Option, Some, refl, sym, ap, ◌∙◌, subst}
+use Rattle.sdd_base.specs.Numbers.{class_no, txn_no, time_at}
+use Rattle.sdd_base.specs.declared.change.Change.{Change}
+use Rattle.sdd_base.specs.declared.number.ClassNo.{ClassNo}
+use Rattle.sdd_base.specs.declared.number.Ts.{Ts}
+use Rattle.sdd_base.specs.declared.number.TxnNo.{TxnNo}
+use Rattle.sdd_base.specs.declared.reply.Reply.{Reply}
+use Rattle.sdd_base.specs.declared.usage.Use.{Use}
+use Rattle.sdd_history.specs.declared.record.Rec.TheVariants.{Submit, Start, Commit}
+use Rattle.sdd_history.specs.Records.{History}
+use Rattle.sdd_order.specs.Attempts.{Attempt, Committed, IsAttempt, IsCommitted, HasCommit}
+use Rattle.sdd_order.specs.Places.{Stands}
+
+-- two Submits at one place are of one transaction
+pub one_submitted : (h : History) (n m k : ℕ) → Stands h k (Submit (txn_no n)) → Stands h k (Submit (txn_no m)) → n ≡ m
+one_submitted h n m k a b =
+    let e : Some (Submit (txn_no n)) ≡ Some (Submit (txn_no m)) = sym a ∙ b in
+    let t : txn_no n ≡ txn_no m = cc in
+    ap (λ (z : TxnNo). z.0) t
+
+-- two Starts at one place are one
+pub record SameStart (a b : Attempt) : Type 0 where
+  pub txn : a.txn ≡ b.txn
+  pub number : a.number ≡ b.number
+  pub class : a.class ≡ b.class
+  pub ts : a.ts ≡ b.ts
+  pub p2 : a.p2 ≡ b.p2
+  pub uses : a.uses ≡ b.uses
+  pub place : a.place ≡ b.place
+
+pub same_start : (h : History) (a b : Attempt) → IsAttempt h a → IsAttempt h b → a.place ≡ b.place
+    → SameStart a b
+same_start h a b p q same =
+    let e : Some (Start (txn_no a.txn) a.number (class_no a.class) (time_at a.ts) a.p2 a.uses)
+        ≡ Some (Start (txn_no b.txn) b.number (class_no b.class) (time_at b.ts) b.p2 b.uses) =
+    sym p ∙ subst (λ k. Stands h k (Start (txn_no b.txn) b.number (class_no b.class) (time_at b.ts) b.p2 b.uses)) (sym same) q in
+    let t : txn_no a.txn ≡ txn_no b.txn = cc in
+    let c : class_no a.class ≡ class_no b.class = cc in
+    let s : time_at a.ts ≡ time_at b.ts = cc in
+    record {
+      txn = ap (λ (z : TxnNo). z.0) t;
+      number = cc;
+      class = ap (λ (z : ClassNo). z.0) c;
+      ts = ap (λ (z : Ts). z.0) s;
+      p2 = cc;
+      uses = cc;
+      place = same;
+    }
+
+pub one_attempt : (a b : Attempt) → SameStart a b → a ≡ b
+one_attempt a b s =
+    λ i. record {
+      txn = s.txn i;
+      number = s.number i;
+      class = s.class i;
+      ts = s.ts i;
+      p2 = s.p2 i;
+      uses = s.uses i;
+      place = s.place i;
+    }
+
+-- two Commits at one place, of one attempt, are one
+pub record SameCommit (t u : Committed) : Type 0 where
+  pub reply : t.reply ≡ u.reply
+  pub changes : t.changes ≡ u.changes
+  pub values : t.values ≡ u.values
+  pub rows : t.rows ≡ u.rows
+  pub txn : t.start.txn ≡ u.start.txn
+  pub number : t.start.number ≡ u.start.number
+
+pub same_commit : (h : History) (t u : Committed) → IsCommitted h t → IsCommitted h u → t.place ≡ u.place
+    → SameCommit t u
+same_commit h t u p q same =
+    let e : Some (Commit (txn_no t.start.txn) t.start.number t.reply t.changes t.values t.rows)
+        ≡ Some (Commit (txn_no u.start.txn) u.start.number u.reply u.changes u.values u.rows) =
+    sym p.committed ∙ subst (λ k. Stands h k (Commit (txn_no u.start.txn) u.start.number u.reply u.changes u.values u.rows)) (sym same) q.committed in
+    let n : txn_no t.start.txn ≡ txn_no u.start.txn = cc in
+    record { reply = cc; changes = cc; values = cc; rows = cc; txn = ap (λ (z : TxnNo). z.0) n; number = cc }
+
+pub commit_of : (h : History) (t : Committed) → IsCommitted h t → HasCommit h t.start.txn t.start.number t.place
+commit_of h t c = record { reply = t.reply; changes = t.changes; values = t.values; rows = t.rows; stands = c.committed }
+
+pub one_committed : (t u : Committed) → t.start ≡ u.start → SameCommit t u → t.place ≡ u.place → t ≡ u
+one_committed t u start s place =
+    λ i. record {
+      start = start i;
+      reply = s.reply i;
+      changes = s.changes i;
+      values = s.values i;
+      rows = s.rows i;
+      place = place i;
+    }
+
+-- where of a transaction there is one Commit, and of a transaction and number one Start, of a transaction one is committed
+pub one_of_txn : (h : History)
+    → ((n i j k l : ℕ) → HasCommit h n i k → HasCommit h n j l → k ≡ l)
+    → ((a b : Attempt) → IsAttempt h a → IsAttempt h b → a.txn ≡ b.txn → a.number ≡ b.number → a.place ≡ b.place)
+    → (t u : Committed) → IsCommitted h t → IsCommitted h u → t.start.txn ≡ u.start.txn → t ≡ u
+one_of_txn h one_commit one_start t u p q e =
+    let place : t.place ≡ u.place =
+    one_commit u.start.txn t.start.number u.start.number t.place u.place
+    (subst (λ n. HasCommit h n t.start.number t.place) e (commit_of h t p)) (commit_of h u q) in
+    let same = same_commit h t u p q place in
+    let at = one_start t.start u.start p.started q.started e same.number in
+    one_committed t u (one_attempt t.start u.start (same_start h t.start u.start p.started q.started at)) same place

@@ -1,0 +1,185 @@
+-- The attempts and the committed transactions of a history, one record after the other.
+use Rattle.std.proofs.Common.{Less, Equal, Greater, ℕ, zero, suc, ◌+◌, ◌<◌, ◌==◌, ◌≡◌, ◌≢◌, Bool, true, false, ◌&&◌, cond, List, [], ◌∷◌, ◌++◌, take, length, get_or, Option, Some, None, refl, sym, ap, ◌∙◌, subst, ◌⊎◌, inl, inr, arith, eq-eqb}
+use Rattle.std.specs.Prelude.{find, filter_map, option_map}
+use Rattle.std.specs.List.{cons_option}
+use Rattle.std.specs.Option.{is_some, option_or}
+use Rattle.std.specs.Ordering.{nat_cmp, is_eq, ordering_then}
+use Rattle.std.specs.declared.cmp.Ordering.{Ordering}
+use Rattle.std.specs.Cmp.{nat_cmp_is}
+use Rattle.std.specs.BTreeMap.{is_at}
+use Rattle.std.proofs.lemmas.Bool.{cases_Bool, cases_eq, ne_eqb, eqb-true, and_parts}
+use Rattle.std.proofs.lemmas.List.{append-nil, take_more}
+use Rattle.std.proofs.lemmas.List.Elements.{filter_map-append}
+use Rattle.std.proofs.lemmas.List.Folds.{find-append}
+use Rattle.sdd_history.specs.declared.record.Rec.{Rec}
+use Rattle.sdd_history.specs.Records.{History}
+use Rattle.sdd_order.specs.Attempts.{Attempt, Committed, attempt_of, attempts, is_attempt_of, committed_of, committed}
+use Rattle.sdd_order.specs.Finding.{pair_cmp}
+use Rattle.sdd_order.specs.Places.{placed}
+
+-- one record more
+
+placed_end : (h : History) (k : ℕ) (e : ℕ × Rec) → placed k (h ++ e ∷ []) ≡ placed k h ++ (k + length h, e.1) ∷ []
+placed_end [] k e = let same : k ≡ k + 0 = omega arith in ap (λ (j : ℕ). (j, e.1) ∷ []) same
+placed_end (d ∷ h) k e =
+    let same : suc k + length h ≡ k + suc (length h) = omega arith in
+    ap (λ l. (k, d.1) ∷ l) (placed_end h (suc k) e ∙ ap (λ (j : ℕ). placed (suc k) h ++ (j, e.1) ∷ []) same)
+
+pub placed_more : (h : History) (i : ℕ) (e : ℕ × Rec) → i < length h → e ≡ get_or h i e
+    → placed 0 (take (i + 1) h) ≡ placed 0 (take i h) ++ (i, e.1) ∷ []
+placed_more h i e l is =
+    let long : 0 + length (take i h) ≡ i = omega (arith, length_take h i l) in
+    ap (placed 0) (take_more h i e l ∙ ap (λ x. take i h ++ x ∷ []) (sym is))
+    ∙ placed_end (take i h) 0 e
+    ∙ ap (λ (j : ℕ). placed 0 (take i h) ++ (j, e.1) ∷ []) long
+  where
+    length_take : {X : Type 0} (xs : List X) (i : ℕ) → i < length xs → length (take i xs) ≡ i
+    length_take [] i l = absurd (omega arith)
+    length_take (x ∷ xs) zero l = refl
+    length_take (x ∷ xs) (suc i) l = ap suc (length_take xs i (omega arith))
+
+-- what is made of one record more
+made_more : {X : Type 0} (f : ℕ × Rec → Option X) (h : History) (i : ℕ) (e : ℕ × Rec) → i < length h → e ≡ get_or h i e
+    → filter_map f (placed 0 (take (i + 1) h)) ≡ filter_map f (placed 0 (take i h)) ++ cons_option (f (i, e.1)) []
+made_more f h i e l is = ap (filter_map f) (placed_more h i e l is) ∙ filter_map-append f (placed 0 (take i h)) ((i, e.1) ∷ [])
+
+pub one_made : {X : Type 0} (f : ℕ × Rec → Option X) (h : History) (i : ℕ) (e : ℕ × Rec) (x : X) (old new : List X)
+    → i < length h → e ≡ get_or h i e → f (i, e.1) ≡ Some x → old ≡ filter_map f (placed 0 (take i h)) → new ≡ old ++ x ∷ []
+    → new ≡ filter_map f (placed 0 (take (i + 1) h))
+one_made f h i e x old new l is some o n =
+    n ∙ ap (λ xs. xs ++ x ∷ []) o ∙ sym (made_more f h i e l is ∙ ap (λ y. filter_map f (placed 0 (take i h)) ++ cons_option y []) some)
+
+pub none_made : {X : Type 0} (f : ℕ × Rec → Option X) (h : History) (i : ℕ) (e : ℕ × Rec) (old : List X)
+    → i < length h → e ≡ get_or h i e → f (i, e.1) ≡ None → old ≡ filter_map f (placed 0 (take i h))
+    → old ≡ filter_map f (placed 0 (take (i + 1) h))
+none_made f h i e old l is none o =
+    o ∙ sym (append-nil (filter_map f (placed 0 (take i h))))
+    ∙ sym (made_more f h i e l is ∙ ap (λ y. filter_map f (placed 0 (take i h)) ++ cons_option y []) none)
+
+-- pairs of numbers that the order doesn't tell apart are equal
+pub is_eq_nat : (m n : ℕ) → is_eq (nat_cmp m n) ≡ (m == n)
+is_eq_nat m n =
+    elim (cases_eq m n) [
+      | inl e ↦ ap is_eq (sym (nat_cmp_is m n Equal e)) ∙ sym (eq-eqb m n e)
+      | inr d ↦ elim (less_or_greater m n d) [
+        | inl l ↦ ap is_eq (sym (nat_cmp_is m n Less l)) ∙ sym (ne_eqb m n d)
+        | inr g ↦ ap is_eq (sym (nat_cmp_is m n Greater g)) ∙ sym (ne_eqb m n d)
+      ]
+    ]
+  where
+    less_or_greater : (m n : ℕ) → (m ≡ n → ⊥) → (m < n) ⊎ (n < m)
+    less_or_greater zero zero d = absurd (d refl)
+    less_or_greater zero (suc n) d = inl (omega arith)
+    less_or_greater (suc m) zero d = inr (omega arith)
+    less_or_greater (suc m) (suc n) d =
+        elim (less_or_greater m n (λ e. d (ap suc e))) [ inl l ↦ inl (omega arith) | inr l ↦ inr (omega arith) ]
+
+pub is_eq_then : (a b : Ordering) → is_eq (ordering_then a b) ≡ (is_eq a && is_eq b)
+is_eq_then Less b = refl
+is_eq_then Equal b = refl
+is_eq_then Greater b = refl
+
+pub same_pair : (a b : ℕ × ℕ) → is_at (pair_cmp a) b ≡ ((a.0 == b.0) && (a.1 == b.1))
+same_pair a b =
+    is_eq_then (nat_cmp a.0 b.0) (nat_cmp a.1 b.1)
+    ∙ ap (λ z. z && is_eq (nat_cmp a.1 b.1)) (is_eq_nat a.0 b.0)
+    ∙ ap (λ z. (a.0 == b.0) && z) (is_eq_nat a.1 b.1)
+
+-- the attempts that are found: what a map of them has
+abbrev pub Found : (ℕ → ℕ → Option Attempt) → History → Type 0
+Found made h = (n k : ℕ) → made n k ≡ find (is_attempt_of n k) (attempts h)
+
+found_more : (h : History) (i : ℕ) (e : ℕ × Rec) (n k : ℕ) → i < length h → e ≡ get_or h i e
+    → find (is_attempt_of n k) (attempts (take (i + 1) h))
+        ≡ option_or (find (is_attempt_of n k) (attempts (take i h))) (find (is_attempt_of n k) (cons_option (attempt_of (i, e.1)) []))
+found_more h i e n k l is =
+    ap (find (is_attempt_of n k)) (made_more attempt_of h i e l is)
+    ∙ find-append (is_attempt_of n k) (attempts (take i h)) (cons_option (attempt_of (i, e.1)) [])
+
+or_none : {X : Type 0} (o : Option X) → option_or o None ≡ o
+or_none None = refl
+or_none (Some x) = refl
+
+-- a record that is no Start
+pub found_no_start : (h : History) (i : ℕ) (e : ℕ × Rec) (made : ℕ → ℕ → Option Attempt) → i < length h → e ≡ get_or h i e
+    → attempt_of (i, e.1) ≡ None → Found made (take i h) → Found made (take (i + 1) h)
+found_no_start h i e made l is none old n k =
+    old n k
+    ∙ sym (found_more h i e n k l is
+    ∙ ap (λ o. option_or (find (is_attempt_of n k) (attempts (take i h))) (find (is_attempt_of n k) (cons_option o []))) none
+    ∙ or_none (find (is_attempt_of n k) (attempts (take i h))))
+
+-- of an attempt: whether it is another
+other_attempt : (n k : ℕ) (a : Attempt) → is_attempt_of n k a ≡ false → find (is_attempt_of n k) (a ∷ []) ≡ None
+other_attempt n k a e = ap (λ b. cond b (Some a) None) e
+
+that_attempt : (n k : ℕ) (a : Attempt) → is_attempt_of n k a ≡ true → find (is_attempt_of n k) (a ∷ []) ≡ Some a
+that_attempt n k a e = ap (λ b. cond b (Some a) None) e
+
+-- a Start of an attempt that has one
+pub found_again : (h : History) (i : ℕ) (e : ℕ × Rec) (made : ℕ → ℕ → Option Attempt) (a : Attempt) → i < length h → e ≡ get_or h i e
+    → attempt_of (i, e.1) ≡ Some a → is_some (made a.txn a.number) ≡ true → Found made (take i h) → Found made (take (i + 1) h)
+found_again h i e made a l is some has old n k =
+    let before = find (is_attempt_of n k) (attempts (take i h)) in
+    let then : find (is_attempt_of n k) (attempts (take (i + 1) h)) ≡ option_or before (find (is_attempt_of n k) (a ∷ [])) =
+    found_more h i e n k l is ∙ ap (λ o. option_or before (find (is_attempt_of n k) (cons_option o []))) some in
+    elim (cases_Bool (is_attempt_of n k a)) [
+      | inl t ↦
+          let both = and_parts (a.txn == n) (a.number == k) t in
+          let there : is_some before ≡ true =
+          ap is_some (sym (old n k))
+          ∙ subst (λ m. is_some (made m k) ≡ true) (eqb-true a.txn n both.0) (subst (λ j. is_some (made a.txn j) ≡ true) (eqb-true a.number k both.1) has) in
+          old n k ∙ sym (then ∙ some_stays before (find (is_attempt_of n k) (a ∷ [])) there)
+      | inr f ↦ old n k ∙ sym (then ∙ ap (option_or before) (other_attempt n k a f) ∙ or_none before)
+    ]
+  where
+    some_stays : {X : Type 0} (o p : Option X) → is_some o ≡ true → option_or o p ≡ o
+    some_stays None p e = absurd (cc)
+    some_stays (Some x) p e = refl
+
+-- the first Start of an attempt
+pub found_first : (h : History) (i : ℕ) (e : ℕ × Rec) (made new : ℕ → ℕ → Option Attempt) (a : Attempt) → i < length h → e ≡ get_or h i e
+    → attempt_of (i, e.1) ≡ Some a → is_some (made a.txn a.number) ≡ false
+    → ((n k : ℕ) → new n k ≡ cond (is_at (pair_cmp (a.txn, a.number)) (n, k)) (Some a) (made n k))
+    → Found made (take i h) → Found new (take (i + 1) h)
+found_first h i e made new a l is some absent updates old n k =
+    let before = find (is_attempt_of n k) (attempts (take i h)) in
+    let then : find (is_attempt_of n k) (attempts (take (i + 1) h)) ≡ option_or before (find (is_attempt_of n k) (a ∷ [])) =
+    found_more h i e n k l is ∙ ap (λ o. option_or before (find (is_attempt_of n k) (cons_option o []))) some in
+    let now : new n k ≡ cond (is_attempt_of n k a) (Some a) (made n k) =
+    updates n k ∙ ap (λ b. cond b (Some a) (made n k)) (same_pair (a.txn, a.number) (n, k)) in
+    elim (cases_Bool (is_attempt_of n k a)) [
+      | inl t ↦
+          let both = and_parts (a.txn == n) (a.number == k) t in
+          let nothing : is_some before ≡ false =
+          ap is_some (sym (old n k))
+          ∙ subst (λ m. is_some (made m k) ≡ false) (eqb-true a.txn n both.0) (subst (λ j. is_some (made a.txn j) ≡ false) (eqb-true a.number k both.1) absent) in
+          now ∙ ap (λ b. cond b (Some a) (made n k)) t
+          ∙ sym (then ∙ or_second before (find (is_attempt_of n k) (a ∷ [])) nothing ∙ that_attempt n k a t)
+      | inr f ↦
+          now ∙ ap (λ b. cond b (Some a) (made n k)) f ∙ old n k
+          ∙ sym (then ∙ ap (option_or before) (other_attempt n k a f) ∙ or_none before)
+    ]
+  where
+    or_second : {X : Type 0} (o p : Option X) → is_some o ≡ false → option_or o p ≡ p
+    or_second None p e = refl
+    or_second (Some x) p e = absurd (cc)
+
+-- the same with the key as it was made
+pub found_first_at : (h : History) (i : ℕ) (e : ℕ × Rec) (made new : ℕ → ℕ → Option Attempt) (a : Attempt) (x y : ℕ) → i < length h
+    → e ≡ get_or h i e → attempt_of (i, e.1) ≡ Some a → x ≡ a.txn → y ≡ a.number → is_some (made x y) ≡ false
+    → ((n k : ℕ) → new n k ≡ cond (is_at (pair_cmp (x, y)) (n, k)) (Some a) (made n k))
+    → Found made (take i h) → Found new (take (i + 1) h)
+found_first_at h i e made new a x y l is some p q absent updates old =
+    found_first h i e made new a l is some
+    (subst (λ z. is_some (made z a.number) ≡ false) p (subst (λ z. is_some (made x z) ≡ false) q absent))
+    (λ n k. updates n k ∙ ap (λ z. cond (is_at (pair_cmp (z, y)) (n, k)) (Some a) (made n k)) p
+        ∙ ap (λ z. cond (is_at (pair_cmp (a.txn, z)) (n, k)) (Some a) (made n k)) q)
+    old
+
+pub found_again_at : (h : History) (i : ℕ) (e : ℕ × Rec) (made : ℕ → ℕ → Option Attempt) (a : Attempt) (x y : ℕ) → i < length h
+    → e ≡ get_or h i e → attempt_of (i, e.1) ≡ Some a → x ≡ a.txn → y ≡ a.number → is_some (made x y) ≡ true
+    → Found made (take i h) → Found made (take (i + 1) h)
+found_again_at h i e made a x y l is some p q has old =
+    found_again h i e made a l is some
+    (subst (λ z. is_some (made z a.number) ≡ true) p (subst (λ z. is_some (made x z) ≡ true) q has)) old

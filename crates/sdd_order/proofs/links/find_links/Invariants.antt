@@ -1,0 +1,14 @@
+use Rattle.std.proofs.Common.{ℕ, ◌≡◌, ◌++◌, ◌+◌, drop, length}
+use Rattle.std.specs.List.{enumerate_from, flat_map}
+use Rattle.sdd_lang.specs.Classes.{fragments_in}
+use Rattle.sdd_order.specs.Attempts.{Committed}
+use Rattle.sdd_order.specs.Linked.{by_fragment, fragment_links, links}
+use Rattle.sdd_topological.specs.Groups.{Groups, groups}
+use Rattle.sdd_order.proofs.links.find_links.Given as goal
+
+abbrev pub invariant-loop-place : goal.invariant-loop-place
+invariant-loop-place l =
+    l.links.items
+    ++ flat_map (λ (p : ℕ × Committed). flat_map (fragment_links l.cat l.marks l.txns (groups (by_fragment l.txns) (length l.cat.fragments + 1)) p) (fragments_in p.1.start.uses))
+    (enumerate_from l.place (drop l.place l.txns))
+    ≡ links l.cat l.marks l.txns

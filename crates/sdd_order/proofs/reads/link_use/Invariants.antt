@@ -1,0 +1,9 @@
+use Rattle.std.proofs.Common.{◌≡◌, ◌++◌, drop}
+use Rattle.std.specs.List.{flat_map}
+use Rattle.sdd_order.specs.Linked.{fragment_links}
+use Rattle.sdd_order.proofs.reads.link_use.Given as goal
+
+abbrev pub invariant-loop-frag : goal.invariant-loop-frag
+invariant-loop-frag l =
+    l.links.items ++ flat_map (λ f. fragment_links l.cat l.marks l.txns l.writers (l.reader, l.txn) f.0) (drop l.frag-index l.used.frags)
+    ≡ l.initial.links.items ++ flat_map (λ f. fragment_links l.cat l.marks l.txns l.writers (l.reader, l.txn) f.0) l.used.frags

@@ -1,0 +1,7 @@
+use Rattle.std.proofs.Common.{take}
+use Rattle.std.specs.BTreeMap.{get}
+use Rattle.sdd_order.specs.Finding.{pair_cmp, Applied}
+use Rattle.sdd_order.proofs.seen.find_applied.Given as goal
+
+abbrev pub invariant-loop-place : goal.invariant-loop-place
+invariant-loop-place l = Applied (λ n d. get pair_cmp l.made (n, d)) (take l.place l.history)

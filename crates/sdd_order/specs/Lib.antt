@@ -1,0 +1,9 @@
+pub mod Attempts
+pub mod Examples
+pub mod Finding
+pub mod Linked
+pub mod Numbers
+pub mod Orders
+pub mod Places
+pub mod Precedence
+pub mod SerialOrder

@@ -1,0 +1,15 @@
+//! The order in which one database, without copies, could have run what was committed.
+//!
+//! The one contract to the layer above: [`serial_order`] gives, of a history that has one, the
+//! serial order of its definition, in which each committed transaction stands once, after those
+//! that precede it (`specs/Precedence.antt`, `specs/Orders.antt`).
+#![tactic(auto)]
+
+mod attempts;
+mod links;
+mod order;
+mod reads;
+mod seen;
+
+pub use attempts::{Attempt, Committed};
+pub use order::serial_order;

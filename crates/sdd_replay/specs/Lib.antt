@@ -1,0 +1,4 @@
+pub mod Ledger
+pub mod Order
+pub mod Recorded
+pub mod Replayed

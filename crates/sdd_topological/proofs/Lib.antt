@@ -1,0 +1,11 @@
+pub mod Alike
+pub mod Ascending
+pub mod Chained
+pub mod Grouped
+pub mod Links
+pub mod Members
+pub mod OrderOf
+pub mod Paths
+pub mod Ready
+pub mod Steps
+pub mod Taken

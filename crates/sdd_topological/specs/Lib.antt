@@ -1,0 +1,4 @@
+pub mod Groups
+pub mod Paths
+pub mod Taken
+pub mod Taking
