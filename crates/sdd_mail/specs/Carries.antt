@@ -1,0 +1,44 @@
+-- For which calls the mail stands: the network of spellings stands for them, each message spelled.
+use Rattle.std.specs.Prelude.{ℕ, ◌≡◌, IsTrue, List, [], ◌∷◌, map}
+use Rattle.std.specs.List.{AllByRecursion}
+use Rattle.sdd_base.specs.Kept.{Kept}
+use Rattle.sdd_wire.specs.declared.msg.Msg.{Msg}
+use Rattle.sdd_wire.specs.Spelling.{spelled}
+use Rattle.sdd_wire.specs.Fits.{Fits}
+use Rattle.sdd_net.specs.declared.delivered.Delivered.{Delivered}
+use Rattle.sdd_net.specs.declared.delivered.Delivered.TheVariants.{Messages}
+use Rattle.sdd_net.specs.Links.{Call, Puts}
+use Rattle.sdd_net.specs.Nets.{Directions, StandsFor}
+use Rattle.sdd_log.specs.Spelled.{call_as, delivered_as}
+
+-- the calls with the messages' spellings
+abbrev pub in_bytes : List (Call Msg) → List (Call (List ℕ))
+in_bytes calls = map (call_as spelled) calls
+
+-- P holds of each message that is put
+abbrev pub AllPut : {M : Type 0} → (M → Type 0) → List (Call M) → Type 0
+AllPut P [] = Unit {0}
+AllPut P (Puts a b m ∷ calls) = P m × AllPut P calls
+AllPut P (_ ∷ calls) = AllPut P calls
+
+-- P holds of each message that is handed on
+abbrev pub AllDelivered : {M : Type 0} → (M → Type 0) → Delivered M → Type 0
+AllDelivered P (Messages ms) = AllByRecursion P ms
+AllDelivered P _ = Unit {0}
+
+-- a network of spellings, with the links between so many modules, stands for these calls
+pub record Carries (net : Kept (Directions (List ℕ))) (tms dms : ℕ) (calls : List (Call Msg)) : Type 0 where
+  pub live : IsTrue net.live
+  pub tms_are : net.value.tms ≡ tms
+  pub dms_are : net.value.dms ≡ dms
+  pub stands : StandsFor net (in_bytes calls)
+  pub fit : AllPut Fits calls
+
+-- bytes spell a message
+abbrev pub IsSpelling : List ℕ → Type 0
+IsSpelling bytes = (msg : Msg) × Fits msg × (bytes ≡ spelled msg)
+
+-- what is handed on in bytes are the spellings of this
+pub record Spells (given : Delivered (List ℕ)) (found : Delivered Msg) : Type 0 where
+  pub spelled_so : given ≡ delivered_as spelled found
+  pub fit : AllDelivered Fits found

@@ -1,0 +1,2 @@
+pub mod AtSites
+pub mod Kinds

@@ -1,0 +1,13 @@
+pub mod Acts
+pub mod Beginning
+pub mod Completing
+pub mod Delivering
+pub mod FirstHand
+pub mod Handing
+pub mod Links
+pub mod Lowest
+pub mod Marking
+pub mod Rounding
+pub mod Submitting
+pub mod Ticking
+pub mod Turning

@@ -1,0 +1,80 @@
+-- A world before its first event, over plain worlds.
+use Rattle.std.proofs.Common.{ℕ, zero, suc, ◌-◌, ◌<◌, ◌≤◌, ◌≡◌, ◌∙◌, ap, sym, subst, refl, true, false, List, [], length, replicate, Option, Some, None, arith}
+use Rattle.std.proofs.lemmas.List.{length-replicate}
+use Rattle.std.specs.Prelude.{slice_index_or}
+use Rattle.sdd_base.specs.Numbers.{dm_no}
+use Rattle.sdd_base.specs.declared.site.Site.{Site}
+use Rattle.sdd_base.specs.declared.site.Site.TheVariants.{U}
+use Rattle.sdd_catalog.specs.Catalogue.{Catalogue}
+use Rattle.sdd_wire.specs.declared.msg.Msg.{Msg}
+use Rattle.sdd_module.specs.SiteLog.{Setting}
+use Rattle.sdd_module.specs.SiteLog as site
+use Rattle.sdd_net.specs.Links.{Call}
+use Rattle.sdd_spool.specs.Mailboxes.{empty_mailbox, kept_from, Mailbox, mailbox_at, place_of, queue_at}
+use Rattle.sdd_log.specs.Entries.{Given}
+use Rattle.sdd_log.specs.Locals.{beginning, setting_of}
+use Rattle.sdd_step.specs.Resting.{IsSiteOf}
+use Rattle.sdd_step.proofs.Beginning.{next_at_first, rests_at_first}
+use Rattle.sdd_world.specs.declared.world.World.{World}
+use Rattle.sdd_world.specs.Standing.{IsSound, KeepsFor, Spooled, StandsFor}
+use Rattle.sdd_world.proofs.Keeping.{dm_within}
+
+nothing_at : {A : Type 0} (n k : ℕ) → slice_index_or (replicate {A = List A} n []) k [] ≡ []
+nothing_at zero k = refl
+nothing_at (suc n) zero = refl
+nothing_at (suc n) (suc k) = nothing_at n k
+
+none_queued : {A : Type 0} (n : ℕ) (o : Option ℕ) → queue_at (replicate {A = List A} n []) o ≡ []
+none_queued n None = refl
+none_queued n (Some k) = nothing_at n k
+
+one_of_all : {A : Type 0} (n i : ℕ) (x d : A) → i < n → slice_index_or (replicate n x) i d ≡ x
+one_of_all zero i x d l = absurd (omega (arith, l))
+one_of_all (suc n) zero x d l = refl
+one_of_all (suc n) (suc i) x d l = one_of_all n i x d (omega (arith, l))
+
+abbrev empty_spool : ℕ → ℕ → List (Mailbox Msg)
+empty_spool tms dms = replicate dms (empty_mailbox tms)
+
+keeps_none : (g : Given) (tms d : ℕ) (b : Mailbox Msg) → g.catalogue.tms ≡ tms → b ≡ empty_mailbox tms → KeepsFor g [] d b
+keeps_none g tms d b t e = record {
+  down_is = ap (λ v. v.down) e;
+  senders = ap (λ v. length v.queues) e ∙ length-replicate (suc tms) [] ∙ ap (λ k. suc k) (sym t);
+  kept = λ p x. (let no : false ≡ true = p in cc);
+  empty = λ p x. ap (λ v. kept_from v x) e ∙ none_queued (suc tms) (place_of x);
+}
+
+spooled_none : (g : Given) (tms dms : ℕ) → g.catalogue.tms ≡ tms → g.catalogue.dms ≡ dms → Spooled g [] (empty_spool tms dms) U
+spooled_none g tms dms t d = record {
+  count = length-replicate dms (empty_mailbox tms) ∙ sym d;
+  each = λ e here apart.
+      (let i = dm_within g (dm_no e) here in
+      let low : 1 ≤ e = i.0 in
+      let high : e ≤ g.catalogue.dms = i.1 in
+      keeps_none g tms e (mailbox_at (empty_spool tms dms) e) t (one_of_all dms (e - 1) (empty_mailbox tms) _ (omega (arith, low, high, d))));
+}
+
+module _ {C S N : Type 0} (cat : C → Catalogue) (stands_s : S → Site → Setting → site.Log → Type 0) (stands_n : N → ℕ → ℕ → List (Call Msg) → Type 0) (Good : Given → Type 0) where
+  -- nothing is recorded, kept or due
+  pub begins : (w : World C S N) (tms dms : ℕ) → w.history ≡ [] → w.marks ≡ 0 → w.given.items ≡ [] → w.spool ≡ empty_spool tms dms
+      → (g : Given) → Good g → IsSound g → cat w.catalogue ≡ g.catalogue → g.catalogue.tms ≡ tms → g.catalogue.dms ≡ dms → w.txns ≡ g.txns → g.events ≡ []
+      → ((at : Site) → IsSiteOf g at → stands_s w.sites at (setting_of g at) (beginning g at)) → stands_n w.net g.catalogue.tms g.catalogue.dms [] → StandsFor cat stands_s stands_n Good w g []
+  begins w tms dms h m v s g good sound c t d x e sites net = record {
+    calm = record {
+      parts = record {
+        good = good;
+        sound = sound;
+        no_redeclares = refl;
+        catalogue_is = c;
+        txns_are = x;
+        given_is = v ∙ sym e;
+        history_is = h;
+        sites = sites;
+        net = net;
+      };
+      rests = rests_at_first g;
+      marks_are = m;
+      spooled = subst (λ boxes. Spooled g [] boxes U) (sym s) (spooled_none g tms dms t d);
+    };
+    complete = next_at_first g e;
+  }

@@ -1,0 +1,169 @@
+-- A message is handed over, and its module does what is due, over plain worlds.
+use Rattle.std.proofs.Common.{ℕ, suc, ◌≤◌, ◌≡◌, ◌∙◌, ap, sym, subst, refl, true, false, List, [], ◌∷◌, ◌++◌, map, Some}
+use Rattle.std.specs.Prelude.{All}
+use Rattle.sdd_base.specs.Sites.{same_site}
+use Rattle.sdd_base.specs.Numbers.{dm_no}
+use Rattle.sdd_base.specs.declared.site.Site.{Site}
+use Rattle.sdd_base.specs.declared.site.Site.TheVariants.{U, T, D}
+use Rattle.sdd_catalog.specs.Catalogue.{Catalogue}
+use Rattle.sdd_lang.specs.declared.transaction.Txn.{Txn}
+use Rattle.sdd_history.specs.declared.record.Rec.{Rec}
+use Rattle.sdd_wire.specs.declared.msg.Msg.{Msg}
+use Rattle.sdd_wire.specs.declared.outcome.Outcome.{Outcome}
+use Rattle.sdd_module.specs.SiteLog.{Act, AreDue, Bases, Setting, log_after, records_of, sends_of}
+use Rattle.sdd_module.specs.SiteLog as site
+use Rattle.sdd_net.specs.Links.{Call}
+use Rattle.sdd_net.proofs.Directions.{link_parts, same_is, same_here}
+use Rattle.sdd_log.specs.Entries.{Given, Log, Hand, marks}
+use Rattle.sdd_log.specs.Traffic.{calls_of, handed, puts}
+use Rattle.sdd_log.specs.Locals.{local_of, setting_of}
+use Rattle.sdd_log.specs.Snapshots.{base_of}
+use Rattle.sdd_log.specs.Due.{next, next_in}
+use Rattle.sdd_log.specs.Lawful.{IsLawful, puts_past}
+use Rattle.sdd_log.proofs.Steps.{after_acts}
+use Rattle.sdd_step.specs.Resting.{AllLinked, IsFirst, IsSiteOf, Takes}
+use Rattle.sdd_step.proofs.Acts.{calls_acts, ends_in_acts, history_acts, linked_acts, marks_acts, other_acts, own_acts}
+use Rattle.sdd_step.proofs.Handing.{and_right, first_lawful, first_next, hands_first, remain_other}
+use Rattle.sdd_world.specs.declared.world.World.{World}
+use Rattle.sdd_sites.specs.Kinds.{next_of}
+use Rattle.sdd_world.specs.Kinds.{AreLinked}
+use Rattle.sdd_world.specs.Following.{Followed, IsPast, MaySend}
+use Rattle.sdd_world.specs.Standing.{ahead_of, EndsBy, Facts, HandedOn, Handing, Spooled}
+use Rattle.sdd_world.proofs.Parting.{ahead_acts, events_before, redeclares_acts, spooled_acts, spooled_on}
+
+pub due_same : (g : Given) (b : Site) (bases : Bases) (l : site.Log) (acts : List Act) → AreDue (next_of b (setting_of g b) bases) l acts → AreDue (next_in g b bases) l acts
+due_same g U bases l acts h = h
+due_same g (T t) bases l acts h = h
+due_same g (D d) bases l acts h = h
+
+pub are_linked : (g : Given) (at : Site) (sends : List (Site × Msg)) → AllLinked g at sends → AreLinked g.catalogue.tms g.catalogue.dms at sends
+are_linked g at [] h = tt
+are_linked g at (s ∷ sends) h = (h.0, are_linked g at sends h.1)
+
+-- a log that only gets acts stays within as far as it came
+pub here_at : (x b : Site) → x ≡ b → (P : Site → Type 0) → P b → P x
+here_at x b e P h = subst P (sym e) h
+
+pub at_log : (P : site.Log → Type 0) (l k : site.Log) → l ≡ k → P k → P l
+at_log P l k e h = subst P (sym e) h
+
+own_hand : (g : Given) (a b : Site) (n : ℕ) (m : Msg) (log : Log) → local_of g b (Hand a b n m ∷ log) ≡ site.Handed a m ∷ local_of g b log
+own_hand g a b n m log = rw (same_here b) refl
+
+other_hand : (g : Given) (x a b : Site) (n : ℕ) (m : Msg) (log : Log) → same_site x b ≡ false → local_of g x (Hand a b n m ∷ log) ≡ local_of g x log
+other_hand g x a b n m log e = rw e refl
+
+module _ {C S N : Type 0} (cat : C → Catalogue) (stands_s : S → Site → Setting → site.Log → Type 0) (stands_n : N → ℕ → ℕ → List (Call Msg) → Type 0) (Good : Given → Type 0)
+    (fits : Site → Setting → Bases → site.Log → Site → Msg → Type 0) (fits_submit : Site → Setting → Bases → site.Log → ℕ → Txn → Type 0) (fits_tick : Site → Setting → site.Log → ℕ → Type 0)
+    (facts : Facts Good fits fits_submit fits_tick) (w : World C S N) (g : Given) (log : Log) (a b : Site) (m : Msg) (kept : Site → List Msg) (rest : List Msg)
+    (h : Handing cat stands_s stands_n Good w g log b kept) (f : IsFirst g kept a b m rest) where
+  abbrev handed_log : Log
+  handed_log = Hand a b (suc (handed a b log)) m ∷ log
+
+  hand_next : next g log ≡ Some (Hand a b (suc (handed a b log)) m)
+  hand_next = first_next g log b kept h.waits a m rest f
+
+  site_here : IsSiteOf g b
+  site_here = (link_parts g.catalogue.tms g.catalogue.dms a b f.linked).to
+
+  pub hand_fits : fits b (setting_of g b) (base_of g handed_log) (local_of g b log) a m
+  hand_fits = facts.hand g h.parts.good log a b (suc (handed a b log)) m h.waits.lawful h.waits.within hand_next
+
+  pub hand_stands : stands_s w.sites b (setting_of g b) (local_of g b log)
+  hand_stands = h.parts.sites b site_here
+
+  pub hand_asks : (setting : Setting) × (bases : Bases) × (l : site.Log) × stands_s w.sites b setting l × fits b setting bases l a m
+  hand_asks = (setting_of g b, base_of g handed_log, local_of g b log, hand_stands, hand_fits)
+
+  pub events_order : All {X = ℕ × Rec} (λ e. e.0 ≤ w.marks) w.history
+  events_order = rw (h.marks_are, h.parts.history_is) (events_before log)
+
+  -- what the module of the site did
+  pub record Taken (s : S) (outcome : Outcome) : Type 0 where
+    pub acts : List Act
+    pub due : AreDue (next_in g b (base_of g handed_log)) (site.Handed a m ∷ local_of g b log) acts
+    pub records_are : outcome.recs ≡ records_of acts
+    pub sends_are : outcome.out ≡ sends_of acts
+    pub after : stands_s s b (setting_of g b) (log_after acts (site.Handed a m ∷ local_of g b log))
+
+  pub taken : (s : S) (outcome : Outcome)
+      → ((setting : Setting) (bases : Bases) (l : site.Log) → stands_s w.sites b setting l → fits b setting bases l a m
+      → site.Does (next_of b setting bases) (site.Handed a m ∷ l) outcome.recs outcome.out (stands_s s b setting))
+      → Taken s outcome
+  taken s outcome law =
+      let d = law (setting_of g b) (base_of g handed_log) (local_of g b log) hand_stands hand_fits in
+      record {
+        acts = d.acts;
+        due = due_same g b (base_of g handed_log) (site.Handed a m ∷ local_of g b log) d.acts d.due;
+        records_are = d.records_are;
+        sends_are = d.sends_are;
+        after = d.after;
+      }
+
+  -- it may be sent
+  pub may_send : (s : S) (outcome : Outcome) → Taken s outcome → MaySend stands_n (record w { sites = s }) b outcome
+  may_send s outcome t =
+      let lawful : IsLawful g (after_acts b t.acts handed_log) = first_lawful g log b kept h.waits a m rest f t.acts t.due in (
+        g.catalogue.tms,
+        g.catalogue.dms,
+        calls_of log,
+        h.parts.net,
+        rw t.sends_are (are_linked g b (sends_of t.acts) (linked_acts g b t.acts handed_log (λ l act k e. facts.sends g h.parts.good l b act k e) lawful)),
+      )
+
+  linked_out : (s : S) (outcome : Outcome) → Taken s outcome → AreLinked g.catalogue.tms g.catalogue.dms b outcome.out
+  linked_out s outcome t =
+      let lawful : IsLawful g (after_acts b t.acts handed_log) = first_lawful g log b kept h.waits a m rest f t.acts t.due in
+      rw t.sends_are (are_linked g b (sends_of t.acts) (linked_acts g b t.acts handed_log (λ l act k e. facts.sends g h.parts.good l b act k e) lawful))
+
+  -- where there is no number for one of its messages, the limit ends the log
+  pub hand_ends : (s : S) (outcome : Outcome) → Taken s outcome → IsPast stands_n (record w { sites = s }) b outcome → EndsBy g
+  hand_ends s outcome t past =
+      let lawful : IsLawful g (after_acts b t.acts handed_log) = first_lawful g log b kept h.waits a m rest f t.acts t.due in
+      ends_in_acts g b t.acts handed_log
+      (ap (λ o. puts_past (calls_of log) b o) (sym t.sends_are) ∙ past g.catalogue.tms g.catalogue.dms (calls_of log) h.parts.net (linked_out s outcome t))
+      (refl, h.waits.within) lawful
+
+  done_sites : (s : S) (outcome : Outcome) → (t : Taken s outcome)
+      → ((x : Site) (setting : Setting) (l : site.Log) → same_site x b ≡ false → stands_s w.sites x setting l → stands_s s x setting l)
+      → (x : Site) → IsSiteOf g x → stands_s s x (setting_of g x) (local_of g x (after_acts b t.acts handed_log))
+  done_sites s outcome t others x here =
+      elim (same_site x b) as (λ c. same_site x b ≡ c → stands_s s x (setting_of g x) (local_of g x (after_acts b t.acts handed_log))) [
+        | true ↦ λ p. here_at x b (same_is x b p) (λ z. stands_s s z (setting_of g z) (local_of g z (after_acts b t.acts handed_log)))
+            (at_log (stands_s s b (setting_of g b)) (local_of g b (after_acts b t.acts handed_log)) (log_after t.acts (site.Handed a m ∷ local_of g b log))
+            (own_acts g b t.acts handed_log ∙ ap (λ l. log_after t.acts l) (own_hand g a b (suc (handed a b log)) m log)) t.after)
+        | false ↦ λ p. at_log (stands_s s x (setting_of g x)) (local_of g x (after_acts b t.acts handed_log)) (local_of g x log)
+            (other_acts g x b t.acts handed_log p ∙ other_hand g x a b (suc (handed a b log)) m log p)
+            (others x (setting_of g x) (local_of g x log) p (h.parts.sites x here))
+      ] refl
+
+  -- it is recorded and sent
+  pub hand_done : (s : S) (outcome : Outcome) (w2 : World C S N) (less : Site → List Msg) → Taken s outcome → Takes kept less a rest
+      → ((x : Site) (setting : Setting) (l : site.Log) → same_site x b ≡ false → stands_s w.sites x setting l → stands_s s x setting l)
+      → Followed stands_n (record w { sites = s }) w2 b outcome → HandedOn cat stands_s stands_n Good w2 g b less (ahead_of g log) w.spool
+  hand_done s outcome w2 less t k others d =
+      let sent_all = d.net g.catalogue.tms g.catalogue.dms (calls_of log) h.parts.net (linked_out s outcome t) in
+      let calls : calls_of (after_acts b t.acts handed_log) ≡ puts b outcome.out (calls_of log) = calls_acts b t.acts handed_log ∙ ap (λ o. puts b o (calls_of log)) (sym t.sends_are) in
+      record {
+        more = after_acts b t.acts handed_log;
+        handing = record {
+          parts = record {
+            good = h.parts.good;
+            sound = h.parts.sound;
+            no_redeclares = redeclares_acts b t.acts handed_log ∙ h.parts.no_redeclares;
+            catalogue_is = ap cat d.catalogue ∙ h.parts.catalogue_is;
+            txns_are = d.txns ∙ h.parts.txns_are;
+            given_is = ap (λ v. v.items) d.given ∙ h.parts.given_is;
+            history_is = d.history ∙ ap (λ r. w.history ++ map (λ x. (w.marks, x)) r) t.records_are ∙ ap (λ k. w.history ++ map (λ x. (k, x)) (records_of t.acts)) h.marks_are ∙ ap (λ xs. xs ++ map (λ x. (marks log, x)) (records_of t.acts)) h.parts.history_is ∙ sym (history_acts b t.acts handed_log);
+            sites = λ x here. subst (λ z. stands_s z x (setting_of g x) (local_of g x (after_acts b t.acts handed_log))) (sym d.sites) (done_sites s outcome t others x here);
+            net = subst (λ c. stands_n w2.net g.catalogue.tms g.catalogue.dms c) (sym calls) sent_all.1;
+          };
+          waits = hands_first g log b kept h.waits a m rest f t.acts less k t.due (ap (λ o. puts_past (calls_of log) b o) (sym t.sends_are) ∙ sent_all.0);
+          marks_are = d.marks ∙ h.marks_are ∙ sym (marks_acts b t.acts handed_log);
+          spooled = subst (λ boxes. Spooled g (after_acts b t.acts handed_log) boxes b) (sym d.spool)
+              (spooled_acts g b t.acts handed_log w.spool b (spooled_on g log handed_log w.spool b (λ e. refl)
+              (λ e apart x r k. remain_other log a b x (D (dm_no e)) (suc (handed a b log)) m r (and_right (same_site x a) (same_site (D (dm_no e)) b) apart) k) h.spooled));
+        };
+        ahead_is = ahead_acts g b t.acts handed_log;
+        spool_is = d.spool;
+      }

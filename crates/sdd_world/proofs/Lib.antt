@@ -1,0 +1,13 @@
+pub mod Arriving
+pub mod Beginning
+pub mod Delivering
+pub mod Failing
+pub mod Handing
+pub mod Keeping
+pub mod Marking
+pub mod Parting
+pub mod Rounds
+pub mod Sends
+pub mod Submitting
+pub mod Ticking
+pub mod Turning

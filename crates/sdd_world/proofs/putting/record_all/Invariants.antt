@@ -1,0 +1,9 @@
+use Rattle.std.proofs.Common.{◌≡◌, ◌++◌, ◌≤◌, map}
+use Rattle.std.specs.Prelude.{All}
+use Rattle.sdd_world.proofs.putting.record_all.Given as goal
+
+abbrev pub invariant-loop-rec : goal.invariant-loop-rec
+invariant-loop-rec l = record {
+  recorded : l.history ≡ l.initial.history ++ map (λ r. (l.event, r)) l.yielded;
+  order : All (λ earlier. earlier.0 ≤ l.event) l.history;
+}

@@ -1,0 +1,14 @@
+use Rattle.std.proofs.Common.{◌≡◌, length}
+use Rattle.sdd_log.specs.Entries.{Given, Log}
+use Rattle.sdd_world.specs.Standing.{Keeping}
+use Rattle.sdd_world.proofs.world.World.keep_all.Given as goal
+
+abbrev pub invariant-loop-msg : goal.invariant-loop-msg
+invariant-loop-msg g l = record {
+  same : l.self ≡ record l.fn.self { spool = l.self.spool };
+  some : (given : Given) × (log : Log) × Keeping given log l.self.spool l.from l.dm.0 l.queue.items;
+  so_far : (given : Given) (log : Log) → Keeping given log l.fn.self.spool l.from l.dm.0 l.fn.messages → Keeping given log l.self.spool l.from l.dm.0 l.queue.items;
+}
+
+abbrev pub decreases-loop-msg : goal.decreases-loop-msg
+decreases-loop-msg g l = length l.queue.items

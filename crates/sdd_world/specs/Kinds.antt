@@ -1,0 +1,10 @@
+-- Where a site may send.
+use Rattle.std.specs.Prelude.{ℕ, ◌≡◌, true, List, [], ◌∷◌}
+use Rattle.sdd_base.specs.declared.site.Site.{Site}
+use Rattle.sdd_wire.specs.declared.msg.Msg.{Msg}
+use Rattle.sdd_net.specs.Nets.{is_link}
+
+-- messages go along links between so many modules
+abbrev pub AreLinked : ℕ → ℕ → Site → List (Site × Msg) → Type 0
+AreLinked tms dms at [] = Unit {0}
+AreLinked tms dms at (s ∷ sends) = (is_link tms dms at s.0 ≡ true) × AreLinked tms dms at sends

@@ -1,0 +1,60 @@
+ghost use Rattle.std.specs.Prelude.{◌≡◌, ◌≤◌, ◌++◌, [], ◌∷◌, ℕ, List, map, true, false, All, IfOk, IsErrOf, OnOk};
+ghost use Rattle.sdd_net.specs.Links.{Call};
+ghost use Rattle.sdd_wire.specs.declared.msg.Msg.{Msg};
+ghost use Rattle.sdd_log.specs.Traffic.{puts};
+ghost use Rattle.sdd_log.specs.Lawful.{puts_past};
+ghost use Rattle.sdd_world.specs.Kinds.{AreLinked};
+
+use crate::ends::WorldEnd;
+use sdd_base::{NoMemory, Site};
+use sdd_history::{History, Recs};
+use sdd_mail::Network;
+use sdd_wire::{Msg, Outs};
+use std::collections::VecDeque;
+
+/// Adds records of an event behind the others.
+pub fn record_all(history: &mut History, event: u32, recs: Recs) -> Result<(), NoMemory>
+    requires { All (λ earlier. earlier.0 ≤ event) history.old }
+    ensures { OnOk result (history.new ≡ history.old ++ map (λ r. (event, r)) recs) }
+{
+    for rec in recs.into_vec() {
+        history.push(event, rec)?;
+    }
+    Ok(())
+}
+
+/// Puts a message on its link, or ends where there is no number for it.
+pub fn send_one<N: Network>(net: &mut N, at: Site, to: Site, msg: Msg) -> Result<(), WorldEnd>
+    requires { (tms : ℕ) × (dms : ℕ) × (calls : List (Call Msg))
+        × N.stands net.old tms dms calls × AreLinked tms dms at ((to, msg) ∷ []) }
+    ensures ok { IfOk result (λ _. (tms : ℕ) (dms : ℕ) (calls : List (Call Msg))
+        → N.stands net.old tms dms calls → AreLinked tms dms at ((to, msg) ∷ [])
+        → (puts_past calls at ((to, msg) ∷ []) ≡ false)
+        × N.stands net.new tms dms (puts at ((to, msg) ∷ []) calls)) }
+    ensures limit { IsErrOf result WorldEnd.Limit → (tms : ℕ) (dms : ℕ) (calls : List (Call Msg))
+        → N.stands net.old tms dms calls → AreLinked tms dms at ((to, msg) ∷ [])
+        → puts_past calls at ((to, msg) ∷ []) ≡ true }
+{
+    if net.sent(at, to) == u32::MAX {
+        return Err(WorldEnd::Limit);
+    }
+    net.send(at, to, msg)?;
+    Ok(())
+}
+
+/// Puts messages on their links, in order, or ends at the first for which there is no number.
+pub fn send_all<N: Network>(net: &mut N, at: Site, out: Outs) -> Result<(), WorldEnd>
+    requires { (tms : ℕ) × (dms : ℕ) × (calls : List (Call Msg))
+        × N.stands net.old tms dms calls × AreLinked tms dms at out }
+    ensures ok { IfOk result (λ _. (tms : ℕ) (dms : ℕ) (calls : List (Call Msg))
+        → N.stands net.old tms dms calls → AreLinked tms dms at out → (puts_past calls at out ≡ false)
+        × N.stands net.new tms dms (puts at out calls)) }
+    ensures limit { IsErrOf result WorldEnd.Limit → (tms : ℕ) (dms : ℕ) (calls : List (Call Msg))
+        → N.stands net.old tms dms calls → AreLinked tms dms at out → puts_past calls at out ≡ true }
+{
+    let mut left = VecDeque::from_vec(out.into_vec());
+    while let Some((to, msg)) = left.pop_front() {
+        send_one(net, at, to, msg)?;
+    }
+    Ok(())
+}

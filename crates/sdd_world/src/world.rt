@@ -1,0 +1,360 @@
+ghost use Rattle.std.specs.Prelude.{◌≡◌, ◌<◌, ◌≤◌, All, ◌++◌, [], ◌∷◌, true, false, ℕ, List, Some, IfOk, OnOk, IsErrOf, MatchOption};
+ghost use Rattle.sdd_base.specs.declared.limits.TheConstants.{MAX_DMS, MAX_TMS};
+ghost use Rattle.sdd_base.specs.declared.site.Site.{Site};
+ghost use Rattle.sdd_base.specs.declared.site.Site.TheVariants.{U, D};
+ghost use Rattle.sdd_base.specs.declared.event.Event.TheVariants.{Submit, Deliver, Lose, Repeat, Resend, Tick, Settle, Down, Up};
+ghost use Rattle.sdd_wire.specs.declared.msg.Msg.{Msg};
+ghost use Rattle.sdd_net.specs.Links.{Call, quiet};
+ghost use Rattle.sdd_spool.specs.Mailboxes.{empty_mailbox, kept_from, mailbox_at};
+ghost use Rattle.sdd_log.specs.Entries.{Given, Log, history, with_event};
+ghost use Rattle.sdd_log.specs.Traffic.{all_links, calls_of, is_down, takes_part};
+ghost use Rattle.sdd_log.specs.Locals.{beginning, setting_of};
+ghost use Rattle.sdd_step.specs.Resting.{from_one, IsFirst, IsLinkOf, IsPossible, IsSiteOf, Takes};
+ghost use Rattle.sdd_world.specs.declared.world.World.{World};
+ghost use Rattle.sdd_world.specs.Following.{MaySend, Followed, IsPast};
+ghost use Rattle.sdd_world.specs.Standing.{ahead_of, Arrives, Before, Calm, EndsBy, HandedOn, Handing, Happened, IsSound, Keeping, Marked, Rising, Risen, Settles, Settling, Spooled, StandsFor};
+
+use crate::ends::WorldEnd;
+use crate::lawful::Lawful;
+use crate::putting::{record_all, send_all};
+use sdd_base::{DmNo, Event, Listed, NoMemory, Site, TmNo, TxnNo};
+use sdd_history::{History, Rec};
+use sdd_lang::Txn;
+use sdd_mail::Network;
+use sdd_net::{Delivered, Parcels};
+use sdd_sites::Homes;
+use sdd_spool::Spool;
+use sdd_wire::{Msg, Outcome};
+use std::alloc::Global;
+use std::collections::VecDeque;
+
+/// The modules of all sites, the network between them, the messages that are kept for modules
+/// that are down, and what was given and recorded.
+#[derive(Drop)]
+pub struct World<C, S, N> {
+    pub catalogue: C,
+    pub txns: Listed<Txn>,
+    pub given: Vec<Event>,
+    pub history: History,
+    pub marks: u32,
+    pub sites: S,
+    pub net: N,
+    pub spool: Spool<Msg>,
+}
+
+impl<C: Homes, S: Lawful, N: Network> World<C, S, N> {
+    /// Records and sends what a module gave.
+    fn follow(&mut self, at: Site, outcome: Outcome) -> Result<(), WorldEnd>
+        requires sends { MaySend N.stands self.old at outcome }
+        requires order { All (λ earlier. earlier.0 ≤ self.old.marks) self.old.history }
+        ensures ok { IfOk result (λ _. Followed N.stands self.old self.new at outcome) }
+        ensures limit { IsErrOf result WorldEnd.Limit → IsPast N.stands self.old at outcome }
+    {
+        let Outcome { out, recs } = outcome;
+        record_all(&mut self.history, self.marks, recs)?;
+        send_all(&mut self.net, at, out)
+    }
+
+    /// Hands a message to its site, of those that are to be handed to it the first.
+    fn hand(&mut self, from: Site, to: Site, msg: Msg) -> Result<(), WorldEnd>
+        requires { (g : Given) × (log : Log) × (kept : Site → List Msg) × (rest : List Msg)
+            × Handing C.catalogue S.stands N.stands S.good self.old g log to kept × IsFirst g kept from to msg rest }
+        ensures ok { IfOk result (λ _. (g : Given) (log : Log) (kept less : Site → List Msg)
+            (rest : List Msg) → Handing C.catalogue S.stands N.stands S.good self.old g log to kept
+            → IsFirst g kept from to msg rest → Takes kept less from rest
+            → HandedOn C.catalogue S.stands N.stands S.good self.new g to less (ahead_of g log) self.old.spool) }
+        ensures limit { IsErrOf result WorldEnd.Limit → (g : Given) (log : Log)
+            (kept : Site → List Msg) (rest : List Msg) → Handing C.catalogue S.stands N.stands S.good self.old g log to kept
+            → IsFirst g kept from to msg rest → EndsBy g }
+    {
+        let outcome = self.sites.take(to, from, msg)?;
+        self.follow(to, outcome)
+    }
+
+    /// Hands messages of one site to another, in order.
+    fn hand_all(&mut self, from: Site, to: Site, messages: Parcels<Msg>) -> Result<(), WorldEnd>
+        requires { (g : Given) × (log : Log) × IsLinkOf g from to
+            × Handing C.catalogue S.stands N.stands S.good self.old g log to (from_one from messages) }
+        ensures ok { IfOk result (λ _. (g : Given) (log : Log) → IsLinkOf g from to
+            → Handing C.catalogue S.stands N.stands S.good self.old g log to (from_one from messages)
+            → HandedOn C.catalogue S.stands N.stands S.good self.new g to (from_one from []) (ahead_of g log) self.old.spool) }
+        ensures limit { IsErrOf result WorldEnd.Limit → (g : Given) (log : Log) → IsLinkOf g from to
+            → Handing C.catalogue S.stands N.stands S.good self.old g log to (from_one from messages) → EndsBy g }
+    {
+        let mut queue = VecDeque::from_vec(messages.into_vec());
+        while let Some(msg) = queue.pop_front() {
+            self.hand(from, to, msg)?;
+        }
+        Ok(())
+    }
+
+    /// Records that the event found nothing to do.
+    fn note(&mut self) -> Result<(), NoMemory>
+        requires { All (λ earlier. earlier.0 ≤ self.old.marks) self.old.history }
+        ensures same { OnOk result (self.new ≡ record self.old { history = self.new.history }) }
+        ensures history { OnOk result (
+            self.new.history ≡ self.old.history ++ (self.old.marks, Rec.Nothing) ∷ []) }
+    {
+        self.history.push(self.marks, Rec::Nothing)
+    }
+
+    fn lose(&mut self, from: Site, to: Site, place: u32) -> Result<(), NoMemory>
+        requires { (g : Given) × (log : Log) × Marked C.catalogue S.stands N.stands S.good self.old g log (Lose from to place) }
+        ensures { OnOk result ((g : Given) (log : Log) → Marked C.catalogue S.stands N.stands S.good self.old g log (Lose from to place)
+            → Happened C.catalogue S.stands N.stands S.good self.new g log) }
+    {
+        if self.net.lose(from, to, place) {
+            return Ok(());
+        }
+        self.note()
+    }
+
+    fn repeat(&mut self, from: Site, to: Site, place: u32) -> Result<(), NoMemory>
+        requires { (g : Given) × (log : Log) × Marked C.catalogue S.stands N.stands S.good self.old g log (Repeat from to place) }
+        ensures { OnOk result ((g : Given) (log : Log) → Marked C.catalogue S.stands N.stands S.good self.old g log (Repeat from to place)
+            → Happened C.catalogue S.stands N.stands S.good self.new g log) }
+    {
+        if self.net.repeat(from, to, place)? {
+            return Ok(());
+        }
+        self.note()
+    }
+
+    fn resend(&mut self, from: Site, to: Site) -> Result<(), NoMemory>
+        requires { (g : Given) × (log : Log) × Marked C.catalogue S.stands N.stands S.good self.old g log (Resend from to) }
+        ensures { OnOk result ((g : Given) (log : Log) → Marked C.catalogue S.stands N.stands S.good self.old g log (Resend from to)
+            → Happened C.catalogue S.stands N.stands S.good self.new g log) }
+    {
+        if self.net.resend(from, to)? {
+            return Ok(());
+        }
+        self.note()
+    }
+
+    /// The data module at the site, where it is down.
+    fn down_module(&self, at: Site) -> Option<DmNo>
+        requires { (g : Given) × (log : Log) × IsSiteOf g at × Spooled g log self.now.spool U }
+        ensures { (g : Given) (log : Log) → IsSiteOf g at → Spooled g log self.now.spool U
+            → MatchOption result (takes_part at log ≡ true)
+            (λ dm. (at ≡ D dm) × (is_down dm.0 log ≡ true)) }
+    {
+        match at {
+            Site::D(dm) => {
+                if self.spool.is_down(dm) {
+                    return Some(dm);
+                }
+                None
+            }
+            _ => None,
+        }
+    }
+
+    /// Keeps messages of one site for a module that is down.
+    fn keep_all(&mut self, from: Site, dm: DmNo, messages: Parcels<Msg>) -> Result<(), NoMemory>
+        requires { (g : Given) × (log : Log) × Keeping g log self.old.spool from dm.0 messages }
+        ensures same { OnOk result (self.new ≡ record self.old { spool = self.new.spool }) }
+        ensures kept { OnOk result ((g : Given) (log : Log)
+            → Keeping g log self.old.spool from dm.0 messages
+            → Keeping g log self.new.spool from dm.0 []) }
+    {
+        let mut queue = VecDeque::from_vec(messages.into_vec());
+        while let Some(msg) = queue.pop_front() {
+            self.spool.put(dm, from, msg)?;
+        }
+        Ok(())
+    }
+
+    /// Messages come to a site: they are handed over, or kept.
+    fn receive(&mut self, from: Site, to: Site, messages: Parcels<Msg>) -> Result<(), WorldEnd>
+        requires { (g : Given) × (log : Log) × (w : World C S N) × (place : ℕ)
+            × Arrives C.catalogue S.stands N.stands S.good w self.old g log from to place messages }
+        ensures ok { IfOk result (λ _. (g : Given) (log : Log) (w : World C S N) (place : ℕ)
+            → Arrives C.catalogue S.stands N.stands S.good w self.old g log from to place messages
+            → Happened C.catalogue S.stands N.stands S.good self.new g log) }
+        ensures limit { IsErrOf result WorldEnd.Limit → (g : Given) (log : Log) (w : World C S N)
+            (place : ℕ) → Arrives C.catalogue S.stands N.stands S.good w self.old g log from to place messages → EndsBy g }
+    {
+        match self.down_module(to) {
+            Some(dm) => Ok(self.keep_all(from, dm, messages)?),
+            None => self.hand_all(from, to, messages),
+        }
+    }
+
+    fn deliver(&mut self, from: Site, to: Site, place: u32) -> Result<(), WorldEnd>
+        requires { (g : Given) × (log : Log) × Marked C.catalogue S.stands N.stands S.good self.old g log (Deliver from to place) }
+        ensures ok { IfOk result (λ _. (g : Given) (log : Log)
+            → Marked C.catalogue S.stands N.stands S.good self.old g log (Deliver from to place) → Happened C.catalogue S.stands N.stands S.good self.new g log) }
+        ensures limit { IsErrOf result WorldEnd.Limit → (g : Given) (log : Log)
+            → Marked C.catalogue S.stands N.stands S.good self.old g log (Deliver from to place) → EndsBy g }
+    {
+        match self.net.deliver(from, to, place)? {
+            Delivered::Nothing => Ok(self.note()?),
+            Delivered::Acked => Ok(()),
+            Delivered::Messages(messages) => self.receive(from, to, messages),
+        }
+    }
+
+    fn go_down(&mut self, dm: DmNo) -> Result<(), NoMemory>
+        requires { (g : Given) × (log : Log) × Marked C.catalogue S.stands N.stands S.good self.old g log (Down dm) }
+        ensures { OnOk result ((g : Given) (log : Log) → Marked C.catalogue S.stands N.stands S.good self.old g log (Down dm)
+            → Happened C.catalogue S.stands N.stands S.good self.new g log) }
+    {
+        if self.spool.down(dm) {
+            return Ok(());
+        }
+        self.note()
+    }
+
+    /// Hands over what is kept for a module that came up: one message, with all that it makes due,
+    /// after the other.
+    fn hand_kept(&mut self, dm: DmNo) -> Result<(), WorldEnd>
+        requires { (g : Given) × (log : Log) × Handing C.catalogue S.stands N.stands S.good self.old g log (D dm)
+            (kept_from (mailbox_at self.old.spool dm.0)) × Rising g self.old.spool dm.0 }
+        ensures ok { IfOk result (λ _. (g : Given) (log : Log) → Handing C.catalogue S.stands N.stands S.good self.old g log (D dm)
+            (kept_from (mailbox_at self.old.spool dm.0)) → Rising g self.old.spool dm.0
+            → Risen C.catalogue S.stands N.stands S.good self.new g log dm.0) }
+        ensures limit { IsErrOf result WorldEnd.Limit → (g : Given) (log : Log)
+            → Handing C.catalogue S.stands N.stands S.good self.old g log (D dm) (kept_from (mailbox_at self.old.spool dm.0))
+            → Rising g self.old.spool dm.0 → EndsBy g }
+    {
+        while let Some((from, msg)) = self.spool.take(dm) {
+            self.hand(from, Site::D(dm), msg)?;
+        }
+        Ok(())
+    }
+
+    fn come_up(&mut self, dm: DmNo) -> Result<(), WorldEnd>
+        requires { (g : Given) × (log : Log) × Marked C.catalogue S.stands N.stands S.good self.old g log (Up dm) }
+        ensures ok { IfOk result (λ _. (g : Given) (log : Log) → Marked C.catalogue S.stands N.stands S.good self.old g log (Up dm)
+            → Happened C.catalogue S.stands N.stands S.good self.new g log) }
+        ensures limit { IsErrOf result WorldEnd.Limit → (g : Given) (log : Log)
+            → Marked C.catalogue S.stands N.stands S.good self.old g log (Up dm) → EndsBy g }
+    {
+        if !self.spool.up(dm) {
+            return Ok(self.note()?);
+        }
+        self.hand_kept(dm)
+    }
+
+    fn submit(&mut self, number: TxnNo) -> Result<(), WorldEnd>
+        requires { (g : Given) × (log : Log) × Marked C.catalogue S.stands N.stands S.good self.old g log (Submit number) }
+        ensures ok { IfOk result (λ _. (g : Given) (log : Log)
+            → Marked C.catalogue S.stands N.stands S.good self.old g log (Submit number) → Happened C.catalogue S.stands N.stands S.good self.new g log) }
+        ensures limit { IsErrOf result WorldEnd.Limit → (g : Given) (log : Log)
+            → Marked C.catalogue S.stands N.stands S.good self.old g log (Submit number) → EndsBy g }
+    {
+        let txn = &self.txns.as_slice()[number.0 as usize - 1];
+        let at = self.catalogue.home(txn)?;
+        let outcome = self.sites.submit(at, number, txn)?;
+        self.follow(at, outcome)
+    }
+
+    fn tick(&mut self, tm: TmNo, n: u32)
+        requires { (g : Given) × (log : Log) × Marked C.catalogue S.stands N.stands S.good self.old g log (Tick tm n) }
+        ensures { (g : Given) (log : Log) → Marked C.catalogue S.stands N.stands S.good self.old g log (Tick tm n) → Happened C.catalogue S.stands N.stands S.good self.new g log }
+    {
+        self.sites.tick(tm, n);
+    }
+
+    /// Carries out one event, which is the next.
+    fn happen(&mut self, event: &Event) -> Result<(), WorldEnd>
+        requires { (g : Given) × (log : Log) × Before C.catalogue S.stands N.stands S.good self.old g log event.now }
+        ensures ok { IfOk result (λ _. (g : Given) (log : Log) → Before C.catalogue S.stands N.stands S.good self.old g log event.now
+            → Happened C.catalogue S.stands N.stands S.good self.new g log) }
+        ensures limit { IsErrOf result WorldEnd.Limit → (g : Given) (log : Log)
+            → Before C.catalogue S.stands N.stands S.good self.old g log event.now → EndsBy g }
+    {
+        if self.marks == u32::MAX {
+            return Err(WorldEnd::Limit);
+        }
+        self.marks += 1;
+        match event {
+            Event::Submit(number) => self.submit(*number),
+            Event::Deliver { from, to, place } => self.deliver(*from, *to, *place),
+            Event::Lose { from, to, place } => Ok(self.lose(*from, *to, *place)?),
+            Event::Repeat { from, to, place } => Ok(self.repeat(*from, *to, *place)?),
+            Event::Resend { from, to } => Ok(self.resend(*from, *to)?),
+            Event::Tick { tm, n } => {
+                self.tick(*tm, *n);
+                Ok(())
+            }
+            Event::Down(dm) => Ok(self.go_down(*dm)?),
+            Event::Up(dm) => self.come_up(*dm),
+            Event::Settle | Event::Redeclare => Ok(()),
+        }
+    }
+
+    /// Carries out a round.
+    fn round(&mut self) -> Result<(), WorldEnd>
+        requires { (g : Given) × (log : Log) × Settling C.catalogue S.stands N.stands S.good self.old g log
+            × (quiet (all_links g) (calls_of log) ≡ false) }
+        ensures ok { IfOk result (λ _. (g : Given) (log : Log) → Settling C.catalogue S.stands N.stands S.good self.old g log
+            → quiet (all_links g) (calls_of log) ≡ false → Settles C.catalogue S.stands N.stands S.good self.new g) }
+        ensures more { IfOk result (λ _. self.old.marks < self.new.marks) }
+        ensures limit { IsErrOf result WorldEnd.Limit → (g : Given) (log : Log)
+            → Settling C.catalogue S.stands N.stands S.good self.old g log → quiet (all_links g) (calls_of log) ≡ false → EndsBy g }
+    {
+        let mut events = VecDeque::from_vec(self.net.round()?);
+        while let Some(event) = events.pop_front() {
+            self.happen(&event)?;
+        }
+        Ok(())
+    }
+
+    /// Carries out rounds until the world is quiet.
+    fn settle_down(&mut self) -> Result<(), WorldEnd>
+        requires { (g : Given) × (log : Log) × Settling C.catalogue S.stands N.stands S.good self.old g log }
+        ensures ok { IfOk result (λ _. (g : Given) (log : Log) → Settling C.catalogue S.stands N.stands S.good self.old g log
+            → (more : Log) × StandsFor C.catalogue S.stands N.stands S.good self.new g more) }
+        ensures limit { IsErrOf result WorldEnd.Limit → (g : Given) (log : Log)
+            → Settling C.catalogue S.stands N.stands S.good self.old g log → EndsBy g }
+    {
+        while !self.quiet() {
+            self.round()?;
+        }
+        Ok(())
+    }
+
+    /// Carries out an event, which is added to those that were given. It is no `Settle` and no
+    /// `Redeclare`, and what it names exists.
+    ///
+    /// # Errors
+    ///
+    /// At the first number that is missing, of events or of a link's messages, and for want of
+    /// memory; the world is gone then.
+    pub fn step(mut self, event: &Event) -> Result<Self, WorldEnd>
+        requires { (g : Given) × (log : Log) × StandsFor C.catalogue S.stands N.stands S.good self g log × IsPossible g event.now
+            × S.good (with_event g event.now) }
+        ensures log { IfOk result (λ world. (g : Given) (log : Log) → StandsFor C.catalogue S.stands N.stands S.good self g log
+            → IsPossible g event.now → S.good (with_event g event.now)
+            → (more : Log) × StandsFor C.catalogue S.stands N.stands S.good world (with_event g event.now) more) }
+        ensures limit { IsErrOf result WorldEnd.Limit → (g : Given) (log : Log)
+            → StandsFor C.catalogue S.stands N.stands S.good self g log → IsPossible g event.now → S.good (with_event g event.now)
+            → EndsBy (with_event g event.now) }
+    {
+        self.given.push(*event)?;
+        self.happen(event)?;
+        Ok(self)
+    }
+
+    /// Carries out rounds until nothing is in flight and everything is acknowledged, and adds a
+    /// `Settle` to the events that were given.
+    ///
+    /// # Errors
+    ///
+    /// As of `step`.
+    pub fn settle(mut self) -> Result<Self, WorldEnd>
+        requires { (g : Given) × (log : Log) × StandsFor C.catalogue S.stands N.stands S.good self g log
+            × S.good (with_event g Settle) }
+        ensures log { IfOk result (λ world. (g : Given) (log : Log) → StandsFor C.catalogue S.stands N.stands S.good self g log
+            → S.good (with_event g Settle)
+            → (more : Log) × StandsFor C.catalogue S.stands N.stands S.good world (with_event g Settle) more) }
+        ensures limit { IsErrOf result WorldEnd.Limit → (g : Given) (log : Log)
+            → StandsFor C.catalogue S.stands N.stands S.good self g log → S.good (with_event g Settle)
+            → EndsBy (with_event g Settle) }
+    {
+        self.given.push(Event::Settle)?;
+        self.settle_down()?;
+        Ok(self)
+    }
+}
