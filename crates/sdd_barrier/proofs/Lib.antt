@@ -1,0 +1,4 @@
+pub mod Apart
+pub mod Dones
+pub mod HoldChain
+pub mod Undeclared

@@ -1,0 +1,5 @@
+pub mod Holding
+pub mod Releases
+pub mod Rose
+pub mod Serving
+pub mod Turns

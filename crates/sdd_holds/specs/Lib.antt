@@ -1,0 +1,4 @@
+pub mod AtT
+pub mod AtU
+pub mod Releases
+pub mod Turns

@@ -1,0 +1,225 @@
+-- Starts draw timestamps that rise and lie above all that was promised before.
+use Rattle.std.proofs.Common.{ℕ, ◌*◌, ◌++◌, ◌+◌, ◌<◌, ◌==◌, ◌∙◌, ◌∷◌, ◌≡◌, ◌≢◌, ◌≤◌, Bool, List, None, Option, Some, [], arith, false, if◌then◌else◌, refl, slice_get, subst, suc, sym, true, zero}
+use Rattle.sdd_base.specs.Clock.{Ticking}
+use Rattle.sdd_base.specs.Numbers.{time_at}
+use Rattle.sdd_base.specs.Sites.{number_of}
+use Rattle.sdd_base.specs.Words.{head_of}
+use Rattle.sdd_base.specs.declared.site.Site.{Site}
+use Rattle.sdd_history.specs.declared.record.Rec.TheVariants.{Start}
+use Rattle.sdd_wire.specs.declared.msg.Msg.{Msg}
+use Rattle.sdd_wire.specs.declared.msg.Msg.TheVariants.{Ask, Fetch, Held, Null, Reduce, Reject, Release, Ship}
+use Rattle.sdd_module.specs.SiteLog.{Act, Did, Each, Entry, Handed, Log, Records, Redeclared, Sends, Setting, Submits, Ticked, sends_of_act}
+use Rattle.sdd_attempt.specs.Attempts.{Attempt, active, asks_rows, started}
+use Rattle.sdd_attempt.specs.Clocks.{clock, pushed_by, ticked_by}
+use Rattle.sdd_attempt.specs.Queues.{Queued, queue}
+use Rattle.sdd_invariants.specs.Stamps.{AllOf, IsClocked, stamp_or}
+use Rattle.sdd_steps.proofs.Active.{handed_way, sent_way, step_way}
+use Rattle.sdd_steps.proofs.Bools.{if_way}
+use Rattle.sdd_steps.proofs.Lists.{le_join, le_up, lt_above}
+use Rattle.sdd_steps.specs.Orders.{AllLe}
+use Rattle.sdd_steps.specs.Steps.{IsFair, IsSend, IsStep, a_held, a_hold, a_null, a_release, bound, last_stamp, limit, limit_of, next_stamp, of_exchange, promise_of, promises, stamps, start_at, time_if_some}
+
+-- a clock keeps its number, and no entry lowers it
+
+pushed_number : (m : Msg) (k : Ticking) → (pushed_by m k).number ≡ k.number
+pushed_number (Ask class time) k = refl
+pushed_number (Reject ts class by write) k = refl
+pushed_number (Release ts) k = refl
+pushed_number (Held time) k = refl
+pushed_number _ k = refl
+
+pushed_rises : (m : Msg) (k : Ticking) → k.ticks ≤ (pushed_by m k).ticks
+pushed_rises (Ask class time) k = omega arith
+pushed_rises (Reject ts class by write) k = omega arith
+pushed_rises (Release ts) k = omega arith
+pushed_rises (Held time) k = omega arith
+pushed_rises _ k = omega arith
+
+ticked_number : (act : Act) (k : Ticking) → (ticked_by act k).number ≡ k.number
+ticked_number (Records c (Start txn attempt class ts p2 uses) sends) k = refl
+ticked_number _ k = refl
+
+ticked_rises : (act : Act) (k : Ticking) → k.ticks ≤ (ticked_by act k).ticks
+ticked_rises (Records c (Start txn attempt class ts p2 uses) sends) k = omega arith
+ticked_rises _ k = omega arith
+
+pub clock_number : (at : Site) (log : Log) → (clock at log).number ≡ number_of at
+clock_number at [] = refl
+clock_number at (Handed from m ∷ log) = pushed_number m (clock at log) ∙ clock_number at log
+clock_number at (Ticked n ∷ log) = clock_number at log
+clock_number at (Submits n txn ∷ log) = clock_number at log
+clock_number at (Redeclared force t ∷ log) = clock_number at log
+clock_number at (Did act ∷ log) = ticked_number act (clock at log) ∙ clock_number at log
+
+pub clock_rises : (at : Site) (e : Entry) (log : Log) → (clock at log).ticks ≤ (clock at (e ∷ log)).ticks
+clock_rises at (Handed from m) log = pushed_rises m (clock at log)
+clock_rises at (Ticked n) log = omega arith
+clock_rises at (Submits n txn) log = omega arith
+clock_rises at (Redeclared force t) log = omega arith
+clock_rises at (Did act) log = ticked_rises act (clock at log)
+
+pub clock_grows : (at : Site) (later log : Log) → (clock at log).ticks ≤ (clock at (later ++ log)).ticks
+clock_grows at [] log = omega arith
+clock_grows at (e ∷ later) log = let i = clock_grows at later log in let j = clock_rises at e (later ++ log) in omega arith
+
+pub bound_rises : (s : Setting) (e : Entry) (log : Log) → bound s log ≤ bound s (e ∷ log)
+bound_rises s e log = let r = clock_rises s.site e log in omega arith
+
+pub bound_grows : (s : Setting) (later log : Log) → bound s log ≤ bound s (later ++ log)
+bound_grows s later log = let r = clock_grows s.site later log in omega arith
+
+pub stamp_rises : (s : Setting) (e : Entry) (log : Log) → last_stamp s log ≤ last_stamp s (e ∷ log)
+stamp_rises s e log =
+    let r = clock_rises s.site e log in let n = clock_number s.site log in let m = clock_number s.site (e ∷ log) in omega arith
+
+pub stamp_below_bound : (s : Setting) (log : Log) → number_of s.site ≤ 63 → last_stamp s log ≤ bound s log
+stamp_below_bound s log w = let n = clock_number s.site log in omega arith
+
+pub bound_below_next : (s : Setting) (log : Log) → bound s log < next_stamp s log
+bound_below_next s log = omega arith
+
+pub stamp_below_next : (s : Setting) (log : Log) → last_stamp s log < next_stamp s log
+stamp_below_next s log = omega arith
+
+-- a Start draws what the clock then stands at
+pub next_is_last : (s : Setting) (c : ℕ) (log : Log) (q : Queued)
+    → last_stamp s (Did (start_at s c log q) ∷ log) ≡ next_stamp s log
+next_is_last s c log q = refl
+
+-- a clock that rises, and no new time
+clock_on : (s : Setting) (log : Log) (e : Entry) → stamps (e ∷ log) ≡ stamps log → promises (e ∷ log) ≡ promises log
+    → IsClocked s log → IsClocked s (e ∷ log)
+clock_on s log e p q h = record {
+  drawn_le = rw p (le_up (last_stamp s log) (last_stamp s (e ∷ log)) (stamps log) (stamp_rises s e log) h.drawn_le);
+  falls = rw p h.falls;
+  promised_le = rw q (le_up (bound s log) (bound s (e ∷ log)) (promises log) (bound_rises s e log) h.promised_le);
+}
+
+one_time : (b : Bool) (k t : ℕ) (xs : List ℕ) → t ≤ k → AllLe k xs
+    → AllLe k (time_if_some (if b then None else Some (time_at t)) ++ xs)
+one_time true k t xs l h = h
+one_time false k t xs l h = (l, h)
+
+clock_start : (s : Setting) (c : ℕ) (log : Log) (q : Queued) → IsClocked s log → IsClocked s (Did (start_at s c log q) ∷ log)
+clock_start s c log q h =
+    let up : bound s log ≤ bound s (Did (start_at s c log q) ∷ log) = bound_rises s (Did (start_at s c log q)) log in
+    record {
+      drawn_le = (omega arith, le_up (last_stamp s log) (next_stamp s log) (stamps log) (omega arith) h.drawn_le);
+      falls = (lt_above (last_stamp s log) (next_stamp s log) (stamps log) (omega arith) h.drawn_le, h.falls);
+      promised_le = one_time (c == 0) (bound s (Did (start_at s c log q) ∷ log)) (bound s log) (promises log) up (le_up (bound s log) (bound s (Did (start_at s c log q) ∷ log)) (promises log) up h.promised_le);
+    }
+
+-- what an exchange sends carries no promise
+ask_promises_not : (ts c : ℕ) (to : Site) (m : Msg) (hand : Option ℕ) → asks_rows ts c m ≡ true
+    → promise_of (Sends to m hand) ≡ []
+ask_promises_not ts c to (Null k t) hand e = cc
+ask_promises_not ts c to (Held t) hand e = cc
+ask_promises_not ts c to (Fetch a b t u) hand e = refl
+ask_promises_not ts c to (Reduce a b t u v) hand e = refl
+ask_promises_not ts c to (Ship a b) hand e = refl
+ask_promises_not ts c to _ hand e = cc
+
+-- the active attempts' timestamps were drawn from the clock
+abbrev pub IsDrawn : Setting → Log → Type 0
+IsDrawn s log = (c : ℕ) → stamp_or (active s c log) ≤ last_stamp s log
+
+stamp_started : (ts : ℕ) (sends : List (Site × Msg)) (o : Option Queued) → stamp_or (started ts sends o) ≤ ts
+stamp_started ts sends None = omega arith
+stamp_started ts sends (Some q) = omega arith
+
+drawn_sends : (s : Setting) (log : Log) (to : Site) (m : Msg) (hand : Option ℕ) → IsDrawn s log
+    → IsDrawn s (Did (Sends to m hand) ∷ log)
+drawn_sends s log to m hand h c = sent_way (λ o. stamp_or o ≤ last_stamp s log) c m (active s c log)
+    (λ a x e. subst (λ o. stamp_or o ≤ last_stamp s log) e (h c)) (h c)
+
+stamp_if : (b : Bool) (k : ℕ) (x y : Option Attempt) → stamp_or x ≤ k → stamp_or y ≤ k → stamp_or (if b then x else y) ≤ k
+stamp_if b k x y h i = if_way (λ o. stamp_or o ≤ k) b x y h i
+
+drawn_act : (s : Setting) (log : Log) (act : Act) → IsStep s log act → IsDrawn s log → IsDrawn s (Did act ∷ log)
+drawn_act s log act i h = step_way s log act (λ x. IsDrawn s (Did x ∷ log))
+    (λ k q at f e. λ c.
+    let old : stamp_or (active s c log) ≤ last_stamp s log = h c in
+    let new = stamp_started (next_stamp s log) (sends_of_act (start_at s k log q)) (head_of (queue s k log)) in
+    stamp_if (k == c) (next_stamp s log) _ (active s c log) (stamp_started (next_stamp s log) (sends_of_act (start_at s k log q)) (head_of (queue s c log))) (omega arith))
+    (λ k bases a at f. λ c. stamp_if (k == c) (last_stamp s log) None (active s c log) (omega arith) (h c))
+    (λ to m hand f. drawn_sends s log to m hand h) i
+
+pub drawn : (s : Setting) (log : Log) → Each (IsFair s) log → IsDrawn s log
+drawn s [] h c = omega arith
+drawn s (Handed from m ∷ log) h c =
+    let old : stamp_or (active s c log) ≤ last_stamp s log = drawn s log h.1 c in
+    let up = stamp_rises s (Handed from m) log in
+    handed_way (λ o. stamp_or o ≤ last_stamp s (Handed from m ∷ log)) c from m (active s c log) (omega arith)
+    (λ a x e. let p : stamp_or (Some a) ≤ last_stamp s log = subst (λ o. stamp_or o ≤ last_stamp s log) e old in omega arith) (omega arith)
+drawn s (Ticked n ∷ log) h c = let old = drawn s log h.1 c in omega arith
+drawn s (Submits n txn ∷ log) h c = drawn s log h.1 c
+drawn s (Redeclared force t ∷ log) h c =
+    let old = drawn s log h.1 c in let up = stamp_rises s (Redeclared force t) log in omega arith
+drawn s (Did act ∷ log) h c = drawn_act s log act h.0 (drawn s log h.1) c
+
+pub drawn_at : (s : Setting) (c : ℕ) (log : Log) (a : Attempt) → Each (IsFair s) log → active s c log ≡ Some a
+    → a.ts ≤ last_stamp s log
+drawn_at s c log a h e = subst (λ o. stamp_or o ≤ last_stamp s log) e (drawn s log h c)
+
+limit_le_of : (b k : ℕ) (o : Option Attempt) → stamp_or o ≤ k → k ≤ b → limit_of b o ≤ b
+limit_le_of b k None h l = omega arith
+limit_le_of b k (Some a) h l = omega arith
+
+pub limit_le : (s : Setting) (log : Log) (c : ℕ) → number_of s.site ≤ 63 → Each (IsFair s) log → limit s c log ≤ bound s log
+limit_le s log c w h = limit_le_of (bound s log) (last_stamp s log) (active s c log) (drawn s log h c) (stamp_below_bound s log w)
+
+promised : (s : Setting) (log : Log) (to : Site) (m : Msg) (hand : Option ℕ) → ((c : ℕ) → limit s c log ≤ bound s log)
+    → IsSend s log m → AllLe (bound s log) (promise_of (Sends to m hand))
+promised s log to m hand l (of_exchange c a at i e w) = rw (ask_promises_not a.ts c to m hand e) tt
+promised s log to m hand l (a_null c at e) = rw e (l c, tt)
+promised s log to m hand l (a_held e) = rw e (omega arith, tt)
+promised s log to m hand l (a_hold e) = rw e tt
+promised s log to m hand l (a_release ts e) = rw e tt
+
+clock_act : (s : Setting) (log : Log) (act : Act) → ((c : ℕ) → limit s c log ≤ bound s log) → IsStep s log act → IsClocked s log
+    → IsClocked s (Did act ∷ log)
+clock_act s log act l i h = step_way s log act (λ x. IsClocked s (Did x ∷ log))
+    (λ c q at f e. clock_start s c log q h)
+    (λ c bases a at f. record { drawn_le = h.drawn_le; falls = h.falls; promised_le = h.promised_le })
+    (λ to m hand f. record { drawn_le = h.drawn_le; falls = h.falls; promised_le = le_join (bound s log) (promise_of (Sends to m hand)) (promises log) (promised s log to m hand l f) h.promised_le }) i
+
+pub clocked : (s : Setting) (log : Log) → number_of s.site ≤ 63 → Each (IsFair s) log → IsClocked s log
+clocked s [] w h = record { drawn_le = tt; falls = tt; promised_le = tt }
+clocked s (Handed from m ∷ log) w h = clock_on s log (Handed from m) refl refl (clocked s log w h.1)
+clocked s (Ticked n ∷ log) w h = clock_on s log (Ticked n) refl refl (clocked s log w h.1)
+clocked s (Submits n txn ∷ log) w h = clock_on s log (Submits n txn) refl refl (clocked s log w h.1)
+clocked s (Redeclared force t ∷ log) w h = clock_on s log (Redeclared force t) refl refl (clocked s log w h.1)
+clocked s (Did act ∷ log) w h = clock_act s log act (λ c. limit_le s log c w h.1) h.0 (clocked s log w h.1)
+
+stamp_is : (s : Setting) (log : Log) → next_stamp s log ≡ suc (clock s.site log).ticks * 64 + number_of s.site
+stamp_is s log = let n = clock_number s.site log in omega arith
+
+of_act : (s : Setting) (log : Log) (act : Act) → IsStep s log act → AllOf (number_of s.site) (stamps log)
+    → AllOf (number_of s.site) (stamps (Did act ∷ log))
+of_act s log act i h =
+    step_way s log act (λ x. AllOf (number_of s.site) (stamps (Did x ∷ log))) (λ c q at f e. (((clock s.site log).ticks, stamp_is s log), h)) (λ c bases a at f. h) (λ to m hand f. h) i
+
+pub of_site : (s : Setting) (log : Log) → Each (IsFair s) log → AllOf (number_of s.site) (stamps log)
+of_site s [] h = tt
+of_site s (Handed from m ∷ log) h = of_site s log h.1
+of_site s (Ticked n ∷ log) h = of_site s log h.1
+of_site s (Submits n txn ∷ log) h = of_site s log h.1
+of_site s (Redeclared force t ∷ log) h = of_site s log h.1
+of_site s (Did act ∷ log) h = of_act s log act h.0 (of_site s log h.1)
+
+other_stamp : (j k m n : ℕ) → m ≤ 63 → n ≤ 63 → m ≢ n → suc j * 64 + m ≢ suc k * 64 + n
+other_stamp j k m n a b d e = d (omega arith)
+
+pub stamp_at : (n : ℕ) (xs : List ℕ) (k x : ℕ) → AllOf n xs → slice_get xs k ≡ Some x → (j : ℕ) × (x ≡ suc j * 64 + n)
+stamp_at n [] k x h e = cc
+stamp_at n (y ∷ xs) zero x h e = let p : y ≡ x = cc in (h.0.0, sym p ∙ h.0.1)
+stamp_at n (y ∷ xs) (suc k) x h e = stamp_at n xs k x h.1 e
+
+-- two sites with different numbers drew no timestamp both
+pub stamps_differ : (s r : Setting) (log more : Log) (i j x y : ℕ) → number_of s.site ≤ 63 → number_of r.site ≤ 63
+    → number_of s.site ≢ number_of r.site → Each (IsFair s) log → Each (IsFair r) more
+    → slice_get (stamps log) i ≡ Some x → slice_get (stamps more) j ≡ Some y → x ≢ y
+stamps_differ s r log more i j x y a b d h k e f q =
+    let m = stamp_at (number_of s.site) (stamps log) i x (of_site s log h) e in
+    let n = stamp_at (number_of r.site) (stamps more) j y (of_site r more k) f in
+    other_stamp m.0 n.0 (number_of s.site) (number_of r.site) a b d (sym m.1 ∙ q ∙ n.1)

@@ -1,0 +1,68 @@
+-- What goes through a class's pipes is put by the site that runs the class.
+use Rattle.std.proofs.Common.{ℕ, ◌++◌, ◌∙◌, ◌∷◌, ◌≡◌, Bool, List, None, Option, Some, [], ap, false, if◌then◌else◌, subst, sym, true}
+use Rattle.sdd_base.specs.Sites.{same_site}
+use Rattle.sdd_base.specs.declared.site.Site.{Site}
+use Rattle.sdd_catalog.specs.Catalogue.{Catalogue}
+use Rattle.sdd_wire.specs.Piped.{piped}
+use Rattle.sdd_wire.specs.declared.msg.Msg.{Msg}
+use Rattle.sdd_wire.specs.declared.msg.Msg.TheVariants.{Fetch, Reduce, Ship}
+use Rattle.sdd_module.specs.SiteLog.{Act, Did, Each, Handed, Log, Redeclared, Setting, Submits, Ticked, sends_of_act}
+use Rattle.sdd_attempt.specs.Acts.{commit_act}
+use Rattle.sdd_attempt.specs.Attempts.{asks_rows}
+use Rattle.sdd_invariants.proofs.Times.{piped_commit, piped_start}
+use Rattle.sdd_invariants.specs.OnLinks.{AllHomed, AllPiped, IsHomed}
+use Rattle.sdd_steps.proofs.Active.{step_way}
+use Rattle.sdd_steps.specs.Steps.{IsFair, IsSend, IsStep, a_held, a_hold, a_null, a_release, home, next_stamp, of_exchange, start_at}
+use Rattle.sdd_steps.specs.Traffic.{puts_to, to_site}
+
+pub homed_join : (cat : Catalogue) (at : Site) (xs ys : List Msg) → AllHomed cat at xs → AllHomed cat at ys
+    → AllHomed cat at (xs ++ ys)
+homed_join cat at [] ys h k = k
+homed_join cat at (x ∷ xs) ys h k = (h.0, homed_join cat at xs ys h.1 k)
+
+homed_if : (cat : Catalogue) (at : Site) (b : Bool) (m : Msg) (ms : List Msg) → IsHomed cat at m → AllHomed cat at ms
+    → AllHomed cat at (if b then m ∷ ms else ms)
+homed_if cat at true m ms h k = (h, k)
+homed_if cat at false m ms h k = k
+
+class_of : Option (ℕ × ℕ) → ℕ
+class_of None = 0
+class_of (Some p) = p.0
+
+homed_piped : (cat : Catalogue) (at : Site) (k t : ℕ) (b : Site) (ps : List (Site × Msg)) → home cat k ≡ at → AllPiped k t ps
+    → AllHomed cat at (to_site b ps)
+unfolding class_of
+homed_piped cat at k t b [] e h = tt
+homed_piped cat at k t b (p ∷ ps) e h = homed_if cat at (same_site b p.0) p.1 (to_site b ps)
+    (λ c u f. let q : k ≡ c = ap class_of (sym h.0 ∙ f) in subst (λ j. home cat j ≡ at) q e) (homed_piped cat at k t b ps e h.1)
+
+asks_homed : (cat : Catalogue) (at : Site) (ts k : ℕ) (m : Msg) → asks_rows ts k m ≡ true → IsHomed cat at m
+asks_homed cat at ts k (Fetch a b t u) e c x f = cc
+asks_homed cat at ts k (Reduce a b t u v) e c x f = cc
+asks_homed cat at ts k (Ship a b) e c x f = cc
+asks_homed cat at ts k _ e c x f = cc
+
+send_homed : (s : Setting) (log : Log) (m : Msg) → IsSend s log m → IsHomed s.catalogue s.site m
+unfolding class_of
+send_homed s log m (of_exchange k a at i e w) = asks_homed s.catalogue s.site a.ts k m e
+send_homed s log m (a_null k at e) =
+    λ c t f. let q : k ≡ c = ap class_of (ap piped (sym e) ∙ f) in subst (λ j. home s.catalogue j ≡ s.site) q at
+send_homed s log m (a_held e) = λ c t f. (let q : ◌≡◌ {A = Option (ℕ × ℕ)} None (Some (c, t)) = ap piped (sym e) ∙ f in cc)
+send_homed s log m (a_hold e) = λ c t f. (let q : ◌≡◌ {A = Option (ℕ × ℕ)} None (Some (c, t)) = ap piped (sym e) ∙ f in cc)
+send_homed s log m (a_release ts e) = λ c t f. (let q : ◌≡◌ {A = Option (ℕ × ℕ)} None (Some (c, t)) = ap piped (sym e) ∙ f in cc)
+
+pub act_homed : (s : Setting) (b : Site) (log : Log) (act : Act) → IsStep s log act
+    → AllHomed s.catalogue s.site (to_site b (sends_of_act act))
+act_homed s b log act i = step_way s log act (λ x. AllHomed s.catalogue s.site (to_site b (sends_of_act x)))
+    (λ c q at f e. homed_piped s.catalogue s.site c (next_stamp s log) b (sends_of_act (start_at s c log q)) at (piped_start s c log q))
+    (λ c bases a at f. homed_piped s.catalogue s.site c a.ts b (sends_of_act (commit_act s.catalogue bases c a)) at (piped_commit s c bases a))
+    (λ to m hand f. homed_if s.catalogue s.site (same_site b to) m [] (send_homed s log m f) tt) i
+
+pub homed : (s : Setting) (b : Site) (log : Log) → Each (IsFair s) log → AllHomed s.catalogue s.site (puts_to b log)
+homed s b [] h = tt
+homed s b (Handed from m ∷ log) h = homed s b log h.1
+homed s b (Ticked n ∷ log) h = homed s b log h.1
+homed s b (Redeclared force t ∷ log) h = homed s b log h.1
+homed s b (Submits n txn ∷ log) h = homed s b log h.1
+homed s b (Did act ∷ log) h =
+    homed_join s.catalogue s.site (puts_to b log) (to_site b (sends_of_act act)) (homed s b log h.1) (act_homed s b log act h.0)

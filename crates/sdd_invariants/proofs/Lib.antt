@@ -1,0 +1,10 @@
+pub mod Clocks
+pub mod Homes
+pub mod Origins
+pub mod Places
+pub mod Queues
+pub mod ReadsPut
+pub mod Recorded
+pub mod Retried
+pub mod Times
+pub mod WritesPut

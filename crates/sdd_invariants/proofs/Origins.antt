@@ -1,0 +1,61 @@
+-- A message on a link was put by one act of the site's log, and what an act puts is on the link.
+use Rattle.std.proofs.Common.{ℕ, ◌++◌, ◌<◌, ◌∷◌, ◌≡◌, ◌≤◌, List, Some, [], ap, arith, false, inl, inr, length, refl, slice_get}
+use Rattle.sdd_base.specs.Numbers.{class_no, dm_no, time_at, txn_no}
+use Rattle.sdd_base.specs.Words.{is_empty}
+use Rattle.sdd_base.specs.declared.change.Change.{Change}
+use Rattle.sdd_base.specs.declared.site.Site.{Site}
+use Rattle.sdd_base.specs.declared.site.Site.TheVariants.{D}
+use Rattle.sdd_lang.specs.Effect.{effect}
+use Rattle.sdd_wire.specs.declared.msg.Msg.{Msg}
+use Rattle.sdd_wire.specs.declared.msg.Msg.TheVariants.{Write}
+use Rattle.sdd_module.specs.SiteLog.{Act, Bases, Did, Entry, Handed, Log, Redeclared, Setting, Submits, Ticked, sends_of_act}
+use Rattle.sdd_attempt.specs.Acts.{commit_act, write_to}
+use Rattle.sdd_attempt.specs.Attempts.{Attempt}
+use Rattle.sdd_invariants.specs.Puts.{IsPut}
+use Rattle.sdd_steps.proofs.Lists.{in_either, in_left, in_right}
+use Rattle.sdd_steps.proofs.Sites.{some_to}
+use Rattle.sdd_steps.specs.Steps.{changes_at}
+use Rattle.sdd_steps.specs.Traffic.{puts_to, to_site}
+
+more_put : (b : Site) (e : Entry) (log : Log) (m : Msg) → IsPut b log m → IsPut b (e ∷ log) m
+more_put b e log m h =
+    record { later = e ∷ h.later; act = h.act; before = h.before; is = ap (λ l. e ∷ l) h.is; place = h.place; there = h.there }
+
+pub was_put : (b : Site) (log : Log) (k : ℕ) (m : Msg) → slice_get (puts_to b log) k ≡ Some m → IsPut b log m
+was_put b [] k m e = cc
+was_put b (Handed from x ∷ log) k m e = more_put b (Handed from x) log m (was_put b log k m e)
+was_put b (Ticked n ∷ log) k m e = more_put b (Ticked n) log m (was_put b log k m e)
+was_put b (Redeclared force t ∷ log) k m e = more_put b (Redeclared force t) log m (was_put b log k m e)
+was_put b (Submits n txn ∷ log) k m e = more_put b (Submits n txn) log m (was_put b log k m e)
+was_put b (Did act ∷ log) k m e = elim (in_either (puts_to b log) (to_site b (sends_of_act act)) k m e) [
+  | inl p ↦ more_put b (Did act) log m (was_put b log k m p)
+  | inr p ↦ record { later = []; act = act; before = log; is = refl; place = p.0; there = p.1 }
+]
+
+still_put : (b : Site) (e : Entry) (log : Log) (k : ℕ) (m : Msg) → slice_get (puts_to b log) k ≡ Some m
+    → slice_get (puts_to b (e ∷ log)) k ≡ Some m
+still_put b (Handed from x) log k m h = h
+still_put b (Ticked n) log k m h = h
+still_put b (Submits n txn) log k m h = h
+still_put b (Redeclared force t) log k m h = h
+still_put b (Did act) log k m h = in_left (puts_to b log) (to_site b (sends_of_act act)) k m h
+
+pub is_put : (b : Site) (later : Log) (act : Act) (before : Log) (k : ℕ) (m : Msg)
+    → slice_get (to_site b (sends_of_act act)) k ≡ Some m
+    → (j : ℕ) × (slice_get (puts_to b (later ++ Did act ∷ before)) j ≡ Some m)
+is_put b [] act before k m e = in_right (puts_to b before) (to_site b (sends_of_act act)) k m e
+is_put b (x ∷ later) act before k m e =
+    let i = is_put b later act before k m e in (i.0, still_put b x (later ++ Did act ∷ before) i.0 m i.1)
+
+-- a Commit's WRITE to a module with a copy
+
+pub not_empty : (xs : List Change) → 0 < length xs → is_empty xs ≡ false
+not_empty [] l = absurd (omega arith)
+not_empty (x ∷ xs) l = refl
+
+pub commit_writes : (s : Setting) (c : ℕ) (bases : Bases) (a : Attempt) (d : ℕ) → 1 ≤ d → d ≤ s.catalogue.dms
+    → 0 < length (changes_at s.catalogue d (effect s.catalogue (bases a.ts) a.text).changes)
+    → (k : ℕ) × (slice_get (to_site (D (dm_no d)) (sends_of_act (commit_act s.catalogue bases c a))) k ≡ Some (Write (time_at a.ts) (class_no c) (txn_no a.txn) (changes_at s.catalogue d (effect s.catalogue (bases a.ts) a.text).changes)))
+commit_writes s c bases a d l h n =
+    some_to (write_to s.catalogue c a (effect s.catalogue (bases a.ts) a.text).changes) 1 s.catalogue.dms d _ l (omega arith)
+    (rw (not_empty (changes_at s.catalogue d (effect s.catalogue (bases a.ts) a.text).changes) n) refl)

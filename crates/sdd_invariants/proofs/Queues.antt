@@ -1,0 +1,226 @@
+-- The queue of a class is what was submitted to it and isn't committed, each with the number of its Starts; the active
+-- attempt is that of its head.
+use Rattle.std.specs.Prelude.{filter_map}
+use Rattle.std.proofs.Common.{ℕ, ◌++◌, ◌<◌, ◌==◌, ◌||◌, ◌∙◌, ◌∷◌, ◌≡◌, ◌⊎◌, Bool, List, None, Option, Some, [], ap, arith, cond, false, filter, if◌then◌else◌, inl, inr, map, not, refl, subst, suc, sym, true}
+use Rattle.std.proofs.lemmas.List.Elements.{filter_map-append}
+use Rattle.sdd_base.specs.Words.{contains, head_of}
+use Rattle.sdd_base.specs.declared.site.Site.{Site}
+use Rattle.sdd_lang.specs.declared.transaction.Txn.{Txn}
+use Rattle.sdd_wire.specs.declared.msg.Msg.{Msg}
+use Rattle.sdd_module.specs.SiteLog.{Act, Bases, Did, Each, Entry, Handed, Log, Redeclared, Sends, Setting, Submits, Ticked, in_force, sends_of_act, submits}
+use Rattle.sdd_attempt.specs.Acts.{commit_act}
+use Rattle.sdd_attempt.specs.Attempts.{Attempt, active, started}
+use Rattle.sdd_attempt.specs.Exchange.{Exchange}
+use Rattle.sdd_attempt.specs.Queues.{Queued, is_for, queue, tried}
+use Rattle.sdd_invariants.specs.InQueues.{AllKnown, IsQueue}
+use Rattle.sdd_steps.proofs.Active.{handed_way, sent_way, step_way}
+use Rattle.sdd_steps.proofs.Bools.{if_way, neither_right, or_right, same_number, same_or_not}
+use Rattle.sdd_steps.specs.Steps.{IsFair, IsNew, IsServed, IsStep, is_committed, next_stamp, queued, start_at, starts_of, submits_of}
+
+-- lists
+known_more : (log more : Log) (xs : List (ℕ × Txn))
+    → ((n : ℕ) → contains (submits log) n ≡ true → contains (submits more) n ≡ true) → AllKnown log xs → AllKnown more xs
+known_more log more [] f h = tt
+known_more log more (x ∷ xs) f h = (f x.0 h.0, known_more log more xs f h.1)
+
+known_push : (log : Log) (xs : List (ℕ × Txn)) (x : ℕ × Txn) → AllKnown log xs → contains (submits log) x.0 ≡ true
+    → AllKnown log (xs ++ x ∷ [])
+known_push log [] x h e = (e, tt)
+known_push log (y ∷ xs) x h e = (h.0, known_push log xs x h.1 e)
+
+map_each : (f g : ℕ × Txn → Option Queued) (h : Queued → Queued) (xs : List (ℕ × Txn))
+    → ((x : ℕ × Txn) → (f x ≡ None) × (g x ≡ None) ⊎ ((q : Queued) × (f x ≡ Some q) × (g x ≡ Some (h q))))
+    → filter_map g xs ≡ map h (filter_map f xs)
+map_each f g h [] k = refl
+map_each f g h (x ∷ xs) k = elim (k x) [
+  | inl p ↦ rw (p.0, p.1) (map_each f g h xs k)
+  | inr p ↦ rw (p.1, p.2) (ap (λ l. h p.0 ∷ l) (map_each f g h xs k))
+]
+
+filter_each : (f g : ℕ × Txn → Option Queued) (t : Queued → Bool) (xs : List (ℕ × Txn))
+    → ((x : ℕ × Txn) → (f x ≡ None) × (g x ≡ None) ⊎ ((q : Queued) × (f x ≡ Some q) × (((t q ≡ true) × (g x ≡ Some q)) ⊎ ((t q ≡ false) × (g x ≡ None)))))
+    → filter_map g xs ≡ filter t (filter_map f xs)
+filter_each f g t [] k = refl
+filter_each f g t (x ∷ xs) k = elim (k x) [
+  | inl p ↦ rw (p.0, p.1) (filter_each f g t xs k)
+  | inr p ↦ elim p.2 [
+    | inl r ↦ rw (p.1, r.0, r.1) (ap (λ l. p.0 ∷ l) (filter_each f g t xs k))
+    | inr r ↦ rw (p.1, r.0, r.1) (filter_each f g t xs k)
+  ]
+]
+
+head_known : (c : ℕ) (log : Log) (xs : List (ℕ × Txn)) (q : Queued) → AllKnown log xs
+    → head_of (filter_map (queued c log) xs) ≡ Some q → contains (submits log) q.number ≡ true
+head_known c log [] q h e = cc
+head_known c log (x ∷ xs) q h e =
+    elim (is_committed c x.0 log) as (λ b. is_committed c x.0 log ≡ b → contains (submits log) q.number ≡ true) [
+      | true ↦ λ p. head_known c log xs q h.1 (rw p at e)
+      | false ↦ λ p.
+          let r : Some (record { number = x.0; text = x.1; tries = starts_of c x.0 log }) ≡ Some q = rw p at e in
+          let n : x.0 ≡ q.number = ap (λ o. elim o as (λ _. ℕ) [ None ↦ 0 | Some y ↦ y.number ]) r in
+          rw (sym n) h.0
+    ] refl
+
+-- a Start of the class
+abbrev stands : ℕ → Txn → ℕ → Queued
+stands n txn t = record { number = n; text = txn; tries = t }
+
+tried_stands : (m n t : ℕ) (txn : Txn) → stands m txn (if m == n then suc t else t) ≡ tried n (stands m txn t)
+tried_stands m n t txn =
+    elim (m == n) as (λ b. stands m txn (if b then suc t else t) ≡ cond b (stands m txn (suc t)) (stands m txn t)) [ true ↦ refl | false ↦ refl ]
+
+start_each : (c : ℕ) (log : Log) (act : Act) (n : ℕ) (x : ℕ × Txn)
+    → ((m : ℕ) → starts_of c m (Did act ∷ log) ≡ (if m == n then suc (starts_of c m log) else starts_of c m log))
+    → ((m : ℕ) → is_committed c m (Did act ∷ log) ≡ is_committed c m log)
+    → (queued c log x ≡ None) × (queued c (Did act ∷ log) x ≡ None) ⊎ ((q : Queued) × (queued c log x ≡ Some q) × (queued c (Did act ∷ log) x ≡ Some (tried n q)))
+start_each c log act n x f g = elim (is_committed c x.0 log) as (λ b. is_committed c x.0 log ≡ b → (queued c log x ≡ None) × (queued c (Did act ∷ log) x ≡ None) ⊎ ((q : Queued) × (queued c log x ≡ Some q) × (queued c (Did act ∷ log) x ≡ Some (tried n q)))) [
+  | true ↦ λ p. inl (rw p refl, rw (g x.0, p) refl)
+  | false ↦ λ p. inr (record { number = x.0; text = x.1; tries = starts_of c x.0 log }, rw p refl, rw (g x.0, p, f x.0) (ap (λ y. Some y) (tried_stands x.0 n (starts_of c x.0 log) x.1)))
+] refl
+
+serve_start : (ts : ℕ) (sends : List (Site × Msg)) (qs : List Queued) (q : Queued) → head_of qs ≡ Some q
+    → IsServed (started ts sends (head_of qs)) (map (tried q.number) qs)
+serve_start ts sends [] q e = cc
+serve_start ts sends (x ∷ qs) q e =
+    let p : x ≡ q = cc in
+    let n : (x.number == q.number) ≡ true = ap (λ (y : Queued). x.number == y.number) (sym p) ∙ same_number x.number in
+    rw n (refl, refl, refl, omega arith)
+
+served_push : (o : Option Attempt) (qs : List Queued) (q : Queued) → IsServed o qs → IsServed o (qs ++ q ∷ [])
+served_push None qs q h = tt
+served_push (Some a) [] q h = absurd h
+served_push (Some a) (x ∷ qs) q h = h
+
+pub served_head : (a : Attempt) (qs : List Queued) → IsServed (Some a) qs
+    → (q : Queued) × (head_of qs ≡ Some q) × (q.number ≡ a.txn) × (q.text ≡ a.text) × (q.tries ≡ a.attempt) × (0 < a.attempt)
+served_head a [] h = absurd h
+served_head a (q ∷ qs) h = (q, refl, h.0, h.1, h.2, h.3)
+
+other_number : (n m : ℕ) (log : Log) → contains (submits log) n ≡ false → contains (submits log) m ≡ true → (n == m) ≡ false
+other_number n m log e f = elim (same_or_not n m) [
+  | inl p ↦ (let g : contains (submits log) m ≡ false = subst (λ k. contains (submits log) k ≡ false) p e in cc)
+  | inr p ↦ p
+]
+
+queue_start : (s : Setting) (c : ℕ) (log : Log) (q : Queued) → head_of (queue s c log) ≡ Some q → IsQueue s c log
+    → IsQueue s c (Did (start_at s c log q) ∷ log)
+queue_start s c log q e h =
+    let act : Act = start_at s c log q in
+    let starts : (m : ℕ) → starts_of c m (Did act ∷ log) ≡ (if m == q.number then suc (starts_of c m log) else starts_of c m log) = λ m. rw (same_number c) refl in
+    let there : contains (submits log) q.number ≡ true = head_known c log (submits_of s c log) q h.known (ap head_of (sym h.is) ∙ e) in
+    record {
+      is = rw (same_number c) (ap (map (tried q.number)) h.is ∙ sym (map_each (queued c log) (queued c (Did act ∷ log)) (tried q.number) (submits_of s c log) (λ x. start_each c log act q.number x starts (λ m. refl))));
+      known = known_more log (Did act ∷ log) (submits_of s c log) (λ n p. p) h.known;
+      fresh = λ n p. (starts n ∙ ap (λ b. if b then suc (starts_of c n log) else starts_of c n log) (other_number n q.number log p there) ∙ (h.fresh n p).0, (h.fresh n p).1);
+      served = rw (same_number c) (serve_start (next_stamp s log) (sends_of_act act) (queue s c log) q e);
+    }
+
+commit_each : (c : ℕ) (log : Log) (act : Act) (n : ℕ) (x : ℕ × Txn)
+    → ((m : ℕ) → starts_of c m (Did act ∷ log) ≡ starts_of c m log)
+    → ((m : ℕ) → is_committed c m (Did act ∷ log) ≡ ((m == n) || is_committed c m log))
+    → (queued c log x ≡ None) × (queued c (Did act ∷ log) x ≡ None) ⊎ ((q : Queued) × (queued c log x ≡ Some q) × (((not (q.number == n) ≡ true) × (queued c (Did act ∷ log) x ≡ Some q)) ⊎ ((not (q.number == n) ≡ false) × (queued c (Did act ∷ log) x ≡ None))))
+commit_each c log act n x f g =
+    elim (is_committed c x.0 log) as (λ b. is_committed c x.0 log ≡ b → (queued c log x ≡ None) × (queued c (Did act ∷ log) x ≡ None) ⊎ ((q : Queued) × (queued c log x ≡ Some q) × (((not (q.number == n) ≡ true) × (queued c (Did act ∷ log) x ≡ Some q)) ⊎ ((not (q.number == n) ≡ false) × (queued c (Did act ∷ log) x ≡ None))))) [
+      | true ↦ λ p. inl (rw p refl, rw (g x.0, p) (elim (x.0 == n) as (λ b. (if b || true then None else Some (stands x.0 x.1 (starts_of c x.0 (Did act ∷ log)))) ≡ None) [ true ↦ refl | false ↦ refl ]))
+      | false ↦ λ p. inr (
+        stands x.0 x.1 (starts_of c x.0 log),
+        rw p refl,
+        elim (x.0 == n) as (λ b. (x.0 == n) ≡ b → ((not b ≡ true) × (queued c (Did act ∷ log) x ≡ Some (stands x.0 x.1 (starts_of c x.0 log)))) ⊎ ((not b ≡ false) × (queued c (Did act ∷ log) x ≡ None))) [
+          | true ↦ λ r. inr (refl, rw (g x.0, r) refl)
+          | false ↦ λ r. inl (refl, rw (g x.0, r, p, f x.0) refl)
+        ] refl,
+      )
+    ] refl
+
+same_map : (f g : ℕ × Txn → Option Queued) (xs : List (ℕ × Txn)) → ((x : ℕ × Txn) → f x ≡ g x) → filter_map f xs ≡ filter_map g xs
+same_map f g [] k = refl
+same_map f g (x ∷ xs) k = rw (k x, same_map f g xs k) refl
+
+same_queued : (c : ℕ) (log : Log) (e : Entry) (x : ℕ × Txn) → ((n : ℕ) → starts_of c n (e ∷ log) ≡ starts_of c n log)
+    → ((n : ℕ) → is_committed c n (e ∷ log) ≡ is_committed c n log) → queued c log x ≡ queued c (e ∷ log) x
+same_queued c log e x f g = rw (g x.0, f x.0) refl
+
+exchanged : (a : Attempt) (x : Exchange) (qs : List Queued) → IsServed (Some a) qs
+    → IsServed (Some (record a { exchange = x })) qs
+exchanged a x [] h = absurd h
+exchanged a x (q ∷ qs) h = h
+
+queue_submit : (s : Setting) (c : ℕ) (log : Log) (k : ℕ) (txn : Txn) → contains (submits log) k ≡ false → IsQueue s c log
+    → IsQueue s c (Submits k txn ∷ log)
+queue_submit s c log k txn new h =
+    let more : AllKnown (Submits k txn ∷ log) (submits_of s c log) = known_more log (Submits k txn ∷ log) (submits_of s c log) (λ n p. or_right (k == n) (contains (submits log) n) p) h.known in
+    let self : contains (submits (Submits k txn ∷ log)) k ≡ true = rw (same_number k) refl in
+    let stood : queued c log (k, txn) ≡ Some (stands k txn 0) = rw ((h.fresh k new).1, (h.fresh k new).0) refl in
+    record {
+      is = elim (is_for c (in_force s log).catalogue txn) as (λ b. (if b then queue s c log ++ stands k txn 0 ∷ [] else queue s c log) ≡ filter_map (queued c log) (if b then submits_of s c log ++ (k, txn) ∷ [] else submits_of s c log)) [
+        | true ↦ ap (λ l. l ++ stands k txn 0 ∷ []) h.is ∙ sym (filter_map-append (queued c log) (submits_of s c log) ((k, txn) ∷ []) ∙ rw stood refl)
+        | false ↦ h.is
+      ];
+      known = if_way (AllKnown (Submits k txn ∷ log)) (is_for c (in_force s log).catalogue txn) (submits_of s c log ++ (k, txn) ∷ []) (submits_of s c log) (known_push (Submits k txn ∷ log) (submits_of s c log) (k, txn) more self) more;
+      fresh = λ n p. h.fresh n (neither_right (k == n) (contains (submits log) n) p);
+      served = if_way (IsServed (active s c log)) (is_for c (in_force s log).catalogue txn) (queue s c log ++ stands k txn 0 ∷ []) (queue s c log) (served_push (active s c log) (queue s c log) (stands k txn 0) h.served) h.served;
+    }
+
+queue_commit : (s : Setting) (c : ℕ) (bases : Bases) (log : Log) (a : Attempt) → active s c log ≡ Some a → IsQueue s c log
+    → IsQueue s c (Did (commit_act s.catalogue bases c a) ∷ log)
+queue_commit s c bases log a e h =
+    let act : Act = commit_act s.catalogue bases c a in
+    let commits : (m : ℕ) → is_committed c m (Did act ∷ log) ≡ ((m == a.txn) || is_committed c m log) = λ m. rw (same_number c) refl in
+    let head = served_head a (queue s c log) (subst (λ o. IsServed o (queue s c log)) e h.served) in
+    let there : contains (submits log) a.txn ≡ true = subst (λ n. contains (submits log) n ≡ true) head.2 (head_known c log (submits_of s c log) head.0 h.known (ap head_of (sym h.is) ∙ head.1)) in
+    record {
+      is = rw (same_number c) (ap (filter (λ q. not (q.number == a.txn))) h.is ∙ sym (filter_each (queued c log) (queued c (Did act ∷ log)) (λ q. not (q.number == a.txn)) (submits_of s c log) (λ x. commit_each c log act a.txn x (λ m. refl) commits)));
+      known = known_more log (Did act ∷ log) (submits_of s c log) (λ n p. p) h.known;
+      fresh = λ n p. ((h.fresh n p).0, commits n ∙ ap (λ b. b || is_committed c n log) (other_number n a.txn log p there) ∙ (h.fresh n p).1);
+      served = rw (same_number c) tt;
+    }
+
+-- an entry that leaves the queue as it is
+queue_same : (s : Setting) (c : ℕ) (log : Log) (e : Entry) → queue s c (e ∷ log) ≡ queue s c log
+    → submits_of s c (e ∷ log) ≡ submits_of s c log → ((n : ℕ) → starts_of c n (e ∷ log) ≡ starts_of c n log)
+    → ((n : ℕ) → is_committed c n (e ∷ log) ≡ is_committed c n log)
+    → ((n : ℕ) → contains (submits (e ∷ log)) n ≡ contains (submits log) n) → IsServed (active s c (e ∷ log)) (queue s c log)
+    → IsQueue s c log → IsQueue s c (e ∷ log)
+queue_same s c log e a b f g w i h = record {
+  is = a ∙ h.is ∙ same_map (queued c log) (queued c (e ∷ log)) (submits_of s c log) (λ x. same_queued c log e x f g) ∙ ap (filter_map (queued c (e ∷ log))) (sym b);
+  known = subst (AllKnown (e ∷ log)) (sym b) (known_more log (e ∷ log) (submits_of s c log) (λ n p. w n ∙ p) h.known);
+  fresh = λ n p. (f n ∙ (h.fresh n (sym (w n) ∙ p)).0, g n ∙ (h.fresh n (sym (w n) ∙ p)).1);
+  served = subst (IsServed (active s c (e ∷ log))) (sym a) i;
+}
+
+queue_other_start : (s : Setting) (k c : ℕ) (log : Log) (q : Queued) → (k == c) ≡ false → IsQueue s c log
+    → IsQueue s c (Did (start_at s k log q) ∷ log)
+queue_other_start s k c log q e h =
+    queue_same s c log (Did (start_at s k log q)) (rw e refl) refl (λ n. rw e refl) (λ n. refl) (λ n. refl) (rw e h.served) h
+
+queue_other_commit : (s : Setting) (k c : ℕ) (bases : Bases) (log : Log) (a : Attempt) → (k == c) ≡ false → IsQueue s c log
+    → IsQueue s c (Did (commit_act s.catalogue bases k a) ∷ log)
+queue_other_commit s k c bases log a e h =
+    queue_same s c log (Did (commit_act s.catalogue bases k a)) (rw e refl) refl (λ n. refl) (λ n. rw e refl) (λ n. refl) (rw e h.served) h
+
+queue_act : (s : Setting) (c : ℕ) (log : Log) (act : Act) → IsStep s log act → IsQueue s c log → IsQueue s c (Did act ∷ log)
+queue_act s c log act i h = step_way s log act (λ x. IsQueue s c (Did x ∷ log))
+    (λ k q at f e. elim (same_or_not k c) [
+      | inl p ↦ subst (λ j. IsQueue s c (Did (start_at s j log q) ∷ log)) (sym p) (queue_start s c log q (rw p at e) h)
+      | inr p ↦ queue_other_start s k c log q p h
+    ])
+    (λ k bases a at f. elim (same_or_not k c) [
+      | inl p ↦ subst (λ j. IsQueue s c (Did (commit_act s.catalogue bases j a) ∷ log)) (sym p) (queue_commit s c bases log a (rw p at f) h)
+      | inr p ↦ queue_other_commit s k c bases log a p h
+    ])
+    (λ to m hand f. queue_same s c log (Did (Sends to m hand)) refl refl (λ n. refl) (λ n. refl) (λ n. refl)
+    (sent_way (λ o. IsServed o (queue s c log)) c m (active s c log) (λ a x e. exchanged a x (queue s c log) (subst (λ o. IsServed o (queue s c log)) e h.served)) h.served) h) i
+
+pub queue_is : (s : Setting) (c : ℕ) (log : Log) → Each (IsFair s) log → Each IsNew log → IsQueue s c log
+queue_is s c [] h n = record { is = refl; known = tt; fresh = λ n p. (refl, refl); served = tt }
+queue_is s c (Handed from m ∷ log) h n =
+    let i = queue_is s c log h.1 n.1 in
+    queue_same s c log (Handed from m) refl refl (λ n. refl) (λ n. refl) (λ n. refl)
+    (handed_way (λ o. IsServed o (queue s c log)) c from m (active s c log) tt (λ a x e. exchanged a x (queue s c log) (subst (λ o. IsServed o (queue s c log)) e i.served)) i.served) i
+queue_is s c (Ticked k ∷ log) h n =
+    let i = queue_is s c log h.1 n.1 in queue_same s c log (Ticked k) refl refl (λ n. refl) (λ n. refl) (λ n. refl) i.served i
+queue_is s c (Redeclared force t ∷ log) h n =
+    let i = queue_is s c log h.1 n.1 in
+    queue_same s c log (Redeclared force t) refl refl (λ n. refl) (λ n. refl) (λ n. refl) i.served i
+queue_is s c (Submits k txn ∷ log) h n = queue_submit s c log k txn n.0 (queue_is s c log h.1 n.1)
+queue_is s c (Did act ∷ log) h n = queue_act s c log act h.0 (queue_is s c log h.1 n.1)

@@ -1,0 +1,216 @@
+-- The records of a site that runs transactions: a Start is that of its queue's head, a Commit that of the class's active attempt; and an active attempt has its Start.
+use Rattle.std.specs.Prelude.{filter_map}
+use Rattle.std.proofs.Common.{ℕ, ◌++◌, ◌<◌, ◌∙◌, ◌∷◌, ◌≡◌, ◌≤◌, Bool, List, None, Option, Some, [], ap, arith, false, if◌then◌else◌, inl, inr, length, refl, slice_get, subst, suc, sym, take, true, zero}
+use Rattle.std.proofs.Math.Decide.{dec_le}
+use Rattle.std.proofs.lemmas.List.{take-append-le, take_all}
+use Rattle.sdd_base.specs.Sites.{number_of}
+use Rattle.sdd_base.specs.Words.{head_of}
+use Rattle.sdd_lang.specs.declared.transaction.Txn.{Txn}
+use Rattle.sdd_module.specs.SiteLog.{Act, Bases, Did, Each, Entry, Handed, Log, Redeclared, Sends, Setting, Submits, Ticked, in_force, sends_of_act}
+use Rattle.sdd_attempt.specs.Acts.{commit_act}
+use Rattle.sdd_attempt.specs.Attempts.{Attempt, active, started}
+use Rattle.sdd_attempt.specs.Queues.{Queued, is_for, queue}
+use Rattle.sdd_invariants.proofs.Clocks.{clocked, stamp_below_bound}
+use Rattle.sdd_invariants.proofs.Queues.{queue_is, served_head}
+use Rattle.sdd_invariants.specs.OfRecords.{AllCommitted, HasStart, IsFirstLeft, IsRecord, Says, WasSubmitted, is_recorded}
+use Rattle.sdd_steps.proofs.Active.{handed_way, sent_way, step_way}
+use Rattle.sdd_steps.proofs.Bools.{same_number, same_or_not}
+use Rattle.sdd_steps.proofs.Lists.{le_up, lt_above}
+use Rattle.sdd_steps.specs.Steps.{IsFair, IsNew, IsServed, IsStep, bound, home, is_committed, last_stamp, next_stamp, queued, stamps, start_at, starts_of, submits_of}
+
+pub recorded : (s : Setting) (log : Log) (act : Act) → IsStep s log act → IsRecord s log act
+recorded s log act i = step_way s log act (IsRecord s log)
+    (λ c q at f e. record { at_home = at; idle = f; queued = q; head = e; act_is = refl })
+    (λ c bases a at f. record { at_home = at; attempt = a; active_is = f; bases = bases; act_is = refl })
+    (λ to m hand f. tt) i
+
+abbrev pub IsStarted : Setting → ℕ → Log → Option Attempt → Type 0
+IsStarted s c log None = Unit {0}
+IsStarted s c log (Some a) = HasStart s c log a.txn a.attempt a.ts a.text
+
+started_more : (s : Setting) (c : ℕ) (e : Entry) (log : Log) (o : Option Attempt) → is_recorded c e ≡ false → IsStarted s c log o
+    → IsStarted s c (e ∷ log) o
+started_more s c e log None p h = tt
+started_more s c e log (Some a) p h = record {
+  later = e ∷ h.later;
+  before = h.before;
+  queued = h.queued;
+  is = ap (λ l. e ∷ l) h.is;
+  none_since = (p, h.none_since);
+  at_home = h.at_home;
+  idle = h.idle;
+  head = h.head;
+  number_is = h.number_is;
+  try_is = h.try_is;
+  text_is = h.text_is;
+  ts_is = h.ts_is;
+}
+
+started_now : (s : Setting) (c : ℕ) (log : Log) (q : Queued) → home s.catalogue c ≡ s.site → active s c log ≡ None
+    → head_of (queue s c log) ≡ Some q
+    → IsStarted s c (Did (start_at s c log q) ∷ log) (started (next_stamp s log) (sends_of_act (start_at s c log q)) (Some q))
+started_now s c log q at f e =
+    record { later = []; before = log; queued = q; is = refl; none_since = tt; at_home = at; idle = f; head = e; number_is = refl; try_is = refl; text_is = refl; ts_is = refl }
+
+started_act : (s : Setting) (c : ℕ) (log : Log) (act : Act) → IsStep s log act → IsStarted s c log (active s c log)
+    → IsStarted s c (Did act ∷ log) (active s c (Did act ∷ log))
+started_act s c log act i h = step_way s log act (λ x. IsStarted s c (Did x ∷ log) (active s c (Did x ∷ log)))
+    (λ k q at f e. elim (same_or_not k c) [
+      | inl p ↦ subst (λ j. IsStarted s j (Did (start_at s k log q) ∷ log) (active s j (Did (start_at s k log q) ∷ log))) p
+          (rw (same_number k) (subst (λ o. IsStarted s k (Did (start_at s k log q) ∷ log) (started (next_stamp s log) (sends_of_act (start_at s k log q)) o)) (sym e) (started_now s k log q at f e)))
+      | inr p ↦ rw p (started_more s c (Did (start_at s k log q)) log (active s c log) p h)
+    ])
+    (λ k bases a at f. elim (same_or_not k c) [
+      | inl p ↦ subst (λ j. IsStarted s j (Did (commit_act s.catalogue bases k a) ∷ log) (active s j (Did (commit_act s.catalogue bases k a) ∷ log))) p (rw (same_number k) tt)
+      | inr p ↦ rw p (started_more s c (Did (commit_act s.catalogue bases k a)) log (active s c log) p h)
+    ])
+    (λ to m hand f. let j = started_more s c (Did (Sends to m hand)) log (active s c log) refl h in
+    sent_way (IsStarted s c (Did (Sends to m hand) ∷ log)) c m (active s c log) (λ a x e. subst (IsStarted s c (Did (Sends to m hand) ∷ log)) e j) j) i
+
+pub started_is : (s : Setting) (c : ℕ) (log : Log) → Each (IsFair s) log → IsStarted s c log (active s c log)
+started_is s c [] h = tt
+started_is s c (Handed from m ∷ log) h =
+    let j = started_more s c (Handed from m) log (active s c log) refl (started_is s c log h.1) in
+    handed_way (IsStarted s c (Handed from m ∷ log)) c from m (active s c log) tt (λ a x e. subst (IsStarted s c (Handed from m ∷ log)) e j) j
+started_is s c (Ticked n ∷ log) h = started_more s c (Ticked n) log (active s c log) refl (started_is s c log h.1)
+started_is s c (Redeclared force t ∷ log) h =
+    started_more s c (Redeclared force t) log (active s c log) refl (started_is s c log h.1)
+started_is s c (Submits n txn ∷ log) h = started_more s c (Submits n txn) log (active s c log) refl (started_is s c log h.1)
+started_is s c (Did act ∷ log) h = started_act s c log act h.0 (started_is s c log h.1)
+
+-- the Start of an active attempt
+pub start_of_active : (s : Setting) (c : ℕ) (log : Log) (a : Attempt) → Each (IsFair s) log → active s c log ≡ Some a
+    → HasStart s c log a.txn a.attempt a.ts a.text
+start_of_active s c log a h e = subst (IsStarted s c log) e (started_is s c log h)
+
+abbrev stands : ℕ → Txn → ℕ → Queued
+stands n txn t = record { number = n; text = txn; tries = t }
+
+abbrev pair : ℕ → Txn → ℕ × Txn
+pair n t = (n, t)
+
+first_left : (c : ℕ) (log : Log) (xs : List (ℕ × Txn)) (q : Queued) → head_of (filter_map (queued c log) xs) ≡ Some q
+    → IsFirstLeft c log xs q
+first_left c log [] q e = cc
+first_left c log (x ∷ xs) q e =
+    elim (is_committed c x.0 log) as (λ b. is_committed c x.0 log ≡ b → IsFirstLeft c log (x ∷ xs) q) [
+      | true ↦ λ p. let i = first_left c log xs q (rw p at e) in
+          record { place = suc i.place; number = i.number; text = i.text; there = i.there; number_is = i.number_is; text_is = i.text_is; not_committed = i.not_committed; tries_are = i.tries_are; before_it = (p, i.before_it) }
+      | false ↦ λ p.
+          let r : Some (stands x.0 x.1 (starts_of c x.0 log)) ≡ Some q = rw p at e in
+          let z : stands x.0 x.1 (starts_of c x.0 log) ≡ q = cc in
+          let n : x.0 ≡ q.number = ap (λ (y : Queued). y.number) z in
+          record {
+            place = 0;
+            number = x.0;
+            text = x.1;
+            there = refl;
+            number_is = sym n;
+            text_is = ap (λ (y : Queued). y.text) (sym z);
+            not_committed = subst (λ k. is_committed c k log ≡ false) n p;
+            tries_are = ap (λ (y : Queued). y.tries) (sym z) ∙ ap (λ k. starts_of c k log) n;
+            before_it = tt;
+          }
+    ] refl
+
+pub head_left : (s : Setting) (c : ℕ) (log : Log) (q : Queued) → Each (IsFair s) log → Each IsNew log
+    → head_of (queue s c log) ≡ Some q → IsFirstLeft c log (submits_of s c log) q
+head_left s c log q h n e = first_left c log (submits_of s c log) q (ap head_of (sym (queue_is s c log h n).is) ∙ e)
+
+get_left : {A : Type 0} (xs : List A) (y : A) (k : ℕ) (m : A) → k < length xs → slice_get (xs ++ y ∷ []) k ≡ Some m
+    → slice_get xs k ≡ Some m
+get_left [] y k m l e = absurd (omega arith)
+get_left (x ∷ xs) y zero m l e = e
+get_left (x ∷ xs) y (suc k) m l e = get_left xs y k m (omega arith) e
+
+get_end : {A : Type 0} (xs : List A) (y : A) (k : ℕ) (m : A) → length xs ≤ k → slice_get (xs ++ y ∷ []) k ≡ Some m
+    → (k ≡ length xs) × (y ≡ m)
+get_end [] y zero m l e = (refl, cc)
+get_end [] y (suc k) m l e = cc
+get_end (x ∷ xs) y zero m l e = absurd (omega arith)
+get_end (x ∷ xs) y (suc k) m l e = let i = get_end xs y k m (omega arith) e in (omega (arith, i.0), i.1)
+
+submitted_more : (s : Setting) (c : ℕ) (e : Entry) (log : Log) (k n : ℕ) (t : Txn)
+    → take k (submits_of s c (e ∷ log)) ≡ take k (submits_of s c log) → WasSubmitted s c log k n t
+    → WasSubmitted s c (e ∷ log) k n t
+submitted_more s c e log k n t f h =
+    record { later = e ∷ h.later; before = h.before; is = ap (λ l. e ∷ l) h.is; of_class = h.of_class; earlier = h.earlier ∙ sym f }
+
+submit_found : (s : Setting) (c : ℕ) (log : Log) (n : ℕ) (txn : Txn) (b : Bool) (k m : ℕ) (t : Txn)
+    → is_for c (in_force s log).catalogue txn ≡ b
+    → submits_of s c (Submits n txn ∷ log) ≡ (if b then submits_of s c log ++ (n, txn) ∷ [] else submits_of s c log)
+    → ((j : ℕ) → slice_get (submits_of s c log) j ≡ Some (pair m t) → WasSubmitted s c log j m t)
+    → slice_get (if b then submits_of s c log ++ (n, txn) ∷ [] else submits_of s c log) k ≡ Some (pair m t)
+    → WasSubmitted s c (Submits n txn ∷ log) k m t
+submit_found s c log n txn false k m t f g i e = submitted_more s c (Submits n txn) log k m t (ap (take k) g) (i k e)
+submit_found s c log n txn true k m t f g i e = elim (dec_le (suc k) (length (submits_of s c log))) [
+  | yes l ↦ submitted_more s c (Submits n txn) log k m t (ap (take k) g ∙ take-append-le k (submits_of s c log) ((n, txn) ∷ []) (omega arith)) (i k (get_left (submits_of s c log) (pair n txn) k (pair m t) l e))
+  | no l ↦ (let r = get_end (submits_of s c log) (pair n txn) k (pair m t) (omega (arith, l)) e in
+      record {
+        later = [];
+        before = log;
+        is = ap (λ (x : ℕ × Txn). Submits x.0 x.1 ∷ log) r.1;
+        of_class = subst (λ (x : ℕ × Txn). is_for c (in_force s log).catalogue x.1 ≡ true) r.1 f;
+        earlier = sym (ap (take k) g ∙ ap (λ j. take j (submits_of s c log ++ (n, txn) ∷ [])) r.0 ∙ take-append-le (length (submits_of s c log)) (submits_of s c log) ((n, txn) ∷ []) (omega arith) ∙ take_all (length (submits_of s c log)) (submits_of s c log) (omega arith));
+      })
+]
+
+pub was_submitted : (s : Setting) (c : ℕ) (log : Log) (k m : ℕ) (t : Txn) → slice_get (submits_of s c log) k ≡ Some (pair m t)
+    → WasSubmitted s c log k m t
+was_submitted s c [] k m t e = cc
+was_submitted s c (Submits n txn ∷ log) k m t e =
+    submit_found s c log n txn (is_for c (in_force s log).catalogue txn) k m t refl refl (λ j p. was_submitted s c log j m t p) e
+was_submitted s c (Handed from x ∷ log) k m t e =
+    submitted_more s c (Handed from x) log k m t refl (was_submitted s c log k m t e)
+was_submitted s c (Ticked n ∷ log) k m t e = submitted_more s c (Ticked n) log k m t refl (was_submitted s c log k m t e)
+was_submitted s c (Redeclared force u ∷ log) k m t e =
+    submitted_more s c (Redeclared force u) log k m t refl (was_submitted s c log k m t e)
+was_submitted s c (Did act ∷ log) k m t e = submitted_more s c (Did act) log k m t refl (was_submitted s c log k m t e)
+
+start_says : (s : Setting) (c : ℕ) (log : Log) (q : Queued) → number_of s.site ≤ 63 → Each (IsFair s) log → Each IsNew log
+    → home s.catalogue c ≡ s.site → head_of (queue s c log) ≡ Some q → Says s log (start_at s c log q)
+start_says s c log q low h n at e =
+    let i = clocked s log low h in
+    let l = head_left s c log q h n e in
+    let there : slice_get (submits_of s c log) l.place ≡ Some (pair q.number q.text) = l.there ∙ ap (λ m. Some (pair m l.text)) (sym l.number_is) ∙ ap (λ t. Some (pair q.number t)) (sym l.text_is) in
+    let w = was_submitted s c log l.place q.number q.text there in
+    record {
+      at_home = at;
+      class_is = refl;
+      text = q.text;
+      place = l.place;
+      submitted = w;
+      before_it = subst (AllCommitted c log) (sym w.earlier) l.before_it;
+      uses_are = refl;
+      not_committed = l.not_committed;
+      attempt_is = ap suc l.tries_are;
+      ts_is = refl;
+      above_stamps = lt_above (last_stamp s log) (next_stamp s log) (stamps log) (omega arith) i.drawn_le;
+      p2_is = refl;
+      p2_below = omega arith;
+      p2_above_stamps = le_up (last_stamp s log) (bound s log) (stamps log) (stamp_below_bound s log low) i.drawn_le;
+      p2_above_promises = i.promised_le;
+    }
+
+commit_says : (s : Setting) (c : ℕ) (bases : Bases) (log : Log) (a : Attempt) → Each (IsFair s) log → Each IsNew log
+    → home s.catalogue c ≡ s.site → active s c log ≡ Some a → Says s log (commit_act s.catalogue bases c a)
+commit_says s c bases log a h n at e =
+    let r = served_head a (queue s c log) (subst (λ o. IsServed o (queue s c log)) e (queue_is s c log h n).served) in
+    let l = head_left s c log r.0 h n r.1 in
+    record {
+      at_home = at;
+      now = a;
+      active_is = e;
+      number_is = refl;
+      try_is = refl;
+      bases = bases;
+      changes_are = refl;
+      start = start_of_active s c log a h e;
+      first = subst (λ k. is_committed c k log ≡ false) r.2 l.not_committed;
+      last_try = sym r.4 ∙ l.tries_are ∙ ap (λ k. starts_of c k log) r.2;
+    }
+
+pub says : (s : Setting) (log : Log) (act : Act) → number_of s.site ≤ 63 → Each (IsFair s) log → Each IsNew log → IsStep s log act
+    → Says s log act
+says s log act w h n i = step_way s log act (Says s log)
+    (λ c q at f e. start_says s c log q w h n at e) (λ c bases a at f. commit_says s c bases log a h n at f) (λ to m hand f. tt) i

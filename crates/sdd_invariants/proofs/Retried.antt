@@ -1,0 +1,249 @@
+-- A transaction that is tried again is still its queue's head, and the REJECT of its last attempt was handed after that attempt's Start.
+use Rattle.std.proofs.Common.{ℕ, ◌&&◌, ◌++◌, ◌<◌, ◌==◌, ◌∙◌, ◌∷◌, ◌≡◌, ◌⊎◌, Bool, List, None, Option, Some, [], ap, arith, cond, false, filter, if◌then◌else◌, inl, inr, map, not, refl, subst, suc, sym, true}
+use Rattle.std.proofs.lemmas.Bool.{eqb-true}
+use Rattle.sdd_base.specs.Words.{head_of}
+use Rattle.sdd_base.specs.declared.number.ClassNo.{ClassNo}
+use Rattle.sdd_base.specs.declared.number.DmNo.{DmNo}
+use Rattle.sdd_base.specs.declared.number.Ts.{Ts}
+use Rattle.sdd_base.specs.declared.site.Site.{Site}
+use Rattle.sdd_base.specs.declared.site.Site.TheVariants.{D, T, U}
+use Rattle.sdd_lang.specs.declared.transaction.Txn.{Txn}
+use Rattle.sdd_wire.specs.declared.msg.Msg.{Msg}
+use Rattle.sdd_wire.specs.declared.msg.Msg.TheVariants.{Reject}
+use Rattle.sdd_module.specs.SiteLog.{Act, Did, Each, Entry, Handed, Log, Redeclared, Sends, Setting, Submits, Ticked, in_force, sends_of_act}
+use Rattle.sdd_attempt.specs.Acts.{commit_act}
+use Rattle.sdd_attempt.specs.Attempts.{Attempt, active, active_handed, active_sent, rejects, started}
+use Rattle.sdd_attempt.specs.Exchange.{after_hand}
+use Rattle.sdd_attempt.specs.Queues.{Queued, is_for, queue, tried}
+use Rattle.sdd_invariants.proofs.Queues.{queue_is}
+use Rattle.sdd_invariants.specs.OfRecords.{is_recorded}
+use Rattle.sdd_invariants.specs.Rejections.{IsRejected}
+use Rattle.sdd_steps.proofs.Active.{sent_way, step_way}
+use Rattle.sdd_steps.proofs.Bools.{same_number, same_or_not}
+use Rattle.sdd_steps.specs.Steps.{IsFair, IsNew, IsServed, IsStep, next_stamp, start_at}
+
+abbrev pub AllZero : List Queued → Type 0
+AllZero [] = Unit {0}
+AllZero (q ∷ qs) = (q.tries ≡ 0) × AllZero qs
+
+abbrev pub ZeroBut : ℕ → List Queued → Type 0
+ZeroBut n [] = Unit {0}
+ZeroBut n (q ∷ qs) = (((q.number == n) ≡ true) ⊎ (q.tries ≡ 0)) × ZeroBut n qs
+
+abbrev pub IsHead : ℕ → ℕ → List Queued → Type 0
+IsHead n k [] = ⊥
+IsHead n k (q ∷ qs) = (q.number ≡ n) × (q.tries ≡ k)
+
+-- at most the queue's head was started; where the class is idle, its REJECT was handed
+pub record IsTriedHead (s : Setting) (c : ℕ) (log : Log) (qs : List Queued) (o : Option Attempt) : Type 0 where
+  pub number : ℕ
+  pub tries : ℕ
+  pub head : IsHead number tries qs
+  pub others : ZeroBut number qs
+  pub rejected : o ≡ None → IsRejected s c log number tries
+
+abbrev pub IsTriedAt : Setting → ℕ → Log → List Queued → Option Attempt → Type 0
+IsTriedAt s c log qs o = AllZero qs ⊎ IsTriedHead s c log qs o
+
+rejected_more : (s : Setting) (c : ℕ) (e : Entry) (log : Log) (n k : ℕ) → is_recorded c e ≡ false → IsRejected s c log n k
+    → IsRejected s c (e ∷ log) n k
+rejected_more s c e log n k p h = record {
+  later = e ∷ h.later;
+  before = h.before;
+  from = h.from;
+  ts = h.ts;
+  class_of = h.class_of;
+  by = h.by;
+  write = h.write;
+  is = ap (λ l. e ∷ l) h.is;
+  none_since = (p, h.none_since);
+  attempt = h.attempt;
+  active_is = h.active_is;
+  ts_is = h.ts_is;
+  class_is = h.class_is;
+  number_is = h.number_is;
+  try_is = h.try_is;
+}
+
+tried_more : (s : Setting) (c : ℕ) (e : Entry) (log : Log) (qs : List Queued) (o p : Option Attempt) → is_recorded c e ≡ false
+    → (p ≡ None → o ≡ None) → IsTriedAt s c log qs o → IsTriedAt s c (e ∷ log) qs p
+tried_more s c e log qs o p r f h = elim h [
+  | inl z ↦ inl z
+  | inr t ↦ inr (record { number = t.number; tries = t.tries; head = t.head; others = t.others; rejected = λ x. rejected_more s c e log t.number t.tries r (t.rejected (f x)) })
+]
+
+zero_push : (qs : List Queued) (q : Queued) → AllZero qs → q.tries ≡ 0 → AllZero (qs ++ q ∷ [])
+zero_push [] q h e = (e, tt)
+zero_push (x ∷ qs) q h e = (h.0, zero_push qs q h.1 e)
+
+but_push : (n : ℕ) (qs : List Queued) (q : Queued) → ZeroBut n qs → q.tries ≡ 0 → ZeroBut n (qs ++ q ∷ [])
+but_push n [] q h e = (inr e, tt)
+but_push n (x ∷ qs) q h e = (h.0, but_push n qs q h.1 e)
+
+head_push : (n k : ℕ) (qs : List Queued) (q : Queued) → IsHead n k qs → IsHead n k (qs ++ q ∷ [])
+head_push n k [] q h = absurd h
+head_push n k (x ∷ qs) q h = h
+
+but_tried : (n : ℕ) (qs : List Queued) → ZeroBut n qs → ZeroBut n (map (tried n) qs)
+but_tried n [] h = tt
+but_tried n (q ∷ qs) h = (
+  elim (q.number == n) as (λ b. (q.number == n) ≡ b → (((cond b (record q { tries = suc q.tries }) q).number == n) ≡ true) ⊎ ((cond b (record q { tries = suc q.tries }) q).tries ≡ 0)) [
+    | true ↦ λ e. inl e
+    | false ↦ λ e. h.0
+  ] refl,
+  but_tried n qs h.1,
+)
+
+but_zero : (n : ℕ) (qs : List Queued) → AllZero qs → ZeroBut n qs
+but_zero n [] h = tt
+but_zero n (q ∷ qs) h = (inr h.0, but_zero n qs h.1)
+
+head_tried : (n k : ℕ) (qs : List Queued) → IsHead n k qs → IsHead n (suc k) (map (tried n) qs)
+head_tried n k [] h = absurd h
+head_tried n k (q ∷ qs) h =
+    let e : (q.number == n) ≡ true = ap (λ x. x == n) h.0 ∙ same_number n in
+    rw e (h.0, ap suc h.1)
+
+is_head : (qs : List Queued) (q : Queued) → head_of qs ≡ Some q → IsHead q.number q.tries qs
+is_head [] q e = cc
+is_head (x ∷ qs) q e = let p : x ≡ q = cc in (ap (λ (y : Queued). y.number) p, ap (λ (y : Queued). y.tries) p)
+
+head_is : (n k : ℕ) (qs : List Queued) (q : Queued) → IsHead n k qs → head_of qs ≡ Some q → (q.number ≡ n) × (q.tries ≡ k)
+head_is n k [] q h e = absurd h
+head_is n k (x ∷ qs) q h e =
+    let p : x ≡ q = cc in (ap (λ (y : Queued). y.number) (sym p) ∙ h.0, ap (λ (y : Queued). y.tries) (sym p) ∙ h.1)
+
+zero_head : (qs : List Queued) (q : Queued) → AllZero qs → head_of qs ≡ Some q → q.tries ≡ 0
+zero_head [] q h e = cc
+zero_head (x ∷ qs) q h e = let p : x ≡ q = cc in ap (λ (y : Queued). y.tries) (sym p) ∙ h.0
+
+zero_left : (n : ℕ) (qs : List Queued) → ZeroBut n qs → AllZero (filter (λ q. not (q.number == n)) qs)
+zero_left n [] h = tt
+zero_left n (q ∷ qs) h = elim (q.number == n) as (λ b. (q.number == n) ≡ b → AllZero (cond (not b) (q ∷ filter (λ q. not (q.number == n)) qs) (filter (λ q. not (q.number == n)) qs))) [
+  | true ↦ λ e. zero_left n qs h.1
+  | false ↦ λ e. (elim h.0 [ inl p ↦ (let x : ◌≡◌ {A = Bool} true false = sym p ∙ e in cc) | inr z ↦ z ], zero_left n qs h.1)
+] refl
+
+-- the active attempt, where there is one, is the head's
+head_served : (a : Attempt) (qs : List Queued) (n k : ℕ) → IsServed (Some a) qs → IsHead n k qs → (a.txn ≡ n) × (a.attempt ≡ k)
+head_served a [] n k h i = absurd h
+head_served a (q ∷ qs) n k h i = (sym h.0 ∙ i.0, sym h.2 ∙ i.1)
+
+-- a hand that ends it is a REJECT
+reject_by : (m : Msg) (ts c : ℕ) → rejects m ts c ≡ true
+    → (t : Ts) × (k : ClassNo) × (by : ClassNo) × (w : Ts) × (m ≡ Reject t k by w) × (t.0 ≡ ts) × (k.0 ≡ c)
+reject_by (Reject t k by w) ts c e = elim (t.0 == ts) as (λ b. (t.0 == ts) ≡ b → (b && (k.0 == c)) ≡ true → (t2 : Ts) × (k2 : ClassNo) × (by2 : ClassNo) × (w2 : Ts) × (Reject t k by w ≡ Reject t2 k2 by2 w2) × (t2.0 ≡ ts) × (k2.0 ≡ c)) [
+  | true ↦ λ p q. (t, k, by, w, refl, eqb-true t.0 ts p, eqb-true k.0 c q)
+  | false ↦ λ p q. cc
+] refl e
+reject_by _ ts c e = cc
+
+ends_by : (s : Setting) (c : ℕ) (log : Log) (d : DmNo) (m : Msg) (a : Attempt) (n k : ℕ) → active s c log ≡ Some a
+    → (a.txn ≡ n) × (a.attempt ≡ k) → rejects m a.ts c ≡ true → IsRejected s c (Handed (D d) m ∷ log) n k
+ends_by s c log d m a n k e f r =
+    let p = reject_by m a.ts c r in
+    record { later = []; before = log; from = d; ts = p.0; class_of = p.1; by = p.2; write = p.3; is = ap (λ x. Handed (D d) x ∷ log) p.4; none_since = tt; attempt = a; active_is = e; ts_is = p.5; class_is = p.6; number_is = f.0; try_is = f.1 }
+
+ended : (s : Setting) (c : ℕ) (log : Log) (from : Site) (m : Msg) (o : Option Attempt) (n k : ℕ) → active s c log ≡ o
+    → IsServed o (queue s c log) → IsHead n k (queue s c log) → (o ≡ None → IsRejected s c log n k)
+    → active_handed c from m o ≡ None → IsRejected s c (Handed from m ∷ log) n k
+ended s c log (D d) m (Some a) n k e v h f g =
+    elim (rejects m a.ts c) as (λ b. rejects m a.ts c ≡ b → (if b then None else Some (record a { exchange = after_hand a.ts c d.0 m a.exchange })) ≡ None → IsRejected s c (Handed (D d) m ∷ log) n k) [
+      | true ↦ λ r x. ends_by s c log d m a n k e (head_served a (queue s c log) n k v h) r
+      | false ↦ λ r x. cc
+    ] refl g
+ended s c log (D d) m None n k e v h f g = rejected_more s c (Handed (D d) m) log n k refl (f refl)
+ended s c log U m o n k e v h f g = rejected_more s c (Handed U m) log n k refl (f g)
+ended s c log (T t) m o n k e v h f g = rejected_more s c (Handed (T t) m) log n k refl (f g)
+
+tried_hand : (s : Setting) (c : ℕ) (log : Log) (from : Site) (m : Msg) → IsServed (active s c log) (queue s c log)
+    → IsTriedAt s c log (queue s c log) (active s c log)
+    → IsTriedAt s c (Handed from m ∷ log) (queue s c log) (active_handed c from m (active s c log))
+tried_hand s c log from m v h = elim h [
+  | inl z ↦ inl z
+  | inr t ↦ inr (record { number = t.number; tries = t.tries; head = t.head; others = t.others; rejected = λ x. ended s c log from m (active s c log) t.number t.tries refl v t.head t.rejected x })
+]
+
+tried_submit : (s : Setting) (c : ℕ) (log : Log) (k : ℕ) (txn : Txn) (b : Bool)
+    → IsTriedAt s c log (queue s c log) (active s c log)
+    → IsTriedAt s c (Submits k txn ∷ log) (if b then queue s c log ++ record { number = k; text = txn; tries = 0 } ∷ [] else queue s c log) (active s c log)
+tried_submit s c log k txn false h =
+    tried_more s c (Submits k txn) log (queue s c log) (active s c log) (active s c log) refl (λ x. x) h
+tried_submit s c log k txn true h = elim h [
+  | inl z ↦ inl (zero_push (queue s c log) (record { number = k; text = txn; tries = 0 }) z refl)
+  | inr t ↦ inr (record {
+    number = t.number;
+    tries = t.tries;
+    head = head_push t.number t.tries (queue s c log) (record { number = k; text = txn; tries = 0 }) t.head;
+    others = but_push t.number (queue s c log) (record { number = k; text = txn; tries = 0 }) t.others refl;
+    rejected = λ x. rejected_more s c (Submits k txn) log t.number t.tries refl (t.rejected x);
+  })
+]
+
+started_not : (ts : ℕ) (sends : List (Site × Msg)) (o : Option Queued) (q : Queued) → o ≡ Some q → started ts sends o ≡ None → ⊥
+started_not ts sends None q e f = cc
+started_not ts sends (Some x) q e f = cc
+
+tried_start : (s : Setting) (c : ℕ) (log : Log) (q : Queued) → head_of (queue s c log) ≡ Some q
+    → IsTriedAt s c log (queue s c log) (active s c log)
+    → IsTriedAt s c (Did (start_at s c log q) ∷ log) (map (tried q.number) (queue s c log)) (started (next_stamp s log) (sends_of_act (start_at s c log q)) (head_of (queue s c log)))
+tried_start s c log q e h =
+    let but : ZeroBut q.number (queue s c log) = elim h [ inl z ↦ but_zero q.number (queue s c log) z | inr t ↦ subst (λ n. ZeroBut n (queue s c log)) (sym (head_is t.number t.tries (queue s c log) q t.head e).0) t.others ] in
+    inr (record {
+      number = q.number;
+      tries = suc q.tries;
+      head = head_tried q.number q.tries (queue s c log) (is_head (queue s c log) q e);
+      others = but_tried q.number (queue s c log) but;
+      rejected = λ x. absurd (started_not (next_stamp s log) (sends_of_act (start_at s c log q)) (head_of (queue s c log)) q e x);
+    })
+
+zero_filter : (n : ℕ) (qs : List Queued) → AllZero qs → AllZero (filter (λ q. not (q.number == n)) qs)
+zero_filter n qs h = zero_left n qs (but_zero n qs h)
+
+tried_commit : (s : Setting) (c : ℕ) (log more : Log) (a : Attempt) (o : Option Attempt) → active s c log ≡ Some a
+    → IsServed (active s c log) (queue s c log) → IsTriedAt s c log (queue s c log) (active s c log)
+    → IsTriedAt s c more (filter (λ q. not (q.number == a.txn)) (queue s c log)) o
+tried_commit s c log more a o e v h = elim h [
+  | inl z ↦ inl (zero_filter a.txn (queue s c log) z)
+  | inr t ↦ (let r = head_served a (queue s c log) t.number t.tries (subst (λ o. IsServed o (queue s c log)) e v) t.head in
+      inl (zero_left a.txn (queue s c log) (subst (λ n. ZeroBut n (queue s c log)) (sym r.0) t.others)))
+]
+
+sent_none : (c : ℕ) (m : Msg) (o : Option Attempt) → active_sent c m o ≡ None → o ≡ None
+sent_none c m None e = refl
+sent_none c m (Some a) e = sent_way (λ p. p ≡ None → Some a ≡ None) c m (Some a) (λ b x f g. cc) (λ g. cc) e
+
+tried_act : (s : Setting) (c : ℕ) (log : Log) (act : Act) → IsStep s log act → IsServed (active s c log) (queue s c log)
+    → IsTriedAt s c log (queue s c log) (active s c log)
+    → IsTriedAt s c (Did act ∷ log) (queue s c (Did act ∷ log)) (active s c (Did act ∷ log))
+tried_act s c log act i v h =
+    step_way s log act (λ x. IsTriedAt s c (Did x ∷ log) (queue s c (Did x ∷ log)) (active s c (Did x ∷ log)))
+    (λ k q at f e. elim (same_or_not k c) [
+      | inl p ↦ subst (λ j. IsTriedAt s c (Did (start_at s j log q) ∷ log) (queue s c (Did (start_at s j log q) ∷ log)) (active s c (Did (start_at s j log q) ∷ log))) (sym p) (rw (same_number c) (tried_start s c log q (rw p at e) h))
+      | inr p ↦ rw p (tried_more s c (Did (start_at s k log q)) log (queue s c log) (active s c log) (active s c log) p (λ x. x) h)
+    ])
+    (λ k bases a at f. elim (same_or_not k c) [
+      | inl p ↦ subst (λ j. IsTriedAt s c (Did (commit_act s.catalogue bases j a) ∷ log) (queue s c (Did (commit_act s.catalogue bases j a) ∷ log)) (active s c (Did (commit_act s.catalogue bases j a) ∷ log))) (sym p) (rw (same_number c) (tried_commit s c log (Did (commit_act s.catalogue bases c a) ∷ log) a None (rw p at f) v h))
+      | inr p ↦ rw p (tried_more s c (Did (commit_act s.catalogue bases k a)) log (queue s c log) (active s c log) (active s c log) p (λ x. x) h)
+    ])
+    (λ to m hand f. tried_more s c (Did (Sends to m hand)) log (queue s c log) (active s c log) (active_sent c m (active s c log)) refl (sent_none c m (active s c log)) h) i
+
+pub tried_at : (s : Setting) (c : ℕ) (log : Log) → Each (IsFair s) log → Each IsNew log
+    → IsTriedAt s c log (queue s c log) (active s c log)
+tried_at s c [] h n = inl tt
+tried_at s c (Handed from m ∷ log) h n = tried_hand s c log from m (queue_is s c log h.1 n.1).served (tried_at s c log h.1 n.1)
+tried_at s c (Ticked k ∷ log) h n =
+    tried_more s c (Ticked k) log (queue s c log) (active s c log) (active s c log) refl (λ x. x) (tried_at s c log h.1 n.1)
+tried_at s c (Redeclared force t ∷ log) h n =
+    tried_more s c (Redeclared force t) log (queue s c log) (active s c log) (active s c log) refl (λ x. x) (tried_at s c log h.1 n.1)
+tried_at s c (Submits k txn ∷ log) h n =
+    tried_submit s c log k txn (is_for c (in_force s log).catalogue txn) (tried_at s c log h.1 n.1)
+tried_at s c (Did act ∷ log) h n = tried_act s c log act h.0 (queue_is s c log h.1 n.1).served (tried_at s c log h.1 n.1)
+
+-- the head of an idle class that was started before: its last attempt was rejected
+pub was_rejected : (s : Setting) (c : ℕ) (log : Log) (q : Queued) → Each (IsFair s) log → Each IsNew log → active s c log ≡ None
+    → head_of (queue s c log) ≡ Some q → 0 < q.tries → IsRejected s c log q.number q.tries
+was_rejected s c log q h n idle e l = elim (tried_at s c log h n) [
+  | inl z ↦ absurd (omega (arith, zero_head (queue s c log) q z e))
+  | inr t ↦ (let r = head_is t.number t.tries (queue s c log) q t.head e in subst (λ k. IsRejected s c log q.number k) (sym r.1) (subst (λ m. IsRejected s c log m t.tries) (sym r.0) (t.rejected idle)))
+]

@@ -1,0 +1,233 @@
+-- On a link the times of a class never fall: each is at most the class's limit, which never falls either.
+use Rattle.std.specs.Prelude.{filter_map}
+use Rattle.std.proofs.Common.{ℕ, ◌++◌, ◌==◌, ◌||◌, ◌∙◌, ◌∷◌, ◌≡◌, ◌≤◌, Bool, List, None, Option, Some, [], ap, arith, cond, false, if◌then◌else◌, inl, inr, map, not, refl, subst, sym, true}
+use Rattle.sdd_base.specs.Numbers.{class_no, dm_no, time_at, txn_no}
+use Rattle.sdd_base.specs.Sites.{number_of, same_site}
+use Rattle.sdd_base.specs.Words.{head_of, is_empty}
+use Rattle.sdd_base.specs.declared.change.Change.{Change}
+use Rattle.sdd_base.specs.declared.site.Site.{Site}
+use Rattle.sdd_base.specs.declared.site.Site.TheVariants.{D}
+use Rattle.sdd_catalog.specs.Catalogue.{Catalogue, numbers_to}
+use Rattle.sdd_lang.specs.Effect.{effect}
+use Rattle.sdd_wire.specs.Piped.{class_is, goes_through, piped, time_in, time_of}
+use Rattle.sdd_wire.specs.declared.msg.Msg.{Msg}
+use Rattle.sdd_wire.specs.declared.msg.Msg.TheVariants.{Fetch, Null, Reduce, Ship, Write}
+use Rattle.sdd_module.specs.SiteLog.{Act, Bases, Did, Each, Entry, Handed, Log, Redeclared, Sends, Setting, Submits, Ticked, sends_of_act}
+use Rattle.sdd_attempt.specs.Acts.{commit_act, write_to}
+use Rattle.sdd_attempt.specs.Attempts.{Attempt, active, asks_rows}
+use Rattle.sdd_attempt.specs.Queues.{Queued, queue}
+use Rattle.sdd_invariants.proofs.Clocks.{bound_rises, limit_le}
+use Rattle.sdd_invariants.specs.OnLinks.{AllPiped, IsTimed}
+use Rattle.sdd_steps.proofs.Active.{handed_way, sent_way, step_way}
+use Rattle.sdd_steps.proofs.Bools.{same_number, same_or_not}
+use Rattle.sdd_steps.proofs.Lists.{le_up}
+use Rattle.sdd_steps.specs.Orders.{AllGe, AllLe, IsRising}
+use Rattle.sdd_steps.specs.Steps.{IsFair, IsSend, IsStep, a_held, a_hold, a_null, a_release, bound, changes_at, limit, limit_of, next_stamp, of_exchange, start_at}
+use Rattle.sdd_steps.specs.Traffic.{puts_to, times_in, to_site}
+
+abbrev pub AllAre : ℕ → List ℕ → Type 0
+AllAre t [] = Unit {0}
+AllAre t (x ∷ xs) = (x ≡ t) × AllAre t xs
+
+-- lists
+times_join : (c : ℕ) (xs ys : List Msg) → times_in c (xs ++ ys) ≡ times_in c xs ++ times_in c ys
+times_join c [] ys = refl
+times_join c (m ∷ xs) ys = elim (goes_through c m) as (λ b. (if b then time_of m ∷ times_in c (xs ++ ys) else times_in c (xs ++ ys)) ≡ (if b then time_of m ∷ times_in c xs else times_in c xs) ++ times_in c ys) [
+  | true ↦ ap (λ l. time_of m ∷ l) (times_join c xs ys)
+  | false ↦ times_join c xs ys
+]
+
+all_ge_join : (k t : ℕ) (xs ys : List ℕ) → k ≤ t → AllGe k xs → AllAre t ys → AllGe k (xs ++ ys)
+all_ge_join k t [] [] l h i = tt
+all_ge_join k t [] (y ∷ ys) l h i = (omega (arith, i.0), all_ge_join k t [] ys l tt i.1)
+all_ge_join k t (x ∷ xs) ys l h i = (h.0, all_ge_join k t xs ys l h.1 i)
+
+rising_same : (t : ℕ) (ys : List ℕ) → AllAre t ys → IsRising ys
+rising_same t [] i = tt
+rising_same t (y ∷ ys) i = (all_ge_join y t [] ys (omega (arith, i.0)) tt i.1, rising_same t ys i.1)
+
+rising_join : (t : ℕ) (xs ys : List ℕ) → IsRising xs → AllLe t xs → AllAre t ys → IsRising (xs ++ ys)
+rising_join t [] ys h l i = rising_same t ys i
+rising_join t (x ∷ xs) ys h l i = (all_ge_join x t xs ys l.0 h.0 i, rising_join t xs ys h.1 l.1 i)
+
+le_same : (k t : ℕ) (xs ys : List ℕ) → t ≤ k → AllLe k xs → AllAre t ys → AllLe k (xs ++ ys)
+le_same k t [] [] l h i = tt
+le_same k t [] (y ∷ ys) l h i = (omega (arith, i.0), le_same k t [] ys l tt i.1)
+le_same k t (x ∷ xs) ys l h i = (h.0, le_same k t xs ys l h.1 i)
+
+-- one act: the limit doesn't fall, and what it puts has one time, from the limit before to the limit after
+pub record Goes (s : Setting) (c : ℕ) (b : Site) (log : Log) (act : Act) : Type 0 where
+  pub time : ℕ
+  pub above : limit s c log ≤ time
+  pub below : time ≤ limit s c (Did act ∷ log)
+  pub all_at : AllAre time (times_in c (to_site b (sends_of_act act)))
+
+-- an act that puts nothing of the class
+quiet_act : (s : Setting) (c : ℕ) (b : Site) (log : Log) (act : Act) → limit s c log ≤ limit s c (Did act ∷ log)
+    → times_in c (to_site b (sends_of_act act)) ≡ [] → Goes s c b log act
+quiet_act s c b log act l e = record { time = limit s c log; above = omega arith; below = l; all_at = rw e tt }
+
+times_if : (c t : ℕ) (b : Bool) (m : Msg) (ms : List Msg) → AllAre t (times_in c (m ∷ [])) → AllAre t (times_in c ms)
+    → AllAre t (times_in c (if b then m ∷ ms else ms))
+times_if c t false m ms h i = i
+times_if c t true m ms h i =
+    elim (goes_through c m) as (λ b. AllAre t (if b then time_of m ∷ [] else []) → AllAre t (if b then time_of m ∷ times_in c ms else times_in c ms)) [ true ↦ λ k. (k.0, i) | false ↦ λ k. i ] h
+
+time_piped : (c t : ℕ) (m : Msg) → piped m ≡ Some (c, t) → AllAre t (times_in c (m ∷ []))
+time_piped c t m e =
+    let is : goes_through c m ≡ true = ap (class_is c) e ∙ same_number c in
+    let at : time_of m ≡ t = ap time_in e in
+    rw is (at, tt)
+
+piped_at : (c t : ℕ) (b : Site) (ps : List (Site × Msg)) → AllPiped c t ps → AllAre t (times_in c (to_site b ps))
+piped_at c t b [] h = tt
+piped_at c t b (p ∷ ps) h = times_if c t (same_site b p.0) p.1 (to_site b ps) (time_piped c t p.1 h.0) (piped_at c t b ps h.1)
+
+times_none : (c : ℕ) (b : Bool) (m : Msg) (ms : List Msg) → goes_through c m ≡ false → times_in c ms ≡ []
+    → times_in c (if b then m ∷ ms else ms) ≡ []
+times_none c false m ms h i = i
+times_none c true m ms h i = rw h i
+
+piped_other : (k c t : ℕ) (b : Site) (ps : List (Site × Msg)) → (k == c) ≡ false → AllPiped k t ps
+    → times_in c (to_site b ps) ≡ []
+piped_other k c t b [] e h = refl
+piped_other k c t b (p ∷ ps) e h =
+    times_none c (same_site b p.0) p.1 (to_site b ps) (ap (class_is c) h.0 ∙ e) (piped_other k c t b ps e h.1)
+
+piped_map : (k t : ℕ) (f : ℕ → Site × Msg) (ds : List ℕ) → ((d : ℕ) → piped (f d).1 ≡ Some (k, t)) → AllPiped k t (map f ds)
+piped_map k t f [] h = tt
+piped_map k t f (d ∷ ds) h = (h d, piped_map k t f ds h)
+
+piped_cond : (k t : ℕ) (b : Bool) (p : Site × Msg) (f : ℕ → Option (Site × Msg)) (ds : List ℕ) → piped p.1 ≡ Some (k, t)
+    → AllPiped k t (filter_map f ds) → (d : ℕ) → f d ≡ cond b (Some p) None → AllPiped k t (filter_map f (d ∷ ds))
+piped_cond k t true p f ds e h d g = rw g (e, h)
+piped_cond k t false p f ds e h d g = rw g h
+
+piped_writes : (cat : Catalogue) (c : ℕ) (a : Attempt) (changes : List Change) (ds : List ℕ)
+    → AllPiped c a.ts (filter_map (write_to cat c a changes) ds)
+piped_writes cat c a changes [] = tt
+piped_writes cat c a changes (d ∷ ds) =
+    piped_cond c a.ts (not (is_empty (changes_at cat d changes)) || (c == 0)) (D (dm_no d), Write (time_at a.ts) (class_no c) (txn_no a.txn) (changes_at cat d changes))
+    (write_to cat c a changes) ds refl (piped_writes cat c a changes ds) d refl
+
+pub piped_start : (s : Setting) (c : ℕ) (log : Log) (q : Queued)
+    → AllPiped c (next_stamp s log) (sends_of_act (start_at s c log q))
+piped_start s c log q = piped_map c _ _ _ (λ d. refl)
+
+pub piped_commit : (s : Setting) (c : ℕ) (bases : Bases) (a : Attempt)
+    → AllPiped c a.ts (sends_of_act (commit_act s.catalogue bases c a))
+piped_commit s c bases a =
+    piped_writes s.catalogue c a (effect s.catalogue (bases a.ts) a.text).changes (numbers_to s.catalogue.dms)
+
+-- the three kinds of steps
+start_own : (s : Setting) (c : ℕ) (b : Site) (log : Log) (q : Queued) → number_of s.site ≤ 63 → active s c log ≡ None
+    → head_of (queue s c log) ≡ Some q → Goes s c b log (start_at s c log q)
+start_own s c b log q w i e = record {
+  time = next_stamp s log;
+  above = rw i (omega arith);
+  below = rw (same_number c, e) (omega arith);
+  all_at = piped_at c (next_stamp s log) b (sends_of_act (start_at s c log q)) (piped_start s c log q);
+}
+
+limit_on : (b d : ℕ) (o : Option Attempt) → b ≤ d → limit_of b o ≤ limit_of d o
+limit_on b d None l = l
+limit_on b d (Some a) l = omega arith
+
+start_other : (s : Setting) (k c : ℕ) (b : Site) (log : Log) (q : Queued) → (k == c) ≡ false → Goes s c b log (start_at s k log q)
+start_other s k c b log q e =
+    quiet_act s c b log (start_at s k log q) (rw e (limit_on (bound s log) (bound s (Did (start_at s k log q) ∷ log)) (active s c log) (omega arith)))
+    (piped_other k c (next_stamp s log) b (sends_of_act (start_at s k log q)) e (piped_start s k log q))
+
+commit_own : (s : Setting) (c : ℕ) (bases : Bases) (b : Site) (log : Log) (a : Attempt) → limit s c log ≤ bound s log
+    → active s c log ≡ Some a → Goes s c b log (commit_act s.catalogue bases c a)
+commit_own s c bases b log a l e = record {
+  time = a.ts;
+  above = rw e (omega arith);
+  below = rw (same_number c) (let m : limit_of (bound s log) (Some a) ≤ bound s log = subst (λ o. limit_of (bound s log) o ≤ bound s log) e l in m);
+  all_at = piped_at c a.ts b (sends_of_act (commit_act s.catalogue bases c a)) (piped_commit s c bases a);
+}
+
+commit_other : (s : Setting) (k c : ℕ) (bases : Bases) (b : Site) (log : Log) (a : Attempt) → (k == c) ≡ false
+    → Goes s c b log (commit_act s.catalogue bases k a)
+commit_other s k c bases b log a e =
+    quiet_act s c b log (commit_act s.catalogue bases k a) (rw e (omega arith)) (piped_other k c a.ts b (sends_of_act (commit_act s.catalogue bases k a)) e (piped_commit s k bases a))
+
+limit_sent : (s : Setting) (c : ℕ) (log : Log) (to : Site) (m : Msg) (hand : Option ℕ)
+    → limit s c log ≡ limit s c (Did (Sends to m hand) ∷ log)
+limit_sent s c log to m hand =
+    sent_way (λ o. limit s c log ≡ limit_of (bound s log) o) c m (active s c log) (λ a x e. ap (limit_of (bound s log)) e) refl
+
+asks_not_piped : (ts k c : ℕ) (m : Msg) → asks_rows ts k m ≡ true → goes_through c m ≡ false
+asks_not_piped ts k c (Fetch a b t u) e = refl
+asks_not_piped ts k c (Reduce a b t u v) e = refl
+asks_not_piped ts k c (Ship a b) e = refl
+asks_not_piped ts k c _ e = cc
+
+send_quiet : (s : Setting) (c : ℕ) (b : Site) (log : Log) (to : Site) (m : Msg) (hand : Option ℕ) → goes_through c m ≡ false
+    → Goes s c b log (Sends to m hand)
+send_quiet s c b log to m hand e =
+    quiet_act s c b log (Sends to m hand) (let l = limit_sent s c log to m hand in omega arith) (times_none c (same_site b to) m [] e refl)
+
+null_own : (s : Setting) (c : ℕ) (b : Site) (log : Log) (to : Site) (hand : Option ℕ)
+    → Goes s c b log (Sends to (Null (class_no c) (time_at (limit s c log))) hand)
+null_own s c b log to hand = record {
+  time = limit s c log;
+  above = omega arith;
+  below = (let l = limit_sent s c log to (Null (class_no c) (time_at (limit s c log))) hand in omega arith);
+  all_at = times_if c (limit s c log) (same_site b to) (Null (class_no c) (time_at (limit s c log))) [] (time_piped c (limit s c log) (Null (class_no c) (time_at (limit s c log))) refl) tt;
+}
+
+send_goes : (s : Setting) (c : ℕ) (b : Site) (log : Log) (to : Site) (m : Msg) (hand : Option ℕ) → IsSend s log m
+    → Goes s c b log (Sends to m hand)
+send_goes s c b log to m hand (of_exchange k a at i e w) = send_quiet s c b log to m hand (asks_not_piped a.ts k c m e)
+send_goes s c b log to m hand (a_null k at e) = elim (same_or_not k c) [
+  | inl p ↦ subst (λ x. Goes s c b log (Sends to x hand)) (sym (e ∙ ap (λ j. Null (class_no j) (time_at (limit s j log))) p)) (null_own s c b log to hand)
+  | inr p ↦ send_quiet s c b log to m hand (ap (λ x. goes_through c x) e ∙ p)
+]
+send_goes s c b log to m hand (a_held e) = send_quiet s c b log to m hand (ap (λ x. goes_through c x) e)
+send_goes s c b log to m hand (a_hold e) = send_quiet s c b log to m hand (ap (λ x. goes_through c x) e)
+send_goes s c b log to m hand (a_release ts e) = send_quiet s c b log to m hand (ap (λ x. goes_through c x) e)
+
+pub goes : (s : Setting) (c : ℕ) (b : Site) (log : Log) (act : Act) → number_of s.site ≤ 63 → limit s c log ≤ bound s log
+    → IsStep s log act → Goes s c b log act
+goes s c b log act w l i = step_way s log act (Goes s c b log)
+    (λ k q at f e. elim (same_or_not k c) [
+      | inl p ↦ subst (λ j. Goes s c b log (start_at s j log q)) (sym p) (start_own s c b log q w (rw p at f) (rw p at e))
+      | inr p ↦ start_other s k c b log q p
+    ])
+    (λ k bases a at f. elim (same_or_not k c) [
+      | inl p ↦ subst (λ j. Goes s c b log (commit_act s.catalogue bases j a)) (sym p) (commit_own s c bases b log a l (rw p at f))
+      | inr p ↦ commit_other s k c bases b log a p
+    ])
+    (λ to m hand f. send_goes s c b log to m hand f) i
+
+timed_on : (s : Setting) (c : ℕ) (b : Site) (log : Log) (e : Entry) → limit s c log ≤ limit s c (e ∷ log)
+    → puts_to b (e ∷ log) ≡ puts_to b log → IsTimed s c b log → IsTimed s c b (e ∷ log)
+timed_on s c b log e l p h =
+    record { rises = rw p h.rises; within = rw p (le_up (limit s c log) (limit s c (e ∷ log)) (times_in c (puts_to b log)) l h.within) }
+
+limit_handed : (s : Setting) (c : ℕ) (from : Site) (m : Msg) (log : Log) → limit s c log ≤ bound s log
+    → limit s c log ≤ limit s c (Handed from m ∷ log)
+limit_handed s c from m log l =
+    let up = bound_rises s (Handed from m) log in
+    handed_way (λ o. limit s c log ≤ limit_of (bound s (Handed from m ∷ log)) o) c from m (active s c log) (omega arith)
+    (λ a x e. let p : limit s c log ≡ limit_of (bound s log) (Some a) = ap (limit_of (bound s log)) e in omega arith)
+    (limit_on (bound s log) (bound s (Handed from m ∷ log)) (active s c log) up)
+
+pub timed : (s : Setting) (c : ℕ) (b : Site) (log : Log) → number_of s.site ≤ 63 → Each (IsFair s) log → IsTimed s c b log
+timed s c b [] w h = record { rises = tt; within = tt }
+timed s c b (Handed from m ∷ log) w h =
+    timed_on s c b log (Handed from m) (limit_handed s c from m log (limit_le s log c w h.1)) refl (timed s c b log w h.1)
+timed s c b (Ticked n ∷ log) w h =
+    timed_on s c b log (Ticked n) (limit_on (bound s log) (bound s (Ticked n ∷ log)) (active s c log) (bound_rises s (Ticked n) log)) refl (timed s c b log w h.1)
+timed s c b (Redeclared force t ∷ log) w h =
+    timed_on s c b log (Redeclared force t) (limit_on (bound s log) (bound s (Redeclared force t ∷ log)) (active s c log) (bound_rises s (Redeclared force t) log)) refl (timed s c b log w h.1)
+timed s c b (Submits n txn ∷ log) w h = timed_on s c b log (Submits n txn) (omega arith) refl (timed s c b log w h.1)
+timed s c b (Did act ∷ log) w h =
+    let i = timed s c b log w h.1 in
+    let g = goes s c b log act w (limit_le s log c w h.1) h.0 in
+    let e = times_join c (puts_to b log) (to_site b (sends_of_act act)) in
+    record {
+      rises = rw e (rising_join g.time _ _ i.rises (le_up (limit s c log) g.time _ g.above i.within) g.all_at);
+      within = rw e (le_same (limit s c (Did act ∷ log)) g.time _ _ g.below (le_up (limit s c log) (limit s c (Did act ∷ log)) _ (omega (arith, g.above, g.below)) i.within) g.all_at);
+    }

@@ -1,0 +1,188 @@
+-- The WRITEs of a class on a link have different, rising times; each was put by the Commit of the attempt with its time.
+use Rattle.std.proofs.Common.{ℕ, ◌++◌, ◌<◌, ◌==◌, ◌||◌, ◌∙◌, ◌∷◌, ◌≡◌, ◌≤◌, ◌⊎◌, Bool, List, None, Option, Some, [], ap, append-nil, arith, cond, false, if◌then◌else◌, inl, inr, map, not, refl, subst, suc, sym, true}
+use Rattle.std.proofs.lemmas.List.Elements.{filter_map-append}
+use Rattle.sdd_base.specs.Numbers.{class_no, dm_no, time_at, txn_no}
+use Rattle.sdd_base.specs.Sites.{number_of, same_site}
+use Rattle.sdd_base.specs.Words.{head_of, is_empty}
+use Rattle.sdd_base.specs.declared.change.Change.{Change}
+use Rattle.sdd_base.specs.declared.site.Site.{Site}
+use Rattle.sdd_base.specs.declared.site.Site.TheVariants.{D}
+use Rattle.sdd_catalog.specs.Catalogue.{Catalogue}
+use Rattle.sdd_lang.specs.Effect.{effect}
+use Rattle.sdd_wire.specs.declared.msg.Msg.{Msg}
+use Rattle.sdd_wire.specs.declared.msg.Msg.TheVariants.{Write}
+use Rattle.sdd_module.specs.SiteLog.{Act, Bases, Did, Each, Entry, Handed, Log, Redeclared, Sends, Setting, Submits, Ticked, sends_of_act}
+use Rattle.sdd_attempt.specs.Acts.{commit_act, write_to}
+use Rattle.sdd_attempt.specs.Attempts.{Attempt, active, asks_rows}
+use Rattle.sdd_attempt.specs.Queues.{Queued, queue}
+use Rattle.sdd_invariants.proofs.Clocks.{bound_rises, drawn, stamp_below_bound}
+use Rattle.sdd_invariants.specs.OnLinks.{write_at, writes_in}
+use Rattle.sdd_invariants.specs.Stamps.{stamp_or}
+use Rattle.sdd_steps.proofs.Active.{handed_way, sent_way, step_way}
+use Rattle.sdd_steps.proofs.Bools.{same_number, same_or_not}
+use Rattle.sdd_steps.proofs.Lists.{lt_push, lt_up, strict_push}
+use Rattle.sdd_steps.proofs.Sites.{GoesTo, one_to}
+use Rattle.sdd_steps.specs.Orders.{AllLt, IsStrict}
+use Rattle.sdd_steps.specs.Steps.{IsFair, IsSend, IsStep, a_held, a_hold, a_null, a_release, bound, changes_at, last_stamp, of_exchange, start_at}
+use Rattle.sdd_steps.specs.Traffic.{puts_to, to_site}
+
+-- no WRITE with this time or a later one was put yet
+abbrev pub open_of : ℕ → Option Attempt → ℕ
+open_of b None = suc b
+open_of b (Some a) = a.ts
+
+abbrev pub open_from : Setting → ℕ → Log → ℕ
+open_from s c log = open_of (bound s log) (active s c log)
+
+-- one act puts at most one WRITE of the class on the link, at the open time
+pub record Opens (s : Setting) (c : ℕ) (b : Site) (log : Log) (act : Act) : Type 0 where
+  pub rises : open_from s c log ≤ open_from s c (Did act ∷ log)
+  pub puts : (writes_in c (to_site b (sends_of_act act)) ≡ []) ⊎ ((t : ℕ) × (open_from s c log ≤ t) × (t < open_from s c (Did act ∷ log)) × (writes_in c (to_site b (sends_of_act act)) ≡ t ∷ []))
+
+open_le : (b d : ℕ) (o : Option Attempt) → b ≤ d → open_of b o ≤ open_of d o
+open_le b d None l = omega arith
+open_le b d (Some a) l = omega arith
+
+open_bound : (b d : ℕ) (o : Option Attempt) → stamp_or o ≤ b → b ≤ d → open_of b o ≤ suc d
+open_bound b d None h l = omega arith
+open_bound b d (Some a) h l = omega arith
+
+no_writes_if : (c : ℕ) (b : Bool) (m : Msg) (ms : List Msg) → write_at c m ≡ None → writes_in c ms ≡ []
+    → writes_in c (if b then m ∷ ms else ms) ≡ []
+no_writes_if c true m ms e h = rw e h
+no_writes_if c false m ms e h = h
+
+start_writes : (c : ℕ) (b : Site) (f : ℕ → Site × Msg) (ds : List ℕ) → ((d : ℕ) → write_at c (f d).1 ≡ None)
+    → writes_in c (to_site b (map f ds)) ≡ []
+start_writes c b f [] h = refl
+start_writes c b f (d ∷ ds) h =
+    no_writes_if c (same_site b (f d).0) (f d).1 (to_site b (map f ds)) (h d) (start_writes c b f ds h)
+
+open_started : (s : Setting) (k c : ℕ) (log : Log) (q : Queued) → number_of s.site ≤ 63 → active s k log ≡ None
+    → head_of (queue s k log) ≡ Some q → open_from s c log ≤ open_from s c (Did (start_at s k log q) ∷ log)
+open_started s k c log q w i e = elim (same_or_not k c) [
+  | inl p ↦ subst (λ j. open_from s j log ≤ open_from s j (Did (start_at s k log q) ∷ log)) p (rw (same_number k, i, e) (omega arith))
+  | inr p ↦ rw p (open_le (bound s log) (bound s (Did (start_at s k log q) ∷ log)) (active s c log) (omega arith))
+]
+
+opens_start : (s : Setting) (k c : ℕ) (b : Site) (log : Log) (q : Queued) → number_of s.site ≤ 63 → active s k log ≡ None
+    → head_of (queue s k log) ≡ Some q → Opens s c b log (start_at s k log q)
+opens_start s k c b log q w i e = record { rises = open_started s k c log q w i e; puts = inl (start_writes c b _ _ (λ d. refl)) }
+
+abbrev sent_to : ℕ → Msg → Option (Site × Msg)
+sent_to d m = Some (D (dm_no d), m)
+
+goes_cond : (b : Bool) (d : ℕ) (m : Msg)
+    → (cond b (sent_to d m) None ≡ None) ⊎ ((x : Msg) × (cond b (sent_to d m) None ≡ sent_to d x))
+goes_cond true d m = inr (m, refl)
+goes_cond false d m = inl refl
+
+pub goes_write : (cat : Catalogue) (c : ℕ) (a : Attempt) (changes : List Change) → GoesTo (write_to cat c a changes)
+goes_write cat c a changes d = goes_cond _ d _
+
+pub cond_is : (b : Bool) (x y : Site × Msg) → cond b (Some x) None ≡ Some y → x ≡ y
+cond_is true x y e = cc
+cond_is false x y e = cc
+
+pub write_is : (cat : Catalogue) (c : ℕ) (a : Attempt) (changes : List Change) (d : ℕ) (m : Msg)
+    → write_to cat c a changes d ≡ Some (D (dm_no d), m)
+    → m ≡ Write (time_at a.ts) (class_no c) (txn_no a.txn) (changes_at cat d changes)
+write_is cat c a changes d m e =
+    sym (ap (λ (p : Site × Msg). p.1) (cond_is (not (is_empty (changes_at cat d changes)) || (c == 0)) (D (dm_no d), Write (time_at a.ts) (class_no c) (txn_no a.txn) (changes_at cat d changes)) (D (dm_no d), m) e))
+
+-- what a Commit puts on a link
+pub commit_puts : (s : Setting) (c : ℕ) (bases : Bases) (b : Site) (a : Attempt)
+    → (to_site b (sends_of_act (commit_act s.catalogue bases c a)) ≡ [])
+    ⊎ ((d : ℕ) × (to_site b (sends_of_act (commit_act s.catalogue bases c a)) ≡ Write (time_at a.ts) (class_no c) (txn_no a.txn) (changes_at s.catalogue d (effect s.catalogue (bases a.ts) a.text).changes) ∷ []))
+commit_puts s c bases b a = elim (one_to (write_to s.catalogue c a (effect s.catalogue (bases a.ts) a.text).changes) b 1 s.catalogue.dms (goes_write s.catalogue c a (effect s.catalogue (bases a.ts) a.text).changes)) [
+  | inl e ↦ inl e
+  | inr p ↦ inr (p.0, p.3 ∙ ap (λ m. m ∷ []) (write_is s.catalogue c a (effect s.catalogue (bases a.ts) a.text).changes p.0 p.1 p.2))
+]
+
+write_time_is : (k c t n : ℕ) (xs : List Change)
+    → write_at c (Write (time_at t) (class_no k) (txn_no n) xs) ≡ cond (k == c) (Some t) None
+write_time_is k c t n xs = refl
+
+opens_commit_own : (s : Setting) (c : ℕ) (bases : Bases) (b : Site) (log : Log) (a : Attempt) → active s c log ≡ Some a
+    → a.ts ≤ bound s log → Opens s c b log (commit_act s.catalogue bases c a)
+opens_commit_own s c bases b log a e l = record {
+  rises = rw (e, same_number c) (omega arith);
+  puts = elim (commit_puts s c bases b a) [
+    | inl p ↦ inl (rw p refl)
+    | inr p ↦ inr (a.ts, rw e (omega arith), rw (same_number c) (omega arith), ap (writes_in c) p.1 ∙ (rw (same_number c) refl))
+  ];
+}
+
+opens_commit_other : (s : Setting) (k c : ℕ) (bases : Bases) (b : Site) (log : Log) (a : Attempt) → (k == c) ≡ false
+    → Opens s c b log (commit_act s.catalogue bases k a)
+opens_commit_other s k c bases b log a e = record {
+  rises = rw e (omega arith);
+  puts = inl (elim (commit_puts s k bases b a) [ inl p ↦ rw p refl | inr p ↦ ap (writes_in c) p.1 ∙ (rw e refl) ]);
+}
+
+open_sent : (s : Setting) (c : ℕ) (log : Log) (to : Site) (m : Msg) (hand : Option ℕ)
+    → open_from s c log ≡ open_from s c (Did (Sends to m hand) ∷ log)
+open_sent s c log to m hand =
+    sent_way (λ o. open_from s c log ≡ open_of (bound s log) o) c m (active s c log) (λ a x e. ap (open_of (bound s log)) e) refl
+
+asks_not_write : (ts k c : ℕ) (m : Msg) → asks_rows ts k m ≡ true → write_at c m ≡ None
+asks_not_write ts k c (Write a b t u) e = cc
+asks_not_write ts k c _ e = refl
+
+send_not_write : (s : Setting) (c : ℕ) (log : Log) (m : Msg) → IsSend s log m → write_at c m ≡ None
+send_not_write s c log m (of_exchange k a at i e w) = asks_not_write a.ts k c m e
+send_not_write s c log m (a_null k at e) = ap (write_at c) e
+send_not_write s c log m (a_held e) = ap (write_at c) e
+send_not_write s c log m (a_hold e) = ap (write_at c) e
+send_not_write s c log m (a_release ts e) = ap (write_at c) e
+
+pub opens : (s : Setting) (c : ℕ) (b : Site) (log : Log) (act : Act) → number_of s.site ≤ 63
+    → ((k : ℕ) → stamp_or (active s k log) ≤ last_stamp s log) → IsStep s log act → Opens s c b log act
+opens s c b log act w l i = step_way s log act (Opens s c b log)
+    (λ k q at f e. opens_start s k c b log q w f e)
+    (λ k bases a at f. elim (same_or_not k c) [
+      | inl p ↦ subst (λ j. Opens s c b log (commit_act s.catalogue bases j a)) (sym p) (opens_commit_own s c bases b log a (rw p at f)
+          (let m : stamp_or (Some a) ≤ last_stamp s log = subst (λ o. stamp_or o ≤ last_stamp s log) f (l k) in let z = stamp_below_bound s log w in omega arith))
+      | inr p ↦ opens_commit_other s k c bases b log a p
+    ])
+    (λ to m hand f. record { rises = (let q = open_sent s c log to m hand in omega arith); puts = inl (no_writes_if c (same_site b to) m [] (send_not_write s c log m f) refl) }) i
+
+pub record IsWritten (s : Setting) (c : ℕ) (b : Site) (log : Log) : Type 0 where
+  pub strict : IsStrict (writes_in c (puts_to b log))
+  pub closed : AllLt (open_from s c log) (writes_in c (puts_to b log))
+
+written_on : (s : Setting) (c : ℕ) (b : Site) (log : Log) (e : Entry) → open_from s c log ≤ open_from s c (e ∷ log)
+    → puts_to b (e ∷ log) ≡ puts_to b log → IsWritten s c b log → IsWritten s c b (e ∷ log)
+written_on s c b log e l p h =
+    record { strict = rw p h.strict; closed = rw p (lt_up (open_from s c log) (open_from s c (e ∷ log)) (writes_in c (puts_to b log)) l h.closed) }
+
+open_handed : (s : Setting) (c : ℕ) (from : Site) (m : Msg) (log : Log) → number_of s.site ≤ 63
+    → stamp_or (active s c log) ≤ last_stamp s log → open_from s c log ≤ open_from s c (Handed from m ∷ log)
+open_handed s c from m log w l =
+    let up = bound_rises s (Handed from m) log in let z = stamp_below_bound s log w in
+    handed_way (λ o. open_from s c log ≤ open_of (bound s (Handed from m ∷ log)) o) c from m (active s c log) (open_bound (bound s log) (bound s (Handed from m ∷ log)) (active s c log) (omega arith) up)
+    (λ a x e. let p : open_from s c log ≡ open_of (bound s log) (Some a) = ap (open_of (bound s log)) e in omega arith)
+    (open_le (bound s log) (bound s (Handed from m ∷ log)) (active s c log) up)
+
+pub written : (s : Setting) (c : ℕ) (b : Site) (log : Log) → number_of s.site ≤ 63 → Each (IsFair s) log → IsWritten s c b log
+written s c b [] w h = record { strict = tt; closed = tt }
+written s c b (Handed from m ∷ log) w h =
+    written_on s c b log (Handed from m) (open_handed s c from m log w (drawn s log h.1 c)) refl (written s c b log w h.1)
+written s c b (Ticked n ∷ log) w h =
+    written_on s c b log (Ticked n) (open_le (bound s log) (bound s (Ticked n ∷ log)) (active s c log) (bound_rises s (Ticked n) log)) refl (written s c b log w h.1)
+written s c b (Redeclared force t ∷ log) w h =
+    written_on s c b log (Redeclared force t) (open_le (bound s log) (bound s (Redeclared force t ∷ log)) (active s c log) (bound_rises s (Redeclared force t) log)) refl (written s c b log w h.1)
+written s c b (Submits n txn ∷ log) w h = written_on s c b log (Submits n txn) (omega arith) refl (written s c b log w h.1)
+written s c b (Did act ∷ log) w h =
+    let i = written s c b log w h.1 in
+    let o = opens s c b log act w (drawn s log h.1) h.0 in
+    let e = filter_map-append (write_at c) (puts_to b log) (to_site b (sends_of_act act)) in
+    elim o.puts [
+      | inl p ↦ (let same : writes_in c (puts_to b (Did act ∷ log)) ≡ writes_in c (puts_to b log) = e ∙ ap (λ xs. writes_in c (puts_to b log) ++ xs) p ∙ append-nil _ in
+          record { strict = rw same i.strict; closed = rw same (lt_up (open_from s c log) (open_from s c (Did act ∷ log)) _ o.rises i.closed) })
+      | inr p ↦ (let one : writes_in c (puts_to b (Did act ∷ log)) ≡ writes_in c (puts_to b log) ++ p.0 ∷ [] = e ∙ ap (λ xs. writes_in c (puts_to b log) ++ xs) p.3 in
+          record {
+            strict = rw one (strict_push p.0 _ i.strict (lt_up (open_from s c log) p.0 _ p.1 i.closed));
+            closed = rw one (lt_push (open_from s c (Did act ∷ log)) p.0 _ (lt_up (open_from s c log) (open_from s c (Did act ∷ log)) _ o.rises i.closed) p.2);
+          })
+    ]

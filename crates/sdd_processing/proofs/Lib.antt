@@ -1,0 +1,3 @@
+pub mod Processed
+pub mod PutBy
+pub mod Waiting

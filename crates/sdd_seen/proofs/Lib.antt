@@ -1,0 +1,4 @@
+pub mod Applied
+pub mod ClassOrder
+pub mod InPipe
+pub mod Split

@@ -1,0 +1,78 @@
+-- Tests, and numbers that are the same or not.
+use Rattle.std.proofs.Common.{ℕ, ◌&&◌, ◌<◌, ◌==◌, ◌||◌, ◌≡◌, ◌≤◌, ◌⊎◌, Bool, None, Option, Some, arith, eq-eqb, false, if◌then◌else◌, inl, inr, refl, subst, suc, true}
+use Rattle.std.proofs.Math.Decide.{dec_le}
+use Rattle.std.proofs.lemmas.Bool.{eqb-true}
+
+pub if_way : {A : Type 0} (P : A → Type 0) (b : Bool) (x y : A) → P x → P y → P (if b then x else y)
+if_way P true x y h k = h
+if_way P false x y h k = k
+
+pub both : (a b : Bool) → a ≡ true → b ≡ true → (a && b) ≡ true
+both true true e f = refl
+both true false e f = cc
+both false b e f = cc
+
+pub and_left : (a b : Bool) → (a && b) ≡ true → a ≡ true
+and_left true b e = refl
+and_left false b e = cc
+
+pub and_right : (a b : Bool) → (a && b) ≡ true → b ≡ true
+and_right true b e = e
+and_right false b e = cc
+
+pub or_left : (a b : Bool) → a ≡ true → (a || b) ≡ true
+or_left true b e = refl
+or_left false b e = cc
+
+pub or_right : (a b : Bool) → b ≡ true → (a || b) ≡ true
+or_right true b e = refl
+or_right false b e = e
+
+pub neither_left : (a b : Bool) → (a || b) ≡ false → a ≡ false
+neither_left true b e = cc
+neither_left false b e = refl
+
+pub neither_right : (a b : Bool) → (a || b) ≡ false → b ≡ false
+neither_right true b e = cc
+neither_right false b e = e
+
+pub only_right : (a b : Bool) → a ≡ false → (a || b) ≡ true → b ≡ true
+only_right true b e f = cc
+only_right false b e f = f
+
+pub only_left : (a b : Bool) → b ≡ false → (a || b) ≡ true → a ≡ true
+only_left true b e f = refl
+only_left false b e f = cc
+
+pub true_or_false : (b : Bool) → (b ≡ true) ⊎ (b ≡ false)
+true_or_false true = inl refl
+true_or_false false = inr refl
+
+pub not_both : (b : Bool) → b ≡ true → b ≡ false → ⊥
+not_both true e f = cc
+not_both false e f = cc
+
+-- of two numbers
+pub same_or_not : (k c : ℕ) → (k ≡ c) ⊎ ((k == c) ≡ false)
+same_or_not k c =
+    elim (k == c) as (λ b. (k == c) ≡ b → (k ≡ c) ⊎ (b ≡ false)) [ true ↦ λ e. inl (eqb-true k c e) | false ↦ λ e. inr refl ] refl
+
+pub same_number : (c : ℕ) → (c == c) ≡ true
+same_number c = eq-eqb c c refl
+
+pub differ : (a d : ℕ) → (a == d) ≡ false → a ≡ d → ⊥
+differ a d e p = let q : (a == d) ≡ true = subst (λ x. (a == x) ≡ true) p (same_number a) in cc
+
+pub not_zero : (c : ℕ) → 1 ≤ c → (c == 0) ≡ false
+not_zero c h = elim (same_or_not c 0) [ inl p ↦ absurd (omega arith) | inr p ↦ p ]
+
+pub lower_same_higher : (a b : ℕ) → (a < b) ⊎ ((a ≡ b) ⊎ (b < a))
+lower_same_higher a b = elim (dec_le (suc a) b) [
+  | yes p ↦ inl p
+  | no p ↦ elim (dec_le (suc b) a) [ yes q ↦ inr (inr q) | no q ↦ inr (inl (omega (arith, p, q))) ]
+]
+
+-- one of two options
+pub none_not_some : {A : Type 0} (o : Option A) (x : A) → o ≡ None → o ≡ Some x → ⊥
+none_not_some None x e f = cc
+none_not_some (Some y) x e f = cc

@@ -1,0 +1,4 @@
+pub mod Orders
+pub mod ReadSteps
+pub mod Steps
+pub mod Traffic

@@ -1,0 +1,4 @@
+pub mod Fair
+pub mod InOrder
+pub mod Made
+pub mod Sent
