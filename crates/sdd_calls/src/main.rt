@@ -1,4 +1,4 @@
-//! Calls the public functions of the lower crates that take memory, each at least once, and prints
+//! Calls public functions of the lower crates that take memory, each with ample memory, and prints
 //! what they answer.
 //!
 //! No clause ties want of memory to a cause, so that a body which always answers it proves: here each
