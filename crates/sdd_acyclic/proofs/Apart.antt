@@ -56,24 +56,24 @@ module _ {K : Type 0} (D : Deeds K) (starts : Starts D) (applies : Applies D) (e
       (fits : (n : ℕ) → Fits (force n) (declared (of_era D era n)))
       (meets : (n : ℕ) (entries : List Entry) → IsTable (force n) entries → Meets cat entries (declared (of_era D era n)) (λ x. frags x.txn.item.no))
     where
-    -- the transactions of one era have no cycle
-    of_one_era : (n : ℕ) → IsOrderly (λ (a b : Ranked (λ (x : Txn D). era x.no) n). Precedes (system D) a.item b.item)
-    of_one_era n x m p =
-        some_table (force n) (λ t.
-        let S = of_era D era n in
-        let is_facts = facts_over (λ r. r.txn) S (facts_over (λ r. r.item) (system D) (facts D starts applies)) in
-        let rises : (a b : Declared S) → S.class a.txn ≡ S.class b.txn → S.ts a.txn ≤ S.ts b.txn → S.p2 a.txn ≤ S.p2 b.txn =
-        λ a b c l. bounds_rise D starts applies a.txn.item b.txn.item c a.class l in
-        let is_declared : IsOrderly (Precedes (declared S)) =
-        orderly (declared S) (conflict_graph (force n)) is_facts (covers (force n) (declared S) (fits n)) (blocks_of t.0) t.1.blocks
-        (waits (force n) t.0 t.1 cat (declared S) (fits n) (λ a. frags a.txn.item.no) (meets n t.0 t.1) rises) in
-        let is_barriers : HasBarriers S =
-        record {
-          barrier = λ u a b c l h q.
-              (barriers D starts applies zero).barrier u.item a.item b.item c l h (precedes_from_over (λ r. r.item) (system D) b a q);
-        } in
-        orderly_with_barriers S is_barriers is_declared x m
-        (path_as (λ a b. Precedes (system D) a.item b.item) (Precedes S) (λ a b. precedes_over (λ r. r.item) (system D) a b) x m x p))
+      -- the transactions of one era have no cycle
+      of_one_era : (n : ℕ) → IsOrderly (λ (a b : Ranked (λ (x : Txn D). era x.no) n). Precedes (system D) a.item b.item)
+      of_one_era n x m p =
+          some_table (force n) (λ t.
+          let S = of_era D era n in
+          let is_facts = facts_over (λ r. r.txn) S (facts_over (λ r. r.item) (system D) (facts D starts applies)) in
+          let rises : (a b : Declared S) → S.class a.txn ≡ S.class b.txn → S.ts a.txn ≤ S.ts b.txn → S.p2 a.txn ≤ S.p2 b.txn =
+          λ a b c l. bounds_rise D starts applies a.txn.item b.txn.item c a.class l in
+          let is_declared : IsOrderly (Precedes (declared S)) =
+          orderly (declared S) (conflict_graph (force n)) is_facts (covers (force n) (declared S) (fits n)) (blocks_of t.0) t.1.blocks
+          (waits (force n) t.0 t.1 cat (declared S) (fits n) (λ a. frags a.txn.item.no) (meets n t.0 t.1) rises) in
+          let is_barriers : HasBarriers S =
+          record {
+            barrier = λ u a b c l h q.
+                (barriers D starts applies zero).barrier u.item a.item b.item c l h (precedes_from_over (λ r. r.item) (system D) b a q);
+          } in
+          orderly_with_barriers S is_barriers is_declared x m
+          (path_as (λ a b. Precedes (system D) a.item b.item) (Precedes S) (λ a b. precedes_over (λ r. r.item) (system D) a b) x m x p))
 
-    pub orderly_in_eras : IsOrderly (Precedes (system D))
-    orderly_in_eras = orderly_by_rank (Precedes (system D)) (λ x. era x.no) era_rises of_one_era
+      pub orderly_in_eras : IsOrderly (Precedes (system D))
+      orderly_in_eras = orderly_by_rank (Precedes (system D)) (λ x. era x.no) era_rises of_one_era

@@ -36,20 +36,41 @@ module _ {T : Type 0} (S : System T) where
   comes_by_or_not : (x : T) (m : List T) (y : T) (p : 1 ≤ S.class x) (q : 1 ≤ S.class y)
       → IsPath (Precedes S) x m y
       → ComesBy S x y ⊎ ((l : List (Declared S))
-          × IsPath (Precedes (declared S)) (record { txn = x; class = p }) l
-          (record { txn = y; class = q }))
+      × IsPath (Precedes (declared S)) (record { txn = x; class = p }) l
+      (record { txn = y; class = q }))
   comes_by_or_not x [] y p q h =
-      inr ([], precedes_over (λ d. d.txn) S (record { txn = x; class = p })
-          (record { txn = y; class = q }) h)
+      inr (
+        [],
+        precedes_over (λ d. d.txn) S (record { txn = x; class = p })
+            (record { txn = y; class = q }) h,
+      )
   comes_by_or_not x (z ∷ m) y p q h =
       elim (zero_or_not z) [
-        | inl c ↦ inl (record { here = z; first = []; last = m; class = c; before = h.0;
-            after = h.1 })
+        | inl c ↦ inl (record {
+          here = z;
+          first = [];
+          last = m;
+          class = c;
+          before = h.0;
+          after = h.1;
+        })
         | inr r ↦ elim (comes_by_or_not z m y r q h.1) [
-          | inl b ↦ inl (record { here = b.here; first = z ∷ b.first; last = b.last;
-              class = b.class; before = (h.0, b.before); after = b.after })
-          | inr l ↦ inr (record { txn = z; class = r } ∷ l.0, (precedes_over (λ d. d.txn) S
-              (record { txn = x; class = p }) (record { txn = z; class = r }) h.0, l.1))
+          | inl b ↦ inl (record {
+            here = b.here;
+            first = z ∷ b.first;
+            last = b.last;
+            class = b.class;
+            before = (h.0, b.before);
+            after = b.after;
+          })
+          | inr l ↦ inr (
+            record { txn = z; class = r } ∷ l.0,
+            (
+              precedes_over (λ d. d.txn) S
+                  (record { txn = x; class = p }) (record { txn = z; class = r }) h.0,
+              l.1,
+            ),
+          )
         ]
       ]
 
@@ -63,7 +84,7 @@ module _ {T : Type 0} (S : System T) where
           | inl b ↦
               let round = path_join (Precedes S) b.here b.last x b.first b.here b.after b.before in
               let l = above h b.here b.here (b.last ++ x ∷ b.first) b.here b.class
-                  (omega arith) round in
+              (omega arith) round in
               absurd (omega arith)
           | inr l ↦ o (record { txn = x; class = r }) l.0 l.1
         ]

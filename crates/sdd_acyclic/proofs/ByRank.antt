@@ -13,7 +13,7 @@ module _ {T : Type 0} (R : T → T → Type 0) (rank : T → ℕ)
   -- a path between two of one rank stays in it
   stays : (n : ℕ) (x : T) (m : List T) (y : T) (e : rank x ≡ n) (f : rank y ≡ n) → IsPath R x m y
       → (l : List (Ranked rank n)) × IsPath (λ (a b : Ranked rank n). R a.item b.item)
-          (record { item = x; is = e }) l (record { item = y; is = f })
+      (record { item = x; is = e }) l (record { item = y; is = f })
   stays n x [] y e f p = ([], p)
   stays n x (z ∷ m) y e f p =
       let one = rises x z p.0 in

@@ -53,8 +53,11 @@ not_both graph k i j a b f (inr p) q = cc
 module _ {T : Type 0} (S : System T) (facts : Facts S) where
   -- different transactions of which the second is not later
   earlier : (x y : T) → S.name x ≢ S.name y → S.ts y ≤ S.ts x → S.ts y < S.ts x
-  earlier x y n l = elim (cases_lt (S.ts y) (S.ts x)) [ inl h ↦ h | inr h ↦ absurd
-      (n (facts.one_time x y (omega arith))) ]
+  earlier x y n l = elim (cases_lt (S.ts y) (S.ts x)) [
+    | inl h ↦ h
+    | inr h ↦ absurd
+        (n (facts.one_time x y (omega arith)))
+  ]
 
   -- within a class what precedes is earlier
   one_class : (x y : T) → Precedes S x y → S.class x ≡ S.class y → S.ts x < S.ts y
@@ -90,22 +93,22 @@ module _ {T : Type 0} (S : System T) (facts : Facts S) where
         not_both graph k (S.class x') (S.class y') (S.class x) (S.class y) f g e
     both_ways x y x' y' k _ _ _ _ d p q (read_write f r w u e) (read_write f' r' w' u' g) =
         d ((same_diagonal graph k (S.class x) (S.class y) f (S.class x') (S.class y') f' e g).0
-            ∙ sym p.class)
+        ∙ sym p.class)
     both_ways x y x' y' k _ _ _ _ d p q (read_write f r w u e) (write_read f' w' r' s' g) =
         let o : f' ≡ f = (same_diagonal graph k (S.class y') (S.class x') f' (S.class x)
-            (S.class y) f g e).2 in
+        (S.class y) f g e).2 in
         u (clash y x' y' x f p q w (subst (λ z. S.Reads y' z) o r') r
-            (subst (λ z. S.Seen x' (S.dm (S.class y') z) y') o s'))
+        (subst (λ z. S.Seen x' (S.dm (S.class y') z) y') o s'))
     both_ways x y x' y' k _ _ _ _ d p q (write_read f w r s e) (write_write m g) =
         not_both graph k (S.class x') (S.class y') (S.class y) (S.class x) f g e
     both_ways x y x' y' k _ _ _ _ d p q (write_read f w r s e) (read_write f' r' w' u' g) =
         let o : f ≡ f' = (same_diagonal graph k (S.class y) (S.class x) f (S.class x')
-            (S.class y') f' e g).2 in
+        (S.class y') f' e g).2 in
         u' (clash y' x y x' f' q p w' (subst (λ z. S.Reads y z) o r) r'
-            (subst (λ z. S.Seen x (S.dm (S.class y) z) y) o s))
+        (subst (λ z. S.Seen x (S.dm (S.class y) z) y) o s))
     both_ways x y x' y' k _ _ _ _ d p q (write_read f w r s e) (write_read f' w' r' s' g) =
         d ((same_diagonal graph k (S.class y) (S.class x) f (S.class y') (S.class x') f' e g).1
-            ∙ sym p.class)
+        ∙ sym p.class)
 
     -- two crossings that close a tour go along different edges
     pub two_edges : (k l : Crossing S graph) → Run S graph k (l ∷ []) k.from → k.edge ≢ l.edge
@@ -115,8 +118,10 @@ module _ {T : Type 0} (S : System T) (facts : Facts S) where
 
     module _ (covers : Covers S graph) where
       same : (x y : T) → x ≡ y → Below S x y
-      same x y e = record { class = ap (λ z. S.class z) e;
-          time = let t : S.ts x ≡ S.ts y = ap (λ z. S.ts z) e in omega arith }
+      same x y e = record {
+        class = ap (λ z. S.class z) e;
+        time = let t : S.ts x ≡ S.ts y = ap (λ z. S.ts z) e in omega arith;
+      }
 
       over : (k : Crossing S graph) → CrossesOver S graph k.from k.to
       over k =
@@ -127,21 +132,48 @@ module _ {T : Type 0} (S : System T) (facts : Facts S) where
       crossing x y (by_class n c l) d = absurd (d c)
       crossing x y (by_writes n f a b l) d =
           let h = covers.horizontal x y f d a b in
-          over (record { from = x; to = y; other = n; apart = d; edge = h.0; out = false;
-              into = false; crosses = write_write l h.1 })
+          over (record {
+            from = x;
+            to = y;
+            other = n;
+            apart = d;
+            edge = h.0;
+            out = false;
+            into = false;
+            crosses = write_write l h.1;
+          })
       crossing x y (by_unseen n f a b u) d =
           let h = covers.diagonal x y f d a b in
-          over (record { from = x; to = y; other = n; apart = d; edge = h.0; out = true;
-              into = false; crosses = read_write f a b u h.1 })
+          over (record {
+            from = x;
+            to = y;
+            other = n;
+            apart = d;
+            edge = h.0;
+            out = true;
+            into = false;
+            crosses = read_write f a b u h.1;
+          })
       crossing x y (by_seen n f a b s) d =
           let h = covers.diagonal y x f (λ e. d (sym e)) b a in
-          over (record { from = x; to = y; other = n; apart = d; edge = h.0; out = false;
-              into = true; crosses = write_read f a b s h.1 })
+          over (record {
+            from = x;
+            to = y;
+            other = n;
+            apart = d;
+            edge = h.0;
+            out = false;
+            into = true;
+            crosses = write_read f a b s h.1;
+          })
 
       -- each step stays in a class or crosses over
       step : (x y : T) → Precedes S x y → Earlier S x y ⊎ CrossesOver S graph x y
-      step x y p = elim (cases_eq (S.class x) (S.class y)) [ inl e ↦ inl
-          (record { class = e; time = one_class x y p e }) | inr n ↦ inr (crossing x y p n) ]
+      step x y p = elim (cases_eq (S.class x) (S.class y)) [
+        | inl e ↦ inl
+            (record { class = e; time = one_class x y p e })
+        | inr n ↦ inr (crossing x y p n)
+      ]
 
       below : (x y : T) → Earlier S x y → Below S x y
       below x y e = record { class = e.class; time = let t = e.time in omega arith }
@@ -152,19 +184,31 @@ module _ {T : Type 0} (S : System T) (facts : Facts S) where
       along x [] y p =
           elim (step x y p) [
             | inl e ↦ inl e
-            | inr c ↦ inr (record { start = c.crossing; rest = []; leaves = c.leaves;
-                run = c.comes })
+            | inr c ↦ inr (record {
+              start = c.crossing;
+              rest = [];
+              leaves = c.leaves;
+              run = c.comes;
+            })
           ]
       along x (z ∷ m) y p =
           elim (step x z p.0) [
             | inl e ↦ elim (along z m y p.1) [
               | inl g ↦ inl (record { class = e.class ∙ g.class; time = omega arith })
-              | inr r ↦ inr (record { start = r.start; rest = r.rest;
-                  leaves = below_on S x z r.start.from (below x z e) r.leaves; run = r.run })
+              | inr r ↦ inr (record {
+                start = r.start;
+                rest = r.rest;
+                leaves = below_on S x z r.start.from (below x z e) r.leaves;
+                run = r.run;
+              })
             ]
             | inr c ↦ elim (along z m y p.1) [
-              | inl g ↦ inr (record { start = c.crossing; rest = []; leaves = c.leaves;
-                  run = below_on S c.crossing.to z y c.comes (below z y g) })
+              | inl g ↦ inr (record {
+                start = c.crossing;
+                rest = [];
+                leaves = c.leaves;
+                run = below_on S c.crossing.to z y c.comes (below z y g);
+              })
               | inr r ↦ inr (record {
                 start = c.crossing;
                 rest = r.start ∷ r.rest;
@@ -179,6 +223,9 @@ module _ {T : Type 0} (S : System T) (facts : Facts S) where
       tour x m p =
           elim (along x m x p) [
             | inl e ↦ absurd (omega arith)
-            | inr r ↦ record { start = r.start; rest = r.rest;
-                closes = run_on S graph r.start r.rest x r.start.from r.run r.leaves }
+            | inr r ↦ record {
+              start = r.start;
+              rest = r.rest;
+              closes = run_on S graph r.start r.rest x r.start.from r.run r.leaves;
+            }
           ]

@@ -19,7 +19,7 @@ module _ {K : Type 0} (D : Deeds K) (starts : Starts D) (applies : Applies D) wh
           | inr n ↦
               let back : D.commit y.no < D.start x.no = starts.in_turn y x (sym c) (omega arith) in
               let rise : D.ts y.no ≤ D.ts x.no =
-                  starts.times_rise y x (sym c) (let s = starts.starts_first y in omega arith) in
+              starts.times_rise y x (sym c) (let s = starts.starts_first y in omega arith) in
               absurd (omega arith)
         ]
       ]
@@ -29,8 +29,8 @@ module _ {K : Type 0} (D : Deeds K) (starts : Starts D) (applies : Applies D) wh
       → p < D.commit x.no
   answer_at x f p r a =
       let h = starts.answered x f r in let e =
-          starts.one_answer x (D.dm (D.class x.no) f) p h.place a h.answered in
-          omega (arith, h.before)
+      starts.one_answer x (D.dm (D.class x.no) f) p h.place a h.answered in
+      omega (arith, h.before)
 
   touches : (x y : Txn D) (f : ℕ) → D.Changes x.no f → D.Reads y.no f
       → Touches D x.no (D.dm (D.class y.no) f)
@@ -38,16 +38,22 @@ module _ {K : Type 0} (D : Deeds K) (starts : Starts D) (applies : Applies D) wh
 
   -- equal times, one transaction
   equal : (x y : Txn D) → D.ts x.no ≤ D.ts y.no → (D.ts x.no < D.ts y.no) ⊎ (x.no ≡ y.no)
-  equal x y l = elim (cases_lt (D.ts x.no) (D.ts y.no)) [ inl h ↦ inl h | inr h ↦ inr
-      (starts.same x y (starts.one_time x y (omega arith))) ]
+  equal x y l = elim (cases_lt (D.ts x.no) (D.ts y.no)) [
+    | inl h ↦ inl h
+    | inr h ↦ inr
+        (starts.same x y (starts.one_time x y (omega arith)))
+  ]
 
   own_earlier : (x y : Txn D) (f : ℕ) → D.class x.no ≡ D.class y.no → D.ts x.no < D.ts y.no
       → D.Changes x.no f → D.Reads y.no f → IsSeen D x.no (D.dm (D.class y.no) f) y.no
   own_earlier x y f c l w r =
       let h = starts.answered y f r in
-      record { answer = h.place; answered = h.answered;
-          applied = applies.after_earlier x y (D.dm (D.class y.no) f) h.place c l
-          (touches x y f w r) h.answered }
+      record {
+        answer = h.place;
+        answered = h.answered;
+        applied = applies.after_earlier x y (D.dm (D.class y.no) f) h.place c l
+            (touches x y f w r) h.answered;
+      }
 
   own_later : (x y : Txn D) (f : ℕ) → D.class x.no ≡ D.class y.no → D.ts y.no ≤ D.ts x.no
       → D.Reads y.no f → ¬ IsSeen D x.no (D.dm (D.class y.no) f) y.no
@@ -58,7 +64,7 @@ module _ {K : Type 0} (D : Deeds K) (starts : Starts D) (applies : Applies D) wh
             absurd (omega (arith, s.applied.before))
         | inr e ↦
             let after = applies.apply_after x (D.dm
-                (D.class y.no) f) s.applied.place s.applied.applied in
+            (D.class y.no) f) s.applied.place s.applied.applied in
             let before = answer_at y f s.answer r s.answered in
             let same : D.commit y.no ≡ D.commit x.no = ap (λ z. D.commit z) e in
             absurd (omega (arith, s.applied.before))
@@ -71,10 +77,16 @@ module _ {K : Type 0} (D : Deeds K) (starts : Starts D) (applies : Applies D) wh
       elim (equal x x' b.time) [
         | inl l ↦
             let h = applies.in_order x x' (D.dm (D.class y.no) f) s.applied.place b.class l
-                (touches x y f w r) s.applied.applied in
-            record { answer = s.answer; answered = s.answered;
-                applied = record { place = h.place; applied = h.applied;
-                before = let l = s.applied.before in let m = h.before in omega arith } }
+            (touches x y f w r) s.applied.applied in
+            record {
+              answer = s.answer;
+              answered = s.answered;
+              applied = record {
+                place = h.place;
+                applied = h.applied;
+                before = let l = s.applied.before in let m = h.before in omega arith;
+              };
+            }
         | inr e ↦ subst (λ z. IsSeen D z (D.dm (D.class y.no) f) y.no) (sym e) s
       ]
 
@@ -95,7 +107,7 @@ module _ {K : Type 0} (D : Deeds K) (starts : Starts D) (applies : Applies D) wh
                 place = s.applied.place;
                 applied =
                     subst (λ z. D.Applied x.no
-                        (D.dm z f) s.applied.place) b.class s.applied.applied;
+                    (D.dm z f) s.applied.place) b.class s.applied.applied;
                 before = let l = s.applied.before in omega arith;
               };
             }
@@ -129,8 +141,11 @@ module _ {K : Type 0} (D : Deeds K) (starts : Starts D) (applies : Applies D) wh
     low u x c l =
         elim (cases_eq (D.name u.no) (D.name x.no)) [
           | inl e ↦ inl (sym (starts.same u x e))
-          | inr n ↦ elim (zero.one_side u x c n) [ inl h ↦ inr h | inr h ↦ absurd
-              (let t = h.time in omega arith) ]
+          | inr n ↦ elim (zero.one_side u x c n) [
+            | inl h ↦ inr h
+            | inr h ↦ absurd
+                (let t = h.time in omega arith)
+          ]
         ]
 
     high : (u y : Txn D) → D.class u.no ≡ 0 → D.ts u.no ≤ D.ts y.no
@@ -138,8 +153,11 @@ module _ {K : Type 0} (D : Deeds K) (starts : Starts D) (applies : Applies D) wh
     high u y c l =
         elim (cases_eq (D.name u.no) (D.name y.no)) [
           | inl e ↦ inl (starts.same u y e)
-          | inr n ↦ elim (zero.one_side u y c n) [ inl h ↦ absurd
-              (let t = h.time in omega arith) | inr h ↦ inr h ]
+          | inr n ↦ elim (zero.one_side u y c n) [
+            | inl h ↦ absurd
+                (let t = h.time in omega arith)
+            | inr h ↦ inr h
+          ]
         ]
 
     -- the first of them is committed not later than u
@@ -172,7 +190,7 @@ module _ {K : Type 0} (D : Deeds K) (starts : Starts D) (applies : Applies D) wh
           answered = a.answered;
           applied =
               h.applies (D.dm (D.class y.no) f) f a.place (inl (touches x y f w r))
-                  (subst (λ z. D.Answered z (D.dm (D.class y.no) f) a.place) (sym g) a.answered);
+              (subst (λ z. D.Answered z (D.dm (D.class y.no) f) a.place) (sym g) a.answered);
         }
     high_sees u x y f c n r w (inl e) (inr h) =
         let a = starts.answered y f r in
@@ -181,9 +199,12 @@ module _ {K : Type 0} (D : Deeds K) (starts : Starts D) (applies : Applies D) wh
         record {
           answer = a.place;
           answered = a.answered;
-          applied = record { place = own.place;
-              applied = subst (λ z. D.Applied z (D.dm (D.class y.no) f) own.place)
-              (sym e) own.applied; before = omega (arith, own.before) };
+          applied = record {
+            place = own.place;
+            applied = subst (λ z. D.Applied z (D.dm (D.class y.no) f) own.place)
+                (sym e) own.applied;
+            before = omega (arith, own.before);
+          };
         }
     high_sees u x y f c n r w (inr l) (inr h) =
         let d = D.dm (D.class y.no) f in
@@ -197,8 +218,11 @@ module _ {K : Type 0} (D : Deeds K) (starts : Starts D) (applies : Applies D) wh
         record {
           answer = a.place;
           answered = a.answered;
-          applied = record { place = first.place; applied = first.applied;
-              before = omega (arith, own.before, mid.before, first.before) };
+          applied = record {
+            place = first.place;
+            applied = first.applied;
+            before = omega (arith, own.before, mid.before, first.before);
+          };
         }
 
     barrier : (u x y : Txn D) → D.class u.no ≡ 0 → D.ts x.no ≤ D.ts u.no → D.ts u.no ≤ D.ts y.no
@@ -211,7 +235,7 @@ module _ {K : Type 0} (D : Deeds K) (starts : Starts D) (applies : Applies D) wh
         let one = answer_at x f s.answer r s.answered in
         let two = low_commit u x (low u x c l) in
         let three = high_apply u y (D.dm (D.class x.no) f) f s.applied.place (starts.copied x f r)
-            (high u y c h) s.applied.applied in
+        (high u y c h) s.applied.applied in
         let four = s.applied.before in
         omega arith
 

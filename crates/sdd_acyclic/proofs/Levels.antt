@@ -52,28 +52,28 @@ module _ {T : Type 0} (S : System T) (graph : List Edge) (blocks : List ℕ) (fa
   crossing_rises x y k _ _ (write_write l e) o d z = omega arith
   crossing_rises x y k _ _ (read_write f r w u e) o d z =
       unseen (slice_index blocks (S.class x - 1) == slice_index blocks k) (S.ts x) (S.ts y)
-          (S.p2 x) (λ t. o (facts.one_time x y t))
+      (S.p2 x) (λ t. o (facts.one_time x y t))
       (λ l. u ((waits.split y x f k d r w e z).1 l))
   crossing_rises x y k _ _ (write_read f w r s e) o d z =
       seen (slice_index blocks (S.class y - 1) == slice_index blocks k) (S.ts y) (S.ts x) (S.p2 y)
-          ((waits.split x y f k (λ t. d (sym t)) r w e z).0 s)
+      ((waits.split x y f k (λ t. d (sym t)) r w e z).0 s)
 
   -- within a class the level does not fall, from one node to another where the vertical edge lies in the block
   turn_rises : (n : ℕ) (x y : T) (a b : Bool) (rest : List Step) → Below S x y
       → LieIn blocks n (turn (S.class y) a b rest) → level S blocks n x a ≤ level S blocks n y b
   turn_rises n x y true true rest h g =
       subst (λ z. cond (slice_index blocks (z - 1) == n) (2 * S.ts x + 1)
-          (2 * S.p2 x) ≤ level S blocks n y true) (sym h.class)
+      (2 * S.p2 x) ≤ level S blocks n y true) (sym h.class)
       (within (slice_index blocks (S.class y - 1) == n) (S.ts x) (S.ts y) (S.p2 x) (S.p2 y) h.time
-          (waits.rises x y h.class h.time))
+      (waits.rises x y h.class h.time))
   turn_rises n x y true false rest h g =
       let e : (slice_index blocks (S.class x - 1) == n) ≡ true =
-          eq-eqb (slice_index blocks (S.class x - 1)) n
-          (ap (λ z. slice_index blocks (z - 1)) h.class ∙ g (S.class y - 1) (inl refl)) in
+      eq-eqb (slice_index blocks (S.class x - 1)) n
+      (ap (λ z. slice_index blocks (z - 1)) h.class ∙ g (S.class y - 1) (inl refl)) in
       subst (λ z. cond z (2 * S.ts x + 1) (2 * S.p2 x) ≤ 2 * S.ts y + 1) (sym e) (omega arith)
   turn_rises n x y false true rest h g =
       let e : (slice_index blocks (S.class y - 1) == n) ≡ true =
-          eq-eqb (slice_index blocks (S.class y - 1)) n (g (S.class y - 1) (inl refl)) in
+      eq-eqb (slice_index blocks (S.class y - 1)) n (g (S.class y - 1) (inl refl)) in
       subst (λ z. 2 * S.ts x + 1 ≤ cond z (2 * S.ts y + 1) (2 * S.p2 y)) (sym e) (omega arith)
   turn_rises n x y false false rest h g = omega arith
 
@@ -84,10 +84,10 @@ module _ {T : Type 0} (S : System T) (graph : List Edge) (blocks : List ℕ) (fa
       let e : slice_index blocks k.edge ≡ n = h k.edge (inl refl) in
       let up : level S blocks n k.from k.out < level S blocks n k.to k.into =
       subst (λ m. level S blocks m k.from k.out < level S blocks m k.to k.into) e
-          (crossing_rises k.from k.to k.edge k.out k.into k.crosses k.other k.apart
-          (λ t. z (sym e ∙ t))) in
+      (crossing_rises k.from k.to k.edge k.out k.into k.crosses k.other k.apart
+      (λ t. z (sym e ∙ t))) in
       let on : level S blocks n k.to k.into ≤ level S blocks n l.from l.out =
-          turn_rises n k.to l.from k.into l.out rest b (λ j m. h j (inr m)) in
+      turn_rises n k.to l.from k.into l.out rest b (λ j m. h j (inr m)) in
       omega arith
 
   stretch_rest : (n : ℕ) (k l : Crossing S graph) (rest : List Step)
@@ -102,7 +102,7 @@ module _ {T : Type 0} (S : System T) (graph : List Edge) (blocks : List ℕ) (fa
   walk_rises n k [] l z r h = stretch_rises n k l [] z r h
   walk_rises n k (a ∷ w) l z r h =
       let first : level S blocks n k.from k.out < level S blocks n a.from a.out =
-          stretch_rises n k a (walk S graph a w l) z r.0 h in
+      stretch_rises n k a (walk S graph a w l) z r.0 h in
       let rest : level S blocks n a.from a.out < level S blocks n l.from l.out =
-          walk_rises n a w l z r.1 (stretch_rest n k a (walk S graph a w l) h) in
+      walk_rises n a w l z r.1 (stretch_rest n k a (walk S graph a w l) h) in
       omega arith

@@ -24,7 +24,7 @@ module _ {T : Type 0} (S : System T) (graph : List Edge) (facts : Facts S)
       let t = tour S facts graph covers x m p in
       no_tour S graph
       (λ k w r d. h k w r (cycle_of_tour S graph covers k w r d
-          (λ l e. two_edges S facts graph k l (subst (λ z. Run S graph k z k.from) e r))))
+      (λ l e. two_edges S facts graph k l (subst (λ z. Run S graph k z k.from) e r))))
       t.start t.rest t.closes
 
   -- a graph without simple cycles needs no protocol
@@ -47,7 +47,7 @@ module _ {T : Type 0} (S : System T) (graph : List Edge) (facts : Facts S)
         let steps = walk S graph k w k in
         let first = first_edge k w k in
         let up = walk_rises S graph blocks facts waits (slice_index blocks k.edge) k w k
-            (not_zero_on_cycle (map ends graph) blocks are start steps c k.edge first) r
+        (not_zero_on_cycle (map ends graph) blocks are start steps c k.edge first) r
         (λ j h. same_on_cycle (map ends graph) blocks are start steps c j k.edge h first) in
         absurd (omega (arith, up))
 

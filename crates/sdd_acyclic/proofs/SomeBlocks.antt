@@ -162,8 +162,8 @@ module _ (edges : List (ℕ × ℕ)) where
                 numbers = before.numbers ++ get_or before.given mark 0 ∷ [];
                 last = before.last;
                 are =
-                subst (λ c. IsNumberingAt marks.items before.given (before.numbers ++ get_or before.given mark 0 ∷ []) before.last c) (sym next)
-                (number_given marks.items before.given before.numbers before.last count before.are (λ n. absurd (n z)));
+                    subst (λ c. IsNumberingAt marks.items before.given (before.numbers ++ get_or before.given mark 0 ∷ []) before.last c) (sym next)
+                    (number_given marks.items before.given before.numbers before.last count before.are (λ n. absurd (n z)));
                 room = before.room;
               }
           | inr n ↦ elim (cases_eq (get_or before.given mark 0) 0) [
@@ -173,9 +173,9 @@ module _ (edges : List (ℕ × ℕ)) where
                   numbers = before.numbers ++ (before.last + 1) ∷ [];
                   last = before.last + 1;
                   are =
-                  subst (λ c. IsNumberingAt marks.items (set before.given mark (before.last + 1)) (before.numbers ++ (before.last + 1) ∷ []) (before.last + 1) c) (sym next)
-                  (number_made marks.items before.given before.numbers before.last count before.are n fresh
-                  (let b = mark_bound count mark (mark_is count (omega arith)) in omega (arith, before.room)));
+                      subst (λ c. IsNumberingAt marks.items (set before.given mark (before.last + 1)) (before.numbers ++ (before.last + 1) ∷ []) (before.last + 1) c) (sym next)
+                      (number_made marks.items before.given before.numbers before.last count before.are n fresh
+                      (let b = mark_bound count mark (mark_is count (omega arith)) in omega (arith, before.room)));
                   room = length-set before.given mark (before.last + 1) ∙ before.room;
                 }
             | inr known ↦
@@ -184,8 +184,8 @@ module _ (edges : List (ℕ × ℕ)) where
                   numbers = before.numbers ++ get_or before.given mark 0 ∷ [];
                   last = before.last;
                   are =
-                  subst (λ c. IsNumberingAt marks.items before.given (before.numbers ++ get_or before.given mark 0 ∷ []) before.last c) (sym next)
-                  (number_given marks.items before.given before.numbers before.last count before.are (λ z. known));
+                      subst (λ c. IsNumberingAt marks.items before.given (before.numbers ++ get_or before.given mark 0 ∷ []) before.last c) (sym next)
+                      (number_given marks.items before.given before.numbers before.last count before.are (λ z. known));
                   room = before.room;
                 }
           ]
@@ -231,5 +231,8 @@ some_blocks edges none =
     (λ k. each_below (λ j. Decided (Linked edges j k)) (λ j. decided) (length edges)) (length edges) (λ d.
     let marks = items_below (IsMark edges) (length edges) (λ k l. mark_of edges k l (d k l)) in
     let all = some_numbers edges marks (length edges) (omega arith) in
-    none (all.numbers, blocks_are edges marks all.numbers
-    (all_numbered marks.items all.given all.numbers all.last (length edges) all.are marks.one_each)))
+    none (
+      all.numbers,
+      blocks_are edges marks all.numbers
+          (all_numbered marks.items all.given all.numbers all.last (length edges) all.are marks.one_each),
+    ))

@@ -88,11 +88,25 @@ module _ {T : Type 0} (S : System T) where
     leaves_or_not c k [] y r = inr (λ h. h)
     leaves_or_not c k (l ∷ w) y r =
         elim (cases_eq (S.class l.from) c) [
-          | inl e ↦ inl (record { first = []; here = l; last = w; class = e; before = r.0;
-              after = r.1; parts = omega arith })
+          | inl e ↦ inl (record {
+            first = [];
+            here = l;
+            last = w;
+            class = e;
+            before = r.0;
+            after = r.1;
+            parts = omega arith;
+          })
           | inr n ↦ elim (leaves_or_not c l w y r.1) [
-            | inl m ↦ inl (record { first = l ∷ m.first; here = m.here; last = m.last;
-                class = m.class; before = (r.0, m.before); after = m.after; parts = omega arith })
+            | inl m ↦ inl (record {
+              first = l ∷ m.first;
+              here = m.here;
+              last = m.last;
+              class = m.class;
+              before = (r.0, m.before);
+              after = m.after;
+              parts = omega arith;
+            })
             | inr d ↦ inr (λ h. elim h [ inl e ↦ n e | inr p ↦ d p ])
           ]
         ]
@@ -105,18 +119,32 @@ module _ {T : Type 0} (S : System T) where
     repeats k (l ∷ w) y r =
         elim (leaves_or_not (S.class l.from) l w y r.1) [
           | inl m ↦ elim (below_or m.here.from l.from m.class) [
-            | inl b ↦ inr (inl (record { start = l; rest = m.first;
-                closes = run_on l m.first m.here.from l.from m.before b; short = omega arith }))
-            | inr b ↦ inr (inr (record { rest = m.here ∷ m.last;
-                run = (below_on k.to l.from m.here.from r.0 b, m.after); short = omega arith }))
+            | inl b ↦ inr (inl (record {
+              start = l;
+              rest = m.first;
+              closes = run_on l m.first m.here.from l.from m.before b;
+              short = omega arith;
+            }))
+            | inr b ↦ inr (inr (record {
+              rest = m.here ∷ m.last;
+              run = (below_on k.to l.from m.here.from r.0 b, m.after);
+              short = omega arith;
+            }))
           ]
           | inr n ↦ elim (repeats l w y r.1) [
             | inl d ↦ inl (n, d)
             | inr s ↦ elim s [
-              | inl t ↦ inr (inl (record { start = t.start; rest = t.rest; closes = t.closes;
-                  short = omega arith }))
-              | inr q ↦ inr (inr (record { rest = l ∷ q.rest; run = (r.0, q.run);
-                  short = omega arith }))
+              | inl t ↦ inr (inl (record {
+                start = t.start;
+                rest = t.rest;
+                closes = t.closes;
+                short = omega arith;
+              }))
+              | inr q ↦ inr (inr (record {
+                rest = l ∷ q.rest;
+                run = (r.0, q.run);
+                short = omega arith;
+              }))
             ]
           ]
         ]
@@ -127,10 +155,18 @@ module _ {T : Type 0} (S : System T) where
     one_shorter k w r =
         elim (leaves_or_not (S.class k.from) k w k.from r) [
           | inl m ↦ elim (below_or m.here.from k.from m.class) [
-            | inl b ↦ inr (record { start = k; rest = m.first;
-                closes = run_on k m.first m.here.from k.from m.before b; short = omega arith })
-            | inr b ↦ inr (record { start = m.here; rest = m.last;
-                closes = run_on m.here m.last k.from m.here.from m.after b; short = omega arith })
+            | inl b ↦ inr (record {
+              start = k;
+              rest = m.first;
+              closes = run_on k m.first m.here.from k.from m.before b;
+              short = omega arith;
+            })
+            | inr b ↦ inr (record {
+              start = m.here;
+              rest = m.last;
+              closes = run_on m.here m.last k.from m.here.from m.after b;
+              short = omega arith;
+            })
           ]
           | inr n ↦ elim (repeats k w k.from r) [
             | inl d ↦ inl (n, d)
@@ -145,11 +181,14 @@ module _ {T : Type 0} (S : System T) where
     tour_below : ((k : Crossing S graph) (w : List (Crossing S graph)) → Run S graph k w k.from
         → ¬ Differ (classes S graph (k ∷ w)))
         → (n : ℕ) (k : Crossing S graph) (w : List (Crossing S graph)) → length w < n
-            → ¬ Run S graph k w k.from
+        → ¬ Run S graph k w k.from
     tour_below h zero k w l r = absurd (omega arith)
     tour_below h (suc n) k w l r = elim
-        (one_shorter k w r) [ inl d ↦ h k w r d | inr t ↦ tour_below h n t.start t.rest
-        (omega arith) t.closes ]
+        (one_shorter k w r) [
+          | inl d ↦ h k w r d
+          | inr t ↦ tour_below h n t.start t.rest
+              (omega arith) t.closes
+        ]
 
     pub no_tour : ((k : Crossing S graph) (w : List (Crossing S graph)) → Run S graph k w k.from
         → ¬ Differ (classes S graph (k ∷ w)))

@@ -63,16 +63,16 @@ turn_differs c false false rest p h d = (h false, d)
 closed_turn : (edges : List (ℕ × ℕ)) (start : ℕ) (first : Step) (c : ℕ) (a b : Bool) (s : Step)
     (rest : List Step)
     → IsWalk edges start (first ∷ turn c a b (s ∷ rest)) start
-        → Differ (nodes_of (first ∷ turn c a b (s ∷ rest))) → (rest ≡ [] → first.edge ≢ s.edge)
+    → Differ (nodes_of (first ∷ turn c a b (s ∷ rest))) → (rest ≡ [] → first.edge ≢ s.edge)
     → IsSimpleCycle edges start (first ∷ turn c a b (s ∷ rest))
 closed_turn edges start first c true true s rest w d n =
     closed_walks_are_cycles edges start first s rest w d n
 closed_turn edges start first c true false s rest w d n =
     closed_walks_are_cycles edges start first (record { edge = c - 1; to = write_node c })
-        (s ∷ rest) w d (λ e. cc)
+    (s ∷ rest) w d (λ e. cc)
 closed_turn edges start first c false true s rest w d n =
     closed_walks_are_cycles edges start first (record { edge = c - 1; to = read_node c })
-        (s ∷ rest) w d (λ e. cc)
+    (s ∷ rest) w d (λ e. cc)
 closed_turn edges start first c false false s rest w d n =
     closed_walks_are_cycles edges start first s rest w d n
 
@@ -103,12 +103,12 @@ module _ {T : Type 0} (S : System T) (graph : List Edge) where
       joins_at k (Horizontal (class_no (S.class x)) (class_no (S.class y))) e
   joins x y k _ _ (write_write l (inr e)) =
       joins_back (pairs graph) k (write_node (S.class y)) (write_node (S.class x))
-          (joins_at k (Horizontal (class_no (S.class y)) (class_no (S.class x))) e)
+      (joins_at k (Horizontal (class_no (S.class y)) (class_no (S.class x))) e)
   joins x y k _ _ (read_write f r w u e) =
       joins_at k (Diagonal (class_no (S.class x)) (class_no (S.class y)) (frag_no f)) e
   joins x y k _ _ (write_read f w r s e) =
       joins_back (pairs graph) k (read_node (S.class y)) (write_node (S.class x))
-          (joins_at k (Diagonal (class_no (S.class y)) (class_no (S.class x)) (frag_no f)) e)
+      (joins_at k (Diagonal (class_no (S.class y)) (class_no (S.class x)) (frag_no f)) e)
 
   module _ (covers : Covers S graph) where
     turns : (x : T) (a b : Bool) (rest : List Step) (to : ℕ)
@@ -117,9 +117,12 @@ module _ {T : Type 0} (S : System T) (graph : List Edge) where
     turns x true true rest to w = w
     turns x true false rest to w =
         (joins_at (S.class x - 1) (Vertical (class_no (S.class x))) (covers.vertical x), w)
-    turns x false true rest to w = (joins_back (pairs graph) (S.class x - 1)
-        (read_node (S.class x)) (write_node (S.class x))
-        (joins_at (S.class x - 1) (Vertical (class_no (S.class x))) (covers.vertical x)), w)
+    turns x false true rest to w = (
+      joins_back (pairs graph) (S.class x - 1)
+          (read_node (S.class x)) (write_node (S.class x))
+          (joins_at (S.class x - 1) (Vertical (class_no (S.class x))) (covers.vertical x)),
+      w,
+    )
     turns x false false rest to w = w
 
     stretches : (k l : Crossing S graph) (rest : List Step) (to : ℕ) → Below S k.to l.from
@@ -154,7 +157,7 @@ module _ {T : Type 0} (S : System T) (graph : List Edge) where
     walk_avoids c k [] l p h n = stretch_avoids c k l [] p n (λ z m. m)
     walk_avoids c k (a ∷ w) l p h n =
         stretch_avoids c k a (walk a w l) p (λ e. h (inl (sym e)))
-            (walk_avoids c a w l p (λ m. h (inr m)) n)
+        (walk_avoids c a w l p (λ m. h (inr m)) n)
 
     stretch_differs : (k l : Crossing S graph) (rest : List Step) → Avoids (S.class l.from) rest
         → Differ (nodes_of rest) → Differ (nodes_of (stretch k l rest))
@@ -168,14 +171,22 @@ module _ {T : Type 0} (S : System T) (graph : List Edge) where
     walk_differs k [] l d n = stretch_differs k l [] (λ z m. m) tt
     walk_differs k (a ∷ w) l d n =
         stretch_differs k a (walk a w l) (walk_avoids (S.class a.from) a w l
-            (covers.declared a.from) d.0 (λ e. n (inl e))) (walk_differs a w l d.1 (λ m. n (inr m)))
+        (covers.declared a.from) d.0 (λ e. n (inl e))) (walk_differs a w l d.1 (λ m. n (inr m)))
 
     walk_some : (k : Crossing S graph) (w : List (Crossing S graph)) (l : Crossing S graph)
         → (s : Step) × (rest : List Step) × (walk k w l ≡ s ∷ rest)
-    walk_some k [] l = (record { edge = k.edge; to = node (S.class l.from) k.into }, turn
-        (S.class l.from) k.into l.out [], refl)
-    walk_some k (a ∷ w) l = (record { edge = k.edge; to = node (S.class a.from) k.into }, turn
-        (S.class a.from) k.into a.out (walk a w l), refl)
+    walk_some k [] l = (
+      record { edge = k.edge; to = node (S.class l.from) k.into },
+      turn
+          (S.class l.from) k.into l.out [],
+      refl,
+    )
+    walk_some k (a ∷ w) l = (
+      record { edge = k.edge; to = node (S.class a.from) k.into },
+      turn
+          (S.class a.from) k.into a.out (walk a w l),
+      refl,
+    )
 
     -- the walk of a tour of different classes is a simple cycle, unless the tour goes along one edge and back
     pub cycle_of_tour : (k : Crossing S graph) (w : List (Crossing S graph))
@@ -185,18 +196,18 @@ module _ {T : Type 0} (S : System T) (graph : List Edge) where
     cycle_of_tour k [] r d n = absurd (k.apart (sym r.class))
     cycle_of_tour k (l ∷ []) r d n =
         closed_turn (pairs graph) (node (S.class k.from) k.out)
-            (record { edge = k.edge; to = node (S.class l.from) k.into })
-            (S.class l.from) k.into l.out
+        (record { edge = k.edge; to = node (S.class l.from) k.into })
+        (S.class l.from) k.into l.out
         (record { edge = l.edge; to = node (S.class k.from) l.into })
-            (turn (S.class k.from) l.into k.out [])
+        (turn (S.class k.from) l.into k.out [])
         (is_walk k (l ∷ []) k r) (walk_differs k (l ∷ []) k d.1 d.0) (λ e. n l refl)
     cycle_of_tour k (l ∷ m ∷ w) r d n =
         let q = walk_some m w k in
         closed_turn (pairs graph) (node (S.class k.from) k.out)
-            (record { edge = k.edge; to = node (S.class l.from) k.into })
-            (S.class l.from) k.into l.out
+        (record { edge = k.edge; to = node (S.class l.from) k.into })
+        (S.class l.from) k.into l.out
         (record { edge = l.edge; to = node (S.class m.from) l.into })
-            (turn (S.class m.from) l.into m.out (walk m w k))
+        (turn (S.class m.from) l.into m.out (walk m w k))
         (is_walk k (l ∷ m ∷ w) k r) (walk_differs k (l ∷ m ∷ w) k d.1 d.0)
         (λ e. absurd (turn_some (S.class m.from) l.into m.out q.0 q.1
-            (subst (λ z. turn (S.class m.from) l.into m.out z ≡ []) q.2 e)))
+        (subst (λ z. turn (S.class m.from) l.into m.out z ≡ []) q.2 e)))

@@ -25,7 +25,7 @@ two =
 abbrev graph : List Edge
 graph =
     Vertical (class_no 1) ∷ Vertical (class_no 2) ∷ Diagonal (class_no 1) (class_no 2)
-        (frag_no 1) ∷ []
+    (frag_no 1) ∷ []
 
 one_time : (x y : Bool) → two.ts x ≡ two.ts y → two.name x ≡ two.name y
 one_time true true e = refl
@@ -88,9 +88,12 @@ waits : (blocks : List ℕ) → Waits two graph blocks
 waits blocks =
     record {
       split =
-          λ x y f k n r w e z. ((λ s. in_time x y
-              (slice_index blocks (two.class y - 1) == slice_index blocks k) s.0 s.1), λ l.
-              (w.0, r.0));
+          λ x y f k n r w e z. (
+            (λ s. in_time x y
+                (slice_index blocks (two.class y - 1) == slice_index blocks k) s.0 s.1),
+            λ l.
+                (w.0, r.0),
+          );
       rises = λ x y c l. rises x y c;
     }
 

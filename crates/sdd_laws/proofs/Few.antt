@@ -229,8 +229,8 @@ module _ (cat : Catalogue) (eras : Eras) (txns : List Txn) (h : History) (starti
         places = g.writer.place ∷ rest.places;
         many = let m = rest.many in omega arith;
         differ =
-        one_place_more g.writer.place rest.places
-        (each_more (IsWriterOf g.earlier) (λ q. eqb g.writer.place q ≡ false) (apart_from a g) rest.places rest.each) rest.differ;
+            one_place_more g.writer.place rest.places
+            (each_more (IsWriterOf g.earlier) (λ q. eqb g.writer.place q ≡ false) (apart_from a g) rest.places rest.each) rest.differ;
         each = (writer_of a p g, each_more (IsWriterOf g.earlier) (IsWriterOf a) (later_writer a g) rest.places rest.each);
       }
 

@@ -95,136 +95,136 @@ module _ (cat : Catalogue) (sound : IsSound cat) (eras : Eras) (are : AreEras ca
     (meeting : KeepsConditions cat eras h)
     (bases : (t : Committed) → IsCommitted h t → IsDatabase cat (base_of cat rows h t.start))
   where
-  -- a changed fragment is there
-  changed_there : (t : Committed) → IsCommitted h t → (f : ℕ) → changes t f ≡ true → IsFragment cat f
-  changed_there t p f c =
-      let m = member_passes (λ (x : Change). x.frag.0 == f) t.changes c in
-      let all : All (ChangeExists cat) t.changes =
-      exists_at cat h exist t.place (Commit (txn_no t.start.txn) t.start.number t.reply t.changes t.values t.rows) p.committed in
-      subst (IsFragment cat) (eqb-true m.0.frag.0 f m.2) (All-contains (ChangeExists cat) t.changes m.0 all m.1)
+    -- a changed fragment is there
+    changed_there : (t : Committed) → IsCommitted h t → (f : ℕ) → changes t f ≡ true → IsFragment cat f
+    changed_there t p f c =
+        let m = member_passes (λ (x : Change). x.frag.0 == f) t.changes c in
+        let all : All (ChangeExists cat) t.changes =
+        exists_at cat h exist t.place (Commit (txn_no t.start.txn) t.start.number t.reply t.changes t.values t.rows) p.committed in
+        subst (IsFragment cat) (eqb-true m.0.frag.0 f m.2) (All-contains (ChangeExists cat) t.changes m.0 all m.1)
 
-  -- and in the write set of its transaction
-  changed_written : (t : Committed) (p : IsCommitted h t) (s : IsOfSubmit cat eras txns h t.start) (f : ℕ) → changes t f ≡ true
-      → contains (write_set cat s.txn) f ≡ true
-  changed_written t p s f c =
-      let text : TextFits cat s.txn = all_at (TextFits cat) txns (t.start.txn - 1) s.txn fit s.txn_is in
-      let base = base_of cat rows h t.start in
-      let all = lie_in_write_set cat sound s.txn text base (bases t p) in
-      let of : All (λ (x : Change). contains (write_set cat s.txn) x.frag.0 ≡ true) t.changes =
-      subst (λ (e : Effect). All (λ (x : Change). contains (write_set cat s.txn) x.frag.0 ≡ true) e.changes) (answering.effect_is t s.txn p s.txn_is) all in
-      let m = member_passes (λ (x : Change). x.frag.0 == f) t.changes c in
-      subst (λ n. contains (write_set cat s.txn) n ≡ true) (eqb-true m.0.frag.0 f m.2) (All-contains (λ (x : Change). contains (write_set cat s.txn) x.frag.0 ≡ true) t.changes m.0 of m.1)
+    -- and in the write set of its transaction
+    changed_written : (t : Committed) (p : IsCommitted h t) (s : IsOfSubmit cat eras txns h t.start) (f : ℕ) → changes t f ≡ true
+        → contains (write_set cat s.txn) f ≡ true
+    changed_written t p s f c =
+        let text : TextFits cat s.txn = all_at (TextFits cat) txns (t.start.txn - 1) s.txn fit s.txn_is in
+        let base = base_of cat rows h t.start in
+        let all = lie_in_write_set cat sound s.txn text base (bases t p) in
+        let of : All (λ (x : Change). contains (write_set cat s.txn) x.frag.0 ≡ true) t.changes =
+        subst (λ (e : Effect). All (λ (x : Change). contains (write_set cat s.txn) x.frag.0 ≡ true) e.changes) (answering.effect_is t s.txn p s.txn_is) all in
+        let m = member_passes (λ (x : Change). x.frag.0 == f) t.changes c in
+        subst (λ n. contains (write_set cat s.txn) n ≡ true) (eqb-true m.0.frag.0 f m.2) (All-contains (λ (x : Change). contains (write_set cat s.txn) x.frag.0 ≡ true) t.changes m.0 of m.1)
 
-  -- the catalogue of an era
-  abbrev pub force : ℕ → Catalogue
-  force n = (slice_index_or eras (n - 1) (0, cat)).1
+    -- the catalogue of an era
+    abbrev pub force : ℕ → Catalogue
+    force n = (slice_index_or eras (n - 1) (0, cat)).1
 
-  module _ (n : ℕ) where
-    abbrev pub Member : Type 0
-    Member = Declared (of_era (deeds cat h) (λ p. begun eras (event_at h p.submit)) n)
+    module _ (n : ℕ) where
+      abbrev pub Member : Type 0
+      Member = Declared (of_era (deeds cat h) (λ p. begun eras (event_at h p.submit)) n)
 
-    abbrev start_of : Member → Attempt
-    start_of x = x.txn.item.no.txn.start
+      abbrev start_of : Member → Attempt
+      start_of x = x.txn.item.no.txn.start
 
-    submit_of : (x : Member) → IsOfSubmit cat eras txns h (start_of x)
-    submit_of x = starting.submitted (start_of x) x.txn.item.is.committed.started
+      submit_of : (x : Member) → IsOfSubmit cat eras txns h (start_of x)
+      submit_of x = starting.submitted (start_of x) x.txn.item.is.committed.started
 
-    -- the catalogue in force at its Submit, and at its Start, is that of the era
-    same_force : (x : Member) → in_force cat eras (event_at h (submit_of x).place) ≡ force n
-    same_force x =
-        let s = submit_of x in
-        let at : s.place ≡ x.txn.item.no.submit =
-        starting.one_submit (start_of x).txn s.place x.txn.item.no.submit s.submitted x.txn.item.is.submitted in
-        ap (λ k. in_force cat eras (event_at h k)) at ∙ ap force x.txn.is
+      -- the catalogue in force at its Submit, and at its Start, is that of the era
+      same_force : (x : Member) → in_force cat eras (event_at h (submit_of x).place) ≡ force n
+      same_force x =
+          let s = submit_of x in
+          let at : s.place ≡ x.txn.item.no.submit =
+          starting.one_submit (start_of x).txn s.place x.txn.item.no.submit s.submitted x.txn.item.is.submitted in
+          ap (λ k. in_force cat eras (event_at h k)) at ∙ ap force x.txn.is
 
-    started_in_force : (x : Member) → in_force cat eras (event_at h (start_of x).place) ≡ force n
-    started_in_force x =
-        let era = kept.one_era (start_of x) x.txn.item.no.submit x.txn.item.is.committed.started x.txn.item.is.submitted in
-        ap force (sym era ∙ x.txn.is)
+      started_in_force : (x : Member) → in_force cat eras (event_at h (start_of x).place) ≡ force n
+      started_in_force x =
+          let era = kept.one_era (start_of x) x.txn.item.no.submit x.txn.item.is.committed.started x.txn.item.is.submitted in
+          ap force (sym era ∙ x.txn.is)
 
-    covered_there : (x : Member) → IsCovered (force n) (submit_of x).txn (start_of x).class
-    covered_there x =
-        subst (λ c. IsCovered c (submit_of x).txn (start_of x).class) (same_force x)
-        (class_covers cat sound eras are txns h starting (start_of x) (submit_of x) x.class)
+      covered_there : (x : Member) → IsCovered (force n) (submit_of x).txn (start_of x).class
+      covered_there x =
+          subst (λ c. IsCovered c (submit_of x).txn (start_of x).class) (same_force x)
+          (class_covers cat sound eras are txns h starting (start_of x) (submit_of x) x.class)
 
-    read_there : (x : Member) (f : ℕ) → reads (start_of x) f ≡ true → IsReadAt cat (start_of x).class f
-    read_there x f r = reads_there cat sound eras are txns h starting (start_of x) f x.txn.item.is.committed.started r
+      read_there : (x : Member) (f : ℕ) → reads (start_of x) f ≡ true → IsReadAt cat (start_of x).class f
+      read_there x f r = reads_there cat sound eras are txns h starting (start_of x) f x.txn.item.is.committed.started r
 
-    is_era : (x : Member) → IsEraOf cat (force n)
-    is_era x = subst (IsEraOf cat) (same_force x) (force_is cat eras are (event_at h (submit_of x).place))
+      is_era : (x : Member) → IsEraOf cat (force n)
+      is_era x = subst (IsEraOf cat) (same_force x) (force_is cat eras are (event_at h (submit_of x).place))
 
-    in_era : (x : Member) (f : ℕ) → IsFragment cat f → IsFragmentOf (force n) f
-    in_era x f there =
-        let same : length (force n).fragments ≡ length cat.fragments = ap (λ (z : List Fragment). length z) (is_era x).fragments in
-        let to = there.1 in
-        record { from = there.0; to = omega arith }
+      in_era : (x : Member) (f : ℕ) → IsFragment cat f → IsFragmentOf (force n) f
+      in_era x f there =
+          let same : length (force n).fragments ≡ length cat.fragments = ap (λ (z : List Fragment). length z) (is_era x).fragments in
+          let to = there.1 in
+          record { from = there.0; to = omega arith }
 
-    pub fits : Fits (force n) (declared (of_era (deeds cat h) (λ p. begun eras (event_at h p.submit)) n))
-    fits =
-        record {
-          class = λ x. (covered_there x).class;
-          fragment_read = λ x f r. in_era x f (read_there x f r).fragment;
-          fragment_changed = λ x f c. in_era x f (changed_there x.txn.item.no.txn x.txn.item.is.committed f c);
-          reads = λ x f r.
-              subst (λ k. is_some (reads_at k (start_of x).class f) ≡ true) (same_force x)
-              (read_in_force cat sound eras are txns h starting (start_of x) (submit_of x) f x.class r);
-          changes = λ x f c.
-              let s = submit_of x in
-              (covered_there x).writes f
-              (ap (λ w. contains w f) (write_set_in_era cat (force n) (is_era x) s.txn)
-              ∙ changed_written x.txn.item.no.txn x.txn.item.is.committed s f c);
-        }
-
-    module _ (table : List Entry) (is_table : IsTable (force n) table) where
-      condition_is : (y : Member) (d : ℕ) (c : Cond)
-          → Contains (conditions cat table (start_of y).class d (frags_of y.txn.item.no) (start_of y).ts (p2_time (start_of y))) c
-          → IsConditionOf cat eras h (start_of y) d c
-      condition_is y d c m =
-          let a = start_of y in
-          let l = y.class in
-          let class : (a.class == 0) ≡ false = ne_eqb a.class 0 (λ z. absurd (omega arith)) in
+      pub fits : Fits (force n) (declared (of_era (deeds cat h) (λ p. begun eras (event_at h p.submit)) n))
+      fits =
           record {
-            table = table;
-            table_is = subst (λ k. IsTable k table) (sym (started_in_force y)) is_table;
-            there =
-            subst (λ b. Contains (cond b (undeclared_conditions cat a.ts) (conditions cat table a.class d (frags_of y.txn.item.no) a.ts (p2_time a))) c) (sym class) m;
-          }
-
-      met : (x y : Member) (f g : ℕ) (c : Cond) → reads (start_of y) f ≡ true
-          → Contains (conditions cat table (start_of y).class (module_of cat (start_of y).class f) (frags_of y.txn.item.no) (start_of y).ts (p2_time (start_of y))) c
-          → c.class.0 ≡ (start_of x).class → changes x.txn.item.no.txn g ≡ true → contains (map (λ (z : FragNo). z.0) c.frags) g ≡ true
-          → has_copy cat (module_of cat (start_of y).class f) g ≡ true
-          → IsSeen (deeds cat h) x.txn.item.no (module_of cat (start_of y).class f) y.txn.item.no ↔ ((start_of x).ts < c.time.0)
-      met x y f g c r m e w named copied =
-          let a = start_of y in
-          let d = module_of cat a.class f in
-          let t = x.txn.item.no.txn in
-          let touches : TouchesOne cat t d c.frags = record { fragment = g; changed = w; copied = copied; named = named } in
-          let split : (k : ℕ) → IsAnswered h a d k → AppliedBefore h t.start.txn d k ↔ (t.start.ts < c.time.0) =
-          λ k q. meeting.met a d k c t y.txn.item.is.committed.started q (condition_is y d c m) x.txn.item.is.committed (sym e) touches in (
-            (λ s. (split s.answer s.answered).0 (record { place = s.applied.place; applied = s.applied.applied; before = s.applied.before })),
-            λ l.
-                let at = (are_starts cat sound eras are rows txns h starting answering applying).answered y.txn.item f r in
-                let b = (split at.place at.answered).1 l in
-                record {
-                  answer = at.place;
-                  answered = at.answered;
-                  applied = record { place = b.place; applied = b.applied; before = b.before };
-                },
-          )
-
-      pub meets : Meets cat table (declared (of_era (deeds cat h) (λ p. begun eras (event_at h p.submit)) n)) (λ x. frags_of x.txn.item.no)
-      meets =
-          record {
-            class = λ x.
-                let c = (covered_there x).class in
-                let few = (is_era x).classes in
-                let to = c.to in
-                record { from = c.from; to = omega arith };
+            class = λ x. (covered_there x).class;
+            fragment_read = λ x f r. in_era x f (read_there x f r).fragment;
+            fragment_changed = λ x f c. in_era x f (changed_there x.txn.item.no.txn x.txn.item.is.committed f c);
             reads = λ x f r.
-                let all = ascending (fragments_in (start_of x).uses) in
-                ap (λ z. contains z f) (numbers_back all) ∙ in_ascending (fragments_in (start_of x).uses) f r;
-            dm = λ x f r. (read_there x f r).read;
-            copies = λ x f r. (read_there x f r).copy;
-            met = met;
+                subst (λ k. is_some (reads_at k (start_of x).class f) ≡ true) (same_force x)
+                (read_in_force cat sound eras are txns h starting (start_of x) (submit_of x) f x.class r);
+            changes = λ x f c.
+                let s = submit_of x in
+                (covered_there x).writes f
+                (ap (λ w. contains w f) (write_set_in_era cat (force n) (is_era x) s.txn)
+                ∙ changed_written x.txn.item.no.txn x.txn.item.is.committed s f c);
           }
+
+      module _ (table : List Entry) (is_table : IsTable (force n) table) where
+        condition_is : (y : Member) (d : ℕ) (c : Cond)
+            → Contains (conditions cat table (start_of y).class d (frags_of y.txn.item.no) (start_of y).ts (p2_time (start_of y))) c
+            → IsConditionOf cat eras h (start_of y) d c
+        condition_is y d c m =
+            let a = start_of y in
+            let l = y.class in
+            let class : (a.class == 0) ≡ false = ne_eqb a.class 0 (λ z. absurd (omega arith)) in
+            record {
+              table = table;
+              table_is = subst (λ k. IsTable k table) (sym (started_in_force y)) is_table;
+              there =
+                  subst (λ b. Contains (cond b (undeclared_conditions cat a.ts) (conditions cat table a.class d (frags_of y.txn.item.no) a.ts (p2_time a))) c) (sym class) m;
+            }
+
+        met : (x y : Member) (f g : ℕ) (c : Cond) → reads (start_of y) f ≡ true
+            → Contains (conditions cat table (start_of y).class (module_of cat (start_of y).class f) (frags_of y.txn.item.no) (start_of y).ts (p2_time (start_of y))) c
+            → c.class.0 ≡ (start_of x).class → changes x.txn.item.no.txn g ≡ true → contains (map (λ (z : FragNo). z.0) c.frags) g ≡ true
+            → has_copy cat (module_of cat (start_of y).class f) g ≡ true
+            → IsSeen (deeds cat h) x.txn.item.no (module_of cat (start_of y).class f) y.txn.item.no ↔ ((start_of x).ts < c.time.0)
+        met x y f g c r m e w named copied =
+            let a = start_of y in
+            let d = module_of cat a.class f in
+            let t = x.txn.item.no.txn in
+            let touches : TouchesOne cat t d c.frags = record { fragment = g; changed = w; copied = copied; named = named } in
+            let split : (k : ℕ) → IsAnswered h a d k → AppliedBefore h t.start.txn d k ↔ (t.start.ts < c.time.0) =
+            λ k q. meeting.met a d k c t y.txn.item.is.committed.started q (condition_is y d c m) x.txn.item.is.committed (sym e) touches in (
+              (λ s. (split s.answer s.answered).0 (record { place = s.applied.place; applied = s.applied.applied; before = s.applied.before })),
+              λ l.
+                  let at = (are_starts cat sound eras are rows txns h starting answering applying).answered y.txn.item f r in
+                  let b = (split at.place at.answered).1 l in
+                  record {
+                    answer = at.place;
+                    answered = at.answered;
+                    applied = record { place = b.place; applied = b.applied; before = b.before };
+                  },
+            )
+
+        pub meets : Meets cat table (declared (of_era (deeds cat h) (λ p. begun eras (event_at h p.submit)) n)) (λ x. frags_of x.txn.item.no)
+        meets =
+            record {
+              class = λ x.
+                  let c = (covered_there x).class in
+                  let few = (is_era x).classes in
+                  let to = c.to in
+                  record { from = c.from; to = omega arith };
+              reads = λ x f r.
+                  let all = ascending (fragments_in (start_of x).uses) in
+                  ap (λ z. contains z f) (numbers_back all) ∙ in_ascending (fragments_in (start_of x).uses) f r;
+              dm = λ x f r. (read_there x f r).read;
+              copies = λ x f r. (read_there x f r).copy;
+              met = met;
+            }

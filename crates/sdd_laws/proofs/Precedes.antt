@@ -31,8 +31,8 @@ is_applied h n d k (Apply txn class dm ts) s t =
       class = class.0;
       ts = ts.0;
       stands =
-      subst (λ m. Stands h k (Apply (txn_no m) class (dm_no d) ts)) one
-      (subst (λ m. Stands h k (Apply txn class (dm_no m) ts)) two s);
+          subst (λ m. Stands h k (Apply (txn_no m) class (dm_no d) ts)) one
+          (subst (λ m. Stands h k (Apply txn class (dm_no m) ts)) two s);
     }
 is_applied h n d k (Submit txn) s t = absurd (cc)
 is_applied h n d k (Start txn attempt class ts p2 uses) s t = absurd (cc)

@@ -110,6 +110,7 @@ before_the_one p q (x ∷ h) one some =
     and_none : (b : Bool) → ((b && false) || false) ≡ false
     and_none true = refl
     and_none false = refl
+
     and_all : (b c : Bool) → ((b && true) || c) ≡ (b || c)
     and_all true c = refl
     and_all false c = refl
@@ -148,140 +149,140 @@ module _ (cat : Catalogue) (sound : IsSound cat) (eras : Eras) (are : AreEras ca
     (fit : All (Fits cat) txns) (held : All (λ (t : Text). All PutsHeld t.statements) txns)
     (starting : KeepsStarts cat eras txns h) (answering : KeepsAnswers cat rows txns h) (applying : KeepsApplies cat h)
   where
-  pub is_committed : (t : Committed) → Contains (committed h) t → IsCommitted h t
-  is_committed t m = from_committed h t m
+    pub is_committed : (t : Committed) → Contains (committed h) t → IsCommitted h t
+    is_committed t m = from_committed h t m
 
-  abbrev pub submit_of : (t : Committed) → IsCommitted h t → IsOfSubmit cat eras txns h t.start
-  submit_of t c = starting.submitted t.start c.started
+    abbrev pub submit_of : (t : Committed) → IsCommitted h t → IsOfSubmit cat eras txns h t.start
+    submit_of t c = starting.submitted t.start c.started
 
-  -- its text is that of its Submit
-  pub text_is : (t : Committed) (c : IsCommitted h t) → (ledger cat txns h).text t ≡ (submit_of t c).txn
-  text_is t c = ap (λ o. unwrap_or o no_text) (submit_of t c).txn_is
+    -- its text is that of its Submit
+    pub text_is : (t : Committed) (c : IsCommitted h t) → (ledger cat txns h).text t ≡ (submit_of t c).txn
+    text_is t c = ap (λ o. unwrap_or o no_text) (submit_of t c).txn_is
 
-  read_sets : (t : Committed) → IsCommitted h t → ascending (fragments_in t.start.uses) ≡ read_set cat ((ledger cat txns h).text t)
-  read_sets t c = ap (λ u. ascending (fragments_in u)) (submit_of t c).uses_are ∙ ap (read_set cat) (sym (text_is t c))
+    read_sets : (t : Committed) → IsCommitted h t → ascending (fragments_in t.start.uses) ≡ read_set cat ((ledger cat txns h).text t)
+    read_sets t c = ap (λ u. ascending (fragments_in u)) (submit_of t c).uses_are ∙ ap (read_set cat) (sym (text_is t c))
 
-  -- what it reads by its text it reads by its Start
-  pub reads_by_start : (t : Committed) → IsCommitted h t → (f : ℕ) → Reads cat (ledger cat txns h) t f → reads t.start f ≡ true
-  reads_by_start t c f m =
-      let here : Contains (ascending (fragments_in t.start.uses)) f = subst (λ z. Contains z f) (sym (read_sets t c)) m in
-      from_ascending (fragments_in t.start.uses) f here
+    -- what it reads by its text it reads by its Start
+    pub reads_by_start : (t : Committed) → IsCommitted h t → (f : ℕ) → Reads cat (ledger cat txns h) t f → reads t.start f ≡ true
+    reads_by_start t c f m =
+        let here : Contains (ascending (fragments_in t.start.uses)) f = subst (λ z. Contains z f) (sym (read_sets t c)) m in
+        from_ascending (fragments_in t.start.uses) f here
 
-  abbrev pub placed_of : (t : Committed) → IsCommitted h t → Txn (deeds cat h)
-  placed_of t c = let s = submit_of t c in at_place cat h t s.place c s.submitted
+    abbrev pub placed_of : (t : Committed) → IsCommitted h t → Txn (deeds cat h)
+    placed_of t c = let s = submit_of t c in at_place cat h t s.place c s.submitted
 
-  -- none saw itself, and one saw only what was committed before it
+    -- none saw itself, and one saw only what was committed before it
 
-  not_itself : (t : Committed) → IsCommitted h t → (f : ℕ) → reads t.start f ≡ true
-      → was_seen h t (module_of cat t.start.class f) t ≡ false
-  not_itself t c f r =
-      let x = placed_of t c in
-      let starts = are_starts cat sound eras are rows txns h starting answering applying in
-      let applies = are_applies cat sound eras are rows txns h starting answering applying in
-      let d = module_of cat t.start.class f in
-      elim (cases_Bool (was_seen h t d t)) [
-        | inl seen ↦
-            absurd ((facts (deeds cat h) starts applies).own_later x x f refl (omega arith) r (seen_is cat h x.no x.no d seen))
-        | inr unseen ↦ unseen
-      ]
+    not_itself : (t : Committed) → IsCommitted h t → (f : ℕ) → reads t.start f ≡ true
+        → was_seen h t (module_of cat t.start.class f) t ≡ false
+    not_itself t c f r =
+        let x = placed_of t c in
+        let starts = are_starts cat sound eras are rows txns h starting answering applying in
+        let applies = are_applies cat sound eras are rows txns h starting answering applying in
+        let d = module_of cat t.start.class f in
+        elim (cases_Bool (was_seen h t d t)) [
+          | inl seen ↦
+              absurd ((facts (deeds cat h) starts applies).own_later x x f refl (omega arith) r (seen_is cat h x.no x.no d seen))
+          | inr unseen ↦ unseen
+        ]
 
-  earlier : (t u : Committed) → IsCommitted h t → IsCommitted h u → (f : ℕ) → reads t.start f ≡ true
-      → was_seen h u (module_of cat t.start.class f) t ≡ true → u.place < t.place
-  earlier t u c b f r e =
-      let x = placed_of t c in
-      let y = placed_of u b in
-      let d = module_of cat t.start.class f in
-      let starts = are_starts cat sound eras are rows txns h starting answering applying in
-      let applies = are_applies cat sound eras are rows txns h starting answering applying in
-      let seen = seen_is cat h y.no x.no d e in
-      let one = apply_after cat sound eras are rows txns h starting answering applying u d seen.applied.place b seen.applied.applied in
-      let two = seen.applied.before in
-      let three = answer_at (deeds cat h) starts applies x f seen.answer r seen.answered in
-      omega arith
+    earlier : (t u : Committed) → IsCommitted h t → IsCommitted h u → (f : ℕ) → reads t.start f ≡ true
+        → was_seen h u (module_of cat t.start.class f) t ≡ true → u.place < t.place
+    earlier t u c b f r e =
+        let x = placed_of t c in
+        let y = placed_of u b in
+        let d = module_of cat t.start.class f in
+        let starts = are_starts cat sound eras are rows txns h starting answering applying in
+        let applies = are_applies cat sound eras are rows txns h starting answering applying in
+        let seen = seen_is cat h y.no x.no d e in
+        let one = apply_after cat sound eras are rows txns h starting answering applying u d seen.applied.place b seen.applied.applied in
+        let two = seen.applied.before in
+        let three = answer_at (deeds cat h) starts applies x f seen.answer r seen.answered in
+        omega arith
 
-  -- the snapshots
+    -- the snapshots
 
-  one_answer : (a : Attempt) (d : ℕ) → OneAtMost (is_answer a.txn a.number d) h
-  one_answer a d j k r s p q t u =
-      answering.one_answer a.txn a.number d j k (is_answered h a.txn a.number d j r p t) (is_answered h a.txn a.number d k s q u)
+    one_answer : (a : Attempt) (d : ℕ) → OneAtMost (is_answer a.txn a.number d) h
+    one_answer a d j k r s p q t u =
+        answering.one_answer a.txn a.number d j k (is_answered h a.txn a.number d j r p t) (is_answered h a.txn a.number d k s q u)
 
-  some_answer : (t : Committed) → IsCommitted h t → (f : ℕ) → reads t.start f ≡ true
-      → list_any (λ e. is_answer t.start.txn t.start.number (module_of cat t.start.class f) e.1) h ≡ true
-  some_answer t c f r =
-      let d = module_of cat t.start.class f in
-      let at = reads_there cat sound eras are txns h starting t.start f c.started r in
-      let answer = answering.answered t d c (by_use f r at.read) in
-      any_from (is_answer t.start.txn t.start.number d) h answer.place (Answer (txn_no t.start.txn) t.start.number (dm_no d))
-      answer.answered (answer_passes t.start.txn t.start.number d)
+    some_answer : (t : Committed) → IsCommitted h t → (f : ℕ) → reads t.start f ≡ true
+        → list_any (λ e. is_answer t.start.txn t.start.number (module_of cat t.start.class f) e.1) h ≡ true
+    some_answer t c f r =
+        let d = module_of cat t.start.class f in
+        let at = reads_there cat sound eras are txns h starting t.start f c.started r in
+        let answer = answering.answered t d c (by_use f r at.read) in
+        any_from (is_answer t.start.txn t.start.number d) h answer.place (Answer (txn_no t.start.txn) t.start.number (dm_no d))
+        answer.answered (answer_passes t.start.txn t.start.number d)
 
-  -- what was applied before the Answer was seen
-  applied_is_seen : (t : Committed) → IsCommitted h t → (f : ℕ) → reads t.start f ≡ true → (u : Committed)
-      → is_applied h (module_of cat t.start.class f) (answer_place h t.start (module_of cat t.start.class f)) u.start.txn
-      ≡ was_seen h u (module_of cat t.start.class f) t
-  applied_is_seen t c f r u =
-      let d = module_of cat t.start.class f in
-      before_the_one (is_apply u.start.txn d) (is_answer t.start.txn t.start.number d) h (one_answer t.start d) (some_answer t c f r)
+    -- what was applied before the Answer was seen
+    applied_is_seen : (t : Committed) → IsCommitted h t → (f : ℕ) → reads t.start f ≡ true → (u : Committed)
+        → is_applied h (module_of cat t.start.class f) (answer_place h t.start (module_of cat t.start.class f)) u.start.txn
+        ≡ was_seen h u (module_of cat t.start.class f) t
+    applied_is_seen t c f r u =
+        let d = module_of cat t.start.class f in
+        before_the_one (is_apply u.start.txn d) (is_answer t.start.txn t.start.number d) h (one_answer t.start d) (some_answer t c f r)
 
-  pub snapshot_is : (t : Committed) → IsCommitted h t → (f : ℕ) → reads t.start f ≡ true
-      → items_of cat f (snapshot cat rows h t.start f) ≡ snapshot_by cat (database_of cat rows) (ledger cat txns h) (committed h) t f
-  snapshot_is t c f r =
-      let d = module_of cat t.start.class f in
-      let k = answer_place h t.start d in
-      ap (λ txns. items_of cat f (contents f (first_rows cat rows ++ flat_map dated txns)))
-      (same_filter (λ u. is_applied h d k u.start.txn) (λ u. was_seen h u d t) (committed h) (λ u m. applied_is_seen t c f r u))
+    pub snapshot_is : (t : Committed) → IsCommitted h t → (f : ℕ) → reads t.start f ≡ true
+        → items_of cat f (snapshot cat rows h t.start f) ≡ snapshot_by cat (database_of cat rows) (ledger cat txns h) (committed h) t f
+    snapshot_is t c f r =
+        let d = module_of cat t.start.class f in
+        let k = answer_place h t.start d in
+        ap (λ txns. items_of cat f (contents f (first_rows cat rows ++ flat_map dated txns)))
+        (same_filter (λ u. is_applied h d k u.start.txn) (λ u. was_seen h u d t) (committed h) (λ u m. applied_is_seen t c f r u))
 
-  are_pieces : ArePieces cat (database_of cat rows) (ledger cat txns h) (committed h) (pieces cat rows h)
-  are_pieces =
-      record {
-        each = λ t m f e r there.
-            let c = is_committed t m in
-            let by_start = reads_by_start t c f r in
-            Contains-flat_map (λ g. items_of cat g (snapshot cat rows h t.start g)) (ascending (fragments_in t.start.uses)) f e
-            (subst (λ z. Contains z f) (sym (read_sets t c)) r)
-            (subst (λ z. Contains z e) (sym (snapshot_is t c f by_start)) there);
-        of = λ t m e there.
-            let c = is_committed t m in
-            let g = Contains-from_flat_map (λ g. items_of cat g (snapshot cat rows h t.start g)) (ascending (fragments_in t.start.uses)) e there in
-            let r : Reads cat (ledger cat txns h) t g.0 = subst (λ z. Contains z g.0) (read_sets t c) g.1 in
-            (g.0, r, subst (λ z. Contains z e) (snapshot_is t c g.0 (reads_by_start t c g.0 r)) g.2);
-      }
+    are_pieces : ArePieces cat (database_of cat rows) (ledger cat txns h) (committed h) (pieces cat rows h)
+    are_pieces =
+        record {
+          each = λ t m f e r there.
+              let c = is_committed t m in
+              let by_start = reads_by_start t c f r in
+              Contains-flat_map (λ g. items_of cat g (snapshot cat rows h t.start g)) (ascending (fragments_in t.start.uses)) f e
+              (subst (λ z. Contains z f) (sym (read_sets t c)) r)
+              (subst (λ z. Contains z e) (sym (snapshot_is t c f by_start)) there);
+          of = λ t m e there.
+              let c = is_committed t m in
+              let g = Contains-from_flat_map (λ g. items_of cat g (snapshot cat rows h t.start g)) (ascending (fragments_in t.start.uses)) e there in
+              let r : Reads cat (ledger cat txns h) t g.0 = subst (λ z. Contains z g.0) (read_sets t c) g.1 in
+              (g.0, r, subst (λ z. Contains z e) (snapshot_is t c g.0 (reads_by_start t c g.0 r)) g.2);
+        }
 
-  text_there : (P : Text → Type 0) → All P txns → (t : Committed) → IsCommitted h t → P ((ledger cat txns h).text t)
-  text_there P all t c =
-      let s = submit_of t c in
-      subst P (sym (text_is t c)) (all_at P txns (t.start.txn - 1) s.txn all s.txn_is)
+    text_there : (P : Text → Type 0) → All P txns → (t : Committed) → IsCommitted h t → P ((ledger cat txns h).text t)
+    text_there P all t c =
+        let s = submit_of t c in
+        subst P (sym (text_is t c)) (all_at P txns (t.start.txn - 1) s.txn all s.txn_is)
 
-  one_result : (t u : Committed) → IsCommitted h t → IsCommitted h u → t.start.ts ≡ u.start.ts
-      → (ledger cat txns h).result t ≡ (ledger cat txns h).result u
-  one_result t u c b e =
-      let place = starting.one_time t.start u.start c.started b.started e in
-      let txn = (same_start h t.start u.start c.started b.started place).txn in
-      ap (λ (z : Committed). (ledger cat txns h).result z) (same_txn cat sound eras are rows txns h starting answering applying t u c b txn)
+    one_result : (t u : Committed) → IsCommitted h t → IsCommitted h u → t.start.ts ≡ u.start.ts
+        → (ledger cat txns h).result t ≡ (ledger cat txns h).result u
+    one_result t u c b e =
+        let place = starting.one_time t.start u.start c.started b.started e in
+        let txn = (same_start h t.start u.start c.started b.started place).txn in
+        ap (λ (z : Committed). (ledger cat txns h).result z) (same_txn cat sound eras are rows txns h starting answering applying t u c b txn)
 
-  pub are_recorded : AreRecorded cat (database_of cat rows) (ledger cat txns h) (committed h)
-  are_recorded =
-      record {
-        fits = λ t m. text_there (Fits cat) fit t (is_committed t m);
-        puts_held = λ t m. text_there (λ (z : Text). All PutsHeld z.statements) held t (is_committed t m);
-        time = λ t m. starting.time t.start (is_committed t m).started;
-        one_time = λ t u m n e. one_result t u (is_committed t m) (is_committed u n) e;
-        not_itself = λ t m f r. let c = is_committed t m in not_itself t c f (reads_by_start t c f r);
-        place = λ t. t.place;
-        earlier = λ t u m n f r e.
-            let c = is_committed t m in
-            earlier t u c (is_committed u n) f (reads_by_start t c f r) e;
-        pieces = pieces cat rows h;
-        are_pieces = are_pieces;
-        effect_is = λ t m.
-            let c = is_committed t m in
-            let s = submit_of t c in
-            ap (effect cat (base_of cat rows h t.start)) (text_is t c) ∙ answering.effect_is t s.txn c s.txn_is;
-      }
+    pub are_recorded : AreRecorded cat (database_of cat rows) (ledger cat txns h) (committed h)
+    are_recorded =
+        record {
+          fits = λ t m. text_there (Fits cat) fit t (is_committed t m);
+          puts_held = λ t m. text_there (λ (z : Text). All PutsHeld z.statements) held t (is_committed t m);
+          time = λ t m. starting.time t.start (is_committed t m).started;
+          one_time = λ t u m n e. one_result t u (is_committed t m) (is_committed u n) e;
+          not_itself = λ t m f r. let c = is_committed t m in not_itself t c f (reads_by_start t c f r);
+          place = λ t. t.place;
+          earlier = λ t u m n f r e.
+              let c = is_committed t m in
+              earlier t u c (is_committed u n) f (reads_by_start t c f r) e;
+          pieces = pieces cat rows h;
+          are_pieces = are_pieces;
+          effect_is = λ t m.
+              let c = is_committed t m in
+              let s = submit_of t c in
+              ap (effect cat (base_of cat rows h t.start)) (text_is t c) ∙ answering.effect_is t s.txn c s.txn_is;
+        }
 
-  -- so the databases of the snapshots are databases
-  pub snapshots_make_databases : IsDatabase cat (database_of cat rows) → (t : Committed) → IsCommitted h t
-      → IsDatabase cat (base_of cat rows h t.start)
-  unfolding are_recorded
-  snapshots_make_databases first t c =
-      bases_are cat sound (database_of cat rows) first (ledger cat txns h) (committed h) are_recorded t
-      (in_committed h (one_start h starting.numbered) t c)
+    -- so the databases of the snapshots are databases
+    pub snapshots_make_databases : IsDatabase cat (database_of cat rows) → (t : Committed) → IsCommitted h t
+        → IsDatabase cat (base_of cat rows h t.start)
+    unfolding are_recorded
+    snapshots_make_databases first t c =
+        bases_are cat sound (database_of cat rows) first (ledger cat txns h) (committed h) are_recorded t
+        (in_committed h (one_start h starting.numbered) t c)

@@ -56,9 +56,9 @@ module _ (cat : Catalogue) (h : History) (o : IsOrderable cat h) (marks : Marks)
   all_exist =
       All-members (λ t. IsClass cat t.start.class × All (UseExists cat) t.start.uses) txns
       (λ t c.
-          let is = place_of t c in
-          let committed = ordered.committed is.0 t is.1 in
-          (class_exists cat h o.numbers_exist t committed, uses_exist cat h o.numbers_exist t committed))
+      let is = place_of t c in
+      let committed = ordered.committed is.0 t is.1 in
+      (class_exists cat h o.numbers_exist t committed, uses_exist cat h o.numbers_exist t committed))
     where
       place_of : (t : Committed) → Contains txns t → (k : ℕ) × (slice_get txns k ≡ Some t)
       place_of t c = (c.0, slice_get-get_or txns c.0 t c.1 ∙ ap (λ u. Some u) c.2)
@@ -67,8 +67,8 @@ module _ (cat : Catalogue) (h : History) (o : IsOrderable cat h) (marks : Marks)
   ends_within =
       All-members (λ (l : ℕ × ℕ). (l.0 < length txns) × (l.1 < length txns)) (links cat marks txns)
       (λ l c.
-          let p = link_precedes cat h o marks are txns ordered l c in
-          (slice_get_within txns l.0 p.first p.first_is, slice_get_within txns l.1 p.second p.second_is))
+      let p = link_precedes cat h o marks are txns ordered l c in
+      (slice_get_within txns l.0 p.first p.first_is, slice_get_within txns l.1 p.second p.second_is))
 
   module _ (d : Committed) where
     abbrev at : ℕ → Committed
@@ -85,8 +85,8 @@ module _ (cat : Catalogue) (h : History) (o : IsOrderable cat h) (marks : Marks)
         let long = length-map-range_with_len at 0 (length txns) in
         same_lists (map at (nodes (length txns))) txns long
         (λ i e l.
-            let below : i < length txns = omega (arith, l, long) in
-            get_or-map-range_with_len at 0 (length txns) i i e below (omega arith) ∙ get_or_default txns i d e below)
+        let below : i < length txns = omega (arith, l, long) in
+        get_or-map-range_with_len at 0 (length txns) i i e below (omega arith) ∙ get_or_default txns i d e below)
 
     link_before : (i j : ℕ) → has_link (links cat marks txns) i j ≡ true → precedes cat h (at i) (at j) ≡ true
     link_before i j e =
@@ -104,10 +104,11 @@ module _ (cat : Catalogue) (h : History) (o : IsOrderable cat h) (marks : Marks)
     linked : (i j : ℕ) → Contains (nodes (length txns)) i → Contains (nodes (length txns)) j → precedes cat h (at i) (at j) ≡ true
         → (m : List ℕ) × IsPath (λ k l. has_link (links cat marks txns) k l ≡ true) i m j
     linked i j c e p =
-        let path = precedence_linked cat h o marks are txns ordered i j (at i) (at j) (at_is i (within i c)) (at_is j (within j e)) p in
-        (path.0,
-        path_as (λ a b. Contains (links cat marks txns) (a, b)) (λ a b. has_link (links cat marks txns) a b ≡ true)
-        (λ a b. is_link (links cat marks txns) a b) i path.0 j path.1)
+        let path = precedence_linked cat h o marks are txns ordered i j (at i) (at j) (at_is i (within i c)) (at_is j (within j e)) p in (
+          path.0,
+          path_as (λ a b. Contains (links cat marks txns) (a, b)) (λ a b. has_link (links cat marks txns) a b ≡ true)
+              (λ a b. is_link (links cat marks txns) a b) i path.0 j path.1,
+        )
 
     rises : (i j : ℕ) → Contains (nodes (length txns)) i → Contains (nodes (length txns)) j → i < j → (at i).start.ts < (at j).start.ts
     rises i j c e l = ordered.rise i j (at i) (at j) (at_is i (within i c)) (at_is j (within j e)) l

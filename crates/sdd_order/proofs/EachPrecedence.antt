@@ -277,9 +277,10 @@ module _ (cat : Catalogue) (h : History) (o : IsOrderable cat h) (marks : Marks)
               elim (compare j (slice_index_or writers (seen - 1) 0)) [
                 | inl m ↦
                     let node = writer_node f (slice_index_or writers (seen - 1) 0) w in
-                    let first = write_path j (slice_index_or writers (seen - 1) 0) f y node changed w.changes m in
-                    (first.0 ++ slice_index_or writers (seen - 1) 0 ∷ [],
-                    path_join (λ a b. Contains all_links (a, b)) j first.0 (slice_index_or writers (seen - 1) 0) [] i first.1 link)
+                    let first = write_path j (slice_index_or writers (seen - 1) 0) f y node changed w.changes m in (
+                      first.0 ++ slice_index_or writers (seen - 1) 0 ∷ [],
+                      path_join (λ a b. Contains all_links (a, b)) j first.0 (slice_index_or writers (seen - 1) 0) [] i first.1 link,
+                    )
                 | inr (inl e) ↦ ([], subst (λ (z : ℕ). Contains all_links (z, i)) (sym e) link)
                 | inr (inr m) ↦ absurd (omega arith)
               ]

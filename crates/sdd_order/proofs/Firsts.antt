@@ -81,10 +81,11 @@ module _ (p : Rec → Bool) where
         | inr f ↦
             let r = first_least (suc k) h j s in
             let l = r.2 in
-            let same : suc k + r.0 ≡ k + suc r.0 = omega arith in
-            (suc r.0,
-            first_step k x h ∙ ap (λ z. cond z (Some k) (first_from (suc k) h)) f ∙ r.1 ∙ ap (λ (z : ℕ). Some z) same,
-            omega arith)
+            let same : suc k + r.0 ≡ k + suc r.0 = omega arith in (
+              suc r.0,
+              first_step k x h ∙ ap (λ z. cond z (Some k) (first_from (suc k) h)) f ∙ r.1 ∙ ap (λ (z : ℕ). Some z) same,
+              omega arith,
+            )
       ]
 
   -- the last is the greatest
@@ -124,10 +125,11 @@ module _ (p : Rec → Bool) where
   last_greatest k (x ∷ h) (suc j) s =
       let r = last_greatest (suc k) h j s in
       let l = r.2 in
-      let same : suc k + r.0 ≡ k + suc r.0 = omega arith in
-      (suc r.0,
-      last_step k x h ∙ ap (λ o. option_or o (cond (p x.1) (Some k) None)) r.1 ∙ ap (λ (z : ℕ). Some z) same,
-      omega arith)
+      let same : suc k + r.0 ≡ k + suc r.0 = omega arith in (
+        suc r.0,
+        last_step k x h ∙ ap (λ o. option_or o (cond (p x.1) (Some k) None)) r.1 ∙ ap (λ (z : ℕ). Some z) same,
+        omega arith,
+      )
 
   -- one record more
   pub first_more : (h : History) (i : ℕ) (e : ℕ × Rec) → i < length h → e ≡ get_or h i e

@@ -75,9 +75,9 @@ distinct_places starts k (e ∷ h) =
           IsDistinct-cons same_place d rest
           (every (λ c. same_place d c ≡ false) rest
           (λ c m.
-              let place = committed_place starts k e.1 d f in
-              let l = later_place starts (suc k) h c m in
-              ne_eqb d.place c.place (λ same. absurd (omega (arith, same, place, l)))))
+          let place = committed_place starts k e.1 d f in
+          let l = later_place starts (suc k) h c m in
+          ne_eqb d.place c.place (λ same. absurd (omega (arith, same, place, l)))))
           (distinct_places starts (suc k) h)
     ] refl
 
@@ -91,10 +91,10 @@ module _ (cat : Catalogue) (h : History) (o : IsOrderable cat h) where
       (every (λ y. same_time x y ≡ false) some
       (λ y m. ne_eqb x.start.ts y.start.ts
       (λ e.
-          let same = one_of_time cat h o x y (all x (Contains-here x some)) (all y (Contains-later x some y m)) e in
-          let apart = each (λ z. same_place x z ≡ false) some (IsDistinct-head same_place x some d) y m in
-          let wrong : true ≡ false = sym (eq-eqb x.place y.place (ap (λ (t : Committed). t.place) same)) ∙ apart in
-          absurd (cc))))
+      let same = one_of_time cat h o x y (all x (Contains-here x some)) (all y (Contains-later x some y m)) e in
+      let apart = each (λ z. same_place x z ≡ false) some (IsDistinct-head same_place x some d) y m in
+      let wrong : true ≡ false = sym (eq-eqb x.place y.place (ap (λ (t : Committed). t.place) same)) ∙ apart in
+      absurd (cc))))
       (times_from some (λ t m. all t (Contains-later x some t m)) (IsDistinct-tail same_place x some d))
 
   distinct_times : IsDistinct same_time (committed h)
@@ -143,12 +143,15 @@ module _ (cat : Catalogue) (h : History) (o : IsOrderable cat h) where
         at_place [] k w e = absurd (cc)
         at_place (v ∷ ys) zero w e = subst (Contains (v ∷ ys)) (same_Some v w e) (Contains-here v ys)
         at_place (v ∷ ys) (suc k) w e = Contains-later v ys w (at_place ys k w e)
+
         place_is : {X : Type 0} (ys : List X) (k : ℕ) (w : X) → slice_get ys k ≡ Some w → (k < length ys) × ((d : X) → get_or ys k d ≡ w)
         place_is [] k w e = absurd (cc)
         place_is (v ∷ ys) zero w e = (omega arith, λ d. same_Some v w e)
         place_is (v ∷ ys) (suc k) w e = let r = place_is ys k w e in let l = r.0 in (omega arith, r.1)
+
         eqb_flips : (a b : ℕ) → (a == b) ≡ (b == a)
         eqb_flips a b = elim (cases_eq a b) [ inl e ↦ eq-eqb a b e ∙ sym (eq-eqb b a (sym e)) | inr n ↦ ne_eqb a b n ∙ sym (ne_eqb b a (λ e. n (sym e))) ]
+
         strictly : (a b : ℕ) → (a == b) ≡ false → a ≤ b → a < b
         strictly a b d l =
             elim (cases_eq a b) [

@@ -101,6 +101,7 @@ module _ {K : Type 0} (same : K → K → Bool) (key : Rec → Option K) (test :
         second : (o p : Option ℕ) → is_some o ≡ false → option_or o p ≡ p
         second None p e = refl
         second (Some x) p e = absurd (cc)
+
         or_none : (o : Option ℕ) → option_or o None ≡ o
         or_none None = refl
         or_none (Some x) = refl
@@ -130,6 +131,7 @@ module _ {K : Type 0} (same : K → K → Bool) (key : Rec → Option K) (test :
         keeps : (o p : Option ℕ) → is_some o ≡ true → o ≡ option_or o p
         keeps None p e = absurd (cc)
         keeps (Some x) p e = refl
+
         none_keeps : (o : Option ℕ) → o ≡ option_or o None
         none_keeps None = refl
         none_keeps (Some x) = refl

@@ -74,10 +74,11 @@ from_fragment txns f i c =
     let r = Contains-from_flat_map pairs_of (enumerate_from 0 txns) (f, i) c in
     let q = Contains-from_map (λ (d : Change). (d.frag.0, r.0.0)) r.0.1.changes (f, i) r.2 in
     let place : i ≡ r.0.0 = ap (λ (z : ℕ × ℕ). z.1) q.2 in
-    let frag : f ≡ q.0.frag.0 = ap (λ (z : ℕ × ℕ). z.0) q.2 in
-    (r.0.1,
-    subst (λ k. slice_get txns k ≡ Some r.0.1) (sym place) (at_enumerated txns r.0 r.1),
-    passes_member (λ d. d.frag.0 == f) r.0.1.changes q.0 q.1 (eq-eqb q.0.frag.0 f (sym frag)))
+    let frag : f ≡ q.0.frag.0 = ap (λ (z : ℕ × ℕ). z.0) q.2 in (
+      r.0.1,
+      subst (λ k. slice_get txns k ≡ Some r.0.1) (sym place) (at_enumerated txns r.0 r.1),
+      passes_member (λ d. d.frag.0 == f) r.0.1.changes q.0 q.1 (eq-eqb q.0.frag.0 f (sym frag)),
+    )
 
 pub in_fragment : (txns : List Committed) (f i : ℕ) (t : Committed) → slice_get txns i ≡ Some t → changes t f ≡ true
     → Contains (by_fragment txns) (f, i)
@@ -95,13 +96,14 @@ later_place xs n p c = let r = enumerated xs n p c in let place = r.1 in omega (
 
 classes_from : (n : ℕ) (txns : List Committed) → NumbersRise (map (λ (p : ℕ × Committed). (p.1.start.class, p.0)) (enumerate_from n txns))
 classes_from n [] = tt
-classes_from n (t ∷ txns) =
-    ((λ q c.
-        let r = Contains-from_map (λ (p : ℕ × Committed). (p.1.start.class, p.0)) (enumerate_from (n + 1) txns) q c in
-        let place : q.1 ≡ r.0.0 = ap (λ (z : ℕ × ℕ). z.1) r.2 in
-        let l = later_place txns (n + 1) r.0 r.1 in
-        omega (arith, place)),
-    classes_from (n + 1) txns)
+classes_from n (t ∷ txns) = (
+  (λ q c.
+      let r = Contains-from_map (λ (p : ℕ × Committed). (p.1.start.class, p.0)) (enumerate_from (n + 1) txns) q c in
+      let place : q.1 ≡ r.0.0 = ap (λ (z : ℕ × ℕ). z.1) r.2 in
+      let l = later_place txns (n + 1) r.0 r.1 in
+      omega (arith, place)),
+  classes_from (n + 1) txns,
+)
 
 pub classes_rise : (txns : List Committed) → NumbersRise (by_class txns)
 classes_rise txns = classes_from 0 txns
@@ -109,26 +111,27 @@ classes_rise txns = classes_from 0 txns
 one_number : (n : ℕ) (ds : List Change) (rest : List (ℕ × ℕ)) → ((q : ℕ × ℕ) → Contains rest q → n ≤ q.1) → NumbersRise rest
     → NumbersRise (map (λ d. (d.frag.0, n)) ds ++ rest)
 one_number n [] rest h r = r
-one_number n (d ∷ ds) rest h r =
-    ((λ q c. elim (Contains-append_cases (map (λ (e : Change). (e.frag.0, n)) ds) rest q c) [
-      | inl m ↦
-          let s = Contains-from_map (λ (e : Change). (e.frag.0, n)) ds q m in
-          let same : q.1 ≡ n = ap (λ (z : ℕ × ℕ). z.1) s.2 in
-          omega (arith, same)
-      | inr m ↦ h q m
-    ]),
-    one_number n ds rest h r)
+one_number n (d ∷ ds) rest h r = (
+  (λ q c. elim (Contains-append_cases (map (λ (e : Change). (e.frag.0, n)) ds) rest q c) [
+    | inl m ↦
+        let s = Contains-from_map (λ (e : Change). (e.frag.0, n)) ds q m in
+        let same : q.1 ≡ n = ap (λ (z : ℕ × ℕ). z.1) s.2 in
+        omega (arith, same)
+    | inr m ↦ h q m
+  ]),
+  one_number n ds rest h r,
+)
 
 fragments_from : (n : ℕ) (txns : List Committed) → NumbersRise (flat_map pairs_of (enumerate_from n txns))
 fragments_from n [] = tt
 fragments_from n (t ∷ txns) =
     one_number n t.changes (flat_map pairs_of (enumerate_from (n + 1) txns))
     (λ q c.
-        let r = Contains-from_flat_map pairs_of (enumerate_from (n + 1) txns) q c in
-        let s = Contains-from_map (λ (e : Change). (e.frag.0, r.0.0)) r.0.1.changes q r.2 in
-        let same : q.1 ≡ r.0.0 = ap (λ (z : ℕ × ℕ). z.1) s.2 in
-        let l = later_place txns (n + 1) r.0 r.1 in
-        omega (arith, same))
+    let r = Contains-from_flat_map pairs_of (enumerate_from (n + 1) txns) q c in
+    let s = Contains-from_map (λ (e : Change). (e.frag.0, r.0.0)) r.0.1.changes q r.2 in
+    let same : q.1 ≡ r.0.0 = ap (λ (z : ℕ × ℕ). z.1) s.2 in
+    let l = later_place txns (n + 1) r.0 r.1 in
+    omega (arith, same))
     (fragments_from (n + 1) txns)
 
 pub fragments_rise : (txns : List Committed) → NumbersRise (by_fragment txns)

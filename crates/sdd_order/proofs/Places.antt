@@ -33,7 +33,7 @@ pub same_start : (h : History) (a b : Attempt) → IsAttempt h a → IsAttempt h
     → SameStart a b
 same_start h a b p q same =
     let e : Some (Start (txn_no a.txn) a.number (class_no a.class) (time_at a.ts) a.p2 a.uses)
-        ≡ Some (Start (txn_no b.txn) b.number (class_no b.class) (time_at b.ts) b.p2 b.uses) =
+    ≡ Some (Start (txn_no b.txn) b.number (class_no b.class) (time_at b.ts) b.p2 b.uses) =
     sym p ∙ subst (λ k. Stands h k (Start (txn_no b.txn) b.number (class_no b.class) (time_at b.ts) b.p2 b.uses)) (sym same) q in
     let t : txn_no a.txn ≡ txn_no b.txn = cc in
     let c : class_no a.class ≡ class_no b.class = cc in
@@ -73,7 +73,7 @@ pub same_commit : (h : History) (t u : Committed) → IsCommitted h t → IsComm
     → SameCommit t u
 same_commit h t u p q same =
     let e : Some (Commit (txn_no t.start.txn) t.start.number t.reply t.changes t.values t.rows)
-        ≡ Some (Commit (txn_no u.start.txn) u.start.number u.reply u.changes u.values u.rows) =
+    ≡ Some (Commit (txn_no u.start.txn) u.start.number u.reply u.changes u.values u.rows) =
     sym p.committed ∙ subst (λ k. Stands h k (Commit (txn_no u.start.txn) u.start.number u.reply u.changes u.values u.rows)) (sym same) q.committed in
     let n : txn_no t.start.txn ≡ txn_no u.start.txn = cc in
     record { reply = cc; changes = cc; values = cc; rows = cc; txn = ap (λ (z : TxnNo). z.0) n; number = cc }

@@ -91,7 +91,7 @@ Found made h = (n k : ℕ) → made n k ≡ find (is_attempt_of n k) (attempts h
 
 found_more : (h : History) (i : ℕ) (e : ℕ × Rec) (n k : ℕ) → i < length h → e ≡ get_or h i e
     → find (is_attempt_of n k) (attempts (take (i + 1) h))
-        ≡ option_or (find (is_attempt_of n k) (attempts (take i h))) (find (is_attempt_of n k) (cons_option (attempt_of (i, e.1)) []))
+    ≡ option_or (find (is_attempt_of n k) (attempts (take i h))) (find (is_attempt_of n k) (cons_option (attempt_of (i, e.1)) []))
 found_more h i e n k l is =
     ap (find (is_attempt_of n k)) (made_more attempt_of h i e l is)
     ∙ find-append (is_attempt_of n k) (attempts (take i h)) (cons_option (attempt_of (i, e.1)) [])
@@ -174,7 +174,7 @@ found_first_at h i e made new a x y l is some p q absent updates old =
     found_first h i e made new a l is some
     (subst (λ z. is_some (made z a.number) ≡ false) p (subst (λ z. is_some (made x z) ≡ false) q absent))
     (λ n k. updates n k ∙ ap (λ z. cond (is_at (pair_cmp (z, y)) (n, k)) (Some a) (made n k)) p
-        ∙ ap (λ z. cond (is_at (pair_cmp (a.txn, z)) (n, k)) (Some a) (made n k)) q)
+    ∙ ap (λ z. cond (is_at (pair_cmp (a.txn, z)) (n, k)) (Some a) (made n k)) q)
     old
 
 pub found_again_at : (h : History) (i : ℕ) (e : ℕ × Rec) (made : ℕ → ℕ → Option Attempt) (a : Attempt) (x y : ℕ) → i < length h

@@ -49,12 +49,15 @@ module _ (cat : Catalogue) (h : History) (o : IsOrderable cat h) where
       → (r : Committed) × Contains some r × ((y : Committed) → Contains some y → precedes cat h y r ≡ false)
   some_ready some within s m =
       let all : (y : Committed) → Contains some y → IsCommitted h y = λ y k. from_committed h y (within y k) in
-      let r = ready_for (Precedes cat h) (IsCommitted h) decide o.orderly some all s m in
-      (r.ready, r.member, λ y k.
-      elim (cases_Bool (precedes cat h y r.ready)) [
-        | inl e ↦ absurd (r.first y k (record { first = all y k; second = all r.ready r.member; precedes = e }))
-        | inr f ↦ f
-      ])
+      let r = ready_for (Precedes cat h) (IsCommitted h) decide o.orderly some all s m in (
+        r.ready,
+        r.member,
+        λ y k.
+            elim (cases_Bool (precedes cat h y r.ready)) [
+              | inl e ↦ absurd (r.first y k (record { first = all y k; second = all r.ready r.member; precedes = e }))
+              | inr f ↦ f
+            ],
+      )
 
   -- those in order are committed
   pub order_is : (t : Committed) → Contains (in_order cat h) t → IsCommitted h t

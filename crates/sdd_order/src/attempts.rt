@@ -28,7 +28,14 @@ impl<'a> Model for Attempt<'a> {
     ghost Value = { definitions.Attempt };
 
     ghost view = { λ a. record {
-        txn = a.txn.0; number = a.number; class = a.class.0; ts = a.ts.0; p2 = a.p2; uses = a.uses.now; place = a.place } };
+      txn = a.txn.0;
+      number = a.number;
+      class = a.class.0;
+      ts = a.ts.0;
+      p2 = a.p2;
+      uses = a.uses.now;
+      place = a.place;
+    } };
 }
 
 impl<'a> Attempt<'a> {
@@ -65,7 +72,13 @@ impl<'a> Model for Committed<'a> {
     ghost Value = { definitions.Committed };
 
     ghost view = { λ t. record {
-        start = t.start; reply = t.reply.now; changes = t.changes.now; values = t.values; rows = t.rows; place = t.place } };
+      start = t.start;
+      reply = t.reply.now;
+      changes = t.changes.now;
+      values = t.values;
+      rows = t.rows;
+      place = t.place;
+    } };
 }
 
 impl<'a> Committed<'a> {

@@ -28,8 +28,16 @@ pub fn find_links(
     requires exist { All (λ t. IsClass cat.now t.start.class × All (UseExists cat.now) t.start.uses) txns.now }
     ensures { IfOk result (λ made. made.items ≡ links cat.now marks.now txns.now) }
 {
-    let of_class = Groups::of(alloc, &class_pairs(alloc, txns)?, cat.classes() as usize + 1)?;
-    let writers = Groups::of(alloc, &fragment_pairs(alloc, txns)?, cat.fragments() as usize + 1)?;
+    let of_class = Groups::of(
+        alloc,
+        &class_pairs(alloc, txns)?,
+        cat.classes() as usize + 1,
+    )?;
+    let writers = Groups::of(
+        alloc,
+        &fragment_pairs(alloc, txns)?,
+        cat.fragments() as usize + 1,
+    )?;
     let mut links = Vec::new(alloc);
     of_class.add_chains(&mut links)?;
     writers.add_chains(&mut links)?;

@@ -6,7 +6,7 @@ ghost use Rattle.sdd_order.specs.Linked.{numbers_at};
 ghost use Rattle.sdd_order.specs.Orders.{IsOrderable, IsSerial};
 ghost use Rattle.sdd_order.specs.SerialOrder.{serial_order};
 
-use crate::attempts::{find_committed, Committed};
+use crate::attempts::{Committed, find_committed};
 use crate::links::find_links;
 use crate::seen::Marks;
 use sdd_base::{NoMemory, TxnNo};
@@ -38,10 +38,7 @@ pub fn serial_order(
 }
 
 /// The committed transactions in the order of their timestamps.
-fn by_time<'a>(
-    alloc: Global,
-    history: &'a [(u32, Rec)],
-) -> Result<Vec<Committed<'a>>, NoMemory>
+fn by_time<'a>(alloc: Global, history: &'a [(u32, Rec)]) -> Result<Vec<Committed<'a>>, NoMemory>
     ensures permutation { IfOk result (λ txns. IsPermutation (committed history.now) txns.items) }
     ensures sorted { IfOk result (λ txns. IsNonDecreasingBy (λ t. t.start.ts) txns.items) }
 {

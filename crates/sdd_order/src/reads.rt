@@ -145,12 +145,7 @@ fn is_seen(
         → result ≡ has_seen marks.now txns.now dm.0 reader.now writers k }
 {
     match txns.get(writer) {
-        Some(writer) => marks.was_seen(
-            writer.start.txn,
-            dm,
-            reader.start.txn,
-            reader.start.number,
-        ),
+        Some(writer) => marks.was_seen(writer.start.txn, dm, reader.start.txn, reader.start.number),
         None => false,
     }
 }

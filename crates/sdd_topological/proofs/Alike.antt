@@ -208,9 +208,9 @@ module _ (all : List ℕ) (link before : ℕ → ℕ → Bool) (time : ℕ → �
   ready_forth left r i c h k d =
       is_true (before k i)
       (λ t.
-          let path = linked k i (r.within k d) (r.within i c) t in
-          let end = last_step left r k path.0 i d path.1 in
-          not_both (link end.0 i) end.2 (h end.0 end.1))
+      let path = linked k i (r.within k d) (r.within i c) t in
+      let end = last_step left r k path.0 i d path.1 in
+      not_both (link end.0 i) end.2 (h end.0 end.1))
 
   ready_back : (i k : ℕ) → before k i ≡ false → link k i ≡ false
   ready_back i k f = is_true (link k i) (λ t. not_both (before k i) (link_before k i t) f)
@@ -249,6 +249,7 @@ module _ (all : List ℕ) (link before : ℕ → ℕ → Bool) (time : ℕ → �
             | inl e ↦ ap not (eq-eqb j i e ∙ sym (eq-eqb (time j) (time i) (ap time e)))
             | inr n ↦ ap not (ne_eqb j i n ∙ sym (ne_eqb (time j) (time i) (λ e. n (same_time j i d (r.within i c) e))))
           ]
+
       same_filter : (some : List ℕ) → ((j : ℕ) → Contains some j → Contains all j) → without (λ j. j) i some ≡ without time i some
       same_filter [] h = refl
       same_filter (j ∷ some) h =
@@ -262,9 +263,9 @@ module _ (all : List ℕ) (link before : ℕ → ℕ → Bool) (time : ℕ → �
       taken_alike link before (λ i. i) time AreRest
       (λ l m a i j c d e. e)
       (λ l m a i j c d e.
-          let r = a.rest in
-          let into : (k : ℕ) → Contains m k → Contains all k = λ k f. r.within k (subst (λ z. Contains z k) (sym a.same) f) in
-          same_time i j (into i c) (into j d) e)
+      let r = a.rest in
+      let into : (k : ℕ) → Contains m k → Contains all k = λ k f. r.within k (subst (λ z. Contains z k) (sym a.same) f) in
+      same_time i j (into i c) (into j d) e)
       (λ l m a i next. subst (λ z. IsNext time before z i) a.same (next_forth l a.rest i next))
       (λ l m a i next. next_back l a.rest i (subst (λ z. IsNext time before z i) (sym a.same) next))
       (λ l m a i next. record {

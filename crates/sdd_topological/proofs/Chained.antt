@@ -33,9 +33,9 @@ chain_is : (m : ℕ) (xs : List ℕ) → Rises (m ∷ xs) → (l : ℕ × ℕ) �
 chain_is m [] r l c = absurd (Contains-nil l c)
 chain_is m (n ∷ xs) r l c =
     let later : InChain (n ∷ xs) l → InChain (m ∷ n ∷ xs) l = λ i. record {
-        first = Contains-later m (n ∷ xs) l.0 i.first;
-        second = Contains-later m (n ∷ xs) l.1 i.second;
-        below = i.below;
+      first = Contains-later m (n ∷ xs) l.0 i.first;
+      second = Contains-later m (n ∷ xs) l.1 i.second;
+      below = i.below;
     } in
     elim (cases_eq m n) [
       | inl e ↦ later (chain_is n xs r.1 l (subst (λ b. Contains (cond b (chain_after (Some n) xs) ((m, n) ∷ chain_after (Some n) xs)) l) (eq-eqb m n e) c))

@@ -83,6 +83,7 @@ led_none (l ∷ links) left i h =
     or_first : (a b : Bool) → (a || b) ≡ false → a ≡ false
     or_first true b e = absurd (cc)
     or_first false b e = refl
+
     or_second : (a b : Bool) → (a || b) ≡ false → b ≡ false
     or_second true b e = absurd (cc)
     or_second false b e = e
@@ -95,8 +96,8 @@ in_rest x left j n =
       | inr f ↦
           is_in_false (without_node x left) j
           (λ m.
-              let wrong : true ≡ false = sym (is_in_true left j (without_is (λ i. i) x left j m).0) ∙ f in
-              absurd (cc))
+          let wrong : true ≡ false = sym (is_in_true left j (without_is (λ i. i) x left j m).0) ∙ f in
+          absurd (cc))
           ∙ sym f
     ]
 

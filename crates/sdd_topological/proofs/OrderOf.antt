@@ -147,11 +147,11 @@ module _ (links : Links) (count : ℕ) where
           let l = of.closed i j w.0 k in
           in_without (λ i. i) x left j l
           (λ e.
-              -- a link would lead to the one that is ready
-              let led_in = led_without links left i x w.0 in
-              let t = from_times x (group links i) (subst (Contains (group links i)) e k) in
-              let z = x_is.1 in
-              omega arith);
+          -- a link would lead to the one that is ready
+          let led_in = led_without links left i x w.0 in
+          let t = from_times x (group links i) (subst (Contains (group links i)) e k) in
+          let z = x_is.1 in
+          omega arith);
     }
 
     taken_out : Counted (without_node x left) (group links x) (counts, rest)

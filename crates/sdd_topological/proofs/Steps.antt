@@ -20,7 +20,7 @@ filter_range p a (suc n) j e =
     let rest = filter_range p (a + 1) n j (omega (arith, e)) in
     let some : List ℕ = cond (p j) (j ∷ []) [] in
     elim (p a) as (λ b. cond b (a ∷ filter p (range_with_len (a + 1) (suc n))) (filter p (range_with_len (a + 1) (suc n)))
-        ≡ cond b (a ∷ filter p (range_with_len (a + 1) n)) (filter p (range_with_len (a + 1) n)) ++ some) [
+    ≡ cond b (a ∷ filter p (range_with_len (a + 1) n)) (filter p (range_with_len (a + 1) n)) ++ some) [
       | true ↦ ap (λ l. a ∷ l) rest
       | false ↦ rest
     ]

@@ -11,7 +11,11 @@ use std::collections::BTreeSet;
 /// least one to which no link leads from a node that is left. It ends where there is none.
 ///
 /// O((n + l) log n) for n nodes and l links.
-pub fn order_of(alloc: Global, links: &[(usize, usize)], count: usize) -> Result<Vec<usize>, NoMemory>
+pub fn order_of(
+    alloc: Global,
+    links: &[(usize, usize)],
+    count: usize,
+) -> Result<Vec<usize>, NoMemory>
     requires ends { All (λ l. (l.0 < count) × (l.1 < count)) links.now }
     ensures { IfOk result (λ order. order.items ≡ order_of links.now count) }
 {
@@ -22,7 +26,11 @@ pub fn order_of(alloc: Global, links: &[(usize, usize)], count: usize) -> Result
 }
 
 /// Of each node the number of links that lead to it.
-fn link_counts(alloc: Global, links: &[(usize, usize)], count: usize) -> Result<Vec<usize>, NoMemory>
+fn link_counts(
+    alloc: Global,
+    links: &[(usize, usize)],
+    count: usize,
+) -> Result<Vec<usize>, NoMemory>
     requires ends { All (λ l. (l.0 < count) × (l.1 < count)) links.now }
     ensures { IfOk result (λ counts. counts.items ≡ link_counts links.now count) }
 {

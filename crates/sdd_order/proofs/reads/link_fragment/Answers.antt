@@ -18,5 +18,5 @@ returns c =
     ap (λ d. d.0) (c.unwrap_or-dm.ensures) ∙ number_or c.reads_at.result
     ∙ ap (λ o. unwrap_or o 0) (c.reads_at.ensures ∙ ap (λ k. reads_at cat k f) (c.class.ensures)) in
     let are = fragment_links_are cat c.args.marks.now c.args.txns.now c.args.writers.now c.args.reader t f c.unwrap_or-dm.result.0
-        c.first_unseen-unseen.result c.get-of_frag.result.now unchanged at (c.get-of_frag.ensures) c.first_unseen-unseen.ensures.value in
+    c.first_unseen-unseen.result c.get-of_frag.result.now unchanged at (c.get-of_frag.ensures) c.first_unseen-unseen.ensures.value in
     subst (λ more. OnOk c.link_between.result (c.link_between.new.links.items ≡ c.args.links.now.items ++ more)) are (c.link_between.ensures)

@@ -12,7 +12,7 @@ taken-requires-clause-nodes c =
     let links = c.args.links.now in
     let count = c.args.count in
     let ready = ready_made links count c.requires.ends c.deref.result.now c.in_ok-ready.ready.keys
-        (c.deref.ensures.value ∙ c.in_ok-counts.ensures) (c.in_ok-ready.ensures) in
+    (c.deref.ensures.value ∙ c.in_ok-counts.ensures) (c.in_ok-ready.ensures) in
     let many : length c.in_ok-after.after ≡ count = ap length (c.in_ok-after.ensures) ∙ groups_long links count in
     subst (λ n. All (λ i. i < n) c.in_ok-ready.ready.keys) (sym many)
     (subst (All (λ i. i < count)) (sym ready) (first_within links count c.requires.ends))
