@@ -2,6 +2,8 @@ pub mod Addressed
 pub mod Asking
 pub mod Counting
 pub mod Going
+pub mod LineActs
+pub mod LineSteps
 pub mod Lists
 pub mod Noting
 pub mod Phases

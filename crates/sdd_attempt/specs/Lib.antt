@@ -13,4 +13,5 @@ pub mod Reads
 pub mod Room
 pub mod Sound
 pub mod Standings
+pub mod Starts
 pub mod Writes

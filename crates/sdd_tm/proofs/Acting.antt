@@ -1,48 +1,46 @@
 -- A class that has a step makes the act that is due, and the module keeps what follows from the log.
-use Rattle.std.proofs.Common.{ℕ, suc, ◌+◌, ◌<◌, ◌≤◌, ◌^◌, ◌≡◌, ◌≢◌, ◌==◌, Bool, true, false, not, ◌&&◌, cond, List, [], ◌∷◌, map, refl, ap, sym, ◌∙◌, subst, arith, Option, Some, None, is_none}
-use Rattle.std.specs.Prelude.{slice_get, slice_set, if◌then◌else◌, option_map}
+use Rattle.std.proofs.Common.{ℕ, suc, ◌+◌, ◌<◌, ◌≤◌, ◌^◌, ◌≡◌, ◌≢◌, ◌==◌, Bool, true, false, not, ◌&&◌, List, [], ◌∷◌, map, refl, ap, sym, ◌∙◌, subst, arith, Option, Some, None, is_none}
+use Rattle.std.specs.Prelude.{slice_get, slice_set, option_map}
 use Rattle.std.specs.List.{AllByRecursion, filter, list_any, find}
-use Rattle.std.proofs.lemmas.Bool.{and_from, cond-true, eq-eqb, false≢true}
+use Rattle.std.proofs.lemmas.Bool.{false≢true}
 use Rattle.sdd_base.specs.Words.{head_of, is_empty}
 use Rattle.sdd_base.specs.Numbers.{dm_no, class_no, time_at}
 use Rattle.sdd_base.specs.Clock.{Ticking, ticked, timestamp}
-use Rattle.sdd_base.specs.declared.site.Site.{Site}
 use Rattle.sdd_base.specs.declared.site.Site.TheVariants.{D}
-use Rattle.sdd_catalog.specs.Catalogue.{Catalogue}
 use Rattle.sdd_protocol.specs.declared.entry.Entry as line
-use Rattle.sdd_history.specs.declared.record.Rec.{Rec}
-use Rattle.sdd_history.specs.declared.record.Rec.TheVariants.{Nothing}
 use Rattle.sdd_wire.specs.declared.msg.Msg.{Msg}
-use Rattle.sdd_wire.specs.declared.msg.Msg.TheVariants.{Null, Read}
-use Rattle.sdd_module.specs.SiteLog.{Setting, Bases, Log, Did, Act, Records, Sends, in_force, hands, submits, sends_of_act}
+use Rattle.sdd_wire.specs.declared.msg.Msg.TheVariants.{Null}
+use Rattle.sdd_module.specs.SiteLog.{Setting, Bases, Log, Did, Act, Sends, in_force, hands, submits, sends_of_act}
 use Rattle.sdd_module.specs.Notes.{Notes, with_act, noted}
 use Rattle.sdd_attempt.specs.Clocks.{clock, ticked_by}
 use Rattle.sdd_attempt.specs.Queues.{Queued, queue, queue_after, tried}
-use Rattle.sdd_attempt.specs.Exchange.{after_send, begins, send_due}
-use Rattle.sdd_attempt.specs.Attempts.{Attempt, active, active_after, active_sent, asks_rows, started}
+use Rattle.sdd_attempt.specs.Exchange.{begins, send_due}
+use Rattle.sdd_attempt.specs.Attempts.{Attempt, active, active_after, started}
 use Rattle.sdd_attempt.specs.Acts.{start_act, commit_act}
 use Rattle.sdd_attempt.specs.Lines.{line_after, send_next, commit_next, start_next, line_step}
 use Rattle.sdd_attempt.specs.declared.step.LineStep.TheVariants.{Sends as ToSend, Commits as ToCommit}
-use Rattle.sdd_attempt.specs.Fits.{sent, handed, is_read}
-use Rattle.sdd_attempt.specs.Sound.{IsWaiting, IsAsking, IsAskingAt, IsOfHead, IsLineOf, IsUpTo, AllUpTo, IsServed}
+use Rattle.sdd_attempt.specs.Fits.{sent, handed}
+use Rattle.sdd_attempt.specs.Sound.{IsWaiting, IsOfHead, IsLineOf, AllUpTo, IsServed}
 use Rattle.sdd_attempt.proofs.Asking.{NoReads}
 use Rattle.sdd_attempt.proofs.Stamps.{stamped_did}
 use Rattle.sdd_attempt.proofs.SoundLines.{IsApart, IsRequest, request_of, asks_apart, active_apart, line_apart, line_elsewhere, line_sent, line_committed, line_started, commit_no_reads, start_no_reads, start_is_up}
+use Rattle.sdd_attempt.proofs.LineActs.{all_up_of, asking_of, no_read_asked, own_record, record_in, served_sent, starts_committed, starts_sent, starts_started}
+use Rattle.sdd_attempt.specs.Starts.{starts_left}
 use Rattle.sdd_tm.specs.declared.step.Step.{Step}
 use Rattle.sdd_tm.specs.declared.step.Step.TheVariants.{Send, Commit, Answer, Start}
 use Rattle.sdd_tm.specs.Views.{asks, holds, holds_acted, class_view, view_of, runs, on_hold}
 use Rattle.sdd_tm.specs.Due.{next, start_due}
 use Rattle.sdd_tm.specs.State.{ClassState, State, asks_of, class_of, state_of}
 use Rattle.sdd_tm.specs.Steps.{can_answer, asks_done, answer_time, answer_to, act_of, class_step, state_done}
-use Rattle.sdd_tm.specs.Stands.{InTurn, IsSound, starts_left, all_starts, IsAmid, IsCalm}
+use Rattle.sdd_tm.specs.Stands.{InTurn, IsSound, all_starts, IsAmid, IsCalm}
 use Rattle.sdd_tm.proofs.Lists.{some_is, get_map, of_map, by_order}
 use Rattle.sdd_tm.proofs.ClassNumbers.{runs_apart, runs_class}
 use Rattle.sdd_tm.proofs.OpenAsks.{open_did, first_answered}
-use Rattle.sdd_tm.proofs.LineSteps.{has_to_send, commits}
+use Rattle.sdd_attempt.proofs.LineSteps.{has_to_send, commits}
 use Rattle.sdd_tm.proofs.Dues.{IsStep, sends, commits_now, answers, starts, step_is, attempt_is_due, null_is_due, start_is_due}
 use Rattle.sdd_tm.proofs.AfterActs.{no_held, after_request, after_record, after_null}
 use Rattle.sdd_tm.proofs.NoModules.{start_served}
-use Rattle.sdd_tm.proofs.Rooms.{starts_set, starts_sent, starts_started, starts_committed}
+use Rattle.sdd_tm.proofs.Rooms.{starts_set}
 
 -- each class: the one at a place, and the others
 
@@ -109,18 +107,6 @@ amid_after s bases log place c step act made amid e makes after sound served les
 
 -- a message of an exchange
 
-no_read_asked : (t ts c : ℕ) (m : Msg) → asks_rows ts c m ≡ true → IsUpTo t m
-no_read_asked t ts c (Read r class txn attempt conds uses) e = absurd (false≢true e)
-no_read_asked t ts c _ e = tt
-
-pub served_sent : (cat : Catalogue) (bases : Bases) (c : ℕ) (m : Msg) (o : Option Attempt) → IsServed cat bases o
-    → IsServed cat bases (active_sent c m o)
-served_sent cat bases c m None h = tt
-served_sent cat bases c m (Some a) h =
-    elim (asks_rows a.ts c m)
-    as (λ b. IsServed cat bases (if b then Some (record a { exchange = after_send a.exchange }) else Some a))
-    [ true ↦ h | false ↦ h ]
-
 sends_sound : (s : Setting) (log : Log) (place c : ℕ) (a : Attempt) (act : Act) → IsSound s log
     → slice_get (runs s) place ≡ Some c → active s c log ≡ Some a → send_due a.exchange ≡ Some act
     → IsRequest c a act → IsSound s (Did act ∷ log)
@@ -140,10 +126,6 @@ sends_sound s log place c a act sound e is send request =
       unanswered = open_did log act sound.unanswered;
       turns = subst InTurn (sym same) sound.turns;
     }
-
-pub asking_of : (s : Setting) (log : Log) (c : ℕ) (a : Attempt) → IsLineOf s c log → active s c log ≡ Some a
-    → IsAsking c (sent log) (handed log) a
-asking_of s log c a h is = subst (IsAskingAt c (sent log) (handed log)) is h.asking
 
 makes_send : (s : Setting) (bases : Bases) (log : Log) (place end c : ℕ) → IsAmid s bases (state_of s log) log
     → IsCalm place end (state_of s log) → slice_get (runs s) place ≡ Some c
@@ -167,24 +149,6 @@ makes_send s bases log place end c amid calm e h =
     }
 
 -- a Commit
-
--- the record of an act that makes one
-abbrev record_in : Act → Rec
-record_in (Records c r messages) = r
-record_in (Sends to m hand) = Nothing
-
-pub own_record : {A : Type 0} (c : ℕ) (x y : A) → cond (c == c) x y ≡ x
-own_record c x y = cond-true (c == c) x y (eq-eqb c c refl)
-
-up_of_no_read : (t ts c : ℕ) (m : Msg) → ((ts c : ℕ) → is_read ts c m ≡ false) → IsUpTo t m
-up_of_no_read t ts c (Read r class txn attempt conds uses) h =
-    absurd (false≢true (sym (h r.0 class.0) ∙ and_from (r.0 == r.0) (class.0 == class.0) (eq-eqb r.0 r.0 refl)
-    (eq-eqb class.0 class.0 refl)))
-up_of_no_read t ts c _ h = tt
-
-all_up_of : (t : ℕ) (ms : List (Site × Msg)) → ((ts c : ℕ) → NoReads ts c ms) → AllUpTo t ms
-all_up_of t [] h = tt
-all_up_of t (m ∷ ms) h = (up_of_no_read t 0 0 m.1 (λ ts c. (h ts c).0), all_up_of t ms (λ ts c. (h ts c).1))
 
 makes_commit : (s : Setting) (bases : Bases) (log : Log) (place end c : ℕ) → IsAmid s bases (state_of s log) log
     → IsCalm place end (state_of s log) → slice_get (runs s) place ≡ Some c

@@ -20,7 +20,7 @@ use Rattle.sdd_tm.specs.Steps.{can_answer, of_line, own_step, start_step, class_
 use Rattle.sdd_tm.specs.Stands.{IsCalm}
 use Rattle.sdd_tm.proofs.Lists.{some_is, get_map, of_map, none_first, only_first, first_at}
 use Rattle.sdd_tm.proofs.OpenAsks.{none_answered}
-use Rattle.sdd_tm.proofs.LineSteps.{none_due}
+use Rattle.sdd_attempt.proofs.LineSteps.{none_due}
 
 -- a step of a class
 

@@ -1,19 +1,19 @@
 -- A transaction that is given to the module goes to the queue of its class.
 use Rattle.std.proofs.Common.{ℕ, ◌+◌, ◌<◌, ◌≤◌, ◌^◌, ◌≡◌, ◌==◌, Bool, true, false, ◌&&◌, ◌||◌, cond, List, [], ◌∷◌, ◌++◌, map, length, refl, ap, sym, ◌∙◌, subst, arith, is_some}
 use Rattle.std.specs.Prelude.{unwrap_or, if◌then◌else◌}
-use Rattle.std.specs.List.{AllByRecursion, filter, list_all}
-use Rattle.std.proofs.lemmas.Bool.{and_parts, ne_eqb, eqb-true, false≢true}
+use Rattle.std.specs.List.{filter, list_all}
+use Rattle.std.proofs.lemmas.Bool.{and_parts, ne_eqb, eqb-true}
 use Rattle.std.proofs.lemmas.Bool.Decides.{nat_tests}
-use Rattle.sdd_base.specs.Words.{head_of, contains}
+use Rattle.sdd_base.specs.Words.{head_of}
 use Rattle.sdd_catalog.specs.Catalogue.{Catalogue, reads_at, writes, class_at, numbers_to}
 use Rattle.sdd_lang.specs.declared.transaction.Txn.{Txn}
 use Rattle.sdd_lang.specs.Classes.{read_set, write_set, covers, class_for}
-use Rattle.sdd_module.specs.SiteLog.{Setting, Bases, Log, Submits, in_force, submits}
-use Rattle.sdd_attempt.specs.Queues.{Queued, is_for, queue}
+use Rattle.sdd_module.specs.SiteLog.{Setting, Bases, Log, Submits, in_force}
+use Rattle.sdd_attempt.specs.Queues.{is_for, queue}
 use Rattle.sdd_attempt.specs.Attempts.{active}
-use Rattle.sdd_attempt.specs.Sound.{IsWaiting, IsLineOf}
 use Rattle.sdd_attempt.proofs.Stamps.{stamped_still}
 use Rattle.sdd_attempt.proofs.SoundLines.{line_submitted}
+use Rattle.sdd_attempt.proofs.LineActs.{resting}
 use Rattle.sdd_tm.specs.Views.{runs}
 use Rattle.sdd_tm.specs.Fits.{FitsSubmit}
 use Rattle.sdd_tm.specs.State.{State, class_of, state_of}
@@ -21,7 +21,7 @@ use Rattle.sdd_tm.specs.Handing.{class_given, state_given}
 use Rattle.sdd_tm.specs.Stands.{IsSound, IsSettingOf, AreSettled, all_starts, IsAmid}
 use Rattle.sdd_tm.proofs.Lists.{map_same}
 use Rattle.sdd_tm.proofs.ClassNumbers.{runs_class}
-use Rattle.sdd_tm.proofs.Handing.{has_room, resting, settled_of, map_map}
+use Rattle.sdd_tm.proofs.Handing.{has_room, settled_of, map_map}
 
 -- the class of a transaction covers it
 
@@ -124,18 +124,3 @@ amid_given s bases log n txn small setting sound settled f =
       room = subst (λ (st : State). st.clock.ticks + all_starts st.classes + 1 < 2 ^ 57) is
           (has_room s (Submits n txn ∷ log) same now f.site.time);
     }
-
--- a number that is new isn't in a queue
-
-not_among : (cat : Catalogue) (c n : ℕ) (given : List ℕ) (qs : List Queued)
-    → AllByRecursion (IsWaiting cat c given) qs → contains given n ≡ false
-    → contains (map (λ (q : Queued). q.number) qs) n ≡ false
-not_among cat c n given [] h fresh = refl
-not_among cat c n given (q ∷ qs) h fresh =
-    let apart : (q.number == n) ≡ false =
-    ne_eqb q.number n (λ e. false≢true (sym fresh ∙ ap (contains given) (sym e) ∙ h.0.is_given)) in
-    rw apart (not_among cat c n given qs h.1 fresh)
-
-pub new_in_queue : (s : Setting) (log : Log) (c n : ℕ) → IsLineOf s c log → contains (submits log) n ≡ false
-    → contains (map (λ (q : Queued). q.number) (queue s c log)) n ≡ false
-new_in_queue s log c n h fresh = not_among s.catalogue c n (submits log) (queue s c log) h.in_queue.waiting fresh

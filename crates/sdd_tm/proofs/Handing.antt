@@ -2,13 +2,13 @@
 use Rattle.std.proofs.Common.{ℕ, zero, suc, ◌+◌, ◌<◌, ◌≤◌, ◌^◌, ◌≡◌, ◌≢◌, ◌==◌, Bool, true, false, ◌&&◌, cond, List, [], ◌∷◌, ◌++◌, map, length, refl, ap, sym, ◌∙◌, subst, arith, Option, Some, None}
 use Rattle.std.specs.Prelude.{slice_get, nat_lt, if◌then◌else◌}
 use Rattle.std.specs.List.{filter, range_with_len}
-use Rattle.std.proofs.lemmas.Bool.{and_right, ne_eqb, lt-ltb, le-ltb, ltb-true, ltb-false, false≢true}
+use Rattle.std.proofs.lemmas.Bool.{and_right, ne_eqb, lt-ltb, le-ltb, ltb-true, ltb-false}
 use Rattle.sdd_base.specs.Sites.{number_of}
 use Rattle.sdd_base.specs.declared.limits.TheConstants.{MAX_CLASSES}
 use Rattle.sdd_base.specs.declared.number.ClassNo.{ClassNo}
 use Rattle.sdd_base.specs.declared.site.Site.{Site}
 use Rattle.sdd_base.specs.declared.site.Site.TheVariants.{U, T, D}
-use Rattle.sdd_catalog.specs.Catalogue.{Catalogue, class_at, numbers_to}
+use Rattle.sdd_catalog.specs.Catalogue.{class_at, numbers_to}
 use Rattle.sdd_wire.specs.declared.msg.Msg.{Msg}
 use Rattle.sdd_wire.specs.declared.msg.Msg.TheVariants.{Ready, Reject, Values, Reduced, Rows, Ask, Hold, Held, Release}
 use Rattle.sdd_module.specs.SiteLog.{Setting, Bases, Log, Handed, hands}
@@ -17,10 +17,11 @@ use Rattle.sdd_attempt.specs.Exchange.{Phase, Exchange, after_hand}
 use Rattle.sdd_attempt.specs.Attempts.{Attempt, active, active_handed, rejects}
 use Rattle.sdd_attempt.specs.Fits.{AwaitsAt, fetches_use}
 use Rattle.sdd_attempt.specs.Lines.{IsAwaited, line_step}
-use Rattle.sdd_attempt.specs.Sound.{FitsAnswer, IsServed}
+use Rattle.sdd_attempt.specs.Sound.{FitsAnswer}
 use Rattle.sdd_attempt.proofs.Stamps.{stamped_still}
 use Rattle.sdd_attempt.proofs.Served.{served_handed}
 use Rattle.sdd_attempt.proofs.SoundLines.{line_handed}
+use Rattle.sdd_attempt.proofs.LineActs.{resting}
 use Rattle.sdd_tm.specs.declared.asked.Asked.{Asked}
 use Rattle.sdd_tm.specs.Views.{Question, HoldCounts, asks, asks_handed, holds, holds_handed, view_of, on_hold, runs}
 use Rattle.sdd_tm.specs.Fits.{fits_kind, fits}
@@ -29,7 +30,6 @@ use Rattle.sdd_tm.specs.Handing.{ask_handed, class_handed, hold_handed, owed_han
 use Rattle.sdd_tm.specs.Stands.{InTurn, IsSound, IsSettingOf, AreSettled, all_starts, IsAmid}
 use Rattle.sdd_tm.proofs.Lists.{get_map, map_same}
 use Rattle.sdd_tm.proofs.OpenAsks.{open_handed}
-use Rattle.sdd_tm.proofs.LineSteps.{not_over}
 use Rattle.sdd_tm.proofs.Dues.{own_none, none_parts}
 use Rattle.sdd_tm.proofs.Rooms.{few_starts}
 
@@ -155,11 +155,6 @@ sound_handed s bases log from m f sound = record {
   unanswered = open_handed log from m sound.unanswered;
   turns = turns_kept s bases log from m f sound.turns;
 }
-
--- an attempt between calls can't commit
-pub resting : (cat : Catalogue) (bases : Bases) (o : Option Attempt) → line_step o ≡ None → IsServed cat bases o
-resting cat bases None e = tt
-resting cat bases (Some a) e = λ over. absurd (false≢true (sym (not_over a e) ∙ over))
 
 pub settled_of : (s : Setting) (log : Log) → AreSettled (state_of s log) → (i c : ℕ) → slice_get (runs s) i ≡ Some c
     → line_step (active s c log) ≡ None

@@ -1,17 +1,15 @@
 -- The loop over the classes of a module: what each step asks for, and what it leaves.
-use Rattle.std.proofs.Common.{ℕ, zero, suc, ◌+◌, ◌<◌, ◌≤◌, ◌≡◌, Bool, true, List, [], ◌∷◌, length, refl, ap, sym, ◌∙◌, subst, arith, Option, Some, None}
+use Rattle.std.proofs.Common.{ℕ, zero, suc, ◌+◌, ◌<◌, ◌≤◌, ◌≡◌, Bool, List, [], ◌∷◌, length, refl, ap, sym, ◌∙◌, subst, arith, Option, Some, None}
 use Rattle.std.specs.Prelude.{slice_get, slice_set}
-use Rattle.sdd_catalog.specs.Catalogue.{Catalogue}
 use Rattle.sdd_lang.specs.Sound.{IsDatabase}
 use Rattle.sdd_module.specs.SiteLog.{Setting, Bases, Log}
 use Rattle.sdd_module.specs.Notes.{Notes, noted}
 use Rattle.sdd_attempt.specs.Clocks.{clock}
-use Rattle.sdd_attempt.specs.Exchange.{is_over}
-use Rattle.sdd_attempt.specs.Attempts.{Attempt}
 use Rattle.sdd_attempt.specs.Lines.{AreTried, ServesAt, line_step}
 use Rattle.sdd_attempt.specs.declared.step.LineStep.TheVariants.{Commits as ToCommit}
 use Rattle.sdd_attempt.specs.Sound.{IsServed}
 use Rattle.sdd_attempt.proofs.Tries.{tries_told}
+use Rattle.sdd_attempt.proofs.LineActs.{served_of}
 use Rattle.sdd_tm.specs.declared.step.Step.{Step}
 use Rattle.sdd_tm.specs.declared.step.Step.TheVariants.{Send, Commit, Answer, Start}
 use Rattle.sdd_tm.specs.Views.{runs}
@@ -20,9 +18,9 @@ use Rattle.sdd_tm.specs.Steps.{act_of, class_step, step_at, state_done}
 use Rattle.sdd_tm.specs.Stands.{IsAmid, IsCalm}
 use Rattle.sdd_tm.specs.Work.{work}
 use Rattle.sdd_tm.specs.Works.{Works}
-use Rattle.sdd_tm.proofs.Lists.{some_is, of_map}
+use Rattle.sdd_tm.proofs.Lists.{of_map}
 use Rattle.sdd_tm.proofs.ClassNumbers.{runs_class}
-use Rattle.sdd_tm.proofs.LineSteps.{commits}
+use Rattle.sdd_attempt.proofs.LineSteps.{commits}
 use Rattle.sdd_tm.proofs.Dues.{IsStep, commits_now, starts, step_is}
 use Rattle.sdd_tm.proofs.Acting.{may_start}
 use Rattle.sdd_tm.proofs.Calm.{calm_done, calm_next}
@@ -95,11 +93,6 @@ idle_class state place k step e f g =
     by Answer i h = absurd cc
 
 -- one that commits has the rows
-
-served_of : (cat : Catalogue) (bases : Bases) (o : Option Attempt) (a : Attempt) → o ≡ Some a
-    → is_over a.exchange.phase ≡ true → IsServed cat bases o → ServesAt cat bases o
-served_of cat bases None a e over h = tt
-served_of cat bases (Some b) a e over h = h (subst (λ (x : Attempt). is_over x.exchange.phase ≡ true) (sym (some_is e)) over)
 
 commit_line : (on : Bool) (k : ClassState) (step : Step) → IsStep on k step → step ≡ Commit
     → line_step k.line.active ≡ Some ToCommit

@@ -13,6 +13,7 @@ use Rattle.sdd_wire.specs.declared.msg.Msg.TheVariants.{Ask, Reject, Release, He
 use Rattle.sdd_module.specs.SiteLog.{Setting, Bases, Log}
 use Rattle.sdd_attempt.specs.Queues.{Queued}
 use Rattle.sdd_attempt.specs.Lines.{IsAwaited}
+use Rattle.sdd_attempt.proofs.LineActs.{new_in_queue}
 use Rattle.sdd_tm.specs.Views.{runs}
 use Rattle.sdd_tm.specs.Fits.{fits_kind, FitsSubmit}
 use Rattle.sdd_tm.specs.State.{ClassState, State, class_of, state_of}
@@ -21,7 +22,6 @@ use Rattle.sdd_tm.specs.Stands.{IsKept, AreApart}
 use Rattle.sdd_tm.proofs.Lists.{some_is, of_map, map_same, get_within}
 use Rattle.sdd_tm.proofs.ClassPlaces.{somewhere, named_nowhere, named_alone, classes_apart}
 use Rattle.sdd_tm.proofs.Handing.{handed_other, is_awaited, few_runs}
-use Rattle.sdd_tm.proofs.Giving.{new_in_queue}
 use Rattle.sdd_tm.proofs.Touching.{unnamed, given_other}
 use Rattle.sdd_tm.proofs.Indexing.{lent_is}
 

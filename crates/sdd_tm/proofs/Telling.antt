@@ -15,6 +15,7 @@ use Rattle.sdd_attempt.specs.Queues.{queue}
 use Rattle.sdd_attempt.specs.Attempts.{active}
 use Rattle.sdd_attempt.proofs.Stamps.{stamped_did}
 use Rattle.sdd_attempt.proofs.SoundLines.{IsApart, sent_apart, line_apart}
+use Rattle.sdd_attempt.proofs.LineActs.{served_sent}
 use Rattle.sdd_tm.specs.Views.{Question, asks, asks_acted, holds, holds_acted, class_view, view_of, runs, on_hold}
 use Rattle.sdd_tm.specs.Views as views
 use Rattle.sdd_tm.specs.Due.{held_due, next}
@@ -24,7 +25,6 @@ use Rattle.sdd_tm.specs.Stands.{AreSettled, IsAmid}
 use Rattle.sdd_tm.proofs.Lists.{some_is, map_same}
 use Rattle.sdd_tm.proofs.OpenAsks.{without_hand, open_did}
 use Rattle.sdd_tm.proofs.Dues.{held_is_due}
-use Rattle.sdd_tm.proofs.Acting.{served_sent}
 
 -- whether all classes are idle, of the log and of what is kept of it
 idle_alike : (s : Setting) (log : Log) (cs : List ℕ) → list_all views.is_idle (map (class_view s log) cs) ≡ list_all

@@ -2,23 +2,24 @@
 use Rattle.std.proofs.Common.{ℕ, zero, suc, ◌<◌, ◌≡◌, ◌==◌, Bool, true, false, not, ◌||◌, cond, List, [], ◌∷◌, map, length, refl, ap, sym, ◌∙◌, subst, arith, Option, Some, None}
 use Rattle.std.specs.Prelude.{slice_get, slice_set, option_map}
 use Rattle.std.specs.List.{filter, list_any}
-use Rattle.std.proofs.lemmas.Bool.{cond-true, false≢true}
-use Rattle.sdd_base.specs.Words.{head_of, tail_of}
+use Rattle.std.proofs.lemmas.Bool.{false≢true}
+use Rattle.sdd_base.specs.Words.{head_of}
 use Rattle.sdd_base.specs.Numbers.{class_no, time_at}
 use Rattle.sdd_base.specs.Clock.{Ticking, ticked, timestamp}
 use Rattle.sdd_base.specs.declared.site.Site.{Site}
-use Rattle.sdd_wire.specs.declared.msg.Msg.{Msg}
 use Rattle.sdd_wire.specs.declared.msg.Msg.TheVariants.{Null}
 use Rattle.sdd_module.specs.SiteLog.{Setting, Bases, Log, Act, Sends, in_force, sends_of_act}
 use Rattle.sdd_attempt.specs.Clocks.{clock}
 use Rattle.sdd_attempt.specs.Queues.{Queued, queue, queue_after, tried}
-use Rattle.sdd_attempt.specs.Exchange.{begins, first_send, after_send, send_due}
-use Rattle.sdd_attempt.specs.Attempts.{Attempt, active, active_after, active_sent, asks_rows, started}
+use Rattle.sdd_attempt.specs.Exchange.{begins}
+use Rattle.sdd_attempt.specs.Attempts.{Attempt, active, active_after, active_sent, started}
 use Rattle.sdd_attempt.specs.Acts.{start_act, commit_act}
 use Rattle.sdd_attempt.specs.Lines.{Line, line_done, send_next, commit_next, start_next}
 use Rattle.sdd_attempt.specs.Fits.{sent, handed}
 use Rattle.sdd_attempt.specs.Sound.{IsOfHead}
 use Rattle.sdd_attempt.proofs.SoundLines.{request_of}
+use Rattle.sdd_attempt.proofs.LineActs.{asking_of, own_record, starts_committed, starts_started, work_sent}
+use Rattle.sdd_attempt.specs.Starts.{work_of}
 use Rattle.sdd_tm.specs.declared.asked.Asked.{Asked}
 use Rattle.sdd_tm.specs.declared.step.Step.{Step}
 use Rattle.sdd_tm.specs.declared.step.Step.TheVariants.{Send, Commit, Answer, Start}
@@ -26,32 +27,17 @@ use Rattle.sdd_tm.specs.Views.{asks, view_of, runs, on_hold}
 use Rattle.sdd_tm.specs.State.{ClassState, State, asks_of, class_of, state_of}
 use Rattle.sdd_tm.specs.Steps.{can_answer, without_first, answer_time, answer_to, act_of, class_step, class_done, state_done}
 use Rattle.sdd_tm.specs.Stands.{IsAmid}
-use Rattle.sdd_tm.specs.Work.{work_of, work_in, work}
+use Rattle.sdd_tm.specs.Work.{work_in, work}
 use Rattle.sdd_tm.proofs.Lists.{some_is, of_map}
-use Rattle.sdd_tm.proofs.LineSteps.{has_to_send, commits}
+use Rattle.sdd_attempt.proofs.LineSteps.{has_to_send, commits}
 use Rattle.sdd_tm.proofs.Dues.{IsStep, sends, commits_now, answers, starts, step_is}
-use Rattle.sdd_tm.proofs.Rooms.{starts_started, starts_committed}
-use Rattle.sdd_tm.proofs.Acting.{asking_of, own_record, may_start}
+use Rattle.sdd_tm.proofs.Acting.{may_start}
 
 work_set : (classes : List ClassState) (place : ℕ) (k new : ClassState) → slice_get classes place ≡ Some k
     → work_in new < work_in k → work (slice_set classes place new) < work classes
 work_set [] place k new e l = absurd cc
 work_set (x ∷ classes) zero k new e l = let same : work_in x ≡ work_in k = ap work_in (some_is e) in omega arith
 work_set (x ∷ classes) (suc place) k new e l = let rest = work_set classes place k new e l in omega arith
-
--- a message of an exchange
-
-one_less : (ms : List (ℕ × Msg)) (act : Act) → first_send ms ≡ Some act → suc (length (tail_of ms)) ≡ length ms
-one_less [] act e = absurd cc
-one_less (m ∷ ms) act e = refl
-
-work_sent : (c : ℕ) (m : Msg) (a : Attempt) (act : Act) (queue : List Queued) → asks_rows a.ts c m ≡ true
-    → send_due a.exchange ≡ Some act → work_of (active_sent c m (Some a)) queue < work_of (Some a) queue
-work_sent c m a act queue e f =
-    let now : active_sent c m (Some a) ≡ Some (record a { exchange = after_send a.exchange }) =
-    cond-true (asks_rows a.ts c m) (Some (record a { exchange = after_send a.exchange })) (Some a) e in
-    let one = one_less a.exchange.to_send act f in
-    rw now (omega arith)
 
 -- a NULL
 

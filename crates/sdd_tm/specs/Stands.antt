@@ -1,15 +1,14 @@
 -- For which logs a transaction module stands, and what holds between the acts of a call.
-use Rattle.std.specs.Prelude.{ℕ, suc, ◌+◌, ◌<◌, ◌≤◌, ◌^◌, ◌≡◌, ◌≢◌, IsTrue, List, [], ◌∷◌, length, slice_get, Option, Some, None}
+use Rattle.std.specs.Prelude.{ℕ, suc, ◌+◌, ◌<◌, ◌≤◌, ◌^◌, ◌≡◌, ◌≢◌, IsTrue, List, [], ◌∷◌, slice_get, Some, None}
 use Rattle.std.specs.List.{AllByRecursion}
 use Rattle.sdd_base.specs.Kept.{Kept}
-use Rattle.sdd_base.specs.Words.{tail_of}
 use Rattle.sdd_catalog.specs.Rules as catalogues
 use Rattle.sdd_catalog.specs.Numbers.{IsWhole}
 use Rattle.sdd_lang.specs.Sound.{IsDatabase}
 use Rattle.sdd_module.specs.SiteLog.{Setting, Bases, Log, in_force, hands}
-use Rattle.sdd_attempt.specs.Queues.{Queued}
-use Rattle.sdd_attempt.specs.Attempts.{Attempt, active}
+use Rattle.sdd_attempt.specs.Attempts.{active}
 use Rattle.sdd_attempt.specs.Sound.{IsLineOf, AreStamped, IsServed}
+use Rattle.sdd_attempt.specs.Starts.{starts_left}
 use Rattle.sdd_tm.specs.Views.{Question, HoldCounts, asks, holds, runs}
 use Rattle.sdd_tm.specs.State.{ClassState, State, state_of}
 use Rattle.sdd_tm.specs.Steps.{own_step, start_step, class_step, held_of}
@@ -68,11 +67,7 @@ pub record Stands (k : Kept State) (s : Setting) (log : Log) : Type 0 where
 
 -- within a call
 
--- how many transactions of a class may start before the next message comes
-abbrev pub starts_left : Option Attempt → List Queued → ℕ
-starts_left None queue = length queue
-starts_left (Some a) queue = length (tail_of queue)
-
+-- how many transactions may start before the next message comes
 abbrev pub all_starts : List ClassState → ℕ
 all_starts [] = 0
 all_starts (k ∷ classes) = starts_left k.line.active k.line.queue + all_starts classes

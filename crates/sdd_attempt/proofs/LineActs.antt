@@ -1,0 +1,139 @@
+-- What the acts of an attempt leave of its line: what may start, what is left to do, and which rows serve.
+use Rattle.std.proofs.Common.{ℕ, suc, ◌<◌, ◌≤◌, ◌≡◌, ◌==◌, true, false, not, cond, List, [], ◌∷◌, map, length, refl, ap, sym, ◌∙◌, subst, arith, Option, Some, None}
+use Rattle.std.specs.Prelude.{if◌then◌else◌}
+use Rattle.std.specs.List.{AllByRecursion, filter}
+use Rattle.std.proofs.lemmas.Bool.{and_from, cond-true, eq-eqb, ne_eqb, false≢true}
+use Rattle.sdd_base.specs.Words.{contains, tail_of}
+use Rattle.sdd_base.specs.declared.site.Site.{Site}
+use Rattle.sdd_catalog.specs.Catalogue.{Catalogue}
+use Rattle.sdd_history.specs.declared.record.Rec.{Rec}
+use Rattle.sdd_history.specs.declared.record.Rec.TheVariants.{Nothing}
+use Rattle.sdd_wire.specs.declared.msg.Msg.{Msg}
+use Rattle.sdd_wire.specs.declared.msg.Msg.TheVariants.{Read}
+use Rattle.sdd_module.specs.SiteLog.{Setting, Bases, Log, Act, Records, Sends, submits}
+use Rattle.sdd_attempt.specs.Queues.{Queued, queue, tried}
+use Rattle.sdd_attempt.specs.Exchange.{after_send, first_send, is_over, send_due}
+use Rattle.sdd_attempt.specs.Attempts.{Attempt, active, active_sent, asks_rows}
+use Rattle.sdd_attempt.specs.Fits.{sent, handed, is_read}
+use Rattle.sdd_attempt.specs.Lines.{ServesAt, line_step}
+use Rattle.sdd_attempt.specs.Sound.{IsWaiting, IsAsking, IsAskingAt, IsOfHead, IsLineOf, IsUpTo, AllUpTo, IsServed}
+use Rattle.sdd_attempt.specs.Starts.{starts_left, work_of}
+use Rattle.sdd_attempt.proofs.Asking.{NoReads}
+use Rattle.sdd_attempt.proofs.Waiting.{fewer_committed}
+use Rattle.sdd_attempt.proofs.LineSteps.{not_over}
+
+some_is : {A : Type 0} {x y : A} → Some x ≡ Some y → x ≡ y
+some_is e = cc
+
+-- what may start
+
+-- a message of an exchange
+pub starts_sent : (c : ℕ) (m : Msg) (o : Option Attempt) (queue : List Queued)
+    → starts_left (active_sent c m o) queue ≡ starts_left o queue
+starts_sent c m None queue = refl
+starts_sent c m (Some a) queue =
+    elim (asks_rows a.ts c m)
+    as (λ b. starts_left (if b then Some (record a { exchange = after_send a.exchange }) else Some a)
+    queue ≡ length (tail_of queue)) [ true ↦ refl | false ↦ refl ]
+
+-- a Start
+pub starts_started : (n : ℕ) (a : Attempt) (q : Queued) (rest : List Queued)
+    → suc (starts_left (Some a) (map (tried n) (q ∷ rest))) ≡ starts_left None (q ∷ rest)
+starts_started n a q rest = let same = length_tried n rest in omega arith
+  where
+    length_tried : (n : ℕ) (qs : List Queued) → length (map (tried n) qs) ≡ length qs
+    length_tried n [] = refl
+    length_tried n (q ∷ qs) = ap suc (length_tried n qs)
+
+-- a Commit
+pub starts_committed : (a : Attempt) (queue : List Queued) → IsOfHead queue (Some a)
+    → starts_left None (filter (λ q. not (q.number == a.txn)) queue) ≤ starts_left (Some a) queue
+starts_committed a [] h = absurd cc
+starts_committed a (q ∷ rest) h = let less =
+    fewer_committed a.txn (q ∷ rest) (record { number = a.txn; text = a.text; tries = a.attempt }) h refl in
+    omega arith
+
+pub left_is_few : (o : Option Attempt) (queue : List Queued) → starts_left o queue ≤ length queue
+left_is_few None queue = omega arith
+left_is_few (Some a) [] = omega arith
+left_is_few (Some a) (q ∷ queue) = omega arith
+
+-- what is left to do
+
+one_less : (ms : List (ℕ × Msg)) (act : Act) → first_send ms ≡ Some act → suc (length (tail_of ms)) ≡ length ms
+one_less [] act e = absurd cc
+one_less (m ∷ ms) act e = refl
+
+-- a message of an exchange is one less
+pub work_sent : (c : ℕ) (m : Msg) (a : Attempt) (act : Act) (queue : List Queued) → asks_rows a.ts c m ≡ true
+    → send_due a.exchange ≡ Some act → work_of (active_sent c m (Some a)) queue < work_of (Some a) queue
+work_sent c m a act queue e f =
+    let now : active_sent c m (Some a) ≡ Some (record a { exchange = after_send a.exchange }) =
+    cond-true (asks_rows a.ts c m) (Some (record a { exchange = after_send a.exchange })) (Some a) e in
+    let one = one_less a.exchange.to_send act f in
+    rw now (omega arith)
+
+-- the messages of an act
+
+pub no_read_asked : (t ts c : ℕ) (m : Msg) → asks_rows ts c m ≡ true → IsUpTo t m
+no_read_asked t ts c (Read r class txn attempt conds uses) e = absurd (false≢true e)
+no_read_asked t ts c _ e = tt
+
+up_of_no_read : (t ts c : ℕ) (m : Msg) → ((ts c : ℕ) → is_read ts c m ≡ false) → IsUpTo t m
+up_of_no_read t ts c (Read r class txn attempt conds uses) h =
+    absurd (false≢true (sym (h r.0 class.0) ∙ and_from (r.0 == r.0) (class.0 == class.0) (eq-eqb r.0 r.0 refl)
+    (eq-eqb class.0 class.0 refl)))
+up_of_no_read t ts c _ h = tt
+
+pub all_up_of : (t : ℕ) (ms : List (Site × Msg)) → ((ts c : ℕ) → NoReads ts c ms) → AllUpTo t ms
+all_up_of t [] h = tt
+all_up_of t (m ∷ ms) h = (up_of_no_read t 0 0 m.1 (λ ts c. (h ts c).0), all_up_of t ms (λ ts c. (h ts c).1))
+
+-- the record of an act that makes one
+abbrev pub record_in : Act → Rec
+record_in (Records c r messages) = r
+record_in (Sends to m hand) = Nothing
+
+-- a record is of its own class
+pub own_record : {A : Type 0} (c : ℕ) (x y : A) → cond (c == c) x y ≡ x
+own_record c x y = cond-true (c == c) x y (eq-eqb c c refl)
+
+pub asking_of : (s : Setting) (log : Log) (c : ℕ) (a : Attempt) → IsLineOf s c log → active s c log ≡ Some a
+    → IsAsking c (sent log) (handed log) a
+asking_of s log c a h is = subst (IsAskingAt c (sent log) (handed log)) is h.asking
+
+-- rows that serve
+
+pub served_sent : (cat : Catalogue) (bases : Bases) (c : ℕ) (m : Msg) (o : Option Attempt) → IsServed cat bases o
+    → IsServed cat bases (active_sent c m o)
+served_sent cat bases c m None h = tt
+served_sent cat bases c m (Some a) h =
+    elim (asks_rows a.ts c m)
+    as (λ b. IsServed cat bases (if b then Some (record a { exchange = after_send a.exchange }) else Some a))
+    [ true ↦ h | false ↦ h ]
+
+-- an attempt between calls can't commit
+pub resting : (cat : Catalogue) (bases : Bases) (o : Option Attempt) → line_step o ≡ None → IsServed cat bases o
+resting cat bases None e = tt
+resting cat bases (Some a) e = λ over. absurd (false≢true (sym (not_over a e) ∙ over))
+
+-- one that commits has the rows
+pub served_of : (cat : Catalogue) (bases : Bases) (o : Option Attempt) (a : Attempt) → o ≡ Some a
+    → is_over a.exchange.phase ≡ true → IsServed cat bases o → ServesAt cat bases o
+served_of cat bases None a e over h = tt
+served_of cat bases (Some b) a e over h = h (subst (λ (x : Attempt). is_over x.exchange.phase ≡ true) (sym (some_is e)) over)
+
+-- a number that is new isn't in a queue
+
+not_among : (cat : Catalogue) (c n : ℕ) (given : List ℕ) (qs : List Queued)
+    → AllByRecursion (IsWaiting cat c given) qs → contains given n ≡ false
+    → contains (map (λ (q : Queued). q.number) qs) n ≡ false
+not_among cat c n given [] h fresh = refl
+not_among cat c n given (q ∷ qs) h fresh =
+    let apart : (q.number == n) ≡ false =
+    ne_eqb q.number n (λ e. false≢true (sym fresh ∙ ap (contains given) (sym e) ∙ h.0.is_given)) in
+    rw apart (not_among cat c n given qs h.1 fresh)
+
+pub new_in_queue : (s : Setting) (log : Log) (c n : ℕ) → IsLineOf s c log → contains (submits log) n ≡ false
+    → contains (map (λ (q : Queued). q.number) (queue s c log)) n ≡ false
+new_in_queue s log c n h fresh = not_among s.catalogue c n (submits log) (queue s c log) h.in_queue.waiting fresh

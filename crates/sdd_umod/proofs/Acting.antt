@@ -1,0 +1,289 @@
+-- The module's next step is the act that is due, and then it keeps what follows from the log.
+use Rattle.std.proofs.Common.{ℕ, zero, suc, ◌+◌, ◌<◌, ◌≤◌, ◌^◌, ◌≡◌, ◌==◌, Bool, true, false, not, ◌&&◌, List, [], ◌∷◌, map, refl, ap, sym, ◌∙◌, subst, arith, Option, Some, None}
+use Rattle.std.specs.Prelude.{find, if◌then◌else◌, option_map}
+use Rattle.std.specs.List.{filter, filter_map, range_with_len}
+use Rattle.std.proofs.lemmas.Bool.{ltb-true, eqb-true, false≢true}
+use Rattle.sdd_base.specs.Words.{head_of, ascending}
+use Rattle.sdd_base.specs.Numbers.{time_at}
+use Rattle.sdd_base.specs.Clock.{Ticking, ticked, timestamp}
+use Rattle.sdd_base.specs.declared.site.Site.{Site}
+use Rattle.sdd_base.specs.declared.site.Site.TheVariants.{T}
+use Rattle.sdd_catalog.specs.Catalogue.{numbers_to}
+use Rattle.sdd_catalog.specs.Numbers.{IsWhole}
+use Rattle.sdd_lang.specs.Classes.{fragments_in}
+use Rattle.sdd_lang.specs.Uses.{uses_of}
+use Rattle.sdd_wire.specs.declared.msg.Msg.{Msg}
+use Rattle.sdd_wire.specs.declared.msg.Msg.TheVariants as messages
+use Rattle.sdd_module.specs.SiteLog.{Setting, Bases, Log, Did, Act, Sends, sends_of_act}
+use Rattle.sdd_module.specs.Notes.{Notes, with_act, noted}
+use Rattle.sdd_attempt.specs.Clocks.{clock}
+use Rattle.sdd_attempt.specs.Queues.{Queued, queue, queue_after, tried}
+use Rattle.sdd_attempt.specs.Exchange.{after_send, begins, first_phase, module_read, is_over}
+use Rattle.sdd_attempt.specs.Attempts.{Attempt, active, active_after, active_sent, asks_rows, started}
+use Rattle.sdd_attempt.specs.Acts.{modules_of, start_act, commit_act}
+use Rattle.sdd_attempt.specs.Lines.{send_next, commit_next, start_next, line_step, head_is_untried}
+use Rattle.sdd_attempt.specs.declared.step.LineStep.TheVariants.{Sends as ToSend, Commits as ToCommit}
+use Rattle.sdd_attempt.specs.Fits.{sent, handed}
+use Rattle.sdd_attempt.specs.Sound.{IsOfHead, AllUpTo, IsServed}
+use Rattle.sdd_attempt.specs.Starts.{starts_left}
+use Rattle.sdd_attempt.proofs.Asking.{NoReads}
+use Rattle.sdd_attempt.proofs.Stamps.{stamped_did}
+use Rattle.sdd_attempt.proofs.SoundLines.{request_of, line_apart, line_sent, line_committed, line_started, commit_no_reads, start_is_up, start_modules}
+use Rattle.sdd_attempt.proofs.LineSteps.{has_to_send, commits}
+use Rattle.sdd_attempt.proofs.LineActs.{all_up_of, asking_of, no_read_asked, served_sent, starts_committed, starts_sent, starts_started}
+use Rattle.sdd_umod.specs.declared.step.Step.{Step}
+use Rattle.sdd_umod.specs.declared.step.Step.TheVariants.{Send, Commit, Release, Start, Hold}
+use Rattle.sdd_umod.specs.Views.{TmCounts, counts, last_served}
+use Rattle.sdd_umod.specs.Due.{next}
+use Rattle.sdd_umod.specs.State.{State, line_of, state_of}
+use Rattle.sdd_umod.specs.Steps.{tm_of, is_kept_on_hold, is_free, may_start, release_step, start_step, hold_step, step_of, act_of, state_done}
+use Rattle.sdd_umod.specs.Stands.{AreStarted, IsSound, IsAmid, running}
+use Rattle.sdd_umod.proofs.Lists.{found_in_map}
+use Rattle.sdd_umod.proofs.Dues.{IsStep, sends, commits_now, releases, starts, holds, step_is, attempt_is_due, release_is_due, start_comes, hold_comes}
+use Rattle.sdd_umod.proofs.AfterActs.{after_request, after_commit, after_start, after_release, after_hold, release_apart, hold_apart}
+use Rattle.sdd_umod.proofs.Turns.{turn_release, turn_hold, turn_commit, own_counts}
+
+-- The act of the step is the one that is due, and then the module keeps what follows from the log.
+pub record Makes (s : Setting) (bases : Bases) (log : Log) (step : Step) (state : State) : Type 0 where
+  pub act : Act
+  pub is_due : next s bases log ≡ Some act
+  pub notes : (n : Notes) → noted (act_of bases state step) n ≡ with_act act n
+  pub amid : IsAmid s bases (state_done bases step state) (Did act ∷ log)
+
+-- the parts of what holds after an act
+
+amid_after : (s : Setting) (bases : Bases) (log : Log) (step : Step) (act : Act) → IsAmid s bases (state_of s log) log
+    → IsSound s (Did act ∷ log) → state_of s (Did act ∷ log) ≡ state_done bases step (state_of s log)
+    → IsServed s.catalogue bases (active s 0 (Did act ∷ log))
+    → (clock s.site (Did act ∷ log)).ticks + starts_left (active s 0 (Did act ∷ log)) (queue s 0 (Did act ∷ log))
+    ≤ (clock s.site log).ticks + starts_left (active s 0 log) (queue s 0 log)
+    → IsAmid s bases (state_done bases step (state_of s log)) (Did act ∷ log)
+amid_after s bases log step act amid sound after served less =
+    let room = amid.room in
+    let now : (state_of s (Did act ∷ log)).clock.ticks + starts_left (state_of s (Did act ∷ log)).line.active
+    (state_of s (Did act ∷ log)).line.queue + 1 < 2 ^ 57 = omega arith in
+    record {
+      setting = record { valid = amid.setting.valid; whole = amid.setting.whole };
+      sound = sound;
+      state_is = after;
+      databases = amid.databases;
+      served = served;
+      room = subst (λ (st : State). st.clock.ticks + starts_left st.line.active st.line.queue + 1 < 2 ^ 57) after now;
+    }
+
+-- a message leaves an attempt under way
+running_sent : (c : ℕ) (m : Msg) (o : Option Attempt) → running (active_sent c m o) ≡ running o
+running_sent c m None = refl
+running_sent c m (Some a) =
+    elim (asks_rows a.ts c m)
+    as (λ b. running (if b then Some (record a { exchange = after_send a.exchange }) else Some a) ≡ 1) [ true ↦ refl | false ↦ refl ]
+
+started_sent : (s : Setting) (log : Log) (m : Msg) → AreStarted s log
+    → (last_served s log).commits + running (active_sent 0 m (active s 0 log)) ≤ (clock s.site log).ticks
+started_sent s log m h = let few = h.few in let same = running_sent 0 m (active s 0 log) in omega arith
+
+-- a message of the exchange
+
+makes_send : (s : Setting) (bases : Bases) (log : Log) → IsAmid s bases (state_of s log) log
+    → line_step (active s 0 log) ≡ Some ToSend → Makes s bases log Send (state_of s log)
+makes_send s bases log amid h =
+    let r = has_to_send (active s 0 log) h in
+    let request = request_of 0 (sent log) (handed log) r.attempt r.act
+    (asking_of s log 0 r.attempt amid.sound.line r.active) r.send in
+    let made_by : send_next (active s 0 log) ≡ Some r.act = ap send_next r.active ∙ r.send in
+    let up : (t : ℕ) → AllUpTo t (sends_of_act r.act) =
+    λ t. rw request.act_is (no_read_asked t r.attempt.ts 0 request.msg request.asks, tt) in
+    record {
+      act = r.act;
+      is_due = attempt_is_due s bases log r.act (r.due s.catalogue bases 0);
+      notes = λ n. ap (λ o. noted o n) made_by;
+      amid = amid_after s bases log Send r.act amid
+          (record {
+            line = line_sent s 0 log r.act r.attempt r.active r.send amid.sound.line;
+            stamped = stamped_did s log r.act amid.sound.stamped (up _);
+            turns = λ t. rw request.act_is (amid.sound.turns t);
+            started = rw request.act_is (record { few = started_sent s log request.msg amid.sound.started });
+          })
+          (after_request s bases log r.attempt r.act request made_by)
+          (rw request.act_is (served_sent s.catalogue bases 0 request.msg (active s 0 log) amid.served))
+          (rw request.act_is (let same = starts_sent 0 request.msg (active s 0 log) (queue s 0 log) in omega arith));
+    }
+
+-- a Commit
+
+makes_commit : (s : Setting) (bases : Bases) (log : Log) → IsAmid s bases (state_of s log) log
+    → line_step (active s 0 log) ≡ Some ToCommit → Makes s bases log Commit (state_of s log)
+makes_commit s bases log amid h =
+    let r = commits (active s 0 log) h in
+    let a : Attempt = r.attempt in
+    let act : Act = commit_act s.catalogue bases 0 a in
+    let made_by : commit_next bases (line_of s log) ≡ Some act = ap (option_map (commit_act s.catalogue bases 0)) r.active in
+    let no_reads : (ts d : ℕ) → NoReads ts d (sends_of_act act) = λ ts d. commit_no_reads s.catalogue bases 0 a ts d in
+    let head : IsOfHead (queue s 0 log) (Some a) = subst (IsOfHead (queue s 0 log)) r.active amid.sound.line.of_head in
+    let less = starts_committed a (queue s 0 log) head in
+    let before : starts_left (active s 0 log) (queue s 0 log) ≡ starts_left (Some a) (queue s 0 log) =
+    ap (λ o. starts_left o (queue s 0 log)) r.active in
+    let after : starts_left (active_after 0 act (queue s 0 log) (active s 0 log)) (queue_after 0 act (queue s 0 log)) ≡ starts_left None
+    (filter (λ q. not (q.number == a.txn)) (queue s 0 log)) = refl in
+    let few = amid.sound.started.few in
+    let one : running (active s 0 log) ≡ 1 = ap running r.active in
+    let over : running (active_after 0 act (queue s 0 log) (active s 0 log)) ≡ 0 = refl in
+    record {
+      act = act;
+      is_due = attempt_is_due s bases log act (r.due s.catalogue bases 0);
+      notes = λ n. ap (λ o. noted o n) made_by;
+      amid = amid_after s bases log Commit act amid
+          (record {
+            line = line_committed s bases 0 log a amid.sound.line;
+            stamped = stamped_did s log act amid.sound.stamped (all_up_of _ (sends_of_act act) no_reads);
+            turns = λ t. turn_commit (last_served s log).commits (counts t log) (amid.sound.turns t);
+            started = record { few = omega arith };
+          })
+          (after_commit s bases log a made_by)
+          tt
+          (omega arith);
+    }
+
+-- a RELEASE
+
+makes_release : (s : Setting) (bases : Bases) (log : Log) (k : TmCounts) → IsAmid s bases (state_of s log) log
+    → line_step (active s 0 log) ≡ None → find (is_kept_on_hold (last_served s log).commits) (state_of s log).counts ≡ Some k
+    → release_step (state_of s log) ≡ Some (Release (tm_of k)) → Makes s bases log (Release (tm_of k)) (state_of s log)
+makes_release s bases log k amid none found e =
+    let n : ℕ = (last_served s log).commits in
+    let ts : ℕ = (last_served s log).ts in
+    let act : Act = Sends (T (tm_of k)) (messages.Release (time_at ts)) None in
+    let r = found_in_map (λ t. counts t log) (is_kept_on_hold n) (numbers_to s.catalogue.tms) k found in
+    let low : k.releases < n = ltb-true k.releases n r.2 in
+    record {
+      act = act;
+      is_due = release_is_due s bases log (Release (tm_of k)) act amid.setting.whole none e refl;
+      notes = λ n. refl;
+      amid = amid_after s bases log (Release (tm_of k)) act amid
+          (record {
+            line = line_apart s 0 log (T (tm_of k)) (messages.Release (time_at ts)) None (release_apart ts) amid.sound.line;
+            stamped = stamped_did s log act amid.sound.stamped (tt, tt);
+            turns = λ t. turn_release n k.tm (counts t log) (amid.sound.turns t)
+                (λ same. subst (λ (x : TmCounts). x.releases < n) (sym (own_counts log r.0 t k r.1 same)) low);
+            started = record { few = started_sent s log (messages.Release (time_at ts)) amid.sound.started };
+          })
+          (after_release s bases log (tm_of k) ts)
+          (served_sent s.catalogue bases 0 (messages.Release (time_at ts)) (active s 0 log) amid.served)
+          (let same = starts_sent 0 (messages.Release (time_at ts)) (active s 0 log) (queue s 0 log) in omega arith);
+    }
+
+-- a HOLD
+
+makes_hold : (s : Setting) (bases : Bases) (log : Log) (k : TmCounts) → IsAmid s bases (state_of s log) log
+    → line_step (active s 0 log) ≡ None → release_step (state_of s log) ≡ None → start_step (state_of s log) ≡ None
+    → find is_free (state_of s log).counts ≡ Some k → hold_step (state_of s log) ≡ Some (Hold (tm_of k))
+    → Makes s bases log (Hold (tm_of k)) (state_of s log)
+makes_hold s bases log k amid none no_release no_start found e =
+    let n : ℕ = (last_served s log).commits in
+    let act : Act = Sends (T (tm_of k)) messages.Hold None in
+    let r = found_in_map (λ t. counts t log) is_free (numbers_to s.catalogue.tms) k found in
+    let free : k.releases ≡ k.holds = eqb-true k.releases k.holds r.2 in
+    record {
+      act = act;
+      is_due = hold_comes s bases log (Hold (tm_of k)) act amid.setting.whole none no_release no_start e refl;
+      notes = λ n. refl;
+      amid = amid_after s bases log (Hold (tm_of k)) act amid
+          (record {
+            line = line_apart s 0 log (T (tm_of k)) messages.Hold None hold_apart amid.sound.line;
+            stamped = stamped_did s log act amid.sound.stamped (tt, tt);
+            turns = λ t. turn_hold n k.tm (counts t log) (amid.sound.turns t)
+                (λ same. subst (λ (x : TmCounts). x.releases ≡ x.holds) (sym (own_counts log r.0 t k r.1 same)) free);
+            started = record { few = started_sent s log messages.Hold amid.sound.started };
+          })
+          (after_hold s bases log (tm_of k))
+          (served_sent s.catalogue bases 0 messages.Hold (active s 0 log) amid.served)
+          (let same = starts_sent 0 messages.Hold (active s 0 log) (queue s 0 log) in omega arith);
+    }
+
+-- a Start
+
+-- the first of a queue that has never started
+pub first_of : (qs : List Queued) (b : Bool) → (head_is_untried qs && b) ≡ true → (q : Queued) × (rest : List Queued) × (qs ≡ q ∷ rest)
+first_of [] b e = absurd (false≢true e)
+first_of (q ∷ rest) b e = (q, rest, refl)
+
+-- it reads at each data module, so it can't commit at once
+
+over_without : (ms : List (ℕ × List ℕ)) → is_over (first_phase ms) ≡ true → map (λ (m : ℕ × List ℕ). m.0) ms ≡ []
+over_without [] e = refl
+over_without (m ∷ ms) e = absurd (false≢true e)
+
+some_numbers : (a n : ℕ) → 1 ≤ n → range_with_len a n ≡ [] → ⊥
+some_numbers a zero some e = absurd (omega arith)
+some_numbers a (suc n) some e = absurd cc
+
+start_served : (s : Setting) (bases : Bases) (k : Ticking) (q : Queued) → IsWhole s.catalogue
+    → IsServed s.catalogue bases (started (timestamp (ticked k 1)) (sends_of_act (start_act s.catalogue [] 0 k q)) (Some q))
+start_served s bases k q whole = λ over.
+    let sends : List (Site × Msg) = sends_of_act (start_act s.catalogue [] 0 k q) in
+    let none : modules_of s.catalogue 0 (ascending (fragments_in (uses_of s.catalogue q.text))) ≡ [] =
+    sym (start_modules s.catalogue [] 0 k q) ∙ over_without (filter_map module_read sends) over in
+    absurd (some_numbers 1 s.catalogue.dms whole.some_dm none)
+
+makes_start : (s : Setting) (bases : Bases) (log : Log) (q : Queued) (rest : List Queued) → IsAmid s bases (state_of s log) log
+    → line_step (active s 0 log) ≡ None → release_step (state_of s log) ≡ None → start_step (state_of s log) ≡ Some Start
+    → active s 0 log ≡ None → queue s 0 log ≡ q ∷ rest → Makes s bases log Start (state_of s log)
+makes_start s bases log q rest amid none no_release starting idle is =
+    let k : Ticking = clock s.site log in
+    let act : Act = start_act s.catalogue [] 0 k q in
+    let own : ℕ = timestamp (ticked k 1) in
+    let made_by : start_next [] k (line_of s log) ≡ Some act = ap (λ qs. option_map (start_act s.catalogue [] 0 k) (head_of qs)) is in
+    let begun : active_after 0 act (queue s 0 log) (active s 0 log) ≡ started own (sends_of_act act) (Some q) =
+    ap (λ qs. started own (sends_of_act act) (head_of qs)) is in
+    let before : starts_left (active s 0 log) (queue s 0 log) ≡ starts_left None (q ∷ rest) = rw (idle, is) refl in
+    let after : starts_left (active_after 0 act (queue s 0 log) (active s 0 log)) (queue_after 0 act (queue s 0 log))
+    ≡ starts_left (started own (sends_of_act act) (Some q)) (map (tried q.number) (q ∷ rest)) =
+    ap (λ qs. starts_left (started own (sends_of_act act) (head_of qs)) (map (tried q.number) qs)) is in
+    let fewer = starts_started q.number (record {
+      txn = q.number;
+      attempt = suc q.tries;
+      ts = own;
+      text = q.text;
+      exchange = begins q.text (sends_of_act act);
+    }) q rest in
+    let few = amid.sound.started.few in
+    let now : running (active_after 0 act (queue s 0 log) (active s 0 log)) ≡ 1 = ap running begun in
+    record {
+      act = act;
+      is_due = start_comes s bases log act amid.setting.whole none no_release starting made_by;
+      notes = λ n. ap (λ o. noted o n) made_by;
+      amid = amid_after s bases log Start act amid
+          (record {
+            line = line_started s [] 0 log q rest is amid.sound.stamped amid.sound.line;
+            stamped = stamped_did s log act amid.sound.stamped (start_is_up s.catalogue [] 0 k q);
+            turns = λ t. amid.sound.turns t;
+            started = record { few = omega arith };
+          })
+          (after_start s bases log q made_by)
+          (subst (IsServed s.catalogue bases) (sym begun) (start_served s bases k q amid.setting.whole))
+          (omega arith);
+    }
+
+-- a step
+
+start_step_is : (state : State) → may_start state ≡ true → start_step state ≡ Some Start
+start_step_is state e = rw e refl
+
+makes_step : (s : Setting) (bases : Bases) (log : Log) (step : Step) → IsAmid s bases (state_of s log) log
+    → IsStep (state_of s log) step → (step ≡ Start → active s 0 log ≡ None) → Makes s bases log step (state_of s log)
+makes_step s bases log Send amid (sends h) idle = makes_send s bases log amid h
+makes_step s bases log Commit amid (commits_now h) idle = makes_commit s bases log amid h
+makes_step s bases log (Release tm) amid (releases k none found e) idle = makes_release s bases log k amid none found e
+makes_step s bases log Start amid (starts none r may) idle =
+    let w = first_of (queue s 0 log) _ may in
+    makes_start s bases log w.0 w.1 amid none r (start_step_is (state_of s log) may) (idle refl) w.2
+makes_step s bases log (Hold tm) amid (holds k none r t found some e) idle = makes_hold s bases log k amid none r t found e
+
+pub makes : (s : Setting) (bases : Bases) (state : State) (log : Log) (step : Step) → IsAmid s bases state log
+    → step_of state ≡ Some step → (step ≡ Start → state.line.active ≡ None) → Makes s bases log step state
+makes s bases state log step amid steps idle =
+    let is : state_of s log ≡ state = amid.state_is in
+    subst (λ st. Makes s bases log step st) is
+    (makes_step s bases log step (subst (λ st. IsAmid s bases st log) (sym is) amid)
+    (step_is (state_of s log) step (subst (λ st. step_of st ≡ Some step) (sym is) steps))
+    (subst (λ (st : State). step ≡ Start → st.line.active ≡ None) (sym is) idle))

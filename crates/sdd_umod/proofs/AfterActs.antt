@@ -1,0 +1,81 @@
+-- What the module keeps of the log after each act is what its step leaves.
+use Rattle.std.proofs.Common.{ℕ, ◌≡◌, List, [], ◌∷◌, map, refl, ap, sym, ◌∙◌, Option, Some, None}
+use Rattle.sdd_base.specs.Numbers.{dm_no, time_at}
+use Rattle.sdd_base.specs.declared.site.Site.TheVariants.{T, D}
+use Rattle.sdd_base.specs.declared.number.TmNo.{TmNo}
+use Rattle.sdd_catalog.specs.Catalogue.{numbers_to}
+use Rattle.sdd_wire.specs.declared.msg.Msg.TheVariants as messages
+use Rattle.sdd_module.specs.SiteLog.{Setting, Bases, Log, Did, Act, Sends}
+use Rattle.sdd_module.proofs.Finding.{map_twice}
+use Rattle.sdd_attempt.specs.Clocks.{clock}
+use Rattle.sdd_attempt.specs.Queues.{Queued}
+use Rattle.sdd_attempt.specs.Attempts.{Attempt, active}
+use Rattle.sdd_attempt.specs.Acts.{start_act, commit_act}
+use Rattle.sdd_attempt.specs.Lines.{line_done, send_next, commit_next, start_next, clock_done}
+use Rattle.sdd_attempt.proofs.SoundLines.{IsApart, IsRequest, sent_apart}
+use Rattle.sdd_umod.specs.declared.step.Step.TheVariants.{Send, Commit, Release, Start, Hold}
+use Rattle.sdd_umod.specs.declared.tm_count.Sign.TheVariants as signs
+use Rattle.sdd_umod.specs.Views.{TmCounts, counts, ts_of}
+use Rattle.sdd_umod.specs.State.{State, line_of, state_of}
+use Rattle.sdd_umod.specs.Steps.{counted, committed, state_done}
+
+-- the next message of the exchange
+pub after_request : (s : Setting) (bases : Bases) (log : Log) (a : Attempt) (act : Act) → IsRequest 0 a act
+    → send_next (active s 0 log) ≡ Some act → state_of s (Did act ∷ log) ≡ state_done bases Send (state_of s log)
+after_request s bases log a act is e =
+    by act (send_next (active s 0 log)) is.act_is e
+  where
+    by : (act : Act) (o : Option Act) → act ≡ Sends (D (dm_no is.to)) is.msg None → o ≡ Some act
+        → state_of s (Did act ∷ log) ≡ record (state_of s log) { line = line_done o (line_of s log) }
+    by act o f e = rw (e, f) refl
+
+-- a Commit
+pub after_commit : (s : Setting) (bases : Bases) (log : Log) (a : Attempt)
+    → commit_next bases (line_of s log) ≡ Some (commit_act s.catalogue bases 0 a)
+    → state_of s (Did (commit_act s.catalogue bases 0 a) ∷ log) ≡ state_done bases Commit (state_of s log)
+after_commit s bases log a e =
+    sym (ap (λ o. record (state_of s log) {
+      line = line_done o (line_of s log);
+      served = committed (ts_of (active s 0 log)) (state_of s log).served;
+    }) e)
+
+-- a Start
+pub after_start : (s : Setting) (bases : Bases) (log : Log) (q : Queued)
+    → start_next [] (clock s.site log) (line_of s log) ≡ Some (start_act s.catalogue [] 0 (clock s.site log) q)
+    → state_of s (Did (start_act s.catalogue [] 0 (clock s.site log) q) ∷ log) ≡ state_done bases Start (state_of s log)
+after_start s bases log q e =
+    sym (ap (λ o. record (state_of s log) {
+      line = line_done o (line_of s log);
+      clock = clock_done o (clock s.site log);
+    }) e)
+
+-- a message to a T
+
+pub release_apart : (ts : ℕ) → IsApart 0 (messages.Release (time_at ts))
+release_apart ts = record { reads = λ t. refl; asks = λ t. refl }
+
+pub hold_apart : IsApart 0 messages.Hold
+hold_apart = record { reads = λ t. refl; asks = λ t. refl }
+
+abbrev with_parts : State → Option Attempt → List TmCounts → State
+with_parts state o ks = record state { line = record state.line { active = o }; counts = ks }
+
+pub after_release : (s : Setting) (bases : Bases) (log : Log) (tm : TmNo) (ts : ℕ)
+    → state_of s (Did (Sends (T tm) (messages.Release (time_at ts)) None) ∷ log) ≡ state_done bases (Release tm) (state_of s log)
+after_release s bases log tm ts =
+    let ns : List ℕ = numbers_to s.catalogue.tms in
+    let act : Act = Sends (T tm) (messages.Release (time_at ts)) None in
+    ap (λ o. with_parts (state_of s log) o (map (λ t. counts t (Did act ∷ log)) ns))
+    (sent_apart 0 (messages.Release (time_at ts)) (active s 0 log) (release_apart ts))
+    ∙ ap (with_parts (state_of s log) (active s 0 log))
+    (map_twice (λ t. counts t log) (λ t. counts t (Did act ∷ log)) (counted signs.Release tm.0) ns (λ t. refl))
+
+pub after_hold : (s : Setting) (bases : Bases) (log : Log) (tm : TmNo)
+    → state_of s (Did (Sends (T tm) messages.Hold None) ∷ log) ≡ state_done bases (Hold tm) (state_of s log)
+after_hold s bases log tm =
+    let ns : List ℕ = numbers_to s.catalogue.tms in
+    let act : Act = Sends (T tm) messages.Hold None in
+    ap (λ o. with_parts (state_of s log) o (map (λ t. counts t (Did act ∷ log)) ns))
+    (sent_apart 0 messages.Hold (active s 0 log) hold_apart)
+    ∙ ap (with_parts (state_of s log) (active s 0 log))
+    (map_twice (λ t. counts t log) (λ t. counts t (Did act ∷ log)) (counted signs.Hold tm.0) ns (λ t. refl))

@@ -1,0 +1,145 @@
+-- What a call of the module does, of every log for which the module stands.
+use Rattle.std.proofs.Common.{ℕ, ◌<◌, ◌^◌, ◌≡◌, ◌==◌, Bool, true, false, List, [], ◌∷◌, map, refl, ap, sym, ◌∙◌, subst, arith, Option, Some, None}
+use Rattle.std.specs.Prelude.{IsTrue, find, if◌then◌else◌, option_map}
+use Rattle.sdd_base.specs.Kept.{Kept}
+use Rattle.sdd_base.specs.Words.{or_else}
+use Rattle.sdd_base.specs.declared.number.RelNo.{RelNo}
+use Rattle.sdd_base.specs.declared.number.TxnNo.{TxnNo}
+use Rattle.sdd_base.specs.declared.site.Site.{Site}
+use Rattle.sdd_base.specs.declared.site.Site.TheVariants.{U}
+use Rattle.sdd_catalog.specs.Catalogue.{Catalogue, numbers_to}
+use Rattle.sdd_catalog.specs.Rules as catalogues
+use Rattle.sdd_catalog.specs.Numbers.{IsWhole}
+use Rattle.sdd_lang.specs.declared.transaction.Txn.{Txn}
+use Rattle.sdd_lang.specs.Database.{Row}
+use Rattle.sdd_history.specs.declared.record.Rec.{Rec}
+use Rattle.sdd_history.specs.declared.record.Rec.TheVariants.{Submit}
+use Rattle.sdd_wire.specs.declared.msg.Msg.{Msg}
+use Rattle.sdd_module.specs.SiteLog.{Setting, Bases, Log, Handed, Submits, Does, records_of}
+use Rattle.sdd_module.specs.Notes.{Notes, nothing_noted}
+use Rattle.sdd_module.proofs.Does.{DoesMore, does_from, all_noted}
+use Rattle.sdd_umod.specs.declared.step.Step.TheVariants.{Release}
+use Rattle.sdd_umod.specs.Views.{TmCounts}
+use Rattle.sdd_umod.specs.Due.{next}
+use Rattle.sdd_umod.specs.Fits.{fits, FitsSubmit}
+use Rattle.sdd_umod.specs.State.{State, state_of}
+use Rattle.sdd_umod.specs.Steps.{is_kept_on_hold, step_of, tm_of}
+use Rattle.sdd_umod.specs.Handing.{state_handed, state_given}
+use Rattle.sdd_umod.specs.Stands.{IsKept, Stands, IsAmid}
+use Rattle.sdd_umod.specs.Works.{Works, first_state, no_counts}
+use Rattle.sdd_umod.proofs.Handing.{amid_handed}
+use Rattle.sdd_umod.proofs.Giving.{amid_given}
+use Rattle.sdd_umod.proofs.Dues.{nothing_due}
+
+stands_now : (new : Kept State) (s : Setting) (bases : Bases) (log : Log) → IsTrue new.live → step_of new.value ≡ None
+    → IsAmid s bases new.value log → Stands new s log
+stands_now new s bases log live settled amid =
+    record { live = live; setting = amid.setting; sound = amid.sound; state_is = amid.state_is; settled = settled }
+
+-- from what the module keeps once the entry is taken in
+call_does : (taken : State) (new : Kept State) (old all : Notes) (s : Setting) (bases : Bases) (start : Log)
+    → IsTrue new.live → Works taken new.value old all → step_of new.value ≡ None → IsAmid s bases taken start
+    → DoesMore (next s bases) start old all (Stands new s)
+call_does taken new old all s bases start live works settled amid =
+    let r = works s bases start amid in
+    let stands = stands_now new s bases r.view live settled r.shown in
+    does_from (λ l. l) (next s bases) (λ e l. e ∷ l) (λ e log. refl) start start r.view old all refl r.made
+    (nothing_due s bases new.value r.view r.shown.setting.whole r.shown.state_is settled) (Stands new s)
+    (λ log e. subst (Stands new s) (sym e) stands)
+
+pub kept_of : (k : Kept State) (s : Setting) (log : Log) → Stands k s log → IsKept s log k.value
+kept_of k s log st = record { setting = st.setting; sound = st.sound; state_is = st.state_is }
+
+settled_of : (k : Kept State) (s : Setting) (log : Log) → Stands k s log → step_of (state_of s log) ≡ None
+settled_of k s log st = subst (λ x. step_of x ≡ None) (sym st.state_is) st.settled
+
+-- a message
+
+pub amid_for : (k : Kept State) (s : Setting) (bases : Bases) (log : Log) (from : Site) (m : Msg) (taken : State)
+    → Stands k s log → fits s bases log from m → taken ≡ state_handed from m k.value
+    → IsAmid s bases taken (Handed from m ∷ log)
+amid_for k s bases log from m taken st fit t =
+    subst (λ x. IsAmid s bases x (Handed from m ∷ log)) (ap (state_handed from m) st.state_is ∙ sym t)
+    (amid_handed s bases log from m st.setting st.sound (settled_of k s log st) fit)
+
+pub take_does : (from : Site) (m : Msg) (old new : Kept State) (taken : State) (all : Notes)
+    (records : List Rec) (sends : List (Site × Msg)) → IsTrue new.live → taken ≡ state_handed from m old.value
+    → Works taken new.value nothing_noted all → step_of new.value ≡ None
+    → records ≡ all.recs → sends ≡ all.out → (s : Setting) (bases : Bases) (log : Log) → Stands old s log
+    → fits s bases log from m → Does (next s bases) (Handed from m ∷ log) records sends (Stands new s)
+take_does from m old new taken all records sends live t works settled e f s bases log st fit =
+    all_noted (next s bases) (Handed from m ∷ log) all records sends (Stands new s)
+    (call_does taken new nothing_noted all s bases (Handed from m ∷ log) live works settled
+    (amid_for old s bases log from m taken st fit t)) e f
+
+-- a transaction
+
+abbrev pub submitted : TxnNo → Notes
+submitted n = record { recs = Submit n ∷ []; out = [] }
+
+pub amid_after : (k : Kept State) (s : Setting) (bases : Bases) (log : Log) (n : ℕ) (txn : Txn) (taken : State)
+    → n < 2 ^ 32 → Stands k s log → FitsSubmit s bases log n txn → taken ≡ state_given n txn k.value
+    → IsAmid s bases taken (Submits n txn ∷ log)
+amid_after k s bases log n txn taken small st fit t =
+    subst (λ x. IsAmid s bases x (Submits n txn ∷ log)) (ap (state_given n txn) st.state_is ∙ sym t)
+    (amid_given s bases log n txn small st.setting st.sound (settled_of k s log st) fit)
+
+pub submit_does : (n : TxnNo) (txn : Txn) (old new : Kept State) (taken : State) (all : Notes)
+    (records : List Rec) (sends : List (Site × Msg)) → n.0 < 2 ^ 32 → IsTrue new.live
+    → taken ≡ state_given n.0 txn old.value → Works taken new.value (submitted n) all → step_of new.value ≡ None
+    → records ≡ all.recs → sends ≡ all.out
+    → (s : Setting) (bases : Bases) (log : Log) → Stands old s log → FitsSubmit s bases log n.0 txn
+    → (rest : List Rec) × (records ≡ Submit n ∷ rest) × Does (next s bases) (Submits n.0 txn ∷ log) rest sends (Stands new s)
+submit_does n txn old new taken all records sends small live t works settled e f s bases log st fit =
+    let d = call_does taken new (submitted n) all s bases (Submits n.0 txn ∷ log) live works settled
+    (amid_after old s bases log n.0 txn taken small st fit t) in (
+      records_of d.acts,
+      e ∙ d.recs_are,
+      subst (λ xs. Does (next s bases) (Submits n.0 txn ∷ log) (records_of d.acts) xs (Stands new s)) (sym (f ∙ d.out_is)) d.does,
+    )
+
+-- before the first message
+
+none_on_hold : (ns : List ℕ) → find (is_kept_on_hold 0) (map no_counts ns) ≡ None
+none_on_hold [] = refl
+none_on_hold (n ∷ ns) = none_on_hold ns
+
+release_none : (b : Bool) (o : Option TmCounts) → o ≡ None
+    → or_else (if b then option_map Release (option_map tm_of o) else None) None ≡ None
+release_none true None e = refl
+release_none true (Some k) e = absurd cc
+release_none false o e = refl
+
+first_settled : (cat : Catalogue) → step_of (first_state cat) ≡ None
+first_settled cat =
+    release_none (0 == cat.dms) (find (is_kept_on_hold 0) (map no_counts (numbers_to cat.tms)))
+    (none_on_hold (numbers_to cat.tms))
+
+abbrev setting_of : Catalogue → List (RelNo × Row) → Setting
+setting_of cat rows = record { catalogue = cat; site = U; rows = rows }
+
+first_at : (cat : Catalogue) (rows : List (RelNo × Row)) → state_of (setting_of cat rows) [] ≡ first_state cat
+first_at cat rows = refl
+
+first_is : (s : Setting) (cat : Catalogue) → s.catalogue ≡ cat → s.site ≡ U → state_of s [] ≡ first_state cat
+first_is s cat e f =
+    let is : s ≡ setting_of cat s.rows =
+    ap (λ x. record s { catalogue = x }) e ∙ ap (λ x. record { catalogue = cat; site = x; rows = s.rows }) f in
+    ap (λ x. state_of x []) is ∙ first_at cat s.rows
+
+pub new_stands : (k : Kept State) (cat : Catalogue) → IsTrue k.live → k.value ≡ first_state cat → catalogues.IsSound cat → IsWhole cat
+    → (s : Setting) → s.catalogue ≡ cat → s.site ≡ U → Stands k s []
+new_stands k cat live is valid whole s e f =
+    let state : state_of s [] ≡ k.value = first_is s cat e f ∙ sym is in
+    record {
+      live = live;
+      setting = record { valid = rw e valid; whole = rw e whole };
+      sound = record {
+        line = record { in_queue = record { differ = tt; waiting = tt }; of_head = tt; asking = tt };
+        stamped = tt;
+        turns = λ t. record { committed = omega arith; released = omega arith; answered = omega arith };
+        started = record { few = omega arith };
+      };
+      state_is = state;
+      settled = rw is (first_settled cat);
+    }

@@ -1,0 +1,55 @@
+-- A transaction that is given to the module goes to the end of its queue.
+use Rattle.std.proofs.Common.{ℕ, ◌<◌, ◌^◌, ◌≡◌, false, ◌∷◌, map, refl, subst, None}
+use Rattle.sdd_base.specs.Words.{contains}
+use Rattle.sdd_lang.specs.declared.transaction.Txn.{Txn}
+use Rattle.sdd_lang.specs.Fits.{Fits}
+use Rattle.sdd_module.specs.SiteLog.{Setting, Bases, Log, Submits}
+use Rattle.sdd_attempt.specs.Queues.{Queued}
+use Rattle.sdd_attempt.specs.Attempts.{active}
+use Rattle.sdd_attempt.proofs.Stamps.{stamped_still}
+use Rattle.sdd_attempt.proofs.SoundLines.{line_submitted}
+use Rattle.sdd_attempt.proofs.LineActs.{new_in_queue, resting}
+use Rattle.sdd_umod.specs.Fits.{FitsSubmit}
+use Rattle.sdd_umod.specs.State.{State, state_of}
+use Rattle.sdd_umod.specs.Steps.{step_of}
+use Rattle.sdd_umod.specs.Handing.{state_given}
+use Rattle.sdd_umod.specs.Stands.{IsSound, IsSetting, IsKept, IsAmid}
+use Rattle.sdd_umod.proofs.Everywhere.{reads_all}
+use Rattle.sdd_umod.proofs.Handing.{has_room, settled_line}
+
+state_given_kept : (s : Setting) (log : Log) (n : ℕ) (txn : Txn)
+    → state_of s (Submits n txn ∷ log) ≡ state_given n txn (state_of s log)
+state_given_kept s log n txn = refl
+
+sound_given : (s : Setting) (bases : Bases) (log : Log) (n : ℕ) (txn : Txn) → n < 2 ^ 32 → IsSetting s
+    → FitsSubmit s bases log n txn → IsSound s log → IsSound s (Submits n txn ∷ log)
+sound_given s bases log n txn small setting f sound = record {
+  line = line_submitted s 0 log n txn f.fresh small f.fitting (λ e. reads_all s.catalogue txn setting.valid) sound.line;
+  stamped = stamped_still s log (Submits n txn) refl sound.stamped;
+  turns = λ t. sound.turns t;
+  started = record { few = sound.started.few };
+}
+
+pub amid_given : (s : Setting) (bases : Bases) (log : Log) (n : ℕ) (txn : Txn) → n < 2 ^ 32 → IsSetting s
+    → IsSound s log → step_of (state_of s log) ≡ None → FitsSubmit s bases log n txn
+    → IsAmid s bases (state_given n txn (state_of s log)) (Submits n txn ∷ log)
+amid_given s bases log n txn small setting sound settled f =
+    let now : IsSound s (Submits n txn ∷ log) = sound_given s bases log n txn small setting f sound in
+    record {
+      setting = setting;
+      sound = now;
+      state_is = state_given_kept s log n txn;
+      databases = f.site.databases;
+      served = resting s.catalogue bases (active s 0 log) (settled_line (state_of s log) settled);
+      room = has_room s (Submits n txn ∷ log) now f.site.time;
+    }
+
+-- it fits the line, and is new there
+pub fits_kept : (s : Setting) (bases : Bases) (log : Log) (state : State) (n : ℕ) (txn : Txn)
+    → IsKept s log state → FitsSubmit s bases log n txn
+    → Fits state.line.catalogue txn × (contains (map (λ (q : Queued). q.number) state.line.queue) n ≡ false)
+fits_kept s bases log state n txn kept f = (
+  subst (λ (st : State). Fits st.line.catalogue txn) kept.state_is f.fitting,
+  subst (λ (st : State). contains (map (λ (q : Queued). q.number) st.line.queue) n ≡ false) kept.state_is
+      (new_in_queue s log 0 n kept.sound.line f.fresh),
+)

@@ -1,0 +1,213 @@
+-- A message that is handed: the module keeps what follows from the log, and nothing else of it changes.
+use Rattle.std.proofs.Common.{ℕ, suc, ◌+◌, ◌<◌, ◌≤◌, ◌^◌, ◌≡◌, ◌==◌, Bool, true, false, List, ◌∷◌, map, refl, ap, sym, ◌∙◌, subst, arith, Option, Some, None}
+use Rattle.std.specs.Prelude.{if◌then◌else◌}
+use Rattle.sdd_base.specs.Clock.{Ticking}
+use Rattle.sdd_base.specs.declared.site.Site.{Site}
+use Rattle.sdd_base.specs.declared.site.Site.TheVariants.{U, T, D}
+use Rattle.sdd_catalog.specs.Catalogue.{numbers_to}
+use Rattle.sdd_wire.specs.declared.msg.Msg.{Msg}
+use Rattle.sdd_wire.specs.declared.msg.Msg.TheVariants.{Ready, Reject, Values, Reduced, Rows, Ask, Held, Release, Done}
+use Rattle.sdd_module.specs.SiteLog.{Setting, Bases, Log, Handed, submits}
+use Rattle.sdd_module.proofs.Finding.{map_twice}
+use Rattle.sdd_attempt.specs.Clocks.{clock, pushed_by}
+use Rattle.sdd_attempt.specs.Queues.{queue}
+use Rattle.sdd_attempt.specs.Exchange.{Phase, after_hand}
+use Rattle.sdd_attempt.specs.Attempts.{Attempt, active, active_handed, rejects}
+use Rattle.sdd_attempt.specs.Fits.{AwaitsAt, fetches_use}
+use Rattle.sdd_attempt.specs.Lines.{IsAwaited, Line, line_step}
+use Rattle.sdd_attempt.specs.Sound.{FitsAnswer}
+use Rattle.sdd_attempt.specs.Starts.{starts_left}
+use Rattle.sdd_attempt.proofs.Stamps.{no_sooner_hand, stamped_still}
+use Rattle.sdd_attempt.proofs.Served.{served_handed}
+use Rattle.sdd_attempt.proofs.SoundLines.{line_handed}
+use Rattle.sdd_attempt.proofs.LineActs.{left_is_few, resting}
+use Rattle.sdd_attempt.proofs.Waiting.{few_waiting}
+use Rattle.sdd_umod.specs.declared.tm_count.Sign.TheVariants as signs
+use Rattle.sdd_umod.specs.Views.{Served, TmCounts, counts, counts_handed, last_served, served_handed as served_now}
+use Rattle.sdd_umod.specs.Fits.{fits_kind, fits}
+use Rattle.sdd_umod.specs.State.{State, as_counted, line_of, served_of, state_of}
+use Rattle.sdd_umod.specs.Steps.{counted, of_line, step_of}
+use Rattle.sdd_umod.specs.Handing.{IsEarly, clock_heeded, served_heeded, counts_heeded, state_handed}
+use Rattle.sdd_umod.specs.Stands.{InTurn, IsSound, IsSetting, IsKept, IsAmid, running}
+use Rattle.sdd_umod.specs.Works.{HaveRoom}
+use Rattle.sdd_umod.proofs.Lists.{or_nothing, get_map_of}
+use Rattle.sdd_umod.proofs.Dues.{line_none}
+use Rattle.sdd_umod.proofs.Turns.{tm_told, turn_held}
+
+-- what is kept of the log
+
+pub clock_kept : (s : Setting) (bases : Bases) (log : Log) (from : Site) (m : Msg) → fits_kind s bases log from m
+    → (k : Ticking) → pushed_by m k ≡ clock_heeded m k
+clock_kept s bases log from (Held time) f k = refl
+clock_kept s bases log from (Ask class time) f k = absurd f
+clock_kept s bases log from (Reject ts class by write) f k = absurd f
+clock_kept s bases log from (Release ts) f k = absurd f
+clock_kept s bases log from _ f k = refl
+
+one_more : (n : ℕ) → as_counted (suc n) ≡ as_counted (as_counted n + 1)
+one_more n = omega arith
+
+served_kept : (m : Msg) (v : Served) → served_of (served_now m v) ≡ served_heeded m (served_of v)
+served_kept (Done t) v =
+    elim (t.0 == v.ts) as (λ b. served_of (if b then record v { dones = suc v.dones } else v)
+    ≡ (if b then record (served_of v) { dones = as_counted (as_counted v.dones + 1) } else served_of v)) [
+      | true ↦ ap (λ n. record v { dones = n }) (one_more v.dones)
+      | false ↦ refl
+    ]
+served_kept _ v = refl
+
+counts_kept : (s : Setting) (log : Log) (from : Site) (m : Msg)
+    → map (λ t. counts t (Handed from m ∷ log)) (numbers_to s.catalogue.tms)
+    ≡ counts_heeded from m (map (λ t. counts t log) (numbers_to s.catalogue.tms))
+counts_kept s log (T n) (Held time) =
+    map_twice (λ t. counts t log) (λ t. counts t (Handed (T n) (Held time) ∷ log)) (counted signs.Held n.0)
+    (numbers_to s.catalogue.tms) (λ t. refl)
+counts_kept s log U (Held time) = refl
+counts_kept s log (D n) (Held time) = refl
+counts_kept s log (T n) _ = refl
+counts_kept s log U _ = refl
+counts_kept s log (D n) _ = refl
+
+abbrev made : Line → Ticking → Served → List TmCounts → State
+made line clock served counts = record { line = line; clock = clock; served = served; counts = counts }
+
+pub state_kept : (s : Setting) (bases : Bases) (log : Log) (from : Site) (m : Msg) → fits_kind s bases log from m
+    → state_of s (Handed from m ∷ log) ≡ state_handed from m (state_of s log)
+state_kept s bases log from m f =
+    let line : Line = line_of s (Handed from m ∷ log) in
+    ap (λ k. made line k (served_of (last_served s (Handed from m ∷ log))) (map (λ t. counts t (Handed from m ∷ log)) (numbers_to s.catalogue.tms)))
+    (clock_kept s bases log from m f (clock s.site log))
+    ∙ ap (λ v. made line (clock_heeded m (clock s.site log)) v (map (λ t. counts t (Handed from m ∷ log)) (numbers_to s.catalogue.tms)))
+    (served_kept m (last_served s log))
+    ∙ ap (made line (clock_heeded m (clock s.site log)) (served_heeded m (served_of (last_served s log))))
+    (counts_kept s log from m)
+
+-- what holds of the log
+
+answer_fits : (s : Setting) (bases : Bases) (log : Log) (from : Site) (m : Msg) → fits_kind s bases log from m
+    → FitsAnswer s bases log from m
+answer_fits s bases log from (Ready ts class counts) f = f.answers
+answer_fits s bases log from (Reject ts class by write) f = absurd f
+answer_fits s bases log from (Values ts class u values) f = f
+answer_fits s bases log from (Reduced ts class u n) f = f
+answer_fits s bases log from (Rows ts class rows) f = f
+answer_fits s bases log from _ f = tt
+
+commits_same : (m : Msg) (v : Served) → (served_now m v).commits ≡ v.commits
+commits_same (Done t) v = elim (t.0 == v.ts) as (λ b. (if b then record v { dones = suc v.dones } else v).commits ≡ v.commits) [ true ↦ refl | false ↦ refl ]
+commits_same _ v = refl
+
+turn_told : (s : Setting) (bases : Bases) (log : Log) (from : Site) (m : Msg) (n t : ℕ) → fits_kind s bases log from m
+    → InTurn n (counts t log) → InTurn n (counts_handed from m (counts t log))
+turn_told s bases log (T tm) (Held time) n t f turn =
+    turn_held n tm.0 (counts t log) turn
+    (λ e. subst (λ k. (counts k log).helds < (counts k log).holds) (e ∙ tm_told t log) f.awaited)
+turn_told s bases log U (Held time) n t f turn = turn
+turn_told s bases log (D d) (Held time) n t f turn = turn
+turn_told s bases log (T tm) _ n t f turn = turn
+turn_told s bases log U _ n t f turn = turn
+turn_told s bases log (D d) _ n t f turn = turn
+
+running_if : (b : Bool) (o : Option Attempt) → running (if b then None else o) ≤ running o
+running_if true o = omega arith
+running_if false o = omega arith
+
+running_handed : (from : Site) (m : Msg) (o : Option Attempt) → running (active_handed 0 from m o) ≤ running o
+running_handed (D d) m (Some a) = running_if (rejects m a.ts 0) (Some (record a { exchange = after_hand a.ts 0 d.0 m a.exchange }))
+running_handed (D d) m None = omega arith
+running_handed U m o = omega arith
+running_handed (T t) m o = omega arith
+
+pub sound_handed : (s : Setting) (bases : Bases) (log : Log) (from : Site) (m : Msg) → fits_kind s bases log from m
+    → IsSound s log → IsSound s (Handed from m ∷ log)
+sound_handed s bases log from m f sound =
+    let few = sound.started.few in
+    let fewer = running_handed from m (active s 0 log) in
+    let later = (no_sooner_hand m (clock s.site log)).0 in
+    let same = commits_same m (last_served s log) in
+    record {
+      line = line_handed s bases 0 log from m (answer_fits s bases log from m f) sound.line;
+      stamped = stamped_still s log (Handed from m) refl sound.stamped;
+      turns = λ t. subst (λ n. InTurn n (counts_handed from m (counts t log))) (sym same)
+          (turn_told s bases log from m (last_served s log).commits t f (sound.turns t));
+      started = record { few = omega arith };
+    }
+
+-- between calls the attempt does nothing by itself
+pub settled_line : (state : State) → step_of state ≡ None → line_step state.line.active ≡ None
+settled_line state e = line_none _ (or_nothing (of_line (line_step state.line.active)) _ e).0
+
+-- the clock
+
+early : (s : Setting) (bases : Bases) (log : Log) (from : Site) (m : Msg) → fits s bases log from m
+    → (pushed_by m (clock s.site log)).ticks < 2 ^ 56
+early s bases log (T tm) (Held time) f = let t = f.0.time in let l = f.1.early in omega arith
+early s bases log U (Held time) f = absurd f.1
+early s bases log (D d) (Held time) f = absurd f.1
+early s bases log from (Ask class time) f = absurd f.1
+early s bases log from (Reject ts class by write) f = absurd f.1
+early s bases log from (Release ts) f = absurd f.1
+early s bases log from _ f = f.0.time
+
+pub early_push : (s : Setting) (bases : Bases) (log : Log) (from : Site) (m : Msg) → fits s bases log from m → IsEarly m
+early_push s bases log (T tm) (Held time) f = let l = f.1.early in omega arith
+early_push s bases log U (Held time) f = absurd f.1
+early_push s bases log (D d) (Held time) f = absurd f.1
+early_push s bases log from _ f = tt
+
+pub has_room : (s : Setting) (log : Log) → IsSound s log → (clock s.site log).ticks < 2 ^ 56
+    → (clock s.site log).ticks + starts_left (active s 0 log) (queue s 0 log) + 1 < 2 ^ 57
+has_room s log sound low =
+    let few = few_waiting s.catalogue 0 (submits log) (queue s 0 log) sound.line.in_queue in
+    let left = left_is_few (active s 0 log) (queue s 0 log) in
+    omega arith
+
+-- the counts have room
+
+pub counts_room : (s : Setting) (log : Log) → IsSound s log → (clock s.site log).ticks < 2 ^ 57 → HaveRoom (state_of s log).counts
+counts_room s log sound low = λ i k e.
+    let r = get_map_of (λ t. counts t log) (numbers_to s.catalogue.tms) i k e in
+    let turn : InTurn (last_served s log).commits k = subst (InTurn (last_served s log).commits) r.1 (sound.turns r.0) in
+    let few = sound.started.few in
+    let a = turn.committed in
+    let b = turn.released in
+    let c = turn.answered in
+    record { holds = omega arith; helds = omega arith; releases = omega arith }
+
+pub kept_room : (s : Setting) (log : Log) (state : State) → IsKept s log state → (clock s.site log).ticks < 2 ^ 57 → HaveRoom state.counts
+kept_room s log state kept low = subst (λ (st : State). HaveRoom st.counts) kept.state_is (counts_room s log kept.sound low)
+
+-- the module within the call
+
+pub amid_handed : (s : Setting) (bases : Bases) (log : Log) (from : Site) (m : Msg) → IsSetting s → IsSound s log
+    → step_of (state_of s log) ≡ None → fits s bases log from m
+    → IsAmid s bases (state_handed from m (state_of s log)) (Handed from m ∷ log)
+amid_handed s bases log from m setting sound settled f =
+    let now : IsSound s (Handed from m ∷ log) = sound_handed s bases log from m f.1 sound in
+    let is = state_kept s bases log from m f.1 in
+    record {
+      setting = setting;
+      sound = now;
+      state_is = is;
+      databases = f.0.databases;
+      served = served_handed s bases log 0 from m (answer_fits s bases log from m f.1) sound.line.asking
+          (resting s.catalogue bases (active s 0 log) (settled_line (state_of s log) settled));
+      room = subst (λ (st : State). st.clock.ticks + starts_left st.line.active st.line.queue + 1 < 2 ^ 57) is
+          (has_room s (Handed from m ∷ log) now (early s bases log from m f));
+    }
+
+-- an answer is one that the attempt awaits
+
+awaited_class : (s : Setting) (log : Log) (f : Phase → Bool) (from : Site) (ts k c : ℕ)
+    → AwaitsAt f (active s k log) from ts → k ≡ c → AwaitsAt f (active s c log) from ts
+awaited_class s log f from ts k c h e = subst (λ n. AwaitsAt f (active s n log) from ts) e h
+
+is_awaited : (s : Setting) (bases : Bases) (log : Log) (from : Site) (m : Msg) → fits_kind s bases log from m
+    → IsAwaited 0 from m (active s 0 log)
+is_awaited s bases log from (Values ts class u values) f = λ e. awaited_class s log (fetches_use u) from ts.0 class.0 0 f e
+is_awaited s bases log from _ f = tt
+
+pub awaited_kept : (s : Setting) (bases : Bases) (log : Log) (state : State) (from : Site) (m : Msg)
+    → IsKept s log state → fits_kind s bases log from m → IsAwaited state.line.class from m state.line.active
+awaited_kept s bases log state from m kept f =
+    subst (λ (st : State). IsAwaited st.line.class from m st.line.active) kept.state_is (is_awaited s bases log from m f)

@@ -1,0 +1,189 @@
+-- Each step leaves the module less to do.
+use Rattle.std.proofs.Common.{ℕ, suc, ◌+◌, ◌<◌, ◌≤◌, ◌≡◌, ◌==◌, Bool, true, false, not, cond, List, [], ◌∷◌, map, length, refl, ap, sym, ◌∙◌, subst, arith, Option, Some, None}
+use Rattle.std.specs.Prelude.{find, if◌then◌else◌, option_map}
+use Rattle.std.specs.List.{filter}
+use Rattle.std.proofs.lemmas.Bool.{eq-eqb, eqb-true, ltb-true}
+use Rattle.sdd_base.specs.Words.{head_of}
+use Rattle.sdd_base.specs.Clock.{Ticking, ticked, timestamp}
+use Rattle.sdd_catalog.specs.Catalogue.{numbers_to}
+use Rattle.sdd_module.specs.SiteLog.{Setting, Bases, Log, Act, sends_of_act}
+use Rattle.sdd_attempt.specs.Clocks.{clock}
+use Rattle.sdd_attempt.specs.Queues.{Queued, queue, queue_after, tried}
+use Rattle.sdd_attempt.specs.Exchange.{begins}
+use Rattle.sdd_attempt.specs.Attempts.{Attempt, active, active_after, active_sent, started}
+use Rattle.sdd_attempt.specs.Acts.{start_act, commit_act}
+use Rattle.sdd_attempt.specs.Lines.{send_next, commit_next, start_next, line_step}
+use Rattle.sdd_attempt.specs.declared.step.LineStep.TheVariants.{Sends as ToSend, Commits as ToCommit}
+use Rattle.sdd_attempt.specs.Fits.{sent, handed}
+use Rattle.sdd_attempt.specs.Sound.{IsOfHead}
+use Rattle.sdd_attempt.specs.Starts.{work_of}
+use Rattle.sdd_attempt.proofs.SoundLines.{request_of}
+use Rattle.sdd_attempt.proofs.Waiting.{fewer_committed}
+use Rattle.sdd_attempt.proofs.LineSteps.{has_to_send, commits}
+use Rattle.sdd_attempt.proofs.LineActs.{asking_of, starts_committed, starts_started, work_sent}
+use Rattle.sdd_umod.specs.declared.step.Step.{Step}
+use Rattle.sdd_umod.specs.declared.step.Step.TheVariants.{Send, Commit, Release, Start, Hold}
+use Rattle.sdd_umod.specs.declared.tm_count.Sign.TheVariants as signs
+use Rattle.sdd_umod.specs.Views.{TmCounts, counts, last_served}
+use Rattle.sdd_umod.specs.State.{State, line_of, state_of}
+use Rattle.sdd_umod.specs.Steps.{counted, is_free, is_kept_on_hold, step_of, state_done}
+use Rattle.sdd_umod.specs.Stands.{InTurn, IsAmid}
+use Rattle.sdd_umod.specs.Work.{signs_left, all_signs, work}
+use Rattle.sdd_umod.proofs.Lists.{some_is, found_in_map}
+use Rattle.sdd_umod.proofs.Dues.{IsStep, sends, commits_now, releases, starts, holds, step_is}
+use Rattle.sdd_umod.proofs.Acting.{first_of}
+
+-- HOLDs and RELEASEs
+
+-- with fewer transactions there are no more of them
+fewer_signs : (n m : ℕ) (ks : List TmCounts) → n ≤ m → all_signs n ks ≤ all_signs m ks
+fewer_signs n m [] l = omega arith
+fewer_signs n m (k ∷ ks) l = let rest = fewer_signs n m ks l in omega arith
+
+released_no_more : (txns n : ℕ) (k : TmCounts) → signs_left txns (counted signs.Release n k) ≤ signs_left txns k
+released_no_more txns n k =
+    elim (n == k.tm) as (λ b. signs_left txns (if b then record k { releases = suc k.releases } else k) ≤ signs_left txns k) [
+      | true ↦ omega arith
+      | false ↦ omega arith
+    ]
+
+held_no_more : (txns n : ℕ) (k : TmCounts) → signs_left txns (counted signs.Hold n k) ≤ signs_left txns k
+held_no_more txns n k =
+    elim (n == k.tm) as (λ b. signs_left txns (if b then record k { holds = suc k.holds } else k) ≤ signs_left txns k) [
+      | true ↦ omega arith
+      | false ↦ omega arith
+    ]
+
+no_more : (txns : ℕ) (f : TmCounts → TmCounts) (ks : List TmCounts) → ((k : TmCounts) → signs_left txns (f k) ≤ signs_left txns k)
+    → all_signs txns (map f ks) ≤ all_signs txns ks
+no_more txns f [] h = omega arith
+no_more txns f (k ∷ ks) h = let here = h k in let rest = no_more txns f ks h in omega arith
+
+-- and where one is sent to a T that is found there are fewer
+fewer_where : (txns : ℕ) (f : TmCounts → TmCounts) (p : TmCounts → Bool) (ks : List TmCounts) (k : TmCounts)
+    → ((x : TmCounts) → signs_left txns (f x) ≤ signs_left txns x) → find p ks ≡ Some k
+    → signs_left txns (f k) < signs_left txns k → all_signs txns (map f ks) < all_signs txns ks
+fewer_where txns f p [] k h e l = absurd cc
+fewer_where txns f p (x ∷ ks) k h e l =
+    elim (p x) as (λ b. cond b (Some x) (find p ks) ≡ Some k → signs_left txns (f x) + all_signs txns (map f ks) < signs_left txns x + all_signs txns ks) [
+      | true ↦ λ g.
+          let here : signs_left txns (f x) < signs_left txns x =
+          subst (λ (y : TmCounts). signs_left txns (f y) < signs_left txns y) (sym (some_is g)) l in
+          let rest = no_more txns f ks h in omega arith
+      | false ↦ λ g.
+          let here = h x in let rest = fewer_where txns f p ks k h g l in omega arith
+    ] e
+
+released_fewer : (txns : ℕ) (k : TmCounts) → k.releases < txns → signs_left txns (counted signs.Release k.tm k) < signs_left txns k
+released_fewer txns k l = let own : (k.tm == k.tm) ≡ true = eq-eqb k.tm k.tm refl in rw own (omega arith)
+
+held_fewer : (txns : ℕ) (k : TmCounts) → k.holds ≤ txns → signs_left txns (counted signs.Hold k.tm k) < signs_left txns k
+held_fewer txns k l = let own : (k.tm == k.tm) ≡ true = eq-eqb k.tm k.tm refl in rw own (omega arith)
+
+-- the steps
+
+abbrev by_parts : Option Attempt → List Queued → ℕ → List TmCounts → ℕ
+by_parts o qs n ks = work_of o qs + all_signs (n + length qs) ks
+
+send_falls : (s : Setting) (bases : Bases) (log : Log) → IsAmid s bases (state_of s log) log
+    → line_step (active s 0 log) ≡ Some ToSend → work (state_done bases Send (state_of s log)) < work (state_of s log)
+send_falls s bases log amid h =
+    let r = has_to_send (active s 0 log) h in
+    let request = request_of 0 (sent log) (handed log) r.attempt r.act
+    (asking_of s log 0 r.attempt amid.sound.line r.active) r.send in
+    let to_do : send_next (active s 0 log) ≡ Some r.act = ap send_next r.active ∙ r.send in
+    let less = work_sent 0 request.msg r.attempt r.act (queue s 0 log) request.asks r.send in
+    let now : work_of (active_sent 0 request.msg (active s 0 log)) (queue s 0 log) ≡ work_of
+    (active_sent 0 request.msg (Some r.attempt)) (queue s 0 log) =
+    ap (λ o. work_of (active_sent 0 request.msg o) (queue s 0 log)) r.active in
+    let before : work_of (active s 0 log) (queue s 0 log) ≡ work_of (Some r.attempt) (queue s 0 log) =
+    ap (λ o. work_of o (queue s 0 log)) r.active in
+    rw (to_do, request.act_is) (omega arith)
+
+commit_falls : (s : Setting) (bases : Bases) (log : Log) → IsAmid s bases (state_of s log) log
+    → line_step (active s 0 log) ≡ Some ToCommit → work (state_done bases Commit (state_of s log)) < work (state_of s log)
+commit_falls s bases log amid h =
+    let r = commits (active s 0 log) h in
+    let a : Attempt = r.attempt in
+    let act : Act = commit_act s.catalogue bases 0 a in
+    let n : ℕ = (last_served s log).commits in
+    let ks : List TmCounts = (state_of s log).counts in
+    let qs : List Queued = filter (λ q. not (q.number == a.txn)) (queue s 0 log) in
+    let to_do : commit_next bases (line_of s log) ≡ Some act = ap (option_map (commit_act s.catalogue bases 0)) r.active in
+    let head : IsOfHead (queue s 0 log) (Some a) = subst (IsOfHead (queue s 0 log)) r.active amid.sound.line.of_head in
+    let less = starts_committed a (queue s 0 log) head in
+    let fewer = fewer_committed a.txn (queue s 0 log) (record { number = a.txn; text = a.text; tries = a.attempt }) head refl in
+    let few = fewer_signs (suc n + length qs) (n + length (queue s 0 log)) ks (omega arith) in
+    let now : by_parts (active_after 0 act (queue s 0 log) (active s 0 log)) (queue_after 0 act (queue s 0 log)) (suc n) ks
+    ≡ by_parts None qs (suc n) ks = refl in
+    let before : work_of (active s 0 log) (queue s 0 log) ≡ work_of (Some a) (queue s 0 log) =
+    ap (λ o. work_of o (queue s 0 log)) r.active in
+    rw to_do (omega arith)
+
+start_falls : (s : Setting) (bases : Bases) (log : Log) (q : Queued) (rest : List Queued) → active s 0 log ≡ None
+    → queue s 0 log ≡ q ∷ rest → work (state_done bases Start (state_of s log)) < work (state_of s log)
+start_falls s bases log q rest idle is =
+    let k : Ticking = clock s.site log in
+    let act : Act = start_act s.catalogue [] 0 k q in
+    let own : ℕ = timestamp (ticked k 1) in
+    let n : ℕ = (last_served s log).commits in
+    let ks : List TmCounts = (state_of s log).counts in
+    let to_do : start_next [] k (line_of s log) ≡ Some act = ap (λ qs. option_map (start_act s.catalogue [] 0 k) (head_of qs)) is in
+    let fewer = starts_started q.number (record {
+      txn = q.number;
+      attempt = suc q.tries;
+      ts = own;
+      text = q.text;
+      exchange = begins q.text (sends_of_act act);
+    }) q rest in
+    let few = fewer_signs (n + length (map (tried q.number) (q ∷ rest))) (n + length (q ∷ rest)) ks (omega arith) in
+    let now : by_parts (active_after 0 act (queue s 0 log) (active s 0 log)) (queue_after 0 act (queue s 0 log)) n ks
+    ≡ by_parts (started own (sends_of_act act) (Some q)) (map (tried q.number) (q ∷ rest)) n ks =
+    ap (λ qs. by_parts (started own (sends_of_act act) (head_of qs)) (map (tried q.number) qs) n ks) is in
+    let before : by_parts (active s 0 log) (queue s 0 log) n ks ≡ by_parts None (q ∷ rest) n ks = rw (idle, is) refl in
+    rw to_do (omega arith)
+
+release_falls : (s : Setting) (bases : Bases) (log : Log) (k : TmCounts)
+    → find (is_kept_on_hold (last_served s log).commits) (state_of s log).counts ≡ Some k
+    → work (state_done bases (Release (record { 0 = k.tm })) (state_of s log)) < work (state_of s log)
+release_falls s bases log k e =
+    let n : ℕ = (last_served s log).commits in
+    let txns : ℕ = n + length (queue s 0 log) in
+    let r = found_in_map (λ t. counts t log) (is_kept_on_hold n) (numbers_to s.catalogue.tms) k e in
+    let low : k.releases < n = ltb-true k.releases n r.2 in
+    let less = fewer_where txns (counted signs.Release k.tm) (is_kept_on_hold n) (state_of s log).counts k
+    (released_no_more txns k.tm) e (released_fewer txns k (omega arith)) in
+    omega arith
+
+hold_falls : (s : Setting) (bases : Bases) (log : Log) (k : TmCounts) → IsAmid s bases (state_of s log) log
+    → find is_free (state_of s log).counts ≡ Some k
+    → work (state_done bases (Hold (record { 0 = k.tm })) (state_of s log)) < work (state_of s log)
+hold_falls s bases log k amid e =
+    let n : ℕ = (last_served s log).commits in
+    let txns : ℕ = n + length (queue s 0 log) in
+    let r = found_in_map (λ t. counts t log) is_free (numbers_to s.catalogue.tms) k e in
+    let free : k.releases ≡ k.holds = eqb-true k.releases k.holds r.2 in
+    let turn : InTurn n k = subst (InTurn n) r.1 (amid.sound.turns r.0) in
+    let low = turn.committed in
+    let less = fewer_where txns (counted signs.Hold k.tm) is_free (state_of s log).counts k
+    (held_no_more txns k.tm) e (held_fewer txns k (omega arith)) in
+    omega arith
+
+step_falls : (s : Setting) (bases : Bases) (log : Log) (step : Step) → IsAmid s bases (state_of s log) log
+    → IsStep (state_of s log) step → (step ≡ Start → active s 0 log ≡ None)
+    → work (state_done bases step (state_of s log)) < work (state_of s log)
+step_falls s bases log Send amid (sends h) idle = send_falls s bases log amid h
+step_falls s bases log Commit amid (commits_now h) idle = commit_falls s bases log amid h
+step_falls s bases log (Release tm) amid (releases k none found e) idle = release_falls s bases log k found
+step_falls s bases log Start amid (starts none r may) idle =
+    let w = first_of (queue s 0 log) _ may in start_falls s bases log w.0 w.1 (idle refl) w.2
+step_falls s bases log (Hold tm) amid (holds k none r t found some e) idle = hold_falls s bases log k amid found
+
+pub work_falls : (s : Setting) (bases : Bases) (state : State) (log : Log) (step : Step) → IsAmid s bases state log
+    → step_of state ≡ Some step → (step ≡ Start → state.line.active ≡ None) → work (state_done bases step state) < work state
+work_falls s bases state log step amid steps idle =
+    let is : state_of s log ≡ state = amid.state_is in
+    subst (λ st. work (state_done bases step st) < work st) is
+    (step_falls s bases log step (subst (λ st. IsAmid s bases st log) (sym is) amid)
+    (step_is (state_of s log) step (subst (λ st. step_of st ≡ Some step) (sym is) steps))
+    (subst (λ (st : State). step ≡ Start → st.line.active ≡ None) (sym is) idle))

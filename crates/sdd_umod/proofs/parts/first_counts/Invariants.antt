@@ -1,0 +1,8 @@
+-- Those before the number at hand are there.
+use Rattle.std.proofs.Common.{◌≡◌, ◌-◌, map}
+use Rattle.sdd_catalog.specs.Catalogue.{numbers_to}
+use Rattle.sdd_umod.specs.Works.{no_counts}
+use Rattle.sdd_umod.proofs.parts.first_counts.Given as goal
+
+abbrev pub invariant-loop-tm : goal.invariant-loop-tm
+invariant-loop-tm l = l.counts.items ≡ map no_counts (numbers_to (l.tm - 1))

@@ -1,0 +1,8 @@
+-- Those before the place at hand are counted.
+use Rattle.std.proofs.Common.{◌≡◌, ◌++◌, map, take, drop}
+use Rattle.sdd_umod.specs.Steps.{counted}
+use Rattle.sdd_umod.proofs.tm_count.count.Given as goal
+
+abbrev pub invariant-loop-one : goal.invariant-loop-one
+invariant-loop-one l =
+    l.counts ≡ map (counted l.sign l.tm.0) (take l.one-index l.initial.counts) ++ drop l.one-index l.initial.counts

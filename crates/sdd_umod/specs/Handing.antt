@@ -1,0 +1,59 @@
+-- What becomes of what the module keeps when a message is handed to it, or a transaction is given to it.
+use Rattle.std.specs.Prelude.{ℕ, ◌+◌, ◌/◌, ◌<◌, ◌^◌, ◌==◌, if◌then◌else◌, List, [], ◌∷◌, ◌++◌, map}
+use Rattle.sdd_base.specs.Clock.{Ticking, pushed}
+use Rattle.sdd_base.specs.declared.site.Site.{Site}
+use Rattle.sdd_base.specs.declared.site.Site.TheVariants.{T}
+use Rattle.sdd_lang.specs.declared.transaction.Txn.{Txn}
+use Rattle.sdd_wire.specs.declared.msg.Msg.{Msg}
+use Rattle.sdd_wire.specs.declared.msg.Msg.TheVariants.{Held, Done}
+use Rattle.sdd_attempt.specs.Attempts.{active_handed}
+use Rattle.sdd_umod.specs.declared.tm_count.Sign.TheVariants as signs
+use Rattle.sdd_umod.specs.Views.{Served, TmCounts}
+use Rattle.sdd_umod.specs.State.{State, as_counted}
+use Rattle.sdd_umod.specs.Steps.{counted}
+
+-- a message: of those that come to the module a HELD alone pushes its clock
+
+abbrev pub clock_heeded : Msg → Ticking → Ticking
+clock_heeded (Held time) k = pushed k time.0
+clock_heeded _ k = k
+
+-- a clock has room for that
+abbrev pub IsEarly : Msg → Type 0
+IsEarly (Held time) = time.0 / 64 < 2 ^ 57
+IsEarly _ = Unit {0}
+
+-- one DONE more for the attempt with this timestamp
+abbrev pub done_heeded : ℕ → Served → Served
+done_heeded ts served = if ts == served.ts then record served { dones = as_counted (served.dones + 1) } else served
+
+abbrev pub served_heeded : Msg → Served → Served
+served_heeded (Done ts) served = done_heeded ts.0 served
+served_heeded _ served = served
+
+-- a HELD of a T counts
+abbrev pub held_from : Site → List TmCounts → List TmCounts
+held_from (T tm) counts = map (counted signs.Held tm.0) counts
+held_from _ counts = counts
+
+abbrev pub counts_heeded : Site → Msg → List TmCounts → List TmCounts
+counts_heeded from (Held time) counts = held_from from counts
+counts_heeded from _ counts = counts
+
+abbrev pub heeded : Site → Msg → State → State
+heeded from m state = record state {
+  clock = clock_heeded m state.clock;
+  served = served_heeded m state.served;
+  counts = counts_heeded from m state.counts;
+}
+
+abbrev pub state_handed : Site → Msg → State → State
+state_handed from m state = record (heeded from m state) {
+  line = record state.line { active = active_handed state.line.class from m state.line.active };
+}
+
+-- a transaction goes to the end of the queue
+abbrev pub state_given : ℕ → Txn → State → State
+state_given n txn state = record state {
+  line = record state.line { queue = state.line.queue ++ record { number = n; text = txn; tries = 0 } ∷ [] };
+}

@@ -1,0 +1,100 @@
+-- What the module does next by itself, the act that it is, and what becomes of what it keeps.
+use Rattle.std.specs.Prelude.{ℕ, suc, nat_lt, ◌==◌, Bool, ◌&&◌, if◌then◌else◌, [], map, find, Option, Some, None, option_map}
+use Rattle.std.specs.List.{list_all}
+use Rattle.sdd_base.specs.Words.{or_else, is_empty}
+use Rattle.sdd_base.specs.Numbers.{tm_no, time_at}
+use Rattle.sdd_base.specs.declared.number.TmNo.{TmNo}
+use Rattle.sdd_base.specs.declared.site.Site.TheVariants.{T}
+use Rattle.sdd_wire.specs.declared.msg.Msg.TheVariants as messages
+use Rattle.sdd_module.specs.SiteLog.{Bases, Act, Sends}
+use Rattle.sdd_attempt.specs.Lines.{line_done, line_step, clock_done, send_next, commit_next, start_next, head_is_untried}
+use Rattle.sdd_attempt.specs.declared.step.LineStep.{LineStep}
+use Rattle.sdd_attempt.specs.declared.step.LineStep.TheVariants.{Sends as ToSend, Commits as ToCommit}
+use Rattle.sdd_umod.specs.declared.step.Step.{Step}
+use Rattle.sdd_umod.specs.declared.step.Step.TheVariants.{Send, Commit, Release, Start, Hold}
+use Rattle.sdd_umod.specs.declared.tm_count.Sign.{Sign}
+use Rattle.sdd_umod.specs.declared.tm_count.Sign.TheVariants as signs
+use Rattle.sdd_umod.specs.Views.{Served, TmCounts, ts_of}
+use Rattle.sdd_umod.specs.State.{State}
+
+-- the next step
+
+abbrev pub of_line : Option LineStep → Option Step
+of_line None = None
+of_line (Some ToSend) = Some Send
+of_line (Some ToCommit) = Some Commit
+
+-- every data module, of so many, has applied the WRITE of the last Commit
+abbrev pub is_applied : ℕ → Served → Bool
+is_applied dms served = served.dones == dms
+
+-- a T waits for its RELEASE
+abbrev pub is_kept_on_hold : ℕ → TmCounts → Bool
+is_kept_on_hold commits k = nat_lt k.releases commits
+
+abbrev pub tm_of : TmCounts → TmNo
+tm_of k = tm_no k.tm
+
+abbrev pub release_step : State → Option Step
+release_step state =
+    if is_applied state.line.catalogue.dms state.served
+    then option_map Release (option_map tm_of (find (is_kept_on_hold state.served.commits) state.counts)) else None
+
+-- the number of the transaction that is served next, from 1
+abbrev pub turn : Served → ℕ
+turn served = suc served.commits
+
+-- a T holds for the transaction of this number, and has told so
+abbrev pub is_holding : ℕ → TmCounts → Bool
+is_holding n k = (k.holds == n) && (k.helds == n)
+
+abbrev pub may_start : State → Bool
+may_start state = head_is_untried state.line.queue && list_all (is_holding (turn state.served)) state.counts
+
+abbrev pub start_step : State → Option Step
+start_step state = if may_start state then Some Start else None
+
+-- each HOLD to a T was followed by a RELEASE
+abbrev pub is_free : TmCounts → Bool
+is_free k = k.releases == k.holds
+
+abbrev pub hold_step : State → Option Step
+hold_step state = if is_empty state.line.queue then None else option_map Hold (option_map tm_of (find is_free state.counts))
+
+abbrev pub step_of : State → Option Step
+step_of state =
+    or_else (of_line (line_step state.line.active)) (or_else (release_step state) (or_else (start_step state) (hold_step state)))
+
+-- the act that a step makes
+
+abbrev pub act_of : Bases → State → Step → Option Act
+act_of bases state Send = send_next state.line.active
+act_of bases state Commit = commit_next bases state.line
+act_of bases state (Release tm) = Some (Sends (T tm) (messages.Release (time_at state.served.ts)) None)
+act_of bases state Start = start_next [] state.clock state.line
+act_of bases state (Hold tm) = Some (Sends (T tm) messages.Hold None)
+
+-- what becomes of the module
+
+-- one message more to or from the T of a number
+abbrev pub counted : Sign → ℕ → TmCounts → TmCounts
+counted signs.Hold n k = if n == k.tm then record k { holds = suc k.holds } else k
+counted signs.Held n k = if n == k.tm then record k { helds = suc k.helds } else k
+counted signs.Release n k = if n == k.tm then record k { releases = suc k.releases } else k
+
+-- one Commit more, of an attempt with this timestamp
+abbrev pub committed : ℕ → Served → Served
+committed ts served = record { commits = suc served.commits; ts = ts; dones = 0 }
+
+abbrev pub state_done : Bases → Step → State → State
+state_done bases Send state = record state { line = line_done (send_next state.line.active) state.line }
+state_done bases Commit state = record state {
+  line = line_done (commit_next bases state.line) state.line;
+  served = committed (ts_of state.line.active) state.served;
+}
+state_done bases (Release tm) state = record state { counts = map (counted signs.Release tm.0) state.counts }
+state_done bases Start state = record state {
+  line = line_done (start_next [] state.clock state.line) state.line;
+  clock = clock_done (start_next [] state.clock state.line) state.clock;
+}
+state_done bases (Hold tm) state = record state { counts = map (counted signs.Hold tm.0) state.counts }

@@ -1,0 +1,159 @@
+ghost use Rattle.std.specs.Prelude.{◌≡◌, find, map, option_map};
+ghost use Rattle.std.specs.List.{list_all, list_any};
+ghost use Rattle.sdd_umod.specs.Steps.{counted, is_free, is_holding, is_kept_on_hold, tm_of};
+ghost use Rattle.sdd_umod.specs.Standing.{is_told, lacks_held};
+ghost use Rattle.sdd_umod.specs.Works.{no_counts, HasRoom, HaveRoom};
+
+use sdd_base::TmNo;
+use std::marker::Model;
+
+/// A message between the module and a transaction module.
+#[derive(Clone, Copy)]
+pub(crate) enum Sign {
+    Hold,
+    Held,
+    Release,
+}
+
+/// Of one transaction module: how many HOLDs and RELEASEs were sent to it, and how many HELDs came
+/// from it.
+#[derive(Drop)]
+pub(crate) struct TmCount {
+    tm: TmNo,
+    holds: u64,
+    helds: u64,
+    releases: u64,
+}
+
+impl Model for TmCount {
+    ghost use Rattle.sdd_umod.specs.Views.{TmCounts};
+
+    ghost Value = { TmCounts };
+
+    ghost view = { λ k. record { tm = k.tm.0; holds = k.holds; helds = k.helds; releases = k.releases } };
+}
+
+impl TmCount {
+    /// Of a transaction module with which nothing was exchanged yet.
+    pub(crate) fn new(tm: TmNo) -> TmCount
+        ensures { result ≡ no_counts tm.0 }
+    {
+        TmCount {
+            tm,
+            holds: 0,
+            helds: 0,
+            releases: 0,
+        }
+    }
+
+    /// The transaction module.
+    pub(crate) fn tm(&self) -> TmNo
+        ensures { result.0 ≡ self.now.tm }
+    {
+        self.tm
+    }
+
+    /// Whether a RELEASE for one of so many Commits is still to be sent.
+    pub(crate) fn is_kept_on_hold(&self, commits: u64) -> bool
+        ensures { result ≡ is_kept_on_hold commits self.now }
+    {
+        self.releases < commits
+    }
+
+    /// Whether it was told to hold for the transaction of this number.
+    pub(crate) fn is_told(&self, turn: u64) -> bool
+        ensures { result ≡ is_told turn self.now }
+    {
+        self.holds == turn
+    }
+
+    /// Whether its HELD for the transaction of this number lacks.
+    pub(crate) fn lacks_held(&self, turn: u64) -> bool
+        ensures { result ≡ lacks_held turn self.now }
+    {
+        self.helds != turn
+    }
+
+    /// Whether it holds for the transaction of this number, and has told so.
+    pub(crate) fn is_holding(&self, turn: u64) -> bool
+        ensures { result ≡ is_holding turn self.now }
+    {
+        self.holds == turn && self.helds == turn
+    }
+
+    /// Whether each HOLD was followed by a RELEASE.
+    pub(crate) fn is_free(&self) -> bool
+        ensures { result ≡ is_free self.now }
+    {
+        self.releases == self.holds
+    }
+
+    /// Counts a message to or from the transaction module with this number.
+    fn count(&mut self, sign: Sign, tm: TmNo)
+        requires { HasRoom self.old }
+        ensures { self.new ≡ counted sign tm.0 self.old }
+    {
+        if tm.0 != self.tm.0 {
+            return;
+        }
+        match sign {
+            Sign::Hold => self.holds += 1,
+            Sign::Held => self.helds += 1,
+            Sign::Release => self.releases += 1,
+        }
+    }
+}
+
+/// Counts a message to or from the transaction module with this number.
+pub(crate) fn count(counts: &mut [TmCount], sign: Sign, tm: TmNo)
+    requires { HaveRoom counts.old }
+    ensures { counts.new ≡ map (counted sign tm.0) counts.old }
+{
+    for one in counts.iter_mut() {
+        one.count(sign, tm);
+    }
+}
+
+/// The first transaction module for which a RELEASE for one of so many Commits is still to be sent.
+pub(crate) fn first_on_hold(counts: &[TmCount], commits: u64) -> Option<TmNo>
+    ensures { result ≡ option_map tm_of (find (is_kept_on_hold commits) counts.now) }
+{
+    match counts.iter().find(|one| one.is_kept_on_hold(commits)) {
+        None => None,
+        Some(one) => Some(one.tm()),
+    }
+}
+
+/// The first transaction module whose HOLDs were each followed by a RELEASE.
+pub(crate) fn first_free(counts: &[TmCount]) -> Option<TmNo>
+    ensures { result ≡ option_map tm_of (find is_free counts.now) }
+{
+    match counts.iter().find(|one| one.is_free()) {
+        None => None,
+        Some(one) => Some(one.tm()),
+    }
+}
+
+/// The first transaction module whose HELD for the transaction of this number lacks.
+pub(crate) fn first_lacking(counts: &[TmCount], turn: u64) -> Option<TmNo>
+    ensures { result ≡ option_map tm_of (find (lacks_held turn) counts.now) }
+{
+    match counts.iter().find(|one| one.lacks_held(turn)) {
+        None => None,
+        Some(one) => Some(one.tm()),
+    }
+}
+
+/// Whether all hold for the transaction of this number, and have told so.
+pub(crate) fn all_hold(counts: &[TmCount], turn: u64) -> bool
+    ensures { result ≡ list_all (is_holding turn) counts.now }
+{
+    counts.iter().all(|one| one.is_holding(turn))
+}
+
+/// Whether one was told to hold for the transaction of this number.
+pub(crate) fn any_told(counts: &[TmCount], turn: u64) -> bool
+    ensures { result ≡ list_any (is_told turn) counts.now }
+{
+    counts.iter().any(|one| one.is_told(turn))
+}
