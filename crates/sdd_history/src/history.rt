@@ -44,6 +44,13 @@ impl History {
         Ok(())
     }
 
+    /// The records, lent.
+    pub fn as_slice(&self) -> &[(u32, Rec)]
+        ensures { result.now ≡ self.now }
+    {
+        self.records.as_slice()
+    }
+
     /// How many records there are.
     pub fn len(&self) -> u64
         ensures { result ≡ length self.now }
