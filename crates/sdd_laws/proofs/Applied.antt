@@ -11,14 +11,14 @@ use Rattle.sdd_laws.specs.Snapshots.{is_applied}
 use Rattle.sdd_laws.proofs.Precedes as by_places
 
 -- a record before the place passes
-record PassesBefore (p : Rec → Bool) (h : History) (k : ℕ) : Type 0 where
-  place : ℕ
-  rec : Rec
-  stands : Stands h place rec
-  passes : p rec ≡ true
-  before : place < k
+pub record PassesBefore (p : Rec → Bool) (h : History) (k : ℕ) : Type 0 where
+  pub place : ℕ
+  pub rec : Rec
+  pub stands : Stands h place rec
+  pub passes : p rec ≡ true
+  pub before : place < k
 
-passes_before : (p : Rec → Bool) (h : History) (k : ℕ) → list_any (λ e. p e.1) (take k h) ≡ true → PassesBefore p h k
+pub passes_before : (p : Rec → Bool) (h : History) (k : ℕ) → list_any (λ e. p e.1) (take k h) ≡ true → PassesBefore p h k
 passes_before p [] zero e = absurd (cc)
 passes_before p [] (suc k) e = absurd (cc)
 passes_before p (x ∷ h) zero e = absurd (cc)

@@ -1,0 +1,116 @@
+-- Block numbers of graphs with one simple cycle, or none.
+use Rattle.std.proofs.Common.{ℕ, zero, suc, ◌≡◌, ◌≢◌, Bool, true, false, not, ◌&&◌, cond, List, [], ◌∷◌, length, Some, refl, sym, ap, ◌∙◌, ◌⊎◌, inl, inr, arith}
+use Rattle.std.specs.Prelude.{slice_get}
+use Rattle.std.proofs.lemmas.Bool.{and_parts}
+use Rattle.std.proofs.lemmas.Option.{some_pair_parts}
+use Rattle.sdd_blocks.specs.Blocks.{ShareACycle, OnACycle, Linked, AreBlocks}
+use Rattle.sdd_blocks.specs.Blocks.Linked.{last, more}
+use Rattle.sdd_blocks.specs.Graph.{Step, IsWalk, edges_of, Has, IsSimpleCycle}
+use Rattle.sdd_blocks.proofs.Bridges.{cycle_joined_ends}
+
+-- a set of nodes, as a test, that all edges but one stay within or without
+
+abbrev stays : (ℕ → Bool) → ℕ × ℕ → Bool
+stays side e = cond (side e.0) (side e.1) (not (side e.1))
+
+abbrev all_stay : (ℕ → Bool) → List (ℕ × ℕ) → Bool
+all_stay side [] = true
+all_stay side (e ∷ edges) = stays side e && all_stay side edges
+
+abbrev pub others_stay : (ℕ → Bool) → ℕ → List (ℕ × ℕ) → Bool
+others_stay side k [] = true
+others_stay side zero (e ∷ edges) = all_stay side edges
+others_stay side (suc k) (e ∷ edges) = stays side e && others_stay side k edges
+
+same_side : (a b : Bool) → cond a b (not b) ≡ true → a ≡ b
+same_side true b e = sym e
+same_side false true e = absurd (cc)
+same_side false false e = refl
+
+each_stays : (side : ℕ → Bool) (edges : List (ℕ × ℕ)) (j c d : ℕ) → all_stay side edges ≡ true
+    → slice_get edges j ≡ Some (c, d) → side c ≡ side d
+each_stays side [] j c d e g = absurd (cc)
+each_stays side (x ∷ edges) zero c d e g =
+    let both = and_parts (stays side x) (all_stay side edges) e in
+    let same = some_pair_parts x.0 c x.1 d g in
+    ap side (sym same.0) ∙ same_side (side x.0) (side x.1) both.0 ∙ ap side same.1
+each_stays side (x ∷ edges) (suc j) c d e g =
+    each_stays side edges j c d (and_parts (stays side x) (all_stay side edges) e).1 g
+
+each_other : (side : ℕ → Bool) (k : ℕ) (edges : List (ℕ × ℕ)) (j c d : ℕ) → others_stay side k edges ≡ true → j ≢ k
+    → slice_get edges j ≡ Some (c, d) → side c ≡ side d
+each_other side k [] j c d e n g = absurd (cc)
+each_other side zero (x ∷ edges) zero c d e n g = absurd (n refl)
+each_other side zero (x ∷ edges) (suc j) c d e n g = each_stays side edges j c d e g
+each_other side (suc k) (x ∷ edges) zero c d e n g =
+    let both = and_parts (stays side x) (others_stay side k edges) e in
+    let same = some_pair_parts x.0 c x.1 d g in
+    ap side (sym same.0) ∙ same_side (side x.0) (side x.1) both.0 ∙ ap side same.1
+each_other side (suc k) (x ∷ edges) (suc j) c d e n g =
+    each_other side k edges j c d (and_parts (stays side x) (others_stay side k edges) e).1 (λ p. n (ap suc p)) g
+
+-- a walk without that one stays on its side
+walk_stays : (side : ℕ → Bool) (k : ℕ) (edges : List (ℕ × ℕ)) → others_stay side k edges ≡ true
+    → (from : ℕ) (steps : List Step) (to : ℕ) → IsWalk edges from steps to → (¬ Has (edges_of steps) k) → side from ≡ side to
+walk_stays side k edges e from [] to w n = ap side w
+walk_stays side k edges e from (s ∷ steps) to w n =
+    elim w.0 [
+      | inl g ↦ each_other side k edges s.edge from s.to e (λ p. n (inl p)) g
+      | inr g ↦ sym (each_other side k edges s.edge s.to from e (λ p. n (inl p)) g)
+    ]
+    ∙ walk_stays side k edges e s.to steps to w.1 (λ m. n (inr m))
+
+-- so that one, which crosses, lies on no cycle
+pub crosses_alone : (side : ℕ → Bool) (edges : List (ℕ × ℕ)) (k a b : ℕ) → others_stay side k edges ≡ true
+    → slice_get edges k ≡ Some (a, b) → side a ≢ side b → ¬ OnACycle edges k
+crosses_alone side edges k a b e g n c =
+    let w = cycle_joined_ends edges k a b c (inl g) in
+    n (sym (walk_stays side k edges e b w.steps a w.walk w.avoids))
+
+-- where no edge lies on a cycle all have the number 0
+pub no_blocks : (edges : List (ℕ × ℕ)) (blocks : List ℕ) → length blocks ≡ length edges
+    → ((k b : ℕ) → slice_get blocks k ≡ Some b → (b ≡ 0) × (¬ OnACycle edges k)) → AreBlocks edges blocks
+no_blocks edges blocks long each =
+    record {
+      one_each = long;
+      none = λ k e. (each k 0 e).1;
+      some = λ k b e. let z = (each k (suc b) e).0 in absurd (omega arith);
+      same = λ j k a b p q n. absurd (n (each j a p).0);
+      in_order = λ k b e. let z = (each k (suc (suc b)) e).0 in absurd (omega arith);
+    }
+
+-- what is linked with an edge lies on a cycle
+linked_on : (edges : List (ℕ × ℕ)) (j k : ℕ) → Linked edges j k → OnACycle edges k
+linked_on edges j k (last s) = record { start = s.start; steps = s.steps; cycle = s.cycle; first = s.second; second = s.second }
+linked_on edges j k (more {k = m} s l) = linked_on edges m k l
+
+-- an edge has the number 0 and lies on no cycle, or the number 1 and lies on the one cycle
+abbrev pub IsNumbered : List (ℕ × ℕ) → List Step → ℕ → ℕ → Type 0
+IsNumbered edges steps k b = ((b ≡ 0) × (¬ OnACycle edges k)) ⊎ ((b ≡ 1) × Has (edges_of steps) k)
+
+-- where all edges on cycles lie on one these have the number 1
+pub one_block : (edges : List (ℕ × ℕ)) (blocks : List ℕ) (start : ℕ) (steps : List Step) → IsSimpleCycle edges start steps
+    → length blocks ≡ length edges → ((k b : ℕ) → slice_get blocks k ≡ Some b → IsNumbered edges steps k b)
+    → AreBlocks edges blocks
+one_block edges blocks start steps cycle long each =
+    let share : (j k : ℕ) → Has (edges_of steps) j → Has (edges_of steps) k → ShareACycle edges j k =
+    λ j k p q. record { start = start; steps = steps; cycle = cycle; first = p; second = q } in
+    record {
+      one_each = long;
+      none = λ k e. elim (each k 0 e) [ inl z ↦ z.1 | inr o ↦ let z = o.0 in absurd (omega arith) ];
+      some = λ k b e. elim (each k (suc b) e) [ inl z ↦ let w = z.0 in absurd (omega arith) | inr o ↦ share k k o.1 o.1 ];
+      same = λ j k a b p q n. elim (each j a p) [
+        | inl z ↦ absurd (n z.0)
+        | inr one ↦ elim (each k b q) [
+          | inl z ↦ (
+            (λ e. absurd (n (e ∙ z.0))),
+            (λ l. absurd (z.1 (linked_on edges j k l))),
+          )
+          | inr two ↦ ((λ e. last (share j k one.1 two.1)), (λ l. one.0 ∙ sym two.0))
+        ]
+      ];
+      in_order = λ k b e. elim (each k (suc (suc b)) e) [
+        | inl z ↦ let w = z.0 in absurd (omega arith)
+        | inr o ↦ let w = o.0 in absurd (omega arith)
+      ];
+    }

@@ -1,0 +1,123 @@
+-- The Submits, Commits, Answers and Applies of a history, as lists.
+use Rattle.std.proofs.Common.{ℕ, ◌==◌, ◌≡◌, nat_lt, Bool, true, ◌&&◌, List, Option, Some, None, refl, subst}
+use Rattle.std.specs.Prelude.{filter_map, Contains}
+use Rattle.std.specs.List.{list_any}
+use Rattle.std.proofs.lemmas.Bool.{and_parts, eqb-true, ltb-true}
+use Rattle.sdd_base.specs.Numbers.{class_no, dm_no, txn_no, time_at}
+use Rattle.sdd_history.specs.declared.record.Rec.{Rec}
+use Rattle.sdd_history.specs.declared.record.Rec.TheVariants.{Submit, Commit, Answer, Apply}
+use Rattle.sdd_history.specs.Records.{History}
+use Rattle.sdd_order.specs.Attempts.{Attempt, Committed, HasCommit, attempts, committed}
+use Rattle.sdd_order.specs.Places.{Stands, placed}
+use Rattle.sdd_order.proofs.Found.{at_place, from_attempts, from_committed}
+use Rattle.sdd_order.proofs.Places.{commit_of}
+use Rattle.sdd_topological.proofs.Members.{Contains-filter_map, member_passes}
+use Rattle.sdd_laws.specs.Deeds.{IsSubmitted, StartedBefore, CommittedBefore}
+
+-- a transaction and the place of its Submit
+abbrev submit_of : ℕ × Rec → Option (ℕ × ℕ)
+submit_of (k, Submit txn) = Some (txn.0, k)
+submit_of _ = None
+
+abbrev pub submits : History → List (ℕ × ℕ)
+submits h = filter_map submit_of (placed 0 h)
+
+pub in_submits : (h : History) (n k : ℕ) → IsSubmitted h n k → Contains (submits h) (n, k)
+in_submits h n k s =
+    Contains-filter_map submit_of (placed 0 h) (k, Submit (txn_no n)) (n, k) (at_place h k (Submit (txn_no n)) s) refl
+
+-- an attempt, and the place of its Commit
+pub record CommitAt : Type 0 where
+  pub txn : ℕ
+  pub number : ℕ
+  pub place : ℕ
+
+abbrev commit_in : ℕ × Rec → Option CommitAt
+commit_in (k, Commit txn attempt reply changes values rows) = Some (record { txn = txn.0; number = attempt; place = k })
+commit_in _ = None
+
+abbrev pub commits : History → List CommitAt
+commits h = filter_map commit_in (placed 0 h)
+
+pub in_commits : (h : History) (n number k : ℕ) → HasCommit h n number k
+    → Contains (commits h) (record { txn = n; number = number; place = k })
+in_commits h n number k c =
+    let r : Rec = Commit (txn_no n) number c.reply c.changes c.values c.rows in
+    Contains-filter_map commit_in (placed 0 h) (k, r) (record { txn = n; number = number; place = k })
+    (at_place h k r c.stands) refl
+
+-- an attempt, and the module and place of its Answer
+pub record AnswerAt : Type 0 where
+  pub txn : ℕ
+  pub number : ℕ
+  pub dm : ℕ
+  pub place : ℕ
+
+abbrev answer_in : ℕ × Rec → Option AnswerAt
+answer_in (k, Answer txn attempt dm) = Some (record { txn = txn.0; number = attempt; dm = dm.0; place = k })
+answer_in _ = None
+
+abbrev pub answers : History → List AnswerAt
+answers h = filter_map answer_in (placed 0 h)
+
+pub in_answers : (h : History) (n number d k : ℕ) → Stands h k (Answer (txn_no n) number (dm_no d))
+    → Contains (answers h) (record { txn = n; number = number; dm = d; place = k })
+in_answers h n number d k s =
+    let r : Rec = Answer (txn_no n) number (dm_no d) in
+    Contains-filter_map answer_in (placed 0 h) (k, r) (record { txn = n; number = number; dm = d; place = k })
+    (at_place h k r s) refl
+
+-- a transaction with its class and timestamp, and the module and place of its Apply
+pub record ApplyAt : Type 0 where
+  pub txn : ℕ
+  pub class : ℕ
+  pub dm : ℕ
+  pub ts : ℕ
+  pub place : ℕ
+
+abbrev apply_in : ℕ × Rec → Option ApplyAt
+apply_in (k, Apply txn class dm ts) = Some (record { txn = txn.0; class = class.0; dm = dm.0; ts = ts.0; place = k })
+apply_in _ = None
+
+abbrev pub applies : History → List ApplyAt
+applies h = filter_map apply_in (placed 0 h)
+
+pub in_applies : (h : History) (n class d ts k : ℕ) → Stands h k (Apply (txn_no n) (class_no class) (dm_no d) (time_at ts))
+    → Contains (applies h) (record { txn = n; class = class; dm = d; ts = ts; place = k })
+in_applies h n class d ts k s =
+    let r : Rec = Apply (txn_no n) (class_no class) (dm_no d) (time_at ts) in
+    Contains-filter_map apply_in (placed 0 h) (k, r) (record { txn = n; class = class; dm = d; ts = ts; place = k })
+    (at_place h k r s) refl
+
+-- whether an attempt starts, and a transaction is committed, before a place
+
+abbrev pub is_started : History → ℕ → ℕ → ℕ → Bool
+is_started h n number k = list_any (λ a. (a.txn == n) && ((a.number == number) && nat_lt a.place k)) (attempts h)
+
+pub started_before : (h : History) (n number k : ℕ) → is_started h n number k ≡ true → StartedBefore h n number k
+started_before h n number k e =
+    let r = member_passes (λ (a : Attempt). (a.txn == n) && ((a.number == number) && nat_lt a.place k)) (attempts h) e in
+    let one = and_parts (r.0.txn == n) ((r.0.number == number) && nat_lt r.0.place k) r.2 in
+    let two = and_parts (r.0.number == number) (nat_lt r.0.place k) one.1 in
+    record {
+      attempt = r.0;
+      started = from_attempts h r.0 r.1;
+      txn_is = eqb-true r.0.txn n one.0;
+      number_is = eqb-true r.0.number number two.0;
+      before = ltb-true r.0.place k two.1;
+    }
+
+abbrev pub is_committed : History → ℕ → ℕ → Bool
+is_committed h n k = list_any (λ t. (t.start.txn == n) && nat_lt t.place k) (committed h)
+
+pub committed_before : (h : History) (n k : ℕ) → is_committed h n k ≡ true → CommittedBefore h n k
+committed_before h n k e =
+    let r = member_passes (λ (t : Committed). (t.start.txn == n) && nat_lt t.place k) (committed h) e in
+    let both = and_parts (r.0.start.txn == n) (nat_lt r.0.place k) r.2 in
+    let commit = commit_of h r.0 (from_committed h r.0 r.1) in
+    record {
+      place = r.0.place;
+      number = r.0.start.number;
+      commit = subst (λ m. HasCommit h m r.0.start.number r.0.place) (eqb-true r.0.start.txn n both.0) commit;
+      before = ltb-true r.0.place k both.1;
+    }

@@ -1,0 +1,48 @@
+-- Histories that keep all laws, and that break one.
+use Rattle.std.specs.Prelude.{List}
+use Rattle.std.specs.List.{All}
+use Rattle.sdd_base.specs.declared.number.RelNo.{RelNo}
+use Rattle.sdd_catalog.specs.Catalogue.{Catalogue}
+use Rattle.sdd_catalog.specs.Rules.{IsSound}
+use Rattle.sdd_history.specs.Records.{History}
+use Rattle.sdd_lang.specs.declared.transaction.Txn.{Txn}
+use Rattle.sdd_lang.specs.Database.{Row}
+use Rattle.sdd_order.specs.Precedence.{HasNoCycle}
+use Rattle.sdd_laws.specs.Answers.{KeepsAnswers}
+use Rattle.sdd_laws.specs.Applies.{KeepsApplies}
+use Rattle.sdd_laws.specs.Conditions.{KeepsConditions}
+use Rattle.sdd_laws.specs.Eras.{Eras}
+use Rattle.sdd_laws.specs.Kept.{FitTogether, KeepsLaws}
+use Rattle.sdd_laws.specs.Redeclares.{KeepsEras}
+use Rattle.sdd_laws.specs.Rejections.{KeepsRejections}
+use Rattle.sdd_laws.specs.Starts.{KeepsStarts}
+use Rattle.sdd_laws.specs.Undeclared.{KeepsUndeclared}
+
+-- the catalogue, and that of each list of classes, is valid
+pub record AreSound (cat : Catalogue) (eras : Eras) : Type 0 where
+  pub whole : IsSound cat
+  pub each : All (λ e. IsSound e.1) eras
+
+-- it keeps every law
+pub record KeepsAll (cat : Catalogue) (eras : Eras) (rows : List (RelNo × Row)) (txns : List Txn) (h : History) : Type 0 where
+  pub sound : AreSound cat eras
+  pub fit : FitTogether cat eras rows txns h
+  pub laws : KeepsLaws cat eras rows txns h
+  pub rejections : KeepsRejections cat eras h
+
+-- it keeps every law but that of read conditions
+pub record KeepsOthers (cat : Catalogue) (eras : Eras) (rows : List (RelNo × Row)) (txns : List Txn) (h : History) : Type 0 where
+  pub sound : AreSound cat eras
+  pub fit : FitTogether cat eras rows txns h
+  pub starts : KeepsStarts cat eras txns h
+  pub answers : KeepsAnswers cat rows txns h
+  pub applies : KeepsApplies cat h
+  pub undeclared : KeepsUndeclared cat h
+  pub redeclares : KeepsEras cat eras h
+  pub rejections : KeepsRejections cat eras h
+
+-- it breaks that one alone, and has a cycle of precedence
+pub record BreaksConditions (cat : Catalogue) (eras : Eras) (rows : List (RelNo × Row)) (txns : List Txn) (h : History) : Type 0 where
+  pub others : KeepsOthers cat eras rows txns h
+  pub broken : ¬ KeepsConditions cat eras h
+  pub cycle : ¬ HasNoCycle cat h
