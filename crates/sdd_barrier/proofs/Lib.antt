@@ -1,4 +1,0 @@
-pub mod Apart
-pub mod Dones
-pub mod HoldChain
-pub mod Undeclared

@@ -1,0 +1,136 @@
+-- The conditions of a READ are on classes of the catalogue.
+use Rattle.std.specs.List.{All, cons_option, range_with_len}
+use Rattle.std.specs.Option.{option_or}
+use Rattle.std.specs.Prelude.{filter_map}
+use Rattle.std.proofs.Common.{ℕ, ◌+◌, ◌<◌, ◌==◌, ◌^◌, ◌∷◌, ◌≡◌, ◌≤◌, List, None, Option, Some, [], arith, inl, inr, length, map, slice_get, subst, suc, zero}
+use Rattle.std.proofs.lemmas.List.Elements.{All-cons, All-nil}
+use Rattle.sdd_base.specs.Numbers.{frag_no}
+use Rattle.sdd_base.specs.Words.{ascending}
+use Rattle.sdd_base.specs.declared.condition.Cond.{Cond}
+use Rattle.sdd_base.specs.declared.number.ClassNo.{ClassNo}
+use Rattle.sdd_base.specs.declared.number.FragNo.{FragNo}
+use Rattle.sdd_base.specs.declared.number.Ts.{Ts}
+use Rattle.sdd_base.specs.declared.number.TxnNo.{TxnNo}
+use Rattle.sdd_base.specs.declared.site.Site.{Site}
+use Rattle.sdd_base.specs.declared.usage.Use.{Use}
+use Rattle.sdd_catalog.specs.Catalogue.{Catalogue}
+use Rattle.sdd_graph.specs.Graph.{classes_of, fragments_of}
+use Rattle.sdd_protocol.specs.Conditions.{asked_by, cond_for, cond_of, condition_on, is_asked}
+use Rattle.sdd_protocol.specs.declared.entry.Entry as line
+use Rattle.sdd_protocol.specs.declared.protocol.Protocol.TheVariants.{P2, P3}
+use Rattle.sdd_lang.specs.Classes.{fragments_in}
+use Rattle.sdd_lang.specs.Uses.{uses_of}
+use Rattle.sdd_wire.specs.declared.msg.Msg.{Msg}
+use Rattle.sdd_wire.specs.declared.msg.Msg.TheVariants.{Read}
+use Rattle.sdd_module.specs.SiteLog.{Act, Each, Log, Setting, in_force, sends_of_act}
+use Rattle.sdd_attempt.specs.Acts.{conditions_at}
+use Rattle.sdd_attempt.specs.Queues.{Queued}
+use Rattle.sdd_dm.specs.Fits.{FitsCond}
+use Rattle.sdd_invariants.proofs.Origins.{was_put}
+use Rattle.sdd_invariants.proofs.ReadsPut.{put_by, start_puts}
+use Rattle.sdd_invariants.specs.Puts.{IsRead}
+use Rattle.sdd_invariants.proofs.Active.{each_at}
+use Rattle.sdd_invariants.proofs.Bools.{if_way}
+use Rattle.sdd_invariants.proofs.Lists.{in_none, in_one}
+use Rattle.sdd_invariants.specs.Orders.{AllLt}
+use Rattle.sdd_invariants.specs.Steps.{IsFair, bound, next_stamp, start_at, start_read}
+use Rattle.sdd_invariants.specs.Traffic.{puts_to, to_site}
+
+-- conditions on classes from 1 to n
+
+abbrev IsFrom1 : ℕ → ℕ → Type 0
+IsFrom1 n c = (1 ≤ c) × (c ≤ n)
+
+abbrev pub AllWithin : ℕ → List Cond → Type 0
+AllWithin n [] = Unit {0}
+AllWithin n (d ∷ ds) = IsFrom1 n d.class.0 × AllWithin n ds
+
+abbrev IsWithin : ℕ → Option Cond → Type 0
+IsWithin n None = Unit {0}
+IsWithin n (Some d) = IsFrom1 n d.class.0
+
+abbrev AllFrom1 : ℕ → List ℕ → Type 0
+AllFrom1 n [] = Unit {0}
+AllFrom1 n (c ∷ cs) = IsFrom1 n c × AllFrom1 n cs
+
+for_within : (n j t : ℕ) (fs : List FragNo) → IsFrom1 n j → IsWithin n (cond_for j t fs)
+for_within n j t [] l = tt
+for_within n j t (f ∷ fs) l = l
+
+either_within : (n : ℕ) (a b : Option Cond) → IsWithin n a → IsWithin n b → IsWithin n (option_or a b)
+either_within n None b h i = i
+either_within n (Some d) b h i = h
+
+cons_within : (n : ℕ) (o : Option Cond) (ds : List Cond) → IsWithin n o → AllWithin n ds → AllWithin n (cons_option o ds)
+cons_within n None ds h i = i
+cons_within n (Some d) ds h i = (h, i)
+
+made_within : (n : ℕ) (f : ℕ → Option Cond) (cs : List ℕ) → ((c : ℕ) → IsFrom1 n c → IsWithin n (f c)) → AllFrom1 n cs → AllWithin n (filter_map f cs)
+made_within n f [] h l = tt
+made_within n f (c ∷ cs) h l = cons_within n (f c) (filter_map f cs) (h c l.0) (made_within n f cs h l.1)
+
+mapped_within : (n : ℕ) (f : ℕ → Cond) (cs : List ℕ) → ((c : ℕ) → IsFrom1 n c → IsFrom1 n (f c).class.0) → AllFrom1 n cs → AllWithin n (map f cs)
+mapped_within n f [] h l = tt
+mapped_within n f (c ∷ cs) h l = (h c l.0, mapped_within n f cs h l.1)
+
+range_le : (a n k : ℕ) → 1 ≤ a → a + n ≤ suc k → AllFrom1 k (range_with_len a n)
+range_le a zero k m l = tt
+range_le a (suc n) k m l = ((m, omega (arith, l)), range_le (a + 1) n k (omega (arith, m)) (omega (arith, l)))
+
+conditions_within : (cat : Catalogue) (table : List line.Entry) (c : ℕ) (frags : List ℕ) (own p2 d : ℕ)
+    → AllWithin (length cat.classes) (conditions_at cat table c frags own p2 d)
+conditions_within cat table c frags own p2 d =
+    let n : ℕ = length cat.classes in
+    let all : AllFrom1 n (classes_of cat) = range_le 1 n n (omega arith) (omega arith) in
+    if_way (AllWithin n) (c == 0) _ _ (mapped_within n (λ j. cond_of j own (map frag_no (fragments_of cat))) (classes_of cat) (λ j l. l) all)
+    (made_within n (condition_on (is_asked cat c d (map frag_no frags)) table c own p2) (classes_of cat)
+    (λ j l. either_within n (cond_for j own (asked_by P3 (is_asked cat c d (map frag_no frags)) table c j)) (cond_for j p2 (asked_by P2 (is_asked cat c d (map frag_no frags)) table c j)) (for_within n j own _ l) (for_within n j p2 _ l)) all)
+
+-- of a READ that was put
+
+abbrev ReadWithin : ℕ → Msg → Type 0
+ReadWithin n (Read ts class txn attempt conds uses) = AllWithin n conds
+ReadWithin n _ = Unit {0}
+
+start_within : (s : Setting) (c : ℕ) (log : Log) (q : Queued) (d : ℕ) → ReadWithin (length s.catalogue.classes) (start_read s c log q d)
+start_within s c log q d =
+    conditions_within s.catalogue (in_force s log).table c (ascending (fragments_in (uses_of s.catalogue q.text))) (next_stamp s log) (bound s log) d
+
+of_start : (s : Setting) (c : ℕ) (log : Log) (q : Queued) (b : Site) (k : ℕ) (m : Msg)
+    → slice_get (to_site b (sends_of_act (start_at s c log q))) k ≡ Some m → ReadWithin (length s.catalogue.classes) m
+of_start s c log q b k m e = elim (start_puts s c b log q) [
+  | inl p ↦ in_none _ k m p e
+  | inr p ↦ subst (ReadWithin (length s.catalogue.classes)) (in_one _ (start_read s c log q p.0) k m p.1 e) (start_within s c log q p.0)
+]
+
+pub act_within : (s : Setting) (b : Site) (log : Log) (act : Act) (k : ℕ) (ts : Ts) (class : ClassNo) (txn : TxnNo) (attempt : ℕ) (conds : List Cond) (uses : List Use)
+    → IsRead s log act class.0 ts.0 txn.0 attempt
+    → slice_get (to_site b (sends_of_act act)) k ≡ Some (Read ts class txn attempt conds uses) → AllWithin (length s.catalogue.classes) conds
+act_within s b log act k ts class txn attempt conds uses by e =
+    of_start s class.0 log by.queued b k (Read ts class txn attempt conds uses) (subst (λ a. slice_get (to_site b (sends_of_act a)) k ≡ Some (Read ts class txn attempt conds uses)) by.act_is e)
+
+pub read_within : (s : Setting) (b : Site) (log : Log) (k : ℕ) (ts : Ts) (class : ClassNo) (txn : TxnNo) (attempt : ℕ) (conds : List Cond) (uses : List Use)
+    → Each (IsFair s) log → slice_get (puts_to b log) k ≡ Some (Read ts class txn attempt conds uses)
+    → AllWithin (length s.catalogue.classes) conds
+read_within s b log k ts class txn attempt conds uses f e =
+    let p = was_put b log k (Read ts class txn attempt conds uses) e in
+    let q = each_at (IsFair s) p.later _ p.before (subst (Each (IsFair s)) p.is f) in
+    let by : IsRead s p.before p.act class.0 ts.0 txn.0 attempt = put_by s b p.before p.act p.place (Read ts class txn attempt conds uses) q.0 p.there in
+    act_within s b p.before p.act p.place ts class txn attempt conds uses by p.there
+
+-- so they are what a data module asks
+
+pub late : (t : ℕ) → t < 2 ^ 60 → t < 2 ^ 62
+late t l = omega (arith, l)
+
+pub conds_fit : (s : Setting) (ds : List Cond) → AllWithin (length s.catalogue.classes) ds → AllLt (2 ^ 60) (map (λ (d : Cond). d.time.0) ds)
+    → All (FitsCond s) ds
+conds_fit s [] h l = All-nil (FitsCond s)
+conds_fit s (d ∷ ds) h l =
+    All-cons (FitsCond s) d ds (record { is_class = h.0.1; early = late d.time.0 l.0 }) (conds_fit s ds h.1 l.1)
+
+-- and so one of them
+pub one_within : (n : ℕ) (ds : List Cond) (k : ℕ) (d : Cond) → AllWithin n ds → slice_get ds k ≡ Some d → IsFrom1 n d.class.0
+one_within n [] k d h e = cc
+one_within n (x ∷ ds) zero d h e = let p : x ≡ d = cc in subst (λ (y : Cond). IsFrom1 n y.class.0) p h.0
+one_within n (x ∷ ds) (suc k) d h e = one_within n ds k d h.1 e

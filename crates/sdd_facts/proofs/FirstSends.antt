@@ -1,0 +1,153 @@
+-- A FETCH, REDUCE or SHIP that a site sends is the first message that the active attempt of its class has still to send;
+-- and records are of classes of the catalogue.
+use Rattle.std.proofs.Common.{ℕ, ◌&&◌, ◌==◌, ◌∙◌, ◌∷◌, ◌≡◌, ◌≤◌, Bool, List, None, Option, Some, [], ap, arith, false, if◌then◌else◌, length, not, refl, slice_get, subst, sym, true}
+use Rattle.std.proofs.lemmas.Bool.{eqb-true}
+use Rattle.sdd_base.specs.Clock.{Ticking}
+use Rattle.sdd_base.specs.Numbers.{class_no, dm_no, time_at}
+use Rattle.sdd_base.specs.Sites.{number_of}
+use Rattle.sdd_base.specs.Words.{head_of, or_else}
+use Rattle.sdd_catalog.specs.Catalogue.{class_at, numbers_to}
+use Rattle.sdd_base.specs.declared.number.Ts.{Ts}
+use Rattle.sdd_base.specs.declared.site.Site.{Site}
+use Rattle.sdd_base.specs.declared.site.Site.TheVariants.{D, U}
+use Rattle.sdd_wire.specs.declared.msg.Msg.{Msg}
+use Rattle.sdd_wire.specs.declared.msg.Msg.TheVariants.{Fetch, Held, Hold, Null, Reduce, Release, Ship}
+use Rattle.sdd_module.specs.SiteLog.{Act, Bases, Did, Entry, Handed, Log, Records, Redeclared, Sends, Setting, Submits, Ticked}
+use Rattle.sdd_attempt.specs.Acts.{attempt_due, commit_act, start_act}
+use Rattle.sdd_attempt.specs.Attempts.{Attempt, active, asks_rows}
+use Rattle.sdd_attempt.specs.Exchange.{first_send, is_over}
+use Rattle.sdd_attempt.specs.Queues.{Queued, queue}
+use Rattle.sdd_invariants.proofs.Bools.{and_left, and_right}
+use Rattle.sdd_invariants.proofs.Exchanges.{asks_next}
+use Rattle.sdd_invariants.proofs.Lists.{in_filtered, in_mapped, in_range}
+use Rattle.sdd_tm.specs.Due as tm
+use Rattle.sdd_tm.specs.Views as tm_views
+use Rattle.sdd_umod.specs.Due as um
+use Rattle.sdd_umod.specs.Views as um_views
+
+pub record IsFirstOf (s : Setting) (log : Log) (ts c : ℕ) (to : Site) (m : Msg) : Type 0 where
+  pub attempt : Attempt
+  pub active_is : active s c log ≡ Some attempt
+  pub ts_is : attempt.ts ≡ ts
+  pub module_no : ℕ
+  pub rest : List (ℕ × Msg)
+  pub first : attempt.exchange.to_send ≡ (module_no, m) ∷ rest
+  pub to_is : to ≡ D (dm_no module_no)
+  pub here : c ≤ length s.catalogue.classes
+
+abbrev pub IsFirstSend : Setting → Log → Act → Type 0
+IsFirstSend s log (Sends to m hand) = (ts c : ℕ) → asks_rows ts c m ≡ true → IsFirstOf s log ts c to m
+IsFirstSend s log (Records k r sends) = k ≤ length s.catalogue.classes
+
+abbrev pub IsFirstEach : Setting → Log → Entry → Type 0
+IsFirstEach s log (Did act) = IsFirstSend s log act
+IsFirstEach s log (Handed from m) = Unit {0}
+IsFirstEach s log (Ticked n) = Unit {0}
+IsFirstEach s log (Submits n txn) = Unit {0}
+IsFirstEach s log (Redeclared force t) = Unit {0}
+
+-- whose question it is
+pub asks_whose : (t k ts c : ℕ) (m : Msg) → asks_rows t k m ≡ true → asks_rows ts c m ≡ true → (t ≡ ts) × (k ≡ c)
+asks_whose t k ts c (Fetch a b u col) e f =
+    (sym (eqb-true a.0 t (and_left _ _ e)) ∙ eqb-true a.0 ts (and_left _ _ f), sym (eqb-true b.0 k (and_right _ _ e)) ∙ eqb-true b.0 c (and_right _ _ f))
+asks_whose t k ts c (Reduce a b u col vs) e f =
+    (sym (eqb-true a.0 t (and_left _ _ e)) ∙ eqb-true a.0 ts (and_left _ _ f), sym (eqb-true b.0 k (and_right _ _ e)) ∙ eqb-true b.0 c (and_right _ _ f))
+asks_whose t k ts c (Ship a b) e f =
+    (sym (eqb-true a.0 t (and_left _ _ e)) ∙ eqb-true a.0 ts (and_left _ _ f), sym (eqb-true b.0 k (and_right _ _ e)) ∙ eqb-true b.0 c (and_right _ _ f))
+asks_whose t k ts c _ e f = cc
+
+send_is : (s : Setting) (log : Log) (x a : Act) → IsFirstSend s log x → Some x ≡ Some a → IsFirstSend s log a
+send_is s log x a h e = let p : x ≡ a = cc in subst (IsFirstSend s log) p h
+
+first_of : (s : Setting) (log : Log) (c : ℕ) (a : Attempt) (p : ℕ × Msg) (rest : List (ℕ × Msg)) → c ≤ length s.catalogue.classes
+    → active s c log ≡ Some a → a.exchange.to_send ≡ p ∷ rest → IsFirstSend s log (Sends (D (dm_no p.0)) p.1 None)
+first_of s log c a p rest l i e ts k f =
+    let w = asks_whose a.ts c ts k p.1 (asks_next s c log a p i (ap head_of e)) f in
+    record { attempt = a; active_is = subst (λ j. active s j log ≡ Some a) w.1 i; ts_is = w.0; module_no = p.0; rest = rest; first = e; to_is = refl; here = subst (λ j. j ≤ length s.catalogue.classes) w.1 l }
+
+over_first : (s : Setting) (log : Log) (bases : Bases) (c : ℕ) (a : Attempt) (b : Bool) (act : Act)
+    → c ≤ length s.catalogue.classes → (if b then Some (commit_act s.catalogue bases c a) else None) ≡ Some act → IsFirstSend s log act
+over_first s log bases c a true act l e = send_is s log (commit_act s.catalogue bases c a) act l e
+over_first s log bases c a false act l e = cc
+
+send_first : (s : Setting) (log : Log) (bases : Bases) (c : ℕ) (a : Attempt) (ms : List (ℕ × Msg)) (act : Act)
+    → c ≤ length s.catalogue.classes → active s c log ≡ Some a → a.exchange.to_send ≡ ms
+    → or_else (first_send ms) (if is_over a.exchange.phase then Some (commit_act s.catalogue bases c a) else None) ≡ Some act
+    → IsFirstSend s log act
+send_first s log bases c a [] act l i p e = over_first s log bases c a (is_over a.exchange.phase) act l e
+send_first s log bases c a (m ∷ rest) act l i p e =
+    send_is s log (Sends (D (dm_no m.0)) m.1 None) act (first_of s log c a m rest l i p) e
+
+attempt_first : (s : Setting) (log : Log) (bases : Bases) (c : ℕ) (o : Option Attempt) (act : Act) → c ≤ length s.catalogue.classes
+    → active s c log ≡ o → attempt_due s.catalogue bases c o ≡ Some act → IsFirstSend s log act
+attempt_first s log bases c None act l i e = cc
+attempt_first s log bases c (Some a) act l i e = send_first s log bases c a a.exchange.to_send act l i refl e
+
+null_first : (s : Setting) (log : Log) (q : tm_views.Question) (b : Bool) (o : Option ℕ) (act : Act)
+    → (if b then tm.null_at q o else None) ≡ Some act → IsFirstSend s log act
+null_first s log q true None act e = cc
+null_first s log q true (Some t) act e =
+    send_is s log (Sends q.from (Null (class_no q.class) (time_at t)) (Some q.hand)) act (λ ts c f. cc) e
+null_first s log q false o act e = cc
+
+held_first : (s : Setting) (log : Log) (b : Bool) (t : Ts) (hand : Option ℕ) (act : Act)
+    → (if b then Some (Sends U (Held t) hand) else None) ≡ Some act → IsFirstSend s log act
+held_first s log true t hand act e = send_is s log (Sends U (Held t) hand) act (λ ts c f. cc) e
+held_first s log false t hand act e = cc
+
+start_first : (s : Setting) (log : Log) (b : Bool) (v : tm_views.View) (c : ℕ) (o : Option Queued) (act : Act)
+    → c ≤ length s.catalogue.classes → (if b then tm.start_of s.catalogue v c o else None) ≡ Some act → IsFirstSend s log act
+start_first s log true v c None act l e = cc
+start_first s log true v c (Some q) act l e = send_is s log (start_act s.catalogue v.force.table c v.clock q) act l e
+start_first s log false v c o act l e = cc
+
+-- the classes that a transaction module runs are of the catalogue
+run_here : (s : Setting) (k c : ℕ) → slice_get (tm_views.runs s) k ≡ Some c → c ≤ length s.catalogue.classes
+run_here s k c e =
+    let i = in_filtered (λ c. (class_at s.catalogue c).tm.0 == number_of s.site) (numbers_to (length s.catalogue.classes)) k c e in
+    let l = in_range 1 (length s.catalogue.classes) i.1 c i.2 in
+    omega (arith, l.1)
+
+pub t_first : (s : Setting) (bases : Bases) (log : Log) (act : Act) → tm.IsDue s.catalogue bases (tm_views.view_of s log) act
+    → IsFirstSend s log act
+t_first s bases log act (tm.by_exchange k c p e) =
+    let r = in_mapped (tm_views.class_view s log) (tm_views.runs s) k c p in
+    attempt_first s log bases r.0 (active s r.0 log) act (run_here s k r.0 r.1) refl (subst (λ v. tm.exchange_due s.catalogue bases v ≡ Some act) (sym r.2) e)
+t_first s bases log act (tm.by_ask k n c q p r e) = null_first s log q (q.class == c.class) _ act e
+t_first s bases log act (tm.by_hold e) = held_first s log _ _ _ act e
+t_first s bases log act (tm.by_start k c p e) =
+    let r = in_mapped (tm_views.class_view s log) (tm_views.runs s) k c p in
+    let l : c.class ≤ length s.catalogue.classes = subst (λ (v : tm_views.ClassView). v.class ≤ length s.catalogue.classes) r.2 (run_here s k r.0 r.1) in
+    start_first s log (not (tm_views.on_hold (tm_views.view_of s log)) && tm_views.is_idle c) (tm_views.view_of s log) c.class (head_of c.queue) act l e
+
+release_first : (s : Setting) (log : Log) (b : Bool) (to : Site) (ts : Ts) (act : Act)
+    → (if b then Some (Sends to (Release ts) None) else None) ≡ Some act → IsFirstSend s log act
+release_first s log true to ts act e = send_is s log (Sends to (Release ts) None) act (λ t c f. cc) e
+release_first s log false to ts act e = cc
+
+u_start_if : (s : Setting) (log : Log) (b : Bool) (clock_at : Ticking) (q : Queued) (act : Act)
+    → (if b then Some (start_act s.catalogue [] 0 clock_at q) else None) ≡ Some act → IsFirstSend s log act
+u_start_if s log true clock_at q act e = send_is s log (start_act s.catalogue [] 0 clock_at q) act (omega arith) e
+u_start_if s log false clock_at q act e = cc
+
+u_start_first : (s : Setting) (log : Log) (v : um_views.View) (o : Option Queued) (act : Act)
+    → um.start_of s.catalogue v o ≡ Some act → IsFirstSend s log act
+u_start_first s log v None act e = cc
+u_start_first s log v (Some q) act e = u_start_if s log _ v.clock q act e
+
+hold_if : (s : Setting) (log : Log) (b : Bool) (to : Site) (act : Act)
+    → (if b then Some (Sends to Hold None) else None) ≡ Some act → IsFirstSend s log act
+hold_if s log true to act e = send_is s log (Sends to Hold None) act (λ t c f. cc) e
+hold_if s log false to act e = cc
+
+hold_first : (s : Setting) (log : Log) (k : um_views.TmCounts) (o : Option Queued) (act : Act)
+    → um.hold_to k o ≡ Some act → IsFirstSend s log act
+hold_first s log k None act e = cc
+hold_first s log k (Some q) act e = hold_if s log _ _ act e
+
+pub u_first : (s : Setting) (bases : Bases) (log : Log) (act : Act) → um.IsDue s.catalogue bases (um_views.view_of s log) act
+    → IsFirstSend s log act
+u_first s bases log act (um.by_exchange e) = attempt_first s log bases 0 (active s 0 log) act (omega arith) refl e
+u_first s bases log act (um.by_release t k p e) = release_first s log _ _ _ act e
+u_first s bases log act (um.by_start e) = u_start_first s log (um_views.view_of s log) (head_of (queue s 0 log)) act e
+u_first s bases log act (um.by_hold t k p e) = hold_first s log k (head_of (queue s 0 log)) act e

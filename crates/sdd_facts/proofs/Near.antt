@@ -1,0 +1,218 @@
+-- An attempt sends to data modules of the catalogue alone.
+use Rattle.std.specs.BTreeSet.{insert_key}
+use Rattle.std.specs.List.{All, cons_option, range_with_len}
+use Rattle.std.specs.Ordering.{nat_cmp}
+use Rattle.std.specs.Prelude.{filter_map, find, fold, option_map}
+use Rattle.std.proofs.Common.{ℕ, ◌&&◌, ◌++◌, ◌+◌, ◌-◌, ◌==◌, ◌∷◌, ◌≡◌, ◌≤◌, Bool, Equal, Greater, Less, List, None, Option, Some, [], arith, cond, false, if◌then◌else◌, inl, inr, length, map, refl, subst, suc, sym, true, zero}
+use Rattle.std.specs.Cmp.{nat_cmp_is}
+use Rattle.std.proofs.Math.Decide.{dec_le}
+use Rattle.std.proofs.lemmas.List.{get_or_past}
+use Rattle.std.proofs.lemmas.List.Elements.{All-get_or, All-nil}
+use Rattle.sdd_catalog.proofs.Sound.{found_in_all}
+use Rattle.sdd_base.specs.Numbers.{dm_no, tm_no}
+use Rattle.sdd_base.specs.Order.{with_values}
+use Rattle.sdd_base.specs.Words.{ascending, contains, head_of, tail_of}
+use Rattle.sdd_base.specs.declared.site.Site.{Site}
+use Rattle.sdd_base.specs.declared.site.Site.TheVariants.{D, T, U}
+use Rattle.sdd_catalog.specs.Catalogue.{Catalogue, class_at, numbers_to, reads_at}
+use Rattle.sdd_catalog.specs.Numbers.{IsServed, IsServedClass, IsWhole}
+use Rattle.sdd_catalog.specs.declared.resolved.Class.{Class}
+use Rattle.sdd_catalog.specs.declared.resolved.Read.{Read as ReadPlace}
+use Rattle.sdd_semijoin.specs.Steps.{Move, next_move}
+use Rattle.sdd_semijoin.specs.declared.step.Step.{Step}
+use Rattle.sdd_wire.specs.declared.msg.Msg.{Msg}
+use Rattle.sdd_wire.specs.declared.msg.Msg.TheVariants.{Ready, Reduced, Rows, Values}
+use Rattle.sdd_module.specs.SiteLog.{Act, Did, Each, Handed, Log, Redeclared, Setting, Submits, Ticked, sends_of_act}
+use Rattle.sdd_attempt.specs.Acts.{modules_of}
+use Rattle.sdd_attempt.specs.Attempts.{Attempt, active, active_handed, active_sent, asks_rows, rejects, started}
+use Rattle.sdd_attempt.specs.Exchange.{Asking, Exchange, Fetching, Over, Phase, Reading, Reducing, Shipping, after_hand, after_send, answered, counted, counts_for, fetches, fetches_from, goes_on, lacking, module_read, move_at, phase_ends, reduces, ships, to_all, with_use, without}
+use Rattle.sdd_attempt.specs.Queues.{Queued, queue}
+use Rattle.sdd_invariants.proofs.Active.{step_way}
+use Rattle.sdd_invariants.proofs.Bools.{if_way, lower_same_higher}
+use Rattle.sdd_invariants.specs.Steps.{IsFair, IsStep, modules_asked, next_stamp, start_at, start_read}
+
+-- numbers from 1 to n
+
+abbrev pub IsNear : ℕ → ℕ → Type 0
+IsNear n d = (1 ≤ d) × (d ≤ n)
+
+abbrev pub AllNear : ℕ → List ℕ → Type 0
+AllNear n [] = Unit {0}
+AllNear n (d ∷ ds) = IsNear n d × AllNear n ds
+
+abbrev ModulesNear : ℕ → List (ℕ × List ℕ) → Type 0
+ModulesNear n [] = Unit {0}
+ModulesNear n (m ∷ ms) = IsNear n m.0 × ModulesNear n ms
+
+abbrev pub SendsNear : ℕ → List (ℕ × Msg) → Type 0
+SendsNear n [] = Unit {0}
+SendsNear n (p ∷ ps) = IsNear n p.0 × SendsNear n ps
+
+-- the modules of an exchange, and those to which it is still to send
+pub record IsNearBy (n : ℕ) (x : Exchange) : Type 0 where
+  pub modules : ModulesNear n x.modules
+  pub sends : SendsNear n x.to_send
+
+-- steps of an exchange
+
+to_near : (n : ℕ) (m : Msg) (ds : List ℕ) → AllNear n ds → SendsNear n (to_all m ds)
+to_near n m [] h = tt
+to_near n m (d ∷ ds) h = (h.0, to_near n m ds h.1)
+
+cons_near : (n : ℕ) (b : Bool) (d : ℕ) (ds : List ℕ) → IsNear n d → AllNear n ds → AllNear n (cons_option (cond b (Some d) None) ds)
+cons_near n true d ds h i = (h, i)
+cons_near n false d ds h i = i
+
+use_near : (n u : ℕ) (ms : List (ℕ × List ℕ)) → ModulesNear n ms → AllNear n (filter_map (λ m. cond (contains m.1 u) (Some m.0) None) ms)
+use_near n u [] h = tt
+use_near n u (m ∷ ms) h = cons_near n (contains m.1 u) m.0 _ h.0 (use_near n u ms h.1)
+
+firsts_near : (n : ℕ) (ms : List (ℕ × List ℕ)) → ModulesNear n ms → AllNear n (map (λ (m : ℕ × List ℕ). m.0) ms)
+firsts_near n [] h = tt
+firsts_near n (m ∷ ms) h = (h.0, firsts_near n ms h.1)
+
+reduces_near : (n ts c : ℕ) (m : Move) (x : Exchange) → IsNearBy n x → IsNearBy n (reduces ts c m x)
+reduces_near n ts c m x h =
+    record { modules = h.modules; sends = to_near n _ (with_use x m.target.part) (use_near n m.target.part x.modules h.modules) }
+
+fetches_near : (n ts c : ℕ) (m : Move) (x : Exchange) (ds : List ℕ) → AllNear n ds → IsNearBy n x → IsNearBy n (fetches_from ts c m x ds)
+fetches_near n ts c m x [] k h = reduces_near n ts c m (record x { union = [] }) (record { modules = h.modules; sends = h.sends })
+fetches_near n ts c m x (d ∷ ds) k h = record { modules = h.modules; sends = to_near n _ (d ∷ ds) k }
+
+ships_near : (n ts c : ℕ) (x : Exchange) → IsNearBy n x → IsNearBy n (ships ts c x)
+ships_near n ts c x h = record { modules = h.modules; sends = to_near n _ (map (λ (m : ℕ × List ℕ). m.0) x.modules) (firsts_near n x.modules h.modules) }
+
+on_near : (n ts c : ℕ) (x : Exchange) (qs : List Asking) (done : List Step) → IsNearBy n x → IsNearBy n (goes_on ts c x qs done)
+on_near n ts c x [] done h = ships_near n ts c x h
+on_near n ts c x (q ∷ rest) done h =
+    elim (next_move q.conds (counts_for x.counts q) done) as (λ o. IsNearBy n (elim o as (λ _. Exchange) [ None ↦ goes_on ts c x rest [] | Some m ↦ fetches ts c (move_at q.before m) (record x { left = q ∷ rest; done = done ++ m.step ∷ [] }) ])) [
+      | None ↦ on_near n ts c x rest [] h
+      | Some m ↦ fetches_near n ts c (move_at q.before m) (record x { left = q ∷ rest; done = done ++ m.step ∷ [] }) (with_use x (move_at q.before m).source.part) (use_near n (move_at q.before m).source.part x.modules h.modules) (record { modules = h.modules; sends = h.sends })
+    ]
+
+ends_near : (n ts c : ℕ) (x : Exchange) (p : Phase) → IsNearBy n x → IsNearBy n (phase_ends ts c x p)
+ends_near n ts c x Reading h = on_near n ts c x x.left x.done h
+ends_near n ts c x (Fetching m) h = reduces_near n ts c m x h
+ends_near n ts c x (Reducing m) h = on_near n ts c x x.left x.done h
+ends_near n ts c x Shipping h = record { modules = h.modules; sends = h.sends }
+ends_near n ts c x Over h = h
+
+lacking_near : (n ts c : ℕ) (x : Exchange) (ds : List ℕ) → IsNearBy n x → IsNearBy n (lacking ts c x ds)
+lacking_near n ts c x [] h = ends_near n ts c (record x { lacks = [] }) x.phase (record { modules = h.modules; sends = h.sends })
+lacking_near n ts c x (d ∷ ds) h = record { modules = h.modules; sends = h.sends }
+
+answered_near : (n ts c d : ℕ) (b : Bool) (x y : Exchange) → IsNearBy n x → IsNearBy n y → IsNearBy n (if b then answered ts c d y else x)
+answered_near n ts c d true x y h k = lacking_near n ts c y (without y.lacks d) k
+answered_near n ts c d false x y h k = h
+
+hand_near : (n ts c d : ℕ) (m : Msg) (x : Exchange) → IsNearBy n x → IsNearBy n (after_hand ts c d m x)
+hand_near n ts c d (Ready t k counts) x h = answered_near n ts c d ((t.0 == ts) && (k.0 == c)) x (record x { counts = counted d counts x.counts }) h (record { modules = h.modules; sends = h.sends })
+hand_near n ts c d (Values t k u vs) x h =
+    answered_near n ts c d ((t.0 == ts) && (k.0 == c)) x (record x { union = with_values x.union vs; values = x.values + length vs }) h (record { modules = h.modules; sends = h.sends })
+hand_near n ts c d (Reduced t k u r) x h = answered_near n ts c d ((t.0 == ts) && (k.0 == c)) x (record x { counts = counted d ((u, r) ∷ []) x.counts }) h (record { modules = h.modules; sends = h.sends })
+hand_near n ts c d (Rows t k rows) x h =
+    answered_near n ts c d ((t.0 == ts) && (k.0 == c)) x (record x { found = x.found ++ rows; rows = x.rows + length rows }) h (record { modules = h.modules; sends = h.sends })
+hand_near n ts c d _ x h = h
+
+tail_near : (n : ℕ) (ps : List (ℕ × Msg)) → SendsNear n ps → SendsNear n (tail_of ps)
+tail_near n [] h = tt
+tail_near n (p ∷ ps) h = h.1
+
+sent_near : (n : ℕ) (x : Exchange) → IsNearBy n x → IsNearBy n (after_send x)
+sent_near n x h = record { modules = h.modules; sends = tail_near n x.to_send h.sends }
+
+-- the modules that a transaction reads at
+
+insert_near : (n : ℕ) (ks : List ℕ) (k : ℕ) → IsNear n k → AllNear n ks → AllNear n (insert_key nat_cmp ks k)
+insert_near n [] k h i = (h, tt)
+insert_near n (x ∷ ks) k h i = elim (lower_same_higher k x) [
+  | inl p ↦ rw (sym (nat_cmp_is k x Less p)) (h, i)
+  | inr q ↦ elim q [
+    | inl p ↦ rw (sym (nat_cmp_is k x Equal p)) i
+    | inr p ↦ rw (sym (nat_cmp_is k x Greater p)) (i.0, insert_near n ks k h i.1)
+  ]
+]
+
+fold_near : (n : ℕ) (ds ks : List ℕ) → AllNear n ds → AllNear n ks → AllNear n (fold (λ ks k. insert_key nat_cmp ks k) ks ds)
+fold_near n [] ks h i = i
+fold_near n (d ∷ ds) ks h i = fold_near n ds (insert_key nat_cmp ks d) h.1 (insert_near n ks d h.0 i)
+
+range_near : (a m n : ℕ) → 1 ≤ a → a + m ≤ suc n → AllNear n (range_with_len a m)
+range_near a zero n l k = tt
+range_near a (suc m) n l k = ((l, omega (arith, k)), range_near (a + 1) m n (omega (arith, l)) (omega (arith, k)))
+
+made_cons : (n : ℕ) (o : Option ℕ) (ds : List ℕ) → ((d : ℕ) → o ≡ Some d → IsNear n d) → AllNear n ds → AllNear n (cons_option o ds)
+made_cons n None ds f h = h
+made_cons n (Some d) ds f h = (f d refl, h)
+
+made_near : (n : ℕ) (f : ℕ → Option ℕ) (xs : List ℕ) → ((x d : ℕ) → f x ≡ Some d → IsNear n d) → AllNear n (filter_map f xs)
+made_near n f [] h = tt
+made_near n f (x ∷ xs) h = made_cons n (f x) (filter_map f xs) (h x) (made_near n f xs h)
+
+abbrev no_class : Class
+no_class = record { name = []; tm = tm_no 0; reads = []; writes = [] }
+
+reads_served : (cat : Catalogue) (c : ℕ) → IsWhole cat → All (IsServed cat) (class_at cat c).reads
+reads_served cat c w = elim (dec_le (suc (c - 1)) (length cat.classes)) [
+  | yes l ↦ (All-get_or (IsServedClass cat) cat.classes (c - 1) no_class l w.classes).reads
+  | no m ↦ subst (λ (k : Class). All (IsServed cat) k.reads) (sym (get_or_past cat.classes (c - 1) no_class (omega (arith, m)))) (All-nil (IsServed cat))
+]
+
+found_near : (cat : Catalogue) (p : ReadPlace → Bool) (rs : List ReadPlace) (o : Option ReadPlace) (d : ℕ) → All (IsServed cat) rs → find p rs ≡ o
+    → option_map (λ r. r.at.0) o ≡ Some d → IsNear cat.dms d
+found_near cat p rs None d h e f = cc
+found_near cat p rs (Some r) d h e f =
+    let q : r.at.0 ≡ d = cc in let i = found_in_all (IsServed cat) p rs r h e in
+    subst (IsNear cat.dms) q (i.module_from, i.module_to)
+
+read_near : (cat : Catalogue) (c f d : ℕ) → IsWhole cat → (c == 0) ≡ false → reads_at cat c f ≡ Some d → IsNear cat.dms d
+read_near cat c f d w z e =
+    found_near cat (λ r. r.fragment.0 == f) (class_at cat c).reads (find (λ r. r.fragment.0 == f) (class_at cat c).reads) d (reads_served cat c w) refl (rw z at e)
+
+pub modules_near : (cat : Catalogue) (c : ℕ) (fs : List ℕ) → IsWhole cat → AllNear cat.dms (modules_of cat c fs)
+modules_near cat c fs w = elim (c == 0) as (λ b. (c == 0) ≡ b → AllNear cat.dms (if b then numbers_to cat.dms else ascending (filter_map (reads_at cat c) fs))) [
+  | true ↦ λ z. range_near 1 cat.dms cat.dms (omega arith) (omega arith)
+  | false ↦ λ z. fold_near cat.dms (filter_map (reads_at cat c) fs) [] (made_near cat.dms (reads_at cat c) fs (λ f d e. read_near cat c f d w z e)) tt
+] refl
+
+-- the active attempts
+
+abbrev pub HasNear : ℕ → Option Attempt → Type 0
+HasNear n None = Unit {0}
+HasNear n (Some a) = IsNearBy n a.exchange
+
+started_near : (n ts : ℕ) (sends : List (Site × Msg)) (o : Option Queued) → ModulesNear n (filter_map module_read sends) → HasNear n (started ts sends o)
+started_near n ts sends None h = tt
+started_near n ts sends (Some q) h = record { modules = h; sends = tt }
+
+reads_near : (n : ℕ) (s : Setting) (c : ℕ) (log : Log) (q : Queued) (ds : List ℕ) → AllNear n ds
+    → ModulesNear n (filter_map module_read (map (λ d. (D (dm_no d), start_read s c log q d)) ds))
+reads_near n s c log q [] h = tt
+reads_near n s c log q (d ∷ ds) h = (h.0, reads_near n s c log q ds h.1)
+
+handed_near : (n c : ℕ) (from : Site) (m : Msg) (o : Option Attempt) → HasNear n o → HasNear n (active_handed c from m o)
+handed_near n c (D d) m None h = tt
+handed_near n c (D d) m (Some a) h =
+    if_way (HasNear n) (rejects m a.ts c) None (Some (record a { exchange = after_hand a.ts c d.0 m a.exchange })) tt (hand_near n a.ts c d.0 m a.exchange h)
+handed_near n c U m o h = h
+handed_near n c (T t) m o h = h
+
+send_near : (n c : ℕ) (m : Msg) (o : Option Attempt) → HasNear n o → HasNear n (active_sent c m o)
+send_near n c m None h = tt
+send_near n c m (Some a) h = if_way (HasNear n) (asks_rows a.ts c m) (Some (record a { exchange = after_send a.exchange })) (Some a) (sent_near n a.exchange h) h
+
+act_near : (s : Setting) (c : ℕ) (log : Log) (act : Act) → IsWhole s.catalogue → IsStep s log act → HasNear s.catalogue.dms (active s c log)
+    → HasNear s.catalogue.dms (active s c (Did act ∷ log))
+act_near s c log act w i h = step_way s log act (λ x. HasNear s.catalogue.dms (active s c (Did x ∷ log)))
+    (λ k q at f e. if_way (HasNear s.catalogue.dms) (k == c) (started (next_stamp s log) (sends_of_act (start_at s k log q)) (head_of (queue s c log))) (active s c log)
+    (started_near s.catalogue.dms (next_stamp s log) (sends_of_act (start_at s k log q)) (head_of (queue s c log)) (reads_near s.catalogue.dms s k log q (modules_asked s k q.text) (modules_near s.catalogue k _ w))) h)
+    (λ k bases a at f. if_way (HasNear s.catalogue.dms) (k == c) None (active s c log) tt h)
+    (λ to m hand f. send_near s.catalogue.dms c m (active s c log) h) i
+
+pub active_near : (s : Setting) (c : ℕ) (log : Log) → IsWhole s.catalogue → Each (IsFair s) log → HasNear s.catalogue.dms (active s c log)
+active_near s c [] w f = tt
+active_near s c (Handed from m ∷ log) w f = handed_near s.catalogue.dms c from m (active s c log) (active_near s c log w f.1)
+active_near s c (Ticked n ∷ log) w f = active_near s c log w f.1
+active_near s c (Submits n txn ∷ log) w f = active_near s c log w f.1
+active_near s c (Redeclared force t ∷ log) w f = active_near s c log w f.1
+active_near s c (Did act ∷ log) w f = act_near s c log act w f.0 (active_near s c log w f.1)

@@ -1,0 +1,45 @@
+-- A WRITE's timestamp is above 0, and no two WRITEs of different Commits have the same.
+use Rattle.std.proofs.Common.{ℕ, ◌++◌, ◌*◌, ◌+◌, ◌<◌, ◌∷◌, ◌≡◌, Some, ap, arith, inl, inr, subst, sym}
+use Rattle.sdd_base.specs.Sites.{number_of}
+use Rattle.sdd_module.specs.SiteLog.{Act, Did, Each, Entry, Log, Setting}
+use Rattle.sdd_attempt.specs.Attempts.{Attempt, active}
+use Rattle.sdd_attempt.specs.Clocks.{clock}
+use Rattle.sdd_attempt.specs.Queues.{Queued}
+use Rattle.sdd_invariants.proofs.Clocks.{clock_grows, clock_number}
+use Rattle.sdd_invariants.proofs.Places.{compare}
+use Rattle.sdd_invariants.proofs.Recorded.{start_of_active}
+use Rattle.sdd_invariants.specs.Steps.{IsFair, next_stamp, start_at}
+
+pub stamp_above : (s : Setting) (log : Log) → 0 < next_stamp s log
+stamp_above s log = omega arith
+
+-- the timestamp of an active attempt was drawn
+pub active_above : (s : Setting) (c : ℕ) (log : Log) (a : Attempt) → Each (IsFair s) log → active s c log ≡ Some a → 0 < a.ts
+active_above s c log a f e =
+    let h = start_of_active s c log a f e in subst (λ t. 0 < t) (sym h.ts_is) (stamp_above s h.before)
+
+pub stamp_ticks : (s : Setting) (log : Log) → next_stamp s log ≡ ((clock s.site log).ticks + 1) * 64 + number_of s.site
+stamp_ticks s log = let n = clock_number s.site log in omega (arith, n)
+
+-- of two Starts of a site the later one draws a greater timestamp
+later_start : (s : Setting) (c k : ℕ) (z b1 b2 : Log) (q1 : Queued) → b2 ≡ z ++ Did (start_at s c b1 q1) ∷ b1
+    → next_stamp s b1 < next_stamp s b2
+later_start s c k z b1 b2 q1 e =
+    let g = clock_grows s.site z (Did (start_at s c b1 q1) ∷ b1) in
+    let n1 = clock_number s.site b1 in let n2 = clock_number s.site b2 in
+    let h : (clock s.site b2).ticks ≡ (clock s.site (z ++ Did (start_at s c b1 q1) ∷ b1)).ticks = ap (λ l. (clock s.site l).ticks) e in
+    omega (arith, g, n1, n2, h)
+
+act_of : (x y : Act) → ◌≡◌ {A = Entry} (Did x) (Did y) → x ≡ y
+act_of x y e = cc
+
+-- so those with the same timestamp are the same
+pub same_start : (s : Setting) (c k : ℕ) (l1 l2 b1 b2 : Log) (q1 q2 : Queued) → next_stamp s b1 ≡ next_stamp s b2
+    → l1 ++ Did (start_at s c b1 q1) ∷ b1 ≡ l2 ++ Did (start_at s k b2 q2) ∷ b2 → (b1 ≡ b2) × (start_at s c b1 q1 ≡ start_at s k b2 q2)
+same_start s c k l1 l2 b1 b2 q1 q2 e p = elim (compare l1 l2 (Did (start_at s c b1 q1)) (Did (start_at s k b2 q2)) b1 b2 p) [
+  | inl r ↦ (r.0, act_of (start_at s c b1 q1) (start_at s k b2 q2) r.1)
+  | inr r ↦ elim r [
+    | inl u ↦ (let l = later_start s c k u.between b1 b2 q1 u.is in absurd (omega (arith, e, l)))
+    | inr u ↦ (let l = later_start s k c u.between b2 b1 q2 u.is in absurd (omega (arith, e, l)))
+  ]
+]

@@ -1,0 +1,205 @@
+-- A data module puts at most one READY or REJECT for a READ, behind which the READ is processed.
+use Rattle.std.proofs.Common.{ℕ, ◌&&◌, ◌++◌, ◌<◌, ◌==◌, ◌∙◌, ◌∷◌, ◌≡◌, ◌≤◌, Bool, List, Some, [], ap, arith, false, if◌then◌else◌, length, refl, slice_get, subst, sym, true}
+use Rattle.std.proofs.Math.Decide.{dec_le}
+use Rattle.std.proofs.lemmas.Bool.{eqb-true}
+use Rattle.std.proofs.lemmas.List.Elements.{filter_map-append}
+use Rattle.sdd_base.specs.Sites.{number_of, same_site}
+use Rattle.sdd_base.specs.Words.{head_of}
+use Rattle.sdd_base.specs.declared.condition.Cond.{Cond}
+use Rattle.sdd_base.specs.declared.number.ClassNo.{ClassNo}
+use Rattle.sdd_base.specs.declared.number.DmNo.{DmNo}
+use Rattle.sdd_base.specs.declared.number.Ts.{Ts}
+use Rattle.sdd_base.specs.declared.number.TxnNo.{TxnNo}
+use Rattle.sdd_base.specs.declared.site.Site.{Site}
+use Rattle.sdd_base.specs.declared.site.Site.TheVariants.{D}
+use Rattle.sdd_base.specs.declared.usage.Use.{Use}
+use Rattle.sdd_history.specs.declared.record.Rec.{Rec}
+use Rattle.sdd_history.specs.declared.record.Rec.TheVariants.{Answer, Reject as Rejected}
+use Rattle.sdd_wire.specs.Piped.{goes_through}
+use Rattle.sdd_wire.specs.declared.msg.Msg.{Msg}
+use Rattle.sdd_wire.specs.declared.msg.Msg.TheVariants.{Read, Ready, Reject}
+use Rattle.sdd_module.specs.SiteLog.{Act, Did, Each, Handed, Records, Redeclared, Sends, Setting, Submits, Ticked, sends_of_act}
+use Rattle.sdd_attempt.specs.Fits.{is_verdict}
+use Rattle.sdd_pipe.specs.Pipe.{Pipe, head, head_processed, one_or_none}
+use Rattle.sdd_dm.specs.Pipes.{is_processing, pipe, pipe_acted}
+use Rattle.sdd_dm.specs.Views.{home_of, source_of}
+use Rattle.sdd_log.specs.Entries.{Given, Log}
+use Rattle.sdd_log.specs.Locals.{local_of, setting_of}
+use Rattle.sdd_log.specs.Permitted.{IsPermitted}
+use Rattle.sdd_log.proofs.EachLocal.{each_local}
+use Rattle.sdd_invariants.proofs.Dones.{tally_at}
+use Rattle.sdd_invariants.proofs.Turns.{tally_append}
+use Rattle.sdd_invariants.specs.Turns.{one_if, tally}
+use Rattle.sdd_invariants.specs.OnLinks.{read_at, reads_in}
+use Rattle.sdd_invariants.proofs.Processed.{own_record, processed_handed, processed_more}
+use Rattle.sdd_invariants.proofs.PutBy.{put_by_d}
+use Rattle.sdd_invariants.specs.PutsBy.{IsPutByD}
+use Rattle.sdd_invariants.proofs.Installed.{class_number, head_put}
+use Rattle.sdd_invariants.proofs.Applied.{key_rises, reads_strict}
+use Rattle.sdd_invariants.proofs.InPipe.{in_pipe}
+use Rattle.sdd_invariants.specs.Seen.{all_of, pipe_at}
+use Rattle.sdd_invariants.proofs.Bools.{and_left, and_right, if_way, same_number}
+use Rattle.sdd_invariants.proofs.Lists.{at_seam, in_left, place_within}
+use Rattle.sdd_invariants.specs.Orders.{AllGt, IsStrict}
+use Rattle.sdd_invariants.specs.ReadSteps.{IsDueEach}
+use Rattle.sdd_invariants.specs.Steps.{home}
+use Rattle.sdd_invariants.specs.Traffic.{puts_to, to_site}
+use Rattle.sdd_invariants.proofs.Fair.{d_fair}
+use Rattle.sdd_module.specs.SiteLog as site
+
+-- the READs of a pipe rise, and its head is of the class
+
+gt_left : (k : ℕ) (xs ys : List ℕ) → AllGt k (xs ++ ys) → AllGt k xs
+gt_left k [] ys h = tt
+gt_left k (x ∷ xs) ys h = (h.0, gt_left k xs ys h.1)
+
+strict_left : (xs ys : List ℕ) → IsStrict (xs ++ ys) → IsStrict xs
+strict_left [] ys h = tt
+strict_left (x ∷ xs) ys h = (gt_left x xs ys h.0, strict_left xs ys h.1)
+
+strict_reads : (g : Given) (c : ℕ) (d : DmNo) (log : Log) → number_of (home g.catalogue c) ≤ 63 → IsPermitted g log
+    → IsStrict (reads_in c (all_of (pipe_at g c d log)))
+strict_reads g c d log small h =
+    let p = in_pipe g c d log h in
+    let l : List Msg = all_of (pipe_at g c d log) in
+    strict_left (reads_in c l) (reads_in c p.0) (subst IsStrict (ap (reads_in c) p.1 ∙ filter_map-append (read_at c) l p.0) (reads_strict g c d log h small))
+
+abbrev IsInClass : site.Log → Type 0
+IsInClass log = (c : ℕ) (m : Msg) → head (pipe c log) ≡ Some m → goes_through c m ≡ true
+
+abbrev IsStrictAt : ℕ → site.Log → site.Entry → Type 0
+IsStrictAt c log (Did act) = IsStrict (reads_in c (all_of (pipe c log))) × IsInClass log
+IsStrictAt c log (Handed from m) = Unit {0}
+IsStrictAt c log (Ticked n) = Unit {0}
+IsStrictAt c log (Submits n txn) = Unit {0}
+IsStrictAt c log (Redeclared force t) = Unit {0}
+
+stricts : (g : Given) (c : ℕ) (d : DmNo) (log : Log) → number_of (home g.catalogue c) ≤ 63 → IsPermitted g log
+    → Each (IsStrictAt c) (local_of g (D d) log)
+stricts g c d log small = each_local g (D d) (IsStrictAt c) (record {
+  handed = λ log p from n m a i. tt;
+  ticked = λ log p n i. tt;
+  submits = λ log p n k a e i. tt;
+  redeclared = λ l k u i. tt;
+  did = λ log act p due i. (strict_reads g c d log small p, λ j m e. (head_put g j d log m p e).of_class);
+}) log
+
+-- the act that puts a verdict processes its READ
+pub record IsVerdictBy (c ts : ℕ) (log : site.Log) (act : Act) : Type 0 where
+  pub rec : Rec
+  pub to : Site
+  pub msg : Msg
+  pub stamp : Ts
+  pub of : ClassNo
+  pub txn : TxnNo
+  pub attempt : ℕ
+  pub conds : List Cond
+  pub uses : List Use
+  pub processes : is_processing rec ≡ true
+  pub head_is : head (pipe c log) ≡ Some (Read stamp of txn attempt conds uses)
+  pub class_is : of.0 ≡ c
+  pub time_is : stamp.0 ≡ ts
+  pub act_is : act ≡ Records c rec ((to, msg) ∷ [])
+
+pub two_same : (a b c d : ℕ) → ((a == b) && (c == d)) ≡ true → (a ≡ b) × (c ≡ d)
+two_same a b c d e = (eqb-true a b (and_left (a == b) (c == d) e), eqb-true c d (and_right (a == b) (c == d) e))
+
+at_class : (c j : ℕ) (log : site.Log) (act : Act) (ts : ℕ) → j ≡ c → IsVerdictBy j ts log act → IsVerdictBy c ts log act
+at_class c j log act ts e h = subst (λ k. IsVerdictBy k ts log act) e h
+
+pub verdict_by : (s : Setting) (c ts : ℕ) (b : Site) (log : site.Log) (act : Act) (m : Msg) → IsInClass log → is_verdict ts c m ≡ true
+    → IsPutByD s log b act m → IsVerdictBy c ts log act
+verdict_by s c ts b log act (Ready t k counts) i e h =
+    let q = two_same t.0 ts k.0 c e in
+    let own : k.0 ≡ h.class = class_number k.0 h.class t.0 (i h.class (Read t k h.txn h.attempt h.conds h.uses) h.head_is) in
+    at_class c h.class log act ts (sym own ∙ q.1) (record { rec = Answer h.txn h.attempt (home_of s).dm; to = source_of (home_of s) h.class; msg = Ready t k counts; stamp = t; of = k; txn = h.txn; attempt = h.attempt; conds = h.conds; uses = h.uses; processes = refl; head_is = h.head_is; class_is = own; time_is = q.0; act_is = h.act_is })
+verdict_by s c ts b log act (Reject t k by write) i e h =
+    let q = two_same t.0 ts k.0 c e in
+    let own : k.0 ≡ h.class = class_number k.0 h.class t.0 (i h.class (Read t k h.txn h.attempt h.conds h.uses) h.head_is) in
+    at_class c h.class log act ts (sym own ∙ q.1) (record { rec = Rejected h.txn h.attempt (home_of s).dm by write; to = source_of (home_of s) h.class; msg = Reject t k by write; stamp = t; of = k; txn = h.txn; attempt = h.attempt; conds = h.conds; uses = h.uses; processes = refl; head_is = h.head_is; class_is = own; time_is = q.0; act_is = h.act_is })
+verdict_by s c ts b log act m i e h = cc
+
+-- at most one
+
+record IsOnce (c ts : ℕ) (b : Site) (log : site.Log) : Type 0 where
+  pub le : tally (is_verdict ts c) (puts_to b log) ≤ 1
+  pub was : 0 < tally (is_verdict ts c) (puts_to b log)
+      → (k : ℕ) × (m : Msg) × (slice_get (pipe c log).processed k ≡ Some m) × (read_at c m ≡ Some ts)
+
+stays_processed : (c : ℕ) (act : Act) (p : Pipe) (k : ℕ) (m : Msg) → slice_get p.processed k ≡ Some m
+    → slice_get (pipe_acted c act p).processed k ≡ Some m
+stays_processed c (Records j r sends) p k m e =
+    if_way (λ (q : Pipe). slice_get q.processed k ≡ Some m) _ (head_processed p) p (in_left p.processed (one_or_none (head p)) k m e) e
+stays_processed c (Sends to x hand) p k m e = e
+
+quiet_did : (c ts : ℕ) (b : Site) (act : Act) (log : site.Log) → tally (is_verdict ts c) (to_site b (sends_of_act act)) ≡ 0
+    → IsOnce c ts b log → IsOnce c ts b (Did act ∷ log)
+quiet_did c ts b act log e h =
+    let a = tally_append (is_verdict ts c) (puts_to b log) (to_site b (sends_of_act act)) in
+    record {
+      le = omega (arith, a, e, h.le);
+      was = λ l. (let w = h.was (omega (arith, a, e, l)) in (w.0, w.1, stays_processed c act (pipe c log) w.0 w.1 w.2, w.3));
+    }
+
+one_le : (b : Bool) → one_if b ≤ 1
+one_le true = omega arith
+one_le false = omega arith
+
+one_at_most : (f : Msg → Bool) (c : Bool) (m : Msg) → tally f (if c then m ∷ [] else []) ≤ 1
+one_at_most f true m = let i = one_le (f m) in omega (arith, i)
+one_at_most f false m = omega arith
+
+next_in : (ps us : List Msg) (m : Msg) → head_of us ≡ Some m → slice_get (ps ++ us) (length ps) ≡ Some m
+next_in ps [] m e = cc
+next_in ps (y ∷ us) m e = at_seam ps us y ∙ e
+
+read_key : (c t : ℕ) (ts : Ts) (k : ClassNo) (txn : TxnNo) (n : ℕ) (ds : List Cond) (us : List Use) → k.0 ≡ c → ts.0 ≡ t
+    → read_at c (Read ts k txn n ds us) ≡ Some t
+read_key c t ts k txn n ds us e f = let q : (k.0 == c) ≡ true = subst (λ x. (k.0 == x) ≡ true) e (same_number k.0) in rw q (ap (λ y. Some y) f)
+
+own_did : (c ts : ℕ) (b : Site) (act : Act) (log : site.Log) → IsStrict (reads_in c (all_of (pipe c log))) → IsVerdictBy c ts log act
+    → IsOnce c ts b log → IsOnce c ts b (Did act ∷ log)
+own_did c ts b act log strict v h =
+    let p : Pipe = pipe c log in
+    let w : Msg = Read v.stamp v.of v.txn v.attempt v.conds v.uses in
+    let at : slice_get (all_of p) (length p.processed) ≡ Some w = next_in p.processed p.unprocessed w v.head_is in
+    let own : read_at c w ≡ Some ts = read_key c ts v.stamp v.of v.txn v.attempt v.conds v.uses v.class_is v.time_is in
+    let none : tally (is_verdict ts c) (puts_to b log) ≤ 0 = elim (dec_le 1 (tally (is_verdict ts c) (puts_to b log))) [
+      | yes l ↦ (let u = h.was l in
+          let less = key_rises (read_at c) (all_of p) u.0 (length p.processed) u.1 w ts ts strict (in_left p.processed p.unprocessed u.0 u.1 u.2) at u.3 own (place_within p.processed u.0 u.1 u.2) in
+          absurd (omega (arith, less)))
+      | no n ↦ omega (arith, n)
+    ] in
+    let a = tally_append (is_verdict ts c) (puts_to b log) (to_site b (sends_of_act act)) in
+    let one : tally (is_verdict ts c) (to_site b (sends_of_act act)) ≤ 1 = subst (λ y. tally (is_verdict ts c) (to_site b (sends_of_act y)) ≤ 1) (sym v.act_is) (one_at_most (is_verdict ts c) (same_site b v.to) v.msg) in
+    let r = own_record c v.rec ((v.to, v.msg) ∷ []) log v.processes in
+    let pr : (pipe c (Did act ∷ log)).processed ≡ p.processed ++ w ∷ [] = ap (λ y. (pipe c (Did y ∷ log)).processed) v.act_is ∙ ap (λ (q : Pipe). q.processed) r.0 ∙ processed_more p w v.head_is in
+    record {
+      le = omega (arith, a, none, one);
+      was = λ l. (length p.processed, w, subst (λ ms. slice_get ms (length p.processed) ≡ Some w) (sym pr) (at_seam p.processed [] w), own);
+    }
+
+once_did : (s : Setting) (c ts : ℕ) (b : Site) (act : Act) (log : site.Log) → IsDueEach s log (Did act) → IsStrictAt c log (Did act)
+    → IsOnce c ts b log → IsOnce c ts b (Did act ∷ log)
+once_did s c ts b act log f strict h = elim (dec_le 1 (tally (is_verdict ts c) (to_site b (sends_of_act act)))) [
+  | yes l ↦ (let w = tally_at (is_verdict ts c) (to_site b (sends_of_act act)) l in
+      own_did c ts b act log strict.0 (verdict_by s c ts b log act w.1 strict.1 w.3 (put_by_d s log act f b w.0 w.1 w.2)) h)
+  | no n ↦ quiet_did c ts b act log (omega (arith, n)) h
+]
+
+once : (s : Setting) (c ts : ℕ) (b : Site) (log : site.Log) → Each (IsDueEach s) log → Each (IsStrictAt c) log → IsOnce c ts b log
+once s c ts b [] h k = record { le = omega arith; was = λ l. absurd (omega (arith, l)) }
+once s c ts b (Handed from m ∷ log) h k =
+    let i = once s c ts b log h.1 k.1 in
+    record { le = i.le; was = λ l. (let w = i.was l in (w.0, w.1, subst (λ ms. slice_get ms w.0 ≡ Some w.1) (sym (processed_handed c from m log)) w.2, w.3)) }
+once s c ts b (Ticked n ∷ log) h k = let i = once s c ts b log h.1 k.1 in record { le = i.le; was = i.was }
+once s c ts b (Redeclared force t ∷ log) h k = let i = once s c ts b log h.1 k.1 in record { le = i.le; was = i.was }
+once s c ts b (Submits n txn ∷ log) h k = let i = once s c ts b log h.1 k.1 in record { le = i.le; was = i.was }
+once s c ts b (Did act ∷ log) h k = once_did s c ts b act log h.0 k.0 (once s c ts b log h.1 k.1)
+
+pub one_verdict : (g : Given) (c ts : ℕ) (d : DmNo) (b : Site) (log : Log) → number_of (home g.catalogue c) ≤ 63 → IsPermitted g log
+    → tally (is_verdict ts c) (puts_to b (local_of g (D d) log)) ≤ 1
+one_verdict g c ts d b log small h = (once (setting_of g (D d)) c ts b (local_of g (D d) log) (d_fair g d log h) (stricts g c d log small h)).le
+
+pub in_class : (g : Given) (d : DmNo) (log : Log) → IsPermitted g log → IsInClass (local_of g (D d) log)
+in_class g d log h = λ c m e. (head_put g c d log m h e).of_class

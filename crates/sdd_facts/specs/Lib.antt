@@ -1,0 +1,12 @@
+pub mod Awaited
+pub mod Bounds
+pub mod Contents
+pub mod Fitting
+pub mod Given
+pub mod Heights
+pub mod Reading
+pub mod Real
+pub mod Routes
+pub mod Stages
+pub mod Turns
+pub mod Upheld

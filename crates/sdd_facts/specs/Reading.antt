@@ -1,0 +1,29 @@
+-- What the copies of data modules hold when they answer an attempt's READs.
+use Rattle.std.specs.Prelude.{ℕ, ◌≡◌, [], ◌∷◌, if◌then◌else◌}
+use Rattle.sdd_base.specs.Numbers.{dm_no}
+use Rattle.sdd_base.specs.declared.site.Site.TheVariants.{D}
+use Rattle.sdd_history.specs.declared.record.Rec.TheVariants.{Answer}
+use Rattle.sdd_module.specs.SiteLog.{Did, Log, Records}
+use Rattle.sdd_copy.specs.Contents.{contents}
+use Rattle.sdd_pipe.specs.Pipe.{head}
+use Rattle.sdd_space.specs.Frozen.{CopyRows}
+use Rattle.sdd_dm.specs.Copies.{dated}
+use Rattle.sdd_dm.specs.Pipes.{pipe}
+use Rattle.sdd_log.specs.Entries.{Given}
+use Rattle.sdd_log.specs.Entries as whole
+use Rattle.sdd_log.specs.Locals.{force_at, local_of, setting_of}
+use Rattle.sdd_log.specs.Snapshots.{is_at}
+
+-- one list of classes is in force throughout: that of the catalogue
+abbrev pub HasOneForce : Given → Type 0
+HasOneForce g = (k : ℕ) → (force_at g k).catalogue ≡ g.catalogue
+
+-- a data module's log before its last Answer to the attempt with this timestamp; an empty one where it made none
+abbrev pub before_answer : ℕ → Log → Log
+before_answer ts [] = []
+before_answer ts (Did (Records k (Answer txn attempt dm) sends) ∷ log) = if is_at ts (head (pipe k log)) then log else before_answer ts log
+before_answer ts (_ ∷ log) = before_answer ts log
+
+-- what the copies of data module d held just before that Answer
+abbrev pub copies_read : Given → whole.Log → ℕ → ℕ → CopyRows
+copies_read g log ts d f = contents f (dated (setting_of g (D (dm_no d))) (before_answer ts (local_of g (D (dm_no d)) log)))

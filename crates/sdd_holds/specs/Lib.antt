@@ -1,4 +1,0 @@
-pub mod AtT
-pub mod AtU
-pub mod Releases
-pub mod Turns
