@@ -1,0 +1,73 @@
+-- The sites that run classes have small numbers, which differ.
+use Rattle.std.proofs.Common.{ℕ, ◌-◌, ◌==◌, ◌∙◌, ◌≡◌, ◌≢◌, ◌≤◌, ◌⊎◌, ap, arith, false, inl, inr, length, refl, subst, sym}
+use Rattle.std.proofs.Math.Decide.{dec_le}
+use Rattle.std.proofs.lemmas.List.{get_or_past}
+use Rattle.sdd_base.specs.Numbers.{tm_no}
+use Rattle.sdd_base.specs.Sites.{number_of}
+use Rattle.sdd_base.specs.declared.site.Site.{Site}
+use Rattle.sdd_base.specs.declared.site.Site.TheVariants.{T}
+use Rattle.sdd_catalog.specs.Catalogue.{Catalogue, class_at}
+use Rattle.sdd_catalog.specs.Numbers.{IsServedClass}
+use Rattle.sdd_catalog.specs.Rules.{IsSound}
+use Rattle.sdd_catalog.specs.declared.resolved.Class.{Class}
+use Rattle.sdd_catalog.proofs.Sound.{at_number, sound_classes, sound_whole}
+use Rattle.sdd_invariants.proofs.Bools.{differ, same_or_not}
+use Rattle.sdd_invariants.specs.Steps.{home}
+
+-- the module of a class is there
+pub served : (cat : Catalogue) → IsSound cat → (c : ℕ) → 1 ≤ c → c ≤ length cat.classes → IsServedClass cat (class_at cat c)
+served cat sound c from to = at_number (IsServedClass cat) cat.classes c _ (sound_classes cat sound) from to
+
+-- a class that isn't there has no module
+module_past : (cat : Catalogue) (c : ℕ) → length cat.classes ≤ c - 1 → (class_at cat c).tm.0 ≡ 0
+module_past cat c h = ap (λ (k : Class). k.tm.0) (get_or_past cat.classes (c - 1) _ h)
+
+module_small : (cat : Catalogue) → IsSound cat → (c : ℕ) → (class_at cat c).tm.0 ≤ 16
+module_small cat sound c = elim (dec_le (length cat.classes) (c - 1)) [
+  | yes p ↦ (let e = module_past cat c p in omega arith)
+  | no p ↦ (let w = sound_whole cat sound in let few : cat.tms ≤ 16 = w.few_tms in
+      elim (dec_le 1 c) [
+        | yes q ↦ (let s = (served cat sound c q (omega (arith, p))).module_to in omega arith)
+        | no q ↦ (let z : c ≡ 0 = omega (arith, q) in
+            let k : class_at cat c ≡ class_at cat 1 = ap (class_at cat) z in
+            let n : (class_at cat c).tm.0 ≡ (class_at cat 1).tm.0 = ap (λ (x : Class). x.tm.0) k in
+            let s = (served cat sound 1 (omega arith) (omega (arith, p))).module_to in omega arith)
+      ])
+]
+
+pub home_small : (cat : Catalogue) → IsSound cat → (c : ℕ) → number_of (home cat c) ≤ 16
+home_small cat sound c = elim (same_or_not c 0) [
+  | inl p ↦ subst (λ k. number_of (home cat k) ≤ 16) (sym p) (omega arith)
+  | inr p ↦ (let m = module_small cat sound c in let e : number_of (home cat c) ≡ (class_at cat c).tm.0 = rw p refl in omega arith)
+]
+
+pub positive : (c : ℕ) → (c == 0) ≡ false → 1 ≤ c
+positive c p = elim (dec_le 1 c) [ yes q ↦ q | no q ↦ absurd (differ c 0 p (omega (arith, q))) ]
+
+-- two classes that are there are run by one site, or by two with different numbers
+abbrev pub DifferOrSame : Site → Site → Type 0
+DifferOrSame a b = (a ≡ b) ⊎ (number_of a ≢ number_of b)
+
+pub homes_differ : (cat : Catalogue) → IsSound cat → (c d : ℕ) → c ≤ length cat.classes → d ≤ length cat.classes
+    → DifferOrSame (home cat c) (home cat d)
+homes_differ cat sound c d hc hd = elim (same_or_not c 0) [
+  | inl p ↦ elim (same_or_not d 0) [
+    | inl q ↦ inl (ap (home cat) (p ∙ sym q))
+    | inr q ↦ (let from : 1 ≤ d = positive d q in let s = (served cat sound d from hd).module_from in
+        let e : number_of (home cat d) ≡ (class_at cat d).tm.0 = rw q refl in
+        let f : number_of (home cat c) ≡ 0 = ap (λ k. number_of (home cat k)) p in
+        inr (λ z. let y : number_of (home cat c) ≡ number_of (home cat d) = z in absurd (omega arith)))
+  ]
+  | inr p ↦ elim (same_or_not d 0) [
+    | inl q ↦ (let from : 1 ≤ c = positive c p in let s = (served cat sound c from hc).module_from in
+        let e : number_of (home cat c) ≡ (class_at cat c).tm.0 = rw p refl in
+        let f : number_of (home cat d) ≡ 0 = ap (λ k. number_of (home cat k)) q in
+        inr (λ z. let y : number_of (home cat c) ≡ number_of (home cat d) = z in absurd (omega arith)))
+    | inr q ↦ (let a : home cat c ≡ T (tm_no (class_at cat c).tm.0) = rw p refl in
+        let b : home cat d ≡ T (tm_no (class_at cat d).tm.0) = rw q refl in
+        elim (same_or_not (class_at cat c).tm.0 (class_at cat d).tm.0) [
+          | inl s ↦ inl (a ∙ ap (λ n. T (tm_no n)) s ∙ sym b)
+          | inr s ↦ inr (λ z. differ (class_at cat c).tm.0 (class_at cat d).tm.0 s (sym (ap number_of a) ∙ z ∙ ap number_of b))
+        ])
+  ]
+]

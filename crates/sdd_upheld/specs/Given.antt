@@ -1,0 +1,52 @@
+-- What is given is sound; and the eras of a log.
+use Rattle.std.specs.Prelude.{ℕ, ◌≡◌, ◌≤◌, ◌∷◌, ◌++◌, List, [], length}
+use Rattle.std.specs.List.{All}
+use Rattle.sdd_base.specs.Numbers.{dm_no}
+use Rattle.sdd_base.specs.declared.event.Event.TheVariants.{Submit}
+use Rattle.sdd_base.specs.declared.number.RelNo.{RelNo}
+use Rattle.sdd_base.specs.declared.number.TxnNo.{TxnNo}
+use Rattle.sdd_base.specs.declared.site.Site.TheVariants.{D}
+use Rattle.sdd_catalog.specs.Catalogue.{Catalogue}
+use Rattle.sdd_catalog.specs.Rules.{IsSound}
+use Rattle.sdd_lang.specs.Database.{Row}
+use Rattle.sdd_lang.specs.Fits.{Fits, FitsStart}
+use Rattle.sdd_lang.specs.Sound.{IsHeld, PutsHeld}
+use Rattle.sdd_log.specs.Entries.{Given, Log, Mark, marks}
+use Rattle.sdd_log.specs.Locals.{IsForce, force_at, redeclares, rows_of}
+use Rattle.sdd_log.specs.Permitted.{AreSubmittedOnce, submits_in}
+use Rattle.sdd_order.specs.Numbers.{IsFrom1To, IsModule}
+use Rattle.sdd_laws.specs.Eras.{Eras, AreEras, in_force}
+
+-- the catalogue is valid
+pub record IsSoundGiven (g : Given) : Type 0 where
+  pub catalogue : IsSound g.catalogue
+
+-- every data module begins with these rows, which fit the catalogue, as the transactions do; and the rows and what the
+-- transactions put hold numbers of 64 bits
+pub record HasSoundData (g : Given) (rows : List (RelNo × Row)) : Type 0 where
+  pub txns_fit : All (Fits g.catalogue) g.txns
+  pub txns_held : All (λ t. All PutsHeld t.statements) g.txns
+  pub rows_fit : All (FitsStart g.catalogue) rows
+  pub rows_held : All (λ r. All IsHeld r.1) rows
+  pub alike : (d : ℕ) → IsModule g.catalogue d → rows_of g (D (dm_no d)) ≡ rows
+
+-- these are the eras of the log: at each of its events the catalogue of the list of classes that was put in force last,
+-- which has its protocol table
+pub record AreErasOf (g : Given) (log : Log) (eras : Eras) : Type 0 where
+  pub are_eras : AreEras g.catalogue eras
+  pub force_is : (later before : Log) → log ≡ later ++ before
+      → in_force g.catalogue eras (marks before) ≡ (force_at g (redeclares before)).catalogue
+  pub tabled : (later before : Log) → log ≡ later ++ before → IsForce (force_at g (redeclares before))
+
+-- the eras of a log in which no further list of classes is put in force: the one of the catalogue
+abbrev pub one_era : Catalogue → Eras
+one_era cat = (0, cat) ∷ []
+
+-- the events that submit name transactions that are given, which are numbered from 1
+abbrev pub AreNumbered : Given → Log → Type 0
+AreNumbered g log = (later before : Log) (n : TxnNo) → log ≡ later ++ Mark (Submit n) ∷ before → IsFrom1To (length g.txns) n.0
+
+-- the events submit each transaction at most once, and only such as are given
+pub record SubmitGiven (g : Given) : Type 0 where
+  pub once : AreSubmittedOnce g.events
+  pub given : (n : ℕ) → 1 ≤ submits_in n g.events → IsFrom1To (length g.txns) n

@@ -1,0 +1,28 @@
+-- Which entry of the one log made a record of its history.
+use Rattle.std.specs.Prelude.{ℕ, ◌≡◌, ◌∷◌, ◌++◌, length, Option, Some, None}
+use Rattle.sdd_base.specs.Numbers.{txn_no}
+use Rattle.sdd_history.specs.declared.record.Rec.{Rec}
+use Rattle.sdd_history.specs.declared.record.Rec.TheVariants.{Submit, Nothing}
+use Rattle.sdd_module.specs.SiteLog.{Records}
+use Rattle.sdd_log.specs.Entries.{Entry, Log, Submitted, Notes, Does, history}
+
+-- an entry makes one record, or none
+abbrev pub record_of : Entry → Option Rec
+record_of (Submitted at n) = Some (Submit (txn_no n))
+record_of Notes = Some Nothing
+record_of (Does at (Records c r sends)) = Some r
+record_of _ = None
+
+-- the entry of the log that made the record at a place of the history; the history of the log before it goes so far
+pub record IsMadeAt (log : Log) (k : ℕ) (r : Rec) : Type 0 where
+  pub later : Log
+  pub entry : Entry
+  pub before : Log
+  pub is : log ≡ later ++ entry ∷ before
+  pub makes : record_of entry ≡ Some r
+  pub place_is : length (history before) ≡ k
+
+-- an entry, with the log before it, stands further back than another log
+pub record IsBefore (entry : Entry) (before log : Log) : Type 0 where
+  pub between : Log
+  pub is : log ≡ between ++ entry ∷ before
