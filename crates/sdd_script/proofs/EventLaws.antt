@@ -11,7 +11,7 @@ use Rattle.sdd_base.specs.Numbers.{tm_no}
 use Rattle.sdd_base.specs.declared.limits.TheConstants.{MAX_PLACE, MAX_TICKS}
 use Rattle.sdd_base.specs.Sites.{are_linked}
 use Rattle.sdd_base.specs.declared.event.Event.{Event}
-use Rattle.sdd_base.specs.declared.event.Event.TheVariants.{Resend, Tick, Settle}
+use Rattle.sdd_base.specs.declared.event.Event.TheVariants.{Resend, Tick, Settle, Down, Up}
 use Rattle.sdd_base.specs.declared.number.DmNo.{DmNo}
 use Rattle.sdd_base.specs.declared.number.TmNo.{TmNo}
 use Rattle.sdd_base.specs.declared.site.Site.{Site}
@@ -26,7 +26,7 @@ use Rattle.sdd_words.specs.Words.{HasNoSpace, IsPlain}
 use Rattle.sdd_words.specs.declared.word.Word.{Word}
 use Rattle.sdd_words.specs.declared.word.Word.TheVariants.{Plain, Quoted}
 use Rattle.sdd_words.proofs.Numbers.{number_takes, number_again}
-use Rattle.sdd_script.specs.Occurrences.{from_one, numbered, site_in, site_of, module_of, tm_of, link_of, count_of, flight_place, resend_of, tick_of, settle_of}
+use Rattle.sdd_script.specs.Occurrences.{from_one, numbered, site_in, site_of, module_of, tm_of, link_of, count_of, flight_place, resend_of, tick_of, settle_of, data_module_of, dm_of, down_of, up_of}
 use Rattle.sdd_script.specs.Spelling.{site_word, count_word}
 use Rattle.sdd_script.specs.Valid.{IsSite, IsLink}
 use Rattle.sdd_script.specs.declared.fault.WorkRule.{WorkRule}
@@ -125,6 +125,19 @@ tm_takes cat w tm e =
 
 pub tm_again : (cat : Catalogue) → IsKnown cat → (tm : TmNo) → IsFrom1To cat.tms tm.0 → tm_of cat (site_word (T tm)) ≡ Ok tm
 tm_again cat k tm h = let e = site_again cat k (T tm) h in rw e refl
+
+data_module_takes : (cat : Catalogue) (w : Word) (dm : DmNo) (site : Site) → IsSiteWord cat w site → data_module_of site ≡ Ok dm → (w ≡ site_word (D dm)) × IsFrom1To cat.dms dm.0
+data_module_takes cat w dm U h e = absurd cc
+data_module_takes cat w dm (T tm) h e = absurd cc
+data_module_takes cat w dm (D d) h e = let same : d ≡ dm = ok_is d dm e in (h.spelled ∙ ap (λ (x : DmNo). site_word (D x)) same, subst (λ (x : DmNo). IsFrom1To cat.dms x.0) same h.there)
+
+pub dm_takes : (cat : Catalogue) (w : Word) (dm : DmNo) → dm_of cat w ≡ Ok dm → (w ≡ site_word (D dm)) × IsFrom1To cat.dms dm.0
+dm_takes cat w dm e =
+    let a = bind_ok (site_of cat w) (λ site. data_module_of site) dm e in
+    data_module_takes cat w dm a.0 (site_takes cat w a.0 a.1) a.2
+
+pub dm_again : (cat : Catalogue) → IsKnown cat → (dm : DmNo) → IsFrom1To cat.dms dm.0 → dm_of cat (site_word (D dm)) ≡ Ok dm
+dm_again cat k dm h = let e = site_again cat k (D dm) h in rw e refl
 
 pub record IsLinkWords (cat : Catalogue) (from to : Word) (link : Site × Site) : Type 0 where
   pub from_is : from ≡ site_word link.0
@@ -285,3 +298,40 @@ tick_again cat k tm n h m =
 pub settle_takes : (words : List Word) (e : Event) → settle_of words ≡ Ok e → (words ≡ []) × (Settle ≡ e)
 settle_takes [] e h = (refl, ok_is Settle e h)
 settle_takes (w ∷ words) e h = absurd cc
+
+-- a data module goes down or comes up
+pub record IsTurn (turn : DmNo → Event) (cat : Catalogue) (words : List Word) (e : Event) : Type 0 where
+  pub dm : DmNo
+  pub there : IsFrom1To cat.dms dm.0
+  pub spelled : words ≡ site_word (D dm) ∷ []
+  pub is : turn dm ≡ e
+
+pub down_takes : (cat : Catalogue) (words : List Word) (e : Event) → down_of cat words ≡ Ok e → IsTurn Down cat words e
+down_takes cat [] e h = absurd cc
+down_takes cat (dm ∷ []) e h =
+    let a = must_then BadLine (is_free dm) (λ _. dm_of cat dm >>= λ d. Ok (Down d)) e h in
+    let b = bind_ok (dm_of cat dm) (λ d. Ok (Down d)) e a.1 in
+    let t = dm_takes cat dm b.0 b.1 in
+    record { dm = b.0; there = t.1; spelled = ap (λ (w : Word). w ∷ []) t.0; is = ok_is (Down b.0) e b.2 }
+down_takes cat (a ∷ b ∷ rest) e h = absurd cc
+
+pub down_again : (cat : Catalogue) → IsKnown cat → (dm : DmNo) → IsFrom1To cat.dms dm.0 → down_of cat (site_word (D dm) ∷ []) ≡ Ok (Down dm)
+down_again cat k dm h =
+    let a = dm_again cat k dm h in
+    ap (λ (t : Bool). must BadLine t >>= λ _. dm_of cat (site_word (D dm)) >>= λ d. Ok (Down d)) (site_free (D dm))
+    ∙ ap (λ (r : Result DmNo WorkRule). r >>= λ d. Ok (Down d)) a
+
+pub up_takes : (cat : Catalogue) (words : List Word) (e : Event) → up_of cat words ≡ Ok e → IsTurn Up cat words e
+up_takes cat [] e h = absurd cc
+up_takes cat (dm ∷ []) e h =
+    let a = must_then BadLine (is_free dm) (λ _. dm_of cat dm >>= λ d. Ok (Up d)) e h in
+    let b = bind_ok (dm_of cat dm) (λ d. Ok (Up d)) e a.1 in
+    let t = dm_takes cat dm b.0 b.1 in
+    record { dm = b.0; there = t.1; spelled = ap (λ (w : Word). w ∷ []) t.0; is = ok_is (Up b.0) e b.2 }
+up_takes cat (a ∷ b ∷ rest) e h = absurd cc
+
+pub up_again : (cat : Catalogue) → IsKnown cat → (dm : DmNo) → IsFrom1To cat.dms dm.0 → up_of cat (site_word (D dm) ∷ []) ≡ Ok (Up dm)
+up_again cat k dm h =
+    let a = dm_again cat k dm h in
+    ap (λ (t : Bool). must BadLine t >>= λ _. dm_of cat (site_word (D dm)) >>= λ d. Ok (Up d)) (site_free (D dm))
+    ∙ ap (λ (r : Result DmNo WorkRule). r >>= λ d. Ok (Up d)) a

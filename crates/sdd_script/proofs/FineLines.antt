@@ -12,7 +12,7 @@ use Rattle.sdd_base.specs.declared.event.Event.TheVariants.{Submit, Deliver, Los
 use Rattle.sdd_base.specs.declared.number.RelNo.{RelNo}
 use Rattle.sdd_base.specs.declared.restriction.Op.{Op}
 use Rattle.sdd_base.specs.declared.restriction.Op.TheVariants as ops
-use Rattle.sdd_base.specs.declared.site.Site.TheVariants.{T}
+use Rattle.sdd_base.specs.declared.site.Site.TheVariants.{T, D}
 use Rattle.sdd_base.specs.declared.value.Value.{Value}
 use Rattle.sdd_catalog.specs.Catalogue.{Catalogue}
 use Rattle.sdd_lang.specs.Fits.{IsRelation, FitsRef, FitsCondition, FitsAssign, FitsStatement}
@@ -110,6 +110,8 @@ keyword_simple (keys.Event ekeys.Repeat) = refl
 keyword_simple (keys.Event ekeys.Resend) = refl
 keyword_simple (keys.Event ekeys.Tick) = refl
 keyword_simple (keys.Event ekeys.Settle) = refl
+keyword_simple (keys.Event ekeys.Down) = refl
+keyword_simple (keys.Event ekeys.Up) = refl
 keyword_simple keys.End = refl
 
 pub keyword_fine : (key : Keyword) → IsFine (Plain (keyword_bytes key))
@@ -200,5 +202,5 @@ event_fine cat k txns (Resend from to) h n = (keyword_fine (keys.Event ekeys.Res
 event_fine cat k txns (Tick tm n) h m = (keyword_fine (keys.Event ekeys.Tick), (site_fine cat k (T tm) h.0, (place_fine n h.1, tt)))
 event_fine cat k txns Settle h n = (keyword_fine (keys.Event ekeys.Settle), tt)
 event_fine cat k txns Redeclare h n = absurd h
-event_fine cat k txns (Down dm) h n = absurd h
-event_fine cat k txns (Up dm) h n = absurd h
+event_fine cat k txns (Down dm) h n = (keyword_fine (keys.Event ekeys.Down), (site_fine cat k (D dm) h, tt))
+event_fine cat k txns (Up dm) h n = (keyword_fine (keys.Event ekeys.Up), (site_fine cat k (D dm) h, tt))

@@ -20,7 +20,7 @@ use Rattle.sdd_script.specs.FirstWords.{statement_key_in, event_key_in, inner_ke
 use Rattle.sdd_script.specs.declared.keyword.StatementKey.{StatementKey}
 use Rattle.sdd_script.specs.declared.keyword.StatementKey.TheVariants.{Put, Query, Update, Delete}
 use Rattle.sdd_script.specs.declared.keyword.EventKey.{EventKey}
-use Rattle.sdd_script.specs.declared.keyword.EventKey.TheVariants.{Submit, Deliver, Lose, Repeat, Resend, Tick, Settle}
+use Rattle.sdd_script.specs.declared.keyword.EventKey.TheVariants.{Submit, Deliver, Lose, Repeat, Resend, Tick, Settle, Down, Up}
 use Rattle.sdd_script.specs.declared.fault.WorkRule.TheVariants.{NotUtf8, BadLine}
 use Rattle.sdd_script.specs.declared.keyword.Keyword.{Keyword}
 use Rattle.sdd_script.specs.declared.keyword.Keyword.TheVariants as keys
@@ -94,6 +94,8 @@ event_key_bytes Repeat = codes "repeat"
 event_key_bytes Resend = codes "resend"
 event_key_bytes Tick = codes "tick"
 event_key_bytes Settle = codes "settle"
+event_key_bytes Down = codes "down"
+event_key_bytes Up = codes "up"
 
 abbrev pub keyword_bytes : Keyword → List ℕ
 keyword_bytes keys.Row = codes "row"
@@ -122,7 +124,9 @@ event_key_is bytes key e =
     choice event_key_bytes bytes Repeat key _ (bytes_eq bytes (codes "repeat")) refl e (λ e.
     choice event_key_bytes bytes Resend key _ (bytes_eq bytes (codes "resend")) refl e (λ e.
     choice event_key_bytes bytes Tick key _ (bytes_eq bytes (codes "tick")) refl e (λ e.
-    choice event_key_bytes bytes Settle key None (bytes_eq bytes (codes "settle")) refl e (λ e. absurd cc)))))))
+    choice event_key_bytes bytes Settle key _ (bytes_eq bytes (codes "settle")) refl e (λ e.
+    choice event_key_bytes bytes Down key _ (bytes_eq bytes (codes "down")) refl e (λ e.
+    choice event_key_bytes bytes Up key None (bytes_eq bytes (codes "up")) refl e (λ e. absurd cc)))))))))
 
 inner_is : (bytes : List ℕ) (key : Keyword) (o : Option StatementKey) (p : Option EventKey) → statement_key_in bytes ≡ o → event_key_in bytes ≡ p → inner_keyword o p ≡ Some key → bytes ≡ keyword_bytes key
 inner_is bytes key (Some s) p a b e = statement_key_is bytes s a ∙ ap keyword_bytes (some_is (keys.Statement s) key e)
@@ -155,6 +159,8 @@ keyword_again (keys.Event Repeat) = refl
 keyword_again (keys.Event Resend) = refl
 keyword_again (keys.Event Tick) = refl
 keyword_again (keys.Event Settle) = refl
+keyword_again (keys.Event Down) = refl
+keyword_again (keys.Event Up) = refl
 keyword_again keys.End = refl
 
 pub record HasKeyword (cat : Catalogue) (st to : State) (ws : List Word) : Type 0 where

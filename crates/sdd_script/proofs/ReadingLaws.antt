@@ -29,7 +29,7 @@ use Rattle.sdd_words.specs.declared.word.Word.TheVariants.{Plain, Quoted}
 use Rattle.sdd_words.proofs.Spelled.{cut_takes}
 use Rattle.sdd_base.specs.declared.site.Site.{Site}
 use Rattle.sdd_script.specs.LineRules.{keyword_rules, line_rules}
-use Rattle.sdd_script.specs.Occurrences.{number_named, txn_named, submit_of, flight_place, deliver_of, lose_of, repeat_of, resend_of, tick_of, settle_of}
+use Rattle.sdd_script.specs.Occurrences.{number_named, txn_named, submit_of, flight_place, deliver_of, lose_of, repeat_of, resend_of, tick_of, settle_of, down_of, up_of}
 use Rattle.sdd_script.specs.Places.{takes_events, is_ended}
 use Rattle.sdd_script.specs.Spelling.{name_of_txn, lines_of, spelling, ended}
 use Rattle.sdd_script.specs.Statements.{put_of, query_of, update_of, delete_of}
@@ -50,7 +50,7 @@ use Rattle.sdd_base.proofs.ReadingLaws.{bind_ok, ok_is}
 use Rattle.sdd_script.proofs.StepLaws.{must_then, known_then, some_is}
 use Rattle.sdd_script.proofs.QueryLaws.{put_takes, query_takes}
 use Rattle.sdd_script.proofs.UpdateLaws.{update_takes, delete_takes}
-use Rattle.sdd_script.proofs.EventLaws.{place_takes, resend_takes, tick_takes, settle_takes}
+use Rattle.sdd_script.proofs.EventLaws.{place_takes, resend_takes, tick_takes, settle_takes, down_takes, up_takes}
 use Rattle.sdd_script.proofs.LineLaws.{line_takes, words_take, keyword_bytes}
 use Rattle.sdd_script.proofs.SoFar.{lines_at, so_far, lines_at_end}
 use Rattle.sdd_script.proofs.SoundEvents.{IsEvent, no_open, event_leads, end_leads}
@@ -135,6 +135,12 @@ tick_is cat st words e h = let r = tick_takes cat words e h in subst (λ (x : Ev
 settle_is : (cat : Catalogue) (st : State) (words : List Word) (e : Event) → settle_of words ≡ Ok e → IsEvent cat st (codes "settle") words e
 settle_is cat st words e h = let r = settle_takes words e h in subst (λ (x : Event). IsEvent cat st (codes "settle") words x) r.1 (record { spelled = ap (λ (l : List Word). Plain (codes "settle") ∷ l) r.0; valid = tt })
 
+down_is : (cat : Catalogue) (st : State) (words : List Word) (e : Event) → down_of cat words ≡ Ok e → IsEvent cat st (codes "down") words e
+down_is cat st words e h = let r = down_takes cat words e h in subst (λ (x : Event). IsEvent cat st (codes "down") words x) r.is (record { spelled = ap (λ (l : List Word). Plain (codes "down") ∷ l) r.spelled; valid = r.there })
+
+up_is : (cat : Catalogue) (st : State) (words : List Word) (e : Event) → up_of cat words ≡ Ok e → IsEvent cat st (codes "up") words e
+up_is cat st words e h = let r = up_takes cat words e h in subst (λ (x : Event). IsEvent cat st (codes "up") words x) r.is (record { spelled = ap (λ (l : List Word). Plain (codes "up") ∷ l) r.spelled; valid = r.there })
+
 -- ---- a line
 
 keyword_leads : (cat : Catalogue) (st to : State) (key : Keyword) (words : List Word) → Sound cat st → keyword_rules key cat st words ≡ Ok to → Leads cat st to (Plain (keyword_bytes key) ∷ words)
@@ -152,6 +158,8 @@ keyword_leads cat st to (keys.Event ekeys.Repeat) words s e = event_leads cat st
 keyword_leads cat st to (keys.Event ekeys.Resend) words s e = event_leads cat st to (codes "resend") words (resend_of cat words) s (λ t x h. resend_is cat st words x h) e
 keyword_leads cat st to (keys.Event ekeys.Tick) words s e = event_leads cat st to (codes "tick") words (tick_of cat words) s (λ t x h. tick_is cat st words x h) e
 keyword_leads cat st to (keys.Event ekeys.Settle) words s e = event_leads cat st to (codes "settle") words (settle_of words) s (λ t x h. settle_is cat st words x h) e
+keyword_leads cat st to (keys.Event ekeys.Down) words s e = event_leads cat st to (codes "down") words (down_of cat words) s (λ t x h. down_is cat st words x h) e
+keyword_leads cat st to (keys.Event ekeys.Up) words s e = event_leads cat st to (codes "up") words (up_of cat words) s (λ t x h. up_is cat st words x h) e
 keyword_leads cat st to keys.End words s e = end_leads cat st to words s e
 
 record IsRead (cat : Catalogue) (st to : State) (line : List ℕ) : Type 0 where

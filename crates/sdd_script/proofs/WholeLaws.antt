@@ -14,7 +14,7 @@ use Rattle.sdd_base.specs.declared.event.Event.{Event}
 use Rattle.sdd_base.specs.declared.event.Event.TheVariants.{Submit, Deliver, Lose, Repeat, Resend, Tick, Settle, Redeclare, Down, Up}
 use Rattle.sdd_base.specs.declared.number.RelNo.{RelNo}
 use Rattle.sdd_base.specs.declared.number.TxnNo.{TxnNo}
-use Rattle.sdd_base.specs.declared.site.Site.TheVariants.{T}
+use Rattle.sdd_base.specs.declared.site.Site.TheVariants.{T, D}
 use Rattle.sdd_base.specs.declared.value.Value.{Value}
 use Rattle.sdd_catalog.specs.Catalogue.{Catalogue}
 use Rattle.sdd_catalog.specs.Rules.{repeats}
@@ -30,7 +30,7 @@ use Rattle.sdd_words.specs.declared.word.Word.TheVariants.{Plain}
 use Rattle.sdd_words.proofs.Spelled.{cut_again}
 use Rattle.sdd_base.specs.declared.site.Site.{Site}
 use Rattle.sdd_script.specs.LineRules.{is_submitted, with_submitted, with_event, event_rules}
-use Rattle.sdd_script.specs.Occurrences.{number_named, txn_named, submit_of, deliver_of, lose_of, repeat_of, resend_of, tick_of, settle_of}
+use Rattle.sdd_script.specs.Occurrences.{number_named, txn_named, submit_of, deliver_of, lose_of, repeat_of, resend_of, tick_of, settle_of, down_of, up_of}
 use Rattle.sdd_script.specs.Places.{takes_txns, takes_events, is_ended}
 use Rattle.sdd_script.specs.Spelling.{start_words, event_words, end_words, name_of_txn, txn_lines, site_word, count_word, lines_of, spelling}
 use Rattle.sdd_script.specs.Valid.{IsValidRow, IsValidTxn, IsValidEvent, IsValid, rows_put_by, submitted_by, AreDistinct}
@@ -46,7 +46,7 @@ use Rattle.sdd_script.specs.declared.state.State.{State}
 use Rattle.sdd_script.specs.declared.workload.Workload.{Workload}
 use Rattle.sdd_script.proofs.WordLooks.{name_fine, name_free}
 use Rattle.sdd_script.proofs.UseLaws.{IsKnown}
-use Rattle.sdd_script.proofs.EventLaws.{place_again, resend_again, tick_again}
+use Rattle.sdd_script.proofs.EventLaws.{place_again, resend_again, tick_again, down_again, up_again}
 use Rattle.sdd_script.proofs.NamePlaces.{any_none, place_of_name, apart_from}
 use Rattle.sdd_script.proofs.SoundStates.{names_of}
 use Rattle.sdd_script.proofs.ReadingLaws.{name_at_number, lines_spelled}
@@ -185,8 +185,16 @@ event_step cat k place rows written txns submitted events Settle valid differ h 
     line_step cat (scheduled place rows written txns submitted events) (scheduled places.Events rows written txns submitted (events ++ Settle ∷ [])) (keys.Event ekeys.Settle) [] (still place c.takes) (event_fine cat k txns Settle h tt)
     (event_rules_again place rows written txns submitted events Settle (settle_of []) refl c.takes c.new c.room)
 event_step cat k place rows written txns submitted events Redeclare valid differ h c = absurd h
-event_step cat k place rows written txns submitted events (Down dm) valid differ h c = absurd h
-event_step cat k place rows written txns submitted events (Up dm) valid differ h c = absurd h
+event_step cat k place rows written txns submitted events (Down dm) valid differ h c =
+    let e : Event = Down dm in
+    let ws : List Word = site_word (D dm) ∷ [] in
+    line_step cat (scheduled place rows written txns submitted events) (scheduled places.Events rows written txns (with_submitted submitted e) (events ++ e ∷ [])) (keys.Event ekeys.Down) ws (still place c.takes) (event_fine cat k txns e h tt)
+    (event_rules_again place rows written txns submitted events e (down_of cat ws) (down_again cat k dm h) c.takes c.new c.room)
+event_step cat k place rows written txns submitted events (Up dm) valid differ h c =
+    let e : Event = Up dm in
+    let ws : List Word = site_word (D dm) ∷ [] in
+    line_step cat (scheduled place rows written txns submitted events) (scheduled places.Events rows written txns (with_submitted submitted e) (events ++ e ∷ [])) (keys.Event ekeys.Up) ws (still place c.takes) (event_fine cat k txns e h tt)
+    (event_rules_again place rows written txns submitted events e (up_of cat ws) (up_again cat k dm h) c.takes c.new c.room)
 
 record AreEvents (cat : Catalogue) (st : State) (lines : List (List ℕ)) (rows : List (RelNo × List Value)) (written : ℕ) (txns : List Txn) (events : List Event) : Type 0 where
   place : Place

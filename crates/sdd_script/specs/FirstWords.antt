@@ -8,7 +8,7 @@ use Rattle.sdd_script.specs.declared.keyword.Keyword.TheVariants as keys
 use Rattle.sdd_script.specs.declared.keyword.StatementKey.{StatementKey}
 use Rattle.sdd_script.specs.declared.keyword.StatementKey.TheVariants.{Put, Query, Update, Delete}
 use Rattle.sdd_script.specs.declared.keyword.EventKey.{EventKey}
-use Rattle.sdd_script.specs.declared.keyword.EventKey.TheVariants.{Submit, Deliver, Lose, Repeat, Resend, Tick, Settle}
+use Rattle.sdd_script.specs.declared.keyword.EventKey.TheVariants.{Submit, Deliver, Lose, Repeat, Resend, Tick, Settle, Down, Up}
 
 abbrev pub statement_key_in : List ℕ → Option StatementKey
 statement_key_in bytes =
@@ -25,7 +25,9 @@ event_key_in bytes =
     if bytes_eq bytes (codes "repeat") then Some Repeat else (
     if bytes_eq bytes (codes "resend") then Some Resend else (
     if bytes_eq bytes (codes "tick") then Some Tick else (
-    if bytes_eq bytes (codes "settle") then Some Settle else None))))))
+    if bytes_eq bytes (codes "settle") then Some Settle else (
+    if bytes_eq bytes (codes "down") then Some Down else (
+    if bytes_eq bytes (codes "up") then Some Up else None))))))))
 
 abbrev pub inner_keyword : Option StatementKey → Option EventKey → Option Keyword
 inner_keyword (Some key) event = Some (keys.Statement key)

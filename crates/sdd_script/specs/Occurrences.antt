@@ -6,8 +6,9 @@ use Rattle.std.specs.Str.{bytes_eq}
 use Rattle.sdd_base.specs.Numbers.{tm_no, txn_no}
 use Rattle.sdd_base.specs.Sites.{are_linked}
 use Rattle.sdd_base.specs.declared.event.Event.{Event}
-use Rattle.sdd_base.specs.declared.event.Event.TheVariants.{Submit, Deliver, Lose, Repeat, Resend, Tick, Settle}
+use Rattle.sdd_base.specs.declared.event.Event.TheVariants.{Submit, Deliver, Lose, Repeat, Resend, Tick, Settle, Down, Up}
 use Rattle.sdd_base.specs.declared.limits.TheConstants.{MAX_PLACE, MAX_TICKS}
+use Rattle.sdd_base.specs.declared.number.DmNo.{DmNo}
 use Rattle.sdd_base.specs.declared.number.TmNo.{TmNo}
 use Rattle.sdd_base.specs.declared.number.TxnNo.{TxnNo}
 use Rattle.sdd_base.specs.declared.site.Site.{Site}
@@ -53,6 +54,16 @@ abbrev pub tm_of : Catalogue → Word → Result TmNo WorkRule
 tm_of cat word = do
   site ← site_of cat word
   module_of site
+
+-- a data module
+abbrev pub data_module_of : Site → Result DmNo WorkRule
+data_module_of (D dm) = Ok dm
+data_module_of site = Err BadEvent
+
+abbrev pub dm_of : Catalogue → Word → Result DmNo WorkRule
+dm_of cat word = do
+  site ← site_of cat word
+  data_module_of site
 
 -- two sites with a link between them
 abbrev pub link_of : Catalogue → Word → Word → Result (Site × Site) WorkRule
@@ -128,6 +139,20 @@ abbrev pub settle_of : List Word → Result Event WorkRule
 settle_of [] = Ok Settle
 settle_of _ = Err BadLine
 
+abbrev pub down_of : Catalogue → List Word → Result Event WorkRule
+down_of cat (dm ∷ []) = do
+  _ ← must BadLine (is_free dm)
+  d ← dm_of cat dm
+  Ok (Down d)
+down_of cat _ = Err BadLine
+
+abbrev pub up_of : Catalogue → List Word → Result Event WorkRule
+up_of cat (dm ∷ []) = do
+  _ ← must BadLine (is_free dm)
+  d ← dm_of cat dm
+  Ok (Up d)
+up_of cat _ = Err BadLine
+
 -- an event, by its first word and the words behind it, where these are the names of the transactions
 abbrev pub event_of : EventKey → Catalogue → List (List ℕ) → List Word → Result Event WorkRule
 event_of keys.Submit cat names words = submit_of names words
@@ -137,3 +162,5 @@ event_of keys.Repeat cat names words = repeat_of cat words
 event_of keys.Resend cat names words = resend_of cat words
 event_of keys.Tick cat names words = tick_of cat words
 event_of keys.Settle cat names words = settle_of words
+event_of keys.Down cat names words = down_of cat words
+event_of keys.Up cat names words = up_of cat words

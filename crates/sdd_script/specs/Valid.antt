@@ -75,10 +75,10 @@ IsValidEvent cat txns (Repeat from to place) = IsLink cat from to × IsFrom1To M
 IsValidEvent cat txns (Resend from to) = IsLink cat from to
 IsValidEvent cat txns (Tick tm n) = IsFrom1To cat.tms tm.0 × IsFrom1To MAX_TICKS n
 IsValidEvent cat txns Settle = Unit {0}
--- no line is read as one of these
+IsValidEvent cat txns (Down dm) = IsFrom1To cat.dms dm.0
+IsValidEvent cat txns (Up dm) = IsFrom1To cat.dms dm.0
+-- no line is read as one
 IsValidEvent cat txns Redeclare = ⊥
-IsValidEvent cat txns (Down dm) = ⊥
-IsValidEvent cat txns (Up dm) = ⊥
 
 abbrev pub is_put : Stmt → Bool
 is_put (statements.Put rel row) = true

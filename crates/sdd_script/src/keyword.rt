@@ -33,6 +33,8 @@ pub enum EventKey {
     Resend,
     Tick,
     Settle,
+    Down,
+    Up,
 }
 
 fn statement_key_in(bytes: &[u8]) -> Option<StatementKey>
@@ -68,6 +70,10 @@ fn event_key_in(bytes: &[u8]) -> Option<EventKey>
         Some(EventKey::Tick)
     } else if bytes == b"settle".as_slice() {
         Some(EventKey::Settle)
+    } else if bytes == b"down".as_slice() {
+        Some(EventKey::Down)
+    } else if bytes == b"up".as_slice() {
+        Some(EventKey::Up)
     } else {
         None
     }
