@@ -1,0 +1,14 @@
+-- The parts of the bank have no fault.
+use Rattle.std.proofs.Common.{◌≡◌, Some, ap, ◌∙◌}
+use Rattle.std.specs.Prelude.{None}
+use Rattle.sdd_base.specs.Words.{head_of}
+use Rattle.sdd_catalog.specs.Rules.{faults_of, TellsFirst}
+use Rattle.sdd_catalog.specs.declared.fault.CatError.TheVariants.{Fault}
+use Rattle.sdd_catalog.specs.declared.fault.CatFault.{CatFault}
+use Rattle.sdd_catalog.specs.declared.parts.Parts.{Parts}
+use Rattle.sdd_make.specs.Bank.{bank_parts, bank_is_valid}
+
+pub no_fault : (parts : Parts) (fault : CatFault) → parts ≡ bank_parts → TellsFirst (Fault fault) (faults_of parts) → ⊥
+no_fault parts fault is first =
+    let none : Some fault ≡ None = first ∙ ap (λ p. head_of (faults_of p)) is ∙ ap head_of bank_is_valid in
+    absurd cc

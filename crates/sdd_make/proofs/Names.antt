@@ -1,0 +1,41 @@
+-- The names of the made transactions are names.
+use Rattle.std.proofs.Common.{◌≡◌, ℕ, suc, ◌+◌, ◌%◌, ◌^◌, ◌<◌, ◌≤◌, List, [], ◌∷◌, ◌++◌, length, Bool, true, false, ◌&&◌, refl, arith}
+use Rattle.std.specs.Prelude.{nat_le, not, codes}
+use Rattle.std.specs.Fmt.{decimal}
+use Rattle.std.specs.List.{list_all}
+use Rattle.std.proofs.lemmas.Bool.Decides.{nat_tests}
+use Rattle.std.proofs.lemmas.Fmt.{decimal_by_steps, length-decimal-le}
+use Rattle.sdd_base.specs.Name.{IsName, is_name, is_name_byte, begins_with_letter, is_keyword}
+use Rattle.sdd_words.proofs.NameTexts.{both_are}
+
+digit_fits : (n : ℕ) → n < 10 → is_name_byte (48 + n) ≡ true
+digit_fits n small = grind (arith, nat_tests)
+
+-- one byte more at the end
+all_more : (ds : List ℕ) (d : ℕ) → list_all is_name_byte ds ≡ true → is_name_byte d ≡ true → list_all is_name_byte (ds ++ d ∷ []) ≡ true
+all_more [] d a e = rw e refl
+all_more (c ∷ ds) d a e = first (is_name_byte c) (list_all is_name_byte ds) a (λ rest. all_more ds d rest e)
+  where
+    first : (b r : Bool) {s : Bool} → (b && r) ≡ true → (r ≡ true → s ≡ true) → (b && s) ≡ true
+    first true r a f = f a
+    first false r a f = absurd cc
+
+digits_fit : (n : ℕ) → n < 2 ^ 64 → list_all is_name_byte (decimal n) ≡ true
+digits_fit n small =
+    decimal_by_steps (λ m ds. list_all is_name_byte ds ≡ true)
+    (λ m l. rw (digit_fits m l) refl)
+    (λ m ds l a. all_more ds (48 + m % 10) a (digit_fits (m % 10) (omega arith)))
+    n small
+
+short_fits : (ds : List ℕ) → length ds ≤ 31 → list_all is_name_byte ds ≡ true → is_name (116 ∷ ds) ≡ true
+short_fits ds short all =
+    let le : nat_le (suc (length ds)) 32 ≡ true = grind (arith, nat_tests) in
+    both_are (begins_with_letter (116 ∷ ds) && nat_le (length (116 ∷ ds)) 32 && list_all is_name_byte (116 ∷ ds)) (not (is_keyword (116 ∷ ds)))
+    (both_are (begins_with_letter (116 ∷ ds) && nat_le (length (116 ∷ ds)) 32) (list_all is_name_byte (116 ∷ ds))
+    (both_are (begins_with_letter (116 ∷ ds)) (nat_le (length (116 ∷ ds)) 32) refl le) all)
+    refl
+
+pub number_named : (n : ℕ) → n < 2 ^ 32 → IsName (codes "t" ++ decimal n)
+number_named n small =
+    let short : length (decimal n) ≤ 31 = omega (arith, length-decimal-le 10 n (omega arith) (omega arith) (omega arith)) in
+    short_fits (decimal n) short (digits_fit n (omega arith))

@@ -1,0 +1,123 @@
+-- The made events are valid, and each transaction is submitted once.
+use Rattle.std.proofs.Common.{◌≡◌, ℕ, zero, suc, ◌+◌, ◌*◌, ◌/◌, ◌%◌, ◌^◌, ◌<◌, ◌≤◌, [], ◌∷◌, ◌++◌, length, None, refl, arith, ap, ◌∙◌, length-append}
+use Rattle.std.specs.Prelude.{nat_lt, filter_map, sum_by}
+use Rattle.std.specs.List.{All, range_with_len}
+use Rattle.std.proofs.lemmas.List.Elements.{All-nil, All-cons, All-append, filter_map-append}
+use Rattle.std.proofs.lemmas.List.FromFn.{length-range_with_len, get_or-range_with_len}
+use Rattle.std.proofs.lemmas.List.Sums.{sum_by-cons}
+use Rattle.sdd_base.specs.Numbers.{dm_no, tm_no, txn_no}
+use Rattle.sdd_base.specs.declared.event.Event.{Event}
+use Rattle.sdd_base.specs.declared.event.Event.TheVariants.{Submit}
+use Rattle.sdd_base.specs.declared.site.Site.TheVariants.{T, D}
+use Rattle.sdd_script.specs.Valid.{IsValidTxn, IsValidEvent, rows_put_by, submitted_by, AreDistinct}
+use Rattle.sdd_make.specs.Bank.{bank}
+use Rattle.sdd_make.specs.Draws.{next, shown, draw}
+use Rattle.sdd_make.specs.Turns.{arrival, delivery, deliveries, drawn_txn, drawn_events, turn, turns, txns_of, events_of}
+use Rattle.sdd_make.proofs.ValidTxns.{choose, txn_valid, puts_none}
+
+-- deliveries
+
+t_to_d : (n t d : ℕ) → 1 ≤ t → t ≤ 3 → 1 ≤ d → d ≤ 3 → IsValidEvent bank n (arrival (T (tm_no t)) (D (dm_no d)))
+t_to_d n t d a b e f = (((a, b), (e, f), refl), (omega arith, omega arith))
+
+d_to_t : (n t d : ℕ) → 1 ≤ t → t ≤ 3 → 1 ≤ d → d ≤ 3 → IsValidEvent bank n (arrival (D (dm_no d)) (T (tm_no t)))
+d_to_t n t d a b e f = (((e, f), (a, b), refl), (omega arith, omega arith))
+
+delivery_valid : (n k : ℕ) → IsValidEvent bank n (delivery k)
+delivery_valid n k =
+    let t : ℕ = (k % 9) / 3 + 1 in
+    let d : ℕ = k % 3 + 1 in
+    choose (IsValidEvent bank n) (nat_lt k 9) (arrival (T (tm_no t)) (D (dm_no d))) (arrival (D (dm_no d)) (T (tm_no t)))
+    (t_to_d n t d (omega arith) (omega arith) (omega arith) (omega arith))
+    (d_to_t n t d (omega arith) (omega arith) (omega arith) (omega arith))
+
+deliveries_valid : (n count x : ℕ) → All (IsValidEvent bank n) (deliveries count x).0
+deliveries_valid n zero x = All-nil (IsValidEvent bank n)
+deliveries_valid n (suc count) x =
+    All-cons (IsValidEvent bank n) (delivery (draw 18 x).0) (deliveries count (draw 18 x).1).0 (delivery_valid n (draw 18 x).0) (deliveries_valid n count (draw 18 x).1)
+
+deliveries_count : (count x : ℕ) → length (deliveries count x).0 ≡ count
+deliveries_count zero x = refl
+deliveries_count (suc count) x = ap suc (deliveries_count count (draw 18 x).1)
+
+abbrev SubmitsNone : Event → Type 0
+SubmitsNone e = submitted_by e ≡ None
+
+delivery_submits_none : (k : ℕ) → submitted_by (delivery k) ≡ None
+delivery_submits_none k =
+    let t : ℕ = (k % 9) / 3 + 1 in
+    let d : ℕ = k % 3 + 1 in
+    choose SubmitsNone (nat_lt k 9) (arrival (T (tm_no t)) (D (dm_no d))) (arrival (D (dm_no d)) (T (tm_no t))) refl refl
+
+deliveries_submit_none : (count x : ℕ) → filter_map submitted_by (deliveries count x).0 ≡ []
+deliveries_submit_none zero x = refl
+deliveries_submit_none (suc count) x = rw (delivery_submits_none (draw 18 x).0) (deliveries_submit_none count (draw 18 x).1)
+
+-- turns
+
+txn_drawn : (i x : ℕ) → i < 2 ^ 32 → IsValidTxn bank (drawn_txn i x).0
+txn_drawn i x small =
+    let b : ℕ = shown 10 (next (next x)) in
+    let c : ℕ = shown 10 (next (next (next x))) in
+    txn_valid i (shown 4 (next x)) b c small (omega arith) (omega arith)
+
+pub txns_valid : (count i x : ℕ) → i + count ≤ 2 ^ 32 → All (IsValidTxn bank) (txns_of (turns count i x).0)
+txns_valid zero i x l = All-nil (IsValidTxn bank)
+txns_valid (suc count) i x l =
+    let y : ℕ = (turn i x).1 in
+    All-cons (IsValidTxn bank) (drawn_txn i x).0 (txns_of (turns count (i + 1) y).0) (txn_drawn i x (omega arith)) (txns_valid count (i + 1) y (omega arith))
+
+pub txns_count : (count i x : ℕ) → length (txns_of (turns count i x).0) ≡ count
+txns_count zero i x = refl
+txns_count (suc count) i x = ap suc (txns_count count (i + 1) (turn i x).1)
+
+pub no_puts : (count i x : ℕ) → sum_by rows_put_by (txns_of (turns count i x).0) ≡ 0
+no_puts zero i x = refl
+no_puts (suc count) i x =
+    let y : ℕ = (turn i x).1 in
+    let first = puts_none i (shown 4 (next x)) (shown 10 (next (next x))) (shown 10 (next (next (next x)))) in
+    let rest = no_puts count (i + 1) y in
+    let both = sum_by-cons rows_put_by (drawn_txn i x).0 (txns_of (turns count (i + 1) y).0) in
+    omega (arith, first, rest, both)
+
+events_drawn : (n i x : ℕ) → 1 ≤ i → i ≤ n → All (IsValidEvent bank n) (drawn_events i x).0
+events_drawn n i x l u =
+    let y : ℕ = next x in
+    All-cons (IsValidEvent bank n) (Submit (txn_no i)) (deliveries (shown 4 y) y).0 (l, u) (deliveries_valid n (shown 4 y) y)
+
+pub events_valid : (n count i x : ℕ) → 1 ≤ i → i + count ≤ n + 1 → All (IsValidEvent bank n) (events_of (turns count i x).0)
+events_valid n zero i x l u = All-nil (IsValidEvent bank n)
+events_valid n (suc count) i x l u =
+    let y : ℕ = (drawn_txn i x).1 in
+    All-append (IsValidEvent bank n) (drawn_events i y).0 (events_of (turns count (i + 1) (turn i x).1).0)
+    (events_drawn n i y l (omega arith)) (events_valid n count (i + 1) (turn i x).1 (omega arith) (omega arith))
+
+few_drawn : (i x : ℕ) → length (drawn_events i x).0 ≤ 4
+few_drawn i x = let e = deliveries_count (shown 4 (next x)) (next x) in omega (arith, e)
+
+pub few_events : (count i x : ℕ) → length (events_of (turns count i x).0) ≤ 4 * count
+few_events zero i x = omega arith
+few_events (suc count) i x =
+    let y : ℕ = (drawn_txn i x).1 in
+    let z : ℕ = (turn i x).1 in
+    let both = length-append (drawn_events i y).0 (events_of (turns count (i + 1) z).0) in
+    let first = few_drawn i y in
+    let rest = few_events count (i + 1) z in
+    omega (arith, both, first, rest)
+
+-- the numbers of the submitted transactions
+pub submitted : (count i x : ℕ) → filter_map submitted_by (events_of (turns count i x).0) ≡ range_with_len i count
+submitted zero i x = refl
+submitted (suc count) i x =
+    let y : ℕ = (drawn_txn i x).1 in
+    let z : ℕ = (turn i x).1 in
+    filter_map-append submitted_by (drawn_events i y).0 (events_of (turns count (i + 1) z).0)
+    ∙ ap (λ ns. (i ∷ ns) ++ filter_map submitted_by (events_of (turns count (i + 1) z).0)) (deliveries_submit_none (shown 4 (next y)) (next y))
+    ∙ ap (λ ns. i ∷ ns) (submitted count (i + 1) z)
+
+pub numbers_differ : (a n : ℕ) → AreDistinct (range_with_len a n)
+numbers_differ a n i k below within d same =
+    let long = length-range_with_len a n in
+    let first = get_or-range_with_len a n i d (omega (arith, long, within, below)) in
+    let second = get_or-range_with_len a n k d (omega (arith, long, within)) in
+    omega (arith, first, second, same, below)

@@ -1,0 +1,44 @@
+-- The names of the made transactions differ.
+use Rattle.std.proofs.Common.{◌≡◌, ℕ, zero, suc, ◌+◌, ◌^◌, ◌<◌, ◌≤◌, false, List, ◌∷◌, ◌++◌, map, refl, arith, ap, ◌∙◌}
+use Rattle.std.specs.Prelude.{codes}
+use Rattle.std.specs.Fmt.{decimal}
+use Rattle.std.specs.List.{range_with_len}
+use Rattle.std.specs.Str.{bytes_eq}
+use Rattle.std.proofs.lemmas.Bool.{false_from_ne_true}
+use Rattle.std.proofs.lemmas.Fmt.{decimal_injective}
+use Rattle.std.proofs.lemmas.List.{append_cancel_left}
+use Rattle.std.proofs.lemmas.Slice.Eq.{bytes_eq-Decides}
+use Rattle.sdd_catalog.specs.Rules.{has_name, repeats}
+use Rattle.sdd_lang.specs.declared.transaction.Txn.{Txn}
+use Rattle.sdd_make.specs.Draws.{next, shown}
+use Rattle.sdd_make.specs.Turns.{turn, turns, txns_of}
+use Rattle.sdd_make.proofs.ValidTxns.{named_by_number}
+
+abbrev name_of : ℕ → List ℕ
+name_of i = codes "t" ++ decimal i
+
+-- transactions are named by their numbers
+names_are : (count i x : ℕ) → map (λ (t : Txn). t.name) (txns_of (turns count i x).0) ≡ map name_of (range_with_len i count)
+names_are zero i x = refl
+names_are (suc count) i x =
+    let rest : List (List ℕ) = map (λ (t : Txn). t.name) (txns_of (turns count (i + 1) (turn i x).1).0) in
+    ap (λ name. name ∷ rest) (named_by_number i (shown 4 (next x)) (shown 10 (next (next x))) (shown 10 (next (next (next x)))))
+    ∙ ap (λ names. name_of i ∷ names) (names_are count (i + 1) (turn i x).1)
+
+names_differ : (i k : ℕ) → i < 2 ^ 32 → k < 2 ^ 32 → i < k → bytes_eq (name_of i) (name_of k) ≡ false
+names_differ i k p q l =
+    false_from_ne_true (bytes_eq (name_of i) (name_of k))
+    (λ e. let same : i ≡ k = decimal_injective i k (omega arith) (omega arith) (append_cancel_left (codes "t") (decimal i) (decimal k) ((bytes_eq-Decides (name_of i) (name_of k)).0 e)) in
+    omega (arith, same, l))
+
+-- none of the numbers above is named so
+none_above : (j a n : ℕ) → j < a → a + n ≤ 2 ^ 32 → has_name (map name_of (range_with_len a n)) (name_of j) ≡ false
+none_above j a zero l u = refl
+none_above j a (suc n) l u = rw (names_differ j a (omega arith) (omega arith) l) (none_above j (a + 1) n (omega arith) (omega arith))
+
+numbers_repeat_none : (a n : ℕ) → a + n ≤ 2 ^ 32 → repeats (map name_of (range_with_len a n)) ≡ false
+numbers_repeat_none a zero u = refl
+numbers_repeat_none a (suc n) u = rw (none_above a (a + 1) n (omega arith) (omega arith)) (numbers_repeat_none (a + 1) n (omega arith))
+
+pub no_name_repeats : (count i x : ℕ) → i + count ≤ 2 ^ 32 → repeats (map (λ (t : Txn). t.name) (txns_of (turns count i x).0)) ≡ false
+no_name_repeats count i x l = ap repeats (names_are count i x) ∙ numbers_repeat_none i count l

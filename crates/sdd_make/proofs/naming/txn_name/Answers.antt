@@ -1,0 +1,12 @@
+use Rattle.std.proofs.Common.{◌≡◌, ◌^◌, ◌<◌, ◌++◌, rules, subst, sym}
+use Rattle.std.specs.Prelude.{codes}
+use Rattle.std.specs.Fmt.{decimal}
+use Rattle.sdd_base.specs.Name.{IsName}
+use Rattle.sdd_make.proofs.Names.{number_named}
+use Rattle.sdd_make.proofs.naming.txn_name.Goals as goal
+
+pub name-requires : goal.name-requires
+name-requires c =
+    let small : c.args.i < 2 ^ 32 = c.ranges.i.fits in
+    let same : c.as_str.result.now ≡ codes "t" ++ decimal c.args.i = search rules in
+    subst IsName (sym same) (number_named c.args.i small)

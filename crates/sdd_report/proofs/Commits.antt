@@ -1,0 +1,100 @@
+-- The first Commit of each transaction, one record after the other.
+use Rattle.std.proofs.Common.{Less, Equal, Greater, ℕ, zero, suc, ◌+◌, ◌<◌, ◌==◌, ◌≡◌, true, false, cond, List, [], ◌∷◌, ◌++◌, take, length, get_or, Option, Some, None, refl, sym, ap, ◌∙◌, subst, ◌⊎◌, inl, inr, arith, eq-eqb}
+use Rattle.std.specs.Prelude.{find, filter_map}
+use Rattle.std.specs.List.{cons_option}
+use Rattle.std.specs.Option.{is_some, option_or}
+use Rattle.std.specs.Ordering.{nat_cmp, is_eq}
+use Rattle.std.specs.Cmp.{nat_cmp_is}
+use Rattle.std.specs.BTreeMap.{is_at}
+use Rattle.std.proofs.lemmas.Bool.{cases_Bool, cases_eq, ne_eqb, eqb-true}
+use Rattle.std.proofs.lemmas.List.{take_more}
+use Rattle.std.proofs.lemmas.List.Elements.{filter_map-append}
+use Rattle.std.proofs.lemmas.List.Folds.{find-append}
+use Rattle.sdd_history.specs.declared.record.Rec.{Rec}
+use Rattle.sdd_report.specs.Committed.{Told, told_in, told_of, is_of}
+
+abbrev pub Found : (ℕ → Option Told) → List (ℕ × Rec) → Type 0
+Found made h = (n : ℕ) → made n ≡ told_of h n
+
+-- one record more
+told_more : (h : List (ℕ × Rec)) (i : ℕ) (e : ℕ × Rec) (o : Option Told) (n : ℕ) → i < length h → e ≡ get_or h i e → told_in e.1 ≡ o
+    → told_of (take (i + 1) h) n ≡ option_or (told_of (take i h) n) (find (is_of n) (cons_option o []))
+told_more h i e o n l is some =
+    let f : ℕ × Rec → Option Told = λ made. told_in made.1 in
+    ap (λ xs. find (is_of n) (filter_map f xs)) (take_more h i e l ∙ ap (λ x. take i h ++ x ∷ []) (sym is))
+    ∙ ap (find (is_of n)) (filter_map-append f (take i h) (e ∷ []))
+    ∙ find-append (is_of n) (filter_map f (take i h)) (cons_option (told_in e.1) [])
+    ∙ ap (λ p. option_or (told_of (take i h) n) (find (is_of n) (cons_option p []))) some
+
+or_none : {X : Type 0} (o : Option X) → option_or o None ≡ o
+or_none None = refl
+or_none (Some x) = refl
+
+some_stays : {X : Type 0} (o p : Option X) → is_some o ≡ true → option_or o p ≡ o
+some_stays None p e = absurd (cc)
+some_stays (Some x) p e = refl
+
+or_second : {X : Type 0} (o p : Option X) → is_some o ≡ false → option_or o p ≡ p
+or_second None p e = refl
+or_second (Some x) p e = absurd (cc)
+
+-- a record that is no Commit
+pub no_commit : (h : List (ℕ × Rec)) (i : ℕ) (e : ℕ × Rec) (made : ℕ → Option Told) → i < length h → e ≡ get_or h i e
+    → told_in e.1 ≡ None → Found made (take i h) → Found made (take (i + 1) h)
+no_commit h i e made l is none old n =
+    old n ∙ sym (told_more h i e None n l is none ∙ or_none (told_of (take i h) n))
+
+-- a Commit of a transaction that has one
+pub further_commit : (h : List (ℕ × Rec)) (i : ℕ) (e : ℕ × Rec) (made : ℕ → Option Told) (t : Told) (key : ℕ) → i < length h → e ≡ get_or h i e
+    → told_in e.1 ≡ Some t → key ≡ t.txn → is_some (made key) ≡ true → Found made (take i h) → Found made (take (i + 1) h)
+further_commit h i e made t key l is some same has old n =
+    let before = told_of (take i h) n in
+    elim (cases_Bool (is_of n t)) [
+      | inl y ↦
+          let there : is_some before ≡ true =
+          ap is_some (sym (old n)) ∙ subst (λ m. is_some (made m) ≡ true) (same ∙ eqb-true t.txn n y) has in
+          old n ∙ sym (told_more h i e (Some t) n l is some ∙ some_stays before (find (is_of n) (t ∷ [])) there)
+      | inr f ↦
+          let other : find (is_of n) (t ∷ []) ≡ None = ap (λ b. cond b (Some t) None) f in
+          old n ∙ sym (told_more h i e (Some t) n l is some ∙ ap (option_or before) other ∙ or_none before)
+    ]
+
+-- whether a key is another number
+is_at_number : (k n : ℕ) → is_at (nat_cmp k) n ≡ (k == n)
+is_at_number k n =
+    elim (cases_eq k n) [
+      | inl e ↦ ap is_eq (sym (nat_cmp_is k n Equal e)) ∙ sym (eq-eqb k n e)
+      | inr d ↦ elim (less_or_greater k n d) [
+        | inl l ↦ ap is_eq (sym (nat_cmp_is k n Less l)) ∙ sym (ne_eqb k n d)
+        | inr g ↦ ap is_eq (sym (nat_cmp_is k n Greater g)) ∙ sym (ne_eqb k n d)
+      ]
+    ]
+  where
+    less_or_greater : (m n : ℕ) → (m ≡ n → ⊥) → (m < n) ⊎ (n < m)
+    less_or_greater zero zero d = absurd (d refl)
+    less_or_greater zero (suc n) d = inl (omega arith)
+    less_or_greater (suc m) zero d = inr (omega arith)
+    less_or_greater (suc m) (suc n) d =
+        elim (less_or_greater m n (λ e. d (ap suc e))) [ inl l ↦ inl (omega arith) | inr l ↦ inr (omega arith) ]
+
+-- the first Commit of a transaction
+pub first_commit : (h : List (ℕ × Rec)) (i : ℕ) (e : ℕ × Rec) (made new : ℕ → Option Told) (t : Told) (key : ℕ) → i < length h → e ≡ get_or h i e
+    → told_in e.1 ≡ Some t → key ≡ t.txn → is_some (made key) ≡ false
+    → ((n : ℕ) → new n ≡ cond (is_at (nat_cmp key) n) (Some t) (made n))
+    → Found made (take i h) → Found new (take (i + 1) h)
+first_commit h i e made new t key l is some same absent updates old n =
+    let before = told_of (take i h) n in
+    let now : new n ≡ cond (is_of n t) (Some t) (made n) =
+    updates n ∙ ap (λ b. cond b (Some t) (made n)) (is_at_number key n ∙ ap (λ m. m == n) same) in
+    elim (cases_Bool (is_of n t)) [
+      | inl y ↦
+          let nothing : is_some before ≡ false =
+          ap is_some (sym (old n)) ∙ subst (λ m. is_some (made m) ≡ false) (same ∙ eqb-true t.txn n y) absent in
+          let this : find (is_of n) (t ∷ []) ≡ Some t = ap (λ b. cond b (Some t) None) y in
+          now ∙ ap (λ b. cond b (Some t) (made n)) y
+          ∙ sym (told_more h i e (Some t) n l is some ∙ or_second before (find (is_of n) (t ∷ [])) nothing ∙ this)
+      | inr f ↦
+          let other : find (is_of n) (t ∷ []) ≡ None = ap (λ b. cond b (Some t) None) f in
+          now ∙ ap (λ b. cond b (Some t) (made n)) f ∙ old n
+          ∙ sym (told_more h i e (Some t) n l is some ∙ ap (option_or before) other ∙ or_none before)
+    ]

@@ -1,0 +1,7 @@
+use Rattle.std.proofs.Common.{◌≡◌, ◌++◌, drop}
+use Rattle.sdd_report.specs.Trace.{cond_words}
+use Rattle.sdd_report.proofs.trace.put_conds.Given as goal
+
+-- what was written and what is left to write is all of it
+abbrev pub invariant-conds : goal.invariant-conds
+invariant-conds l = l.text.items ++ cond_words l.catalogue (drop l.cond-index l.conds) ≡ l.fn.text.items ++ cond_words l.catalogue l.conds

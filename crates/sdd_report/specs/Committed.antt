@@ -1,0 +1,61 @@
+-- What is printed of committed transactions along the order: their names, their replies, and what was
+-- shipped for them.
+use Rattle.std.specs.Prelude.{ℕ, ◌==◌, Bool, List, [], ◌∷◌, ◌++◌, codes, flat_map, find, filter_map, Option, Some, None}
+use Rattle.std.specs.Option.{option_map_or}
+use Rattle.std.specs.Fmt.{decimal}
+use Rattle.sdd_base.specs.declared.number.TxnNo.{TxnNo}
+use Rattle.sdd_base.specs.declared.reply.Reply.{Reply}
+use Rattle.sdd_history.specs.declared.record.Rec.{Rec}
+use Rattle.sdd_history.specs.declared.record.Rec.TheVariants as records
+use Rattle.sdd_lang.specs.declared.transaction.Txn.{Txn}
+use Rattle.sdd_report.specs.Names.{spaced, txn_name}
+use Rattle.sdd_report.specs.Replies.{reply_lines}
+
+-- what the Commit of a transaction tells: the reply, and how many values and rows were shipped
+pub record Told : Type 0 where
+  pub txn : ℕ
+  pub reply : Reply
+  pub values : ℕ
+  pub rows : ℕ
+
+-- what a record tells, if it is a Commit
+abbrev pub told_in : Rec → Option Told
+told_in (records.Commit txn attempt reply changes values rows) = Some (record { txn = txn.0; reply = reply; values = values; rows = rows })
+told_in _ = None
+
+-- whether it is told of transaction n
+abbrev pub is_of : ℕ → Told → Bool
+is_of n told = told.txn == n
+
+-- what the first Commit of transaction n tells; a transaction has one Commit at most
+abbrev pub told_of : List (ℕ × Rec) → ℕ → Option Told
+told_of history n = find (is_of n) (filter_map (λ (made : ℕ × Rec). told_in made.1) history)
+
+-- the names of transactions, each behind a space
+abbrev pub names : List Txn → List TxnNo → List ℕ
+names txns order = flat_map (λ (n : TxnNo). spaced (txn_name txns n.0)) order
+
+-- the committed transactions in the serial order
+abbrev pub order_line : List Txn → List TxnNo → List ℕ
+order_line txns order = codes "order" ++ (names txns order ++ 10 ∷ [])
+
+-- the lines of a transaction's reply; one without a Commit has none
+abbrev pub reply_of : List Txn → List (ℕ × Rec) → TxnNo → List ℕ
+reply_of txns history n = option_map_or (λ (told : Told). reply_lines (txn_name txns n.0) told.reply) (told_of history n.0) []
+
+-- how many values and rows, at the end of a line
+abbrev pub numbers_end : ℕ → ℕ → List ℕ
+numbers_end values rows = spaced (decimal values) ++ (spaced (decimal rows) ++ 10 ∷ [])
+
+-- how many values and rows were shipped for a transaction
+abbrev pub shipped_line : List ℕ → Told → List ℕ
+shipped_line name told = codes "shipped" ++ (spaced name ++ numbers_end told.values told.rows)
+
+-- the same by its number; one without a Commit has none
+abbrev pub shipped_of : List Txn → List (ℕ × Rec) → TxnNo → List ℕ
+shipped_of txns history n = option_map_or (λ (told : Told). shipped_line (txn_name txns n.0) told) (told_of history n.0) []
+
+-- the order, the replies along it, and then what was shipped
+abbrev pub committed_lines : List Txn → List (ℕ × Rec) → List TxnNo → List ℕ
+committed_lines txns history order =
+    order_line txns order ++ (flat_map (reply_of txns history) order ++ flat_map (shipped_of txns history) order)

@@ -1,0 +1,221 @@
+//! The order, and what the Commits of its transactions tell.
+ghost use Rattle.std.specs.Prelude.{ℕ, ◌≡◌, ◌++◌, flat_map, IfOk, OnOk, MatchOption, Some, None};
+ghost use Rattle.std.specs.BTreeMap.{get};
+ghost use Rattle.std.specs.Ordering.{nat_cmp};
+ghost use Rattle.sdd_report.specs.Committed as definitions;
+ghost use Rattle.sdd_report.specs.Committed.{told_in, told_of, names, order_line, reply_of, numbers_end, shipped_line, shipped_of, committed_lines};
+
+use crate::names::txn_name;
+use crate::replies::put_reply;
+use crate::words::{put_large_number, put_txn, put_word};
+use sdd_base::{NoMemory, Reply, TxnNo};
+use sdd_history::Rec;
+use sdd_lang::Txn;
+use sdd_words::put;
+use std::alloc::Global;
+use std::collections::BTreeMap;
+use std::marker::Model;
+
+/// What the Commit of a transaction tells.
+#[derive(Drop)]
+pub struct Told<'a> {
+    txn: u32,
+    reply: &'a Reply,
+    values: u128,
+    rows: u128,
+}
+
+impl<'a> Model for Told<'a> {
+    ghost Value = { definitions.Told };
+
+    ghost view = { λ t. record { txn = t.txn; reply = t.reply.now; values = t.values; rows = t.rows } };
+}
+
+/// A history, with what the first Commit of each transaction tells laid out for quick answers.
+#[derive(Drop)]
+pub struct Commits<'a> {
+    history: &'a [(u32, Rec)],
+    told: BTreeMap<u32, Told<'a>>,
+}
+
+impl<'a> Model for Commits<'a> {
+    ghost use Rattle.std.specs.Prelude.{ℕ, ◌≡◌, List};
+    ghost use Rattle.std.specs.BTreeMap.{get};
+    ghost use Rattle.std.specs.Ordering.{nat_cmp};
+    ghost use Rattle.sdd_history.specs.declared.record.Rec.{Rec as Record};
+    ghost use Rattle.sdd_report.specs.Committed.{told_of};
+
+    ghost Value = { List (ℕ × Record) };
+
+    ghost view = { λ c. c.history.now };
+
+    ghost invariant = { λ c. (n : ℕ) → get nat_cmp c.told n ≡ told_of c.history.now n };
+}
+
+fn told_in<'a>(rec: &'a Rec) -> Option<Told<'a>>
+    ensures { result ≡ told_in rec.now }
+{
+    match rec {
+        Rec::Commit {
+            txn,
+            reply,
+            values,
+            rows,
+            ..
+        } => Some(Told {
+            txn: txn.0,
+            reply,
+            values: *values,
+            rows: *rows,
+        }),
+        _ => None,
+    }
+}
+
+/// What the first Commit of each transaction tells.
+fn first_commits<'a>(
+    alloc: Global,
+    history: &'a [(u32, Rec)],
+) -> Result<BTreeMap<u32, Told<'a>>, NoMemory>
+    ensures { IfOk result (λ made. (n : ℕ) → get nat_cmp made n ≡ told_of history.now n) }
+{
+    let mut made = BTreeMap::new(alloc);
+    'history: for one in history {
+        if let Some(told) = told_in(&one.1) {
+            let key = told.txn;
+            if !made.contains_key(&key) {
+                made.insert(key, told)?;
+            }
+        }
+    }
+    Ok(made)
+}
+
+impl<'a> Commits<'a> {
+    /// O(r log t) for r records of t transactions.
+    pub fn of(alloc: Global, history: &'a [(u32, Rec)]) -> Result<Commits<'a>, NoMemory>
+        ensures { IfOk result (λ made. made ≡ history.now) }
+    {
+        let told = first_commits(alloc, history)?;
+        Ok(Commits { history, told })
+    }
+
+    /// What the first Commit of a transaction tells.
+    fn told(&self, txn: TxnNo) -> Option<&Told<'a>>
+        ensures { MatchOption result
+            (told_of self.now txn.0 ≡ None)
+            (λ t. told_of self.now txn.0 ≡ Some t.now) }
+    {
+        let _ = &self.history;
+        self.told.get(&txn.0)
+    }
+}
+
+#[tactic(auto, using(crate::proofs::Lists::written))]
+fn put_names(text: &mut Vec<u8>, txns: &[Txn], order: &[TxnNo]) -> Result<(), NoMemory>
+    ensures { OnOk result (
+        text.new.items
+        ≡ text.old.items ++ names txns.now order.now) }
+{
+    'order: for txn in order {
+        put_txn(text, txns, *txn)?;
+    }
+    Ok(())
+}
+
+fn put_order(text: &mut Vec<u8>, txns: &[Txn], order: &[TxnNo]) -> Result<(), NoMemory>
+    ensures { OnOk result (text.new.items ≡ text.old.items ++ order_line txns.now order.now) }
+{
+    put(text, b"order")?;
+    put_names(text, txns, order)?;
+    put(text, b"\n")
+}
+
+fn put_reply_of(
+    text: &mut Vec<u8>,
+    txns: &[Txn],
+    commits: &Commits,
+    txn: TxnNo,
+) -> Result<(), NoMemory>
+    ensures { OnOk result (text.new.items ≡ text.old.items ++ reply_of txns.now commits.now txn) }
+{
+    match commits.told(txn) {
+        Some(told) => put_reply(text, txn_name(txns, txn), told.reply),
+        None => Ok(()),
+    }
+}
+
+#[tactic(auto, using(crate::proofs::Lists::written))]
+fn put_replies(
+    text: &mut Vec<u8>,
+    txns: &[Txn],
+    commits: &Commits,
+    order: &[TxnNo],
+) -> Result<(), NoMemory>
+    ensures { OnOk result (text.new.items ≡ text.old.items ++ flat_map (reply_of txns.now commits.now) order.now) }
+{
+    'order: for txn in order {
+        put_reply_of(text, txns, commits, *txn)?;
+    }
+    Ok(())
+}
+
+/// How many values and rows were shipped, and the end of the line.
+fn put_numbers(text: &mut Vec<u8>, values: u128, rows: u128) -> Result<(), NoMemory>
+    ensures { OnOk result (text.new.items ≡ text.old.items ++ numbers_end values rows) }
+{
+    put_large_number(text, values)?;
+    put_large_number(text, rows)?;
+    put(text, b"\n")
+}
+
+fn put_shipped(text: &mut Vec<u8>, name: &[u8], told: &Told) -> Result<(), NoMemory>
+    ensures { OnOk result (text.new.items ≡ text.old.items ++ shipped_line name.now told.now) }
+{
+    put(text, b"shipped")?;
+    put_word(text, name)?;
+    put_numbers(text, told.values, told.rows)
+}
+
+fn put_shipped_of(
+    text: &mut Vec<u8>,
+    txns: &[Txn],
+    commits: &Commits,
+    txn: TxnNo,
+) -> Result<(), NoMemory>
+    ensures { OnOk result (text.new.items ≡ text.old.items ++ shipped_of txns.now commits.now txn) }
+{
+    match commits.told(txn) {
+        Some(told) => put_shipped(text, txn_name(txns, txn), told),
+        None => Ok(()),
+    }
+}
+
+#[tactic(auto, using(crate::proofs::Lists::written))]
+fn put_all_shipped(
+    text: &mut Vec<u8>,
+    txns: &[Txn],
+    commits: &Commits,
+    order: &[TxnNo],
+) -> Result<(), NoMemory>
+    ensures { OnOk result (text.new.items ≡ text.old.items ++ flat_map (shipped_of txns.now commits.now) order.now) }
+{
+    'order: for txn in order {
+        put_shipped_of(text, txns, commits, *txn)?;
+    }
+    Ok(())
+}
+
+/// The order, the replies along it, and then what was shipped.
+pub fn put_committed(
+    text: &mut Vec<u8>,
+    txns: &[Txn],
+    commits: &Commits,
+    order: &[TxnNo],
+) -> Result<(), NoMemory>
+    ensures { OnOk result (text.new.items ≡ text.old.items ++ committed_lines txns.now commits.now order.now) }
+{
+    put_order(text, txns, order)?;
+    put_replies(text, txns, commits, order)?;
+    put_all_shipped(text, txns, commits, order)
+}

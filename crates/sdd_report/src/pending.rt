@@ -1,0 +1,135 @@
+//! What transactions that aren't committed are waiting for.
+ghost use Rattle.std.specs.Prelude.{◌≡◌, [], ◌∷◌, ◌++◌, cond, OnOk};
+ghost use Rattle.std.specs.List.{best_of};
+ghost use Rattle.sdd_report.specs.Names.{spaced};
+ghost use Rattle.sdd_report.specs.Pending.{why_words, pending_line, pending_lines, is_lower, under_way};
+ghost use Rattle.sdd_report.specs.declared.pending.Why.TheVariants.{Waits as WaitsFor};
+
+use crate::words::{put_class_number, put_class_time, put_module, put_site, put_txn};
+use sdd_base::{ClassNo, DmNo, NoMemory, Site, Ts, TxnNo};
+use sdd_catalog::Catalogue;
+use sdd_lang::Txn;
+use sdd_words::put;
+
+/// A READ that waits at a data module.
+#[derive(Clone, Copy, Debug, PartialEq, Eq)]
+pub struct Waiting {
+    pub dm: DmNo,
+    /// The first class of its conditions that hasn't passed there.
+    pub class: ClassNo,
+    /// The time that this class has to pass.
+    pub time: Ts,
+}
+
+/// What a transaction that isn't committed is waiting for.
+#[derive(Clone, Copy, Debug, PartialEq, Eq)]
+pub enum Why {
+    /// It isn't served yet: its class, and its place in the queue of the class, counted from 1 without
+    /// the transaction that is being served.
+    Queued(ClassNo, u64),
+    /// The READ of its attempt waits.
+    Waits(Waiting),
+    /// A message of this site is lacking.
+    Underway(Site),
+}
+
+/// A transaction that was submitted and isn't committed.
+#[derive(Clone, Copy, Debug, PartialEq, Eq)]
+pub struct Pending {
+    pub txn: TxnNo,
+    pub why: Why,
+}
+
+fn lower(best: Waiting, next: Waiting) -> Waiting
+    ensures { result ≡ cond (is_lower next best) next best }
+{
+    if next.dm.0 < best.dm.0 { next } else { best }
+}
+
+/// The one at the lowest module.
+fn lowest(first: Waiting, others: &[Waiting]) -> Waiting
+    ensures { result ≡ best_of is_lower first others.now }
+{
+    let mut best = first;
+    let mut rest = others;
+    'others: while let [next, more @ ..] = rest {
+        best = lower(best, *next);
+        rest = more;
+    }
+    best
+}
+
+/// What a transaction is waiting for that is being served: `site` is the lowest site that its attempt
+/// lacks a message of, `waits` are the modules at which its READ waits, in any order.
+///
+/// Costs time in the modules, and takes no memory.
+pub fn under_way(site: Site, waits: &[Waiting]) -> Why
+    ensures { result ≡ under_way site waits.now }
+{
+    match waits {
+        [] => Why::Underway(site),
+        [first, others @ ..] => Why::Waits(lowest(*first, others)),
+    }
+}
+
+fn put_waiting(text: &mut Vec<u8>, catalogue: &Catalogue, waiting: Waiting) -> Result<(), NoMemory>
+    ensures { OnOk result (text.new.items ≡ text.old.items ++ why_words catalogue.now (WaitsFor waiting)) }
+{
+    put(text, b"waits")?;
+    put_module(text, waiting.dm)?;
+    put_class_time(text, catalogue, waiting.class, waiting.time)
+}
+
+fn put_why(text: &mut Vec<u8>, catalogue: &Catalogue, why: Why) -> Result<(), NoMemory>
+    ensures { OnOk result (text.new.items ≡ text.old.items ++ why_words catalogue.now why) }
+{
+    match why {
+        Why::Queued(class, place) => {
+            put(text, b"queued")?;
+            put_class_number(text, catalogue, class, place)
+        }
+        Why::Waits(waiting) => put_waiting(text, catalogue, waiting),
+        Why::Underway(site) => {
+            put(text, b"underway")?;
+            put_site(text, site)
+        }
+    }
+}
+
+/// What is waited for, behind a space, and the end of the line.
+fn put_why_end(text: &mut Vec<u8>, catalogue: &Catalogue, why: Why) -> Result<(), NoMemory>
+    ensures { OnOk result (text.new.items ≡ text.old.items ++ (spaced (why_words catalogue.now why) ++ 10 ∷ [])) }
+{
+    put(text, b" ")?;
+    put_why(text, catalogue, why)?;
+    put(text, b"\n")
+}
+
+fn put_line(
+    text: &mut Vec<u8>,
+    catalogue: &Catalogue,
+    txns: &[Txn],
+    pending: Pending,
+) -> Result<(), NoMemory>
+    ensures { OnOk result (text.new.items ≡ text.old.items ++ pending_line catalogue.now txns.now pending) }
+{
+    put(text, b"pending")?;
+    put_txn(text, txns, pending.txn)?;
+    put_why_end(text, catalogue, pending.why)
+}
+
+/// The lines of pending transactions.
+#[tactic(auto, using(crate::proofs::Lists::written))]
+pub fn put_pending(
+    text: &mut Vec<u8>,
+    catalogue: &Catalogue,
+    txns: &[Txn],
+    pending: &[Pending],
+) -> Result<(), NoMemory>
+    ensures { OnOk result (text.new.items ≡ text.old.items ++ pending_lines catalogue.now txns.now pending.now) }
+{
+    'pending: for one in pending {
+        put_line(text, catalogue, txns, *one)?;
+    }
+    Ok(())
+}
