@@ -4,6 +4,8 @@ use Rattle.sdd_base.specs.declared.site.Site.{Site}
 use Rattle.sdd_base.specs.declared.site.Site.TheVariants.{U, T, D}
 use Rattle.sdd_lang.specs.declared.transaction.Txn.{Txn}
 use Rattle.sdd_wire.specs.declared.msg.Msg.{Msg}
+use Rattle.sdd_attempt.specs.declared.standing.Standing.{Standing as HowItStands}
+use Rattle.sdd_attempt.specs.declared.standing.Standing.TheVariants.{Absent}
 use Rattle.sdd_module.specs.SiteLog.{Bases, Setting}
 use Rattle.sdd_module.specs.SiteLog as site
 
@@ -52,3 +54,12 @@ fits_submit_at u t (D d) setting bases log n txn = ⊥
 abbrev pub fits_tick_at : FittingTick → Site → FittingTick
 fits_tick_at t (T k) setting log n = t setting log n
 fits_tick_at t _ setting log n = ⊥
+
+-- how the module of a site has a transaction: no data module has one
+abbrev pub Telling : Type 0
+Telling = Setting → site.Log → ℕ → HowItStands
+
+abbrev pub standing_at : Telling → Telling → Site → Telling
+standing_at u t U setting log n = u setting log n
+standing_at u t (T k) setting log n = t setting log n
+standing_at u t (D d) setting log n = Absent

@@ -1,2 +1,3 @@
 pub mod AtSites
 pub mod Kinds
+pub mod Standings

@@ -11,6 +11,6 @@ mod modules;
 mod sites;
 
 pub use homes::{Home, Homes};
-pub use kinds::{AtD, AtT, AtU, Submitter, Ticker};
+pub use kinds::{AtD, AtT, AtU, Keeper, Submitter, Ticker};
 pub use modules::Modules;
 pub use sites::Sites;

@@ -1,16 +1,24 @@
-ghost use Rattle.std.specs.Prelude.{◌≡◌, ◌∷◌, ℕ, List, false, IfOk};
-ghost use Rattle.sdd_base.specs.Sites.{same_site};
+ghost use Rattle.std.specs.Prelude.{◌≡◌, ◌≤◌, ◌∷◌, ℕ, List, length, false, true, IsTrue, IfOk};
+ghost use Rattle.std.specs.Option.{option_copied};
+ghost use Rattle.sdd_base.specs.Sites.{number_of, same_site};
 ghost use Rattle.sdd_base.specs.declared.site.Site.{Site};
-ghost use Rattle.sdd_base.specs.declared.site.Site.TheVariants.{T};
+ghost use Rattle.sdd_base.specs.declared.site.Site.TheVariants.{D, T};
+ghost use Rattle.sdd_catalog.specs.Catalogue.{has_copy};
 ghost use Rattle.sdd_lang.specs.declared.transaction.Txn.{Txn};
 ghost use Rattle.sdd_history.specs.declared.record.Rec.{Rec};
 ghost use Rattle.sdd_history.specs.declared.record.Rec.TheVariants.{Submit as Submission};
 ghost use Rattle.sdd_wire.specs.declared.msg.Msg.{Msg};
 ghost use Rattle.sdd_module.specs.SiteLog.{Setting, Bases, Handed, Ticked, Submits, Does};
 ghost use Rattle.sdd_module.specs.SiteLog as site;
+ghost use Rattle.sdd_attempt.specs.declared.standing.Standing.{Standing as HowItStands};
+ghost use Rattle.sdd_copy.specs.Copies.{is_here, StandFor};
+ghost use Rattle.sdd_dm.specs.Copies.{dated};
+ghost use Rattle.sdd_dm.specs.Waiting.{IsAwaited};
 ghost use Rattle.sdd_sites.specs.Kinds.{next_of};
 
-use sdd_base::{NoMemory, Site, TmNo, TxnNo};
+use sdd_attempt::Standing;
+use sdd_base::{ClassNo, Cond, DmNo, NoMemory, Site, TmNo, Ts, TxnNo};
+use sdd_copy::Copies;
 use sdd_lang::Txn;
 use sdd_wire::{Msg, Outcome};
 
@@ -27,6 +35,9 @@ pub trait Modules: Drop {
 
     /// What ticks of its clock have to meet.
     ghost fits_tick: { Site → Setting → site.Log → ℕ → Type 0 };
+
+    /// How the module of a site has a transaction.
+    ghost standing: { Site → Setting → site.Log → ℕ → HowItStands };
 
     /// Hands a message to the module of a site, which then does all that is due.
     fn take(&mut self, at: Site, from: Site, msg: Msg) -> Result<Outcome, NoMemory>
@@ -60,4 +71,30 @@ pub trait Modules: Drop {
             → stands self.new (T tm) setting (Ticked n ∷ log) }
         ensures others { (b : Site) (setting : Setting) (log : site.Log)
             → same_site b (T tm) ≡ false → stands self.old b setting log → stands self.new b setting log };
+
+    /// How the module of a site has a transaction. Takes no memory.
+    fn standing(&self, at: Site, number: TxnNo) -> Standing
+        requires { (setting : Setting) × (log : site.Log) × stands self.now at setting log }
+        ensures { (setting : Setting) (log : site.Log) → stands self.now at setting log
+            → result ≡ standing at setting log number.0 };
+
+    /// The copies of a data module, lent: they hold what the changes that its log tells leave.
+    /// Takes no memory.
+    fn copies(&self, dm: DmNo) -> &Copies
+        requires { (setting : Setting) × (log : site.Log) × stands self.now (D dm) setting log }
+        ensures live { (setting : Setting) (log : site.Log) → stands self.now (D dm) setting log
+            → IsTrue result.now.live }
+        ensures stand { (setting : Setting) (log : site.Log) → stands self.now (D dm) setting log
+            → StandFor result.now.value (dated setting log) }
+        ensures here { (setting : Setting) (log : site.Log) → stands self.now (D dm) setting log
+            → (f : ℕ) → has_copy setting.catalogue (number_of setting.site) f ≡ true
+            → is_here result.now.value f ≡ true };
+
+    /// Of the READ of a class with this timestamp, where it waits at a data module, the first
+    /// condition whose class hasn't passed its time. Takes no memory.
+    fn waits(&self, dm: DmNo, class: ClassNo, ts: Ts) -> Option<&Cond>
+        requires { (setting : Setting) × (log : site.Log) × stands self.now (D dm) setting log }
+        ensures { (setting : Setting) (log : site.Log) → stands self.now (D dm) setting log
+            → class.0 ≤ length setting.catalogue.classes
+            → IsAwaited setting log class.0 ts.0 (option_copied result) };
 }

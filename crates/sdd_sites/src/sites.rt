@@ -7,7 +7,9 @@ ghost use Rattle.sdd_sites.specs.AtSites.{Lives, At};
 
 use crate::kinds::{AtD, AtT, AtU, Submitter};
 use crate::modules::Modules;
-use sdd_base::{NoMemory, Site, TmNo, TxnNo};
+use sdd_attempt::Standing;
+use sdd_base::{ClassNo, Cond, DmNo, NoMemory, Site, TmNo, Ts, TxnNo};
+use sdd_copy::Copies;
 use sdd_lang::Txn;
 use sdd_module::Module;
 use sdd_wire::{Msg, Outcome};
@@ -57,6 +59,18 @@ fn submit_in<M: Submitter>(
     module.submit(number, txn)
 }
 
+/// How one of the modules has a transaction.
+fn standing_in<M: Submitter>(modules: &Vec<M>, at: usize, number: TxnNo) -> Standing
+    requires { (setting : Setting) × (log : site.Log)
+        × At (Lives M.is_live M.stands) (slice_get modules.now.items at) setting log }
+    ensures { (setting : Setting) (log : site.Log)
+        → At (Lives M.is_live M.stands) (slice_get modules.now.items at) setting log
+        → result ≡ M.standing setting log number.0 }
+{
+    let module = &modules[at];
+    module.standing(number)
+}
+
 /// The modules: one of U, those of the transaction modules and those of the data modules.
 #[derive(Drop)]
 pub struct Sites<U, T, D> {
@@ -66,7 +80,7 @@ pub struct Sites<U, T, D> {
 }
 
 impl<U: AtU, T: AtT, D: AtD> Modules for Sites<U, T, D> {
-    ghost use Rattle.sdd_sites.specs.AtSites.{Lives, StandsAt, fits_at, fits_submit_at, fits_tick_at};
+    ghost use Rattle.sdd_sites.specs.AtSites.{Lives, StandsAt, fits_at, fits_submit_at, fits_tick_at, standing_at};
 
     ghost stands = { λ s at setting log.
         StandsAt (Lives U.is_live U.stands) (Lives T.is_live T.stands) (Lives D.is_live D.stands)
@@ -79,6 +93,8 @@ impl<U: AtU, T: AtT, D: AtD> Modules for Sites<U, T, D> {
         fits_submit_at U.fits_submit T.fits_submit at setting bases log n txn };
 
     ghost fits_tick = { λ at setting log n. fits_tick_at T.fits_tick at setting log n };
+
+    ghost standing = { λ at setting log n. standing_at U.standing T.standing at setting log n };
 
     fn take(&mut self, at: Site, from: Site, msg: Msg) -> Result<Outcome, NoMemory> {
         match at {
@@ -99,5 +115,23 @@ impl<U: AtU, T: AtT, D: AtD> Modules for Sites<U, T, D> {
     fn tick(&mut self, tm: TmNo, n: u32) {
         let module = &mut self.ts[tm.0 as usize - 1];
         module.tick(n);
+    }
+
+    fn standing(&self, at: Site, number: TxnNo) -> Standing {
+        match at {
+            Site::U => self.u.standing(number),
+            Site::T(n) => standing_in(&self.ts, n.0 as usize - 1, number),
+            Site::D(_) => Standing::Absent,
+        }
+    }
+
+    fn copies(&self, dm: DmNo) -> &Copies {
+        let module = &self.ds[dm.0 as usize - 1];
+        module.copies()
+    }
+
+    fn waits(&self, dm: DmNo, class: ClassNo, ts: Ts) -> Option<&Cond> {
+        let module = &self.ds[dm.0 as usize - 1];
+        module.waits(class, ts)
     }
 }

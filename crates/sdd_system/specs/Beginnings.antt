@@ -1,0 +1,33 @@
+-- For which logs the modules of a system stand before its first event.
+use Rattle.std.specs.Prelude.{ℕ, ◌-◌, ◌≤◌, ◌≡◌, List, [], ◌∷◌, length, slice_get, Option, Some, None}
+use Rattle.sdd_base.specs.Kept.{Kept}
+use Rattle.sdd_base.specs.Numbers.{dm_no, tm_no}
+use Rattle.sdd_base.specs.declared.number.RelNo.{RelNo}
+use Rattle.sdd_base.specs.declared.site.Site.TheVariants.{T, D}
+use Rattle.sdd_catalog.specs.Catalogue.{Catalogue}
+use Rattle.sdd_protocol.specs.declared.entry.Entry.{Entry}
+use Rattle.sdd_lang.specs.Database.{Row}
+use Rattle.sdd_module.specs.SiteLog.{Redeclared, Setting}
+use Rattle.sdd_dm.specs.Stands as dm
+use Rattle.sdd_dm.specs.State as dm_state
+use Rattle.sdd_tm.specs.Stands as tm
+use Rattle.sdd_tm.specs.State as tm_state
+
+-- the module that is looked for is there, and has this
+abbrev pub There : {V : Type 0} → (V → Type 0) → Option V → Type 0
+There P None = ⊥
+There P (Some v) = P v
+
+-- there are so many modules, numbered from 1, and each has what one of its number has
+pub record AllBegin {V : Type 0} (P : ℕ → V → Type 0) (count : ℕ) (made : List V) : Type 0 where
+  pub count_is : length made ≡ count
+  pub each : (n : ℕ) → 1 ≤ n → n ≤ count → There (P n) (slice_get made (n - 1))
+
+-- transaction module n, where a catalogue and its protocol table are in force
+abbrev pub BeginsT : Catalogue → List Entry → ℕ → Kept tm_state.State → Type 0
+BeginsT cat table n made = (s : Setting) → s.catalogue ≡ cat → s.site ≡ T (tm_no n)
+    → tm.Stands made s (Redeclared (record { catalogue = cat; table = table }) 0 ∷ [])
+
+-- data module n, made of these rows
+abbrev pub BeginsD : Catalogue → List (RelNo × Row) → ℕ → Kept dm_state.State → Type 0
+BeginsD cat rows n made = dm.Stands made (record { catalogue = cat; site = D (dm_no n); rows = rows }) []
