@@ -3,7 +3,6 @@ pub mod Entries
 pub mod FileReads
 pub mod Forms
 pub mod Queries
-pub mod Reaches
 pub mod Submissions
 pub mod TextPieces
 pub mod Told

@@ -8,20 +8,23 @@ use Rattle.sdd_catalog.specs.Catalogue.{Catalogue}
 use Rattle.sdd_catalog.specs.declared.fault.CatFault.{CatFault}
 use Rattle.sdd_catread.specs.Reading.{catalogue_in}
 use Rattle.sdd_script.specs.Walk.{workload}
+use Rattle.sdd_script.specs.declared.fault.WorkFault.{WorkFault}
 use Rattle.sdd_script.specs.declared.workload.Workload.{Workload}
+use Rattle.sdd_world.specs.declared.ends.WorldEnd.{WorldEnd}
+use Rattle.sdd_world.specs.declared.ends.WorldEnd.TheVariants as ends
+use Rattle.sdd_run.proofs.Apart.{report_or_limit}
 use Rattle.sdd_control.specs.Report.{report}
 use Rattle.sdd_control.specs.Walk.{control_script}
 use Rattle.sdd_control.specs.declared.script.ControlScript.{ControlScript}
-use Rattle.sdd_app.specs.Answer.{script_named, control_verdict, ComesToControl, BlamesScript, catalogue_named, workload_named, OverCatalogue, ComesToListing, plain_verdict, ComesToPlain, run_verdict, ComesToRun, FormComesTo, ComesTo, FilesOf, FilesAreThere, BlamesCatalogue, BlamesWorkload}
+use Rattle.sdd_app.specs.Answer.{script_named, control_verdict, ComesToControl, BlamesScript, catalogue_named, workload_named, OverCatalogue, ComesToListing, plain_verdict, ComesToPlain, ComesToReport, ComesToRun, FormComesTo, ComesTo, FilesOf, FilesAreThere, BlamesCatalogue, BlamesWorkload}
 use Rattle.sdd_app.specs.Command.{Form, Check, Graph, Table, Run, Plain, Control, Make, form_in}
 use Rattle.sdd_app.specs.Endings.{FilesRead, IsRead, ToItsEnd}
-use Rattle.sdd_app.specs.Reach.{IsFirstCatalogue, is_first_workload}
 use Rattle.sdd_app.specs.Serially.{serial_text}
-use Rattle.sdd_app.specs.Verdict.{Verdict, NoForm, Prints, FaultyCatalogue, FaultyWorkload, NotBuilt, status_of, IsRefusal, Explains, Answers}
+use Rattle.sdd_app.specs.Verdict.{Verdict, NoForm, Prints, FaultyCatalogue, FaultyWorkload, PastLimit, NotBuilt, status_of, status_of_end, IsRefusal, Explains, Answers}
 use Rattle.sdd_app.specs.declared.listing.Listing.{Listing}
 use Rattle.sdd_app.specs.declared.listing.Listing.TheVariants as listings
 use Rattle.sdd_app.specs.declared.status.Status.{Status}
-use Rattle.sdd_app.specs.declared.status.Status.TheVariants.{Done, Usage, BadCatalogue, BadWorkload, ReadFault, WriteFault, NoMemory, Unbuilt}
+use Rattle.sdd_app.specs.declared.status.Status.TheVariants.{Done, Usage, BadCatalogue, BadWorkload, ReadFault, WriteFault, NoMemory, Limit, Unbuilt}
 
 -- a status tells what follows from what it tells
 pub explains_more : (s : Status) (P Q : Verdict → Type 0) → ((v : Verdict) → P v → Q v) → Explains s P → Explains s Q
@@ -32,6 +35,7 @@ explains_more (BadWorkload f) P Q more e = more (FaultyWorkload f) e
 explains_more ReadFault P Q more e = tt
 explains_more WriteFault P Q more e = e
 explains_more NoMemory P Q more e = tt
+explains_more Limit P Q more e = more PastLimit e
 explains_more Unbuilt P Q more e = more NotBuilt e
 
 -- what is read of the catalogue's file is what the command comes to
@@ -44,6 +48,7 @@ blamed_at reading G (FaultyCatalogue f) e = subst (λ r. Over r G (FaultyCatalog
 blamed_at reading G NoForm e = absurd e
 blamed_at reading G (Prints text) e = absurd e
 blamed_at reading G (FaultyWorkload f) e = absurd e
+blamed_at reading G PastLimit e = absurd e
 blamed_at reading G NotBuilt e = absurd e
 
 pub blamed : (fs : List ShelfFile) (name : List ℕ) (G : Catalogue → Verdict → Type 0) (v : Verdict) → BlamesCatalogue (catalogue_named fs name) v → OverCatalogue fs name G v
@@ -61,32 +66,31 @@ blamed_plain fs work cat (FaultyWorkload f) e = ap (λ r. option_map (plain_verd
 blamed_plain fs work cat NoForm e = absurd e
 blamed_plain fs work cat (Prints text) e = absurd e
 blamed_plain fs work cat (FaultyCatalogue f) e = absurd e
+blamed_plain fs work cat PastLimit e = absurd e
 blamed_plain fs work cat NotBuilt e = absurd e
 
-pub blamed_run : (fs : List ShelfFile) (work : List ℕ) (cat : Catalogue) (v : Verdict) → IsFirstCatalogue cat → BlamesWorkload (workload_named fs cat work) v → ComesToRun fs work cat v
-blamed_run fs work cat (FaultyWorkload f) first e = inl (first, ap (λ r. option_map (run_verdict cat) r) e)
-blamed_run fs work cat NoForm first e = absurd e
-blamed_run fs work cat (Prints text) first e = absurd e
-blamed_run fs work cat (FaultyCatalogue f) first e = absurd e
-blamed_run fs work cat NotBuilt first e = absurd e
+abbrev OverWork : Option (Result Workload WorkFault) → (Workload → Verdict → Type 0) → Verdict → Type 0
+OverWork reading GoesOn verdict = MatchOption reading ⊥ (λ r. MatchResult r (λ work. GoesOn work verdict) (λ fault. verdict ≡ FaultyWorkload fault))
+
+blamed_work : (reading : Option (Result Workload WorkFault)) (G : Workload → Verdict → Type 0) (v : Verdict) → BlamesWorkload reading v → OverWork reading G v
+blamed_work reading G (FaultyWorkload f) e = subst (λ r. OverWork r G (FaultyWorkload f)) (sym e) refl
+blamed_work reading G NoForm e = absurd e
+blamed_work reading G (Prints text) e = absurd e
+blamed_work reading G (FaultyCatalogue f) e = absurd e
+blamed_work reading G PastLimit e = absurd e
+blamed_work reading G NotBuilt e = absurd e
+
+pub blamed_run : (fs : List ShelfFile) (work : List ℕ) (cat : Catalogue) (v : Verdict) → BlamesWorkload (workload_named fs cat work) v → ComesToRun fs work cat v
+blamed_run fs work cat v e = blamed_work (workload_named fs cat work) (ComesToReport cat) v e
 
 -- over a workload that was read
 pub replies_plain : (fs : List ShelfFile) (work : List ℕ) (cat : Catalogue) (w : Workload) (text : List ℕ) → workload_named fs cat work ≡ Some (Ok w) → text ≡ serial_text cat w
     → ComesToPlain fs work cat (Prints text)
 replies_plain fs work cat w text e is = ap (λ r. option_map (plain_verdict cat) r) e ∙ ap (λ t. Some (Prints t)) (sym is)
 
-run_takes : (cat : Catalogue) (w : Workload) (b : Bool) → is_first_workload w ≡ b → run_verdict cat (Ok w) ≡ cond b (Prints (serial_text cat w)) NotBuilt
-run_takes cat w b e = rw e refl
-
-pub replies_run : (fs : List ShelfFile) (work : List ℕ) (cat : Catalogue) (w : Workload) (text : List ℕ) → IsFirstCatalogue cat → workload_named fs cat work ≡ Some (Ok w) → is_first_workload w ≡ true
-    → text ≡ serial_text cat w → ComesToRun fs work cat (Prints text)
-replies_run fs work cat w text first e takes is =
-    inl (first, ap (λ r. option_map (run_verdict cat) r) e ∙ ap (λ v. Some v) (run_takes cat w true takes) ∙ ap (λ t. Some (Prints t)) (sym is))
-
-pub other_workload : (fs : List ShelfFile) (work : List ℕ) (cat : Catalogue) (w : Workload) → IsFirstCatalogue cat → workload_named fs cat work ≡ Some (Ok w) → is_first_workload w ≡ false
-    → ComesToRun fs work cat NotBuilt
-other_workload fs work cat w first e takes =
-    inl (first, ap (λ r. option_map (run_verdict cat) r) e ∙ ap (λ v. Some v) (run_takes cat w false takes))
+pub reports_run : (fs : List ShelfFile) (work : List ℕ) (cat : Catalogue) (w : Workload) (v : Verdict) → workload_named fs cat work ≡ Some (Ok w) → ComesToReport cat w v
+    → ComesToRun fs work cat v
+reports_run fs work cat w v e p = subst (λ r. OverWork r (ComesToReport cat) v) (sym e) p
 
 -- a faulty script is what `control` comes to, and so is what a sound one gives
 pub blamed_control : (fs : List ShelfFile) (name : List ℕ) (v : Verdict) → BlamesScript (script_named fs name) v → ComesToControl fs name v
@@ -94,6 +98,7 @@ blamed_control fs name (FaultyWorkload f) e = ap (λ r. option_map control_verdi
 blamed_control fs name NoForm e = absurd e
 blamed_control fs name (Prints text) e = absurd e
 blamed_control fs name (FaultyCatalogue f) e = absurd e
+blamed_control fs name PastLimit e = absurd e
 blamed_control fs name NotBuilt e = absurd e
 
 pub reports_control : (fs : List ShelfFile) (name : List ℕ) (script : ControlScript) (text : List ℕ) → script_named fs name ≡ Some (Ok script) → text ≡ report script
@@ -119,20 +124,43 @@ one_listing listing cat (Prints a) (Prints b) p q = refl
 one_listing listing cat (Prints a) NoForm p q = absurd q
 one_listing listing cat (Prints a) (FaultyCatalogue f) p q = absurd q
 one_listing listing cat (Prints a) (FaultyWorkload f) p q = absurd q
+one_listing listing cat (Prints a) PastLimit p q = absurd q
 one_listing listing cat (Prints a) NotBuilt p q = absurd q
 one_listing listing cat NoForm w p q = absurd p
 one_listing listing cat (FaultyCatalogue f) w p q = absurd p
 one_listing listing cat (FaultyWorkload f) w p q = absurd p
+one_listing listing cat PastLimit w p q = absurd p
 one_listing listing cat NotBuilt w p q = absurd p
 
 one_plain : (fs : List ShelfFile) (work : List ℕ) (cat : Catalogue) (v w : Verdict) → ComesToPlain fs work cat v → ComesToPlain fs work cat w → status_of v ≡ status_of w
 one_plain fs work cat v w p q = ap status_of (one_verdict (option_map (plain_verdict cat) (workload_named fs cat work)) v w p q)
 
+one_report : (cat : Catalogue) (work : Workload) (v w : Verdict) → ComesToReport cat work v → ComesToReport cat work w → status_of v ≡ status_of w
+one_report cat work (Prints a) (Prints b) p q = refl
+one_report cat work (Prints a) PastLimit p q = absurd (report_or_limit cat work a p q)
+one_report cat work (Prints a) NoForm p q = absurd q
+one_report cat work (Prints a) (FaultyCatalogue f) p q = absurd q
+one_report cat work (Prints a) (FaultyWorkload f) p q = absurd q
+one_report cat work (Prints a) NotBuilt p q = absurd q
+one_report cat work PastLimit (Prints b) p q = absurd (report_or_limit cat work b q p)
+one_report cat work PastLimit PastLimit p q = refl
+one_report cat work PastLimit NoForm p q = absurd q
+one_report cat work PastLimit (FaultyCatalogue f) p q = absurd q
+one_report cat work PastLimit (FaultyWorkload f) p q = absurd q
+one_report cat work PastLimit NotBuilt p q = absurd q
+one_report cat work NoForm w p q = absurd p
+one_report cat work (FaultyCatalogue f) w p q = absurd p
+one_report cat work (FaultyWorkload f) w p q = absurd p
+one_report cat work NotBuilt w p q = absurd p
+
+one_over_work : (reading : Option (Result Workload WorkFault)) (G : Workload → Verdict → Type 0) (v w : Verdict) → ((work : Workload) → G work v → G work w → status_of v ≡ status_of w)
+    → OverWork reading G v → OverWork reading G w → status_of v ≡ status_of w
+one_over_work None G v w one p q = absurd p
+one_over_work (Some (Ok work)) G v w one p q = one work p q
+one_over_work (Some (Err f)) G v w one p q = ap status_of (p ∙ sym q)
+
 one_run : (fs : List ShelfFile) (work : List ℕ) (cat : Catalogue) (v w : Verdict) → ComesToRun fs work cat v → ComesToRun fs work cat w → status_of v ≡ status_of w
-one_run fs work cat v w (inl p) (inl q) = ap status_of (one_verdict (option_map (run_verdict cat) (workload_named fs cat work)) v w p.1 q.1)
-one_run fs work cat v w (inl p) (inr q) = absurd (q.0 p.0)
-one_run fs work cat v w (inr p) (inl q) = absurd (p.0 q.0)
-one_run fs work cat v w (inr p) (inr q) = ap status_of (p.1 ∙ sym q.1)
+one_run fs work cat v w p q = one_over_work (workload_named fs cat work) (ComesToReport cat) v w (λ k a b. one_report cat k v w a b) p q
 
 one_over : (reading : Option (Result Catalogue CatFault)) (G : Catalogue → Verdict → Type 0) (v w : Verdict) → ((cat : Catalogue) → G cat v → G cat w → status_of v ≡ status_of w)
     → Over reading G v → Over reading G w → status_of v ≡ status_of w
@@ -166,6 +194,7 @@ by_status (BadWorkload f) P v one e read = inl (one (FaultyWorkload f) e)
 by_status ReadFault P v one e read = absurd (read refl)
 by_status WriteFault P v one e read = absurd e
 by_status NoMemory P v one e read = inr refl
+by_status Limit P v one e read = inl (one PastLimit e)
 by_status Unbuilt P v one e read = inl (one NotBuilt e)
 
 pub told_status : (s : Status) (fs : List ShelfFile) (ws : List (List ℕ)) (v : Verdict) → ComesTo fs ws v → Explains s (ComesTo fs ws) → (s ≡ ReadFault → ⊥) → (s ≡ status_of v) ⊎ (s ≡ NoMemory)
@@ -176,6 +205,7 @@ done_refuses NoForm r e = absurd cc
 done_refuses (Prints text) r e = r
 done_refuses (FaultyCatalogue f) r e = absurd cc
 done_refuses (FaultyWorkload f) r e = absurd cc
+done_refuses PastLimit r e = absurd cc
 done_refuses NotBuilt r e = absurd cc
 
 -- a call that prints isn't refused
@@ -195,9 +225,13 @@ work_there : {A : Type 0} (give : List ℕ → A) (verdict : A → Verdict) (v :
 work_there give verdict v None e = absurd cc
 work_there give verdict v (Some bytes) e = refl
 
-run_there : (fs : List ShelfFile) (work : List ℕ) (cat : Catalogue) (v : Verdict) → IsFirstCatalogue cat → ComesToRun fs work cat v → IsSome (find_file fs work)
-run_there fs work cat v first (inl p) = work_there (workload cat) (run_verdict cat) v (find_file fs work) p.1
-run_there fs work cat v first (inr p) = absurd (p.0 first)
+run_there : (fs : List ShelfFile) (work : List ℕ) (cat : Catalogue) (v : Verdict) → ComesToRun fs work cat v → IsSome (find_file fs work)
+run_there fs work cat v p = file_there (workload cat) (λ r. MatchResult r (λ w. ComesToReport cat w v) (λ fault. v ≡ FaultyWorkload fault)) (find_file fs work) p
+
+-- a status in place of a report
+pub explains_end : (end : WorldEnd) (P : Verdict → Type 0) → (end ≡ ends.Limit → P PastLimit) → Explains (status_of_end end) P
+explains_end ends.Limit P limit = limit refl
+explains_end ends.NoMemory P limit = tt
 
 form_there : (fs : List ShelfFile) (form : Form) (v : Verdict) → FormComesTo fs form v → FilesOf fs form
 form_there fs (Check cat) v p = over_there fs cat (ComesToListing listings.Counts) v p
@@ -205,7 +239,7 @@ form_there fs (Graph cat) v p = over_there fs cat (ComesToListing listings.Graph
 form_there fs (Table cat) v p = over_there fs cat (ComesToListing listings.Table) v p
 form_there fs (Run cat work) v p = (
   over_there fs cat (ComesToRun fs work) v p,
-  λ says e first. run_there fs work says v first (over_at (catalogue_named fs cat) (ComesToRun fs work) says v p e),
+  λ says e first. run_there fs work says v (over_at (catalogue_named fs cat) (ComesToRun fs work) says v p e),
 )
 form_there fs (Plain cat work) v p = (
   over_there fs cat (ComesToPlain fs work) v p,

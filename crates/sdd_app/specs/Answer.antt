@@ -1,5 +1,5 @@
 -- What a call comes to, by its words and the files that they name.
-use Rattle.std.specs.Prelude.{◌≡◌, ◌⊎◌, ℕ, List, Option, Some, Result, Ok, Err, IsSome, MatchOption, MatchResult, if◌then◌else◌}
+use Rattle.std.specs.Prelude.{◌≡◌, ℕ, List, Option, Some, Result, Ok, Err, IsSome, MatchOption, MatchResult}
 use Rattle.std.specs.Option.{option_map}
 use Rattle.sdd_base.specs.declared.files.ShelfFile.{ShelfFile}
 use Rattle.sdd_base.specs.Outside.{find_file}
@@ -12,13 +12,13 @@ use Rattle.sdd_control.specs.declared.script.ControlScript.{ControlScript}
 use Rattle.sdd_script.specs.Walk.{workload}
 use Rattle.sdd_script.specs.declared.fault.WorkFault.{WorkFault}
 use Rattle.sdd_script.specs.declared.workload.Workload.{Workload}
+use Rattle.sdd_run.specs.Runs.{EndsAtLimit, IsReportOn}
 use Rattle.sdd_app.specs.declared.listing.Listing.{Listing}
 use Rattle.sdd_app.specs.declared.listing.Listing.TheVariants as listings
 use Rattle.sdd_app.specs.Command.{Form, Check, Graph, Table, Run, Plain, Control, Make, form_in}
 use Rattle.sdd_app.specs.Listing.{Tells}
-use Rattle.sdd_app.specs.Reach.{IsFirstCatalogue, is_first_workload}
 use Rattle.sdd_app.specs.Serially.{serial_text}
-use Rattle.sdd_app.specs.Verdict.{Verdict, NoForm, Prints, FaultyCatalogue, FaultyWorkload, NotBuilt}
+use Rattle.sdd_app.specs.Verdict.{Verdict, NoForm, Prints, FaultyCatalogue, FaultyWorkload, PastLimit, NotBuilt}
 
 -- the catalogue that the file of this name gives, or its first fault
 abbrev pub catalogue_named : List ShelfFile → List ℕ → Option (Result Catalogue CatFault)
@@ -48,16 +48,21 @@ plain_verdict cat (Err fault) = FaultyWorkload fault
 abbrev pub ComesToPlain : List ShelfFile → List ℕ → Catalogue → Verdict → Type 0
 ComesToPlain files work cat verdict = option_map (plain_verdict cat) (workload_named files cat work) ≡ Some verdict
 
--- what `run` makes of it, over a catalogue that it takes
-abbrev pub run_verdict : Catalogue → Result Workload WorkFault → Verdict
-run_verdict cat (Ok work) = if is_first_workload work then Prints (serial_text cat work) else NotBuilt
-run_verdict cat (Err fault) = FaultyWorkload fault
+-- A command that goes on with a workload: its fault is told; over a sound one the command goes on. Where the file is
+-- absent, it comes to nothing.
+abbrev pub OverWorkload : List ShelfFile → Catalogue → List ℕ → (Workload → Verdict → Type 0) → Verdict → Type 0
+OverWorkload files cat name GoesOn verdict =
+    MatchOption (workload_named files cat name) ⊥
+    (λ reading. MatchResult reading (λ work. GoesOn work verdict) (λ fault. verdict ≡ FaultyWorkload fault))
 
--- `run` reads no workload over a catalogue that it doesn't take
+-- the run of a workload is reported, or the limit ends it
+abbrev pub ComesToReport : Catalogue → Workload → Verdict → Type 0
+ComesToReport cat work (Prints text) = IsReportOn cat work text
+ComesToReport cat work PastLimit = EndsAtLimit cat work
+ComesToReport cat work verdict = ⊥
+
 abbrev pub ComesToRun : List ShelfFile → List ℕ → Catalogue → Verdict → Type 0
-ComesToRun files work cat verdict =
-    (IsFirstCatalogue cat × (option_map (run_verdict cat) (workload_named files cat work) ≡ Some verdict))
-    ⊎ ((IsFirstCatalogue cat → ⊥) × (verdict ≡ NotBuilt))
+ComesToRun files work cat verdict = OverWorkload files cat work (ComesToReport cat) verdict
 
 -- the script of transaction control that the file of this name gives, or its first fault
 abbrev pub script_named : List ShelfFile → List ℕ → Option (Result ControlScript WorkFault)
@@ -97,7 +102,7 @@ abbrev pub FilesOf : List ShelfFile → Form → Type 0
 FilesOf files (Check cat) = IsSome (find_file files cat)
 FilesOf files (Graph cat) = IsSome (find_file files cat)
 FilesOf files (Table cat) = IsSome (find_file files cat)
-FilesOf files (Run cat work) = HasFiles files cat work IsFirstCatalogue
+FilesOf files (Run cat work) = HasFiles files cat work (λ _. Unit {0})
 FilesOf files (Plain cat work) = HasFiles files cat work (λ _. Unit {0})
 FilesOf files (Control file) = IsSome (find_file files file)
 FilesOf files (Make seed count) = Unit {0}

@@ -14,7 +14,7 @@ use Rattle.sdd_script.specs.declared.fault.WorkFault.{WorkFault}
 use Rattle.sdd_script.specs.declared.fault.WorkRule.{WorkRule}
 use Rattle.sdd_script.specs.declared.fault.WorkRule.TheVariants as work_rules
 use Rattle.sdd_app.specs.declared.status.Status.{Status}
-use Rattle.sdd_app.specs.declared.status.Status.TheVariants.{Done, Usage, BadCatalogue, BadWorkload, ReadFault, WriteFault, NoMemory, Unbuilt}
+use Rattle.sdd_app.specs.declared.status.Status.TheVariants.{Done, Usage, BadCatalogue, BadWorkload, ReadFault, WriteFault, NoMemory, Limit, Unbuilt}
 
 -- the place of a fault: the top, or a part with its number
 abbrev pub part_word : Part → List ℕ
@@ -104,14 +104,16 @@ line_of (BadWorkload fault) = work_fault_line fault
 line_of ReadFault = codes "read fault\n"
 line_of WriteFault = codes "write fault\n"
 line_of NoMemory = codes "no memory\n"
+line_of Limit = codes "limit\n"
 line_of Unbuilt = codes "unbuilt\n"
 
--- the number that the process ends with; 5 is kept for the limits of a run
+-- the number that the process ends with
 abbrev pub number_of_status : Status → ℕ
 number_of_status Done = 0
 number_of_status Usage = 2
 number_of_status (BadCatalogue fault) = 3
 number_of_status (BadWorkload fault) = 4
+number_of_status Limit = 5
 number_of_status ReadFault = 6
 number_of_status WriteFault = 7
 number_of_status NoMemory = 8

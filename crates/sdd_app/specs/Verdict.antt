@@ -8,6 +8,8 @@ use Rattle.sdd_catalog.specs.declared.fault.CatFault.{CatFault}
 use Rattle.sdd_script.specs.declared.fault.WorkError.{WorkError}
 use Rattle.sdd_script.specs.declared.fault.WorkError.TheVariants as workloads
 use Rattle.sdd_script.specs.declared.fault.WorkFault.{WorkFault}
+use Rattle.sdd_world.specs.declared.ends.WorldEnd.{WorldEnd}
+use Rattle.sdd_world.specs.declared.ends.WorldEnd.TheVariants as ends
 use Rattle.sdd_app.specs.declared.status.Status.{Status}
 use Rattle.sdd_app.specs.declared.status.Status.TheVariants as statuses
 
@@ -19,7 +21,9 @@ pub data Verdict : Type 0 where
   -- the catalogue, or the workload, has this first fault
   FaultyCatalogue : CatFault → Verdict
   FaultyWorkload : WorkFault → Verdict
-  -- the command isn't built, or doesn't take what its files give
+  -- the limit of events, or of messages on a link, ends the run
+  PastLimit : Verdict
+  -- the command isn't built
   NotBuilt : Verdict
 
 -- the status by which a call tells what it comes to
@@ -28,6 +32,7 @@ status_of NoForm = statuses.Usage
 status_of (Prints text) = statuses.Done
 status_of (FaultyCatalogue fault) = statuses.BadCatalogue fault
 status_of (FaultyWorkload fault) = statuses.BadWorkload fault
+status_of PastLimit = statuses.Limit
 status_of NotBuilt = statuses.Unbuilt
 
 -- nothing is printed
@@ -41,6 +46,7 @@ abbrev pub Explains : Status → (Verdict → Type 0) → Type 0
 Explains statuses.Usage P = P NoForm
 Explains (statuses.BadCatalogue fault) P = P (FaultyCatalogue fault)
 Explains (statuses.BadWorkload fault) P = P (FaultyWorkload fault)
+Explains statuses.Limit P = P PastLimit
 Explains statuses.Unbuilt P = P NotBuilt
 Explains statuses.ReadFault P = Unit {0}
 Explains statuses.NoMemory P = Unit {0}
@@ -70,3 +76,7 @@ status_of_catalogue catalogues.NoMemory = statuses.NoMemory
 abbrev pub status_of_workload : WorkError → Status
 status_of_workload (workloads.Fault fault) = statuses.BadWorkload fault
 status_of_workload workloads.NoMemory = statuses.NoMemory
+
+abbrev pub status_of_end : WorldEnd → Status
+status_of_end ends.Limit = statuses.Limit
+status_of_end ends.NoMemory = statuses.NoMemory

@@ -15,7 +15,6 @@ mod command;
 mod control_file;
 mod edges;
 mod listing;
-mod reach;
 mod report;
 mod run;
 mod serially;

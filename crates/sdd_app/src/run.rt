@@ -8,7 +8,7 @@ ghost use Rattle.sdd_app.specs.Command.{IsNoForm, form_of};
 ghost use Rattle.sdd_app.specs.Endings.{AtTheirEnds, FormEnds, IsWithoutFiles, OpensNoFile};
 ghost use Rattle.sdd_app.specs.Status.{line_of};
 ghost use Rattle.sdd_app.specs.Taking.{TakesOrFaults};
-ghost use Rattle.sdd_app.specs.Verdict.{Verdict, Prints, FaultyCatalogue, FaultyWorkload, NotBuilt, Answers, ComesOfFiles, IsRefusal, status_of};
+ghost use Rattle.sdd_app.specs.Verdict.{Verdict, Prints, FaultyCatalogue, FaultyWorkload, PastLimit, NotBuilt, Answers, ComesOfFiles, IsRefusal, status_of};
 
 use crate::command::{Command, parse_words};
 use crate::control_file::control_answer;
@@ -83,6 +83,8 @@ pub fn run_sdd1<S: Shelf, O: Sink, E: Sink>(
         → ComesTo fs (map string_bytes words.now) (FaultyCatalogue f) }
     ensures bad_workload { (f : WorkFault) → result ≡ Status.BadWorkload f → (fs : List ShelfFile) → S.files shelf.old ≡ Some fs
         → ComesTo fs (map string_bytes words.now) (FaultyWorkload f) }
+    ensures limit { result ≡ Status.Limit → (fs : List ShelfFile) → S.files shelf.old ≡ Some fs
+        → ComesTo fs (map string_bytes words.now) PastLimit }
     ensures unbuilt { result ≡ Status.Unbuilt → (fs : List ShelfFile) → S.files shelf.old ≡ Some fs
         → ComesTo fs (map string_bytes words.now) NotBuilt }
     ensures read { result ≡ Status.ReadFault → Rose (S.faults shelf.old) (S.faults shelf.new) }

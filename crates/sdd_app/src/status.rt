@@ -4,6 +4,7 @@ ghost use Rattle.sdd_app.specs.Status.{number_of_status};
 use sdd_base::{NoMemory, ReadError};
 use sdd_catalog::{CatError, CatFault};
 use sdd_script::{WorkError, WorkFault};
+use sdd_world::WorldEnd;
 
 /// How a call ended.
 #[derive(Clone, Copy, Debug, PartialEq, Eq)]
@@ -21,6 +22,8 @@ pub enum Status {
     /// A call of the sink for the text failed, which took a front of it.
     WriteFault,
     NoMemory,
+    /// There is no number left for the next event of the run, or for the next message of a link.
+    Limit,
     /// The words, or the files that they name, have a form that isn't built yet.
     Unbuilt,
 }
@@ -38,6 +41,7 @@ impl Status {
             Status::ReadFault => 6,
             Status::WriteFault => 7,
             Status::NoMemory => 8,
+            Status::Limit => 5,
             Status::Unbuilt => 9,
         }
     }
@@ -92,6 +96,20 @@ impl From<WorkError> for Status {
         match error {
             WorkError::Fault(fault) => Status::BadWorkload(fault),
             WorkError::NoMemory => Status::NoMemory,
+        }
+    }
+}
+
+impl From<WorldEnd> for Status {
+    ghost use Rattle.std.specs.Prelude.{◌≡◌};
+    ghost use Rattle.sdd_app.specs.Verdict.{status_of_end};
+
+    ghost from_gives = { λ end status. status ≡ status_of_end end };
+
+    fn from(end: WorldEnd) -> Self {
+        match end {
+            WorldEnd::Limit => Status::Limit,
+            WorldEnd::NoMemory => Status::NoMemory,
         }
     }
 }

@@ -182,6 +182,7 @@ pub fn tell<E: Sink>(err: &mut E, status: Status)
         Status::ReadFault => tell_pieces(err, &[b"read fault\n"]),
         Status::WriteFault => tell_pieces(err, &[b"write fault\n"]),
         Status::NoMemory => tell_pieces(err, &[b"no memory\n"]),
+        Status::Limit => tell_pieces(err, &[b"limit\n"]),
         Status::Unbuilt => tell_pieces(err, &[b"unbuilt\n"]),
     }
 }

@@ -2,18 +2,30 @@
 ghost use Rattle.std.specs.Prelude.{◌≡◌, ◌+◌, ◌∷◌, [], ℕ, List, OnOk, IfErr, Some};
 ghost use Rattle.sdd_base.specs.declared.files.ShelfFile.{ShelfFile};
 ghost use Rattle.sdd_base.specs.Outside.{Rose};
-ghost use Rattle.sdd_app.specs.Answer.{ComesToPlain, ComesToRun, HasFiles, OverCatalogue};
+ghost use Rattle.sdd_script.specs.Valid.{IsValid};
+ghost use Rattle.sdd_app.specs.Answer.{ComesToPlain, ComesToReport, ComesToRun, HasFiles, OverCatalogue};
 ghost use Rattle.sdd_app.specs.Endings.{FilesRead, ToItsEnd};
-ghost use Rattle.sdd_app.specs.Reach.{IsFirstCatalogue};
 ghost use Rattle.sdd_app.specs.Verdict.{Answers, ComesOfFiles};
 
 use crate::catalogue_file::accepted_catalogue;
-use crate::reach::{is_first_catalogue, is_first_workload};
 use crate::serially::serial_text;
 use crate::status::Status;
 use crate::workload_file::accepted_workload;
 use sdd_base::Shelf;
+use sdd_catalog::Catalogue;
+use sdd_run::run_report;
+use sdd_script::Workload;
 use std::alloc::Global;
+
+/// The report on the run of the workload.
+fn reported(alloc: Global, catalogue: &Catalogue, work: Workload) -> Result<Vec<u8>, Status>
+    requires { IsValid catalogue.now work }
+    ensures told { Answers result (λ v. v.items) (ComesToReport catalogue.now work) }
+    ensures errors { IfErr result ComesOfFiles }
+    ensures read { IfErr result (λ s. s ≡ Status.ReadFault → ⊥) }
+{
+    Ok(run_report(alloc, catalogue, work)?)
+}
 
 /// What `plain` answers over the catalogue in the first file and the workload in the second.
 pub fn plain_answer<S: Shelf>(
@@ -36,7 +48,7 @@ pub fn plain_answer<S: Shelf>(
     Ok(serial_text(alloc, &catalogue, &work)?)
 }
 
-/// What `run` answers, which doesn't take all of them.
+/// What `run` answers over the catalogue in the first file and the workload in the second.
 pub fn run_answer<S: Shelf>(
     alloc: Global,
     shelf: &mut S,
@@ -49,16 +61,11 @@ pub fn run_answer<S: Shelf>(
     ensures fault { IfErr result (λ s. s ≡ Status.ReadFault → Rose (S.faults shelf.old) (S.faults shelf.new)) }
     ensures errors { IfErr result ComesOfFiles }
     ensures surely { (free : ℕ) (fs : List ShelfFile) → S.sure shelf.old (free + 1 + 1) → S.files shelf.old ≡ Some fs
-        → HasFiles fs catalogue.now workload.now IsFirstCatalogue
+        → HasFiles fs catalogue.now workload.now (λ _. Unit {0})
         → IfErr result (λ s. s ≡ Status.ReadFault → ⊥) × (S.faults shelf.new ≡ S.faults shelf.old) }
 {
     let catalogue = accepted_catalogue(alloc, shelf, catalogue)?;
-    if !is_first_catalogue(&catalogue) {
-        return Err(Status::Unbuilt);
-    }
     let work = accepted_workload(alloc, shelf, workload, &catalogue)?;
-    if !is_first_workload(&work) {
-        return Err(Status::Unbuilt);
-    }
-    Ok(serial_text(alloc, &catalogue, &work)?)
+    let text = reported(alloc, &catalogue, work)?;
+    Ok(text)
 }

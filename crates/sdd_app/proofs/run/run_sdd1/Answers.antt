@@ -10,6 +10,9 @@ returns-clause-bad_catalogue g c = λ f is fs told. subst (λ s. Explains s (Com
 pub returns-clause-bad_workload : goal.returns-clause-bad_workload
 returns-clause-bad_workload g c = λ f is fs told. subst (λ s. Explains s (ComesTo fs (map string_bytes c.args.words.now))) is (c.in-Err.ensures.told fs told)
 
+pub returns-clause-limit : goal.returns-clause-limit
+returns-clause-limit g c = λ is fs told. subst (λ s. Explains s (ComesTo fs (map string_bytes c.args.words.now))) is (c.in-Err.ensures.told fs told)
+
 pub returns-clause-unbuilt : goal.returns-clause-unbuilt
 returns-clause-unbuilt g c = λ is fs told. subst (λ s. Explains s (ComesTo fs (map string_bytes c.args.words.now))) is (c.in-Err.ensures.told fs told)
 

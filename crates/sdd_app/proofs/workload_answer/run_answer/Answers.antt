@@ -1,8 +1,8 @@
-use Rattle.std.proofs.Common.{◌+◌, ◌∙◌, inr, refl, sym}
+use Rattle.std.proofs.Common.{◌+◌, ◌∙◌}
 use Rattle.std.proofs.lemmas.Result.{err_from_is_err_and}
-use Rattle.sdd_app.specs.Answer.{BlamesCatalogue, BlamesWorkload, ComesToRun, OverCatalogue, catalogue_named, workload_named}
-use Rattle.sdd_app.specs.Verdict.{Prints, NotBuilt}
-use Rattle.sdd_app.proofs.Verdicts.{explains_more, blamed, goes_on, blamed_run, replies_run, other_workload, two_ended}
+use Rattle.sdd_app.specs.Answer.{BlamesCatalogue, BlamesWorkload, ComesToReport, ComesToRun, OverCatalogue, catalogue_named, workload_named}
+use Rattle.sdd_app.specs.Verdict.{Prints}
+use Rattle.sdd_app.proofs.Verdicts.{explains_more, blamed, goes_on, blamed_run, reports_run, two_ended}
 use Rattle.sdd_app.proofs.workload_answer.run_answer.Goals as goal
 
 pub returns-in_err-catalogue-clause-told : goal.returns-in_err-catalogue-clause-told
@@ -12,11 +12,6 @@ returns-in_err-catalogue-clause-told g c = λ fs told.
     let over = ComesToRun fs c.args.workload.now in
     rw (p.1, p.2) (explains_more c.in_err-catalogue.field-0.0 (BlamesCatalogue (catalogue_named fs name)) (OverCatalogue fs name over) (λ v is. blamed fs name over v is) (c.in_err-catalogue.ensures.told fs told))
 
-pub returns-then-not-is_first_catalogue-clause-told : goal.returns-then-not-is_first_catalogue-clause-told
-returns-then-not-is_first_catalogue-clause-told g c = λ fs told.
-    goes_on fs c.args.catalogue.now (ComesToRun fs c.args.workload.now) c.in_ok-catalogue.catalogue NotBuilt (c.in_ok-catalogue.ensures.told fs told)
-    (inr (λ first. let no = c.if-not-is_first_catalogue.ensures.1 first in absurd cc, refl))
-
 pub returns-in_err-work-clause-told : goal.returns-in_err-work-clause-told
 returns-in_err-work-clause-told g c = λ fs told.
     let p = err_from_is_err_and c.from_residual-in_err-work.result c.from_residual-in_err-work.ensures.1 in
@@ -25,22 +20,25 @@ returns-in_err-work-clause-told g c = λ fs told.
     let cat = c.in_ok-catalogue.catalogue in
     let over = ComesToRun fs work in
     rw (p.1, p.2) (explains_more c.in_err-work.field-0.0 (BlamesWorkload (workload_named fs cat work)) (OverCatalogue fs name over)
-    (λ v is. goes_on fs name over cat v (c.in_ok-catalogue.ensures.told fs told) (blamed_run fs work cat v (c.if-not-is_first_catalogue.ensures.0 refl) is)) (c.in_err-work.ensures.told fs (c.in_ok-catalogue.ensures.files ∙ told)))
+    (λ v is. goes_on fs name over cat v (c.in_ok-catalogue.ensures.told fs told) (blamed_run fs work cat v is)) (c.in_err-work.ensures.told fs (c.in_ok-catalogue.ensures.files ∙ told)))
 
-pub returns-then-not-is_first_workload-clause-told : goal.returns-then-not-is_first_workload-clause-told
-returns-then-not-is_first_workload-clause-told g c = λ fs told.
+pub returns-in_err-text-clause-told : goal.returns-in_err-text-clause-told
+returns-in_err-text-clause-told g c = λ fs told.
+    let p = err_from_is_err_and c.from_residual-in_err-text.result c.from_residual-in_err-text.ensures.1 in
+    let name = c.args.catalogue.now in
     let work = c.args.workload.now in
     let cat = c.in_ok-catalogue.catalogue in
-    goes_on fs c.args.catalogue.now (ComesToRun fs work) cat NotBuilt (c.in_ok-catalogue.ensures.told fs told)
-    (other_workload fs work cat c.in_ok-work.work (c.if-not-is_first_catalogue.ensures.0 refl) (c.in_ok-work.ensures.told fs (c.in_ok-catalogue.ensures.files ∙ told)) (sym c.if-not-is_first_workload.ensures))
+    let over = ComesToRun fs work in
+    rw (p.1, p.2) (explains_more c.in_err-text.field-0.0 (ComesToReport cat c.in_ok-work.work) (OverCatalogue fs name over)
+    (λ v is. goes_on fs name over cat v (c.in_ok-catalogue.ensures.told fs told)
+    (reports_run fs work cat c.in_ok-work.work v (c.in_ok-work.ensures.told fs (c.in_ok-catalogue.ensures.files ∙ told)) is)) c.in_err-text.ensures.told)
 
 pub returns-clause-told : goal.returns-clause-told
 returns-clause-told g c = λ fs told.
     let work = c.args.workload.now in
     let cat = c.in_ok-catalogue.catalogue in
-    let text = c.in_ok-serial_text.field-0.items in
-    goes_on fs c.args.catalogue.now (ComesToRun fs work) cat (Prints text) (c.in_ok-catalogue.ensures.told fs told)
-    (replies_run fs work cat c.in_ok-work.work text (c.if-not-is_first_catalogue.ensures.0 refl) (c.in_ok-work.ensures.told fs (c.in_ok-catalogue.ensures.files ∙ told)) (sym c.if-not-is_first_workload.ensures) c.in_ok-serial_text.ensures)
+    goes_on fs c.args.catalogue.now (ComesToRun fs work) cat (Prints c.in_ok-text.text.items) (c.in_ok-catalogue.ensures.told fs told)
+    (reports_run fs work cat c.in_ok-work.work (Prints c.in_ok-text.text.items) (c.in_ok-work.ensures.told fs (c.in_ok-catalogue.ensures.files ∙ told)) c.in_ok-text.ensures.told)
 
 pub returns-clause-ended : goal.returns-clause-ended
 returns-clause-ended g c =
@@ -54,33 +52,22 @@ returns-in_err-catalogue-clause-surely g c = λ free fs sure told has.
     let k = c.in_err-catalogue.ensures.surely (free + 1) fs sure told has.0 in
     rw (p.1, p.2) (k.0, k.2)
 
-pub returns-then-not-is_first_catalogue-clause-surely : goal.returns-then-not-is_first_catalogue-clause-surely
-returns-then-not-is_first_catalogue-clause-surely g c = λ free fs sure told has.
-    let first = c.in_ok-catalogue.ensures.surely (free + 1) fs sure told has.0 in
-    (λ is. absurd cc, first.2)
-
 pub returns-in_err-work-clause-surely : goal.returns-in_err-work-clause-surely
 returns-in_err-work-clause-surely g c = λ free fs sure told has.
     let p = err_from_is_err_and c.from_residual-in_err-work.result c.from_residual-in_err-work.ensures.1 in
     let first = c.in_ok-catalogue.ensures.surely (free + 1) fs sure told has.0 in
-    let k = c.in_err-work.ensures.surely free fs first.1 (c.in_ok-catalogue.ensures.files ∙ told) (has.1 c.in_ok-catalogue.catalogue (c.in_ok-catalogue.ensures.told fs told) (c.if-not-is_first_catalogue.ensures.0 refl)) in
+    let k = c.in_err-work.ensures.surely free fs first.1 (c.in_ok-catalogue.ensures.files ∙ told) (has.1 c.in_ok-catalogue.catalogue (c.in_ok-catalogue.ensures.told fs told) tt) in
     rw (p.1, p.2) (k.0, k.2 ∙ first.2)
 
-pub returns-then-not-is_first_workload-clause-surely : goal.returns-then-not-is_first_workload-clause-surely
-returns-then-not-is_first_workload-clause-surely g c = λ free fs sure told has.
+pub returns-in_err-text-clause-surely : goal.returns-in_err-text-clause-surely
+returns-in_err-text-clause-surely g c = λ free fs sure told has.
+    let p = err_from_is_err_and c.from_residual-in_err-text.result c.from_residual-in_err-text.ensures.1 in
     let first = c.in_ok-catalogue.ensures.surely (free + 1) fs sure told has.0 in
-    let k = c.in_ok-work.ensures.surely free fs first.1 (c.in_ok-catalogue.ensures.files ∙ told) (has.1 c.in_ok-catalogue.catalogue (c.in_ok-catalogue.ensures.told fs told) (c.if-not-is_first_catalogue.ensures.0 refl)) in
-    (λ is. absurd cc, k.2 ∙ first.2)
-
-pub returns-in_err-serial_text-clause-surely : goal.returns-in_err-serial_text-clause-surely
-returns-in_err-serial_text-clause-surely g c = λ free fs sure told has.
-    let p = err_from_is_err_and c.from_residual-in_err-serial_text.result c.from_residual-in_err-serial_text.ensures.1 in
-    let first = c.in_ok-catalogue.ensures.surely (free + 1) fs sure told has.0 in
-    let k = c.in_ok-work.ensures.surely free fs first.1 (c.in_ok-catalogue.ensures.files ∙ told) (has.1 c.in_ok-catalogue.catalogue (c.in_ok-catalogue.ensures.told fs told) (c.if-not-is_first_catalogue.ensures.0 refl)) in
-    rw (p.1, p.2) (λ is. absurd cc, k.2 ∙ first.2)
+    let k = c.in_ok-work.ensures.surely free fs first.1 (c.in_ok-catalogue.ensures.files ∙ told) (has.1 c.in_ok-catalogue.catalogue (c.in_ok-catalogue.ensures.told fs told) tt) in
+    rw (p.1, p.2) (c.in_err-text.ensures.read, k.2 ∙ first.2)
 
 pub returns-clause-surely : goal.returns-clause-surely
 returns-clause-surely g c = λ free fs sure told has.
     let first = c.in_ok-catalogue.ensures.surely (free + 1) fs sure told has.0 in
-    let k = c.in_ok-work.ensures.surely free fs first.1 (c.in_ok-catalogue.ensures.files ∙ told) (has.1 c.in_ok-catalogue.catalogue (c.in_ok-catalogue.ensures.told fs told) (c.if-not-is_first_catalogue.ensures.0 refl)) in
+    let k = c.in_ok-work.ensures.surely free fs first.1 (c.in_ok-catalogue.ensures.files ∙ told) (has.1 c.in_ok-catalogue.catalogue (c.in_ok-catalogue.ensures.told fs told) tt) in
     (tt, k.2 ∙ first.2)

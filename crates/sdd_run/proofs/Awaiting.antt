@@ -1,0 +1,10 @@
+-- What a data module tells of a READ that waits is what the run's log says.
+use Rattle.std.proofs.Common.{ℕ, ◌≡◌, ◌∙◌, ap, Option, Some, None}
+use Rattle.sdd_base.specs.declared.condition.Cond.{Cond}
+use Rattle.sdd_dm.specs.Waiting.{IsAwaited, waiting_at}
+use Rattle.sdd_module.specs.SiteLog.{Setting, Log}
+use Rattle.sdd_run.specs.Pending.{unmet}
+
+pub awaited_is : (s : Setting) (log : Log) (c t : ℕ) (o : Option Cond) → IsAwaited s log c t o → unmet s log (waiting_at c t log) ≡ o
+awaited_is s log c t None h = ap (unmet s log) h
+awaited_is s log c t (Some d) h = ap (unmet s log) h.1 ∙ h.2

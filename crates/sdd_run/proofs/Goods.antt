@@ -1,0 +1,108 @@
+-- What is given by a valid workload is what the modules' facts ask for, with each part of its schedule.
+use Rattle.std.proofs.Common.{ℕ, zero, suc, pos, negsuc, ◌-◌, ◌^◌, ◌≤◌, ◌≡◌, ◌⊎◌, inl, inr, true, List, [], ◌∷◌, ◌++◌, length, map, refl, sym, subst, arith, le-leb}
+use Rattle.std.specs.Prelude.{nat_le, slice_index_or}
+use Rattle.std.specs.List.{All}
+use Rattle.std.proofs.lemmas.List.Elements.{All-cons, All-head, All-nil, All-tail, All-weaker}
+use Rattle.sdd_base.specs.declared.event.Event.{Event}
+use Rattle.sdd_base.specs.declared.event.Event.TheVariants.{Submit, Deliver, Lose, Repeat, Resend, Tick, Settle, Redeclare, Down, Up}
+use Rattle.sdd_base.specs.declared.limits.TheConstants.{MAX_TICKS}
+use Rattle.sdd_base.specs.declared.number.RelNo.{RelNo}
+use Rattle.sdd_base.specs.declared.value.Value.{Value}
+use Rattle.sdd_base.specs.declared.value.Value.TheVariants as values
+use Rattle.sdd_catalog.specs.Catalogue.{Catalogue, numbers_to}
+use Rattle.sdd_catalog.specs.Rules.{IsSound}
+use Rattle.sdd_lang.specs.Database.{Row, database_of}
+use Rattle.sdd_lang.specs.Fits.{FitsStart}
+use Rattle.sdd_lang.specs.Sound.{IsDatabase, IsHeld, PutsHeld}
+use Rattle.sdd_lang.specs.declared.statement.Stmt.{Stmt}
+use Rattle.sdd_lang.specs.declared.statement.Stmt.TheVariants.{Put, Query, Update, Delete}
+use Rattle.sdd_lang.proofs.Pushdown.{and_both}
+use Rattle.sdd_lang.proofs.StaysDatabase.{no_database, rows_make_database}
+use Rattle.sdd_net.proofs.Lists.{All-at}
+use Rattle.sdd_protocol.specs.declared.entry.Entry.{Entry}
+use Rattle.sdd_script.specs.Valid.{HoldsValues, IsValid, IsValidEvent, IsValidRow, IsValidTxn, IsValue}
+use Rattle.sdd_script.specs.declared.workload.Workload.{Workload}
+use Rattle.sdd_facts.specs.Bounds.{AllFewTicks}
+use Rattle.sdd_facts.specs.Heights.{ticks_of}
+use Rattle.sdd_facts.specs.Fitting.{FitsGiven}
+use Rattle.sdd_facts.specs.Real.{IsGood}
+use Rattle.sdd_facts.specs.Reading.{HasOneForce}
+use Rattle.sdd_run.specs.Runs.{begun}
+use Rattle.sdd_run.proofs.Allowed.{IsGoodAlong}
+use Rattle.sdd_run.proofs.Submissions.{once, once_before}
+
+-- values are numbers of 64 bits, or texts
+pub held : (v : Value) → IsValue v → IsHeld v
+held (values.Int (pos n)) h = le-leb n (2 ^ 63 - 1) (omega (arith, h))
+held (values.Int (negsuc n)) h = and_both (nat_le n (2 ^ 63 - 1)) true (le-leb n (2 ^ 63 - 1) (omega (arith, h))) refl
+held (values.Text t) h = tt
+
+pub puts_held : (s : Stmt) → HoldsValues s → PutsHeld s
+puts_held (Put rel row) h = All-weaker IsValue IsHeld held row h
+puts_held (Query out rels conds) h = tt
+puts_held (Update rel sets conds) h = tt
+puts_held (Delete rel conds) h = tt
+
+-- the rows with which a data module begins: those of the workload, or none where there is no such module
+one_of_all : (r : List (RelNo × Row)) (ds : List ℕ) (k : ℕ) → (slice_index_or (map (λ d. r) ds) k [] ≡ r) ⊎ (slice_index_or (map (λ d. r) ds) k [] ≡ [])
+one_of_all r [] k = inr refl
+one_of_all r (d ∷ ds) zero = inl refl
+one_of_all r (d ∷ ds) (suc k) = one_of_all r ds k
+
+rows_database : (cat : Catalogue) (rows : List (RelNo × Row)) → All (IsValidRow cat) rows → IsDatabase cat (database_of cat rows)
+rows_database cat rows valid =
+    rows_make_database cat rows (All-weaker (IsValidRow cat) (FitsStart cat) (λ r v. v.fits) rows valid)
+    (All-weaker (IsValidRow cat) (λ (r : RelNo × Row). All IsHeld r.1) (λ r v. All-weaker IsValue IsHeld held r.1 v.values) rows valid)
+
+one_tick : (cat : Catalogue) (count : ℕ) (e : Event) → IsValidEvent cat count e → ticks_of e ≤ MAX_TICKS
+one_tick cat count (Submit n) h = omega arith
+one_tick cat count (Deliver a b k) h = omega arith
+one_tick cat count (Lose a b k) h = omega arith
+one_tick cat count (Repeat a b k) h = omega arith
+one_tick cat count (Resend a b) h = omega arith
+one_tick cat count (Tick t k) h = h.1.1
+one_tick cat count Settle h = omega arith
+one_tick cat count Redeclare h = omega arith
+one_tick cat count (Down d) h = omega arith
+one_tick cat count (Up d) h = omega arith
+
+few_ticks : (cat : Catalogue) (count : ℕ) (es : List Event) → All (IsValidEvent cat count) es → AllFewTicks es
+few_ticks cat count [] h = tt
+few_ticks cat count (e ∷ es) h = (one_tick cat count e (All-head (IsValidEvent cat count) e es h), few_ticks cat count es (All-tail (IsValidEvent cat count) e es h))
+
+fronts : (cat : Catalogue) (count : ℕ) (xs ys : List Event) → All (IsValidEvent cat count) (xs ++ ys) → All (IsValidEvent cat count) xs
+fronts cat count [] ys h = All-nil (IsValidEvent cat count)
+fronts cat count (x ∷ xs) ys h =
+    All-cons (IsValidEvent cat count) x xs (All-head (IsValidEvent cat count) x (xs ++ ys) h) (fronts cat count xs ys (All-tail (IsValidEvent cat count) x (xs ++ ys) h))
+
+front : (cat : Catalogue) (count : ℕ) (xs ys all : List Event) → xs ++ ys ≡ all → All (IsValidEvent cat count) all → All (IsValidEvent cat count) xs
+front cat count xs ys all e h = fronts cat count xs ys (subst (All (IsValidEvent cat count)) (sym e) h)
+
+module _ (cat : Catalogue) (table : List Entry) (work : Workload) (sound : IsSound cat) (valid : IsValid cat work) where
+  one_force : (es : List Event) → HasOneForce (record (begun cat table work) { events = es })
+  one_force es zero = refl
+  one_force es (suc k) = refl
+
+  fits_given : (es : List Event) → FitsGiven (record (begun cat table work) { events = es })
+  fits_given es = record {
+    sound = sound;
+    txns = λ n txn e.
+        (let v = All-at (IsValidTxn cat) work.txns (n - 1) txn e valid.txns in
+        record { fits = v.fits; held = All-weaker HoldsValues PutsHeld puts_held txn.statements v.values });
+    rows = λ d.
+        elim (one_of_all work.rows (numbers_to cat.dms) (d.0 - 1)) [
+          | inl e ↦ subst (λ r. IsDatabase cat (database_of cat r)) (sym e) (rows_database cat work.rows valid.rows)
+          | inr e ↦ subst (λ r. IsDatabase cat (database_of cat r)) (sym e) (no_database cat)
+        ];
+  }
+
+  pub good_along : IsGoodAlong IsGood (begun cat table work) work.events
+  good_along xs ys e = record {
+    given = fits_given xs;
+    one_force = one_force xs;
+    few_ticks = few_ticks cat (length work.txns) xs (front cat (length work.txns) xs ys work.events e valid.events);
+    once = once_before xs ys work.events e (once work.events valid.submitted);
+  }
+
+  pub good_begun : IsGood (begun cat table work)
+  good_begun = good_along [] work.events refl

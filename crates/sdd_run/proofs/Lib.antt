@@ -1,0 +1,15 @@
+pub mod Allowed
+pub mod Awaiting
+pub mod Beginning
+pub mod Homes
+pub mod Lists
+pub mod Outsiders
+pub mod Results
+pub mod Submissions
+pub mod SameReport
+pub mod Starting
+pub mod Apart
+pub mod Goods
+pub mod Marked
+pub mod Ordered
+pub mod Reported

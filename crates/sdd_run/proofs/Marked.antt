@@ -1,0 +1,53 @@
+-- The marks of a lawful log submit transactions that the schedule names.
+use Rattle.std.proofs.Common.{ℕ, ◌+◌, ◌≤◌, ◌≡◌, ◌==◌, Bool, true, false, List, [], ◌∷◌, ◌++◌, length, refl, sym, ap, subst, arith}
+use Rattle.std.specs.List.{All}
+use Rattle.std.proofs.lemmas.Bool.{eq-eqb, eqb-true}
+use Rattle.std.proofs.lemmas.List.Elements.{All-head, All-tail}
+use Rattle.sdd_base.specs.declared.event.Event.{Event}
+use Rattle.sdd_base.specs.declared.event.Event.TheVariants.{Submit, Deliver, Lose, Repeat, Resend, Tick, Settle, Redeclare, Down, Up}
+use Rattle.sdd_base.specs.declared.number.TxnNo.{TxnNo}
+use Rattle.sdd_catalog.specs.Catalogue.{Catalogue}
+use Rattle.sdd_lang.specs.Fits.{IsFrom1To}
+use Rattle.sdd_script.specs.Valid.{IsValidEvent}
+use Rattle.sdd_log.specs.Entries.{Given, Log, Mark, Round, Redeclares, Hand, Submitted, Notes, Does}
+use Rattle.sdd_log.specs.Lawful.{IsLawful}
+use Rattle.sdd_log.specs.Permitted.{one_if, submits_in}
+use Rattle.sdd_log.proofs.NewMarks.{left_is, marked}
+use Rattle.sdd_upheld.specs.Given.{AreNumbered}
+
+-- a mark that stands in a log counts
+marked_there : (n : TxnNo) (later before : Log) → 1 ≤ marked n.0 (later ++ Mark (Submit n) ∷ before)
+marked_there n [] before = let e : one_if (n.0 == n.0) ≡ 1 = ap one_if (eq-eqb n.0 n.0 refl) in omega (arith, e)
+marked_there n (Mark e ∷ later) before = let h = marked_there n later before in omega (arith, h)
+marked_there n (Round es ∷ later) before = marked_there n later before
+marked_there n (Redeclares t ∷ later) before = marked_there n later before
+marked_there n (Hand a b k m ∷ later) before = marked_there n later before
+marked_there n (Submitted at k ∷ later) before = marked_there n later before
+marked_there n (Notes ∷ later) before = marked_there n later before
+marked_there n (Does at act ∷ later) before = marked_there n later before
+
+-- a number that valid events submit is one of a transaction
+named_by : (cat : Catalogue) (count n m : ℕ) (rest : ℕ) (b : Bool) → (m == n) ≡ b → IsFrom1To count m → (1 ≤ rest → IsFrom1To count n) → 1 ≤ one_if b + rest → IsFrom1To count n
+named_by cat count n m rest true e v later h = subst (IsFrom1To count) (eqb-true m n e) v
+named_by cat count n m rest false e v later h = later (omega (arith, h))
+
+named : (cat : Catalogue) (count n : ℕ) (es : List Event) → All (IsValidEvent cat count) es → 1 ≤ submits_in n es → IsFrom1To count n
+named cat count n [] v h = absurd (omega (arith, h))
+named cat count n (Submit m ∷ es) v h =
+    named_by cat count n m.0 (submits_in n es) (m.0 == n) refl (All-head (IsValidEvent cat count) (Submit m) es v)
+    (named cat count n es (All-tail (IsValidEvent cat count) (Submit m) es v)) h
+named cat count n (Deliver a b k ∷ es) v h = named cat count n es (All-tail (IsValidEvent cat count) (Deliver a b k) es v) (omega (arith, h))
+named cat count n (Lose a b k ∷ es) v h = named cat count n es (All-tail (IsValidEvent cat count) (Lose a b k) es v) (omega (arith, h))
+named cat count n (Repeat a b k ∷ es) v h = named cat count n es (All-tail (IsValidEvent cat count) (Repeat a b k) es v) (omega (arith, h))
+named cat count n (Resend a b ∷ es) v h = named cat count n es (All-tail (IsValidEvent cat count) (Resend a b) es v) (omega (arith, h))
+named cat count n (Tick t k ∷ es) v h = named cat count n es (All-tail (IsValidEvent cat count) (Tick t k) es v) (omega (arith, h))
+named cat count n (Settle ∷ es) v h = named cat count n es (All-tail (IsValidEvent cat count) Settle es v) (omega (arith, h))
+named cat count n (Redeclare ∷ es) v h = named cat count n es (All-tail (IsValidEvent cat count) Redeclare es v) (omega (arith, h))
+named cat count n (Down d ∷ es) v h = named cat count n es (All-tail (IsValidEvent cat count) (Down d) es v) (omega (arith, h))
+named cat count n (Up d ∷ es) v h = named cat count n es (All-tail (IsValidEvent cat count) (Up d) es v) (omega (arith, h))
+
+pub are_numbered : (g : Given) (log : Log) → All (IsValidEvent g.catalogue (length g.txns)) g.events → IsLawful g log → AreNumbered g log
+are_numbered g log valid lawful = λ later before n is.
+    let there : 1 ≤ marked n.0 log = subst (λ l. 1 ≤ marked n.0 l) (sym is) (marked_there n later before) in
+    let all = (left_is g n.0 log lawful).all in
+    named g.catalogue (length g.txns) n.0 g.events valid (omega (arith, there, all))

@@ -1,0 +1,65 @@
+-- The history of a run has a serial order, along which one plain database gives its replies.
+use Rattle.std.proofs.Common.{◌≡◌, List, refl}
+use Rattle.std.specs.List.{All, AllZip}
+use Rattle.std.proofs.lemmas.List.Elements.{All-weaker}
+use Rattle.sdd_base.specs.Numbers.{dm_no}
+use Rattle.sdd_base.specs.declared.number.RelNo.{RelNo}
+use Rattle.sdd_catalog.specs.Catalogue.{Catalogue}
+use Rattle.sdd_catalog.specs.Rules.{IsSound}
+use Rattle.sdd_protocol.specs.Protocols.{IsTable}
+use Rattle.sdd_protocol.specs.declared.entry.Entry.{Entry}
+use Rattle.sdd_lang.specs.Database.{Row}
+use Rattle.sdd_lang.specs.Fits.{Fits, FitsStart}
+use Rattle.sdd_lang.specs.Sound.{IsHeld, PutsHeld}
+use Rattle.sdd_lang.specs.declared.transaction.Txn.{Txn}
+use Rattle.sdd_script.specs.Valid.{HoldsValues, IsValid, IsValidRow, IsValidTxn, IsValue}
+use Rattle.sdd_script.specs.declared.workload.Workload.{Workload}
+use Rattle.sdd_log.specs.Entries.{Log, history}
+use Rattle.sdd_log.specs.Lawful.{IsTheLog}
+use Rattle.sdd_log.specs.Locals.{redeclares}
+use Rattle.sdd_log.specs.Permitted.{IsPermitted}
+use Rattle.sdd_log.proofs.NewMarks.{lawful_permitted}
+use Rattle.sdd_order.specs.Orders.{IsOrderable, IsSerial}
+use Rattle.sdd_order.specs.SerialOrder.{serial_order}
+use Rattle.sdd_order.proofs.Serial.{serial_order_is}
+use Rattle.sdd_laws.specs.Replay.{IsReplyOf, run}
+use Rattle.sdd_upheld.specs.Given.{AreErasOf, HasSoundData, one_era}
+use Rattle.sdd_upheld.proofs.Named.{numbers_exist, txns_exist}
+use Rattle.sdd_upheld.proofs.OneEra.{keeps_eras, of_one_era}
+use Rattle.sdd_upheld.proofs.Together.{has_order, replies}
+use Rattle.sdd_run.specs.Runs.{given_of}
+use Rattle.sdd_run.proofs.Beginning.{rows_given}
+use Rattle.sdd_run.proofs.Goods.{held, puts_held}
+use Rattle.sdd_run.proofs.Homes.{is_dm}
+use Rattle.sdd_run.proofs.Marked.{are_numbered}
+use Rattle.sdd_run.proofs.Submissions.{once}
+
+module _ (cat : Catalogue) (table : List Entry) (work : Workload) (sound : IsSound cat) (valid : IsValid cat work) (tabled : IsTable cat table)
+    (log : Log) (the_log : IsTheLog (given_of cat table work) log) (none : redeclares log ≡ 0) where
+  permitted : IsPermitted (given_of cat table work) log
+  permitted = lawful_permitted (given_of cat table work) log (once work.events valid.submitted) the_log.lawful
+
+  fine : HasSoundData (given_of cat table work) work.rows
+  fine = record {
+    txns_fit = All-weaker (IsValidTxn cat) (Fits cat) (λ t v. v.fits) work.txns valid.txns;
+    txns_held = All-weaker (IsValidTxn cat) (λ (t : Txn). All PutsHeld t.statements) (λ t v. All-weaker HoldsValues PutsHeld puts_held t.statements v.values) work.txns valid.txns;
+    rows_fit = All-weaker (IsValidRow cat) (FitsStart cat) (λ r v. v.fits) work.rows valid.rows;
+    rows_held = All-weaker (IsValidRow cat) (λ (r : RelNo × Row). All IsHeld r.1) (λ r v. All-weaker IsValue IsHeld held r.1 v.values) work.rows valid.rows;
+    alike = λ d here. rows_given cat table work (dm_no d) (is_dm cat (dm_no d) here.0 here.1);
+  }
+
+  eras_are : AreErasOf (given_of cat table work) log (one_era cat)
+  eras_are = of_one_era (given_of cat table work) log (record { table = tabled }) refl none
+
+  pub orderable : IsOrderable cat (history log)
+  orderable =
+      let numbered = are_numbered (given_of cat table work) log valid.events the_log.lawful in
+      has_order (given_of cat table work) work.rows (one_era cat) log sound fine permitted eras_are (keeps_eras cat (history log))
+      (numbers_exist (given_of cat table work) work.rows (one_era cat) log sound fine permitted eras_are numbered)
+      (txns_exist (given_of cat table work) work.rows (one_era cat) log sound fine permitted eras_are numbered)
+
+  pub serial : IsSerial cat (history log) (serial_order cat (history log))
+  serial = serial_order_is cat (history log) orderable
+
+  pub replayed : AllZip (IsReplyOf (history log)) (serial_order cat (history log)) (run cat work.rows work.txns (serial_order cat (history log))).0
+  replayed = replies (given_of cat table work) work.rows (one_era cat) log (serial_order cat (history log)) sound fine permitted eras_are serial

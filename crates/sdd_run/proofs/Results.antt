@@ -1,0 +1,10 @@
+-- What a call ensures, handed on.
+use Rattle.std.specs.Prelude.{IfOk, OnOk, Result, Ok, Err}
+
+pub after_ok : {T E : Type 0} (r : Result T E) (P Q : Type 0) → OnOk r P → (P → Q) → OnOk r Q
+after_ok (Ok x) P Q h f = f h
+after_ok (Err e) P Q h f = tt
+
+pub of_ok : {T E : Type 0} (r : Result T E) (P Q : T → Type 0) → IfOk r P → ((x : T) → P x → Q x) → IfOk r Q
+of_ok (Ok x) P Q h f = f x h
+of_ok (Err e) P Q h f = tt

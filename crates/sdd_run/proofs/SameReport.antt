@@ -1,0 +1,28 @@
+-- A report that is made of equal parts is the report on the log.
+use Rattle.std.proofs.Common.{◌≡◌, ◌∙◌, List, sym, ap}
+use Rattle.sdd_base.specs.declared.number.TxnNo.{TxnNo}
+use Rattle.sdd_catalog.specs.Catalogue.{Catalogue}
+use Rattle.sdd_history.specs.Records.{History}
+use Rattle.sdd_lang.specs.declared.transaction.Txn.{Txn}
+use Rattle.sdd_log.specs.Entries.{Given, Log, history}
+use Rattle.sdd_order.specs.SerialOrder.{serial_order}
+use Rattle.sdd_report.specs.Report.{Report}
+use Rattle.sdd_report.specs.declared.copies.CopyTable.{CopyTable}
+use Rattle.sdd_report.specs.declared.pending.Pending.{Pending}
+use Rattle.sdd_run.specs.Copies.{tables_of}
+use Rattle.sdd_run.specs.Pending.{Telling, pending_of}
+use Rattle.sdd_run.specs.Reports.{report_by}
+
+abbrev pub made : Catalogue → List Txn → History → List TxnNo → List Pending → List CopyTable → Report
+made cat txns records order left copies = record { catalogue = cat; txns = txns; history = records; order = order; pending = left; copies = copies }
+
+pub report_is : (tell : Telling) (g : Given) (log : Log) (cat : Catalogue) (txns : List Txn) (records : History) (order : List TxnNo) (left : List Pending) (copies : List CopyTable)
+    → g.catalogue ≡ cat → txns ≡ g.txns → records ≡ history log → order ≡ serial_order cat records → left ≡ pending_of tell g log → copies ≡ tables_of g log
+    → made cat txns records order left copies ≡ report_by tell g log
+report_is tell g log cat txns records order left copies c t h o p k =
+    ap (λ x. made x txns records order left copies) (sym c)
+    ∙ ap (λ x. made g.catalogue x records order left copies) t
+    ∙ ap (λ x. made g.catalogue g.txns x order left copies) h
+    ∙ ap (λ x. made g.catalogue g.txns (history log) x left copies) (o ∙ ap (λ x. serial_order x records) (sym c) ∙ ap (serial_order g.catalogue) h)
+    ∙ ap (λ x. made g.catalogue g.txns (history log) (serial_order g.catalogue (history log)) x copies) p
+    ∙ ap (made g.catalogue g.txns (history log) (serial_order g.catalogue (history log)) (pending_of tell g log)) k

@@ -1,0 +1,75 @@
+-- Each transaction is submitted at most once, also by a part of a schedule.
+use Rattle.std.proofs.Common.{ℕ, suc, ◌+◌, ◌<◌, ◌≤◌, ◌≡◌, ◌∙◌, refl, sym, ap, subst, arith, false, ◌==◌, inl, inr, List, [], ◌∷◌, ◌++◌, length, filter_map}
+use Rattle.std.specs.Prelude.{slice_index_or}
+use Rattle.std.proofs.lemmas.Bool.{cases_eq, eq-eqb, ne_eqb}
+use Rattle.sdd_base.specs.declared.event.Event.{Event}
+use Rattle.sdd_base.specs.declared.event.Event.TheVariants.{Submit, Deliver, Lose, Repeat, Resend, Tick, Settle, Redeclare, Down, Up}
+use Rattle.sdd_script.specs.Valid.{AreDistinct, submitted_by}
+use Rattle.sdd_log.specs.Permitted.{AreSubmittedOnce, one_if, submits_in}
+
+abbrev numbers : List Event → List ℕ
+numbers es = filter_map submitted_by es
+
+-- a number that isn't among them
+abbrev IsNew : ℕ → List ℕ → Type 0
+IsNew n xs = (k : ℕ) → k < length xs → (d : ℕ) → n ≡ slice_index_or xs k d → ⊥
+
+not_first : (n m : ℕ) (xs : List ℕ) → IsNew n (m ∷ xs) → (m == n) ≡ false
+not_first n m xs h = ne_eqb m n (λ e. h 0 (omega arith) 0 (sym e))
+
+not_later : (n m : ℕ) (xs : List ℕ) → IsNew n (m ∷ xs) → IsNew n xs
+not_later n m xs h k l d e = h (suc k) (omega arith) d e
+
+never : (n : ℕ) (es : List Event) → IsNew n (numbers es) → submits_in n es ≡ 0
+never n [] h = refl
+never n (Submit m ∷ es) h = ap (λ b. one_if b + submits_in n es) (not_first n m.0 (numbers es) h) ∙ (let e = never n es (not_later n m.0 (numbers es) h) in omega arith)
+never n (Deliver a b k ∷ es) h = let e = never n es h in omega arith
+never n (Lose a b k ∷ es) h = let e = never n es h in omega arith
+never n (Repeat a b k ∷ es) h = let e = never n es h in omega arith
+never n (Resend a b ∷ es) h = let e = never n es h in omega arith
+never n (Tick t k ∷ es) h = let e = never n es h in omega arith
+never n (Settle ∷ es) h = let e = never n es h in omega arith
+never n (Redeclare ∷ es) h = let e = never n es h in omega arith
+never n (Down d ∷ es) h = let e = never n es h in omega arith
+never n (Up d ∷ es) h = let e = never n es h in omega arith
+
+others_distinct : (m : ℕ) (xs : List ℕ) → AreDistinct (m ∷ xs) → AreDistinct xs
+others_distinct m xs h i k less l d e = h (suc i) (suc k) (omega arith) (omega arith) d e
+
+first_new : (m : ℕ) (xs : List ℕ) → AreDistinct (m ∷ xs) → IsNew m xs
+first_new m xs h k l d e = h 0 (suc k) (omega arith) (omega arith) d e
+
+one_more : (n m : ℕ) (es : List Event) → IsNew m (numbers es) → submits_in n es ≤ 1 → one_if (m == n) + submits_in n es ≤ 1
+one_more n m es fresh few =
+    elim (cases_eq m n) [
+      | inl e ↦
+          (let none : submits_in n es ≡ 0 = subst (λ x. submits_in x es ≡ 0) e (never m es fresh) in
+          subst (λ b. one_if b + submits_in n es ≤ 1) (sym (eq-eqb m n e)) (omega (arith, none)))
+      | inr d ↦ subst (λ b. one_if b + submits_in n es ≤ 1) (sym (ne_eqb m n d)) (omega (arith, few))
+    ]
+
+-- distinct numbers are submitted once
+pub once : (es : List Event) → AreDistinct (numbers es) → AreSubmittedOnce es
+once [] h n = omega arith
+once (Submit m ∷ es) h n = one_more n m.0 es (first_new m.0 (numbers es) h) (once es (others_distinct m.0 (numbers es) h) n)
+once (Deliver a b k ∷ es) h n = let e = once es h n in omega arith
+once (Lose a b k ∷ es) h n = let e = once es h n in omega arith
+once (Repeat a b k ∷ es) h n = let e = once es h n in omega arith
+once (Resend a b ∷ es) h n = let e = once es h n in omega arith
+once (Tick t k ∷ es) h n = let e = once es h n in omega arith
+once (Settle ∷ es) h n = let e = once es h n in omega arith
+once (Redeclare ∷ es) h n = let e = once es h n in omega arith
+once (Down d ∷ es) h n = let e = once es h n in omega arith
+once (Up d ∷ es) h n = let e = once es h n in omega arith
+
+-- a part submits no more often than all
+
+part_submits : (n : ℕ) (xs ys : List Event) → submits_in n xs ≤ submits_in n (xs ++ ys)
+part_submits n [] ys = omega arith
+part_submits n (x ∷ xs) ys = let h = part_submits n xs ys in omega arith
+
+pub once_before : (xs ys all : List Event) → xs ++ ys ≡ all → AreSubmittedOnce all → AreSubmittedOnce xs
+once_before xs ys all e h n =
+    let few : submits_in n (xs ++ ys) ≤ 1 = subst (λ es. submits_in n es ≤ 1) (sym e) (h n) in
+    let part = part_submits n xs ys in
+    omega arith

@@ -1,0 +1,23 @@
+use Rattle.std.proofs.Common.{◌≡◌, ◌∙◌, ◌-◌, ap, arith, sym}
+use Rattle.std.specs.List.{flat_map}
+use Rattle.sdd_base.specs.Numbers.{dm_no}
+use Rattle.sdd_catalog.specs.Catalogue.{Catalogue, numbers_to}
+use Rattle.sdd_run.specs.Copies.{tables_at}
+use Rattle.sdd_run.proofs.Homes.{dm_of}
+use Rattle.sdd_run.proofs.Lists.{each_to}
+use Rattle.sdd_run.proofs.copies.tables.Goals as goal
+
+pub add_tables-requires : goal.add_tables-requires
+add_tables-requires g c =
+    let r = c.requires in
+    (r.0, r.1, dm_of r.0 c.args.catalogue.now (dm_no c.loop-number.number) r.2.catalogue_is c.loop-number.auto.number (omega arith), r.2)
+
+pub loop-number-preserved : goal.loop-number-preserved
+loop-number-preserved g c = λ given log s.
+    each_to (tables_at given log) c.loop-number.number c.loop-number.tables.items c.add_tables.new.tables.items
+    c.loop-number.auto.number (c.in_ok-add_tables.ensures given log (dm_of given c.args.catalogue.now (dm_no c.loop-number.number) s.catalogue_is c.loop-number.auto.number (omega arith)) s) (c.loop-number.invariant given log s)
+
+pub returns : goal.returns
+returns g c = λ given log s.
+    let all : c.loop-number.number - 1 ≡ c.args.catalogue.now.dms = omega arith in
+    c.loop-number.invariant given log s ∙ ap (λ n. flat_map (tables_at given log) (numbers_to n)) (all ∙ ap (λ (k : Catalogue). k.dms) (sym s.catalogue_is))

@@ -1,0 +1,26 @@
+-- The copies that the log of a run leaves.
+use Rattle.std.specs.Prelude.{ℕ, List, map, filter, flat_map, length}
+use Rattle.sdd_base.specs.Numbers.{dm_no, frag_no}
+use Rattle.sdd_base.specs.declared.site.Site.TheVariants.{D}
+use Rattle.sdd_catalog.specs.Catalogue.{Catalogue, has_copy, numbers_to}
+use Rattle.sdd_copy.specs.Contents.{Dated, contents}
+use Rattle.sdd_dm.specs.Copies.{dated}
+use Rattle.sdd_log.specs.Entries.{Given, Log}
+use Rattle.sdd_log.specs.Locals.{local_of, setting_of}
+use Rattle.sdd_report.specs.declared.copies.CopyTable.{CopyTable}
+
+-- the rows of fragment f that changes leave at module d
+abbrev pub table_of : ℕ → Dated → ℕ → CopyTable
+table_of d xs f = record { dm = dm_no d; frag = frag_no f; rows = map (λ e. e.1) (contents f xs) }
+
+-- each fragment that has a copy at module d, ascending
+abbrev pub tables_in : Catalogue → ℕ → Dated → List CopyTable
+tables_in cat d xs = map (table_of d xs) (filter (has_copy cat d) (numbers_to (length cat.fragments)))
+
+-- the copies of module d hold what all changes leave that were applied there
+abbrev pub tables_at : Given → Log → ℕ → List CopyTable
+tables_at g log d = tables_in g.catalogue d (dated (setting_of g (D (dm_no d))) (local_of g (D (dm_no d)) log))
+
+-- those of all modules, ascending by module
+abbrev pub tables_of : Given → Log → List CopyTable
+tables_of g log = flat_map (tables_at g log) (numbers_to g.catalogue.dms)

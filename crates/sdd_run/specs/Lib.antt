@@ -1,0 +1,5 @@
+pub mod Copies
+pub mod Pending
+pub mod Reports
+pub mod Runs
+pub mod Worlds

@@ -1,0 +1,84 @@
+-- What is pending when a run ends: the transactions that were submitted and aren't committed, and why.
+use Rattle.std.specs.Prelude.{ℕ, ◌==◌, Bool, false, not, if◌then◌else◌, List, filter_map, find, Option, Some, None}
+use Rattle.std.specs.List.{list_any}
+use Rattle.std.specs.Option.{option_map}
+use Rattle.sdd_base.specs.Numbers.{dm_no}
+use Rattle.sdd_base.specs.declared.condition.Cond.{Cond}
+use Rattle.sdd_base.specs.declared.number.TxnNo.{TxnNo}
+use Rattle.sdd_base.specs.declared.site.Site.{Site}
+use Rattle.sdd_base.specs.declared.site.Site.TheVariants.{D}
+use Rattle.sdd_catalog.specs.Catalogue.{numbers_to}
+use Rattle.sdd_history.specs.Records.{History}
+use Rattle.sdd_history.specs.declared.record.Rec.{Rec}
+use Rattle.sdd_history.specs.declared.record.Rec.TheVariants.{Commit, Submit}
+use Rattle.sdd_module.specs.SiteLog.{Setting}
+use Rattle.sdd_module.specs.SiteLog as site
+use Rattle.sdd_attempt.specs.declared.standing.Standing.{Standing}
+use Rattle.sdd_attempt.specs.declared.standing.Standing.TheVariants as standings
+use Rattle.sdd_dm.specs.Due.{is_met}
+use Rattle.sdd_dm.specs.Views.{view_of}
+use Rattle.sdd_dm.specs.Waiting.{waiting_at}
+use Rattle.sdd_log.specs.Due.{home_of}
+use Rattle.sdd_log.specs.Entries.{Given, Log, history}
+use Rattle.sdd_log.specs.Locals.{local_of, setting_of, txn_at}
+use Rattle.sdd_report.specs.Pending.{under_way}
+use Rattle.sdd_report.specs.declared.pending.Pending.{Pending}
+use Rattle.sdd_report.specs.declared.pending.Waiting.{Waiting}
+use Rattle.sdd_report.specs.declared.pending.Why.{Why}
+use Rattle.sdd_report.specs.declared.pending.Why.TheVariants as reasons
+
+-- what a READ waits for
+
+-- the first of its conditions that isn't met
+abbrev pub unmet : Setting → site.Log → Option (List Cond) → Option Cond
+unmet s log None = None
+unmet s log (Some conds) = find (λ e. not (is_met (view_of s log) e)) conds
+
+abbrev pub wait_for : ℕ → Cond → Waiting
+wait_for d cond = record { dm = dm_no d; class = cond.class; time = cond.time }
+
+-- where the READ of class c with timestamp t waits at module d, for what
+abbrev pub wait_at : Given → Log → ℕ → ℕ → ℕ → Option Waiting
+wait_at g log c t d =
+    option_map (wait_for d)
+    (unmet (setting_of g (D (dm_no d))) (local_of g (D (dm_no d)) log) (waiting_at c t (local_of g (D (dm_no d)) log)))
+
+-- at all modules where it waits, ascending
+abbrev pub waits_of : Given → Log → ℕ → ℕ → List Waiting
+waits_of g log c t = filter_map (wait_at g log c t) (numbers_to g.catalogue.dms)
+
+-- why a transaction is pending that stands so at its site
+abbrev pub why_of : Given → Log → Standing → Option Why
+why_of g log standings.Absent = None
+why_of g log (standings.Queued class place) = Some (reasons.Queued class place)
+why_of g log (standings.Underway class None at) = Some (reasons.Underway at)
+why_of g log (standings.Underway class (Some ts) at) = Some (under_way at (waits_of g log class.0 ts.0))
+
+-- which transactions are pending
+
+abbrev pub commits : ℕ → ℕ × Rec → Bool
+commits n (event, Commit txn attempt reply changes values rows) = txn.0 == n
+commits n _ = false
+
+-- how the modules of sites have transactions, by their logs
+abbrev pub Telling : Type 0
+Telling = Site → Setting → site.Log → ℕ → Standing
+
+-- how transaction n stands at its site
+abbrev pub stands_at : Telling → Given → Log → Site → ℕ → Standing
+stands_at tell g log at n = tell at (setting_of g at) (local_of g at log) n
+
+abbrev pub reason_of : Telling → Given → Log → ℕ → Option Why
+reason_of tell g log n = why_of g log (stands_at tell g log (home_of g.catalogue (txn_at g n)) n)
+
+abbrev pub pending_as : TxnNo → Option Why → Option Pending
+pending_as n why = option_map (λ w. record { txn = n; why = w }) why
+
+-- a transaction that was submitted and that none of these records commits
+abbrev pub pending_by : Telling → Given → Log → History → ℕ × Rec → Option Pending
+pending_by tell g log all (event, Submit n) = if list_any (commits n.0) all then None else pending_as n (reason_of tell g log n.0)
+pending_by tell g log all _ = None
+
+-- in order of submission
+abbrev pub pending_of : Telling → Given → Log → List Pending
+pending_of tell g log = filter_map (pending_by tell g log (history log)) (history log)

@@ -1,0 +1,26 @@
+-- Worlds of a run, and what is known of its records.
+use Rattle.std.specs.Prelude.{ℕ, ◌≡◌, List}
+use Rattle.std.specs.BTreeSet.{BTreeSet, contains}
+use Rattle.std.specs.List.{list_any}
+use Rattle.std.specs.Ordering.{nat_cmp}
+use Rattle.sdd_base.specs.declared.site.Site.{Site}
+use Rattle.sdd_catalog.specs.Catalogue.{Catalogue}
+use Rattle.sdd_history.specs.Records.{History}
+use Rattle.sdd_wire.specs.declared.msg.Msg.{Msg}
+use Rattle.sdd_module.specs.SiteLog.{Setting}
+use Rattle.sdd_module.specs.SiteLog as site
+use Rattle.sdd_net.specs.Links.{Call}
+use Rattle.sdd_log.specs.Entries.{Given, Log}
+use Rattle.sdd_world.specs.Standing.{StandsFor}
+use Rattle.sdd_world.specs.declared.world.World.{World}
+use Rattle.sdd_run.specs.Pending.{commits}
+
+-- a world stands for the log of what is given on this catalogue
+pub record StandsOn {C S N : Type 0} (cat : C → Catalogue) (stands_s : S → Site → Setting → site.Log → Type 0) (stands_n : N → ℕ → ℕ → List (Call Msg) → Type 0) (Good : Given → Type 0)
+    (catalogue : Catalogue) (w : World C S N) (g : Given) (log : Log) : Type 0 where
+  pub catalogue_is : g.catalogue ≡ catalogue
+  pub stands : StandsFor cat stands_s stands_n Good w g log
+
+-- the numbers of the transactions that records commit
+abbrev pub AreCommitted : BTreeSet ℕ → History → Type 0
+AreCommitted numbers records = (n : ℕ) → contains nat_cmp numbers n ≡ list_any (commits n) records

@@ -1,0 +1,15 @@
+//! The run of a workload on a catalogue: its world, carried out, and the report on it.
+//!
+//! The one contract to the layer above: the text is the report on *the* log of the run, or the
+//! limit ends that log (`run_report`).
+#![tactic(auto)]
+
+mod commits;
+mod copies;
+mod run;
+mod running;
+mod telling;
+mod unfinished;
+mod waits;
+
+pub use run::run_report;

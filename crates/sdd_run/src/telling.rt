@@ -1,0 +1,46 @@
+//! The report on a world.
+ghost use Rattle.std.specs.Prelude.{◌≡◌, IfOk};
+ghost use Rattle.sdd_log.specs.Entries.{Given, Log, history};
+ghost use Rattle.sdd_order.specs.Orders.{IsOrderable};
+ghost use Rattle.sdd_report.specs.Report.{report_text as text_of};
+ghost use Rattle.sdd_run.specs.Reports.{report_by};
+ghost use Rattle.sdd_run.specs.Worlds.{StandsOn};
+
+use crate::copies::tables;
+use crate::unfinished::pending;
+use sdd_base::NoMemory;
+use sdd_catalog::Catalogue;
+use sdd_mail::Network;
+use sdd_order::serial_order;
+use sdd_report::{Report, report_text};
+use sdd_sites::Homes;
+use sdd_world::{Lawful, World};
+use std::alloc::Global;
+
+/// The text of the report on a world whose history has a serial order. Costs what the order, the
+/// pending transactions, the copies and the text cost.
+pub fn report_on<C: Homes, S: Lawful, N: Network>(
+    alloc: Global,
+    catalogue: &Catalogue,
+    world: &World<C, S, N>,
+) -> Result<Vec<u8>, NoMemory>
+    requires { (g : Given) × (log : Log) × IsOrderable catalogue.now (history log)
+        × StandsOn C.catalogue S.stands N.stands S.good catalogue.now world.now g log }
+    ensures { IfOk result (λ text. (g : Given) (log : Log)
+        → StandsOn C.catalogue S.stands N.stands S.good catalogue.now world.now g log
+        → text.items ≡ text_of (report_by S.standing g log)) }
+{
+    let history = world.history().as_slice();
+    let order = serial_order(alloc, catalogue, history)?;
+    let left = pending(alloc, catalogue, world)?;
+    let copies = tables(alloc, catalogue, world)?;
+    let report = Report {
+        catalogue,
+        txns: world.txns.as_slice(),
+        history,
+        order: order.as_slice(),
+        pending: left.as_slice(),
+        copies: copies.as_slice(),
+    };
+    report_text(alloc, &report)
+}

@@ -1,0 +1,109 @@
+//! What is pending when a run ends.
+ghost use Rattle.std.specs.Prelude.{◌≡◌, ◌++◌, ◌∷◌, [], filter_map, IfOk, OnOk};
+ghost use Rattle.sdd_history.specs.Records.{History};
+ghost use Rattle.sdd_log.specs.Entries.{Given, Log};
+ghost use Rattle.sdd_run.specs.Pending.{pending_as, pending_by, pending_of, reason_of};
+ghost use Rattle.sdd_run.specs.Worlds.{AreCommitted, StandsOn};
+
+use crate::commits::committed;
+use crate::waits::why;
+use sdd_base::{NoMemory, TxnNo};
+use sdd_catalog::Catalogue;
+use sdd_history::Rec;
+use sdd_mail::Network;
+use sdd_report::Pending;
+use sdd_sites::Homes;
+use sdd_world::{Lawful, World};
+use std::alloc::Global;
+use std::collections::BTreeSet;
+
+/// The transaction, where its site has it, and why it is pending.
+fn pending_one<C: Homes, S: Lawful, N: Network>(
+    alloc: Global,
+    catalogue: &Catalogue,
+    world: &World<C, S, N>,
+    number: TxnNo,
+) -> Result<Option<Pending>, NoMemory>
+    requires { (g : Given) × (log : Log)
+        × StandsOn C.catalogue S.stands N.stands S.good catalogue.now world.now g log }
+    ensures { IfOk result (λ one. (g : Given) (log : Log)
+        → StandsOn C.catalogue S.stands N.stands S.good catalogue.now world.now g log
+        → one ≡ pending_as number (reason_of S.standing g log number.0)) }
+{
+    match why(alloc, catalogue, world, number)? {
+        Some(why) => Ok(Some(Pending { txn: number, why })),
+        None => Ok(None),
+    }
+}
+
+/// The transaction that a record submits, where it is pending.
+fn pending_in<C: Homes, S: Lawful, N: Network>(
+    alloc: Global,
+    catalogue: &Catalogue,
+    world: &World<C, S, N>,
+    entry: &(u32, Rec),
+    committed: &BTreeSet<u32>,
+) -> Result<Option<Pending>, NoMemory>
+    requires { (g : Given) × (log : Log)
+        × StandsOn C.catalogue S.stands N.stands S.good catalogue.now world.now g log }
+    ensures { IfOk result (λ one. (g : Given) (log : Log) (all : History)
+        → StandsOn C.catalogue S.stands N.stands S.good catalogue.now world.now g log
+        → AreCommitted committed.now all
+        → one ≡ pending_by S.standing g log all entry.now) }
+{
+    let Rec::Submit(number) = &entry.1 else {
+        return Ok(None);
+    };
+    if committed.contains(&number.0) {
+        return Ok(None);
+    }
+    pending_one(alloc, catalogue, world, *number)
+}
+
+/// Adds the transaction that a record submits, where it is pending.
+fn add_pending<C: Homes, S: Lawful, N: Network>(
+    alloc: Global,
+    catalogue: &Catalogue,
+    world: &World<C, S, N>,
+    entry: &(u32, Rec),
+    committed: &BTreeSet<u32>,
+    found: &mut Vec<Pending>,
+) -> Result<(), NoMemory>
+    requires { (g : Given) × (log : Log)
+        × StandsOn C.catalogue S.stands N.stands S.good catalogue.now world.now g log }
+    ensures { OnOk result ((g : Given) (log : Log) (all : History)
+        → StandsOn C.catalogue S.stands N.stands S.good catalogue.now world.now g log
+        → AreCommitted committed.now all
+        → found.new.items ≡ found.old.items ++ filter_map (pending_by S.standing g log all) (entry.now ∷ [])) }
+{
+    let Some(one) = pending_in(alloc, catalogue, world, entry, committed)? else {
+        return Ok(());
+    };
+    found.push(one)?;
+    Ok(())
+}
+
+/// The transactions that were submitted and aren't committed, in order of submission, each with what
+/// it waits for.
+///
+/// O(r log t) for r records of t transactions, and of each that is pending a look at its queue and
+/// at each data module.
+pub fn pending<C: Homes, S: Lawful, N: Network>(
+    alloc: Global,
+    catalogue: &Catalogue,
+    world: &World<C, S, N>,
+) -> Result<Vec<Pending>, NoMemory>
+    requires { (g : Given) × (log : Log)
+        × StandsOn C.catalogue S.stands N.stands S.good catalogue.now world.now g log }
+    ensures { IfOk result (λ found. (g : Given) (log : Log)
+        → StandsOn C.catalogue S.stands N.stands S.good catalogue.now world.now g log
+        → found.items ≡ pending_of S.standing g log) }
+{
+    let history = world.history().as_slice();
+    let committed = committed(alloc, history)?;
+    let mut found = Vec::new(alloc);
+    for entry in history {
+        add_pending(alloc, catalogue, world, entry, &committed, &mut found)?;
+    }
+    Ok(found)
+}

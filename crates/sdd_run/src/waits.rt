@@ -1,0 +1,130 @@
+//! Why a transaction is pending.
+ghost use Rattle.std.specs.Prelude.{◌≡◌, ◌≤◌, ◌++◌, ◌∷◌, [], ℕ, filter_map, length, IfOk, OnOk};
+ghost use Rattle.sdd_base.specs.declared.site.Site.TheVariants.{D};
+ghost use Rattle.sdd_log.specs.Due.{home_of as site_of};
+ghost use Rattle.sdd_log.specs.Entries.{Given, Log};
+ghost use Rattle.sdd_log.specs.Locals.{txn_at};
+ghost use Rattle.sdd_step.specs.Resting.{IsSiteOf};
+ghost use Rattle.sdd_world.specs.Standing.{StandsFor};
+ghost use Rattle.sdd_run.specs.Pending.{reason_of, wait_at, waits_of, why_of};
+ghost use Rattle.sdd_run.specs.Worlds.{StandsOn};
+
+use sdd_attempt::Standing;
+use sdd_base::{ClassNo, DmNo, NoMemory, Site, Ts, TxnNo};
+use sdd_catalog::Catalogue;
+use sdd_mail::Network;
+use sdd_report::{Waiting, Why, under_way};
+use sdd_sites::Homes;
+use sdd_world::{Lawful, World};
+use std::alloc::Global;
+
+/// Adds the wait of a READ at a module, where it waits there.
+fn add_wait<C: Homes, S: Lawful, N: Network>(
+    world: &World<C, S, N>,
+    dm: DmNo,
+    class: ClassNo,
+    ts: Ts,
+    found: &mut Vec<Waiting>,
+) -> Result<(), NoMemory>
+    requires { (g : Given) × (log : Log) × IsSiteOf g (D dm)
+        × StandsFor C.catalogue S.stands N.stands S.good world.now g log }
+    ensures { OnOk result ((g : Given) (log : Log) → IsSiteOf g (D dm)
+        → StandsFor C.catalogue S.stands N.stands S.good world.now g log
+        → class.0 ≤ length g.catalogue.classes
+        → found.new.items ≡ found.old.items ++ filter_map (wait_at g log class.0 ts.0) (dm.0 ∷ [])) }
+{
+    let Some(cond) = world.waits(dm, class, ts) else {
+        return Ok(());
+    };
+    found.push(Waiting {
+        dm,
+        class: cond.class,
+        time: cond.time,
+    })?;
+    Ok(())
+}
+
+/// Where a READ waits, ascending by module, and for what.
+fn waits<C: Homes, S: Lawful, N: Network>(
+    alloc: Global,
+    catalogue: &Catalogue,
+    world: &World<C, S, N>,
+    class: ClassNo,
+    ts: Ts,
+) -> Result<Vec<Waiting>, NoMemory>
+    requires { (g : Given) × (log : Log)
+        × StandsOn C.catalogue S.stands N.stands S.good catalogue.now world.now g log }
+    ensures { IfOk result (λ found. (g : Given) (log : Log)
+        → StandsOn C.catalogue S.stands N.stands S.good catalogue.now world.now g log
+        → found.items ≡ waits_of g log class.0 ts.0) }
+{
+    catalogue.known();
+    let mut found = Vec::new(alloc);
+    if class.0 > catalogue.classes() {
+        return Ok(found);
+    }
+    for number in 1..catalogue.dms() + 1 {
+        add_wait(world, DmNo(number as u8), class, ts, &mut found)?;
+    }
+    Ok(found)
+}
+
+/// Why a transaction is pending that stands so.
+fn why_so<C: Homes, S: Lawful, N: Network>(
+    alloc: Global,
+    catalogue: &Catalogue,
+    world: &World<C, S, N>,
+    standing: Standing,
+) -> Result<Option<Why>, NoMemory>
+    requires { (g : Given) × (log : Log)
+        × StandsOn C.catalogue S.stands N.stands S.good catalogue.now world.now g log }
+    ensures { IfOk result (λ why. (g : Given) (log : Log)
+        → StandsOn C.catalogue S.stands N.stands S.good catalogue.now world.now g log
+        → why ≡ why_of g log standing) }
+{
+    match standing {
+        Standing::Absent => Ok(None),
+        Standing::Queued(class, place) => Ok(Some(Why::Queued(class, place))),
+        Standing::Underway(_, None, site) => Ok(Some(Why::Underway(site))),
+        Standing::Underway(class, Some(ts), site) => {
+            let waiting = waits(alloc, catalogue, world, class, ts)?;
+            Ok(Some(under_way(site, waiting.as_slice())))
+        }
+    }
+}
+
+/// The site of a transaction, by its number.
+fn home_of<C: Homes, S: Lawful, N: Network>(
+    world: &World<C, S, N>,
+    number: TxnNo,
+) -> Result<Site, NoMemory>
+    requires { (g : Given) × (log : Log)
+        × StandsFor C.catalogue S.stands N.stands S.good world.now g log }
+    ensures { IfOk result (λ at. (g : Given) (log : Log)
+        → StandsFor C.catalogue S.stands N.stands S.good world.now g log
+        → at ≡ site_of g.catalogue (txn_at g number.0)) }
+{
+    let place = number.0.saturating_sub(1);
+    match world.txns.as_slice().get(place as usize) {
+        Some(txn) => world.catalogue.home(txn),
+        None => Ok(Site::U),
+    }
+}
+
+/// Why a transaction is pending, or None where its site doesn't have it.
+pub fn why<C: Homes, S: Lawful, N: Network>(
+    alloc: Global,
+    catalogue: &Catalogue,
+    world: &World<C, S, N>,
+    number: TxnNo,
+) -> Result<Option<Why>, NoMemory>
+    requires { (g : Given) × (log : Log)
+        × StandsOn C.catalogue S.stands N.stands S.good catalogue.now world.now g log }
+    ensures { IfOk result (λ why. (g : Given) (log : Log)
+        → StandsOn C.catalogue S.stands N.stands S.good catalogue.now world.now g log
+        → why ≡ reason_of S.standing g log number.0) }
+{
+    let at = home_of(world, number)?;
+    let standing = world.standing(at, number);
+    why_so(alloc, catalogue, world, standing)
+}
