@@ -13,11 +13,11 @@ use Rattle.sdd_attempt.specs.Attempts.{Attempt, active, asks_rows, started}
 use Rattle.sdd_attempt.specs.Clocks.{clock, pushed_by, ticked_by}
 use Rattle.sdd_attempt.specs.Queues.{Queued, queue}
 use Rattle.sdd_invariants.specs.Stamps.{AllOf, IsClocked, stamp_or}
-use Rattle.sdd_steps.proofs.Active.{handed_way, sent_way, step_way}
-use Rattle.sdd_steps.proofs.Bools.{if_way}
-use Rattle.sdd_steps.proofs.Lists.{le_join, le_up, lt_above}
-use Rattle.sdd_steps.specs.Orders.{AllLe}
-use Rattle.sdd_steps.specs.Steps.{IsFair, IsSend, IsStep, a_held, a_hold, a_null, a_release, bound, last_stamp, limit, limit_of, next_stamp, of_exchange, promise_of, promises, stamps, start_at, time_if_some}
+use Rattle.sdd_invariants.proofs.Active.{handed_way, sent_way, step_way}
+use Rattle.sdd_invariants.proofs.Bools.{if_way}
+use Rattle.sdd_invariants.proofs.Lists.{le_join, le_up, lt_above}
+use Rattle.sdd_invariants.specs.Orders.{AllLe}
+use Rattle.sdd_invariants.specs.Steps.{IsFair, IsSend, IsStep, a_held, a_hold, a_null, a_release, bound, last_stamp, limit, limit_of, next_stamp, of_exchange, promise_of, promises, stamps, start_at, time_if_some}
 
 -- a clock keeps its number, and no entry lowers it
 

@@ -11,9 +11,9 @@ use Rattle.sdd_attempt.specs.Acts.{commit_act}
 use Rattle.sdd_attempt.specs.Attempts.{asks_rows}
 use Rattle.sdd_invariants.proofs.Times.{piped_commit, piped_start}
 use Rattle.sdd_invariants.specs.OnLinks.{AllHomed, AllPiped, IsHomed}
-use Rattle.sdd_steps.proofs.Active.{step_way}
-use Rattle.sdd_steps.specs.Steps.{IsFair, IsSend, IsStep, a_held, a_hold, a_null, a_release, home, next_stamp, of_exchange, start_at}
-use Rattle.sdd_steps.specs.Traffic.{puts_to, to_site}
+use Rattle.sdd_invariants.proofs.Active.{step_way}
+use Rattle.sdd_invariants.specs.Steps.{IsFair, IsSend, IsStep, a_held, a_hold, a_null, a_release, home, next_stamp, of_exchange, start_at}
+use Rattle.sdd_invariants.specs.Traffic.{puts_to, to_site}
 
 pub homed_join : (cat : Catalogue) (at : Site) (xs ys : List Msg) → AllHomed cat at xs → AllHomed cat at ys
     → AllHomed cat at (xs ++ ys)

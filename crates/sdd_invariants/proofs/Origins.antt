@@ -12,10 +12,10 @@ use Rattle.sdd_module.specs.SiteLog.{Act, Bases, Did, Entry, Handed, Log, Redecl
 use Rattle.sdd_attempt.specs.Acts.{commit_act, write_to}
 use Rattle.sdd_attempt.specs.Attempts.{Attempt}
 use Rattle.sdd_invariants.specs.Puts.{IsPut}
-use Rattle.sdd_steps.proofs.Lists.{in_either, in_left, in_right}
-use Rattle.sdd_steps.proofs.Sites.{some_to}
-use Rattle.sdd_steps.specs.Steps.{changes_at}
-use Rattle.sdd_steps.specs.Traffic.{puts_to, to_site}
+use Rattle.sdd_invariants.proofs.Lists.{in_either, in_left, in_right}
+use Rattle.sdd_invariants.proofs.Sites.{some_to}
+use Rattle.sdd_invariants.specs.Steps.{changes_at}
+use Rattle.sdd_invariants.specs.Traffic.{puts_to, to_site}
 
 more_put : (b : Site) (e : Entry) (log : Log) (m : Msg) → IsPut b log m → IsPut b (e ∷ log) m
 more_put b e log m h =

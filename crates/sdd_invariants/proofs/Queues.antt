@@ -13,9 +13,9 @@ use Rattle.sdd_attempt.specs.Attempts.{Attempt, active, started}
 use Rattle.sdd_attempt.specs.Exchange.{Exchange}
 use Rattle.sdd_attempt.specs.Queues.{Queued, is_for, queue, tried}
 use Rattle.sdd_invariants.specs.InQueues.{AllKnown, IsQueue}
-use Rattle.sdd_steps.proofs.Active.{handed_way, sent_way, step_way}
-use Rattle.sdd_steps.proofs.Bools.{if_way, neither_right, or_right, same_number, same_or_not}
-use Rattle.sdd_steps.specs.Steps.{IsFair, IsNew, IsServed, IsStep, is_committed, next_stamp, queued, start_at, starts_of, submits_of}
+use Rattle.sdd_invariants.proofs.Active.{handed_way, sent_way, step_way}
+use Rattle.sdd_invariants.proofs.Bools.{if_way, neither_right, or_right, same_number, same_or_not}
+use Rattle.sdd_invariants.specs.Steps.{IsFair, IsNew, IsServed, IsStep, is_committed, next_stamp, queued, start_at, starts_of, submits_of}
 
 -- lists
 known_more : (log more : Log) (xs : List (ℕ × Txn))

@@ -18,13 +18,13 @@ use Rattle.sdd_invariants.proofs.Clocks.{bound_rises, clock_number}
 use Rattle.sdd_invariants.proofs.WritesPut.{commit_puts}
 use Rattle.sdd_invariants.specs.OnLinks.{read_at, reads_in}
 use Rattle.sdd_invariants.specs.Puts.{IsPutBy}
-use Rattle.sdd_steps.proofs.Active.{step_way}
-use Rattle.sdd_steps.proofs.Bools.{if_way}
-use Rattle.sdd_steps.proofs.Lists.{ascending_ascends, in_if, in_none, in_one, lt_push, lt_up, range_ascends, strict_push}
-use Rattle.sdd_steps.proofs.Sites.{one_of_each}
-use Rattle.sdd_steps.specs.Orders.{AllLt, IsStrict}
-use Rattle.sdd_steps.specs.Steps.{IsFair, IsSend, IsStep, a_held, a_hold, a_null, a_release, bound, modules_asked, next_stamp, of_exchange, start_at, start_read}
-use Rattle.sdd_steps.specs.Traffic.{puts_to, to_site}
+use Rattle.sdd_invariants.proofs.Active.{step_way}
+use Rattle.sdd_invariants.proofs.Bools.{if_way}
+use Rattle.sdd_invariants.proofs.Lists.{ascending_ascends, in_if, in_none, in_one, lt_push, lt_up, range_ascends, strict_push}
+use Rattle.sdd_invariants.proofs.Sites.{one_of_each}
+use Rattle.sdd_invariants.specs.Orders.{AllLt, IsStrict}
+use Rattle.sdd_invariants.specs.Steps.{IsFair, IsSend, IsStep, a_held, a_hold, a_null, a_release, bound, modules_asked, next_stamp, of_exchange, start_at, start_read}
+use Rattle.sdd_invariants.specs.Traffic.{puts_to, to_site}
 
 pub strict_modules : (cat : Catalogue) (c : ℕ) (fs : List ℕ) → IsStrict (modules_of cat c fs)
 strict_modules cat c fs =

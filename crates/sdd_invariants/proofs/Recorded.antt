@@ -13,10 +13,10 @@ use Rattle.sdd_attempt.specs.Queues.{Queued, is_for, queue}
 use Rattle.sdd_invariants.proofs.Clocks.{clocked, stamp_below_bound}
 use Rattle.sdd_invariants.proofs.Queues.{queue_is, served_head}
 use Rattle.sdd_invariants.specs.OfRecords.{AllCommitted, HasStart, IsFirstLeft, IsRecord, Says, WasSubmitted, is_recorded}
-use Rattle.sdd_steps.proofs.Active.{handed_way, sent_way, step_way}
-use Rattle.sdd_steps.proofs.Bools.{same_number, same_or_not}
-use Rattle.sdd_steps.proofs.Lists.{le_up, lt_above}
-use Rattle.sdd_steps.specs.Steps.{IsFair, IsNew, IsServed, IsStep, bound, home, is_committed, last_stamp, next_stamp, queued, stamps, start_at, starts_of, submits_of}
+use Rattle.sdd_invariants.proofs.Active.{handed_way, sent_way, step_way}
+use Rattle.sdd_invariants.proofs.Bools.{same_number, same_or_not}
+use Rattle.sdd_invariants.proofs.Lists.{le_up, lt_above}
+use Rattle.sdd_invariants.specs.Steps.{IsFair, IsNew, IsServed, IsStep, bound, home, is_committed, last_stamp, next_stamp, queued, stamps, start_at, starts_of, submits_of}
 
 pub recorded : (s : Setting) (log : Log) (act : Act) → IsStep s log act → IsRecord s log act
 recorded s log act i = step_way s log act (IsRecord s log)

@@ -18,9 +18,9 @@ use Rattle.sdd_attempt.specs.Queues.{Queued, is_for, queue, tried}
 use Rattle.sdd_invariants.proofs.Queues.{queue_is}
 use Rattle.sdd_invariants.specs.OfRecords.{is_recorded}
 use Rattle.sdd_invariants.specs.Rejections.{IsRejected}
-use Rattle.sdd_steps.proofs.Active.{sent_way, step_way}
-use Rattle.sdd_steps.proofs.Bools.{same_number, same_or_not}
-use Rattle.sdd_steps.specs.Steps.{IsFair, IsNew, IsServed, IsStep, next_stamp, start_at}
+use Rattle.sdd_invariants.proofs.Active.{sent_way, step_way}
+use Rattle.sdd_invariants.proofs.Bools.{same_number, same_or_not}
+use Rattle.sdd_invariants.specs.Steps.{IsFair, IsNew, IsServed, IsStep, next_stamp, start_at}
 
 abbrev pub AllZero : List Queued → Type 0
 AllZero [] = Unit {0}

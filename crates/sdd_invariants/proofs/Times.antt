@@ -18,12 +18,12 @@ use Rattle.sdd_attempt.specs.Attempts.{Attempt, active, asks_rows}
 use Rattle.sdd_attempt.specs.Queues.{Queued, queue}
 use Rattle.sdd_invariants.proofs.Clocks.{bound_rises, limit_le}
 use Rattle.sdd_invariants.specs.OnLinks.{AllPiped, IsTimed}
-use Rattle.sdd_steps.proofs.Active.{handed_way, sent_way, step_way}
-use Rattle.sdd_steps.proofs.Bools.{same_number, same_or_not}
-use Rattle.sdd_steps.proofs.Lists.{le_up}
-use Rattle.sdd_steps.specs.Orders.{AllGe, AllLe, IsRising}
-use Rattle.sdd_steps.specs.Steps.{IsFair, IsSend, IsStep, a_held, a_hold, a_null, a_release, bound, changes_at, limit, limit_of, next_stamp, of_exchange, start_at}
-use Rattle.sdd_steps.specs.Traffic.{puts_to, times_in, to_site}
+use Rattle.sdd_invariants.proofs.Active.{handed_way, sent_way, step_way}
+use Rattle.sdd_invariants.proofs.Bools.{same_number, same_or_not}
+use Rattle.sdd_invariants.proofs.Lists.{le_up}
+use Rattle.sdd_invariants.specs.Orders.{AllGe, AllLe, IsRising}
+use Rattle.sdd_invariants.specs.Steps.{IsFair, IsSend, IsStep, a_held, a_hold, a_null, a_release, bound, changes_at, limit, limit_of, next_stamp, of_exchange, start_at}
+use Rattle.sdd_invariants.specs.Traffic.{puts_to, times_in, to_site}
 
 abbrev pub AllAre : ℕ → List ℕ → Type 0
 AllAre t [] = Unit {0}

@@ -18,13 +18,13 @@ use Rattle.sdd_attempt.specs.Queues.{Queued, queue}
 use Rattle.sdd_invariants.proofs.Clocks.{bound_rises, drawn, stamp_below_bound}
 use Rattle.sdd_invariants.specs.OnLinks.{write_at, writes_in}
 use Rattle.sdd_invariants.specs.Stamps.{stamp_or}
-use Rattle.sdd_steps.proofs.Active.{handed_way, sent_way, step_way}
-use Rattle.sdd_steps.proofs.Bools.{same_number, same_or_not}
-use Rattle.sdd_steps.proofs.Lists.{lt_push, lt_up, strict_push}
-use Rattle.sdd_steps.proofs.Sites.{GoesTo, one_to}
-use Rattle.sdd_steps.specs.Orders.{AllLt, IsStrict}
-use Rattle.sdd_steps.specs.Steps.{IsFair, IsSend, IsStep, a_held, a_hold, a_null, a_release, bound, changes_at, last_stamp, of_exchange, start_at}
-use Rattle.sdd_steps.specs.Traffic.{puts_to, to_site}
+use Rattle.sdd_invariants.proofs.Active.{handed_way, sent_way, step_way}
+use Rattle.sdd_invariants.proofs.Bools.{same_number, same_or_not}
+use Rattle.sdd_invariants.proofs.Lists.{lt_push, lt_up, strict_push}
+use Rattle.sdd_invariants.proofs.Sites.{GoesTo, one_to}
+use Rattle.sdd_invariants.specs.Orders.{AllLt, IsStrict}
+use Rattle.sdd_invariants.specs.Steps.{IsFair, IsSend, IsStep, a_held, a_hold, a_null, a_release, bound, changes_at, last_stamp, of_exchange, start_at}
+use Rattle.sdd_invariants.specs.Traffic.{puts_to, to_site}
 
 -- no WRITE with this time or a later one was put yet
 abbrev pub open_of : ℕ → Option Attempt → ℕ

@@ -6,7 +6,7 @@ use Rattle.sdd_lang.specs.declared.transaction.Txn.{Txn}
 use Rattle.sdd_module.specs.SiteLog.{Log, Setting, submits}
 use Rattle.sdd_attempt.specs.Attempts.{active}
 use Rattle.sdd_attempt.specs.Queues.{queue}
-use Rattle.sdd_steps.specs.Steps.{IsServed, is_committed, queued, starts_of, submits_of}
+use Rattle.sdd_invariants.specs.Steps.{IsServed, is_committed, queued, starts_of, submits_of}
 
 abbrev pub AllKnown : Log → List (ℕ × Txn) → Type 0
 AllKnown log [] = Unit {0}

@@ -14,8 +14,8 @@ use Rattle.sdd_module.specs.SiteLog.{Act, Bases, Did, Entry, Log, Records, Sends
 use Rattle.sdd_attempt.specs.Acts.{commit_act, p2_of}
 use Rattle.sdd_attempt.specs.Attempts.{Attempt, active}
 use Rattle.sdd_attempt.specs.Queues.{Queued, is_for, queue}
-use Rattle.sdd_steps.specs.Orders.{AllLe, AllLt}
-use Rattle.sdd_steps.specs.Steps.{bound, home, is_committed, next_stamp, promises, stamps, start_at, starts_of, submits_of}
+use Rattle.sdd_invariants.specs.Orders.{AllLe, AllLt}
+use Rattle.sdd_invariants.specs.Steps.{bound, home, is_committed, next_stamp, promises, stamps, start_at, starts_of, submits_of}
 
 -- a Start's act and a Commit's act
 pub record IsStartOf (s : Setting) (log : Log) (act : Act) (c : ℕ) : Type 0 where

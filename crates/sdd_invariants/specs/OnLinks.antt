@@ -6,9 +6,9 @@ use Rattle.sdd_wire.specs.Piped.{piped}
 use Rattle.sdd_wire.specs.declared.msg.Msg.{Msg}
 use Rattle.sdd_wire.specs.declared.msg.Msg.TheVariants.{Read, Write}
 use Rattle.sdd_module.specs.SiteLog.{Log, Setting}
-use Rattle.sdd_steps.specs.Orders.{AllLe, IsRising}
-use Rattle.sdd_steps.specs.Steps.{home, limit}
-use Rattle.sdd_steps.specs.Traffic.{puts_to, times_in}
+use Rattle.sdd_invariants.specs.Orders.{AllLe, IsRising}
+use Rattle.sdd_invariants.specs.Steps.{home, limit}
+use Rattle.sdd_invariants.specs.Traffic.{puts_to, times_in}
 
 pub record IsTimed (s : Setting) (c : ℕ) (b : Site) (log : Log) : Type 0 where
   pub rises : IsRising (times_in c (puts_to b log))

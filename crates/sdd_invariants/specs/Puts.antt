@@ -8,8 +8,8 @@ use Rattle.sdd_module.specs.SiteLog.{Act, Bases, Did, Log, Setting, sends_of_act
 use Rattle.sdd_attempt.specs.Acts.{commit_act}
 use Rattle.sdd_attempt.specs.Attempts.{Attempt, active}
 use Rattle.sdd_attempt.specs.Queues.{Queued, queue}
-use Rattle.sdd_steps.specs.Steps.{home, limit, next_stamp, start_at}
-use Rattle.sdd_steps.specs.Traffic.{to_site}
+use Rattle.sdd_invariants.specs.Steps.{home, limit, next_stamp, start_at}
+use Rattle.sdd_invariants.specs.Traffic.{to_site}
 
 -- a READ is put by the Start of its class, which was idle, for the head of its queue
 pub record IsRead (s : Setting) (log : Log) (act : Act) (c t n k : ℕ) : Type 0 where

@@ -2,8 +2,8 @@
 use Rattle.std.specs.Prelude.{ℕ, ◌*◌, ◌+◌, ◌∷◌, ◌≡◌, List, None, Option, Some, [], suc}
 use Rattle.sdd_module.specs.SiteLog.{Log, Setting}
 use Rattle.sdd_attempt.specs.Attempts.{Attempt}
-use Rattle.sdd_steps.specs.Orders.{AllLe, IsFalling}
-use Rattle.sdd_steps.specs.Steps.{bound, last_stamp, promises, stamps}
+use Rattle.sdd_invariants.specs.Orders.{AllLe, IsFalling}
+use Rattle.sdd_invariants.specs.Steps.{bound, last_stamp, promises, stamps}
 
 -- no timestamp is above the clock's, and no promise above its bound
 pub record IsClocked (s : Setting) (log : Log) : Type 0 where

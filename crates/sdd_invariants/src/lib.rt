@@ -1,12 +1,19 @@
-//! What holds of the log of every site that runs transactions, whatever is due there comes next:
-//! its timestamps rise, its queues hold what is submitted and not committed, its messages have
-//! times that don't fall, and each record and message has its cause.
+//! What holds of every permitted log, told by the logs of its sites at places of the one log.
 //!
-//! The one contract to the layer above: each of these invariants is the conclusion of a law
-//! function, over a log whose acts are steps (`Each IsFair`) and which submits no number twice
-//! (`Each IsNew`).
+//! The one contract to the layer above: each invariant is the conclusion of a law function. First
+//! what each act that is due at a site is (`steps_laws`), then what holds of the log of one site
+//! that runs transactions (`invariants_laws`), of one data module (`processing_laws`), of U and
+//! the transaction modules' holds (`holds_laws`); then, across sites, what is handed over and at
+//! which place (`traffic_laws`), what a data module has seen (`seen_laws`), what each record has
+//! as its cause (`records_laws`), and on which side of an undeclared transaction another one is
+//! (`barrier_laws`).
 #![tactic(auto)]
 
-mod law;
-
-pub use law::{law_puts, law_queues, law_records, law_rejections, law_stamps, law_times};
+pub mod barrier_laws;
+pub mod holds_laws;
+pub mod invariants_laws;
+pub mod processing_laws;
+pub mod records_laws;
+pub mod seen_laws;
+pub mod steps_laws;
+pub mod traffic_laws;

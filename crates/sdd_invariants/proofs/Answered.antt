@@ -1,0 +1,339 @@
+-- What a data module puts, and why; an Answer follows its attempt's Start, and a Commit an Answer of its attempt at each
+-- module that it reads.
+use Rattle.std.specs.List.{list_any}
+use Rattle.std.proofs.Common.{ℕ, ◌&&◌, ◌++◌, ◌==◌, ◌||◌, ◌∙◌, ◌∷◌, ◌≡◌, Bool, List, Some, [], ap, append_assoc, arith, false, if◌then◌else◌, inl, inr, refl, slice_get, subst, suc, sym, true, zero}
+use Rattle.std.proofs.lemmas.Bool.{eqb-true}
+use Rattle.sdd_base.specs.Sites.{same_site}
+use Rattle.sdd_base.specs.Words.{contains, head_of}
+use Rattle.sdd_base.specs.declared.condition.Cond.{Cond}
+use Rattle.sdd_base.specs.declared.number.ClassNo.{ClassNo}
+use Rattle.sdd_base.specs.declared.number.DmNo.{DmNo}
+use Rattle.sdd_base.specs.declared.number.Ts.{Ts}
+use Rattle.sdd_base.specs.declared.number.TxnNo.{TxnNo}
+use Rattle.sdd_base.specs.declared.site.Site.{Site}
+use Rattle.sdd_base.specs.declared.site.Site.TheVariants.{D, T, U}
+use Rattle.sdd_base.specs.declared.usage.Use.{Use}
+use Rattle.sdd_history.specs.declared.record.Rec.TheVariants.{Answer}
+use Rattle.sdd_wire.specs.declared.msg.Msg.{Msg}
+use Rattle.sdd_wire.specs.declared.msg.Msg.TheVariants.{Ask, Done, Fetch, Read, Ready, Reduce, Reduced, Reject, Rows, Ship, Values}
+use Rattle.sdd_module.specs.SiteLog.{Act, Did, Each, Handed, Records, Redeclared, Setting, Submits, Ticked, sends_of_act}
+use Rattle.sdd_attempt.specs.Attempts.{Attempt, active, asks_rows}
+use Rattle.sdd_attempt.specs.Clocks.{clock}
+use Rattle.sdd_attempt.specs.Exchange.{is_over}
+use Rattle.sdd_attempt.specs.Queues.{Queued, queue}
+use Rattle.sdd_pipe.specs.Pipe.{head}
+use Rattle.sdd_dm.specs.Views.{home_of, source_of}
+use Rattle.sdd_umod.specs.Views.{counts}
+use Rattle.sdd_log.specs.Entries.{Does, Given, Hand, Log}
+use Rattle.sdd_log.specs.Locals.{local_of, setting_of}
+use Rattle.sdd_log.specs.Permitted.{IsPermitted}
+use Rattle.sdd_log.specs.Traffic.{handed}
+use Rattle.sdd_log.proofs.EachLocal.{each_local}
+use Rattle.sdd_invariants.proofs.Clocks.{clock_grows, clock_number}
+use Rattle.sdd_invariants.proofs.Origins.{was_put}
+use Rattle.sdd_invariants.proofs.ReadsPut.{start_puts}
+use Rattle.sdd_invariants.proofs.Recorded.{start_of_active}
+use Rattle.sdd_invariants.proofs.WritesPut.{commit_puts}
+use Rattle.sdd_invariants.specs.Puts.{IsRead}
+use Rattle.sdd_invariants.proofs.PutBy.{put_by_d}
+use Rattle.sdd_invariants.specs.PutsBy.{IsFetch, IsPutByD, IsReadyBy, IsReduce, IsShip, WasAsked}
+use Rattle.sdd_invariants.proofs.Installed.{class_number, head_put}
+use Rattle.sdd_invariants.proofs.Readied.{all_ready, over_reads}
+use Rattle.sdd_invariants.specs.Causes.{HasAnswer, IsReadOf}
+use Rattle.sdd_invariants.specs.Readied.{IsHonest, asks_in, is_answer, is_ready, was_asked, was_ready}
+use Rattle.sdd_invariants.specs.Seen.{pipe_at}
+use Rattle.sdd_invariants.proofs.Active.{each_at, step_way}
+use Rattle.sdd_invariants.proofs.Bools.{and_left, and_right, not_both, or_left, or_right}
+use Rattle.sdd_invariants.proofs.Lists.{in_none, in_one}
+use Rattle.sdd_invariants.proofs.Sites.{site_is, the_one}
+use Rattle.sdd_invariants.specs.ReadSteps.{IsDueEach}
+use Rattle.sdd_invariants.specs.Steps.{IsFair, IsSend, IsStep, a_held, a_hold, a_null, a_release, home, modules_asked, next_stamp, of_exchange, start_at, start_read}
+use Rattle.sdd_invariants.specs.Traffic.{puts_to, to_site}
+use Rattle.sdd_invariants.proofs.Fair.{d_fair, home_fair, t_fair, u_fair}
+use Rattle.sdd_invariants.proofs.InOrder.{hand_was_put}
+use Rattle.sdd_invariants.proofs.Made.{local_grows, own_act, permitted_before, place_of_act, place_of_hand}
+use Rattle.sdd_module.specs.SiteLog as site
+
+-- the kinds of messages that a data module puts
+abbrev pub is_from_d : Msg → Bool
+is_from_d (Ready ts c counts) = true
+is_from_d (Reject ts c by w) = true
+is_from_d (Values ts c u vs) = true
+is_from_d (Reduced ts c u n) = true
+is_from_d (Rows ts c rows) = true
+is_from_d (Ask c t) = true
+is_from_d (Done ts) = true
+is_from_d _ = false
+
+-- what T and U put is of other kinds
+
+of_one : (f : Msg → Bool) (ms : List Msg) (x : Msg) (k : ℕ) (m : Msg) → ms ≡ x ∷ [] → f x ≡ false → slice_get ms k ≡ Some m
+    → f m ≡ false
+of_one f ms x k m e g h = subst (λ y. f y ≡ false) (in_one ms x k m e h) g
+
+asks_not_d : (ts c : ℕ) (m : Msg) → asks_rows ts c m ≡ true → is_from_d m ≡ false
+asks_not_d ts c (Fetch a b u col) e = refl
+asks_not_d ts c (Reduce a b u col vs) e = refl
+asks_not_d ts c (Ship a b) e = refl
+asks_not_d ts c _ e = cc
+
+send_not_d : (s : Setting) (log : site.Log) (m : Msg) → IsSend s log m → is_from_d m ≡ false
+send_not_d s log m (of_exchange k a at i e w) = asks_not_d a.ts k m e
+send_not_d s log m (a_null k at e) = ap is_from_d e
+send_not_d s log m (a_held e) = ap is_from_d e
+send_not_d s log m (a_hold e) = ap is_from_d e
+send_not_d s log m (a_release t e) = ap is_from_d e
+
+step_not_d : (s : Setting) (b : Site) (log : site.Log) (act : Act) (k : ℕ) (m : Msg) → IsStep s log act
+    → slice_get (to_site b (sends_of_act act)) k ≡ Some m → is_from_d m ≡ false
+step_not_d s b log act k m i = step_way s log act (λ x. slice_get (to_site b (sends_of_act x)) k ≡ Some m → is_from_d m ≡ false)
+    (λ c q at f e. λ there. elim (start_puts s c b log q) [
+      | inl p ↦ in_none _ k m p there
+      | inr p ↦ of_one is_from_d _ (start_read s c log q p.0) k m p.1 refl there
+    ])
+    (λ c bases a at f. λ there. elim (commit_puts s c bases b a) [
+      | inl p ↦ in_none _ k m p there
+      | inr p ↦ of_one is_from_d _ _ k m p.1 refl there
+    ])
+    (λ to x hand f. λ there. subst (λ y. is_from_d y ≡ false) (the_one b to x k m there).1 (send_not_d s log x f)) i
+
+-- the act that put a message, in the log of everything
+pub record IsPutIn (g : Given) (log : Log) (from at : Site) (m : Msg) (P : site.Log → Act → Type 0) : Type 0 where
+  pub later : Log
+  pub act : Act
+  pub before : Log
+  pub is : log ≡ later ++ Does from act ∷ before
+  pub by : P (local_of g from before) act
+
+put_in : (g : Given) (log : Log) (from at : Site) (k : ℕ) (m : Msg) (P : site.Log → Act → Type 0) (Q : site.Log → site.Entry → Type 0)
+    → Each Q (local_of g from log)
+    → ((l : site.Log) (act : Act) (j : ℕ) → Q l (Did act) → slice_get (to_site at (sends_of_act act)) j ≡ Some m → P l act)
+    → slice_get (puts_to at (local_of g from log)) k ≡ Some m → IsPutIn g log from at m P
+put_in g log from at k m P Q h f e =
+    let p = was_put at (local_of g from log) k m e in
+    let q = each_at Q p.later (Did p.act) p.before (subst (Each Q) p.is h) in
+    let l = place_of_act g from log p.later p.act p.before p.is in
+    record { later = l.later; act = p.act; before = l.rest; is = l.is; by = subst (λ b. P b p.act) (sym l.local_is) (f p.before p.act p.place q.0 p.there) }
+
+pub put_in_by_d : (g : Given) (log : Log) (d : DmNo) (at : Site) (k : ℕ) (m : Msg) → IsPermitted g log
+    → slice_get (puts_to at (local_of g (D d) log)) k ≡ Some m
+    → IsPutIn g log (D d) at m (λ l act. IsPutByD (setting_of g (D d)) l at act m)
+put_in_by_d g log d at k m h e =
+    put_in g log (D d) at k m (λ l act. IsPutByD (setting_of g (D d)) l at act m) (IsDueEach (setting_of g (D d))) (d_fair g d log h) (λ l act j q there. put_by_d (setting_of g (D d)) l act q at j m there) e
+
+-- what only D puts comes from a D
+not_from_d : (g : Given) (log : Log) (from at : Site) (k : ℕ) (m : Msg) → Each (IsFair (setting_of g from)) (local_of g from log)
+    → slice_get (puts_to at (local_of g from log)) k ≡ Some m → is_from_d m ≡ false
+not_from_d g log from at k m h e =
+    (put_in g log from at k m (λ l act. is_from_d m ≡ false) (IsFair (setting_of g from)) h (λ l act j q there. step_not_d (setting_of g from) at l act j m q there) e).by
+
+pub from_a_d : (g : Given) (log : Log) (from at : Site) (k : ℕ) (m : Msg) → IsPermitted g log
+    → slice_get (puts_to at (local_of g from log)) k ≡ Some m → is_from_d m ≡ true → (d : DmNo) × (from ≡ D d)
+from_a_d g log (D d) at k m h e f = (d, refl)
+from_a_d g log U at k m h e f = absurd (not_both (is_from_d m) f (not_from_d g log U at k m (u_fair g log h) e))
+from_a_d g log (T t) at k m h e f = absurd (not_both (is_from_d m) f (not_from_d g log (T t) at k m (t_fair g t log h) e))
+
+-- an answer of an exchange was asked for
+
+any_cons : (f : Msg → Bool) (x : Msg) (ms : List Msg) (k : ℕ) (m : Msg) (b : Bool)
+    → ((j : ℕ) → slice_get ms j ≡ Some m → b ≡ true) → f m ≡ true → slice_get (x ∷ ms) k ≡ Some m → (f x || b) ≡ true
+any_cons f x ms zero m b h g e = let p : x ≡ m = cc in or_left (f x) b (ap f p ∙ g)
+any_cons f x ms (suc k) m b h g e = or_right (f x) b (h k e)
+
+any_sent : (f : Msg → Bool) (b : Site) (sends : List (Site × Msg)) (k : ℕ) (m : Msg) → slice_get (to_site b sends) k ≡ Some m
+    → f m ≡ true → list_any (λ (p : Site × Msg). f p.1) sends ≡ true
+any_sent f b [] k m e g = cc
+any_sent f b (p ∷ sends) k m e g = elim (same_site b p.0) as (λ c. slice_get (if c then p.1 ∷ to_site b sends else to_site b sends) k ≡ Some m → (f p.1 || list_any (λ (p : Site × Msg). f p.1) sends) ≡ true) [
+  | true ↦ λ q. any_cons f p.1 (to_site b sends) k m (list_any (λ (p : Site × Msg). f p.1) sends) (λ j r. any_sent f b sends j m r g) g q
+  | false ↦ λ q. or_right (f p.1) _ (any_sent f b sends k m q g)
+] e
+
+asked_more : (ts c : ℕ) (later l : site.Log) → was_asked ts c l ≡ true → was_asked ts c (later ++ l) ≡ true
+asked_more ts c [] l e = e
+asked_more ts c (Handed from m ∷ later) l e = asked_more ts c later l e
+asked_more ts c (Ticked n ∷ later) l e = asked_more ts c later l e
+asked_more ts c (Redeclared force t ∷ later) l e = asked_more ts c later l e
+asked_more ts c (Submits n txn ∷ later) l e = asked_more ts c later l e
+asked_more ts c (Did act ∷ later) l e =
+    or_right (asks_in ts c (sends_of_act act)) (was_asked ts c (later ++ l)) (asked_more ts c later l e)
+
+asked_of_put : (ts c : ℕ) (b : Site) (l : site.Log) (k : ℕ) (m : Msg) → slice_get (puts_to b l) k ≡ Some m
+    → asks_rows ts c m ≡ true → was_asked ts c l ≡ true
+asked_of_put ts c b l k m e f =
+    let p = was_put b l k m e in
+    subst (λ x. was_asked ts c x ≡ true) (sym p.is) (asked_more ts c p.later (Did p.act ∷ p.before) (or_left (asks_in ts c (sends_of_act p.act)) (was_asked ts c p.before) (any_sent (asks_rows ts c) b (sends_of_act p.act) p.place m p.there f)))
+
+asked_then : (g : Given) (log : Log) (at : Site) (d : DmNo) (ts c : ℕ) (later log2 : Log) (P : Msg → Type 0) → IsPermitted g log
+    → log ≡ later ++ log2 → WasAsked (local_of g (D d) log2) at P → ((m : Msg) → P m → asks_rows ts c m ≡ true)
+    → was_asked ts c (local_of g at log) ≡ true
+asked_then g log at d ts c later log2 P h e w f =
+    let i = place_of_hand g (D d) log2 w.later at w.asked w.before w.is in
+    let h2 : IsPermitted g (Hand at (D d) i.number w.asked ∷ i.rest) = permitted_before g i.later (Hand at (D d) i.number w.asked ∷ i.rest) (subst (IsPermitted g) i.is (permitted_before g later log2 (subst (IsPermitted g) e h))) in
+    let put = hand_was_put g i.rest at (D d) i.number w.asked h2.0 in
+    let a = asked_of_put ts c (D d) (local_of g at i.rest) (handed at (D d) i.rest) w.asked put.1 (f w.asked w.fits) in
+    let x = local_grows g at (i.later ++ Hand at (D d) i.number w.asked ∷ []) i.rest in
+    let here : was_asked ts c (local_of g at log2) ≡ true = subst (λ l. was_asked ts c (local_of g at l) ≡ true) (append_assoc i.later (Hand at (D d) i.number w.asked ∷ []) i.rest ∙ sym i.is) (subst (λ l. was_asked ts c l ≡ true) (sym x.1) (asked_more ts c x.0 (local_of g at i.rest) a)) in
+    let y = local_grows g at later log2 in
+    subst (λ l. was_asked ts c (local_of g at l) ≡ true) (sym e) (subst (λ l. was_asked ts c l ≡ true) (sym y.1) (asked_more ts c y.0 (local_of g at log2) here))
+
+honest_d : (g : Given) (log : Log) (at : Site) (d : DmNo) (m : Msg) (ts c : ℕ) (later before : Log) (act : Act)
+    → IsPermitted g log → log ≡ later ++ Does (D d) act ∷ before
+    → IsPutByD (setting_of g (D d)) (local_of g (D d) before) at act m → is_answer ts c m ≡ true
+    → was_asked ts c (local_of g at log) ≡ true
+honest_d g log at d (Values t k u vs) ts c later before act h e w f =
+    asked_then g log at d ts c (later ++ Does (D d) act ∷ []) before (IsFetch t k u) h (e ∙ sym (append_assoc later (Does (D d) act ∷ []) before)) w (λ m p. ap (asks_rows ts c) p.1 ∙ f)
+honest_d g log at d (Reduced t k u n) ts c later before act h e w f =
+    asked_then g log at d ts c (later ++ Does (D d) act ∷ []) before (IsReduce t k u) h (e ∙ sym (append_assoc later (Does (D d) act ∷ []) before)) w (λ m p. ap (asks_rows ts c) p.2 ∙ f)
+honest_d g log at d (Rows t k rows) ts c later before act h e w f =
+    asked_then g log at d ts c (later ++ Does (D d) act ∷ []) before (IsShip t k) h (e ∙ sym (append_assoc later (Does (D d) act ∷ []) before)) w (λ m p. ap (asks_rows ts c) p ∙ f)
+honest_d g log at d m ts c later before act h e w f = cc
+
+answer_d : (ts c : ℕ) (m : Msg) → is_answer ts c m ≡ true → is_from_d m ≡ true
+answer_d ts c (Values t k u vs) e = refl
+answer_d ts c (Reduced t k u n) e = refl
+answer_d ts c (Rows t k rows) e = refl
+answer_d ts c m e = cc
+
+honest_hand : (g : Given) (log : Log) (from at : Site) (k : ℕ) (m : Msg) (ts c : ℕ) → IsPermitted g log
+    → slice_get (puts_to at (local_of g from log)) k ≡ Some m → is_answer ts c m ≡ true
+    → was_asked ts c (local_of g at log) ≡ true
+honest_hand g log from at k m ts c h e f =
+    let d = from_a_d g log from at k m h e (answer_d ts c m f) in
+    let p = put_in_by_d g log d.0 at k m h (subst (λ x. slice_get (puts_to at (local_of g x log)) k ≡ Some m) d.1 e) in
+    honest_d g log at d.0 m ts c p.later p.before p.act h p.is p.by f
+
+pub honest : (g : Given) (at : Site) (log : Log) → IsPermitted g log → Each IsHonest (local_of g at log)
+honest g at = each_local g at IsHonest (record {
+  handed = λ log p from n m a i. λ ts c f. honest_hand g log from at (handed from at log) m ts c p (hand_was_put g log from at n m a).1 f;
+  ticked = λ log p n i. tt;
+  submits = λ log p n t a e i. tt;
+  redeclared = λ l k t i. tt;
+  did = λ log act p due i. tt;
+})
+
+-- the READ at a head was put by the Start of its attempt
+
+pub read_of : (g : Given) (c : ℕ) (d : DmNo) (log : Log) (ts : Ts) (k : ClassNo) (txn : TxnNo) (attempt : ℕ) (conds : List Cond) (uses : List Use)
+    → IsPermitted g log → head (pipe_at g c d log) ≡ Some (Read ts k txn attempt conds uses)
+    → (k.0 ≡ c) × IsReadOf g log c txn.0 attempt ts.0
+read_of g c d log ts k txn attempt conds uses h e =
+    let at : Site = home g.catalogue c in
+    let p = head_put g c d log (Read ts k txn attempt conds uses) h e in
+    let z : k.0 ≡ c = class_number k.0 c ts.0 p.of_class in
+    let r : IsRead (setting_of g at) (local_of g at p.before) p.act c ts.0 txn.0 attempt = subst (λ j. IsRead (setting_of g at) (local_of g at p.before) p.act j ts.0 txn.0 attempt) z p.by in
+    (z, record { later = p.later; before = p.before; queued = r.queued; is = p.is ∙ ap (λ x. p.later ++ Does at x ∷ p.before) r.act_is; idle = r.idle; head_is = r.head; number_is = r.number_is; try_is = r.try_is; ts_is = r.time_is })
+
+-- one timestamp, one Start
+
+did_at : (s : Setting) (c : ℕ) (l1 b1 b2 : site.Log) (q2 : Queued) → next_stamp s b1 ≡ next_stamp s b2
+    → b1 ≡ l1 ++ Did (start_at s c b2 q2) ∷ b2 → ⊥
+did_at s c l1 b1 b2 q2 e f =
+    let g = clock_grows s.site l1 (Did (start_at s c b2 q2) ∷ b2) in
+    let n1 = clock_number s.site b1 in let n2 = clock_number s.site b2 in
+    let h : (clock s.site b1).ticks ≡ (clock s.site (l1 ++ Did (start_at s c b2 q2) ∷ b2)).ticks = ap (λ l. (clock s.site l).ticks) f in
+    omega arith
+
+pub one_start : (s : Setting) (c : ℕ) (l1 l2 b1 b2 : site.Log) (q1 q2 : Queued) → next_stamp s b1 ≡ next_stamp s b2
+    → l1 ++ Did (start_at s c b1 q1) ∷ b1 ≡ l2 ++ Did (start_at s c b2 q2) ∷ b2 → b1 ≡ b2
+one_start s c [] [] b1 b2 q1 q2 e f = cc
+one_start s c [] (y ∷ l2) b1 b2 q1 q2 e f =
+    let p : b1 ≡ l2 ++ Did (start_at s c b2 q2) ∷ b2 = cc in absurd (did_at s c l2 b1 b2 q2 e p)
+one_start s c (x ∷ l1) [] b1 b2 q1 q2 e f =
+    let p : b2 ≡ l1 ++ Did (start_at s c b1 q1) ∷ b1 = cc in absurd (did_at s c l1 b2 b1 q1 (sym e) p)
+one_start s c (x ∷ l1) (y ∷ l2) b1 b2 q1 q2 e f =
+    let p : l1 ++ Did (start_at s c b1 q1) ∷ b1 ≡ l2 ++ Did (start_at s c b2 q2) ∷ b2 = cc in one_start s c l1 l2 b1 b2 q1 q2 e p
+
+same_head : (s : Setting) (c : ℕ) (b1 b2 : site.Log) (q1 q2 : Queued) → b1 ≡ b2 → head_of (queue s c b1) ≡ Some q1
+    → head_of (queue s c b2) ≡ Some q2 → q1 ≡ q2
+same_head s c b1 b2 q1 q2 e f g = let p : Some q1 ≡ Some q2 = sym f ∙ ap (λ b. head_of (queue s c b)) e ∙ g in cc
+
+-- a READ with the timestamp of the active attempt is of that attempt
+pub of_attempt : (g : Given) (c : ℕ) (log later log2 : Log) (a : Attempt) (n k t : ℕ) → IsPermitted g log
+    → active (setting_of g (home g.catalogue c)) c (local_of g (home g.catalogue c) log) ≡ Some a → log ≡ later ++ log2
+    → IsReadOf g log2 c n k t → t ≡ a.ts → (n ≡ a.txn) × (k ≡ a.attempt)
+of_attempt g c log later log2 a n k t h e is r ts =
+    let at : Site = home g.catalogue c in
+    let s : Setting = setting_of g at in
+    let st = start_of_active s c (local_of g at log) a (home_fair g c log h) e in
+    let x = local_grows g at (later ++ r.later) (Does at (start_at s c (local_of g at r.before) r.queued) ∷ r.before) in
+    let whole : log ≡ (later ++ r.later) ++ Does at (start_at s c (local_of g at r.before) r.queued) ∷ r.before = is ∙ ap (λ l. later ++ l) r.is ∙ sym (append_assoc later r.later _) in
+    let here : local_of g at log ≡ x.0 ++ Did (start_at s c (local_of g at r.before) r.queued) ∷ local_of g at r.before = ap (local_of g at) whole ∙ x.1 ∙ ap (λ l. x.0 ++ l) (own_act g at (start_at s c (local_of g at r.before) r.queued) r.before) in
+    let stamp : next_stamp s st.before ≡ next_stamp s (local_of g at r.before) = sym st.ts_is ∙ sym ts ∙ r.ts_is in
+    let same : st.before ≡ local_of g at r.before = one_start s c st.later x.0 st.before (local_of g at r.before) st.queued r.queued stamp (sym st.is ∙ here) in
+    let q : st.queued ≡ r.queued = same_head s c st.before (local_of g at r.before) st.queued r.queued same st.head r.head_is in
+    (r.number_is ∙ ap (λ (y : Queued). y.number) (sym q) ∙ sym st.number_is, r.try_is ∙ ap (λ (y : Queued). suc y.tries) (sym q) ∙ sym st.try_is)
+
+-- a READY that was handed
+pub record WasReady (log : site.Log) (d : Site) (ts c : ℕ) : Type 0 where
+  pub later : site.Log
+  pub before : site.Log
+  pub t : Ts
+  pub k : ClassNo
+  pub counts : List (ℕ × ℕ)
+  pub is : log ≡ later ++ Handed d (Ready t k counts) ∷ before
+  pub ts_is : t.0 ≡ ts
+  pub class_is : k.0 ≡ c
+
+more_ready : (e : site.Entry) (log : site.Log) (d : Site) (ts c : ℕ) → WasReady log d ts c → WasReady (e ∷ log) d ts c
+more_ready e log d ts c h =
+    record { later = e ∷ h.later; before = h.before; t = h.t; k = h.k; counts = h.counts; is = ap (λ l. e ∷ l) h.is; ts_is = h.ts_is; class_is = h.class_is }
+
+ready_msg : (ts c : ℕ) (from d : Site) (m : Msg) (log : site.Log) → from ≡ d → is_ready ts c m ≡ true
+    → WasReady (Handed from m ∷ log) d ts c
+ready_msg ts c from d (Ready t k counts) log p e =
+    record { later = []; before = log; t = t; k = k; counts = counts; is = ap (λ x. Handed x (Ready t k counts) ∷ log) p; ts_is = eqb-true t.0 ts (and_left (t.0 == ts) (k.0 == c) e); class_is = eqb-true k.0 c (and_right (t.0 == ts) (k.0 == c) e) }
+ready_msg ts c from d m log p e = cc
+
+ready_handed : (ts c : ℕ) (d : Site) (log : site.Log) → was_ready ts c d log ≡ true → WasReady log d ts c
+ready_handed ts c d [] e = cc
+ready_handed ts c d (Handed from m ∷ log) e =
+    elim (same_site d from && is_ready ts c m) as (λ b. (same_site d from && is_ready ts c m) ≡ b → (b || was_ready ts c d log) ≡ true → WasReady (Handed from m ∷ log) d ts c) [
+      | true ↦ λ p q. ready_msg ts c from d m log (sym (site_is d from (and_left (same_site d from) (is_ready ts c m) p))) (and_right (same_site d from) (is_ready ts c m) p)
+      | false ↦ λ p q. more_ready (Handed from m) log d ts c (ready_handed ts c d log q)
+    ] refl e
+ready_handed ts c d (Ticked n ∷ log) e = more_ready (Ticked n) log d ts c (ready_handed ts c d log e)
+ready_handed ts c d (Redeclared force t ∷ log) e = more_ready (Redeclared force t) log d ts c (ready_handed ts c d log e)
+ready_handed ts c d (Submits n txn ∷ log) e = more_ready (Submits n txn) log d ts c (ready_handed ts c d log e)
+ready_handed ts c d (Did act ∷ log) e = more_ready (Did act) log d ts c (ready_handed ts c d log e)
+
+answer_there : (g : Given) (c : ℕ) (d : DmNo) (log : Log) (a : Attempt) → IsPermitted g log
+    → active (setting_of g (home g.catalogue c)) c (local_of g (home g.catalogue c) log) ≡ Some a
+    → was_ready a.ts c (D d) (local_of g (home g.catalogue c) log) ≡ true → HasAnswer g log d c a
+answer_there g c d log a h e w =
+    let at : Site = home g.catalogue c in
+    let r = ready_handed a.ts c (D d) (local_of g at log) w in
+    let i = place_of_hand g at log r.later (D d) (Ready r.t r.k r.counts) r.before r.is in
+    let h2 : IsPermitted g (Hand (D d) at i.number (Ready r.t r.k r.counts) ∷ i.rest) = permitted_before g i.later (Hand (D d) at i.number (Ready r.t r.k r.counts) ∷ i.rest) (subst (IsPermitted g) i.is h) in
+    let p = put_in_by_d g i.rest d at (handed (D d) at i.rest) (Ready r.t r.k r.counts) h2.1 (hand_was_put g i.rest (D d) at i.number (Ready r.t r.k r.counts) h2.0).1 in
+    let by : IsReadyBy (setting_of g (D d)) (local_of g (D d) p.before) at p.act r.t r.k r.counts = p.by in
+    let h3 : IsPermitted g (Does (D d) p.act ∷ p.before) = permitted_before g p.later (Does (D d) p.act ∷ p.before) (subst (IsPermitted g) p.is h2.1) in
+    let ro = read_of g by.class d p.before r.t r.k by.txn by.attempt by.conds by.uses h3.1 by.head_is in
+    let of : by.class ≡ c = sym ro.0 ∙ r.class_is in
+    let front : Log = (i.later ++ Hand (D d) at i.number (Ready r.t r.k r.counts) ∷ []) ++ p.later in
+    let whole : log ≡ front ++ Does (D d) p.act ∷ p.before = i.is ∙ ap (λ l. i.later ++ Hand (D d) at i.number (Ready r.t r.k r.counts) ∷ l) p.is ∙ sym (append_assoc i.later (Hand (D d) at i.number (Ready r.t r.k r.counts) ∷ []) (p.later ++ Does (D d) p.act ∷ p.before)) ∙ sym (append_assoc (i.later ++ Hand (D d) at i.number (Ready r.t r.k r.counts) ∷ []) p.later (Does (D d) p.act ∷ p.before)) in
+    let read : IsReadOf g p.before c by.txn.0 by.attempt r.t.0 = subst (λ j. IsReadOf g p.before j by.txn.0 by.attempt r.t.0) of ro.1 in
+    let o = of_attempt g c log (front ++ Does (D d) p.act ∷ []) p.before a by.txn.0 by.attempt r.t.0 h e (whole ∙ sym (append_assoc front (Does (D d) p.act ∷ []) p.before)) read r.ts_is in
+    record {
+      later = front;
+      before = p.before;
+      txn = by.txn;
+      attempt = by.attempt;
+      sends = (source_of (home_of (setting_of g (D d))) by.class, Ready r.t r.k r.counts) ∷ [];
+      is = whole ∙ ap (λ x. front ++ Does (D d) x ∷ p.before) (by.act_is ∙ ap (λ j. Records j (Answer by.txn by.attempt ((home_of (setting_of g (D d))).dm)) ((source_of (home_of (setting_of g (D d))) by.class, Ready r.t r.k r.counts) ∷ [])) of);
+      number_is = o.0;
+      try_is = o.1;
+      ts = r.t;
+      of = r.k;
+      conds = by.conds;
+      uses = by.uses;
+      head_is = subst (λ j. head (pipe_at g j d p.before) ≡ Some (Read r.t r.k by.txn by.attempt by.conds by.uses)) of by.head_is;
+      ts_is = r.ts_is;
+    }
+
+-- where the attempt awaits no READY, as at its Commit, there is an Answer of it at each of its modules
+pub answered_all : (g : Given) (c : ℕ) (log : Log) (a : Attempt) (d : DmNo) → IsPermitted g log
+    → active (setting_of g (home g.catalogue c)) c (local_of g (home g.catalogue c) log) ≡ Some a
+    → is_over a.exchange.phase ≡ true
+    → contains (modules_asked (setting_of g (home g.catalogue c)) c a.text) d.0 ≡ true → HasAnswer g log d c a
+answered_all g c log a d h e o p =
+    answer_there g c d log a h e (all_ready (setting_of g (home g.catalogue c)) c (local_of g (home g.catalogue c) log) a d.0 (home_fair g c log h) (honest g (home g.catalogue c) log h) e (over_reads a.exchange o) p)

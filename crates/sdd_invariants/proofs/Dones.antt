@@ -1,0 +1,337 @@
+-- Where as many DONEs for a timestamp were handed to U as there are data modules, each of these has an Apply of class 0 with it.
+use Rattle.std.specs.List.{range_with_len}
+use Rattle.std.specs.Prelude.{filter_map}
+use Rattle.std.proofs.Common.{ℕ, ◌++◌, ◌+◌, ◌<◌, ◌==◌, ◌∙◌, ◌∷◌, ◌≡◌, ◌≤◌, Bool, List, Option, Some, [], ap, arith, false, if◌then◌else◌, inl, inr, length, refl, slice_get, subst, suc, sym, take, true, zero}
+use Rattle.std.proofs.Math.Decide.{dec_le}
+use Rattle.std.proofs.lemmas.Bool.{eqb-true}
+use Rattle.std.proofs.lemmas.List.Elements.{filter_map-append}
+use Rattle.sdd_base.specs.Numbers.{dm_no}
+use Rattle.sdd_base.specs.Sites.{number_of, same_site}
+use Rattle.sdd_base.specs.Words.{head_of}
+use Rattle.sdd_base.specs.declared.change.Change.{Change}
+use Rattle.sdd_base.specs.declared.number.ClassNo.{ClassNo}
+use Rattle.sdd_base.specs.declared.number.DmNo.{DmNo}
+use Rattle.sdd_base.specs.declared.number.Ts.{Ts}
+use Rattle.sdd_base.specs.declared.number.TxnNo.{TxnNo}
+use Rattle.sdd_base.specs.declared.site.Site.{Site}
+use Rattle.sdd_base.specs.declared.site.Site.TheVariants.{D, U}
+use Rattle.sdd_catalog.specs.Catalogue.{numbers_to}
+use Rattle.sdd_lang.specs.Effect.{effect}
+use Rattle.sdd_history.specs.declared.record.Rec.TheVariants.{Apply}
+use Rattle.sdd_wire.specs.Piped.{class_is, goes_through}
+use Rattle.sdd_wire.specs.declared.msg.Msg.{Msg}
+use Rattle.sdd_wire.specs.declared.msg.Msg.TheVariants.{Done, Write}
+use Rattle.sdd_module.specs.SiteLog.{Act, Bases, Did, Each, Handed, Records, Redeclared, Sends, Setting, Submits, Ticked, sends_of_act}
+use Rattle.sdd_attempt.specs.Acts.{commit_act, write_to}
+use Rattle.sdd_attempt.specs.Attempts.{Attempt}
+use Rattle.sdd_pipe.specs.Pipe.{Pipe, head, head_processed, one_or_none}
+use Rattle.sdd_dm.specs.Pipes.{pipe, pipe_acted}
+use Rattle.sdd_dm.specs.Views.{home_of}
+use Rattle.sdd_log.specs.Entries.{Does, Given, Log}
+use Rattle.sdd_log.specs.Locals.{local_of, setting_of}
+use Rattle.sdd_log.specs.Permitted.{IsPermitted}
+use Rattle.sdd_log.specs.Traffic.{handed}
+use Rattle.sdd_log.proofs.EachLocal.{each_local}
+use Rattle.sdd_invariants.specs.Barrier.{HasApply}
+use Rattle.sdd_invariants.proofs.Turns.{tally_append, tally_take}
+use Rattle.sdd_invariants.specs.Releases.{dones_of, is_done_of}
+use Rattle.sdd_invariants.specs.Turns.{one_if, tally}
+use Rattle.sdd_invariants.proofs.WritesPut.{goes_write}
+use Rattle.sdd_invariants.specs.OnLinks.{write_at, writes_in}
+use Rattle.sdd_invariants.specs.Puts.{IsWrite}
+use Rattle.sdd_invariants.proofs.Processed.{own_record, processed_handed, processed_more}
+use Rattle.sdd_invariants.proofs.PutBy.{put_by_d}
+use Rattle.sdd_invariants.specs.PutsBy.{IsDoneBy, IsPutByD}
+use Rattle.sdd_invariants.proofs.Answered.{from_a_d, is_from_d, put_in_by_d}
+use Rattle.sdd_invariants.proofs.Installed.{head_put}
+use Rattle.sdd_invariants.proofs.Applied.{key_rises, writes_strict}
+use Rattle.sdd_invariants.proofs.InPipe.{in_pipe}
+use Rattle.sdd_invariants.specs.Seen.{all_of, pipe_at}
+use Rattle.sdd_invariants.proofs.Bools.{if_way, same_or_not}
+use Rattle.sdd_invariants.proofs.Lists.{at_seam, in_left, in_taken, place_within}
+use Rattle.sdd_invariants.proofs.Sites.{GoesTo, site_self}
+use Rattle.sdd_invariants.specs.Orders.{AllGt, IsStrict}
+use Rattle.sdd_invariants.specs.ReadSteps.{IsDueEach}
+use Rattle.sdd_invariants.specs.Steps.{home}
+use Rattle.sdd_invariants.specs.Traffic.{hands_from, puts_to, to_site}
+use Rattle.sdd_invariants.proofs.Fair.{d_fair}
+use Rattle.sdd_invariants.proofs.InOrder.{hand_was_put, in_order}
+use Rattle.sdd_invariants.proofs.Made.{permitted_before}
+use Rattle.sdd_module.specs.SiteLog as site
+
+-- lists
+pub tally_at : (f : Msg → Bool) (ms : List Msg) → 0 < tally f ms → (k : ℕ) × (m : Msg) × (slice_get ms k ≡ Some m) × (f m ≡ true)
+tally_at f [] l = absurd (omega arith)
+tally_at f (m ∷ ms) l = elim (f m) as (λ b. f m ≡ b → 0 < one_if b + tally f ms → (k : ℕ) × (x : Msg) × (slice_get (m ∷ ms) k ≡ Some x) × (f x ≡ true)) [
+  | true ↦ λ p q. (0, m, refl, p)
+  | false ↦ λ p q. let i = tally_at f ms (omega arith) in (suc i.0, i.1, i.2, i.3)
+] refl l
+
+gt_left : (k : ℕ) (xs ys : List ℕ) → AllGt k (xs ++ ys) → AllGt k xs
+gt_left k [] ys h = tt
+gt_left k (x ∷ xs) ys h = (h.0, gt_left k xs ys h.1)
+
+strict_left : (xs ys : List ℕ) → IsStrict (xs ++ ys) → IsStrict xs
+strict_left [] ys h = tt
+strict_left (x ∷ xs) ys h = (gt_left x xs ys h.0, strict_left xs ys h.1)
+
+-- the WRITEs of a pipe rise, and its head is of the class
+pub strict_pipe : (g : Given) (c : ℕ) (d : DmNo) (log : Log) → number_of (home g.catalogue c) ≤ 63 → IsPermitted g log
+    → IsStrict (writes_in c (all_of (pipe_at g c d log)))
+strict_pipe g c d log small h =
+    let p = in_pipe g c d log h in
+    let l : List Msg = all_of (pipe_at g c d log) in
+    strict_left (writes_in c l) (writes_in c p.0) (subst IsStrict (ap (writes_in c) p.1 ∙ filter_map-append (write_at c) l p.0) (writes_strict g c d log h small))
+
+abbrev IsStrictHere : site.Log → site.Entry → Type 0
+IsStrictHere log (Did act) =
+    IsStrict (writes_in 0 (all_of (pipe 0 log))) × ((m : Msg) → head (pipe 0 log) ≡ Some m → goes_through 0 m ≡ true)
+IsStrictHere log (Handed from m) = Unit {0}
+IsStrictHere log (Ticked n) = Unit {0}
+IsStrictHere log (Submits n txn) = Unit {0}
+IsStrictHere log (Redeclared force t) = Unit {0}
+
+stricts : (g : Given) (d : DmNo) (log : Log) → IsPermitted g log → Each IsStrictHere (local_of g (D d) log)
+stricts g d = each_local g (D d) IsStrictHere (record {
+  handed = λ log p from n m a i. tt;
+  ticked = λ log p n i. tt;
+  submits = λ log p n k a e i. tt;
+  redeclared = λ l k u i. tt;
+  did = λ log act p due i. (strict_pipe g 0 d log (omega arith) p, λ m e. (head_put g 0 d log m p e).of_class);
+})
+
+-- at most one DONE with a timestamp, and behind its WRITE
+record IsOnce (x : ℕ) (log : site.Log) : Type 0 where
+  pub le : tally (is_done_of x) (puts_to U log) ≤ 1
+  pub was : 0 < tally (is_done_of x) (puts_to U log)
+      → (k : ℕ) × (m : Msg) × (slice_get (pipe 0 log).processed k ≡ Some m) × (write_at 0 m ≡ Some x)
+
+stays_processed : (act : Act) (p : Pipe) (k : ℕ) (m : Msg) → slice_get p.processed k ≡ Some m
+    → slice_get (pipe_acted 0 act p).processed k ≡ Some m
+stays_processed (Records c r sends) p k m e =
+    if_way (λ (q : Pipe). slice_get q.processed k ≡ Some m) _ (head_processed p) p (in_left p.processed (one_or_none (head p)) k m e) e
+stays_processed (Sends to x hand) p k m e = e
+
+quiet_did : (x : ℕ) (act : Act) (log : site.Log) → tally (is_done_of x) (to_site U (sends_of_act act)) ≡ 0 → IsOnce x log
+    → IsOnce x (Did act ∷ log)
+quiet_did x act log e h =
+    let a = tally_append (is_done_of x) (puts_to U log) (to_site U (sends_of_act act)) in
+    record {
+      le = omega (arith, a, e, h.le);
+      was = λ l. (let w = h.was (omega (arith, a, e, l)) in (w.0, w.1, stays_processed act (pipe 0 log) w.0 w.1 w.2, w.3));
+    }
+
+done_is : (x : ℕ) (m : Msg) → is_done_of x m ≡ true → (t : Ts) × (m ≡ Done t) × (t.0 ≡ x)
+done_is x (Done t) e = (t, refl, eqb-true t.0 x e)
+done_is x m e = cc
+
+one_at_most : (b : Bool) → one_if b + 0 ≤ 1
+one_at_most true = omega arith
+one_at_most false = omega arith
+
+one_done : (x : ℕ) (t : Ts) → tally (is_done_of x) (to_site U ((U, Done t) ∷ [])) ≤ 1
+one_done x t = one_at_most (t.0 == x)
+
+next_in : (ps us : List Msg) (m : Msg) → head_of us ≡ Some m → slice_get (ps ++ us) (length ps) ≡ Some m
+next_in ps [] m e = cc
+next_in ps (y ∷ us) m e = at_seam ps us y ∙ e
+
+head_in : (p : Pipe) (m : Msg) → head p ≡ Some m → slice_get (all_of p) (length p.processed) ≡ Some m
+head_in p m e = next_in p.processed p.unprocessed m e
+
+own_did : (s : Setting) (x : ℕ) (act : Act) (log : site.Log) (t : Ts) → t.0 ≡ x → IsStrictHere log (Did act)
+    → IsDoneBy s log U act t → IsOnce x log → IsOnce x (Did act ∷ log)
+own_did s x act log t tx strict b h =
+    let p : Pipe = pipe 0 log in
+    let w : Msg = Write t b.class b.txn b.changes in
+    let at : slice_get (all_of p) (length p.processed) ≡ Some w = head_in p w b.head_is in
+    let own : write_at 0 w ≡ Some x = (let q : (b.class.0 == 0) ≡ true = strict.1 w b.head_is in rw q (ap (λ y. Some y) tx)) in
+    let none : tally (is_done_of x) (puts_to U log) ≤ 0 = elim (dec_le 1 (tally (is_done_of x) (puts_to U log))) [
+      | yes l ↦ (let v = h.was l in
+          let less = key_rises (write_at 0) (all_of p) v.0 (length p.processed) v.1 w x x strict.0 (in_left p.processed p.unprocessed v.0 v.1 v.2) at v.3 own (place_within p.processed v.0 v.1 v.2) in
+          absurd (omega (arith, less)))
+      | no n ↦ omega (arith, n)
+    ] in
+    let a = tally_append (is_done_of x) (puts_to U log) (to_site U (sends_of_act act)) in
+    let one : tally (is_done_of x) (to_site U (sends_of_act act)) ≤ 1 = subst (λ y. tally (is_done_of x) (to_site U (sends_of_act y)) ≤ 1) (sym b.act_is) (one_done x t) in
+    let r = own_record 0 (Apply b.txn b.class (home_of s).dm t) ((U, Done t) ∷ []) log refl in
+    let pr : (pipe 0 (Did act ∷ log)).processed ≡ p.processed ++ w ∷ [] = ap (λ y. (pipe 0 (Did y ∷ log)).processed) b.act_is ∙ ap (λ (q : Pipe). q.processed) r.0 ∙ processed_more p w b.head_is in
+    record {
+      le = omega (arith, a, none, one);
+      was = λ l. (length p.processed, w, subst (λ ms. slice_get ms (length p.processed) ≡ Some w) (sym pr) (at_seam p.processed [] w), own);
+    }
+
+once_did : (s : Setting) (x : ℕ) (act : Act) (log : site.Log) → IsDueEach s log (Did act) → IsStrictHere log (Did act)
+    → IsOnce x log → IsOnce x (Did act ∷ log)
+once_did s x act log f strict h = elim (dec_le 1 (tally (is_done_of x) (to_site U (sends_of_act act)))) [
+  | yes l ↦ (let w = tally_at (is_done_of x) (to_site U (sends_of_act act)) l in
+      let d = done_is x w.1 w.3 in
+      let by : IsPutByD s log U act (Done d.0) = subst (IsPutByD s log U act) d.1 (put_by_d s log act f U w.0 w.1 w.2) in
+      own_did s x act log d.0 d.2 strict by h)
+  | no n ↦ quiet_did x act log (omega (arith, n)) h
+]
+
+once : (s : Setting) (x : ℕ) (log : site.Log) → Each (IsDueEach s) log → Each IsStrictHere log → IsOnce x log
+once s x [] h k = record { le = omega arith; was = λ l. absurd (omega arith) }
+once s x (Handed from m ∷ log) h k =
+    let i = once s x log h.1 k.1 in
+    record { le = i.le; was = λ l. (let w = i.was l in (w.0, w.1, subst (λ ms. slice_get ms w.0 ≡ Some w.1) (sym (processed_handed 0 from m log)) w.2, w.3)) }
+once s x (Ticked n ∷ log) h k = let i = once s x log h.1 k.1 in record { le = i.le; was = i.was }
+once s x (Redeclared force t ∷ log) h k = let i = once s x log h.1 k.1 in record { le = i.le; was = i.was }
+once s x (Submits n txn ∷ log) h k = let i = once s x log h.1 k.1 in record { le = i.le; was = i.was }
+once s x (Did act ∷ log) h k = once_did s x act log h.0 k.0 (once s x log h.1 k.1)
+
+-- sums over the modules
+abbrev sum_of : (ℕ → ℕ) → List ℕ → ℕ
+sum_of f [] = 0
+sum_of f (d ∷ ds) = f d + sum_of f ds
+
+sum_le : (f : ℕ → ℕ) (ds : List ℕ) → ((d : ℕ) → f d ≤ 1) → sum_of f ds ≤ length ds
+sum_le f [] h = omega arith
+sum_le f (d ∷ ds) h = let i = sum_le f ds h in let j = h d in omega arith
+
+all_one : (f : ℕ → ℕ) (ds : List ℕ) (k d : ℕ) → ((d : ℕ) → f d ≤ 1) → length ds ≤ sum_of f ds → slice_get ds k ≡ Some d → 0 < f d
+all_one f [] k d h l e = cc
+all_one f (x ∷ ds) zero d h l e = let p : x ≡ d = cc in subst (λ y. 0 < f y) p (let i = sum_le f ds h in omega arith)
+all_one f (x ∷ ds) (suc k) d h l e = let i = h x in all_one f ds k d h (omega (arith, i)) e
+
+sum_up : (f g : ℕ → ℕ) (ds : List ℕ) → ((d : ℕ) → f d ≤ g d) → sum_of f ds ≤ sum_of g ds
+sum_up f g [] h = omega arith
+sum_up f g (d ∷ ds) h = let i = sum_up f g ds h in let j = h d in omega arith
+
+sum_more : (f g : ℕ → ℕ) (ds : List ℕ) (k d : ℕ) → ((d : ℕ) → f d ≤ g d) → suc (f d) ≤ g d → slice_get ds k ≡ Some d
+    → suc (sum_of f ds) ≤ sum_of g ds
+sum_more f g [] k d h l e = cc
+sum_more f g (x ∷ ds) zero d h l e =
+    let p : x ≡ d = cc in
+    (let i = sum_up f g ds h in let j : suc (f x) ≤ g x = subst (λ y. suc (f y) ≤ g y) (sym p) l in omega arith)
+sum_more f g (x ∷ ds) (suc k) d h l e = let i = sum_more f g ds k d h l e in let j = h x in omega arith
+
+-- each DONE comes from a data module of the catalogue
+abbrev IsFromModule : ℕ → site.Log → site.Entry → Type 0
+IsFromModule n l (Handed from m) =
+    (x : ℕ) → is_done_of x m ≡ true → (k : ℕ) × (d : ℕ) × (from ≡ D (dm_no d)) × (slice_get (numbers_to n) k ≡ Some d)
+IsFromModule n l (Ticked k) = Unit {0}
+IsFromModule n l (Submits k txn) = Unit {0}
+IsFromModule n l (Redeclared force u) = Unit {0}
+IsFromModule n l (Did act) = Unit {0}
+
+abbrev from_d : ℕ → site.Log → ℕ → ℕ
+from_d x l d = tally (is_done_of x) (hands_from (D (dm_no d)) l)
+
+to_range : (f : ℕ → Option (Site × Msg)) (x a n k : ℕ) (m : Msg) → GoesTo f
+    → slice_get (to_site (D (dm_no x)) (filter_map f (range_with_len a n))) k ≡ Some m
+    → (j : ℕ) × (slice_get (range_with_len a n) j ≡ Some x)
+to_range f x a zero k m g e = cc
+to_range f x a (suc n) k m g e = elim (g a) [
+  | inl p ↦ (let i = to_range f x (a + 1) n k m g (rw p at e) in (suc i.0, i.1))
+  | inr p ↦ elim (same_or_not x a) [
+    | inl q ↦ (0, ap (λ y. Some y) (sym q))
+    | inr q ↦ (let i = to_range f x (a + 1) n k m g (rw (p.1, q) at e) in (suc i.0, i.1))
+  ]
+]
+
+hand_more : (f : Msg → Bool) (b : Bool) (xs : List Msg) (m : Msg) → tally f xs ≤ tally f (if b then xs ++ m ∷ [] else xs)
+hand_more f true xs m = let a = tally_append f xs (m ∷ []) in omega arith
+hand_more f false xs m = omega arith
+
+hand_one : (f : Msg → Bool) (b : Bool) (xs : List Msg) (m : Msg) → b ≡ true → f m ≡ true
+    → suc (tally f xs) ≤ tally f (if b then xs ++ m ∷ [] else xs)
+hand_one f true xs m p q = let a = tally_append f xs (m ∷ []) in let o : one_if (f m) ≡ 1 = ap one_if q in omega arith
+hand_one f false xs m p q = cc
+
+dones_within : (n x : ℕ) (l : site.Log) → Each (IsFromModule n) l → dones_of x l ≤ sum_of (from_d x l) (numbers_to n)
+dones_within n x [] h = omega arith
+dones_within n x (Handed from m ∷ l) h =
+    let i = dones_within n x l h.1 in
+    let up : (d : ℕ) → from_d x l d ≤ from_d x (Handed from m ∷ l) d = λ d. hand_more (is_done_of x) (same_site (D (dm_no d)) from) (hands_from (D (dm_no d)) l) m in
+    elim (is_done_of x m) as (λ b. is_done_of x m ≡ b → one_if b + dones_of x l ≤ sum_of (from_d x (Handed from m ∷ l)) (numbers_to n)) [
+      | true ↦ λ p. (let w = h.0 x p in
+          let same : same_site (D (dm_no w.1)) from ≡ true = subst (λ y. same_site (D (dm_no w.1)) y ≡ true) (sym w.2) (site_self (D (dm_no w.1))) in
+          let j = sum_more (from_d x l) (from_d x (Handed from m ∷ l)) (numbers_to n) w.0 w.1 up (hand_one (is_done_of x) (same_site (D (dm_no w.1)) from) (hands_from (D (dm_no w.1)) l) m same p) w.3 in
+          omega arith)
+      | false ↦ λ p. (let j = sum_up (from_d x l) (from_d x (Handed from m ∷ l)) (numbers_to n) up in omega arith)
+    ] refl
+dones_within n x (Ticked k ∷ l) h = dones_within n x l h.1
+dones_within n x (Submits k txn ∷ l) h = dones_within n x l h.1
+dones_within n x (Redeclared force u ∷ l) h = dones_within n x l h.1
+dones_within n x (Did act ∷ l) h = dones_within n x l h.1
+
+write_range : (g : Given) (d : DmNo) (bases : Bases) (a : Attempt) (k : ℕ) (m : Msg)
+    → slice_get (to_site (D d) (sends_of_act (commit_act g.catalogue bases 0 a))) k ≡ Some m
+    → (j : ℕ) × (slice_get (numbers_to g.catalogue.dms) j ≡ Some d.0)
+write_range g d bases a k m e =
+    let xs : List Change = (effect g.catalogue (bases a.ts) a.text).changes in
+    to_range (write_to g.catalogue 0 a xs) d.0 1 g.catalogue.dms k m (goes_write g.catalogue 0 a xs) e
+
+number_zero : (c t : ℕ) → class_is 0 (Some (c, t)) ≡ true → c ≡ 0
+number_zero c t e = eqb-true c 0 e
+
+in_range : (g : Given) (log : Log) (d : DmNo) (ts : Ts) (of : ClassNo) (txn : TxnNo) (changes : List Change) → IsPermitted g log
+    → head (pipe_at g 0 d log) ≡ Some (Write ts of txn changes) → (j : ℕ) × (slice_get (numbers_to g.catalogue.dms) j ≡ Some d.0)
+in_range g log d ts of txn changes h e =
+    let p = head_put g 0 d log (Write ts of txn changes) h e in
+    let z : of.0 ≡ 0 = number_zero of.0 ts.0 p.of_class in
+    let w : IsWrite (setting_of g U) (local_of g U p.before) p.act 0 ts.0 txn.0 = subst (λ j. IsWrite (setting_of g U) (local_of g U p.before) p.act j ts.0 txn.0) z p.by in
+    write_range g d w.bases w.attempt p.place (Write ts of txn changes) (subst (λ y. slice_get (to_site (D d) (sends_of_act y)) p.place ≡ Some (Write ts of txn changes)) w.act_is p.there)
+
+done_from : (g : Given) (log : Log) (from : Site) (k : ℕ) (m : Msg) (x : ℕ) → IsPermitted g log
+    → slice_get (puts_to U (local_of g from log)) k ≡ Some m → is_done_of x m ≡ true
+    → (j : ℕ) × (d : ℕ) × (from ≡ D (dm_no d)) × (slice_get (numbers_to g.catalogue.dms) j ≡ Some d)
+done_from g log from k m x h e f =
+    let t = done_is x m f in
+    let d = from_a_d g log from U k m h e (ap is_from_d t.1) in
+    let p = put_in_by_d g log d.0 U k m h (subst (λ y. slice_get (puts_to U (local_of g y log)) k ≡ Some m) d.1 e) in
+    let b : IsDoneBy (setting_of g (D d.0)) (local_of g (D d.0) p.before) U p.act t.0 = subst (IsPutByD (setting_of g (D d.0)) (local_of g (D d.0) p.before) U p.act) t.1 p.by in
+    let hb : IsPermitted g p.before = (permitted_before g p.later (Does (D d.0) p.act ∷ p.before) (subst (IsPermitted g) p.is h)).1 in
+    let r = in_range g p.before d.0 t.0 b.class b.txn b.changes hb b.head_is in
+    (r.0, d.0.0, d.1, r.1)
+
+module_hands : (g : Given) (log : Log) → IsPermitted g log → Each (IsFromModule g.catalogue.dms) (local_of g U log)
+module_hands g = each_local g U (IsFromModule g.catalogue.dms) (record {
+  handed = λ log p from n m a i. λ x f. done_from g log from (handed from U log) m x p (hand_was_put g log from U n m a).1 f;
+  ticked = λ log p n i. tt;
+  submits = λ log p n k a e i. tt;
+  redeclared = λ l k u i. tt;
+  did = λ log act p due i. tt;
+})
+
+from_one : (g : Given) (log : Log) (x d : ℕ) → IsPermitted g log → from_d x (local_of g U log) d ≤ 1
+from_one g log x d h =
+    let at : DmNo = dm_no d in
+    let o = (once (setting_of g (D at)) x (local_of g (D at) log) (d_fair g at log h) (stricts g at log h)).le in
+    let t = tally_take (is_done_of x) (handed (D at) U log) (puts_to U (local_of g (D at) log)) in
+    let e : from_d x (local_of g U log) d ≡ tally (is_done_of x) (take (handed (D at) U log) (puts_to U (local_of g (D at) log))) = ap (tally (is_done_of x)) (in_order g log (D at) U h) in
+    omega arith
+
+pub range_length : (a n : ℕ) → length (range_with_len a n) ≡ n
+range_length a zero = refl
+range_length a (suc n) = ap suc (range_length (a + 1) n)
+
+pub all_applied : (g : Given) (log : Log) (x k d : ℕ) → IsPermitted g log → g.catalogue.dms ≤ dones_of x (local_of g U log)
+    → slice_get (numbers_to g.catalogue.dms) k ≡ Some d → HasApply g log (dm_no d) x
+all_applied g log x k d h l e =
+    let at : DmNo = dm_no d in
+    let lu : site.Log = local_of g U log in
+    let sum = dones_within g.catalogue.dms x lu (module_hands g log h) in
+    let n : length (numbers_to g.catalogue.dms) ≡ g.catalogue.dms = range_length 1 g.catalogue.dms in
+    let pos : 0 < from_d x lu d = all_one (from_d x lu) (numbers_to g.catalogue.dms) k d (λ d. from_one g log x d h) (omega (arith, n, sum, l)) e in
+    let w = tally_at (is_done_of x) (hands_from (D at) lu) pos in
+    let t = done_is x w.1 w.3 in
+    let put : slice_get (puts_to U (local_of g (D at) log)) w.0 ≡ Some (Done t.0) = (in_taken (puts_to U (local_of g (D at) log)) (handed (D at) U log) w.0 (Done t.0) (subst (λ ms. slice_get ms w.0 ≡ Some (Done t.0)) (in_order g log (D at) U h) (w.2 ∙ ap (λ y. Some y) t.1))).0 in
+    let p = put_in_by_d g log at U w.0 (Done t.0) h put in
+    let b : IsDoneBy (setting_of g (D at)) (local_of g (D at) p.before) U p.act t.0 = p.by in
+    record { later = p.later; before = p.before; txn = b.txn; of = b.class; ts = t.0; changes = b.changes; is = p.is ∙ ap (λ y. p.later ++ Does (D at) y ∷ p.before) b.act_is; head_is = b.head_is; ts_is = t.2 }
+
+-- a data module puts at most one DONE with a timestamp, and U is handed no more than there are modules
+pub put_once : (g : Given) (log : Log) (x : ℕ) (d : DmNo) → IsPermitted g log
+    → tally (is_done_of x) (puts_to U (local_of g (D d) log)) ≤ 1
+put_once g log x d h = (once (setting_of g (D d)) x (local_of g (D d) log) (d_fair g d log h) (stricts g d log h)).le
+
+pub dones_few : (g : Given) (log : Log) (x : ℕ) → IsPermitted g log → dones_of x (local_of g U log) ≤ g.catalogue.dms
+dones_few g log x h =
+    let lu : site.Log = local_of g U log in
+    let sum = dones_within g.catalogue.dms x lu (module_hands g log h) in
+    let n : length (numbers_to g.catalogue.dms) ≡ g.catalogue.dms = range_length 1 g.catalogue.dms in
+    let few = sum_le (from_d x lu) (numbers_to g.catalogue.dms) (λ d. from_one g log x d h) in
+    omega (arith, sum, n, few)

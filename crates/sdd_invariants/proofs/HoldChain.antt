@@ -1,0 +1,241 @@
+-- Between U and one T: the counts of HOLDs, RELEASEs, HELDs, Starts and Commits of class 0 stand in one chain.
+use Rattle.std.proofs.Common.{ℕ, ◌++◌, ◌+◌, ◌<◌, ◌==◌, ◌||◌, ◌∙◌, ◌∷◌, ◌≡◌, ◌≤◌, Bool, List, Some, [], ap, arith, false, if◌then◌else◌, inl, inr, refl, slice_get, subst, suc, sym, take, true, zero}
+use Rattle.sdd_base.specs.Numbers.{tm_no}
+use Rattle.sdd_base.specs.Sites.{same_site}
+use Rattle.sdd_base.specs.declared.number.TmNo.{TmNo}
+use Rattle.sdd_base.specs.declared.site.Site.{Site}
+use Rattle.sdd_base.specs.declared.site.Site.TheVariants.{D, T, U}
+use Rattle.sdd_catalog.specs.Catalogue.{numbers_to}
+use Rattle.sdd_wire.specs.declared.msg.Msg.{Msg}
+use Rattle.sdd_wire.specs.declared.msg.Msg.TheVariants.{Ask, Done, Fetch, Held, Hold, Null, Read, Ready, Reduce, Reduced, Reject, Release, Rows, Ship, Values, Write}
+use Rattle.sdd_module.specs.SiteLog.{Act, Did, Each, Handed, Redeclared, Sends, Setting, Submits, Ticked, hands}
+use Rattle.sdd_tm.specs.Views.{HoldCounts, holds, holds_acted, holds_handed}
+use Rattle.sdd_umod.specs.Views.{TmCounts, counts, counts_acted, counts_handed}
+use Rattle.sdd_log.specs.Entries.{Given, Log}
+use Rattle.sdd_log.specs.Locals.{local_of, setting_of}
+use Rattle.sdd_log.specs.Permitted.{IsPermitted}
+use Rattle.sdd_log.specs.Snapshots.{base_of}
+use Rattle.sdd_log.specs.Traffic.{handed}
+use Rattle.sdd_log.proofs.EachLocal.{each_local}
+use Rattle.sdd_invariants.specs.Barrier.{IsHoldChain}
+use Rattle.sdd_invariants.proofs.Holding.{still, t_helds, t_none}
+use Rattle.sdd_invariants.proofs.Serving.{chain, counts_tm}
+use Rattle.sdd_invariants.proofs.Turns.{balance, tally_append, tally_take, turns_take}
+use Rattle.sdd_invariants.specs.AtT.{AllIdle, IsFairT}
+use Rattle.sdd_invariants.specs.AtU.{IsFairU}
+use Rattle.sdd_invariants.specs.Turns.{NoneHold, is_a_held, is_a_hold, is_a_release, one_if, tally}
+use Rattle.sdd_invariants.proofs.Queues.{queue_is}
+use Rattle.sdd_invariants.specs.PutsBy.{IsPutByD}
+use Rattle.sdd_invariants.proofs.Answered.{put_in_by_d}
+use Rattle.sdd_invariants.proofs.Bools.{if_way, not_both, or_left, or_right, same_number, same_or_not}
+use Rattle.sdd_invariants.specs.Traffic.{hands_from, puts_to}
+use Rattle.sdd_invariants.proofs.Fair.{all_new, u_fair}
+use Rattle.sdd_invariants.proofs.InOrder.{hand_was_put, in_order}
+use Rattle.sdd_module.specs.SiteLog as site
+
+pub t_table : (g : Given) (t : TmNo) (log : Log) → IsPermitted g log → Each (IsFairT (setting_of g (T t))) (local_of g (T t) log)
+t_table g t = each_local g (T t) (IsFairT (setting_of g (T t))) (record {
+  handed = λ log p from n m a i. tt;
+  ticked = λ log p n i. tt;
+  submits = λ log p n k a e i. tt;
+  redeclared = λ l k u i. tt;
+  did = λ log act p due i. (base_of g log, due);
+})
+
+pub u_table : (g : Given) (log : Log) → IsPermitted g log → Each (IsFairU (setting_of g U)) (local_of g U log)
+u_table g = each_local g U (IsFairU (setting_of g U)) (record {
+  handed = λ log p from n m a i. tt;
+  ticked = λ log p n i. tt;
+  submits = λ log p n k a e i. tt;
+  redeclared = λ l k u i. tt;
+  did = λ log act p due i. ((base_of g log, due), (queue_is (setting_of g U) 0 (local_of g U log) (u_fair g log p) (all_new g U log p)).served);
+})
+
+-- HOLDs and RELEASEs are put by U alone
+abbrev of_hold : Msg → Bool
+of_hold m = is_a_hold m || is_a_release m
+
+d_not : (s : Setting) (l : site.Log) (b : Site) (act : Act) (m : Msg) → IsPutByD s l b act m → of_hold m ≡ false
+d_not s l b act Hold h = absurd h
+d_not s l b act (Release ts) h = absurd h
+d_not s l b act m h = refl
+
+none_at : (ms : List Msg) (k : ℕ) (m : Msg) → NoneHold ms → slice_get ms k ≡ Some m → of_hold m ≡ false
+none_at [] k m h e = cc
+none_at (x ∷ ms) zero m h e = let p : x ≡ m = cc in subst (λ y. of_hold y ≡ false) p (rw (h.0, h.1) refl)
+none_at (x ∷ ms) (suc k) m h e = none_at ms k m h.2 e
+
+abbrev IsFromU : site.Log → site.Entry → Type 0
+IsFromU l (Handed from m) = of_hold m ≡ true → from ≡ U
+IsFromU l (Ticked n) = Unit {0}
+IsFromU l (Submits n txn) = Unit {0}
+IsFromU l (Redeclared force t) = Unit {0}
+IsFromU l (Did act) = Unit {0}
+
+put_from : (g : Given) (log : Log) (from at : Site) (k : ℕ) (m : Msg) → IsPermitted g log
+    → slice_get (puts_to at (local_of g from log)) k ≡ Some m → of_hold m ≡ true → from ≡ U
+put_from g log U at k m h e p = refl
+put_from g log (T t) at k m h e p =
+    absurd (not_both (of_hold m) p (none_at (puts_to at (local_of g (T t) log)) k m (t_none (setting_of g (T t)) at (local_of g (T t) log) (t_table g t log h)) e))
+put_from g log (D d) at k m h e p =
+    let q = put_in_by_d g log d at k m h e in
+    absurd (not_both (of_hold m) p (d_not (setting_of g (D d)) (local_of g (D d) q.before) at q.act m q.by))
+
+pub from_u : (g : Given) (at : Site) (log : Log) → IsPermitted g log → Each IsFromU (local_of g at log)
+from_u g at = each_local g at IsFromU (record {
+  handed = λ log p from n m a i. put_from g log from at (handed from at log) m p (hand_was_put g log from at n m a).1;
+  ticked = λ log p n i. tt;
+  submits = λ log p n k a e i. tt;
+  redeclared = λ l k u i. tt;
+  did = λ log act p due i. tt;
+})
+
+tally_push : (f : Msg → Bool) (b : Bool) (xs : List Msg) (m : Msg)
+    → tally f (if b then xs ++ m ∷ [] else xs) ≡ tally f xs + (if b then one_if (f m) else 0)
+tally_push f true xs m = let i = tally_append f xs (m ∷ []) in omega arith
+tally_push f false xs m = omega arith
+
+hand_holds : (n : ℕ) (m : Msg) (h : HoldCounts)
+    → ((holds_handed n m h).holds ≡ h.holds + one_if (is_a_hold m)) × ((holds_handed n m h).releases ≡ h.releases + one_if (is_a_release m))
+hand_holds n Hold h = (omega arith, omega arith)
+hand_holds n (Release ts) h = (omega arith, omega arith)
+hand_holds n _ h = (omega arith, omega arith)
+
+seen_one : (a b : Bool) → (a ≡ true → b ≡ true) → (if b then one_if a else 0) ≡ one_if a
+seen_one true true f = refl
+seen_one true false f = let p : ◌≡◌ {A = Bool} false true = f refl in cc
+seen_one false true f = refl
+seen_one false false f = refl
+
+is_u : (from : Site) → from ≡ U → same_site U from ≡ true
+is_u from e = ap (same_site U) e
+
+act_holds : (act : Act) (h : HoldCounts) → ((holds_acted act h).holds ≡ h.holds) × ((holds_acted act h).releases ≡ h.releases)
+act_holds (Sends to (Held t) hand) h = (refl, refl)
+act_holds act h = (refl, refl)
+
+pub handed_holds : (l : site.Log) → Each IsFromU l
+    → ((holds l).holds ≡ tally is_a_hold (hands_from U l)) × ((holds l).releases ≡ tally is_a_release (hands_from U l))
+handed_holds [] h = (refl, refl)
+handed_holds (Handed from m ∷ l) h =
+    let i = handed_holds l h.1 in
+    let k = hand_holds (suc (hands l)) m (holds l) in
+    let a = tally_push is_a_hold (same_site U from) (hands_from U l) m in
+    let b = tally_push is_a_release (same_site U from) (hands_from U l) m in
+    let c = seen_one (is_a_hold m) (same_site U from) (λ p. is_u from (h.0 (or_left (is_a_hold m) (is_a_release m) p))) in
+    let d = seen_one (is_a_release m) (same_site U from) (λ p. is_u from (h.0 (or_right (is_a_hold m) (is_a_release m) p))) in
+    (omega arith, omega arith)
+handed_holds (Ticked n ∷ l) h = handed_holds l h.1
+handed_holds (Submits n txn ∷ l) h = handed_holds l h.1
+handed_holds (Redeclared force u ∷ l) h = handed_holds l h.1
+handed_holds (Did act ∷ l) h = let i = handed_holds l h.1 in let k = act_holds act (holds l) in (k.0 ∙ i.0, k.1 ∙ i.1)
+
+-- the HELDs that U was handed from one T
+count_if : (b : Bool) (k : TmCounts) → (if b then record k { helds = suc k.helds } else k).helds ≡ k.helds + one_if b
+count_if true k = omega arith
+count_if false k = omega arith
+
+turned : (n t : ℕ) → (n == t) ≡ false → (t == n) ≡ false
+turned n t e = elim (same_or_not t n) [
+  | inl p ↦ (let q : (n == t) ≡ true = subst (λ x. (x == t) ≡ true) p (same_number t) in let z : ◌≡◌ {A = Bool} true false = sym q ∙ e in cc)
+  | inr p ↦ p
+]
+
+same_turned : (n t : ℕ) → (n == t) ≡ (t == n)
+same_turned n t = elim (same_or_not n t) [
+  | inl p ↦ subst (λ x. (n == x) ≡ (x == n)) p refl
+  | inr p ↦ p ∙ sym (turned n t p)
+]
+
+if_one : (b : Bool) → one_if b ≡ (if b then 1 else 0)
+if_one true = refl
+if_one false = refl
+
+none_more : (b : Bool) (n : ℕ) → n ≡ n + (if b then 0 else 0)
+none_more true n = omega arith
+none_more false n = omega arith
+
+more_of : (act : Act) (k : TmCounts) → (counts_acted act k).helds ≡ k.helds
+more_of (Sends (T n) Hold hand) k =
+    if_way (λ (x : TmCounts). x.helds ≡ k.helds) (n.0 == k.tm) (record k { holds = suc k.holds }) k refl refl
+more_of (Sends (T n) (Release ts) hand) k =
+    if_way (λ (x : TmCounts). x.helds ≡ k.helds) (n.0 == k.tm) (record k { releases = suc k.releases }) k refl refl
+more_of act k = refl
+
+hand_helds : (t : ℕ) (from : Site) (m : Msg) (k : TmCounts) → k.tm ≡ t
+    → (counts_handed from m k).helds ≡ k.helds + (if same_site (T (tm_no t)) from then one_if (is_a_held m) else 0)
+hand_helds t (T n) (Held x) k e =
+    count_if (n.0 == k.tm) k ∙ ap (λ b. k.helds + one_if b) (ap (λ y. n.0 == y) e ∙ same_turned n.0 t) ∙ ap (λ y. k.helds + y) (if_one (t == n.0))
+hand_helds t U m k e = omega arith
+hand_helds t (D d) m k e = omega arith
+hand_helds t (T n) (Read a b c d f g) k e = none_more (t == n.0) k.helds
+hand_helds t (T n) (Ready a b c) k e = none_more (t == n.0) k.helds
+hand_helds t (T n) (Reject a b c d) k e = none_more (t == n.0) k.helds
+hand_helds t (T n) (Fetch a b c d) k e = none_more (t == n.0) k.helds
+hand_helds t (T n) (Values a b c d) k e = none_more (t == n.0) k.helds
+hand_helds t (T n) (Reduce a b c d f) k e = none_more (t == n.0) k.helds
+hand_helds t (T n) (Reduced a b c d) k e = none_more (t == n.0) k.helds
+hand_helds t (T n) (Ship a b) k e = none_more (t == n.0) k.helds
+hand_helds t (T n) (Rows a b c) k e = none_more (t == n.0) k.helds
+hand_helds t (T n) (Write a b c d) k e = none_more (t == n.0) k.helds
+hand_helds t (T n) (Null a b) k e = none_more (t == n.0) k.helds
+hand_helds t (T n) (Ask a b) k e = none_more (t == n.0) k.helds
+hand_helds t (T n) Hold k e = none_more (t == n.0) k.helds
+hand_helds t (T n) (Done a) k e = none_more (t == n.0) k.helds
+hand_helds t (T n) (Release a) k e = none_more (t == n.0) k.helds
+
+pub handed_helds : (t : ℕ) (l : site.Log) → (counts t l).helds ≡ tally is_a_held (hands_from (T (tm_no t)) l)
+handed_helds t [] = refl
+handed_helds t (Handed from m ∷ l) =
+    let i = handed_helds t l in
+    let k = hand_helds t from m (counts t l) (counts_tm t l) in
+    let a = tally_push is_a_held (same_site (T (tm_no t)) from) (hands_from (T (tm_no t)) l) m in omega arith
+handed_helds t (Ticked n ∷ l) = handed_helds t l
+handed_helds t (Submits n txn ∷ l) = handed_helds t l
+handed_helds t (Redeclared force u ∷ l) = handed_helds t l
+handed_helds t (Did act ∷ l) = more_of act (counts t l) ∙ handed_helds t l
+
+one_if_le : (b : Bool) → one_if b ≤ 1
+one_if_le true = omega arith
+one_if_le false = omega arith
+
+pub hold_chain : (g : Given) (k t : ℕ) (log : Log) → slice_get (numbers_to g.catalogue.tms) k ≡ Some t → IsPermitted g log
+    → IsHoldChain g t log
+hold_chain g k t log i h =
+    let at : Site = T (tm_no t) in
+    let lu : site.Log = local_of g U log in
+    let lt : site.Log = local_of g at log in
+    let c = chain (setting_of g U) k t lu i (u_table g log h) in
+    let st = still (setting_of g at) lt (t_table g (tm_no t) log h) in
+    let hh = handed_holds lt (from_u g at log h) in
+    let first : hands_from U lt ≡ take (handed U at log) (puts_to at lu) = in_order g log U at h in
+    let hold_is : (holds lt).holds ≡ tally is_a_hold (take (handed U at log) (puts_to at lu)) = hh.0 ∙ ap (tally is_a_hold) first in
+    let release_is : (holds lt).releases ≡ tally is_a_release (take (handed U at log) (puts_to at lu)) = hh.1 ∙ ap (tally is_a_release) first in
+    let part = turns_take (handed U at log) (puts_to at lu) c.state c.turns_are in
+    let even = balance false part.0 (take (handed U at log) (puts_to at lu)) part.1 in
+    let whole = balance false c.state (puts_to at lu) c.turns_are in
+    let p1 = one_if_le part.0 in
+    let p2 = one_if_le c.state in
+    let less_h = tally_take is_a_hold (handed U at log) (puts_to at lu) in
+    let less_r = tally_take is_a_release (handed U at log) (puts_to at lu) in
+    let got : (counts t lu).helds ≡ tally is_a_held (take (handed at U log) (puts_to U lt)) = handed_helds t lu ∙ ap (tally is_a_held) (in_order g log at U h) in
+    let put : (holds lt).helds ≡ tally is_a_held (puts_to U lt) = t_helds (setting_of g at) lt (t_table g (tm_no t) log h) in
+    let less_e = tally_take is_a_held (handed at U log) (puts_to U lt) in
+    record {
+      released = omega (arith, release_is, less_r, c.releases_are);
+      committed = c.released;
+      started = c.committed;
+      got_held = c.started_held;
+      put_held = omega (arith, got, put, less_e);
+      got_hold = st.owed;
+      one_open = omega (arith, hold_is, release_is, even, p1);
+      in_turn = omega (arith, hold_is, release_is, even, p1);
+      put_hold = omega (arith, hold_is, less_h, c.holds_are);
+      one_ahead = omega (arith, whole, p2, c.holds_are, c.releases_are);
+    }
+
+-- between a HELD and its RELEASE every class of the T is idle
+pub idle_between : (g : Given) (t : TmNo) (log : Log) → IsPermitted g log
+    → (holds (local_of g (T t) log)).releases < (holds (local_of g (T t) log)).helds
+    → AllIdle (setting_of g (T t)) (local_of g (T t) log)
+idle_between g t log h = (still (setting_of g (T t)) (local_of g (T t) log) (t_table g t log h)).idle

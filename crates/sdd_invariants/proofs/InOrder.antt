@@ -1,0 +1,234 @@
+-- The messages that were handed over on a link are, in order, the first of those that were put on it.
+use Rattle.std.proofs.Common.{ℕ, ◌&&◌, ◌++◌, ◌-◌, ◌∙◌, ◌∷◌, ◌≡◌, ◌≤◌, Bool, List, None, Option, Some, [], ap, append-nil, arith, false, if◌then◌else◌, length, refl, slice_get, subst, suc, sym, take, true}
+use Rattle.std.proofs.lemmas.List.{take-append-le}
+use Rattle.sdd_base.specs.Sites.{same_site}
+use Rattle.sdd_base.specs.declared.event.Event.{Event}
+use Rattle.sdd_base.specs.declared.event.Event.TheVariants.{Deliver, Down, Lose, Redeclare, Repeat, Resend, Settle, Submit, Tick, Up}
+use Rattle.sdd_base.specs.declared.site.Site.{Site}
+use Rattle.sdd_base.specs.declared.site.Site.TheVariants.{D, T, U}
+use Rattle.sdd_lang.specs.declared.transaction.Txn.{Txn}
+use Rattle.sdd_wire.specs.declared.msg.Msg.{Msg}
+use Rattle.sdd_module.specs.SiteLog.{Did, Force, Handed, Redeclared, Submits, Ticked, sends_of_act}
+use Rattle.sdd_net.specs.Links.{Call, Delivers, Loses, Puts, Repeats, Resends, delivered, link}
+use Rattle.sdd_net.proofs.Rises.{rises}
+use Rattle.sdd_net.proofs.Sound.{delivered_le, sound}
+use Rattle.sdd_log.specs.Due.{due_by, mark_due, note_if}
+use Rattle.sdd_log.specs.Entries.{Does, Entry, Given, Hand, Log, Mark, Notes, Redeclares, Round, Submitted}
+use Rattle.sdd_log.specs.Locals.{force_at, local_of, redeclares, txn_at}
+use Rattle.sdd_log.specs.Permitted.{IsAllowed, IsPermitted, by_event, by_link, by_mark, by_redeclare, by_round, by_site}
+use Rattle.sdd_log.specs.Traffic.{calls_of, handed, link_of, message_at, puts, sent, takes_part}
+use Rattle.sdd_invariants.proofs.Bools.{and_left, and_right}
+use Rattle.sdd_invariants.proofs.Lists.{take_one_more}
+use Rattle.sdd_invariants.proofs.Sites.{site_is}
+use Rattle.sdd_invariants.specs.Traffic.{hands_from, puts_to}
+use Rattle.sdd_invariants.proofs.Made.{local_step}
+use Rattle.sdd_invariants.proofs.Sent.{sent_grows, sent_is}
+use Rattle.sdd_invariants.specs.Made.{forced, given_to, handed_by, made, put_by, with_made}
+use Rattle.sdd_module.specs.SiteLog as site
+
+-- a hand that is allowed is of the next message, which is delivered
+
+abbrev is_hand : Entry → Bool
+is_hand (Hand a b n m) = true
+is_hand _ = false
+
+abbrev NoHand : Option Entry → Type 0
+NoHand None = Unit {0}
+NoHand (Some x) = is_hand x ≡ false
+
+no_note : (b : Bool) → NoHand (note_if b)
+no_note true = refl
+no_note false = tt
+
+no_due_by : (g : Given) (e : Event) (log : Log) → NoHand (due_by g e log)
+no_due_by g (Submit n) log = refl
+no_due_by g (Deliver a b k) log = no_note _
+no_due_by g (Lose a b k) log = no_note _
+no_due_by g (Repeat a b k) log = no_note _
+no_due_by g (Resend a b) log = no_note _
+no_due_by g (Tick t n) log = tt
+no_due_by g Settle log = tt
+no_due_by g Redeclare log = tt
+no_due_by g (Down d) log = no_note _
+no_due_by g (Up d) log = no_note _
+
+no_mark_due : (g : Given) (log : Log) → NoHand (mark_due g log)
+no_mark_due g [] = tt
+no_mark_due g (Mark e ∷ log) = no_due_by g e log
+no_mark_due g (_ ∷ log) = tt
+
+is_not_hand : (o : Option Entry) (e : Entry) → NoHand o → o ≡ Some e → is_hand e ≡ false
+is_not_hand None e h p = cc
+is_not_hand (Some x) e h p = let q : x ≡ e = cc in subst (λ w. is_hand w ≡ false) q h
+
+pub record IsNextHand (log : Log) (a b : Site) (n : ℕ) (m : Msg) : Type 0 where
+  pub next : n ≡ suc (handed a b log)
+  pub delivered_is : n ≤ delivered (link_of a b log).there
+  pub takes : takes_part b log ≡ true
+  pub there : message_at a b n log ≡ Some m
+
+abbrev pub IsNextIfHand : Log → Entry → Type 0
+IsNextIfHand log (Hand a b n m) = IsNextHand log a b n m
+IsNextIfHand log _ = Unit {0}
+
+no_hand_next : (log : Log) (e : Entry) → is_hand e ≡ false → IsNextIfHand log e
+no_hand_next log (Hand a b n m) h = cc
+no_hand_next log _ h = tt
+
+pub allowed_hand : (g : Given) (log : Log) (e : Entry) → IsAllowed g log e → IsNextIfHand log e
+allowed_hand g log e (by_mark x n) = tt
+allowed_hand g log e (by_round es) = tt
+allowed_hand g log e (by_redeclare t) = tt
+allowed_hand g log e (by_event {e = x} p) = no_hand_next log x (is_not_hand (mark_due g log) x (no_mark_due g log) p)
+allowed_hand g log e (by_site at act d) = tt
+allowed_hand g log e (by_link a b n m p q r f) = record { next = p; delivered_is = q; takes = r; there = f }
+
+-- more was delivered than was handed over, and no more than was put
+within_if : (c : Bool) (n k d : ℕ) → (c ≡ true → n ≤ d) → k ≤ d → (if c then n else k) ≤ d
+within_if true n k d f l = f refl
+within_if false n k d f l = l
+
+at_link : (P : Site → Site → Type 0) (a b from to : Site) → (same_site a from && same_site b to) ≡ true → P from to → P a b
+at_link P a b from to e x =
+    subst (λ f. P f b) (sym (site_is a from (and_left _ _ e))) (subst (λ t. P from t) (sym (site_is b to (and_right _ _ e))) x)
+
+delivered_mark : (e : Event) (a b : Site) (log : Log)
+    → delivered (link_of a b log).there ≤ delivered (link_of a b (Mark e ∷ log)).there
+delivered_mark (Submit n) a b log = omega arith
+delivered_mark (Deliver x y k) a b log = rises a b (Delivers x y k) (calls_of log)
+delivered_mark (Lose x y k) a b log = rises a b (Loses x y k) (calls_of log)
+delivered_mark (Repeat x y k) a b log = rises a b (Repeats x y k) (calls_of log)
+delivered_mark (Resend x y) a b log = rises a b (Resends x y) (calls_of log)
+delivered_mark (Tick t n) a b log = omega arith
+delivered_mark Settle a b log = omega arith
+delivered_mark Redeclare a b log = omega arith
+delivered_mark (Down d) a b log = omega arith
+delivered_mark (Up d) a b log = omega arith
+
+delivered_puts : (a b at : Site) (sends : List (Site × Msg)) (calls : List (Call Msg))
+    → delivered (link a b calls).there ≤ delivered (link a b (puts at sends calls)).there
+delivered_puts a b at [] calls = omega arith
+delivered_puts a b at (s ∷ sends) calls =
+    let i = rises a b (Puts at s.0 s.1) calls in let j = delivered_puts a b at sends (Puts at s.0 s.1 ∷ calls) in omega arith
+
+pub handed_le : (g : Given) (log : Log) (a b : Site) → IsPermitted g log → handed a b log ≤ delivered (link_of a b log).there
+handed_le g [] a b h = omega arith
+handed_le g (Mark e ∷ log) a b h = let i = handed_le g log a b h.1 in let j = delivered_mark e a b log in omega arith
+handed_le g (Does at act ∷ log) a b h =
+    let i = handed_le g log a b h.1 in let j = delivered_puts a b at (sends_of_act act) (calls_of log) in omega arith
+handed_le g (Hand from to n m ∷ log) a b h =
+    within_if (same_site a from && same_site b to) n (handed a b log) (delivered (link_of a b log).there)
+    (λ e. at_link (λ x y. n ≤ delivered (link_of x y log).there) a b from to e (allowed_hand g log (Hand from to n m) h.0).delivered_is) (handed_le g log a b h.1)
+handed_le g (Round es ∷ log) a b h = handed_le g log a b h.1
+handed_le g (Redeclares t ∷ log) a b h = handed_le g log a b h.1
+handed_le g (Submitted s n ∷ log) a b h = handed_le g log a b h.1
+handed_le g (Notes ∷ log) a b h = handed_le g log a b h.1
+
+pub delivered_within : (a b : Site) (log : Log) → delivered (link_of a b log).there ≤ length (sent a b log)
+delivered_within a b log =
+    delivered_le (link_of a b log).there (delivered (link_of a b log).back) (sound a b (calls_of log)).there
+
+pub handed_within : (g : Given) (log : Log) (a b : Site) → IsPermitted g log
+    → handed a b log ≤ length (puts_to b (local_of g a log))
+handed_within g log a b h =
+    let i = handed_le g log a b h in let j = delivered_within a b log in
+    subst (λ xs. handed a b log ≤ length xs) (sent_is g a b log) (omega arith)
+
+-- the messages handed from a, once an entry came to the log of b
+
+if_more : (c : Bool) (xs : List Msg) (m : Msg) → (if c then xs ++ m ∷ [] else xs) ≡ xs ++ (if c then m ∷ [] else [])
+if_more true xs m = refl
+if_more false xs m = sym (append-nil _)
+
+hands_step : (a : Site) (o : Option site.Entry) (l : site.Log) → hands_from a (with_made o l) ≡ hands_from a l ++ handed_by a o
+hands_step a None l = sym (append-nil _)
+hands_step a (Some (Handed from m)) l = if_more (same_site a from) (hands_from a l) m
+hands_step a (Some (Did act)) l = sym (append-nil _)
+hands_step a (Some (Ticked n)) l = sym (append-nil _)
+hands_step a (Some (Submits n t)) l = sym (append-nil _)
+hands_step a (Some (Redeclared force t)) l = sym (append-nil _)
+
+hands_grow : (g : Given) (a b : Site) (e : Entry) (log : Log)
+    → hands_from a (local_of g b (e ∷ log)) ≡ hands_from a (local_of g b log) ++ handed_by a (made g b log e)
+hands_grow g a b e log = ap (hands_from a) (local_step g b e log) ∙ hands_step a (made g b log e) (local_of g b log)
+
+none_if : (a : Site) (c : Bool) (o : Option site.Entry) → handed_by a o ≡ [] → handed_by a (if c then o else None) ≡ []
+none_if a true o e = e
+none_if a false o e = refl
+
+none_given : (a : Site) (n : ℕ) (o : Option Txn) → handed_by a (given_to n o) ≡ []
+none_given a n None = refl
+none_given a n (Some t) = refl
+
+none_forced : (a at : Site) (force : Force) (t : ℕ) → handed_by a (forced at force t) ≡ []
+none_forced a U force t = refl
+none_forced a (T n) force t = refl
+none_forced a (D d) force t = refl
+
+abbrev AreFirst : Given → Site → Site → Log → Type 0
+AreFirst g a b log = hands_from a (local_of g b log) ≡ take (handed a b log) (sent a b log)
+
+handed_of_sent : (g : Given) (log : Log) (a b : Site) → IsPermitted g log → handed a b log ≤ length (sent a b log)
+handed_of_sent g log a b h = let i = handed_le g log a b h in let j = delivered_within a b log in omega arith
+
+-- an entry that hands nothing over on the link
+none_more : (g : Given) (a b : Site) (e : Entry) (log : Log) → handed a b (e ∷ log) ≡ handed a b log
+    → handed_by a (made g b log e) ≡ [] → IsPermitted g log → AreFirst g a b log → AreFirst g a b (e ∷ log)
+none_more g a b e log p q h i =
+    hands_grow g a b e log ∙ ap (λ xs. hands_from a (local_of g b log) ++ xs) q ∙ append-nil _ ∙ i
+    ∙ sym (ap (λ k. take k (sent a b (e ∷ log))) p ∙ ap (take (handed a b log)) (sent_grows g a b e log) ∙ take-append-le (handed a b log) (sent a b log) (put_by b (made g a log e)) (handed_of_sent g log a b h))
+
+-- a hand
+one_seen : (a from : Site) (c d : Bool) (k n : ℕ) (xs ys : List Msg) (m : Msg) → same_site a from ≡ c
+    → ((c && d) ≡ true → (n ≡ suc k) × (slice_get xs k ≡ Some m)) → ys ≡ take k xs
+    → ys ++ handed_by a (if d then Some (Handed from m) else None) ≡ take (if c && d then n else k) xs
+one_seen a from true true k n xs ys m p f e = let r = f refl in rw (p, e, r.0) (sym (take_one_more k xs m r.1))
+one_seen a from false true k n xs ys m p f e = rw p (append-nil _ ∙ e)
+one_seen a from true false k n xs ys m p f e = append-nil _ ∙ e
+one_seen a from false false k n xs ys m p f e = append-nil _ ∙ e
+
+there : (log : Log) (a b : Site) (n : ℕ) (m : Msg) → IsNextHand log a b n m
+    → (n ≡ suc (handed a b log)) × (slice_get (sent a b log) (handed a b log) ≡ Some m)
+there log a b n m h =
+    let z : n - 1 ≡ handed a b log = omega (arith, h.next) in (h.next, subst (λ k. slice_get (sent a b log) k ≡ Some m) z h.there)
+
+hands_are : (g : Given) (log : Log) (a b : Site) → IsPermitted g log → AreFirst g a b log
+hands_are g [] a U h = refl
+hands_are g [] a (T t) h = refl
+hands_are g [] a (D d) h = refl
+hands_are g (Mark (Tick t n) ∷ log) a b h =
+    none_more g a b (Mark (Tick t n)) log refl (none_if a (same_site b (T t)) (Some (Ticked n)) refl) h.1 (hands_are g log a b h.1)
+hands_are g (Mark (Submit n) ∷ log) a b h = none_more g a b (Mark (Submit n)) log refl refl h.1 (hands_are g log a b h.1)
+hands_are g (Mark (Deliver x y k) ∷ log) a b h =
+    none_more g a b (Mark (Deliver x y k)) log refl refl h.1 (hands_are g log a b h.1)
+hands_are g (Mark (Lose x y k) ∷ log) a b h = none_more g a b (Mark (Lose x y k)) log refl refl h.1 (hands_are g log a b h.1)
+hands_are g (Mark (Repeat x y k) ∷ log) a b h = none_more g a b (Mark (Repeat x y k)) log refl refl h.1 (hands_are g log a b h.1)
+hands_are g (Mark (Resend x y) ∷ log) a b h = none_more g a b (Mark (Resend x y)) log refl refl h.1 (hands_are g log a b h.1)
+hands_are g (Mark Settle ∷ log) a b h = none_more g a b (Mark Settle) log refl refl h.1 (hands_are g log a b h.1)
+hands_are g (Mark Redeclare ∷ log) a b h = none_more g a b (Mark Redeclare) log refl refl h.1 (hands_are g log a b h.1)
+hands_are g (Mark (Down d) ∷ log) a b h = none_more g a b (Mark (Down d)) log refl refl h.1 (hands_are g log a b h.1)
+hands_are g (Mark (Up d) ∷ log) a b h = none_more g a b (Mark (Up d)) log refl refl h.1 (hands_are g log a b h.1)
+hands_are g (Round es ∷ log) a b h = none_more g a b (Round es) log refl refl h.1 (hands_are g log a b h.1)
+hands_are g (Redeclares t ∷ log) a b h =
+    none_more g a b (Redeclares t) log refl (none_forced a b (force_at g (suc (redeclares log))) t) h.1 (hands_are g log a b h.1)
+hands_are g (Submitted s n ∷ log) a b h =
+    none_more g a b (Submitted s n) log refl (none_if a (same_site b s) (given_to n (txn_at g n)) (none_given a n (txn_at g n))) h.1 (hands_are g log a b h.1)
+hands_are g (Notes ∷ log) a b h = none_more g a b Notes log refl refl h.1 (hands_are g log a b h.1)
+hands_are g (Does at act ∷ log) a b h =
+    none_more g a b (Does at act) log refl (none_if a (same_site b at) (Some (Did act)) refl) h.1 (hands_are g log a b h.1)
+hands_are g (Hand from to n m ∷ log) a b h =
+    hands_grow g a b (Hand from to n m) log
+    ∙ one_seen a from (same_site a from) (same_site b to) (handed a b log) n (sent a b log) (hands_from a (local_of g b log)) m refl
+    (λ e. there log a b n m (at_link (λ x y. IsNextHand log x y n m) a b from to e (allowed_hand g log (Hand from to n m) h.0))) (hands_are g log a b h.1)
+
+-- the messages handed from a at b are the first of those that a put on its link to b
+pub in_order : (g : Given) (log : Log) (a b : Site) → IsPermitted g log
+    → hands_from a (local_of g b log) ≡ take (handed a b log) (puts_to b (local_of g a log))
+in_order g log a b h = hands_are g log a b h ∙ ap (take (handed a b log)) (sent_is g a b log)
+
+-- the message of a hand stands at its place among those that its site put on the link
+pub hand_was_put : (g : Given) (log : Log) (a b : Site) (n : ℕ) (m : Msg) → IsAllowed g log (Hand a b n m)
+    → (n ≡ suc (handed a b log)) × (slice_get (puts_to b (local_of g a log)) (handed a b log) ≡ Some m)
+hand_was_put g log a b n m h =
+    let r = there log a b n m (allowed_hand g log (Hand a b n m) h) in
+    (r.0, subst (λ xs. slice_get xs (handed a b log) ≡ Some m) (sent_is g a b log) r.1)

@@ -1,0 +1,378 @@
+-- Once an attempt awaits no READY any more, a READY for it was handed from each of its modules. It rests on this, that each
+-- answer of an exchange comes after a question.
+use Rattle.std.specs.List.{cons_option}
+use Rattle.std.specs.Prelude.{filter_map}
+use Rattle.std.proofs.Common.{ℕ, ◌&&◌, ◌++◌, ◌+◌, ◌==◌, ◌||◌, ◌∙◌, ◌∷◌, ◌≡◌, ◌≤◌, ◌⊎◌, Bool, List, None, Option, Some, [], ap, arith, cond, false, if◌then◌else◌, inl, inr, length, map, not, refl, subst, sym, true}
+use Rattle.std.proofs.lemmas.Bool.{eqb-true}
+use Rattle.sdd_base.specs.Numbers.{class_no, dm_no, time_at, txn_no}
+use Rattle.sdd_base.specs.Order.{with_values}
+use Rattle.sdd_base.specs.Sites.{same_site}
+use Rattle.sdd_base.specs.Words.{contains, is_empty}
+use Rattle.sdd_base.specs.declared.change.Change.{Change}
+use Rattle.sdd_base.specs.declared.number.ClassNo.{ClassNo}
+use Rattle.sdd_base.specs.declared.number.DmNo.{DmNo}
+use Rattle.sdd_base.specs.declared.number.Ts.{Ts}
+use Rattle.sdd_base.specs.declared.site.Site.{Site}
+use Rattle.sdd_base.specs.declared.site.Site.TheVariants.{D, T, U}
+use Rattle.sdd_catalog.specs.Catalogue.{Catalogue, numbers_to}
+use Rattle.sdd_lang.specs.Effect.{effect}
+use Rattle.sdd_wire.specs.declared.msg.Msg.{Msg}
+use Rattle.sdd_wire.specs.declared.msg.Msg.TheVariants.{Fetch, Ready, Reduce, Reduced, Rows, Ship, Values, Write}
+use Rattle.sdd_module.specs.SiteLog.{Act, Bases, Did, Each, Entry, Handed, Log, Redeclared, Sends, Setting, Submits, Ticked, sends_of_act}
+use Rattle.sdd_attempt.specs.Acts.{commit_act, write_to}
+use Rattle.sdd_attempt.specs.Attempts.{Attempt, active, active_handed, active_sent, asks_rows, rejects, started}
+use Rattle.sdd_attempt.specs.Exchange.{Exchange, Phase, Reading, after_hand, after_send, answered, begins, counted, first_phase, is_over, lacking, module_read, phase_ends, without}
+use Rattle.sdd_attempt.specs.Queues.{Queued}
+use Rattle.sdd_umod.specs.Views.{counts}
+use Rattle.sdd_invariants.proofs.Clocks.{drawn, stamp_rises}
+use Rattle.sdd_invariants.specs.Stamps.{stamp_or}
+use Rattle.sdd_invariants.specs.Readied.{AllReadied, AreReady, IsHonest, asks_in, firsts, is_ready, site_d, was_asked, was_ready}
+use Rattle.sdd_invariants.proofs.Active.{step_way}
+use Rattle.sdd_invariants.proofs.Bools.{and_left, and_right, both, if_way, not_both, only_right, or_left, or_right, same_number, same_or_not}
+use Rattle.sdd_invariants.proofs.Exchanges.{GoesOn, answered_goes, hand_goes}
+use Rattle.sdd_invariants.proofs.Sites.{site_self}
+use Rattle.sdd_invariants.specs.Steps.{IsFair, IsSend, IsStep, a_held, a_hold, a_null, a_release, changes_at, is_reading, last_stamp, modules_asked, next_stamp, of_exchange, start_at, start_read}
+
+never : {A : Type 0} (b : Bool) → b ≡ true → b ≡ false → A
+never b e f = absurd (not_both b e f)
+
+neither : (a b : Bool) → a ≡ false → b ≡ false → (a || b) ≡ false
+neither true b e f = cc
+neither false b e f = f
+
+either : (a b : Bool) → (a || b) ≡ true → (a ≡ true) ⊎ (b ≡ true)
+either true b e = inl refl
+either false b e = inr e
+
+-- whose question it is
+asks_whose : (t k ts c : ℕ) (m : Msg) → asks_rows t k m ≡ true → asks_rows ts c m ≡ true → (t ≡ ts) × (k ≡ c)
+asks_whose t k ts c (Fetch a b u col) e f =
+    (sym (eqb-true a.0 t (and_left _ _ e)) ∙ eqb-true a.0 ts (and_left _ _ f), sym (eqb-true b.0 k (and_right _ _ e)) ∙ eqb-true b.0 c (and_right _ _ f))
+asks_whose t k ts c (Reduce a b u col vs) e f =
+    (sym (eqb-true a.0 t (and_left _ _ e)) ∙ eqb-true a.0 ts (and_left _ _ f), sym (eqb-true b.0 k (and_right _ _ e)) ∙ eqb-true b.0 c (and_right _ _ f))
+asks_whose t k ts c (Ship a b) e f =
+    (sym (eqb-true a.0 t (and_left _ _ e)) ∙ eqb-true a.0 ts (and_left _ _ f), sym (eqb-true b.0 k (and_right _ _ e)) ∙ eqb-true b.0 c (and_right _ _ f))
+asks_whose t k ts c _ e f = cc
+
+-- what a Start and a Commit put is no question
+start_asks : (ts c : ℕ) (f : ℕ → Site × Msg) (ds : List ℕ) → ((d : ℕ) → asks_rows ts c (f d).1 ≡ false)
+    → asks_in ts c (map f ds) ≡ false
+start_asks ts c f [] h = refl
+start_asks ts c f (d ∷ ds) h = neither (asks_rows ts c (f d).1) _ (h d) (start_asks ts c f ds h)
+
+commit_asks : (ts c : ℕ) (f : ℕ → Option (Site × Msg)) (ds : List ℕ)
+    → ((d : ℕ) (p : Site × Msg) → f d ≡ Some p → asks_rows ts c p.1 ≡ false) → asks_in ts c (filter_map f ds) ≡ false
+commit_asks ts c f [] h = refl
+commit_asks ts c f (d ∷ ds) h = elim (f d) as (λ o. f d ≡ o → asks_in ts c (cons_option o (filter_map f ds)) ≡ false) [
+  | None ↦ λ e. commit_asks ts c f ds h
+  | Some p ↦ λ e. neither (asks_rows ts c p.1) _ (h d p e) (commit_asks ts c f ds h)
+] refl
+
+cond_asks : (ts k : ℕ) (b : Bool) (to : Site) (m : Msg) (p : Site × Msg) → asks_rows ts k m ≡ false
+    → cond b (Some (to, m)) None ≡ Some p → asks_rows ts k p.1 ≡ false
+cond_asks ts k true to m p f e =
+    let q : ◌≡◌ {A = Site × Msg} (to, m) p = cc in subst (λ (x : Site × Msg). asks_rows ts k x.1 ≡ false) q f
+cond_asks ts k false to m p f e = cc
+
+write_asks : (ts k : ℕ) (cat : Catalogue) (c : ℕ) (a : Attempt) (xs : List Change) (d : ℕ) (p : Site × Msg)
+    → write_to cat c a xs d ≡ Some p → asks_rows ts k p.1 ≡ false
+write_asks ts k cat c a xs d p e =
+    let here : List Change = changes_at cat d xs in
+    cond_asks ts k (not (is_empty here) || (c == 0)) (D (dm_no d)) (Write (time_at a.ts) (class_no c) (txn_no a.txn) here) p refl e
+
+asks_start : (s : Setting) (ts c k : ℕ) (log : Log) (q : Queued) → asks_in ts c (sends_of_act (start_at s k log q)) ≡ false
+asks_start s ts c k log q = start_asks ts c (λ d. (D (dm_no d), start_read s k log q d)) (modules_asked s k q.text) (λ d. refl)
+
+asks_commit : (s : Setting) (ts c k : ℕ) (bases : Bases) (a : Attempt)
+    → asks_in ts c (sends_of_act (commit_act s.catalogue bases k a)) ≡ false
+asks_commit s ts c k bases a =
+    let xs : List Change = (effect s.catalogue (bases a.ts) a.text).changes in
+    commit_asks ts c (write_to s.catalogue k a xs) (numbers_to s.catalogue.dms) (λ d p e. write_asks ts c s.catalogue k a xs d p e)
+
+null_whose : (ts c : ℕ) (m x : Msg) → m ≡ x → asks_rows ts c x ≡ false → asks_rows ts c m ≡ true → ⊥
+null_whose ts c m x e f g = not_both (asks_rows ts c m) g (ap (asks_rows ts c) e ∙ f)
+
+-- a question that is sent is of the active attempt of its class, and that reads no more
+pub record IsAsker (s : Setting) (log : Log) (ts c : ℕ) : Type 0 where
+  pub attempt : Attempt
+  pub active_is : active s c log ≡ Some attempt
+  pub ts_is : ts ≡ attempt.ts
+  pub past : is_reading attempt.exchange.phase ≡ false
+
+asker : (s : Setting) (log : Log) (ts c : ℕ) (m : Msg) → IsSend s log m → asks_rows ts c m ≡ true → IsAsker s log ts c
+asker s log ts c m (of_exchange k a at i e w) f =
+    let p = asks_whose a.ts k ts c m e f in
+    record { attempt = a; active_is = subst (λ j. active s j log ≡ Some a) p.1 i; ts_is = sym p.0; past = w }
+asker s log ts c m (a_null k at e) f = absurd (null_whose ts c m _ e refl f)
+asker s log ts c m (a_held e) f = absurd (null_whose ts c m _ e refl f)
+asker s log ts c m (a_hold e) f = absurd (null_whose ts c m _ e refl f)
+asker s log ts c m (a_release t e) f = absurd (null_whose ts c m _ e refl f)
+
+-- so no question has a timestamp that isn't drawn yet
+
+asked_send : (s : Setting) (ts c : ℕ) (log : Log) (to : Site) (m : Msg) (hand : Option ℕ) → Each (IsFair s) log → IsSend s log m
+    → (was_asked ts c log ≡ true → ts ≤ last_stamp s log) → (b : Bool) → asks_rows ts c m ≡ b
+    → ((b || false) || was_asked ts c log) ≡ true → ts ≤ last_stamp s log
+asked_send s ts c log to m hand fair i h true q w =
+    let r = asker s log ts c m i q in
+    let d : stamp_or (Some r.attempt) ≤ last_stamp s log = subst (λ o. stamp_or o ≤ last_stamp s log) r.active_is (drawn s log fair c) in
+    omega (arith, d, r.ts_is)
+asked_send s ts c log to m hand fair i h false q w = h w
+
+asked_act : (s : Setting) (ts c : ℕ) (log : Log) (act : Act) → Each (IsFair s) log → IsStep s log act
+    → (was_asked ts c log ≡ true → ts ≤ last_stamp s log) → was_asked ts c (Did act ∷ log) ≡ true
+    → ts ≤ last_stamp s (Did act ∷ log)
+asked_act s ts c log act fair i h =
+    step_way s log act (λ x. was_asked ts c (Did x ∷ log) ≡ true → ts ≤ last_stamp s (Did x ∷ log))
+    (λ k q at f e. λ w. let p : was_asked ts c log ≡ true = only_right (asks_in ts c (sends_of_act (start_at s k log q))) (was_asked ts c log) (asks_start s ts c k log q) w in let l = h p in omega arith)
+    (λ k bases a at f. λ w. h (only_right (asks_in ts c (sends_of_act (commit_act s.catalogue bases k a))) (was_asked ts c log) (asks_commit s ts c k bases a) w))
+    (λ to m hand f. λ w. asked_send s ts c log to m hand fair f h (asks_rows ts c m) refl w) i
+
+asked_le : (s : Setting) (ts c : ℕ) (log : Log) → Each (IsFair s) log → was_asked ts c log ≡ true → ts ≤ last_stamp s log
+asked_le s ts c [] h e = cc
+asked_le s ts c (Handed from m ∷ log) h e =
+    let l = asked_le s ts c log h.1 e in let r = stamp_rises s (Handed from m) log in omega arith
+asked_le s ts c (Ticked n ∷ log) h e = let l = asked_le s ts c log h.1 e in let r = stamp_rises s (Ticked n) log in omega arith
+asked_le s ts c (Redeclared force t ∷ log) h e =
+    let l = asked_le s ts c log h.1 e in let r = stamp_rises s (Redeclared force t) log in omega arith
+asked_le s ts c (Submits n txn ∷ log) h e = asked_le s ts c log h.1 e
+asked_le s ts c (Did act ∷ log) h e = asked_act s ts c log act h.1 h.0 (asked_le s ts c log h.1) e
+
+fresh_asked : (s : Setting) (c : ℕ) (log : Log) → Each (IsFair s) log → was_asked (next_stamp s log) c log ≡ false
+fresh_asked s c log h = elim (was_asked (next_stamp s log) c log) as (λ b. was_asked (next_stamp s log) c log ≡ b → b ≡ false) [
+  | true ↦ λ e. (let l = asked_le s (next_stamp s log) c log h e in absurd (omega arith))
+  | false ↦ λ e. refl
+] refl
+
+-- lists of modules
+has_without : (ns : List ℕ) (n m : ℕ) → contains ns m ≡ true → (m == n) ≡ false → contains (without ns n) m ≡ true
+has_without [] n m h e = cc
+has_without (x ∷ ns) n m h e =
+    elim (x == n) as (λ b. (x == n) ≡ b → contains (cond (not b) (x ∷ without ns n) (without ns n)) m ≡ true) [
+      | true ↦ λ p. elim (either (x == m) (contains ns m) h) [
+        | inl q ↦ (let r : (m == n) ≡ true = subst (λ y. (y == n) ≡ true) (eqb-true x m q) p in never (m == n) r e)
+        | inr q ↦ has_without ns n m q e
+      ]
+      | false ↦ λ p. elim (either (x == m) (contains ns m) h) [
+        | inl q ↦ or_left (x == m) _ q
+        | inr q ↦ or_right (x == m) _ (has_without ns n m q e)
+      ]
+    ] refl
+
+-- a module's READY
+ready_ends : (ts c d : ℕ) (log : Log) (x y : Exchange) → y.modules ≡ x.modules → AreReady ts c log x
+    → was_ready ts c (site_d d) log ≡ true → without x.lacks d ≡ [] → AreReady ts c log y
+ready_ends ts c d log x y e h w z n p = elim (h n (subst (λ ms. contains (firsts ms) n ≡ true) e p)) [
+  | inl r ↦ elim (same_or_not n d) [
+    | inl q ↦ inr (subst (λ k. was_ready ts c (site_d k) log ≡ true) (sym q) w)
+    | inr q ↦ (let v : contains (without x.lacks d) n ≡ true = has_without x.lacks d n r.0 q in let u : contains [] n ≡ true = subst (λ l. contains l n ≡ true) z v in cc)
+  ]
+  | inr r ↦ inr r
+]
+
+ready_less : (ts c d : ℕ) (log : Log) (x : Exchange) (ds : List ℕ) → AreReady ts c log x → was_ready ts c (site_d d) log ≡ true
+    → without x.lacks d ≡ ds → AreReady ts c log (record x { lacks = ds })
+ready_less ts c d log x ds h w z n p = elim (h n p) [
+  | inl r ↦ elim (same_or_not n d) [
+    | inl q ↦ inr (subst (λ k. was_ready ts c (site_d k) log ≡ true) (sym q) w)
+    | inr q ↦ inl (subst (λ l. contains l n ≡ true) z (has_without x.lacks d n r.0 q), r.1)
+  ]
+  | inr r ↦ inr r
+]
+
+ready_lacking : (ts c d : ℕ) (log : Log) (x : Exchange) (ds : List ℕ) → without x.lacks d ≡ ds
+    → (lacking ts c x ds).modules ≡ x.modules → AreReady ts c log x → was_ready ts c (site_d d) log ≡ true
+    → AreReady ts c log (lacking ts c x ds)
+ready_lacking ts c d log x [] z e h w = ready_ends ts c d log x (phase_ends ts c (record x { lacks = [] }) x.phase) e h w z
+ready_lacking ts c d log x (y ∷ rest) z e h w = ready_less ts c d log x (y ∷ rest) h w z
+
+ready_answered : (ts c d : ℕ) (log : Log) (x : Exchange) → AreReady ts c log x → was_ready ts c (site_d d) log ≡ true
+    → AreReady ts c log (answered ts c d x)
+ready_answered ts c d log x h w = ready_lacking ts c d log x (without x.lacks d) refl (answered_goes ts c d x).modules_same h w
+
+-- once it reads no more, all are ready, and stay so
+ready_past : (ts c : ℕ) (log : Log) (x y : Exchange) → y.modules ≡ x.modules → is_reading x.phase ≡ false → AreReady ts c log x
+    → AreReady ts c log y
+ready_past ts c log x y e f h n p = elim (h n (subst (λ ms. contains (firsts ms) n ≡ true) e p)) [
+  | inl r ↦ never (is_reading x.phase) r.1 f
+  | inr r ↦ inr r
+]
+
+ready_more : (ts c : ℕ) (e : Entry) (log : Log) (x : Exchange)
+    → ((d : Site) → was_ready ts c d log ≡ true → was_ready ts c d (e ∷ log) ≡ true) → AreReady ts c log x
+    → AreReady ts c (e ∷ log) x
+ready_more ts c e log x f h n p = elim (h n p) [ inl r ↦ inl r | inr r ↦ inr (f (site_d n) r) ]
+
+handed_more : (ts c : ℕ) (from : Site) (m : Msg) (log : Log) (d : Site) → was_ready ts c d log ≡ true
+    → was_ready ts c d (Handed from m ∷ log) ≡ true
+handed_more ts c from m log d p = or_right (same_site d from && is_ready ts c m) (was_ready ts c d log) p
+
+-- a hand from a module
+is_past : (ts c : ℕ) (log : Log) (x : Exchange) → (is_reading x.phase ≡ true → was_asked ts c log ≡ false)
+    → was_asked ts c log ≡ true → is_reading x.phase ≡ false
+is_past ts c log x f e =
+    elim (is_reading x.phase) as (λ b. is_reading x.phase ≡ b → b ≡ false) [ true ↦ λ p. never (was_asked ts c log) e (f p) | false ↦ λ p. refl ] refl
+
+past_if : (ts c d : ℕ) (log : Log) (b : Bool) (x z : Exchange) → z.modules ≡ x.modules → (b ≡ true → is_reading x.phase ≡ false)
+    → AreReady ts c log x → AreReady ts c log (if b then answered ts c d z else x)
+past_if ts c d log true x z e f h =
+    ready_past ts c log x (answered ts c d z) ((answered_goes ts c d z).modules_same ∙ e) (f refl) h
+past_if ts c d log false x z e f h = h
+
+got_if : (ts c d : ℕ) (log : Log) (b : Bool) (x z : Exchange) → AreReady ts c log z
+    → (b ≡ true → was_ready ts c (site_d d) log ≡ true) → AreReady ts c log x
+    → AreReady ts c log (if b then answered ts c d z else x)
+got_if ts c d log true x z h f k = ready_answered ts c d log z h (f refl)
+got_if ts c d log false x z h f k = k
+
+got_ready : (ts c : ℕ) (d : DmNo) (t : Ts) (k : ClassNo) (counts : List (ℕ × ℕ)) (log : Log) → ((t.0 == ts) && (k.0 == c)) ≡ true
+    → was_ready ts c (site_d d.0) (Handed (D d) (Ready t k counts) ∷ log) ≡ true
+got_ready ts c d t k counts log e =
+    or_left (same_site (D d) (D d) && is_ready ts c (Ready t k counts)) (was_ready ts c (D d) log) (both (same_site (D d) (D d)) (is_ready ts c (Ready t k counts)) (site_self (D d)) e)
+
+ready_hand : (ts c : ℕ) (d : DmNo) (m : Msg) (log : Log) (x : Exchange) → IsHonest log (Handed (D d) m)
+    → (is_reading x.phase ≡ true → was_asked ts c log ≡ false) → AreReady ts c log x
+    → AreReady ts c (Handed (D d) m ∷ log) (after_hand ts c d.0 m x)
+ready_hand ts c d (Ready t k counts) log x honest f h =
+    let more = ready_more ts c (Handed (D d) (Ready t k counts)) log x (handed_more ts c (D d) (Ready t k counts) log) h in
+    got_if ts c d.0 (Handed (D d) (Ready t k counts) ∷ log) ((t.0 == ts) && (k.0 == c)) x (record x { counts = counted d.0 counts x.counts }) more (got_ready ts c d t k counts log) more
+ready_hand ts c d (Values t k u vs) log x honest f h =
+    let more = ready_more ts c (Handed (D d) (Values t k u vs)) log x (handed_more ts c (D d) (Values t k u vs) log) h in
+    past_if ts c d.0 (Handed (D d) (Values t k u vs) ∷ log) ((t.0 == ts) && (k.0 == c)) x (record x { union = with_values x.union vs; values = x.values + length vs }) refl (λ b. is_past ts c log x f (honest ts c b)) more
+ready_hand ts c d (Reduced t k u n) log x honest f h =
+    let more = ready_more ts c (Handed (D d) (Reduced t k u n)) log x (handed_more ts c (D d) (Reduced t k u n) log) h in
+    past_if ts c d.0 (Handed (D d) (Reduced t k u n) ∷ log) ((t.0 == ts) && (k.0 == c)) x (record x { counts = counted d.0 ((u, n) ∷ []) x.counts }) refl (λ b. is_past ts c log x f (honest ts c b)) more
+ready_hand ts c d (Rows t k rows) log x honest f h =
+    let more = ready_more ts c (Handed (D d) (Rows t k rows)) log x (handed_more ts c (D d) (Rows t k rows) log) h in
+    past_if ts c d.0 (Handed (D d) (Rows t k rows) ∷ log) ((t.0 == ts) && (k.0 == c)) x (record x { found = x.found ++ rows; rows = x.rows + length rows }) refl (λ b. is_past ts c log x f (honest ts c b)) more
+ready_hand ts c d m log x honest f h = ready_more ts c (Handed (D d) m) log x (handed_more ts c (D d) m log) h
+
+-- it reads on only if it did
+reads_back : (ts c : ℕ) (x y : Exchange) → GoesOn ts c x y → is_reading y.phase ≡ true → is_reading x.phase ≡ true
+reads_back ts c x y g e =
+    elim (is_reading x.phase) as (λ b. is_reading x.phase ≡ b → b ≡ true) [ true ↦ λ p. refl | false ↦ λ p. never (is_reading y.phase) e (g.no_more p) ] refl
+
+readied_hand : (s : Setting) (c : ℕ) (from : Site) (m : Msg) (log : Log) (o : Option Attempt) → IsHonest log (Handed from m)
+    → AllReadied s c log o → AllReadied s c (Handed from m ∷ log) (active_handed c from m o)
+readied_hand s c (D d) m log None honest h = tt
+readied_hand s c (D d) m log (Some a) honest h =
+    let g = hand_goes a.ts c d.0 m a.exchange in
+    if_way (AllReadied s c (Handed (D d) m ∷ log)) (rejects m a.ts c) None (Some (record a { exchange = after_hand a.ts c d.0 m a.exchange })) tt
+    (record { modules_are = ap firsts g.modules_same ∙ h.modules_are; ready = ready_hand a.ts c d m log a.exchange honest h.unasked h.ready; unasked = λ p. h.unasked (reads_back a.ts c a.exchange (after_hand a.ts c d.0 m a.exchange) g p) })
+readied_hand s c U m log None honest h = tt
+readied_hand s c U m log (Some a) honest h =
+    record { modules_are = h.modules_are; ready = ready_more a.ts c (Handed U m) log a.exchange (handed_more a.ts c U m log) h.ready; unasked = h.unasked }
+readied_hand s c (T t) m log None honest h = tt
+readied_hand s c (T t) m log (Some a) honest h =
+    record { modules_are = h.modules_are; ready = ready_more a.ts c (Handed (T t) m) log a.exchange (handed_more a.ts c (T t) m log) h.ready; unasked = h.unasked }
+
+-- a Start
+starts_with : (s : Setting) (k : ℕ) (log : Log) (q : Queued) (ds : List ℕ)
+    → firsts (filter_map module_read (map (λ d. (D (dm_no d), start_read s k log q d)) ds)) ≡ ds
+starts_with s k log q [] = refl
+starts_with s k log q (d ∷ ds) = ap (λ l. d ∷ l) (starts_with s k log q ds)
+
+begins_ready : (ts c : ℕ) (log : Log) (ms : List (ℕ × List ℕ)) (x : Exchange) → x.modules ≡ ms → x.lacks ≡ firsts ms
+    → (ms ≡ [] → ⊥) ⊎ (ms ≡ []) → ((ms ≡ [] → ⊥) → is_reading x.phase ≡ true) → AreReady ts c log x
+begins_ready ts c log ms x e f d g n p = elim d [
+  | inl q ↦ inl (subst (λ l. contains l n ≡ true) (ap firsts e ∙ sym f) p, g q)
+  | inr q ↦ (let u : contains (firsts []) n ≡ true = subst (λ l. contains (firsts l) n ≡ true) (e ∙ q) p in cc)
+]
+
+empty_or : (ms : List (ℕ × List ℕ)) → (ms ≡ [] → ⊥) ⊎ (ms ≡ [])
+empty_or [] = inr refl
+empty_or (m ∷ ms) = inl (λ e. cc)
+
+begin_reads : (q : Queued) (sends : List (Site × Msg)) (ms : List (ℕ × List ℕ)) → filter_map module_read sends ≡ ms
+    → (ms ≡ [] → ⊥) → is_reading (begins q.text sends).phase ≡ true
+begin_reads q sends [] e f = absurd (f refl)
+begin_reads q sends (m ∷ ms) e f = subst (λ (l : List (ℕ × List ℕ)). is_reading (first_phase l) ≡ true) (sym e) refl
+
+readied_start : (s : Setting) (c : ℕ) (log : Log) (q : Queued) → Each (IsFair s) log
+    → AllReadied s c (Did (start_at s c log q) ∷ log) (started (next_stamp s log) (sends_of_act (start_at s c log q)) (Some q))
+readied_start s c log q h =
+    let ts : ℕ = next_stamp s log in
+    let sends : List (Site × Msg) = sends_of_act (start_at s c log q) in
+    record {
+      modules_are = starts_with s c log q (modules_asked s c q.text);
+      ready = begins_ready ts c (Did (start_at s c log q) ∷ log) (filter_map module_read sends) (begins q.text sends) refl refl (empty_or (filter_map module_read sends)) (begin_reads q sends (filter_map module_read sends) refl);
+      unasked = λ p. neither (asks_in ts c sends) (was_asked ts c log) (asks_start s ts c c log q) (fresh_asked s c log h);
+    }
+
+-- an act that sends no question of the class
+readied_on : (s : Setting) (c : ℕ) (log : Log) (act : Act) (o : Option Attempt)
+    → ((ts : ℕ) → asks_in ts c (sends_of_act act) ≡ false) → AllReadied s c log o → AllReadied s c (Did act ∷ log) o
+readied_on s c log act None f h = tt
+readied_on s c log act (Some a) f h =
+    record { modules_are = h.modules_are; ready = h.ready; unasked = λ p. neither _ (was_asked a.ts c log) (f a.ts) (h.unasked p) }
+
+same_attempt : (s : Setting) (c : ℕ) (log : Log) (a b : Attempt) → active s c log ≡ Some a → active s c log ≡ Some b → b ≡ a
+same_attempt s c log a b e f = let p : Some a ≡ Some b = sym e ∙ f in cc
+
+unasked_send : (s : Setting) (c : ℕ) (log : Log) (to : Site) (m : Msg) (hand : Option ℕ) (a : Attempt) → active s c log ≡ Some a
+    → IsSend s log m → (is_reading a.exchange.phase ≡ true → was_asked a.ts c log ≡ false) → is_reading a.exchange.phase ≡ true
+    → was_asked a.ts c (Did (Sends to m hand) ∷ log) ≡ false
+unasked_send s c log to m hand a e i f p =
+    elim (asks_rows a.ts c m) as (λ b. asks_rows a.ts c m ≡ b → ((b || false) || was_asked a.ts c log) ≡ false) [
+      | true ↦ λ q. (let r = asker s log a.ts c m i q in
+          let same : r.attempt ≡ a = same_attempt s c log a r.attempt e r.active_is in
+          never (is_reading a.exchange.phase) p (subst (λ (y : Attempt). is_reading y.exchange.phase ≡ false) same r.past))
+      | false ↦ λ q. f p
+    ] refl
+
+readied_send : (s : Setting) (c : ℕ) (log : Log) (to : Site) (m : Msg) (hand : Option ℕ) (o : Option Attempt) → active s c log ≡ o
+    → IsSend s log m → AllReadied s c log o → AllReadied s c (Did (Sends to m hand) ∷ log) (active_sent c m o)
+readied_send s c log to m hand None e i h = tt
+readied_send s c log to m hand (Some a) e i h =
+    let f = unasked_send s c log to m hand a e i h.unasked in
+    if_way (AllReadied s c (Did (Sends to m hand) ∷ log)) (asks_rows a.ts c m) (Some (record a { exchange = after_send a.exchange })) (Some a)
+    (record { modules_are = h.modules_are; ready = h.ready; unasked = f })
+    (record { modules_are = h.modules_are; ready = h.ready; unasked = f })
+
+readied_act : (s : Setting) (c : ℕ) (log : Log) (act : Act) → Each (IsFair s) log → IsStep s log act
+    → AllReadied s c log (active s c log) → AllReadied s c (Did act ∷ log) (active s c (Did act ∷ log))
+readied_act s c log act fair i h = step_way s log act (λ x. AllReadied s c (Did x ∷ log) (active s c (Did x ∷ log)))
+    (λ k q at f e. elim (same_or_not k c) [
+      | inl p ↦ subst (λ j. AllReadied s j (Did (start_at s k log q) ∷ log) (active s j (Did (start_at s k log q) ∷ log))) p
+          (rw (same_number k) (subst (λ o. AllReadied s k (Did (start_at s k log q) ∷ log) (started (next_stamp s log) (sends_of_act (start_at s k log q)) o)) (sym e) (readied_start s k log q fair)))
+      | inr p ↦ rw p (readied_on s c log (start_at s k log q) (active s c log) (λ ts. asks_start s ts c k log q) h)
+    ])
+    (λ k bases a at f. elim (same_or_not k c) [
+      | inl p ↦ subst (λ j. AllReadied s j (Did (commit_act s.catalogue bases k a) ∷ log) (active s j (Did (commit_act s.catalogue bases k a) ∷ log))) p (rw (same_number k) tt)
+      | inr p ↦ rw p (readied_on s c log (commit_act s.catalogue bases k a) (active s c log) (λ ts. asks_commit s ts c k bases a) h)
+    ])
+    (λ to m hand f. readied_send s c log to m hand (active s c log) refl f h) i
+
+same_readied : (s : Setting) (c : ℕ) (e : Entry) (log : Log) (o : Option Attempt)
+    → ((ts : ℕ) → was_asked ts c (e ∷ log) ≡ was_asked ts c log)
+    → ((ts : ℕ) (d : Site) → was_ready ts c d (e ∷ log) ≡ was_ready ts c d log) → AllReadied s c log o
+    → AllReadied s c (e ∷ log) o
+same_readied s c e log None f g h = tt
+same_readied s c e log (Some a) f g h =
+    record { modules_are = h.modules_are; ready = ready_more a.ts c e log a.exchange (λ d p. g a.ts d ∙ p) h.ready; unasked = λ p. f a.ts ∙ h.unasked p }
+
+pub readied : (s : Setting) (c : ℕ) (log : Log) → Each (IsFair s) log → Each IsHonest log → AllReadied s c log (active s c log)
+readied s c [] h n = tt
+readied s c (Handed from m ∷ log) h n = readied_hand s c from m log (active s c log) n.0 (readied s c log h.1 n.1)
+readied s c (Ticked k ∷ log) h n =
+    same_readied s c (Ticked k) log (active s c log) (λ ts. refl) (λ ts d. refl) (readied s c log h.1 n.1)
+readied s c (Redeclared force t ∷ log) h n =
+    same_readied s c (Redeclared force t) log (active s c log) (λ ts. refl) (λ ts d. refl) (readied s c log h.1 n.1)
+readied s c (Submits k txn ∷ log) h n =
+    same_readied s c (Submits k txn) log (active s c log) (λ ts. refl) (λ ts d. refl) (readied s c log h.1 n.1)
+readied s c (Did act ∷ log) h n = readied_act s c log act h.1 h.0 (readied s c log h.1 n.1)
+
+-- of an attempt that reads no more
+over_not : (p : Phase) → is_over p ≡ true → is_reading p ≡ false
+over_not Reading e = cc
+over_not _ e = refl
+
+pub over_reads : (x : Exchange) → is_over x.phase ≡ true → is_reading x.phase ≡ false
+over_reads x e = over_not x.phase e
+
+pub all_ready : (s : Setting) (c : ℕ) (log : Log) (a : Attempt) (d : ℕ) → Each (IsFair s) log → Each IsHonest log
+    → active s c log ≡ Some a → is_reading a.exchange.phase ≡ false → contains (modules_asked s c a.text) d ≡ true
+    → was_ready a.ts c (site_d d) log ≡ true
+all_ready s c log a d h n e f p =
+    let i = subst (AllReadied s c log) e (readied s c log h n) in
+    elim (i.ready d (subst (λ l. contains l d ≡ true) (sym i.modules_are) p)) [ inl r ↦ never (is_reading a.exchange.phase) r.1 f | inr r ↦ r ]

@@ -1,0 +1,245 @@
+-- At U: the RELEASEs to a T carry the timestamps of the Starts, in order; and for each of those as many DONEs were handed as there are data modules.
+use Rattle.std.proofs.Common.{ℕ, ◌++◌, ◌+◌, ◌<◌, ◌==◌, ◌∙◌, ◌∷◌, ◌≡◌, ◌≤◌, Bool, List, None, Option, Some, [], ap, append-nil, arith, false, if◌then◌else◌, inl, inr, length, length-append, refl, slice_get, subst, suc, sym, take, true, zero}
+use Rattle.std.proofs.Math.Decide.{dec_le}
+use Rattle.std.proofs.lemmas.List.{take-append-le}
+use Rattle.std.proofs.lemmas.List.Elements.{filter_map-append}
+use Rattle.sdd_base.specs.Numbers.{dm_no, tm_no}
+use Rattle.sdd_base.specs.Words.{head_of}
+use Rattle.sdd_base.specs.declared.number.Ts.{Ts}
+use Rattle.sdd_base.specs.declared.site.Site.{Site}
+use Rattle.sdd_base.specs.declared.site.Site.TheVariants.{D, T}
+use Rattle.sdd_catalog.specs.Catalogue.{numbers_to}
+use Rattle.sdd_history.specs.declared.record.Rec.TheVariants.{Start}
+use Rattle.sdd_wire.specs.declared.msg.Msg.{Msg}
+use Rattle.sdd_wire.specs.declared.msg.Msg.TheVariants.{Done, Hold, Release}
+use Rattle.sdd_module.specs.SiteLog.{Act, Bases, Did, Each, Entry, Handed, Log, Records, Redeclared, Sends, Setting, Submits, Ticked, sends_of_act}
+use Rattle.sdd_attempt.specs.Acts.{commit_act}
+use Rattle.sdd_attempt.specs.Attempts.{Attempt, active, active_handed, started}
+use Rattle.sdd_attempt.specs.Queues.{Queued, queue}
+use Rattle.sdd_umod.specs.Views.{Served, TmCounts, counts, last_served, served_handed, ts_of}
+use Rattle.sdd_invariants.proofs.Serving.{chain, flip, hand_commits, hand_counts, is_tried, no_puts, none_mapped, not_started, puts_else, sent_count, u_due, u_way}
+use Rattle.sdd_invariants.proofs.Turns.{balance}
+use Rattle.sdd_invariants.specs.AtU.{IsChain, IsFairU, IsStepU, IsTried, starts}
+use Rattle.sdd_invariants.specs.Releases.{IsServing, dones_of, drawn_so_far, is_done_of, last_of, release_time, release_times}
+use Rattle.sdd_invariants.specs.Turns.{one_if}
+use Rattle.sdd_invariants.proofs.Active.{handed_way, sent_way}
+use Rattle.sdd_invariants.proofs.Bools.{if_way, same_number, same_or_not}
+use Rattle.sdd_invariants.specs.Steps.{modules_asked, next_stamp, start_at, start_read}
+use Rattle.sdd_invariants.specs.Traffic.{puts_to}
+
+last_push : (xs : List ℕ) (x : ℕ) → last_of (xs ++ x ∷ []) ≡ Some x
+last_push [] x = refl
+last_push (y ∷ []) x = refl
+last_push (y ∷ z ∷ ys) x = last_push (z ∷ ys) x
+
+last_split : (xs : List ℕ) (r x : ℕ) → length xs ≡ suc r → last_of xs ≡ Some x → xs ≡ take r xs ++ x ∷ []
+last_split [] r x e f = cc
+last_split (y ∷ []) zero x e f = let p : y ≡ x = cc in ap (λ z. z ∷ []) p
+last_split (y ∷ []) (suc r) x e f = absurd (omega (arith, e))
+last_split (y ∷ z ∷ ys) zero x e f = absurd (omega (arith, e))
+last_split (y ∷ z ∷ ys) (suc r) x e f = ap (λ l. y ∷ l) (last_split (z ∷ ys) r x (omega (arith, e)) f)
+
+take_all : (xs : List ℕ) (r : ℕ) → length xs ≤ r → take r xs ≡ xs
+take_all [] zero l = refl
+take_all [] (suc r) l = refl
+take_all (x ∷ xs) zero l = absurd (omega arith)
+take_all (x ∷ xs) (suc r) l = ap (λ ys. x ∷ ys) (take_all xs r (omega arith))
+
+left_of : (xs ys : List ℕ) (k x : ℕ) → slice_get (xs ++ ys) k ≡ Some x → k < length xs → slice_get xs k ≡ Some x
+left_of [] ys k x e l = absurd (omega arith)
+left_of (y ∷ xs) ys zero x e l = e
+left_of (y ∷ xs) ys (suc k) x e l = left_of xs ys k x e (omega arith)
+
+at_end : (xs : List ℕ) (r x y : ℕ) → length xs ≡ r → slice_get (xs ++ x ∷ []) r ≡ Some y → x ≡ y
+at_end [] zero x y e f = cc
+at_end [] (suc r) x y e f = cc
+at_end (z ∷ xs) zero x y e f = absurd (omega (arith, e))
+at_end (z ∷ xs) (suc r) x y e f = at_end xs r x y (omega (arith, e)) f
+
+abbrev LastIs : List ℕ → Option Attempt → Type 0
+LastIs xs None = Unit {0}
+LastIs xs (Some a) = last_of xs ≡ Some a.ts
+
+last_is : (xs : List ℕ) (o : Option Attempt) → ((a : Attempt) → o ≡ Some a → last_of xs ≡ Some a.ts) → LastIs xs o
+last_is xs None f = tt
+last_is xs (Some a) f = f a refl
+
+is_last : (xs : List ℕ) (o : Option Attempt) → LastIs xs o → (a : Attempt) → o ≡ Some a → last_of xs ≡ Some a.ts
+is_last xs o h a e = subst (LastIs xs) e h
+
+-- a hand
+served_by : (m : Msg) (v : Served) → (served_handed m v).ts ≡ v.ts
+served_by (Done t) v = if_way (λ (x : Served). x.ts ≡ v.ts) (t.0 == v.ts) (record v { dones = suc v.dones }) v refl refl
+served_by m v = refl
+
+dones_by : (m : Msg) (v : Served) (n : ℕ) → v.dones ≤ n → (served_handed m v).dones ≤ one_if (is_done_of v.ts m) + n
+dones_by (Done t) v n l =
+    elim (t.0 == v.ts) as (λ b. (if b then record v { dones = suc v.dones } else v).dones ≤ one_if b + n) [ true ↦ omega arith | false ↦ omega arith ]
+dones_by m v n l = omega arith
+
+serving_hand : (s : Setting) (t : ℕ) (from : Site) (m : Msg) (log : Log) → IsServing s t log → IsServing s t (Handed from m ∷ log)
+serving_hand s t from m log h =
+    let k = hand_counts from m (counts t log) in
+    let c = hand_commits m (last_served s log) in
+    let ts = served_by m (last_served s log) in
+    record {
+      counted = h.counted;
+      active_last = is_last (drawn_so_far log) (active_handed 0 from m (active s 0 log)) (handed_way (LastIs (drawn_so_far log)) 0 from m (active s 0 log) tt (λ a x e. h.active_last a e) (last_is (drawn_so_far log) (active s 0 log) h.active_last));
+      served_last = λ e l. h.served_last (e ∙ c) (omega arith) ∙ ap (λ x. Some x) (sym ts);
+      dones_le = subst (λ x. (served_handed m (last_served s log)).dones ≤ dones_of x (Handed from m ∷ log)) (sym ts) (dones_by m (last_served s log) (dones_of (last_served s log).ts log) h.dones_le);
+      released = h.released ∙ ap (λ r. take r (drawn_so_far log)) (sym k.0);
+      done = λ j x l e. (let i = h.done j x (omega (arith, k.0)) e in omega arith);
+    }
+
+-- an act that leaves all but the active attempt
+serving_on : (s : Setting) (t : ℕ) (log : Log) (e : Entry) → drawn_so_far (e ∷ log) ≡ drawn_so_far log
+    → starts (e ∷ log) ≡ starts log → last_served s (e ∷ log) ≡ last_served s log
+    → ((x : ℕ) → dones_of x (e ∷ log) ≡ dones_of x log) → (counts t (e ∷ log)).releases ≡ (counts t log).releases
+    → release_times (puts_to (T (tm_no t)) (e ∷ log)) ≡ release_times (puts_to (T (tm_no t)) log)
+    → LastIs (drawn_so_far log) (active s 0 (e ∷ log)) → IsServing s t log → IsServing s t (e ∷ log)
+serving_on s t log e a b c d f g l h = record {
+  counted = rw (a, b) h.counted;
+  active_last = rw a (is_last (drawn_so_far log) (active s 0 (e ∷ log)) l);
+  served_last = rw (a, b, c) h.served_last;
+  dones_le = subst (λ v. v.dones ≤ dones_of v.ts (e ∷ log)) (sym c) (subst (λ n. (last_served s log).dones ≤ n) (sym (d (last_served s log).ts)) h.dones_le);
+  released = g ∙ h.released ∙ ap (λ r. take r (drawn_so_far log)) (sym f) ∙ ap (take (counts t (e ∷ log)).releases) (sym a);
+  done = λ j x q p. subst (λ n. s.catalogue.dms ≤ n) (sym (d x)) (h.done j x (omega (arith, f, q)) (subst (λ l. slice_get l j ≡ Some x) a p));
+}
+
+serving_start : (s : Setting) (t : ℕ) (log : Log) (q : Queued) → head_of (queue s 0 log) ≡ Some q
+    → (counts t log).releases ≤ starts log → (last_served s log).commits ≤ starts log → IsServing s t log
+    → IsServing s t (Did (start_at s 0 log q) ∷ log)
+serving_start s t log q e r c h =
+    let ts : ℕ = next_stamp s log in
+    let act : Act = start_at s 0 log q in
+    let same : puts_to (T (tm_no t)) (Did act ∷ log) ≡ puts_to (T (tm_no t)) log = ap (λ xs. puts_to (T (tm_no t)) log ++ xs) (none_mapped (tm_no t) (start_read s 0 log q) (modules_asked s 0 q.text)) ∙ append-nil _ in
+    let n = length-append (drawn_so_far log) (ts ∷ []) in
+    record {
+      counted = omega (arith, n, h.counted);
+      active_last = is_last (drawn_so_far log ++ ts ∷ []) (active s 0 (Did act ∷ log)) (subst (λ o. LastIs (drawn_so_far log ++ ts ∷ []) (started ts (sends_of_act act) o)) (sym e) (last_push (drawn_so_far log) ts));
+      served_last = λ p l. absurd (omega arith);
+      dones_le = h.dones_le;
+      released = ap release_times same ∙ h.released ∙ sym (take-append-le (counts t log).releases (drawn_so_far log) (ts ∷ []) (omega (arith, h.counted)));
+      done = λ j x l p. h.done j x l (left_of (drawn_so_far log) (ts ∷ []) j x p (omega (arith, h.counted)));
+    }
+
+serving_commit : (s : Setting) (t : ℕ) (log : Log) (bases : Bases) (a : Attempt) → active s 0 log ≡ Some a → IsServing s t log
+    → IsServing s t (Did (commit_act s.catalogue bases 0 a) ∷ log)
+serving_commit s t log bases a e h =
+    let act : Act = commit_act s.catalogue bases 0 a in
+    let none : drawn_so_far (Did act ∷ log) ≡ drawn_so_far log = append-nil _ in
+    let same : puts_to (T (tm_no t)) (Did act ∷ log) ≡ puts_to (T (tm_no t)) log = ap (λ xs. puts_to (T (tm_no t)) log ++ xs) (no_puts s (tm_no t) bases a) ∙ append-nil _ in
+    let ts : (last_served s (Did act ∷ log)).ts ≡ a.ts = ap ts_of e in
+    record {
+      counted = rw none h.counted;
+      active_last = λ b p. cc;
+      served_last = λ p l. ap last_of none ∙ h.active_last a e ∙ ap (λ x. Some x) (sym ts);
+      dones_le = omega arith;
+      released = ap release_times same ∙ h.released ∙ ap (take (counts t log).releases) (sym none);
+      done = λ j x l p. h.done j x l (subst (λ xs. slice_get xs j ≡ Some x) none p);
+    }
+
+release_push : (ms : List Msg) (ts : Ts) → release_times (ms ++ Release ts ∷ []) ≡ release_times ms ++ ts.0 ∷ []
+release_push ms ts = filter_map-append release_time ms (Release ts ∷ [])
+
+serving_release : (s : Setting) (t : ℕ) (ts : Ts) (log : Log) → (counts t log).releases < (last_served s log).commits
+    → (ts.0 ≡ (last_served s log).ts) × ((last_served s log).dones ≡ s.catalogue.dms) → (last_served s log).commits ≤ starts log
+    → starts log ≤ suc (counts t log).releases
+    → IsServing s t log → IsServing s t (Did (Sends (T (tm_no t)) (Release ts) None) ∷ log)
+serving_release s t ts log l v c u h =
+    let e : Entry = Did (Sends (T (tm_no t)) (Release ts) None) in
+    let r : ℕ = (counts t log).releases in
+    let xs : List ℕ = drawn_so_far log in
+    let none : drawn_so_far (e ∷ log) ≡ xs = append-nil _ in
+    let k : (counts t (e ∷ log)).releases ≡ suc r = ap (λ x. (if x then record (counts t log) { releases = suc (counts t log).releases } else counts t log).releases) (sent_count t t log ∙ same_number t) in
+    let p : puts_to (T (tm_no t)) (e ∷ log) ≡ puts_to (T (tm_no t)) log ++ Release ts ∷ [] = ap (λ x. puts_to (T (tm_no t)) log ++ (if x then Release ts ∷ [] else [])) (same_number t) in
+    let n : length xs ≡ suc r = omega (arith, h.counted) in
+    let last : last_of xs ≡ Some ts.0 = h.served_last (omega arith) (omega arith) ∙ ap (λ x. Some x) (sym v.0) in
+    let whole : xs ≡ take r xs ++ ts.0 ∷ [] = last_split xs r ts.0 n last in
+    record {
+      counted = rw none h.counted;
+      active_last = is_last (drawn_so_far (e ∷ log)) (active s 0 (e ∷ log)) (rw none (sent_way (LastIs xs) 0 (Release ts) (active s 0 log) (λ a x f. h.active_last a f) (last_is xs (active s 0 log) h.active_last)));
+      served_last = rw none h.served_last;
+      dones_le = h.dones_le;
+      released = ap release_times p ∙ release_push (puts_to (T (tm_no t)) log) ts ∙ ap (λ ys. ys ++ ts.0 ∷ []) h.released ∙ sym whole ∙ sym (take_all xs (suc r) (omega arith)) ∙ ap (λ m. take m xs) (sym k) ∙ ap (take (counts t (e ∷ log)).releases) (sym none);
+      done = λ j x i f. (let g : slice_get xs j ≡ Some x = subst (λ ys. slice_get ys j ≡ Some x) none f in
+          elim (dec_le (suc j) r) [
+            | yes w ↦ h.done j x w g
+            | no w ↦ (let at : j ≡ r = omega (arith, k, i, w) in
+                let short : length (take r xs) ≡ r = (let m = length-append (take r xs) (ts.0 ∷ []) in let o : length xs ≡ length (take r xs ++ ts.0 ∷ []) = ap length whole in omega arith) in
+                let is : ts.0 ≡ x = at_end (take r xs) r ts.0 x short (subst (λ ys. slice_get ys r ≡ Some x) whole (subst (λ y. slice_get xs y ≡ Some x) at g)) in
+                let d : s.catalogue.dms ≤ dones_of (last_served s log).ts log = omega (arith, v.1, h.dones_le) in
+                subst (λ y. s.catalogue.dms ≤ dones_of y log) (sym v.0 ∙ is) d)
+          ]);
+    }
+
+none_push : (ms : List Msg) → release_times (ms ++ Hold ∷ []) ≡ release_times ms
+none_push ms = filter_map-append release_time ms (Hold ∷ []) ∙ append-nil _
+
+hold_times : (t n : ℕ) (log : Log)
+    → release_times (puts_to (T (tm_no t)) (Did (Sends (T (tm_no n)) Hold None) ∷ log)) ≡ release_times (puts_to (T (tm_no t)) log)
+hold_times t n log =
+    elim (t == n) as (λ b. release_times (puts_to (T (tm_no t)) log ++ (if b then Hold ∷ [] else [])) ≡ release_times (puts_to (T (tm_no t)) log)) [ true ↦ none_push (puts_to (T (tm_no t)) log) | false ↦ ap release_times (append-nil (puts_to (T (tm_no t)) log)) ]
+
+hold_releases : (t n : ℕ) (log : Log) → (counts t (Did (Sends (T (tm_no n)) Hold None) ∷ log)).releases ≡ (counts t log).releases
+hold_releases t n log =
+    if_way (λ (x : TmCounts). x.releases ≡ (counts t log).releases) (n == (counts t log).tm) (record (counts t log) { holds = suc (counts t log).holds }) (counts t log) refl refl
+
+one_if_le : (b : Bool) → one_if b ≤ 1
+one_if_le true = omega arith
+one_if_le false = omega arith
+
+pub ahead : (s : Setting) (t : ℕ) (log : Log) → IsChain s t log → starts log ≤ suc (counts t log).releases
+ahead s t log c =
+    let b = balance false c.state (puts_to (T (tm_no t)) log) c.turns_are in
+    let o = one_if_le c.state in omega (arith, b, o, c.holds_are, c.releases_are, c.started_hold)
+
+serving_send : (s : Setting) (t : ℕ) (log : Log) (to : Site) (m : Msg)
+    → (counts t (Did (Sends to m None) ∷ log)).releases ≡ (counts t log).releases
+    → release_times (puts_to (T (tm_no t)) (Did (Sends to m None) ∷ log)) ≡ release_times (puts_to (T (tm_no t)) log)
+    → IsServing s t log → IsServing s t (Did (Sends to m None) ∷ log)
+serving_send s t log to m a b h = serving_on s t log (Did (Sends to m None)) (append-nil _) refl refl (λ x. refl) a b
+    (sent_way (LastIs (drawn_so_far log)) 0 m (active s 0 log) (λ a x f. h.active_last a f) (last_is (drawn_so_far log) (active s 0 log) h.active_last)) h
+
+pub serving : (s : Setting) (k t : ℕ) (log : Log) → slice_get (numbers_to s.catalogue.tms) k ≡ Some t → Each (IsFairU s) log
+    → IsServing s t log
+serving s k t [] i h =
+    record { counted = refl; active_last = λ a e. cc; served_last = λ e l. absurd (omega arith); dones_le = omega arith; released = refl; done = λ j x l e. cc }
+serving s k t (Handed from m ∷ log) i h = serving_hand s t from m log (serving s k t log i h.1)
+serving s k t (Ticked n ∷ log) i h =
+    let j = serving s k t log i h.1 in
+    serving_on s t log (Ticked n) refl refl refl (λ x. refl) refl refl (last_is (drawn_so_far log) (active s 0 log) j.active_last) j
+serving s k t (Redeclared force u ∷ log) i h =
+    let j = serving s k t log i h.1 in
+    serving_on s t log (Redeclared force u) refl refl refl (λ x. refl) refl refl (last_is (drawn_so_far log) (active s 0 log) j.active_last) j
+serving s k t (Submits n txn ∷ log) i h =
+    let j = serving s k t log i h.1 in
+    serving_on s t log (Submits n txn) refl refl refl (λ x. refl) refl refl (last_is (drawn_so_far log) (active s 0 log) j.active_last) j
+serving s k t (Did act ∷ log) i h =
+    let j = serving s k t log i h.1 in
+    let c = chain s k t log i h.1 in
+    u_way s log act (λ x. IsServing s t (Did x ∷ log))
+    (λ q e z r. serving_start s t log q e (omega (arith, c.released, c.committed)) c.committed j)
+    (λ bases a e. serving_commit s t log bases a e j)
+    (λ d m a e. serving_send s t log (D (dm_no d)) m refl (ap release_times (append-nil (puts_to (T (tm_no t)) log))) j)
+    (λ n ts l v. elim (same_or_not t n) [
+      | inl p ↦ subst (λ x. IsServing s t (Did (Sends (T (tm_no x)) (Release ts) None) ∷ log)) p (serving_release s t ts log (subst (λ x. (counts x log).releases < (last_served s log).commits) (sym p) l) v c.committed (ahead s t log c) j)
+      | inr p ↦ serving_send s t log (T (tm_no n)) (Release ts) (ap (λ x. (if x then record (counts t log) { releases = suc (counts t log).releases } else counts t log).releases) (sent_count t n log ∙ flip t n p)) (ap release_times (puts_else t n (Release ts) log p)) j
+    ])
+    (λ n e. serving_send s t log (T (tm_no n)) Hold (hold_releases t n log) (hold_times t n log) j) (u_due s h.0.0.0 log act h.0.0.1)
+
+-- at a Start of class 0 each T sent and was sent as many as it takes
+abbrev ReadyIf : Setting → Log → Act → Type 0
+ReadyIf s log (Records k (Start txn attempt c ts p2 us) sends) =
+    (starts log ≡ (last_served s log).commits) × ((j t : ℕ) → slice_get (numbers_to s.catalogue.tms) j ≡ Some t → (counts t log).helds ≡ suc (last_served s log).commits)
+ReadyIf s log act = Unit {0}
+
+starts_are : (s : Setting) (log : Log) (q : Queued) → head_of (queue s 0 log) ≡ Some q → q.tries ≡ 0 → IsTried s log
+    → starts log ≡ (last_served s log).commits
+starts_are s log q e z h = elim h [ inl p ↦ p.0 | inr p ↦ absurd (not_started p.0 (queue s 0 log) q p.2 e z) ]
+
+pub start_ready : (s : Setting) (log : Log) (q : Queued) → Each (IsFairU s) log → IsStepU s log (start_at s 0 log q)
+    → (starts log ≡ (last_served s log).commits) × ((j t : ℕ) → slice_get (numbers_to s.catalogue.tms) j ≡ Some t → (counts t log).helds ≡ suc (last_served s log).commits)
+start_ready s log q h i = u_way s log (start_at s 0 log q) (ReadyIf s log)
+    (λ p e z r. (starts_are s log p e z (is_tried s log h), λ j t x. (r j t x).1))
+    (λ bases a e. tt) (λ d m a e. tt) (λ t ts l v. tt) (λ t e. tt) i

@@ -1,0 +1,77 @@
+-- At a T: the HELD that was sent as number n + 1 and the log before it, its time, and that a Start comes where it isn't on hold.
+use Rattle.std.proofs.Common.{ℕ, ◌++◌, ◌∙◌, ◌∷◌, ◌≡◌, ◌≤◌, Option, [], ap, arith, refl, subst, suc, sym, true}
+use Rattle.sdd_base.specs.declared.number.Ts.{Ts}
+use Rattle.sdd_base.specs.declared.site.Site.{Site}
+use Rattle.sdd_wire.specs.declared.msg.Msg.{Msg}
+use Rattle.sdd_wire.specs.declared.msg.Msg.TheVariants.{Held}
+use Rattle.sdd_module.specs.SiteLog.{Act, Bases, Did, Entry, Handed, Log, Redeclared, Sends, Setting, Submits, Ticked, hands}
+use Rattle.sdd_attempt.specs.Attempts.{asks_rows}
+use Rattle.sdd_attempt.specs.Queues.{Queued}
+use Rattle.sdd_tm.specs.Due.{IsDue}
+use Rattle.sdd_tm.specs.Views.{HoldCounts, holds, holds_acted, view_of}
+use Rattle.sdd_invariants.proofs.Holding.{hand_helds, hold_rule}
+use Rattle.sdd_invariants.specs.AtT.{AllIdle, IsHeldAt}
+use Rattle.sdd_invariants.proofs.Active.{step_way}
+use Rattle.sdd_invariants.specs.Steps.{IsSend, IsStep, a_held, a_hold, a_null, a_release, bound, of_exchange, start_at}
+
+held_more : (e : Entry) (log : Log) (n : ℕ) → IsHeldAt log n → IsHeldAt (e ∷ log) n
+held_more e log n h =
+    record { later = e ∷ h.later; before = h.before; to = h.to; time = h.time; hand = h.hand; is = ap (λ l. e ∷ l) h.is; count = h.count }
+
+held_by : (act : Act) (log : Log) (n : ℕ) → ((holds log).helds ≡ suc n → IsHeldAt log n) → (holds (Did act ∷ log)).helds ≡ suc n
+    → IsHeldAt (Did act ∷ log) n
+held_by (Sends to (Held t) hand) log n f e =
+    record { later = []; before = log; to = to; time = t; hand = hand; is = refl; count = omega (arith, e) }
+held_by act log n f e = held_more (Did act) log n (f e)
+
+pub held_rose : (log : Log) (n : ℕ) → (holds log).helds ≡ suc n → IsHeldAt log n
+held_rose [] n e = cc
+held_rose (Handed from m ∷ log) n e =
+    held_more (Handed from m) log n (held_rose log n (sym (hand_helds (suc (hands log)) m (holds log)) ∙ e))
+held_rose (Ticked k ∷ log) n e = held_more (Ticked k) log n (held_rose log n e)
+held_rose (Redeclared force t ∷ log) n e = held_more (Redeclared force t) log n (held_rose log n e)
+held_rose (Submits k txn ∷ log) n e = held_more (Submits k txn) log n (held_rose log n e)
+held_rose (Did act ∷ log) n e = held_by act log n (held_rose log n) e
+
+helds_by : (act : Act) (h : HoldCounts) → h.helds ≤ (holds_acted act h).helds
+helds_by (Sends to (Held t) hand) h = omega arith
+helds_by act h = omega arith
+
+pub helds_grow : (later log : Log) → (holds log).helds ≤ (holds (later ++ log)).helds
+helds_grow [] log = omega arith
+helds_grow (Handed from m ∷ later) log =
+    let i = helds_grow later log in let j = hand_helds (suc (hands (later ++ log))) m (holds (later ++ log)) in omega arith
+helds_grow (Ticked n ∷ later) log = helds_grow later log
+helds_grow (Redeclared force t ∷ later) log = helds_grow later log
+helds_grow (Submits n txn ∷ later) log = helds_grow later log
+helds_grow (Did act ∷ later) log = let i = helds_grow later log in let j = helds_by act (holds (later ++ log)) in omega arith
+
+-- a HELD promises the bound
+abbrev HeldSays : Setting → Log → Act → Type 0
+HeldSays s log (Sends to (Held t) hand) = t.0 ≡ bound s log
+HeldSays s log act = Unit {0}
+
+held_asks : (s : Setting) (ts c : ℕ) (log : Log) (to : Site) (m : Msg) (hand : Option ℕ) → asks_rows ts c m ≡ true
+    → HeldSays s log (Sends to m hand)
+held_asks s ts c log to (Held t) hand e = cc
+held_asks s ts c log to m hand e = tt
+
+held_send : (s : Setting) (log : Log) (to : Site) (m : Msg) (hand : Option ℕ) → IsSend s log m → HeldSays s log (Sends to m hand)
+held_send s log to m hand (of_exchange c a at i e w) = held_asks s a.ts c log to m hand e
+held_send s log to m hand (a_null c at e) = subst (λ x. HeldSays s log (Sends to x hand)) (sym e) tt
+held_send s log to m hand (a_held e) = subst (λ x. HeldSays s log (Sends to x hand)) (sym e) refl
+held_send s log to m hand (a_hold e) = subst (λ x. HeldSays s log (Sends to x hand)) (sym e) tt
+held_send s log to m hand (a_release t e) = subst (λ x. HeldSays s log (Sends to x hand)) (sym e) tt
+
+pub held_time : (s : Setting) (log : Log) (to : Site) (t : Ts) (hand : Option ℕ) → IsStep s log (Sends to (Held t) hand)
+    → t.0 ≡ bound s log
+held_time s log to t hand i =
+    step_way s log (Sends to (Held t) hand) (HeldSays s log) (λ c q at f e. tt) (λ c bases a at f. tt) (λ to m hand f. held_send s log to m hand f) i
+
+pub start_off : (s : Setting) (bases : Bases) (log : Log) (c : ℕ) (q : Queued)
+    → IsDue s.catalogue bases (view_of s log) (start_at s c log q) → (holds log).holds ≤ (holds log).releases
+start_off s bases log c q d = (hold_rule s bases log (start_at s c log q) d).0
+
+pub held_idle : (s : Setting) (bases : Bases) (log : Log) (to : Site) (t : Ts) (hand : Option ℕ)
+    → IsDue s.catalogue bases (view_of s log) (Sends to (Held t) hand) → AllIdle s log
+held_idle s bases log to t hand d = (hold_rule s bases log (Sends to (Held t) hand) d).1

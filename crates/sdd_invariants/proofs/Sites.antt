@@ -1,0 +1,102 @@
+-- Sites that are the same, and messages among those sent to one.
+use Rattle.std.specs.List.{cons_option, range_with_len}
+use Rattle.std.specs.Prelude.{filter_map}
+use Rattle.std.proofs.Common.{ℕ, ◌+◌, ◌<◌, ◌∷◌, ◌≡◌, ◌≤◌, ◌⊎◌, List, None, Option, Some, [], ap, arith, eq-eqb, false, if◌then◌else◌, inl, inr, map, refl, slice_get, subst, suc, sym, true, zero}
+use Rattle.std.proofs.lemmas.Bool.{eqb-true}
+use Rattle.sdd_base.specs.Numbers.{dm_no, tm_no}
+use Rattle.sdd_base.specs.Sites.{same_site}
+use Rattle.sdd_base.specs.declared.site.Site.{Site}
+use Rattle.sdd_base.specs.declared.site.Site.TheVariants.{D, T, U}
+use Rattle.sdd_wire.specs.declared.msg.Msg.{Msg}
+use Rattle.sdd_invariants.proofs.Bools.{differ, same_number, same_or_not}
+use Rattle.sdd_invariants.proofs.Lists.{in_if}
+use Rattle.sdd_invariants.specs.Orders.{AllGt, IsStrict}
+use Rattle.sdd_invariants.specs.Traffic.{to_site}
+
+pub site_is : (a b : Site) → same_site a b ≡ true → a ≡ b
+site_is U U e = refl
+site_is U (T t) e = cc
+site_is U (D t) e = cc
+site_is (T a) U e = cc
+site_is (T a) (T b) e = ap (λ n. T (tm_no n)) (eqb-true a.0 b.0 e)
+site_is (T a) (D b) e = cc
+site_is (D a) U e = cc
+site_is (D a) (T b) e = cc
+site_is (D a) (D b) e = ap (λ n. D (dm_no n)) (eqb-true a.0 b.0 e)
+
+pub site_self : (a : Site) → same_site a a ≡ true
+site_self U = refl
+site_self (T t) = eq-eqb t.0 t.0 refl
+site_self (D d) = eq-eqb d.0 d.0 refl
+
+-- the only message of a send
+pub the_one : (b to : Site) (x : Msg) (k : ℕ) (m : Msg) → slice_get (to_site b ((to, x) ∷ [])) k ≡ Some m → (b ≡ to) × (x ≡ m)
+the_one b to x k m e = let i = in_if (same_site b to) x k m e in (site_is b to i.0, i.1)
+
+-- one message to each of some modules
+
+pub other_module : (b : Site) (a d : ℕ) → same_site b (D (dm_no a)) ≡ true → a < d → same_site b (D (dm_no d)) ≡ false
+other_module U a d e l = refl
+other_module (T t) a d e l = refl
+other_module (D x) a d e l = elim (same_or_not x.0 d) [
+  | inl p ↦ (let q : x.0 ≡ a = eqb-true x.0 a e in absurd (omega arith))
+  | inr p ↦ p
+]
+
+none_of : (f : ℕ → Msg) (b : Site) (a : ℕ) (ds : List ℕ) → same_site b (D (dm_no a)) ≡ true → AllGt a ds
+    → to_site b (map (λ d. (D (dm_no d), f d)) ds) ≡ []
+none_of f b a [] e h = refl
+none_of f b a (d ∷ ds) e h = rw (other_module b a d e h.0) (none_of f b a ds e h.1)
+
+-- one to each module of an ascending list: to a site at most one
+pub one_of_each : (f : ℕ → Msg) (b : Site) (ds : List ℕ) → IsStrict ds
+    → (to_site b (map (λ d. (D (dm_no d), f d)) ds) ≡ []) ⊎ ((d : ℕ) × (to_site b (map (λ d. (D (dm_no d), f d)) ds) ≡ f d ∷ []))
+one_of_each f b [] h = inl refl
+one_of_each f b (d ∷ ds) h = elim (same_site b (D (dm_no d))) as (λ x. same_site b (D (dm_no d)) ≡ x → (to_site b (map (λ d. (D (dm_no d), f d)) (d ∷ ds)) ≡ []) ⊎ ((d2 : ℕ) × (to_site b (map (λ d. (D (dm_no d), f d)) (d ∷ ds)) ≡ f d2 ∷ []))) [
+  | true ↦ λ e. inr (d, rw e (ap (λ xs. f d ∷ xs) (none_of f b d ds e h.0)))
+  | false ↦ λ e. rw e (one_of_each f b ds h.1)
+] refl
+
+-- to each module at most one
+abbrev pub GoesTo : (ℕ → Option (Site × Msg)) → Type 0
+GoesTo f = (d : ℕ) → (f d ≡ None) ⊎ ((m : Msg) × (f d ≡ Some (D (dm_no d), m)))
+
+pub none_to : (f : ℕ → Option (Site × Msg)) (b : Site) (a n : ℕ) → GoesTo f → ((d : ℕ) → a ≤ d → same_site b (D (dm_no d)) ≡ false)
+    → to_site b (filter_map f (range_with_len a n)) ≡ []
+none_to f b a zero g h = refl
+none_to f b a (suc n) g h = elim (g a) [
+  | inl e ↦ rw e (none_to f b (a + 1) n g (λ d l. h d (omega arith)))
+  | inr p ↦ rw (p.1, h a (omega arith)) (none_to f b (a + 1) n g (λ d l. h d (omega arith)))
+]
+
+-- so of those that it makes of a range at most one goes to a site
+pub one_to : (f : ℕ → Option (Site × Msg)) (b : Site) (a n : ℕ) → GoesTo f
+    → (to_site b (filter_map f (range_with_len a n)) ≡ []) ⊎ ((d : ℕ) × (m : Msg) × (f d ≡ Some (D (dm_no d), m)) × (to_site b (filter_map f (range_with_len a n)) ≡ m ∷ []))
+one_to f b a zero g = inl refl
+one_to f b a (suc n) g = elim (g a) [
+  | inl e ↦ rw e (one_to f b (a + 1) n g)
+  | inr p ↦ elim (same_site b (D (dm_no a))) as (λ x. same_site b (D (dm_no a)) ≡ x → (to_site b (filter_map f (range_with_len a (suc n))) ≡ []) ⊎ ((d : ℕ) × (m : Msg) × (f d ≡ Some (D (dm_no d), m)) × (to_site b (filter_map f (range_with_len a (suc n))) ≡ m ∷ []))) [
+    | true ↦ λ e. inr (a, p.0, p.1, rw (p.1, e) (ap (λ xs. p.0 ∷ xs) (none_to f b (a + 1) n g (λ d l. other_module b a d e (omega arith)))))
+    | false ↦ λ e. rw (p.1, e) (one_to f b (a + 1) n g)
+  ] refl
+]
+
+to_cons : (b : Site) (p : Site × Msg) (ps : List (Site × Msg)) (k : ℕ) (m : Msg) → slice_get (to_site b ps) k ≡ Some m
+    → (j : ℕ) × (slice_get (to_site b (p ∷ ps)) j ≡ Some m)
+to_cons b p ps k m e =
+    elim (same_site b p.0) as (λ x. (j : ℕ) × (slice_get (if x then p.1 ∷ to_site b ps else to_site b ps) j ≡ Some m)) [ true ↦ (suc k, e) | false ↦ (k, e) ]
+
+-- and to a module of the range the one that it makes
+pub some_to : (f : ℕ → Option (Site × Msg)) (a n d : ℕ) (m : Msg) → a ≤ d → d < a + n → f d ≡ Some (D (dm_no d), m)
+    → (k : ℕ) × (slice_get (to_site (D (dm_no d)) (filter_map f (range_with_len a n))) k ≡ Some m)
+some_to f a zero d m l h e = absurd (omega arith)
+some_to f a (suc n) d m l h e = elim (same_or_not a d) [
+  | inl p ↦ (let q : f a ≡ Some (D (dm_no d), m) = subst (λ x. f x ≡ Some (D (dm_no d), m)) (sym p) e in
+      (0, rw (q, same_number d) refl))
+  | inr p ↦ (let ne : (a ≡ d → ⊥) = λ q. differ a d p q in
+      let i = some_to f (a + 1) n d m (omega arith) (omega arith) e in
+      elim (f a) as (λ o. (k : ℕ) × (slice_get (to_site (D (dm_no d)) (cons_option o (filter_map f (range_with_len (a + 1) n)))) k ≡ Some m)) [
+        | None ↦ i
+        | Some x ↦ to_cons (D (dm_no d)) x (filter_map f (range_with_len (a + 1) n)) i.0 m i.1
+      ])
+]

@@ -1,0 +1,144 @@
+-- An Answer splits the WRITEs of a condition's class: those that change one of its fragments are processed before it
+-- exactly where their time is below the condition's.
+use Rattle.std.specs.List.{list_all, list_any}
+use Rattle.std.proofs.Common.{ℕ, ◌++◌, ◌+◌, ◌<◌, ◌∙◌, ◌∷◌, ◌≡◌, ◌≢◌, ◌≤◌, ◌⊎◌, List, None, Some, [], ap, append_assoc, arith, cond, false, inl, inr, length, length-append, map, nat_le, slice_get, subst, suc, sym, true, zero}
+use Rattle.std.proofs.Math.Decide.{dec_le}
+use Rattle.std.proofs.lemmas.Bool.Decides.{nat_tests}
+use Rattle.sdd_base.specs.Sites.{number_of}
+use Rattle.sdd_base.specs.Words.{head_of}
+use Rattle.sdd_base.specs.declared.change.Change.{Change}
+use Rattle.sdd_base.specs.declared.condition.Cond.{Cond}
+use Rattle.sdd_base.specs.declared.number.ClassNo.{ClassNo}
+use Rattle.sdd_base.specs.declared.number.DmNo.{DmNo}
+use Rattle.sdd_base.specs.declared.number.Ts.{Ts}
+use Rattle.sdd_base.specs.declared.number.TxnNo.{TxnNo}
+use Rattle.sdd_base.specs.declared.site.Site.{Site}
+use Rattle.sdd_base.specs.declared.site.Site.TheVariants.{D}
+use Rattle.sdd_base.specs.declared.usage.Use.{Use}
+use Rattle.sdd_history.specs.declared.record.Rec.TheVariants.{Answer}
+use Rattle.sdd_wire.specs.Piped.{time_of}
+use Rattle.sdd_wire.specs.declared.msg.Msg.{Msg}
+use Rattle.sdd_wire.specs.declared.msg.Msg.TheVariants.{Read, Write}
+use Rattle.sdd_module.specs.SiteLog.{Act, Each, Records, Setting}
+use Rattle.sdd_pipe.specs.Pipe.{Pipe, empty_pipe, head, passed, passed_by, touches}
+use Rattle.sdd_dm.specs.Due.{is_at_least, is_met, spoils}
+use Rattle.sdd_dm.specs.Pipes.{is_processing, pipe, waits}
+use Rattle.sdd_dm.specs.Views.{ClassView, view_of}
+use Rattle.sdd_log.specs.Entries.{Does, Given, Log}
+use Rattle.sdd_log.specs.Locals.{local_of, setting_of}
+use Rattle.sdd_log.specs.Permitted.{IsPermitted}
+use Rattle.sdd_log.proofs.EachLocal.{allowed_act}
+use Rattle.sdd_invariants.proofs.Waiting.{any_false_at, no_spoiler, processed_in_is, spoils_is, waiting}
+use Rattle.sdd_invariants.specs.Unspoilt.{AllUnspoilt, IsUnspoilt, spoiling}
+use Rattle.sdd_invariants.proofs.ClassOrder.{class_rises, earlier}
+use Rattle.sdd_invariants.proofs.InPipe.{in_pipe_later}
+use Rattle.sdd_invariants.specs.Seen.{all_of, class_puts, pipe_at}
+use Rattle.sdd_invariants.proofs.AreReadSteps.{class_in_view, class_not_in_view, d_step}
+use Rattle.sdd_invariants.proofs.Bools.{not_both}
+use Rattle.sdd_invariants.proofs.Lists.{all_at, any_at, at_seam, in_left, place_within, within_left}
+use Rattle.sdd_invariants.specs.Orders.{IsRising}
+use Rattle.sdd_invariants.specs.ReadSteps.{IsDueEach, IsReadStep, May, by_record, by_wait, in_passing}
+use Rattle.sdd_invariants.specs.Steps.{home}
+use Rattle.sdd_invariants.proofs.Fair.{d_fair}
+use Rattle.sdd_invariants.proofs.Made.{permitted_before}
+use Rattle.sdd_module.specs.SiteLog as site
+
+pub le_is : (a b : ℕ) → nat_le a b ≡ true → a ≤ b
+le_is a b e = grind (arith, nat_tests)
+
+not_le_is : (a b : ℕ) → nat_le a b ≡ false → b < a
+not_le_is a b e = grind (arith, nat_tests)
+
+-- where a class has passed a time, what has a smaller time is processed
+passed_at : (ps qs more : List Msg) (t i : ℕ) (m : Msg) → IsRising (map time_of ((ps ++ qs) ++ more))
+    → slice_get ((ps ++ qs) ++ more) i ≡ Some m → time_of m < t → passed_by (head_of qs) ps t ≡ true → i < length ps
+passed_at ps [] more t i m h e l q =
+    let a = any_at (λ x. nat_le t (time_of x)) ps q in
+    let k = earlier ((ps ++ []) ++ more) i a.0 t m a.1 h e (in_left (ps ++ []) more a.0 a.1 (in_left ps [] a.0 a.1 a.2)) l (le_is t (time_of a.1) a.3) in
+    let w = place_within ps a.0 a.1 a.2 in
+    omega (arith, k, w)
+passed_at ps (x ∷ qs) more t i m h e l q =
+    earlier ((ps ++ x ∷ qs) ++ more) i (length ps) t m x h e (in_left (ps ++ x ∷ qs) more (length ps) x (at_seam ps qs x)) l (le_is t (time_of x) q)
+
+has_passed : (p : Pipe) (more : List Msg) (t i : ℕ) (m : Msg) → IsRising (map time_of (all_of p ++ more))
+    → slice_get (all_of p ++ more) i ≡ Some m → time_of m < t → passed p t ≡ true → i < length p.processed
+has_passed p more t i m h e l q = passed_at p.processed p.unprocessed more t i m h e l q
+
+-- what the Answer's step says of its conditions
+
+unspoilt_at : (s : Setting) (log : site.Log) (ds : List Cond) (n : ℕ) (d : Cond) → AllUnspoilt s log ds → slice_get ds n ≡ Some d
+    → (d.class.0 ≡ 0) ⊎ (spoils (view_of s log) d ≡ false)
+unspoilt_at s log [] n d h e = cc
+unspoilt_at s log (x ∷ ds) zero d h e =
+    let p : x ≡ d = cc in subst (λ y. (y.class.0 ≡ 0) ⊎ (spoils (view_of s log) y ≡ false)) p h.0
+unspoilt_at s log (x ∷ ds) (suc n) d h e = unspoilt_at s log ds n d h.1 e
+
+pub answered_if : (s : Setting) (log : site.Log) (c : ℕ) (txn : TxnNo) (attempt : ℕ) (module_no : DmNo) (sends : List (Site × Msg)) (ts : Ts) (k : ClassNo) (t : TxnNo) (a : ℕ) (conds : List Cond) (uses : List Use)
+    → Each (IsDueEach s) log → IsReadStep s log (Records c (Answer txn attempt module_no) sends)
+    → head (pipe c log) ≡ Some (Read ts k t a conds uses)
+    → (list_all (is_met (view_of s log)) conds ≡ true) × AllUnspoilt s log conds
+answered_if s log c txn attempt module_no sends ts k t a conds uses h (in_passing e) f = cc
+answered_if s log c txn attempt module_no sends ts k t a conds uses h (by_wait j ds r ss l p w i q e) f =
+    let same : Answer txn attempt module_no ≡ r = cc in
+    let x : is_processing r ≡ true = ap is_processing (sym same) in absurd (not_both (is_processing r) x p)
+answered_if s log c txn attempt module_no sends ts k t a conds uses h (by_record j m r ss l p i may e) f =
+    let same : Answer txn attempt module_no ≡ r = cc in
+    let at : c ≡ j = cc in
+    let i2 : head (pipe c log) ≡ Some m = subst (λ x. head (pipe x log) ≡ Some m) (sym at) i in
+    let is : m ≡ Read ts k t a conds uses = cc in
+    let m2 : May (view_of s log) c (waits c log) (Read ts k t a conds uses) (Answer txn attempt module_no) = subst (λ x. May (view_of s log) x (waits x log) (Read ts k t a conds uses) (Answer txn attempt module_no)) (sym at) (subst (λ x. May (view_of s log) j (waits j log) (Read ts k t a conds uses) x) (sym same) (subst (λ x. May (view_of s log) j (waits j log) x r) is may)) in (
+      m2.2,
+      elim m2.3 [
+        | inl w ↦ (let u = waiting s log h c w in subst (IsUnspoilt s log) f u.1)
+        | inr n ↦ no_spoiler s log conds n
+      ],
+    )
+
+below_time : (q : Cond) (w : Ts) (j : ClassNo) (x : TxnNo) (changes : List Change) → touches q.frags changes ≡ true
+    → spoiling q (Write w j x changes) ≡ false → w.0 < q.time.0
+below_time q w j x changes t e = not_le_is q.time.0 w.0 (sym (ap (λ b. is_at_least q.time.0 (cond b (Some w.0) None)) t) ∙ e)
+
+pub processed_there : (p : Pipe) (more : List Msg) (i : ℕ) (m : Msg) → slice_get (all_of p ++ more) i ≡ Some m
+    → i < length p.processed → slice_get p.processed i ≡ Some m
+processed_there p more i m e l =
+    let n : length (all_of p) ≡ length p.processed + length p.unprocessed = length-append p.processed p.unprocessed in
+    within_left p.processed p.unprocessed i m (within_left (all_of p) more i m e (omega arith)) l
+
+pub processed_stays : (p : Pipe) (more : List Msg) (i : ℕ) (m : Msg) → slice_get p.processed i ≡ Some m
+    → slice_get (all_of p ++ more) i ≡ Some m
+processed_stays p more i m e = in_left (all_of p) more i m (in_left p.processed p.unprocessed i m e)
+
+-- the split
+
+pub split : (g : Given) (later log : Log) (d : DmNo) (q : Cond) (r : ℕ) (txn : TxnNo) (attempt : ℕ) (module_no : DmNo) (sends : List (Site × Msg)) (ts : Ts) (k : ClassNo) (t : TxnNo) (a : ℕ) (conds : List Cond) (uses : List Use) (n : ℕ) (i : ℕ) (w : Ts) (j : ClassNo) (x : TxnNo) (changes : List Change)
+    → IsPermitted g (later ++ Does (D d) (Records r (Answer txn attempt module_no) sends) ∷ log)
+    → number_of (home g.catalogue q.class.0) ≤ 63
+    → head (pipe_at g r d log) ≡ Some (Read ts k t a conds uses) → slice_get conds n ≡ Some q → q.class.0 ≢ 0
+    → slice_get (class_puts g q.class.0 d (later ++ Does (D d) (Records r (Answer txn attempt module_no) sends) ∷ log)) i ≡ Some (Write w j x changes)
+    → touches q.frags changes ≡ true
+    → (i < length (pipe_at g q.class.0 d log).processed → w.0 < q.time.0) × (w.0 < q.time.0 → i < length (pipe_at g q.class.0 d log).processed)
+split g later log d q r txn attempt module_no sends ts k t a conds uses n i w j x changes h small f at declared e tch =
+    let s : Setting = setting_of g (D d) in
+    let act : Act = Records r (Answer txn attempt module_no) sends in
+    let l : site.Log = local_of g (D d) log in
+    let all : Log = later ++ Does (D d) act ∷ log in
+    let c : ℕ = q.class.0 in
+    let before = permitted_before g later (Does (D d) act ∷ log) h in
+    let fair : Each (IsDueEach s) l = d_fair g d log before.1 in
+    let facts = answered_if s l r txn attempt module_no sends ts k t a conds uses fair (d_step s l act (allowed_act g log (Does (D d) act) before.0)) f in
+    let met : is_met (view_of s l) q ≡ true = all_at (is_met (view_of s l)) conds n q facts.0 at in
+    let clean : spoils (view_of s l) q ≡ false = elim (unspoilt_at s l conds n q facts.1 at) [ inl z ↦ absurd (declared z) | inr u ↦ u ] in
+    let more = in_pipe_later g c d (later ++ Does (D d) act ∷ []) log before.1 in
+    let whole : (later ++ Does (D d) act ∷ []) ++ log ≡ all = append_assoc later (Does (D d) act ∷ []) log in
+    let is : class_puts g c d all ≡ all_of (pipe c l) ++ more.0 = subst (λ z. class_puts g c d z ≡ all_of (pipe c l) ++ more.0) whole more.1 in
+    let rises : IsRising (map time_of (all_of (pipe c l) ++ more.0)) = subst (λ ms. IsRising (map time_of ms)) is (class_rises g c d all h small) in
+    let there : slice_get (all_of (pipe c l) ++ more.0) i ≡ Some (Write w j x changes) = subst (λ ms. slice_get ms i ≡ Some (Write w j x changes)) is e in
+    elim (dec_le (suc c) (suc (length s.catalogue.classes))) [
+      | yes lt ↦ (
+        (λ lo. let in_it : slice_get (pipe c l).processed i ≡ Some (Write w j x changes) = processed_there (pipe c l) more.0 i (Write w j x changes) there lo in
+            let none : list_any (spoiling q) (pipe c l).processed ≡ false = subst (λ ms. list_any (spoiling q) ms ≡ false) (processed_in_is s l c lt) (sym (spoils_is s l q) ∙ clean) in
+            below_time q w j x changes tch (any_false_at (spoiling q) (pipe c l).processed i (Write w j x changes) none in_it)),
+        (λ lo. has_passed (pipe c l) more.0 q.time.0 i (Write w j x changes) rises there lo (subst (λ (v : ClassView). passed v.pipe q.time.0 ≡ true) (class_in_view s l c lt) met)),
+      )
+      | no nlt ↦ (let p : passed empty_pipe q.time.0 ≡ true = subst (λ (v : ClassView). passed v.pipe q.time.0 ≡ true) (class_not_in_view s l c (omega (arith, nlt))) met in cc)
+    ]

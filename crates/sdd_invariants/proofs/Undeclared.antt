@@ -1,0 +1,254 @@
+-- H5's Applies, and that a READ of an undeclared transaction is never spoilt.
+use Rattle.std.proofs.Common.{ℕ, ◌++◌, ◌<◌, ◌==◌, ◌∙◌, ◌∷◌, ◌≡◌, ◌≢◌, ◌≤◌, List, Some, [], ap, append_assoc, arith, false, inl, inr, length, refl, slice_get, subst, suc, sym, true, zero}
+use Rattle.sdd_base.specs.Numbers.{dm_no, tm_no}
+use Rattle.sdd_base.specs.Sites.{number_of}
+use Rattle.sdd_base.specs.Words.{contains}
+use Rattle.sdd_base.specs.declared.condition.Cond.{Cond}
+use Rattle.sdd_base.specs.declared.number.ClassNo.{ClassNo}
+use Rattle.sdd_base.specs.declared.number.DmNo.{DmNo}
+use Rattle.sdd_base.specs.declared.number.Ts.{Ts}
+use Rattle.sdd_base.specs.declared.number.TxnNo.{TxnNo}
+use Rattle.sdd_base.specs.declared.site.Site.{Site}
+use Rattle.sdd_base.specs.declared.site.Site.TheVariants.{D, T, U}
+use Rattle.sdd_base.specs.declared.usage.Use.{Use}
+use Rattle.sdd_catalog.specs.Catalogue.{numbers_to}
+use Rattle.sdd_graph.specs.Graph.{classes_of}
+use Rattle.sdd_protocol.specs.Conditions.{undeclared_conditions}
+use Rattle.sdd_history.specs.declared.record.Rec.TheVariants.{Answer}
+use Rattle.sdd_wire.specs.declared.msg.Msg.{Msg}
+use Rattle.sdd_wire.specs.declared.msg.Msg.TheVariants.{Read, Write}
+use Rattle.sdd_module.specs.SiteLog.{Act, Bases, Did, Records, Setting, sends_of_act}
+use Rattle.sdd_attempt.specs.Acts.{commit_act}
+use Rattle.sdd_attempt.specs.Attempts.{Attempt, active}
+use Rattle.sdd_attempt.specs.Clocks.{clock}
+use Rattle.sdd_attempt.specs.Queues.{Queued}
+use Rattle.sdd_pipe.specs.Pipe.{head, touches}
+use Rattle.sdd_dm.specs.Due.{spoils}
+use Rattle.sdd_dm.specs.Views.{home_of, view_of}
+use Rattle.sdd_tm.specs.Views.{runs}
+use Rattle.sdd_log.specs.Entries.{Does, Entry, Given, Log}
+use Rattle.sdd_log.specs.Locals.{local_of, setting_of}
+use Rattle.sdd_log.specs.Permitted.{IsPermitted}
+use Rattle.sdd_invariants.proofs.Apart.{at_start, drawn_grow, end_at, low_or_high}
+use Rattle.sdd_invariants.proofs.Dones.{all_applied}
+use Rattle.sdd_invariants.proofs.HoldChain.{hold_chain, u_table}
+use Rattle.sdd_invariants.specs.Barrier.{HasApply, IsCommitT, IsHigh, start_u, u_stamp, zero_cond}
+use Rattle.sdd_invariants.proofs.Holding.{at_map}
+use Rattle.sdd_invariants.proofs.Releases.{serving}
+use Rattle.sdd_invariants.specs.AtU.{starts}
+use Rattle.sdd_invariants.specs.Releases.{dones_of, drawn_so_far}
+use Rattle.sdd_invariants.proofs.Clocks.{clock_grows}
+use Rattle.sdd_invariants.proofs.ReadsPut.{start_puts}
+use Rattle.sdd_invariants.proofs.Recorded.{start_of_active}
+use Rattle.sdd_invariants.specs.OfRecords.{HasStart}
+use Rattle.sdd_invariants.specs.Puts.{IsRead}
+use Rattle.sdd_invariants.proofs.Again.{is_spoilt, le_as, stamp_ticks, writer_of}
+use Rattle.sdd_invariants.proofs.Answered.{read_of}
+use Rattle.sdd_invariants.proofs.Installed.{class_number, head_put, write_origin}
+use Rattle.sdd_invariants.proofs.Once.{answered_there}
+use Rattle.sdd_invariants.proofs.Starting.{commit_answered}
+use Rattle.sdd_invariants.specs.Causes.{HasAnswer, IsWriter}
+use Rattle.sdd_invariants.proofs.Applied.{split_applied}
+use Rattle.sdd_invariants.specs.Seen.{IsApplied, changes_to, pipe_at}
+use Rattle.sdd_invariants.proofs.Bools.{or_left, or_right, same_number}
+use Rattle.sdd_invariants.proofs.Lists.{in_left, in_mapped, in_none, in_one, place_within}
+use Rattle.sdd_invariants.specs.Steps.{home, next_stamp, start_at, start_read}
+use Rattle.sdd_invariants.specs.Traffic.{to_site}
+use Rattle.sdd_invariants.proofs.Fair.{home_fair}
+use Rattle.sdd_invariants.proofs.Made.{local_grows, own_act, permitted_before}
+use Rattle.sdd_module.specs.SiteLog as site
+
+-- first parts of a log
+abbrev pub Part : Log → Log → Type 0
+Part l m = (f : Log) × (l ≡ f ++ m)
+
+pub part_of : (l f : Log) (x : Entry) (m : Log) → l ≡ f ++ x ∷ m → Part l m
+part_of l f x m e = (f ++ x ∷ [], e ∙ sym (append_assoc f (x ∷ []) m))
+
+pub part_join : (a b c : Log) → Part a b → Part b c → Part a c
+part_join a b c p q = (p.0 ++ q.0, p.1 ∙ ap (λ l. p.0 ++ l) q.1 ∙ sym (append_assoc p.0 q.0 c))
+
+pub permitted_part : (g : Given) (a b : Log) → IsPermitted g a → Part a b → IsPermitted g b
+permitted_part g a b h p = permitted_before g p.0 b (subst (IsPermitted g) p.1 h)
+
+-- an Apply of an undeclared transaction follows its Answer at the module
+has_number : (ns : List ℕ) (k d : ℕ) → slice_get ns k ≡ Some d → contains ns d ≡ true
+has_number [] k d e = cc
+has_number (x ∷ ns) zero d e =
+    let p : x ≡ d = cc in let q : (x == d) ≡ true = ap (λ y. x == y) (sym p) ∙ same_number x in or_left (x == d) (contains ns d) q
+has_number (x ∷ ns) (suc k) d e = or_right (x == d) (contains ns d) (has_number ns k d e)
+
+pub answered_before : (g : Given) (k : ℕ) (d : DmNo) (log : Log) (x : ℕ) → IsPermitted g log
+    → slice_get (numbers_to g.catalogue.dms) k ≡ Some d.0 → HasApply g log d x
+    → (a : Attempt) × (before : Log) × Part log before × HasAnswer g before d 0 a × (a.ts ≡ x)
+answered_before g k d log x h i p =
+    let p1 = part_of log p.later _ p.before p.is in
+    let h1 = permitted_part g log p.before h p1 in
+    let m : Msg = Write p.ts p.of p.txn p.changes in
+    let put = head_put g 0 d p.before m h1 p.head_is in
+    let z : p.of.0 ≡ 0 = class_number p.of.0 0 p.ts.0 put.of_class in
+    let w = write_origin g p.before 0 d p.ts p.of p.txn p.changes z put in
+    let h2 : IsPermitted g (Does U (commit_act g.catalogue w.bases 0 w.attempt) ∷ w.before) = permitted_before g w.later (Does U (commit_act g.catalogue w.bases 0 w.attempt) ∷ w.before) (subst (IsPermitted g) w.is h1) in
+    let ans = commit_answered g 0 w.before w.bases w.attempt d h2 w.active_is (has_number (numbers_to g.catalogue.dms) k d.0 i) in
+    (w.attempt, w.before, part_join log p.before w.before p1 (part_of p.before w.later _ w.before w.is), ans, sym w.ts_is ∙ p.ts_is)
+
+-- so its READ doesn't stand at the head again
+not_again : (g : Given) (d : DmNo) (log : Log) (a : Attempt) (ts : Ts) (k : ClassNo) (txn : TxnNo) (n : ℕ) (ds : List Cond) (us : List Use) (before : Log)
+    → IsPermitted g log → head (pipe_at g 0 d log) ≡ Some (Read ts k txn n ds us) → Part log before → HasAnswer g before d 0 a
+    → a.ts ≡ ts.0 → ⊥
+not_again g d log a ts k txn n ds us before h e p w same =
+    let ans : Act = Records 0 (Answer w.txn w.attempt (home_of (setting_of g (D d))).dm) w.sends in
+    let whole : log ≡ (p.0 ++ w.later) ++ Does (D d) ans ∷ w.before = p.1 ∙ ap (λ l. p.0 ++ l) w.is ∙ sym (append_assoc p.0 w.later (Does (D d) ans ∷ w.before)) in
+    answered_there g 0 d (p.0 ++ w.later) w.before (home_of (setting_of g (D d))).dm w.sends w.ts ts w.of k w.txn w.txn txn w.attempt w.attempt n w.conds ds w.uses us (subst (IsPermitted g) whole h) (omega arith)
+    w.head_is (subst (λ l. head (pipe_at g 0 d l) ≡ Some (Read ts k txn n ds us)) whole e) (w.ts_is ∙ same)
+
+-- of an undeclared transaction's READ: its conditions are on each class, at its timestamp, with all fragments
+
+abbrev conds_in : Msg → List Cond
+conds_in (Read ts k txn n ds us) = ds
+conds_in m = []
+
+conds_put : (g : Given) (d : DmNo) (l : site.Log) (q : Queued) (k : ℕ) (m : Msg)
+    → slice_get (to_site (D d) (sends_of_act (start_at (setting_of g U) 0 l q))) k ≡ Some m
+    → conds_in m ≡ undeclared_conditions g.catalogue (next_stamp (setting_of g U) l)
+conds_put g d l q k m there = elim (start_puts (setting_of g U) 0 (D d) l q) [
+  | inl e ↦ in_none _ k m e there
+  | inr p ↦ ap conds_in (sym (in_one _ (start_read (setting_of g U) 0 l q p.0) k m p.1 there))
+]
+
+zero_conds : (g : Given) (d : DmNo) (log : Log) (ts : Ts) (k : ClassNo) (txn : TxnNo) (n : ℕ) (ds : List Cond) (us : List Use)
+    → IsPermitted g log → head (pipe_at g 0 d log) ≡ Some (Read ts k txn n ds us) → ds ≡ undeclared_conditions g.catalogue ts.0
+zero_conds g d log ts k txn n ds us h e =
+    let m : Msg = Read ts k txn n ds us in
+    let p = head_put g 0 d log m h e in
+    let z : k.0 ≡ 0 = class_number k.0 0 ts.0 p.of_class in
+    let r : IsRead (setting_of g U) (local_of g U p.before) p.act 0 ts.0 txn.0 n = subst (λ j. IsRead (setting_of g U) (local_of g U p.before) p.act j ts.0 txn.0 n) z p.by in
+    conds_put g d (local_of g U p.before) r.queued p.place m (subst (λ y. slice_get (to_site (D d) (sends_of_act y)) p.place ≡ Some m) r.act_is p.there)
+    ∙ ap (undeclared_conditions g.catalogue) (sym r.time_is)
+
+read_times : (g : Given) (d : DmNo) (log : Log) (ts : Ts) (k : ClassNo) (txn : TxnNo) (n : ℕ) (ds : List Cond) (us : List Use) (j : ℕ) (q : Cond)
+    → IsPermitted g log → head (pipe_at g 0 d log) ≡ Some (Read ts k txn n ds us) → slice_get ds j ≡ Some q → q.time.0 ≡ ts.0
+read_times g d log ts k txn n ds us j q h e f =
+    let r = in_mapped (zero_cond g ts.0) (classes_of g.catalogue) j q (subst (λ l. slice_get l j ≡ Some q) (zero_conds g d log ts k txn n ds us h e) f) in
+    ap (λ (c : Cond). c.time.0) (sym r.2)
+
+pub read_classes : (g : Given) (d : DmNo) (log : Log) (ts : Ts) (k : ClassNo) (txn : TxnNo) (n : ℕ) (ds : List Cond) (us : List Use) (j : ℕ) (q : Cond)
+    → IsPermitted g log → head (pipe_at g 0 d log) ≡ Some (Read ts k txn n ds us) → slice_get ds j ≡ Some q
+    → slice_get (classes_of g.catalogue) j ≡ Some q.class.0
+read_classes g d log ts k txn n ds us j q h e f =
+    let r = in_mapped (zero_cond g ts.0) (classes_of g.catalogue) j q (subst (λ l. slice_get l j ≡ Some q) (zero_conds g d log ts k txn n ds us h e) f) in
+    r.1 ∙ ap (λ (c : Cond). Some c.class.0) r.2
+
+pub has_cond : (g : Given) (d : DmNo) (log : Log) (ts : Ts) (k : ClassNo) (txn : TxnNo) (n : ℕ) (ds : List Cond) (us : List Use) (j c : ℕ)
+    → IsPermitted g log → head (pipe_at g 0 d log) ≡ Some (Read ts k txn n ds us) → slice_get (classes_of g.catalogue) j ≡ Some c
+    → slice_get ds j ≡ Some (zero_cond g ts.0 c)
+has_cond g d log ts k txn n ds us j c h e f =
+    subst (λ l. slice_get l j ≡ Some (zero_cond g ts.0 c)) (sym (zero_conds g d log ts k txn n ds us h e)) (at_map (zero_cond g ts.0) (classes_of g.catalogue) j c f)
+
+-- a Commit at the site of its class, as H5 takes it
+pub commit_t : (g : Given) (t c : ℕ) (log later before : Log) (bases : Bases) (a : Attempt) → IsPermitted g log
+    → home g.catalogue c ≡ T (tm_no t) → log ≡ later ++ Does (home g.catalogue c) (commit_act g.catalogue bases c a) ∷ before
+    → active (setting_of g (home g.catalogue c)) c (local_of g (home g.catalogue c) before) ≡ Some a → IsCommitT g t c log a
+commit_t g t c log later before bases a h hm e act =
+    let at : Site = T (tm_no t) in
+    let hb : IsPermitted g before = permitted_part g log before h (part_of log later _ before e) in
+    let st = start_of_active (setting_of g (home g.catalogue c)) c (local_of g (home g.catalogue c) before) a (home_fair g c before hb) act in
+    let x = local_grows g (home g.catalogue c) later (Does (home g.catalogue c) (commit_act g.catalogue bases c a) ∷ before) in
+    let is : local_of g (home g.catalogue c) log ≡ x.0 ++ Did (commit_act g.catalogue bases c a) ∷ local_of g (home g.catalogue c) before = ap (local_of g (home g.catalogue c)) e ∙ x.1 ∙ ap (λ l. x.0 ++ l) (own_act g (home g.catalogue c) (commit_act g.catalogue bases c a) before) in
+    record {
+      later = x.0;
+      before = local_of g at before;
+      bases = bases;
+      is = subst (λ y. local_of g y log ≡ x.0 ++ Did (commit_act g.catalogue bases c a) ∷ local_of g y before) hm is;
+      active_is = subst (λ y. active (setting_of g y) c (local_of g y before) ≡ Some a) hm act;
+      start = subst (λ y. HasStart (setting_of g y) c (local_of g y before) a.txn a.attempt a.ts a.text) hm st;
+    }
+
+-- class 0 is never spoilt
+spoilt_not : (g : Given) (k t c j kd : ℕ) (d : DmNo) (log : Log) (ts : Ts) (of : ClassNo) (txn : TxnNo) (n : ℕ) (ds : List Cond) (us : List Use) (q : Cond) (w : ℕ)
+    → IsPermitted g log → slice_get (numbers_to g.catalogue.tms) k ≡ Some t
+    → slice_get (runs (setting_of g (T (tm_no t)))) j ≡ Some c → number_of (T (tm_no t)) ≤ 63
+    → home g.catalogue c ≡ T (tm_no t) → slice_get (numbers_to g.catalogue.dms) kd ≡ Some d.0
+    → head (pipe_at g 0 d log) ≡ Some (Read ts of txn n ds us) → ts.0 ≤ w → IsWriter g log d c w → ⊥
+spoilt_not g k t c j kd d log ts of txn n ds us q w h i run small hm id e le wr =
+    let ro = read_of g 0 d log ts of txn n ds us h e in
+    let r = ro.1 in
+    let cm = wr.commit in
+    let ct = commit_t g t c log cm.later cm.before cm.bases cm.attempt h hm cm.is cm.active_is in
+    elim (low_or_high g k t c j log r.later r.before r.queued cm.attempt ct i run small h r.is) [
+      | inl lo ↦ (let b = lo.below in omega (arith, b, le, r.ts_is, cm.ts_is))
+      | inr hi ↦ (let p1 = part_of log hi.start.later _ hi.start.rest hi.start.is in
+          let h1 = permitted_part g log hi.start.rest h p1 in
+          let ap0 = all_applied g hi.start.rest (u_stamp g r.before) kd d.0 h1 hi.dones id in
+          let an = answered_before g kd d hi.start.rest (u_stamp g r.before) h1 id ap0 in
+          not_again g d log an.0 ts of txn n ds us an.1 h e (part_join log hi.start.rest an.1 p1 an.2) an.3 (an.4 ∙ sym r.ts_is))
+    ]
+
+pub never_spoilt : (g : Given) (k t j kd m : ℕ) (d : DmNo) (log : Log) (ts : Ts) (of : ClassNo) (txn : TxnNo) (n : ℕ) (ds : List Cond) (us : List Use) (q : Cond)
+    → IsPermitted g log → slice_get (numbers_to g.catalogue.tms) k ≡ Some t
+    → slice_get (runs (setting_of g (T (tm_no t)))) j ≡ Some q.class.0 → number_of (T (tm_no t)) ≤ 63
+    → home g.catalogue q.class.0 ≡ T (tm_no t) → slice_get (numbers_to g.catalogue.dms) kd ≡ Some d.0
+    → head (pipe_at g 0 d log) ≡ Some (Read ts of txn n ds us) → slice_get ds m ≡ Some q
+    → spoils (view_of (setting_of g (D d)) (local_of g (D d) log)) q ≡ false
+never_spoilt g k t j kd m d log ts of txn n ds us q h i run small hm id e f =
+    let s : Setting = setting_of g (D d) in
+    let l : site.Log = local_of g (D d) log in
+    elim (spoils (view_of s l) q) as (λ b. spoils (view_of s l) q ≡ b → b ≡ false) [
+      | true ↦ λ p. (let z = is_spoilt s l q p in
+          let wr = writer_of g log d q.class.0 z.place z.ts z.of z.txn z.changes h z.there in
+          let same = read_times g d log ts of txn n ds us m q h e f in
+          absurd (spoilt_not g k t q.class.0 j kd d log ts of txn n ds us q z.ts.0 h i run small hm id e (subst (λ y. y ≤ z.ts.0) same (le_as q.time.0 _ z.ts.0 z.at_least z.ts_is)) wr))
+      | false ↦ λ p. refl
+    ] refl
+
+-- H5, the low case: at each Answer of the undeclared transaction the declared one is applied where it touches the module
+pub low_applied : (g : Given) (d : DmNo) (c j : ℕ) (later log later2 log2 : Log) (k : ClassNo) (txn reader : TxnNo) (attempt tries : ℕ) (no_of : DmNo) (sends : List (Site × Msg)) (ts : Ts) (ds : List Cond) (us : List Use) (bases : Bases) (a : Attempt)
+    → IsPermitted g (later ++ Does (D d) (Records 0 (Answer txn attempt no_of) sends) ∷ log) → number_of (home g.catalogue c) ≤ 63
+    → 1 ≤ d.0 → d.0 ≤ g.catalogue.dms → c ≢ 0
+    → head (pipe_at g 0 d log) ≡ Some (Read ts k reader tries ds us) → slice_get (classes_of g.catalogue) j ≡ Some c
+    → later ++ Does (D d) (Records 0 (Answer txn attempt no_of) sends) ∷ log ≡ later2 ++ Does (home g.catalogue c) (commit_act g.catalogue bases c a) ∷ log2
+    → touches (zero_cond g ts.0 c).frags (changes_to g bases a d) ≡ true
+    → (IsApplied g log d c a → a.ts < ts.0) × (a.ts < ts.0 → IsApplied g log d c a)
+low_applied g d c j later log later2 log2 k txn reader attempt tries no_of sends ts ds us bases a h small lo hi declared e i same t =
+    let act : Act = Records 0 (Answer txn attempt no_of) sends in
+    let hl : IsPermitted g log = (permitted_before g later (Does (D d) act ∷ log) h).1 in
+    split_applied g d (zero_cond g ts.0 c) act later log later2 log2 bases a h small lo hi
+    (record { class = 0; txn = txn; attempt = attempt; module_no = no_of; sends = sends; act_is = refl; ts = ts; of = k; reader = reader; tries = tries; conds = ds; uses = us; head_is = e; place = j; there = has_cond g d log ts k reader tries ds us j c hl e i })
+    declared same t
+
+-- H5 of a declared and an undeclared transaction, the high case: the undeclared one is applied everywhere before the declared one's Start
+pub high_applied : (g : Given) (t c : ℕ) (full log : Log) (a : Attempt) (cm : IsCommitT g t c full a) (ts n k d : ℕ) (hi : IsHigh g t c full log a cm ts n)
+    → IsPermitted g full → slice_get (numbers_to g.catalogue.dms) k ≡ Some d → HasApply g hi.start.rest (dm_no d) ts
+high_applied g t c full log a cm ts n k d hi h e =
+    all_applied g hi.start.rest ts k d (permitted_part g full hi.start.rest h (part_of full hi.start.later _ hi.start.rest hi.start.is)) hi.dones e
+
+-- H5 of two undeclared transactions
+pub zero_pair : (g : Given) (k t : ℕ) (log later log2 : Log) (q q2 : Queued) → slice_get (numbers_to g.catalogue.tms) k ≡ Some t
+    → IsPermitted g (Does U (start_u g log q) ∷ log) → log ≡ later ++ Does U (start_u g log2 q2) ∷ log2
+    → (g.catalogue.dms ≤ dones_of (u_stamp g log2) (local_of g U log)) × (u_stamp g log2 < u_stamp g log)
+zero_pair g k t log later log2 q q2 i h e =
+    let lu : site.Log = local_of g U log in
+    let l2 : site.Log = local_of g U log2 in
+    let ts : ℕ = u_stamp g log2 in
+    let su = at_start g k t log q i h in
+    let c = hold_chain g k t log i h.1 in
+    let sv = serving (setting_of g U) k t lu i (u_table g log h.1) in
+    let h2 : IsPermitted g log2 = permitted_part g log log2 h.1 (part_of log later _ log2 e) in
+    let sv2 = serving (setting_of g U) k t l2 i (u_table g log2 h2) in
+    let x = local_grows g U later (Does U (start_u g log2 q2) ∷ log2) in
+    let is : lu ≡ x.0 ++ Did (start_u g log2 q2) ∷ l2 = ap (local_of g U) e ∙ x.1 ∙ ap (λ l. x.0 ++ l) (own_act g U (start_u g log2 q2) log2) in
+    let dg = drawn_grow x.0 (Did (start_u g log2 q2) ∷ l2) in
+    let there : slice_get (drawn_so_far lu) (starts l2) ≡ Some ts = subst (λ l. slice_get l (starts l2) ≡ Some ts) (sym (ap drawn_so_far is ∙ dg.1)) (in_left (drawn_so_far (Did (start_u g log2 q2) ∷ l2)) dg.0 (starts l2) ts (end_at (drawn_so_far l2) (starts l2) ts sv2.counted)) in
+    let lt : starts l2 < length (drawn_so_far lu) = place_within (drawn_so_far lu) (starts l2) ts there in
+    let grew = clock_grows U x.0 (Did (start_u g log2 q2) ∷ l2) in
+    let clk : (clock U lu).ticks ≡ (clock U (x.0 ++ Did (start_u g log2 q2) ∷ l2)).ticks = ap (λ l. (clock U l).ticks) is in
+    let s1 = stamp_ticks (setting_of g U) lu in
+    let s2 = stamp_ticks (setting_of g U) l2 in
+    (sv.done (starts l2) ts (omega (arith, lt, sv.counted, su.sent, c.got_hold, c.one_open, c.released)) there, omega (arith, s1, s2, grew, clk))
+
+pub zero_applied : (g : Given) (k t kd d : ℕ) (log later log2 : Log) (q q2 : Queued)
+    → slice_get (numbers_to g.catalogue.tms) k ≡ Some t → IsPermitted g (Does U (start_u g log q) ∷ log)
+    → log ≡ later ++ Does U (start_u g log2 q2) ∷ log2 → slice_get (numbers_to g.catalogue.dms) kd ≡ Some d
+    → HasApply g log (dm_no d) (u_stamp g log2)
+zero_applied g k t kd d log later log2 q q2 i h e f =
+    all_applied g log (u_stamp g log2) kd d h.1 (zero_pair g k t log later log2 q q2 i h e).0 f

@@ -1,5 +1,0 @@
-use Rattle.sdd_invariants.proofs.Recorded.{says}
-use Rattle.sdd_invariants.proofs.law.law_records.Goals as goal
-
-pub returns : goal.returns
-returns g = says

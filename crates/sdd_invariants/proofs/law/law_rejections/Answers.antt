@@ -1,5 +1,0 @@
-use Rattle.sdd_invariants.proofs.Retried.{was_rejected}
-use Rattle.sdd_invariants.proofs.law.law_rejections.Goals as goal
-
-pub returns : goal.returns
-returns g = was_rejected

@@ -1,8 +1,0 @@
-use Rattle.sdd_invariants.proofs.Clocks.{clocked, stamps_differ}
-use Rattle.sdd_invariants.proofs.law.law_stamps.Goals as goal
-
-pub returns-clause-rise : goal.returns-clause-rise
-returns-clause-rise g = clocked
-
-pub returns-clause-differ : goal.returns-clause-differ
-returns-clause-differ g = stamps_differ

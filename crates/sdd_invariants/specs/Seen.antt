@@ -1,0 +1,67 @@
+-- Which WRITEs a data module has applied at one of its acts.
+use Rattle.std.specs.Prelude.{ℕ, ◌++◌, ◌≡◌, List, Some, slice_get}
+use Rattle.sdd_base.specs.Numbers.{time_at}
+use Rattle.sdd_base.specs.declared.change.Change.{Change}
+use Rattle.sdd_base.specs.declared.condition.Cond.{Cond}
+use Rattle.sdd_base.specs.declared.number.ClassNo.{ClassNo}
+use Rattle.sdd_base.specs.declared.number.DmNo.{DmNo}
+use Rattle.sdd_base.specs.declared.number.Ts.{Ts}
+use Rattle.sdd_base.specs.declared.number.TxnNo.{TxnNo}
+use Rattle.sdd_base.specs.declared.site.Site.{Site}
+use Rattle.sdd_base.specs.declared.site.Site.TheVariants.{D}
+use Rattle.sdd_base.specs.declared.usage.Use.{Use}
+use Rattle.sdd_lang.specs.Effect.{effect}
+use Rattle.sdd_history.specs.declared.record.Rec.{Rec}
+use Rattle.sdd_history.specs.declared.record.Rec.TheVariants.{Answer}
+use Rattle.sdd_wire.specs.declared.msg.Msg.{Msg}
+use Rattle.sdd_wire.specs.declared.msg.Msg.TheVariants.{Read}
+use Rattle.sdd_module.specs.SiteLog.{Act, Bases, Records}
+use Rattle.sdd_attempt.specs.Attempts.{Attempt}
+use Rattle.sdd_pipe.specs.Pipe.{Pipe, head}
+use Rattle.sdd_dm.specs.Pipes.{pipe}
+use Rattle.sdd_log.specs.Entries.{Given, Log}
+use Rattle.sdd_log.specs.Locals.{local_of}
+use Rattle.sdd_invariants.specs.ReadSteps.{IsOfWrite, results}
+use Rattle.sdd_invariants.specs.Steps.{changes_at, home}
+use Rattle.sdd_invariants.specs.Traffic.{class_in, puts_to}
+
+-- all that came to a pipe: what is processed, and then what isn't
+abbrev pub all_of : Pipe → List Msg
+all_of p = p.processed ++ p.unprocessed
+
+-- the messages of a class that its site put on the link to a data module
+abbrev pub class_puts : Given → ℕ → DmNo → Log → List Msg
+class_puts g c d log = class_in c (puts_to (D d) (local_of g (home g.catalogue c) log))
+
+-- the pipe of a class at a data module
+abbrev pub pipe_at : Given → ℕ → DmNo → Log → Pipe
+pipe_at g c d log = pipe c (local_of g (D d) log)
+
+-- an Answer at data module d to the head of a pipe, a READ that has the condition q
+pub record IsAnswerWith (g : Given) (log : Log) (d : DmNo) (q : Cond) (act : Act) : Type 0 where
+  pub class : ℕ
+  pub txn : TxnNo
+  pub attempt : ℕ
+  pub module_no : DmNo
+  pub sends : List (Site × Msg)
+  pub act_is : act ≡ Records class (Answer txn attempt module_no) sends
+  pub ts : Ts
+  pub of : ClassNo
+  pub reader : TxnNo
+  pub tries : ℕ
+  pub conds : List Cond
+  pub uses : List Use
+  pub head_is : head (pipe_at g class d log) ≡ Some (Read ts of reader tries conds uses)
+  pub place : ℕ
+  pub there : slice_get conds place ≡ Some q
+
+-- the changes that the Commit of an attempt sends to data module d
+abbrev pub changes_to : Given → Bases → Attempt → DmNo → List Change
+changes_to g bases a d = changes_at g.catalogue d.0 (effect g.catalogue (bases a.ts) a.text).changes
+
+-- the transaction of an attempt of class j has an Apply at d
+pub record IsApplied (g : Given) (log : Log) (d : DmNo) (j : ℕ) (a : Attempt) : Type 0 where
+  pub place : ℕ
+  pub rec : Rec
+  pub there : slice_get (results j (local_of g (D d) log)) place ≡ Some rec
+  pub is : IsOfWrite (time_at a.ts) j a.txn rec

@@ -1,3 +1,0 @@
-pub mod Processed
-pub mod PutBy
-pub mod Waiting

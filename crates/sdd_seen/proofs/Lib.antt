@@ -1,4 +1,0 @@
-pub mod Applied
-pub mod ClassOrder
-pub mod InPipe
-pub mod Split

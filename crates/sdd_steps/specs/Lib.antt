@@ -1,4 +1,0 @@
-pub mod Orders
-pub mod ReadSteps
-pub mod Steps
-pub mod Traffic

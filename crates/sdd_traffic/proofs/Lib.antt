@@ -1,4 +1,0 @@
-pub mod Fair
-pub mod InOrder
-pub mod Made
-pub mod Sent

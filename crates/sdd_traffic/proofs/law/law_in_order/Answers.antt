@@ -1,9 +1,0 @@
-use Rattle.sdd_traffic.proofs.InOrder.{handed_within}
-use Rattle.sdd_traffic.proofs.InOrder.{in_order}
-use Rattle.sdd_traffic.proofs.law.law_in_order.Goals as goal
-
-pub returns-clause-first : goal.returns-clause-first
-returns-clause-first g = in_order
-
-pub returns-clause-within : goal.returns-clause-within
-returns-clause-within g = handed_within
