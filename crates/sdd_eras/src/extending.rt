@@ -1,0 +1,40 @@
+ghost use Rattle.std.specs.Prelude.{◌≡◌, ◌++◌, [], IfOk, IfErr};
+ghost use Rattle.sdd_catalog.specs.Rules.{TellsFirst};
+ghost use Rattle.sdd_eras.specs.Further.{further_faults, with_further, with_classes};
+
+use crate::copying::with_copies;
+use sdd_base::{Listed, NoMemory};
+use sdd_catalog::{CatError, Catalogue, ClassPart, Parts};
+use std::alloc::Global;
+
+/// The catalogue with the classes behind those that are there, or the first fault of these classes:
+/// the rules on classes are continued, so their numbers go on, and a name that a class has is taken.
+///
+/// Costs time in the square of what there is, since it builds the catalogue anew.
+pub fn extend(
+    alloc: Global,
+    catalogue: &Catalogue,
+    classes: &[ClassPart],
+) -> Result<Catalogue, CatError>
+    ensures value { IfOk result (λ extended. extended ≡ with_further classes.now catalogue.now) }
+    ensures allowed { IfOk result (λ _. further_faults catalogue.now classes.now ≡ []) }
+    ensures fault { IfErr result (λ e. TellsFirst e (further_faults catalogue.now classes.now)) }
+{
+    catalogue.known();
+    let parts = add_classes(catalogue.parts()?, classes)?;
+    Catalogue::build(alloc, &parts)
+}
+
+/// The parts with the classes behind those that are there.
+fn add_classes(parts: Parts, classes: &[ClassPart]) -> Result<Parts, NoMemory>
+    ensures { IfOk result (λ all. all ≡ with_classes (parts.classes ++ classes.now) parts) }
+{
+    let all = with_copies(parts.classes.into_vec(), classes)?;
+    Ok(Parts {
+        tms: parts.tms,
+        dms: parts.dms,
+        relations: parts.relations,
+        fragments: parts.fragments,
+        classes: Listed::from_vec(all),
+    })
+}

@@ -1,0 +1,87 @@
+ghost use Rattle.std.specs.Prelude.{◌≡◌, ◌≤◌, length, map, IfOk};
+ghost use Rattle.sdd_catalog.specs.Catalogue.{catalogue_of};
+ghost use Rattle.sdd_catalog.specs.Eras.{retired};
+ghost use Rattle.sdd_catalog.specs.Rules.{IsValid};
+ghost use Rattle.sdd_eras.specs.Further.{with_classes};
+ghost use Rattle.sdd_eras.specs.Retired.{emptied_part, retired_parts};
+
+use crate::copying::with_copies;
+use sdd_base::{Listed, NoMemory, Parcel};
+use sdd_catalog::{CatError, Catalogue, ClassPart, Parts};
+use std::alloc::Global;
+
+/// The catalogue whose first so many classes read and write nothing; their numbers, names and
+/// modules stay.
+///
+/// Costs time in the square of what there is, since it builds the catalogue anew.
+pub fn retire(alloc: Global, catalogue: &Catalogue, upto: u32) -> Result<Catalogue, NoMemory>
+    requires { upto ≤ length catalogue.now.classes }
+    ensures { IfOk result (λ cat. cat ≡ retired upto catalogue.now) }
+{
+    catalogue.known();
+    let parts = empty_first(alloc, catalogue.parts()?, upto as usize)?;
+    build_valid(alloc, &parts)
+}
+
+/// The catalogue of parts without a fault.
+fn build_valid(alloc: Global, parts: &Parts) -> Result<Catalogue, NoMemory>
+    requires { IsValid parts.now }
+    ensures { IfOk result (λ built. built ≡ catalogue_of parts.now) }
+{
+    match Catalogue::build(alloc, parts) {
+        Ok(built) => Ok(built),
+        Err(CatError::Fault(_)) => unreachable!(),
+        Err(CatError::NoMemory) => Err(NoMemory),
+    }
+}
+
+/// The parts whose first so many classes are emptied.
+fn empty_first(alloc: Global, parts: Parts, upto: usize) -> Result<Parts, NoMemory>
+    requires { upto ≤ length parts.classes }
+    ensures { IfOk result (λ all. all ≡ with_classes (retired_parts upto parts.classes) parts) }
+{
+    let classes = empty_classes(alloc, parts.classes.as_slice(), upto)?;
+    Ok(Parts {
+        tms: parts.tms,
+        dms: parts.dms,
+        relations: parts.relations,
+        fragments: parts.fragments,
+        classes: Listed::from_vec(classes),
+    })
+}
+
+/// The classes, of which the first so many are emptied.
+fn empty_classes(
+    alloc: Global,
+    classes: &[ClassPart],
+    upto: usize,
+) -> Result<Vec<ClassPart>, NoMemory>
+    requires { upto ≤ length classes.now }
+    ensures { IfOk result (λ all. all.items ≡ retired_parts upto classes.now) }
+{
+    let retired = empty_all(alloc, &classes[..upto])?;
+    with_copies(retired, &classes[upto..])
+}
+
+/// The classes, emptied.
+fn empty_all(alloc: Global, classes: &[ClassPart]) -> Result<Vec<ClassPart>, NoMemory>
+    ensures { IfOk result (λ all. all.items ≡ map emptied_part classes.now) }
+{
+    let mut all = Vec::new(alloc);
+    for class in classes {
+        all.push(emptied(alloc, class)?)?;
+    }
+    Ok(all)
+}
+
+/// The class with its name and module, which reads and writes nothing.
+fn emptied(alloc: Global, class: &ClassPart) -> Result<ClassPart, NoMemory>
+    ensures { IfOk result (λ part. part ≡ emptied_part class.now) }
+{
+    Ok(ClassPart {
+        name: class.name.copy()?,
+        tm: class.tm,
+        reads: Listed::from_vec(Vec::new(alloc)),
+        writes: Listed::from_vec(Vec::new(alloc)),
+    })
+}
