@@ -10,6 +10,7 @@
 mod catalogues;
 mod conditions;
 mod effects;
+mod eras;
 mod graphs;
 mod links;
 mod read;
@@ -28,6 +29,7 @@ fn main(rt: HostRuntime) -> Result<()> {
     spelled::tell_words(rt.alloc(), &mut out)?;
     graphs::tell_graphs(&rt, &mut out)?;
     catalogues::tell_catalogues(&rt, &mut out)?;
+    eras::tell_eras(&rt, &mut out)?;
     conditions::tell_conditions(&rt, &mut out)?;
     sets::tell_sets(&rt, &mut out)?;
     effects::tell_effects(&rt, &mut out)?;
