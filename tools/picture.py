@@ -416,7 +416,8 @@ def window(report, first, last):
     first = events[0] if first is None else first
     chosen = [x for x in events if x >= first and (last is None or x <= last)]
     if not chosen:
-        raise BadInput("no record from event %d to %s; the report has %d to %d" % (first, last or events[-1], events[0], events[-1]))
+        asked = "from event %d %s" % (first, "on" if last is None else "to %d" % last)
+        raise BadInput("no record %s; the report has them from %d to %d" % (asked, events[0], events[-1]))
     if len(chosen) > MOST_COLUMNS:
         chosen = chosen[:MOST_COLUMNS]
         print("events %d to %d of %d are drawn; --from and --to choose others" % (chosen[0], chosen[-1], events[-1]), file=sys.stderr)
