@@ -130,7 +130,7 @@ def svg_of(text):
     done = subprocess.run(["dot", "-Tsvg"], input=text.encode(), stdout=subprocess.PIPE, stderr=subprocess.PIPE)
     if done.returncode:
         raise BadInput("dot: " + done.stderr.decode(errors="replace").strip().split("\n")[0])
-    return done.stdout.decode()
+    return re.sub(r"<\?xml.*?\?>\s*|<!DOCTYPE.*?>\s*|<!--.*?-->\s*", "", done.stdout.decode(), flags=re.S)
 
 
 def main():
