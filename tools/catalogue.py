@@ -1,6 +1,6 @@
 """A catalogue file, read for the scripts that need its names and ranges.
 
-    catalogue = read_catalogue("examples/bridge/bridge.toml")
+    catalogue = read_catalogue("examples/bridge/catalogue.toml")
 
 It takes every catalogue that `sdd1` accepts and judges little: that is what `sdd1 check` is for.
 """
