@@ -12,18 +12,14 @@ drawn where --from and --to name no others. Under the pointer each mark tells it
 """
 import argparse
 import sys
-from typing import NamedTuple
 
 import svg
 from catalogue import read_catalogue
+from lanes import APPLIES, PASSES, READS, SERVED, WAITING, Columns, Item, Lane, Trace
 from report import BadInput, read_report
 
 MOST_COLUMNS = 120
-MOST_ROWS = 3               # of transactions that wait for their turn, with a line each
-WAITING, SERVED = 0, 1      # the groups of a class's lane
-READS, APPLIES, PASSES = 0, 1, 2    # those of a data module's
-TOP, ROW, GAP = 46, 17, 8
-COLOURS = ["#1f77b4", "#d9730d", "#2a9134", "#8e44ad", "#b8860b", "#008b8b", "#c2185b", "#5d6d1e", "#6b4f3f", "#3949ab"]
+TOP, ROW, GAP, LEAST_WIDTH = 46, 17, 8, 540
 REFUSED = "#c62828"
 STYLE = """
 text{font-family:'DejaVu Sans',Verdana,sans-serif;font-size:10px;fill:#222}
@@ -38,103 +34,9 @@ LEGEND = {"submit": "given to its site", "bar": "an attempt, from its start to i
           "apply": "changes are applied", "held": "changes that were held behind the read", "pass": "a class passes a time"}
 
 
-class Columns:
-    """The events that have a record, each with its place from left to right."""
-
-    def __init__(self, records, first, last, left):
-        self.all = sorted({x.event for x in records if x.kind != "nothing" and first <= x.event <= last})
-        self.step = max(17, min(64, 1000 / max(1, len(self.all))))
-        self.place = {event: k for k, event in enumerate(self.all)}
-        self.left, self.right = left, left + self.step * max(1, len(self.all))
-
-    def has(self, event):
-        return event in self.place
-
-    def x(self, event):
-        """The middle of an event's column; one outside of the window has its edge."""
-        if event in self.place:
-            return self.left + self.step * (self.place[event] + 0.5)
-        return self.left if not self.all or event < self.all[0] else self.right
-
-
-class Item(NamedTuple):
-    """What stands in one row of a lane."""
-    left: float
-    right: float            # with its label
-    draw: object            # the shapes, of the row's middle
-    anchors: dict = {}      # name -> x, where lines to other lanes begin and end
-    short: object = None    # what stands in its place, if anything, where there are too many rows
-
-
-class Lane:
-    def __init__(self, title, site=""):
-        self.title, self.site, self.groups = title, site, {}
-
-    def add(self, group, item):
-        self.groups.setdefault(group, []).append(item)
-
-    def rows(self):
-        """The rows of each group, one group below the other."""
-        rows = []
-        for group in sorted(self.groups):
-            mine = packed(self.groups[group])
-            if len(mine) > MOST_ROWS and group == WAITING:
-                mine = packed([x.short for x in self.groups[group] if x.short])
-            rows += mine
-        return rows or [[]]
-
-
-def packed(items):
-    """The items in as many rows as it takes that none covers the next."""
-    rows = []
-    for item in sorted(items, key=lambda x: x.left):
-        row = next((x for x in rows if x[-1].right < item.left), None)
-        if row is None:
-            rows.append([item])
-        else:
-            row.append(item)
-    return rows
-
-
-class Trace:
-    """What the records say of each transaction."""
-
-    def __init__(self, report):
-        self.report = report
-        self.submits = {x.txn: x for x in report.records if x.kind == "submit"}
-        self.starts, self.commits = report.attempts(), report.commits()
-        self.colours = {x: COLOURS[k % len(COLOURS)] for k, x in enumerate(self.submits)}
-        self.waits = {(x.txn, x.attempt, x.site): x for x in report.records if x.kind == "wait"}
-        self.ends = {(x.txn, x.attempt, x.site): x for x in report.records if x.kind in ("answer", "reject")}
-        self.rejects = {(x.txn, x.attempt): x for x in report.records if x.kind == "reject"}
-        self.pending = {x.txn: x for x in report.pending}
-
-    def colour(self, txn):
-        return self.colours.get(txn, "#555")
-
-    def class_of(self, txn):
-        if (txn, 1) in self.starts:
-            return self.starts[txn, 1].cls
-        told = self.pending.get(txn)
-        return told.words[0] if told and told.kind == "queued" else "-"
-
-    def held(self, record):
-        """Whether changes were held behind a read: it waited for their class, up to a time not above
-        theirs, and is answered or rejected just before they are applied."""
-        start = self.starts.get((record.txn, self.commits[record.txn].attempt))
-        for x in self.report.records[record.place - 1::-1] if record.place else []:
-            if x.event != record.event:
-                return False
-            if x.kind in ("answer", "reject") and x.site == record.site:
-                wait = self.waits.get((x.txn, x.attempt, x.site))
-                if wait and any(c == start.cls and time <= start.time for c, time in wait.waits):
-                    return True
-        return False
-
-
 class Picture:
     def __init__(self, report, catalogue, first, last):
-        self.trace, self.catalogue = Trace(report), catalogue
+        self.trace, self.catalogue = Trace(report, first, last), catalogue
         self.first, self.last = first, last
         self.lanes, self.anchors, self.kinds = {}, {}, set()
         self.name_lanes()
@@ -152,22 +54,22 @@ class Picture:
             sites |= {"D%d" % (k + 1) for k in range(self.catalogue.dms)}
         for cls in classes:
             site = self.catalogue.classes[cls].site if self.catalogue and cls in self.catalogue.classes else ""
-            self.lanes[cls] = Lane(cls, site)
+            self.lanes["class", cls] = Lane(cls, site)
         if any(trace.class_of(x) == "-" for x in trace.submits):
-            self.lanes["-"] = Lane("no class", "U")
+            self.lanes["class", "-"] = Lane("no class", "U")
         for site in sorted(sites, key=lambda x: int(x[1:])):
-            self.lanes[site] = Lane(site)
+            self.lanes["module", site] = Lane(site)
 
     # One method a kind of mark; each puts items into lanes.
 
     def add_transactions(self):
         for txn, submit in self.trace.submits.items():
-            lane = self.lanes[self.trace.class_of(txn)]
+            lane = self.lanes["class", self.trace.class_of(txn)]
             start = self.trace.starts.get((txn, 1))
             if self.columns.has(submit.event) or self.is_open(submit, start):
                 self.add_submit(lane, txn, submit, start)
         for start in self.trace.starts.values():
-            self.add_attempt(self.lanes[start.cls], start)
+            self.add_attempt(self.lanes["class", start.cls], start)
 
     def is_open(self, begin, end):
         """Whether what lies between two records reaches into the window."""
@@ -253,8 +155,9 @@ class Picture:
         if end and end.kind == "reject":
             said += " rejected: %s %d" % (end.cls, end.time)
         room = right - x - 12
+        short = said.replace(" waits:", ":")
         if wait and svg.width_of(said) > room > 60:
-            said = said[:int(room / svg.CHARACTER) - 2] + ".."
+            said = short if svg.width_of(short) <= room else short[:int(room / svg.CHARACTER) - 2] + ".."
         inside = wait and svg.width_of(said) <= room
         told = "\n".join(v.line for v in (arrive, wait, end) if v)
         self.kinds |= {v.kind for v in (wait, end) if v}
@@ -269,7 +172,7 @@ class Picture:
         anchors = {("arrive",) + key: x} if self.columns.has(arrive.event) else {}
         if over:
             anchors[(end.kind,) + key] = right
-        self.lanes[arrive.site].add(READS, Item(x - 5, right + (6 if inside else 9 + svg.width_of(said)), draw, anchors))
+        self.lanes["module", arrive.site].add(READS, Item(x - 5, right + (6 if inside else 9 + svg.width_of(said)), draw, anchors))
 
     def end_of_read(self, end, x, y, colour, told):
         if end.kind == "answer":
@@ -292,7 +195,7 @@ class Picture:
             mark = svg.shape("rect", "", record.line, x=x - 4, y=y - 4, width=8, height=8, fill=colour)
             ring = [svg.shape("rect", "", x=x - 6.5, y=y - 6.5, width=13, height=13, fill="none", stroke=REFUSED)] if held else []
             return [mark] + ring + [svg.label(x + 8, y + 3.5, name)]
-        self.lanes[record.site].add(APPLIES, Item(x - 7, x + 10 + svg.width_of(name), draw, {("apply", record.txn, record.site): x}))
+        self.lanes["module", record.site].add(APPLIES, Item(x - 7, x + 10 + svg.width_of(name), draw, {("apply", record.txn, record.site): x}))
 
     def add_pass(self, record, x):
         cls = "no class" if record.cls == "-" else record.cls
@@ -302,7 +205,7 @@ class Picture:
         def draw(y):
             return [svg.shape("path", "pass", record.line, d="M%s %sv8" % (svg.number(x), svg.number(y - 4))),
                     svg.label(x + 3, y + 3, name, "s")]
-        self.lanes[record.site].add(PASSES, Item(x - 2, x + 5 + svg.width_of(name) * 0.9, draw))
+        self.lanes["module", record.site].add(PASSES, Item(x - 2, x + 5 + svg.width_of(name) * 0.9, draw))
 
     # The whole.
 
@@ -330,7 +233,7 @@ class Picture:
         y, more = self.order_strip(y + 14, right)
         shapes += more
         y, more = self.legend(y + 8, right)
-        return svg.whole(right + 4, y, STYLE, shapes + more)
+        return svg.whole(max(right, LEAST_WIDTH) + 4, y, STYLE, shapes + more)
 
     def axis(self, bottom):
         shapes, told = [], 0
@@ -384,7 +287,7 @@ class Picture:
             if kind not in self.kinds:
                 continue
             width = 34 + svg.width_of(text) * 0.9
-            if x + width > max(right, 520):
+            if x + width > max(right, LEAST_WIDTH):
                 x, y = 14, y + 16
             shapes += self.sample(kind, x + 9, y + 6) + [svg.label(x + 22, y + 9, text, "s")]
             x += width

@@ -203,7 +203,10 @@ def take_replies(lines, report):
 def judge(path, report):
     """What each line takes for granted of the others."""
     starts, commits = report.attempts(), report.commits()
+    submitted = {x.txn for x in report.records if x.kind == "submit"}
     for x in report.records:
+        if x.txn is not None and x.txn not in submitted:
+            raise BadInput("%s: %s has no submit" % (path, x.txn))
         if x.attempt is not None and x.kind != "start" and (x.txn, x.attempt) not in starts:
             raise BadInput("%s: %s#%d has no start" % (path, x.txn, x.attempt))
         if x.kind == "apply" and x.txn not in commits:

@@ -1,7 +1,7 @@
 """The little of SVG that pictures need: shapes as text, one a line, with short numbers."""
 from xml.sax.saxutils import escape, quoteattr
 
-CHARACTER = 6.1             # the width of a character at 10 px, on the whole
+CHARACTER = 5.8             # the width of a character at 10 px, on the whole
 
 
 def width_of(text):
