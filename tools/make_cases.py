@@ -11,7 +11,8 @@ fail) follows from the rules at `Outside`, or stands in the case.
 What a person edits is tools/cases:
 
 catalogues/               texts that cases name, as those of crates/sdd1/data
-calls.txt                 a call a line: `plain own.toml put_and_query.work`
+calls.txt                 a call a line: `plain own.toml put_and_query.work`; a file of examples/ is named
+                          with its folder: `run bridge/catalogue.toml bridge/workload`
 workloads.txt             `NAME | CATALOGUE | COMMAND .. | LINE / LINE ..`, a case for each command
 catalogue_faults.txt      `NAME | CATALOGUE | FAULT | OLD => NEW`, the catalogue with its first OLD
                           replaced, `NAME | CATALOGUE | FAULT | + LINE / LINE ..` with lines behind it,
@@ -33,6 +34,7 @@ import tempfile
 
 TOP = os.path.join(os.path.dirname(os.path.abspath(__file__)), "..")
 CASES = os.path.join(TOP, "tools", "cases")
+EXAMPLES = os.path.join(TOP, "examples")
 KEPT = [os.path.join(TOP, "crates", "sdd1", "data"), os.path.join(CASES, "catalogues")]
 NO_LIMIT = 2**64
 ROOM = 1 << 20
@@ -205,6 +207,7 @@ class Outside:
         if key not in self.known:
             with tempfile.TemporaryDirectory(prefix="make-cases-") as room:
                 for name, data in files.items():
+                    os.makedirs(os.path.dirname(os.path.join(room, name)), exist_ok=True)
                     with open(os.path.join(room, name), "wb") as f:
                         f.write(data)
                 p = subprocess.run(self.command + words, cwd=room, stdout=subprocess.PIPE, stderr=subprocess.PIPE)
@@ -309,16 +312,27 @@ def check_fault(case, lines):
         sys.exit("%s: the table has %r, the reference %r" % (case.name, fault, told))
 
 
+def kept_texts():
+    """The texts that cases may name: each file of the folders, and the inputs of each example."""
+    paths = {name: os.path.join(folder, name) for folder in KEPT for name in sorted(os.listdir(folder))}
+    for example in sorted(os.listdir(EXAMPLES)):
+        for name in ("catalogue.toml", "workload"):
+            path = os.path.join(EXAMPLES, example, name)
+            if os.path.exists(path):
+                paths[example + "/" + name] = path
+    kept = {}
+    for name, path in paths.items():
+        with open(path, "rb") as f:
+            kept[name] = f.read()
+    return kept
+
+
 def main():
     asked = argparse.ArgumentParser(description=__doc__.split("\n\n")[0])
     asked.add_argument("--reference", required=True)
     asked.add_argument("--into", default=os.path.join(TOP, "crates", "sdd_cases"))
     asked = asked.parse_args()
-    kept = {}
-    for folder in KEPT:
-        for name in sorted(os.listdir(folder)):
-            with open(os.path.join(folder, name), "rb") as f:
-                kept[name] = f.read()
+    kept = kept_texts()
     cases = read_calls(os.path.join(CASES, "calls.txt"), kept)
     cases += read_workloads(os.path.join(CASES, "workloads.txt"), kept)
     cases += read_catalogue_faults(os.path.join(CASES, "catalogue_faults.txt"), kept)

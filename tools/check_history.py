@@ -1,0 +1,223 @@
+#!/usr/bin/env python3
+"""Judges a history by its direct serialization graph, which is made of the history alone.
+
+    tools/check_history.py HISTORY
+
+HISTORY is what tools/to_elle.py writes, or any history in Elle's list-append form, an operation a line
+(`-` is standard input). Of the operations of type :ok it takes the reads and appends of each item, and
+the process. The nodes of the graph are these transactions; an edge leads
+
+    ww   from who appended a version of an item to who appended the next one,
+    wr   from who appended the version that is the last of a read to the reader,
+    rw   from a reader to who appended the version behind the last one that it read,
+    so   from a transaction to the next one of its process.
+
+The order of an item's versions is that of the longest list that was read; what nobody read stands behind.
+A cycle means that no serial order gives these reads. The script also refuses a version that is appended
+twice, a read of one that nobody appended, and two reads of an item of which neither begins the other.
+It prints what it found, a line each, and ends with status 1; or one line with the counts, and ends with 0.
+"""
+import argparse
+import re
+import sys
+
+TOKEN = re.compile(r'[\s,]*([\[\](){}]|"(?:[^"\\]|\\.)*"|[^\s,\[\](){}"]+)')
+CLOSING = {"[": "]", "(": ")", "{": "}"}
+
+
+class BadHistory(Exception):
+    """What is wrong with the file, in one line."""
+
+
+def edn(text):
+    """The value that a line of EDN spells; of EDN what histories have: maps, lists, texts, words."""
+    tokens = TOKEN.findall(text)
+    if re.sub(TOKEN, "", text).strip(" ,\t"):
+        raise ValueError
+
+    def value(k):
+        token = tokens[k]
+        if token in CLOSING:
+            made, k = [], k + 1
+            while tokens[k] != CLOSING[token]:
+                one, k = value(k)
+                made.append(one)
+            return (dict(zip(made[::2], made[1::2], strict=True)) if token == "{" else tuple(made)), k + 1
+        if token in CLOSING.values():
+            raise ValueError
+        if token.startswith('"'):
+            return re.sub(r"\\(.)", r"\1", token[1:-1]), k + 1
+        return (None if token == "nil" else int(token) if re.fullmatch(r"-?\d+", token) else token), k + 1
+    made, end = value(0)
+    if end != len(tokens):
+        raise ValueError
+    return made
+
+
+class Transaction:
+    def __init__(self, name, process, steps):
+        self.name, self.process = name, process
+        self.reads = [(item, versions or ()) for kind, item, versions in steps if kind == ":r"]
+        self.appends = [(item, version) for kind, item, version in steps if kind == ":append"]
+
+
+def read_history(path):
+    made = []
+    try:
+        with sys.stdin if path == "-" else open(path, encoding="utf-8") as f:
+            lines = f.read().split("\n")
+    except (OSError, UnicodeDecodeError) as fault:
+        raise BadHistory("%s: %s" % (path, getattr(fault, "strerror", None) or "not UTF-8")) from None
+    for number, line in enumerate(lines, 1):
+        if not line.strip():
+            continue
+        try:
+            told = edn(line)
+            if told[":type"] == ":ok":
+                name = told.get(":name", "op %s" % told.get(":index", number))
+                made.append(Transaction(name, told[":process"], told[":value"]))
+        except (ValueError, KeyError, TypeError, IndexError, AttributeError):
+            raise BadHistory("%s: line %d: no operation of a history" % (path, number)) from None
+    if not made:
+        raise BadHistory("%s: no transaction in it" % path)
+    return made
+
+
+class Graph:
+    """The direct serialization graph, and what was found wrong while it was made."""
+
+    def __init__(self, transactions):
+        self.transactions, self.faults = transactions, []
+        self.edges = [{} for _ in transactions]     # to -> why
+        self.writer = {}                            # item, version -> place of a transaction
+        self.readers = {}                           # item -> reads of it, with the place of the transaction
+        for k, t in enumerate(transactions):
+            for item, version in t.appends:
+                if (item, version) in self.writer:
+                    self.faults.append("%s and %s both append version %s of %s" % (
+                        transactions[self.writer[item, version]].name, t.name, version, item))
+                self.writer[item, version] = k
+            for item, versions in t.reads:
+                self.readers.setdefault(item, []).append((versions, k))
+        behind = {}                                 # item -> versions that nobody read
+        for item, version in self.writer:
+            behind.setdefault(item, []).append(version)
+        for item in sorted(behind.keys() | self.readers.keys(), key=str):
+            self.add_item(item, behind.get(item, []))
+        last = {}
+        for k, t in enumerate(transactions):
+            if t.process in last:
+                self.add(last[t.process], k, "so")
+            last[t.process] = k
+
+    def add(self, a, b, why):
+        if a != b:
+            self.edges[a].setdefault(b, why)
+
+    def add_item(self, item, appended):
+        reads = self.readers.get(item, [])
+        longest, _ = max(reads, key=lambda x: len(x[0]), default=((), None))
+        good = []
+        for versions, k in reads:
+            name = self.transactions[k].name
+            strange = [x for x in versions if (item, x) not in self.writer]
+            if strange:
+                self.faults.append("%s reads version %s of %s, which nobody appended" % (name, strange[0], item))
+            elif versions != longest[:len(versions)]:
+                self.faults.append("%s reads versions %s of %s, and another transaction %s" % (name, list(versions), item, list(longest)))
+            else:
+                good.append((versions, k))
+        known = [self.writer[item, x] for x in longest if (item, x) in self.writer]
+        unread = [self.writer[item, x] for x in appended if x not in longest]
+        for a, b in zip(known, known[1:]):
+            self.add(a, b, "ww " + item)
+        for b in unread if known else []:
+            self.add(known[-1], b, "ww " + item)
+        for versions, k in good:
+            if versions:
+                self.add(self.writer[item, versions[-1]], k, "wr " + item)
+            for b in known[len(versions):len(versions) + 1] or unread:
+                self.add(k, b, "rw " + item)
+
+    def cycle(self):
+        """A shortest cycle through the first transaction that lies on one, as places; or None."""
+        on_one = next((x for x in self.components() if len(x) > 1), None)
+        if on_one is None:
+            return None
+        start = min(on_one)
+        came, front = {start: None}, [start]
+        while front:
+            longer = []
+            for a in front:
+                for b in sorted(self.edges[a]):
+                    if b == start:
+                        path = [a]
+                        while came[path[-1]] is not None:
+                            path.append(came[path[-1]])
+                        return path[::-1]
+                    if b in on_one and b not in came:
+                        came[b] = a
+                        longer.append(b)
+            front = longer
+        raise AssertionError("a component without a cycle")
+
+    def components(self):
+        """The strongly connected components, by two walks over the graph."""
+        finished, seen = [], set()
+        for root in range(len(self.edges)):
+            stack = [] if root in seen else [(root, iter(self.edges[root]))]
+            seen.add(root)
+            while stack:
+                a, rest = stack[-1]
+                b = next((x for x in rest if x not in seen), None)
+                if b is None:
+                    finished.append(stack.pop()[0])
+                else:
+                    seen.add(b)
+                    stack.append((b, iter(self.edges[b])))
+        back = [[] for _ in self.edges]
+        for a, out in enumerate(self.edges):
+            for b in out:
+                back[b].append(a)
+        taken = set()
+        for root in reversed(finished):
+            mine, todo = set(), [root]
+            while todo:
+                a = todo.pop()
+                if a not in taken:
+                    taken.add(a)
+                    mine.add(a)
+                    todo += back[a]
+            if mine:
+                yield mine
+
+
+def told(graph, cycle):
+    names = [graph.transactions[k].name for k in cycle]
+    said = names[0]
+    for a, b in zip(cycle, cycle[1:] + cycle[:1]):
+        said += " -%s-> %s" % (graph.edges[a][b], graph.transactions[b].name)
+    return "cycle: " + said
+
+
+def main():
+    asked = argparse.ArgumentParser(description=__doc__, formatter_class=argparse.RawDescriptionHelpFormatter, usage=argparse.SUPPRESS)
+    asked.add_argument("history", metavar="HISTORY")
+    asked = asked.parse_args()
+    try:
+        graph = Graph(read_history(asked.history))
+    except BadHistory as fault:
+        sys.exit("check_history.py: %s" % fault)
+    faults = list(graph.faults)
+    cycle = graph.cycle()
+    if cycle:
+        faults.append(told(graph, cycle))
+    for x in faults:
+        print(x)
+    if not faults:
+        print("no cycle: %d transactions, %d edges" % (len(graph.transactions), sum(map(len, graph.edges))))
+    return 1 if faults else 0
+
+
+if __name__ == "__main__":
+    sys.exit(main())

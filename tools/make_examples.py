@@ -1,0 +1,84 @@
+#!/usr/bin/env python3
+"""Makes the reports and pictures of examples/, or compares them with what is there.
+
+    tools/make_examples.py [--program COMMAND] [--only NAME ..] [--check]
+
+Of each example the program COMMAND (a built `sdd1`; without it `rt try`, minutes for each example) gives
+the report of its workload, and tools/picture.py and tools/graph_picture.py draw `picture.svg` and, where
+`dot` of Graphviz is installed, `graph.svg`. With --check nothing is written, and each file that would
+change is told; `graph.svg` is left out then, since it depends on the version of `dot` and its fonts.
+"""
+import argparse
+import os
+import shutil
+import subprocess
+import sys
+import tempfile
+
+from make_workload import write_workload
+from program import run_program
+from report import BadInput
+
+TOOLS = os.path.dirname(os.path.abspath(__file__))
+EXAMPLES = os.path.join(TOOLS, "..", "examples")
+WINDOWS = {"bank": ["--from", "3000", "--to", "3080"]}      # the examples of which a part is drawn
+
+
+def draw(script, words):
+    done = subprocess.run([sys.executable, os.path.join(TOOLS, script)] + words, stderr=subprocess.PIPE)
+    if done.returncode:
+        raise BadInput(done.stderr.decode(errors="replace").strip())
+
+
+def make(name, program, folder, check):
+    """Makes the files of an example in the folder; their names."""
+    mine = os.path.join(EXAMPLES, name)
+    catalogue, workload = os.path.join(mine, "catalogue.toml"), os.path.join(mine, "workload")
+    made = ["report", "picture.svg"]
+    if name == "bank":
+        catalogue, workload = write_workload(folder, "bank", 300)
+        made += ["catalogue.toml", "workload"]
+    report = os.path.join(folder, "report")
+    with open(report, "w", encoding="utf-8", newline="") as f:
+        f.write(run_program(program, ["run", catalogue, workload]))
+    draw("picture.py", [report, catalogue, "--into", os.path.join(folder, "picture.svg")] + WINDOWS.get(name, []))
+    if shutil.which("dot") and not check:
+        more = ["--program", program] if program else []
+        draw("graph_picture.py", [catalogue, "--into", os.path.join(folder, "graph.svg")] + more)
+        made.append("graph.svg")
+    return made
+
+
+def same(a, b):
+    if not os.path.exists(b):
+        return False
+    with open(a, "rb") as f, open(b, "rb") as g:
+        return f.read() == g.read()
+
+
+def main():
+    asked = argparse.ArgumentParser(description=__doc__, formatter_class=argparse.RawDescriptionHelpFormatter, usage=argparse.SUPPRESS)
+    asked.add_argument("--program", metavar="COMMAND", help="a built `sdd1`")
+    names = sorted(x for x in os.listdir(EXAMPLES) if os.path.isdir(os.path.join(EXAMPLES, x)))
+    asked.add_argument("--only", metavar="NAME", nargs="+", choices=names, help="these examples alone")
+    asked.add_argument("--check", action="store_true", help="compare, and write nothing")
+    asked = asked.parse_args()
+    different = 0
+    try:
+        for name in asked.only or names:
+            with tempfile.TemporaryDirectory(prefix="examples-") as folder:
+                for file in make(name, asked.program, folder, asked.check):
+                    there = os.path.join(EXAMPLES, name, file)
+                    if not same(os.path.join(folder, file), there):
+                        different += 1
+                        print("%s/%s %s" % (name, file, "differs" if asked.check else "is new"))
+                        if not asked.check:
+                            shutil.copyfile(os.path.join(folder, file), there)
+    except (BadInput, OSError) as fault:
+        sys.exit("make_examples.py: %s" % fault)
+    print("%d examples, %d files %s" % (len(asked.only or names), different, "differ" if asked.check else "written"))
+    return 1 if asked.check and different else 0
+
+
+if __name__ == "__main__":
+    sys.exit(main())

@@ -1,0 +1,148 @@
+#!/usr/bin/env python3
+"""Writes a made workload of one of several kinds, with its catalogue.
+
+    tools/make_workload.py KIND [N] [--seed SEED] --into FOLDER
+
+FOLDER gets the files `catalogue.toml` and `workload`. N is how much of it there is; without N it is
+what tools/benchmark.py takes. The kinds:
+
+bank       N drawn transactions of the bank (crates/sdd1/data/bank.toml) from SEED: transfers within a
+           half and between the halves, reports over all, some of no class; between them drawn deliveries
+flood      a packet of one link that is repeated N times, and a delivery of each copy
+resends    N times all unacknowledged messages of a link of 1,024, and a settle that delivers all packets
+scans      N queries over 65,536 rows, each of which answers few
+replies    N queries that answer 4,096 rows each
+classes    N transactions in the queues of 64 classes, with one fragment for each two of them
+"""
+import argparse
+import os
+import sys
+
+MOST = {"bank": 2048, "flood": 120000, "resends": 4000, "scans": 2048, "replies": 2048, "classes": 2048}
+USUAL = {"bank": 2048, "flood": 100000, "resends": 200, "scans": 100, "replies": 200, "classes": 2048}
+BANK = os.path.join(os.path.dirname(os.path.abspath(__file__)), "..", "crates", "sdd1", "data", "bank.toml")
+
+
+class Random:
+    """The drawn numbers: a linear congruence, of which the upper 15 bits are taken."""
+
+    def __init__(self, seed):
+        self.x = seed
+
+    def draw(self, below):
+        self.x = (self.x * 1103515245 + 12345) % 2**31
+        return self.x // 65536 % below
+
+
+def relation(name, columns):
+    shown = ", ".join('{name = "%s", kind = "int"}' % x for x in columns)
+    return ["[[relation]]", 'name = "%s"' % name, "columns = [%s]" % shown, 'key = "%s"' % columns[0]]
+
+
+def one_class(writes):
+    """The catalogue of one relation at one module, and one class."""
+    return ["tms = 1", "dms = 1"] + relation("acct", ["id", "bal"]) + [
+        "[[fragment]]", 'name = "all"', 'relation = "acct"', "copies = [1]", "[[class]]", 'name = "own"', "tm = 1",
+        'reads = [{fragment = "all", at = 1}]'] + (['writes = ["all"]'] if writes else [])
+
+
+def transfer(a, b):
+    return ["update account set 1.bal += -1 where 1.id = %d" % a, "update account set 1.bal += 1 where 1.id = %d" % b]
+
+
+def bank(n, seed):
+    """Kind, both accounts and the deliveries are drawn whatever the kind."""
+    with open(BANK, encoding="utf-8") as f:
+        catalogue = f.read().splitlines()
+    random, events = Random(seed), []
+    lines = ['row account %d "o" 100' % k for k in list(range(10)) + list(range(1000, 1010))]
+    for i in range(1, n + 1):
+        kind, a, b = random.draw(4), random.draw(10), random.draw(10)
+        site, body = [(1, transfer(a, b)), (2, transfer(1000 + a, 1000 + b)), (3, transfer(a, 1000 + b)),
+                      (3, ["query 1.id 1.bal from account"])][kind]
+        if i % 64 == 0:
+            site, body = 1, ["query 1.owner 1.bal from account where 1.bal >= 50"]
+        lines += ["txn t%d T%d" % (i, site)] + body + ["done"]
+        events.append("submit t%d" % i)
+        for _ in range(random.draw(4)):
+            k = random.draw(18)
+            t, d = "T%d" % (k % 9 // 3 + 1), "D%d" % (k % 3 + 1)
+            events.append("deliver %s %s 1" % ((t, d) if k < 9 else (d, t)))
+    return catalogue, lines + events + ["settle"]
+
+
+def flood(n, _):
+    events = ["submit p"] + ["repeat T1 D1 1"] * n + ["deliver T1 D1 1"] * n
+    return one_class(True), ["txn p T1", "put acct 1 1", "done"] + events + ["settle"]
+
+
+def resends(n, _):
+    lines = []
+    for k in range(1024):
+        lines += ["txn p%d T1" % k, "put acct %d 1" % k, "done"]
+    return one_class(True), lines + ["submit p%d" % k for k in range(1024)] + ["resend T1 D1"] * n + ["settle"]
+
+
+def scans(n, _):
+    lines = ["row acct %d %d" % (k, k % 1000) for k in range(65536)]
+    for k in range(n):
+        lines += ["txn q%d T1" % k, "query 1.id from acct where 1.bal = %d and 1.id < 9000" % (k % 1000), "done"]
+    return one_class(False), lines + ["submit q%d" % k for k in range(n)] + ["settle"]
+
+
+def replies(n, _):
+    lines = ["row acct %d %d" % (k, k) for k in range(4096)]
+    for k in range(n):
+        lines += ["txn q%d T1" % k, "query 1.id 1.bal from acct", "done"]
+    return one_class(False), lines + ["submit q%d" % k for k in range(n)] + ["settle"]
+
+
+def classes(n, _):
+    """Each class reads the fragment of the next one and writes its own, so that all stand on one cycle."""
+    catalogue = ["tms = 16", "dms = 16"] + relation("item", ["id", "val"])
+    for f in range(32):
+        bounds = (["from = %d" % (f * 10)] if f else []) + (["to = %d" % (f * 10 + 9)] if f < 31 else [])
+        catalogue += ["[[fragment]]", 'name = "f%d"' % f, 'relation = "item"'] + bounds + ["copies = [%d]" % (f % 16 + 1)]
+    for c in range(64):
+        f, after = c % 32, (c + 1) % 32
+        catalogue += ["[[class]]", 'name = "c%d"' % c, "tm = %d" % (c // 4 + 1),
+                      'reads = [{fragment = "f%d", at = %d}]' % (after, after % 16 + 1), 'writes = ["f%d"]' % f]
+    lines = []
+    for k in range(n):
+        f = k % 64 % 32
+        lines += ["txn t%d T%d" % (k, k % 64 // 4 + 1), "query 1.val from item where 1.id = %d" % ((f + 1) % 32 * 10),
+                  "put item %d %d" % (f * 10, k), "done"]
+    return catalogue, lines + ["submit t%d" % k for k in range(n)] + ["settle"]
+
+
+KINDS = {"bank": bank, "flood": flood, "resends": resends, "scans": scans, "replies": replies, "classes": classes}
+
+
+def write_workload(folder, kind, n=None, seed=1):
+    """The paths of the two files that are written."""
+    catalogue, lines = KINDS[kind](USUAL[kind] if n is None else n, seed)
+    paths = [os.path.join(folder, x) for x in ("catalogue.toml", "workload")]
+    for path, text in zip(paths, (catalogue, lines + ["end"])):
+        with open(path, "w", encoding="utf-8") as f:
+            f.write("".join(x + "\n" for x in text))
+    return paths
+
+
+def main():
+    asked = argparse.ArgumentParser(description=__doc__, formatter_class=argparse.RawDescriptionHelpFormatter, usage=argparse.SUPPRESS)
+    asked.add_argument("kind", metavar="KIND", choices=list(KINDS))
+    asked.add_argument("n", metavar="N", nargs="?", type=int)
+    asked.add_argument("--seed", type=int, default=1, help="where the drawn numbers begin, below 2^31")
+    asked.add_argument("--into", metavar="FOLDER", required=True)
+    asked = asked.parse_args()
+    n = USUAL[asked.kind] if asked.n is None else asked.n
+    if not 0 <= n <= MOST[asked.kind] or not 0 <= asked.seed < 2**31:
+        sys.exit("make_workload.py: of %s N is at most %d, and SEED is below 2^31" % (asked.kind, MOST[asked.kind]))
+    try:
+        write_workload(asked.into, asked.kind, n, asked.seed)
+    except OSError as fault:
+        sys.exit("make_workload.py: %s" % fault)
+
+
+if __name__ == "__main__":
+    main()

@@ -1,0 +1,224 @@
+#!/usr/bin/env python3
+"""Writes the committed transactions of a run as a history for a checker of isolation levels.
+
+    tools/to_elle.py REPORT WORKLOAD CATALOGUE [--into FILE]
+
+The history is in the list-append form of Elle, as EDN, one operation a line. An item is a row of a
+relation by its key, "account/1"; its versions are a list, to which each transaction that changes the
+row appends its number (that of its `txn` line; 0 is the row that stands in the workload). A process is a
+class, the first one the workload's rows, and the last ones are reads of copies at the end.
+
+- What a transaction read: of each row that its conditions on keys leave to it, the versions that were
+  applied at the module where it reads the row before it was answered there, as the report's records tell.
+- What it replied: the transaction is run again on these versions, by tools/workload.py. Where that
+  isn't the reply of the report, the history has further reads, of versions that give that reply; or
+  of version -1, which nobody appends, where none do. So a wrong reply leaves its trace in the history.
+- What is in the copies: a read of each copy at which every change of its fragment is applied, made so.
+
+tools/check_history.py judges the history. Nothing in it tells of timestamps, but that the versions of
+a row that was read stand in the order in which a copy lets one replace the other.
+"""
+import argparse
+import json
+import sys
+from typing import NamedTuple
+
+from catalogue import read_catalogue
+from report import BadInput, Reply, read_report
+from workload import effect, read_workload, reads
+
+FIRST_ROWS, NOBODY = 0, -1
+
+
+class Version(NamedTuple):
+    time: int               # the timestamp of its transaction, -1 of a row of the workload
+    writer: int             # the transaction's number
+    row: tuple              # None where the row is deleted
+
+
+class Committed(NamedTuple):
+    number: int
+    name: str
+    process: str            # its class
+    begin: int              # the place of its first start among the records
+    end: int                # that of its commit
+    time: int
+    seen: dict              # fragment -> the numbers of transactions whose changes are seen there
+    reads: tuple            # its reads, by the records: pairs of an item and versions
+    told: tuple             # its further reads, by the reply
+    changes: dict
+
+
+class Run:
+    """The committed transactions of a report, run again on what they saw."""
+
+    def __init__(self, report, transactions, first, catalogue):
+        self.report, self.catalogue, self.transactions = report, catalogue, transactions
+        self.versions = {(r, k): [Version(-1, FIRST_ROWS, row)] for r, rows in first.items() for k, row in rows.items()}
+        self.starts, self.commits = report.attempts(), report.commits()
+        self.applied = {}       # module -> places of applies and the transactions' numbers
+        self.answered = {}      # transaction, attempt, module -> place
+        for x in report.records:
+            if x.kind == "apply":
+                self.applied.setdefault(x.site, []).append((x.place, self.transaction(x.txn).number))
+            elif x.kind == "answer":
+                self.answered[x.txn, x.attempt, x.site] = x.place
+        self.committed = {}
+        seen = {x: self.seen_by(x) for x in self.commits.values()}
+        work = {x: self.changes(x, seen[x]) for x in sorted(self.commits.values())}
+        self.databases = [(x, seen[x]) for x in self.commits.values()]
+        for commit, changes in work.items():
+            self.add(commit, seen[commit], changes)
+
+    def transaction(self, name):
+        if name not in self.transactions:
+            raise BadInput("the report has %s, which the workload hasn't" % name)
+        return self.transactions[name]
+
+    def class_of(self, commit):
+        return self.starts[commit.txn, commit.attempt].cls
+
+    def seen_by(self, commit):
+        """For each fragment that the attempt reads, whose changes are seen there."""
+        seen = {}
+        for relation, low, high in reads(self.transaction(commit.txn), self.catalogue):
+            for f in self.catalogue.fragments.values():
+                if f.relation == relation and max(low, f.low) <= min(high, f.high):
+                    module = self.catalogue.read_at(self.class_of(commit), f.name)
+                    answered = self.answered.get((commit.txn, commit.attempt, module))
+                    if answered is None:
+                        raise BadInput("%s#%d has no answer at %s" % (commit.txn, commit.attempt, module))
+                    seen[f.name] = {n for place, n in self.applied.get(module, []) if place < answered}
+        return seen
+
+    def changes(self, commit, seen):
+        """What the attempt changed; each change becomes a version of its item."""
+        transaction = self.transaction(commit.txn)
+        _, changes = effect(transaction, self.database(transaction, seen), self.catalogue)
+        time = self.starts[commit.txn, commit.attempt].time
+        for item, row in changes.items():
+            self.versions.setdefault(item, []).append(Version(time, transaction.number, row))
+            self.versions[item].sort(key=lambda x: x.time)
+        return changes
+
+    def visible(self, item, seen):
+        """The versions of an item that are seen, in their order."""
+        numbers = seen[self.catalogue.fragment_of(*item).name]
+        return [x for x in self.versions[item] if x.writer == FIRST_ROWS or x.writer in numbers]
+
+    def items(self, transaction):
+        """The items that its conditions on keys leave to the transaction."""
+        ranges = list(reads(transaction, self.catalogue))
+        return [x for x in self.versions if any(x[0] == r and low <= x[1] <= high for r, low, high in ranges)]
+
+    def database(self, transaction, seen):
+        made = {name: {} for name in self.catalogue.relations}
+        for item in sorted(self.items(transaction)):
+            shown = self.visible(item, seen)
+            if shown and shown[-1].row is not None:
+                made[item[0]][item[1]] = shown[-1].row
+        return made
+
+    def listed(self, transaction, seen):
+        return tuple((item, tuple(x.writer for x in self.visible(item, seen))) for item in self.items(transaction))
+
+    def replies(self, transaction, seen):
+        return effect(transaction, self.database(transaction, seen), self.catalogue)[0]
+
+    def add(self, commit, seen, changes):
+        transaction = self.transaction(commit.txn)
+        reply = self.report.replies[commit.txn]
+        told = ()
+        if self.replies(transaction, seen) != reply:
+            told = self.explained(transaction, seen, reply)
+        begin = self.starts[commit.txn, 1].place
+        time = self.starts[commit.txn, commit.attempt].time
+        self.committed[commit.txn] = Committed(
+            transaction.number, commit.txn, self.class_of(commit), begin, commit.place, time, seen,
+            self.listed(transaction, seen), told, changes)
+
+    def explained(self, transaction, seen, reply):
+        """Reads that give this reply: of what another transaction saw, of the first rows, or of all."""
+        everything = {x.number for x in self.transactions.values()}
+        others = [other for _, other in self.databases]
+        for other in others + [{f: set() for f in seen}, {f: everything for f in seen}]:
+            cut = {f: other.get(f, seen[f]) for f in seen}
+            if cut != seen and self.replies(transaction, cut) == reply:
+                return self.listed(transaction, cut)
+        items = self.items(transaction) or [("reply", transaction.name)]
+        return ((items[0], (NOBODY,)),)
+
+    def final_reads(self):
+        """Of each copy at which all changes of its fragment are applied: its name and its reads."""
+        for (site, fragment), rows in self.report.copies.items():
+            f = self.catalogue.fragments[fragment]
+            items = [x for x in self.versions if f.has(*x)]
+            writers = {v.writer for x in items for v in self.versions[x]} - {FIRST_ROWS}
+            if not writers <= {n for _, n in self.applied.get(site, [])}:
+                continue
+            key = self.catalogue.relations[f.relation].key
+            told = {row[key]: row for row in rows}
+            extra = [(f.relation, k) for k in told if (f.relation, k) not in self.versions]
+            yield "copy %s %s" % (site, fragment), [self.final_read(x, told.get(x[1])) for x in items + extra]
+
+    def final_read(self, item, row):
+        """The versions of an item, up to the one that is the row that a copy has."""
+        versions = self.versions.get(item, [])
+        whole = tuple(x.writer for x in versions)
+        if (versions[-1].row if versions else None) == row:
+            return item, whole
+        for k in range(len(versions) - 1, -1, -1):
+            if (versions[k - 1].row if k else None) == row:
+                return item, whole[:k]
+        return item, (NOBODY,)
+
+
+def micro(kind, item, value):
+    shown = "nil" if value is None else "[%s]" % " ".join(map(str, value)) if isinstance(value, tuple) else str(value)
+    return "[:%s %s %s]" % (kind, json.dumps("%s/%s" % item, ensure_ascii=False), shown)
+
+
+def operation(index, kind, process, name, steps):
+    return "{:index %d, :type :%s, :process %d, :f :txn, :name %s, :value [%s]}" % (
+        index, kind, process, json.dumps(name), " ".join(steps))
+
+
+def history(run):
+    """The lines of the history: an invoke where a transaction first starts, an ok where it commits."""
+    first = [micro("append", item, FIRST_ROWS) for item, v in run.versions.items() if v[0].writer == FIRST_ROWS]
+    events = [(-2, "invoke", "rows", first, "rows"), (-1, "ok", "rows", first, "rows")]
+    for x in run.committed.values():
+        appends = [micro("append", item, x.number) for item in x.changes]
+        both = x.reads + x.told
+        events.append((x.begin, "invoke", x.process, [micro("r", item, None) for item, _ in both] + appends, x.name))
+        events.append((x.end, "ok", x.process, [micro("r", *read) for read in both] + appends, x.name))
+    last = len(run.report.records)
+    for name, final in run.final_reads():
+        events.append((last, "invoke", name, [micro("r", item, None) for item, _ in final], name))
+        events.append((last, "ok", name, [micro("r", *read) for read in final], name))
+    events.sort(key=lambda x: x[0])
+    processes = {}
+    for _, _, process, _, _ in events:
+        processes.setdefault(process, len(processes))
+    return [operation(k, kind, processes[process], name, steps) for k, (_, kind, process, steps, name) in enumerate(events)]
+
+
+def main():
+    asked = argparse.ArgumentParser(description=__doc__, formatter_class=argparse.RawDescriptionHelpFormatter, usage=argparse.SUPPRESS)
+    for name in ("report", "workload", "catalogue"):
+        asked.add_argument(name, metavar=name.upper())
+    asked.add_argument("--into", metavar="FILE", help="the history's file; without it standard output")
+    asked = asked.parse_args()
+    try:
+        catalogue = read_catalogue(asked.catalogue)
+        first, transactions = read_workload(asked.workload, catalogue)
+        run = Run(read_report(asked.report), transactions, first, catalogue)
+        text = "".join(x + "\n" for x in history(run))
+        with open(asked.into, "w", encoding="utf-8") if asked.into else sys.stdout as out:
+            out.write(text)
+    except (BadInput, OSError) as fault:
+        sys.exit("to_elle.py: %s" % fault)
+
+
+if __name__ == "__main__":
+    main()
