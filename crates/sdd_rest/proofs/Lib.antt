@@ -1,0 +1,14 @@
+pub mod Alone
+pub mod Applied
+pub mod CountedDones
+pub mod Dones
+pub mod Finished
+pub mod Going
+pub mod Handed
+pub mod Holds
+pub mod Lacking
+pub mod Lists
+pub mod Moves
+pub mod NoRejects
+pub mod Questions
+pub mod Still

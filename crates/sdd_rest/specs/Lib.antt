@@ -1,0 +1,4 @@
+pub mod Asked
+pub mod Finished
+pub mod Going
+pub mod Quiet

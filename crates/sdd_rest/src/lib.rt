@@ -1,0 +1,2 @@
+//! What holds where nothing goes on any more.
+#![tactic(auto)]
