@@ -10,5 +10,7 @@ pub mod Lacking
 pub mod Lists
 pub mod Moves
 pub mod NoRejects
+pub mod NoneWaits
 pub mod Questions
 pub mod Still
+pub mod WaitedFor

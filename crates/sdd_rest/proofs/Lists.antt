@@ -1,6 +1,6 @@
 -- Small facts on lists, options and tests.
 use Rattle.std.specs.List.{list_all}
-use Rattle.std.proofs.Common.{ℕ, ◌||◌, ◌∷◌, ◌≡◌, ◌⊎◌, Bool, List, None, Option, Some, [], cond, false, filter, if◌then◌else◌, inl, inr, refl, slice_get, subst, suc, sym, true, zero}
+use Rattle.std.proofs.Common.{ℕ, ◌&&◌, ◌||◌, ◌∷◌, ◌≡◌, ◌⊎◌, Bool, List, None, Option, Some, [], cond, false, filter, if◌then◌else◌, inl, inr, refl, slice_get, subst, suc, sym, true, zero}
 use Rattle.sdd_base.specs.Words.{first_some, head_of, or_else}
 use Rattle.sdd_invariants.proofs.Bools.{both}
 use Rattle.sdd_step.proofs.Ticking.{or_none}
@@ -40,3 +40,12 @@ head_at (y ∷ xs) x e = e
 pub if_none : {A : Type 0} (b : Bool) (x : A) → (if b then Some x else None) ≡ None → b ≡ false
 if_none true x e = cc
 if_none false x e = refl
+
+-- an item that fails a test which not all pass
+pub not_all : {A : Type 0} (f : A → Bool) (xs : List A) → list_all f xs ≡ false → (k : ℕ) × (x : A) × (slice_get xs k ≡ Some x) × (f x ≡ false)
+not_all f [] e = cc
+not_all {A = A} f (x ∷ xs) e =
+    elim (f x) as (λ b. f x ≡ b → (b && list_all f xs) ≡ false → (k : ℕ) × (y : A) × (slice_get (x ∷ xs) k ≡ Some y) × (f y ≡ false)) [
+      | true ↦ λ p q. (let i = not_all f xs q in (suc i.0, i.1, i.2, i.3))
+      | false ↦ λ p q. (0, x, refl, p)
+    ] refl e

@@ -1,4 +1,6 @@
 pub mod Asked
 pub mod Finished
 pub mod Going
+pub mod Premises
 pub mod Quiet
+pub mod Waiting
