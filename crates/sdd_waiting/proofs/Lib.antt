@@ -1,0 +1,4 @@
+pub mod FromTable
+pub mod Passing
+pub mod StuckHeads
+pub mod Waited
