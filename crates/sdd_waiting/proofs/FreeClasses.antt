@@ -165,7 +165,8 @@ answered_by_end g i d from n later log ts of txn attempt conds uses free sound l
     let p : IsProcessedIn g handed d i m later = processed_by_end g d i from n m later log h through (none_at_head g (later ++ handed) i d free h sound lo hi none) in
     let hb : IsPermitted g (p.before ++ handed) = permitted_within g later handed p.later (Does (D d) (Records i p.rec p.sends)) p.before h p.is in
     let empty = unconditional g (p.before ++ handed) i d _ ts of txn attempt conds uses hb free (at_its_place g i d (p.before ++ handed) m p.head_is) in
-    let a = read_answered _ i _ ts of txn attempt conds uses p.rec empty p.may in
+    let l : site.Log = at_module g d (p.before ++ handed) in
+    let a = read_answered (view_of (setting_of g (D d)) l) i (waits i l) ts of txn attempt conds uses p.rec empty p.may in
     record { later = p.later; before = p.before; dm = a.0; sends = p.sends; is = p.is ∙ ap (λ r. p.later ++ Does (D d) (Records i r p.sends) ∷ p.before) a.1 }
 
 pub applied_by_end : (g : Given) (i : ℕ) (d : DmNo) (from : Site) (n : ℕ) (later log : Log) (ts : Ts) (of : ClassNo) (txn : TxnNo) (changes : List Change)
@@ -177,5 +178,6 @@ applied_by_end g i d from n later log ts of txn changes free sound lo hi class h
     let handed : Log = Hand from (D d) n m ∷ log in
     let through : goes_through i m ≡ true = ap (λ k. k == i) class ∙ same_number i in
     let p : IsProcessedIn g handed d i m later = processed_by_end g d i from n m later log h through (none_at_head g (later ++ handed) i d free h sound lo hi none) in
-    let a = write_applied _ i _ ts of txn changes p.rec p.may in
+    let l : site.Log = at_module g d (p.before ++ handed) in
+    let a = write_applied (view_of (setting_of g (D d)) l) i (waits i l) ts of txn changes p.rec p.may in
     record { later = p.later; before = p.before; of = of; dm = a.0; sends = p.sends; is = p.is ∙ ap (λ r. p.later ++ Does (D d) (Records i r p.sends) ∷ p.before) a.1 }

@@ -13,9 +13,8 @@ use Rattle.sdd_base.specs.declared.number.TxnNo.{TxnNo}
 use Rattle.sdd_base.specs.declared.site.Site.{Site}
 use Rattle.sdd_base.specs.declared.site.Site.TheVariants.{D}
 use Rattle.sdd_base.specs.declared.usage.Use.{Use}
-use Rattle.sdd_catalog.proofs.Sound.{at_number, sound_classes, sound_whole}
+use Rattle.sdd_catalog.proofs.Sound.{sound_whole}
 use Rattle.sdd_catalog.specs.Catalogue.{Catalogue, class_at}
-use Rattle.sdd_catalog.specs.Numbers.{IsServedClass}
 use Rattle.sdd_catalog.specs.Rules.{IsSound}
 use Rattle.sdd_catalog.specs.declared.resolved.Class.{Class}
 use Rattle.sdd_graph.specs.Edges.{IsClassOf}
@@ -35,12 +34,13 @@ use Rattle.sdd_invariants.proofs.Bools.{same_or_not}
 use Rattle.sdd_invariants.specs.ReadSteps.{IsClassHere, spoiler}
 use Rattle.sdd_invariants.specs.Seen.{pipe_at}
 use Rattle.sdd_invariants.specs.Steps.{home}
-use Rattle.sdd_waiting.proofs.Answered as met
+use Rattle.sdd_waiting.proofs.Answered as ready
 use Rattle.sdd_waiting.proofs.Answered.{HasSmallHomes}
 use Rattle.sdd_waiting.proofs.EventOver.{none_due}
 use Rattle.sdd_waiting.proofs.FreeClasses as free
 use Rattle.sdd_waiting.proofs.IdleStarts as starts
 use Rattle.sdd_waiting.proofs.Judged as judged
+use Rattle.sdd_waiting.proofs.UndeclaredHolds.{class_served}
 use Rattle.sdd_waiting.specs.Answers.{EndsAnEvent, IsAnsweredIn, IsAppliedIn, IsRejectedAfter}
 use Rattle.sdd_waiting.specs.Free.{IsFreeClass}
 
@@ -55,10 +55,12 @@ module_small cat c sound =
     let few : cat.tms ≤ 16 = whole.few_tms in
     elim (dec_le (length cat.classes) (c - 1)) [
       | yes past ↦ (let e : (class_at cat c).tm.0 ≡ 0 = ap (λ (k : Class). k.tm.0) (get_or_past cat.classes (c - 1) _ past) in omega arith)
-      | no there ↦ (let s : IsServedClass cat (class_at cat (suc (c - 1))) = at_number (IsServedClass cat) cat.classes (suc (c - 1)) _ (sound_classes cat sound) (omega arith) (omega (arith, there)) in
-          let to = s.module_to in
-          let same : suc (c - 1) - 1 ≡ c - 1 = omega arith in
-          omega arith)
+      | no there ↦ elim (dec_le 1 c) [
+        | yes from ↦ (let to = (class_served cat c sound (record { from = from; to = omega (arith, there) })).module_to in omega arith)
+        | no none ↦ (let z : c ≡ 0 = omega (arith, none) in
+            let same : (class_at cat c).tm.0 ≡ (class_at cat 1).tm.0 = ap (λ k. (class_at cat k).tm.0) z in
+            let to = (class_served cat 1 sound (record { from = omega arith; to = omega (arith, there) })).module_to in omega arith)
+      ]
     ]
 
 small_homes : (g : Given) → IsSound g.catalogue → HasSmallHomes g
@@ -76,7 +78,7 @@ pub answered : (g : Given) (d : DmNo) (c : ℕ) (later log : Log) (ts : Ts) (of 
     → waits c (local_of g (D d) log) ≡ true → head (pipe_at g c d log) ≡ Some (Read ts of txn attempt conds uses)
     → list_all (is_met (view_of (setting_of g (D d)) (local_of g (D d) log))) conds ≡ true → IsAnsweredIn d c txn attempt later
 answered g d c later log ts of txn attempt conds uses h l lo hi w e met =
-    met.answered g d c later log ts of txn attempt conds uses (permitted_to g (later ++ log) h) (small_homes g h.sound) (class_here g c d l) lo hi w e met (none_due g (later ++ log) h.over)
+    ready.answered g d c later log ts of txn attempt conds uses (permitted_to g (later ++ log) h) (small_homes g h.sound) (class_here g c d l) lo hi w e met (none_due g (later ++ log) h.over)
 
 pub answered_or_rejected : (g : Given) (d : DmNo) (c : ℕ) (later log : Log) (ts : Ts) (of : ClassNo) (txn : TxnNo) (attempt : ℕ) (conds : List Cond) (uses : List Use)
     → EndsAnEvent g (later ++ log) → c ≤ length g.catalogue.classes → 1 ≤ d.0 → d.0 ≤ g.catalogue.dms
