@@ -17,7 +17,7 @@ use Rattle.sdd_catalog.proofs.Sound.{sound_whole}
 use Rattle.sdd_history.specs.declared.record.Rec.TheVariants.{Answer}
 use Rattle.sdd_wire.specs.declared.msg.Msg.TheVariants.{Read, Write}
 use Rattle.sdd_module.specs.SiteLog.{Act, Records}
-use Rattle.sdd_order.specs.Numbers.{IsModule}
+use Rattle.sdd_order.specs.Numbers.{IsClass, IsModule}
 use Rattle.sdd_attempt.specs.Attempts.{Attempt}
 use Rattle.sdd_pipe.specs.Pipe.{head}
 use Rattle.sdd_dm.specs.Views.{home_of}
@@ -37,7 +37,6 @@ use Rattle.sdd_invariants.specs.Seen.{pipe_at}
 use Rattle.sdd_invariants.specs.Steps.{home}
 use Rattle.sdd_facts.proofs.HoldsFit.{at_place}
 use Rattle.sdd_rest.proofs.Still.{run_at, runs_place}
-use Rattle.sdd_rest.specs.Quiet.{IsClass}
 use Rattle.sdd_upheld.proofs.Homes.{home_small, positive}
 
 -- a READ that is answered doesn't stand at the head again

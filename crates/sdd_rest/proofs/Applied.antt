@@ -7,7 +7,7 @@ use Rattle.sdd_catalog.specs.Rules.{IsSound}
 use Rattle.sdd_wire.specs.declared.msg.Msg.{Msg}
 use Rattle.sdd_wire.specs.declared.msg.Msg.TheVariants.{Write}
 use Rattle.sdd_module.specs.SiteLog.{Bases}
-use Rattle.sdd_order.specs.Numbers.{IsModule}
+use Rattle.sdd_order.specs.Numbers.{IsClass, IsModule}
 use Rattle.sdd_attempt.specs.Acts.{commit_act}
 use Rattle.sdd_attempt.specs.Attempts.{Attempt}
 use Rattle.sdd_dm.specs.Pipes.{pipe}
@@ -24,7 +24,7 @@ use Rattle.sdd_invariants.specs.Steps.{home}
 use Rattle.sdd_invariants.specs.Traffic.{class_in, puts_to}
 use Rattle.sdd_rest.proofs.Handed.{none_left}
 use Rattle.sdd_rest.proofs.Still.{home_linked}
-use Rattle.sdd_rest.specs.Quiet.{IsClass, IsQuiet, at_home, at_module}
+use Rattle.sdd_rest.specs.Quiet.{IsQuiet, at_home, at_module}
 
 -- all that was put for a pipe came to it
 pub pipe_has_all : (g : Given) (log : Log) (c d : ℕ) → IsQuiet g log → IsSound g.catalogue → IsClass g.catalogue c → IsModule g.catalogue d

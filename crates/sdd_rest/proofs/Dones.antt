@@ -19,7 +19,7 @@ use Rattle.sdd_wire.specs.declared.msg.Msg.{Msg}
 use Rattle.sdd_wire.specs.declared.msg.Msg.TheVariants.{Done, Write}
 use Rattle.sdd_module.specs.SiteLog.{Act, Bases, Did, Each, Handed, Records, Redeclared, Setting, Submits, Ticked, sends_of_act}
 use Rattle.sdd_module.specs.SiteLog as site
-use Rattle.sdd_order.specs.Numbers.{IsModule}
+use Rattle.sdd_order.specs.Numbers.{IsClass, IsModule}
 use Rattle.sdd_attempt.specs.Acts.{commit_act}
 use Rattle.sdd_attempt.specs.Attempts.{Attempt}
 use Rattle.sdd_pipe.specs.Pipe.{head}
@@ -48,7 +48,7 @@ use Rattle.sdd_rest.proofs.CountedDones.{all_current, counted_off}
 use Rattle.sdd_rest.proofs.Handed.{all_handed}
 use Rattle.sdd_rest.proofs.Still.{home_linked}
 use Rattle.sdd_rest.specs.Finished.{IsIdle}
-use Rattle.sdd_rest.specs.Quiet.{IsClass, IsQuiet, at_module}
+use Rattle.sdd_rest.specs.Quiet.{IsQuiet, at_module}
 
 -- one module's DONEs, and those of n modules from module a on
 

@@ -12,6 +12,7 @@ use Rattle.sdd_catalog.specs.Catalogue.{Catalogue, class_at, numbers_to}
 use Rattle.sdd_catalog.specs.Rules.{IsSound}
 use Rattle.sdd_catalog.proofs.Sound.{sound_whole}
 use Rattle.sdd_module.specs.SiteLog as site
+use Rattle.sdd_order.specs.Numbers.{IsClass}
 use Rattle.sdd_attempt.specs.Acts.{commit_act}
 use Rattle.sdd_attempt.specs.Attempts.{Attempt, active}
 use Rattle.sdd_attempt.specs.Queues.{Queued, queue}
@@ -44,7 +45,7 @@ use Rattle.sdd_rest.proofs.Lists.{all_true, if_none, no_head}
 use Rattle.sdd_rest.proofs.NoRejects.{all_served}
 use Rattle.sdd_rest.proofs.Still.{IsStillT, IsStillU, run_at, runs_place, t_site, t_still, u_still}
 use Rattle.sdd_rest.specs.Finished.{IsFinished, IsIdle}
-use Rattle.sdd_rest.specs.Quiet.{IsClass, IsQuiet, at_home}
+use Rattle.sdd_rest.specs.Quiet.{IsQuiet, at_home}
 
 -- between U and a T everything was handed over
 

@@ -21,7 +21,7 @@ use Rattle.sdd_lang.specs.declared.statement.Stmt.TheVariants.{Delete, Put, Quer
 use Rattle.sdd_wire.specs.declared.msg.Msg.{Msg}
 use Rattle.sdd_wire.specs.declared.msg.Msg.TheVariants.{Fetch, Read, Reduce, Ship}
 use Rattle.sdd_module.specs.SiteLog as site
-use Rattle.sdd_order.specs.Numbers.{IsModule}
+use Rattle.sdd_order.specs.Numbers.{IsClass, IsModule}
 use Rattle.sdd_attempt.specs.Acts.{attempt_due}
 use Rattle.sdd_attempt.specs.Attempts.{Attempt, active, asks_rows}
 use Rattle.sdd_attempt.specs.Exchange.{Asking, Exchange, Phase, askings, first_send, is_over, send_due}
@@ -61,7 +61,7 @@ use Rattle.sdd_rest.proofs.Still.{d_still, exchange_none, home_linked}
 use Rattle.sdd_step.proofs.Ticking.{or_none}
 use Rattle.sdd_rest.specs.Asked.{IsUnanswered}
 use Rattle.sdd_rest.specs.Going.{AllAskParts, AllHaveParts, HasParts, IsGoing}
-use Rattle.sdd_rest.specs.Quiet.{IsClass, IsQuiet, at_home, at_module}
+use Rattle.sdd_rest.specs.Quiet.{IsQuiet, at_home, at_module}
 
 -- what fits a catalogue counts its parts from 1
 

@@ -1,5 +1,6 @@
 pub mod Alone
 pub mod Applied
+pub mod Committed
 pub mod CountedDones
 pub mod Dones
 pub mod Finished

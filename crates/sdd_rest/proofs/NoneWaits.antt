@@ -23,7 +23,7 @@ use Rattle.sdd_wire.specs.declared.msg.Msg.{Msg}
 use Rattle.sdd_wire.specs.declared.msg.Msg.TheVariants.{Read, Write}
 use Rattle.sdd_module.specs.SiteLog.{Setting}
 use Rattle.sdd_module.specs.SiteLog as site
-use Rattle.sdd_order.specs.Numbers.{IsModule}
+use Rattle.sdd_order.specs.Numbers.{IsClass, IsModule}
 use Rattle.sdd_attempt.specs.Attempts.{Attempt, active}
 use Rattle.sdd_attempt.specs.Clocks.{clock}
 use Rattle.sdd_pipe.specs.Pipe.{Pipe, head}
@@ -60,7 +60,7 @@ use Rattle.sdd_rest.proofs.Still.{d_still}
 use Rattle.sdd_rest.proofs.WaitedFor.{next_head, next_reader}
 use Rattle.sdd_rest.specs.Finished.{IsIdle}
 use Rattle.sdd_rest.specs.Premises.{HasOneTable}
-use Rattle.sdd_rest.specs.Quiet.{IsClass, IsQuiet, at_home, at_module}
+use Rattle.sdd_rest.specs.Quiet.{IsQuiet, at_home, at_module}
 use Rattle.sdd_rest.specs.Waiting.{IsBelow, IsEarlierReader, IsHolder, IsReader}
 
 -- a READ that waits has a condition that isn't met
@@ -167,7 +167,7 @@ redeclares_grow : (later log : Log) → redeclares log ≤ redeclares (later ++ 
 redeclares_grow [] log = omega arith
 redeclares_grow (e ∷ later) log = let i = redeclares_grow later log in let j = redeclares_up e (later ++ log) in omega (arith, i, j)
 
-first_list : (log later before : Log) (e : Entry) → redeclares log ≡ 0 → log ≡ later ++ e ∷ before → redeclares before ≡ 0
+pub first_list : (log later before : Log) (e : Entry) → redeclares log ≡ 0 → log ≡ later ++ e ∷ before → redeclares before ≡ 0
 first_list log later before e none is =
     let i = redeclares_up e before in let j = redeclares_grow later (e ∷ before) in let all = ap redeclares is in omega (arith, i, j, all, none)
 

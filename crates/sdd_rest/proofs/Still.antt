@@ -11,7 +11,7 @@ use Rattle.sdd_catalog.specs.Catalogue.{Catalogue, class_at, numbers_to}
 use Rattle.sdd_catalog.specs.Rules.{IsSound}
 use Rattle.sdd_module.specs.SiteLog.{Act}
 use Rattle.sdd_net.specs.Nets.{is_link, is_site}
-use Rattle.sdd_order.specs.Numbers.{IsModule}
+use Rattle.sdd_order.specs.Numbers.{IsClass, IsModule}
 use Rattle.sdd_attempt.specs.Acts.{attempt_due}
 use Rattle.sdd_attempt.specs.Attempts.{active}
 use Rattle.sdd_dm.specs.Due as dm
@@ -32,7 +32,7 @@ use Rattle.sdd_facts.proofs.OfNext.{site_there}
 use Rattle.sdd_upheld.proofs.Homes.{positive, served}
 use Rattle.sdd_step.proofs.Ticking.{or_none}
 use Rattle.sdd_rest.proofs.Lists.{kept_there, none_at}
-use Rattle.sdd_rest.specs.Quiet.{IsClass, IsQuiet, at_home, at_module}
+use Rattle.sdd_rest.specs.Quiet.{IsQuiet, at_home, at_module}
 
 does_none : (at : Site) (o : Option Act) → does_at at o ≡ None → o ≡ None
 does_none at None e = refl

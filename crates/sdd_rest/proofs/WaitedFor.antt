@@ -19,7 +19,7 @@ use Rattle.sdd_wire.specs.declared.msg.Msg.{Msg}
 use Rattle.sdd_wire.specs.declared.msg.Msg.TheVariants.{Ask, Null, Read, Write}
 use Rattle.sdd_module.specs.SiteLog.{Setting, sends_of_act}
 use Rattle.sdd_module.specs.SiteLog as site
-use Rattle.sdd_order.specs.Numbers.{IsModule}
+use Rattle.sdd_order.specs.Numbers.{IsClass, IsModule}
 use Rattle.sdd_attempt.specs.Attempts.{Attempt, active}
 use Rattle.sdd_attempt.specs.Fits.{is_read}
 use Rattle.sdd_pipe.specs.Pipe.{Pipe, head, passed, touches}
@@ -59,7 +59,7 @@ use Rattle.sdd_rest.proofs.Lists.{kept_there, no_head}
 use Rattle.sdd_rest.proofs.Questions.{covered, open_is_blocked}
 use Rattle.sdd_rest.proofs.Still.{d_still, home_linked, run_at, runs_place, t_still}
 use Rattle.sdd_rest.specs.Asked.{IsUnanswered}
-use Rattle.sdd_rest.specs.Quiet.{IsClass, IsQuiet, at_home, at_module}
+use Rattle.sdd_rest.specs.Quiet.{IsQuiet, at_home, at_module}
 use Rattle.sdd_rest.specs.Waiting.{IsBelow, IsEarlierReader, IsHolder, IsReader}
 
 -- times in pipes

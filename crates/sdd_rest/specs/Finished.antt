@@ -2,7 +2,7 @@
 use Rattle.std.specs.Prelude.{ℕ, ◌≡◌, ◌≤◌, [], None}
 use Rattle.sdd_base.specs.Numbers.{tm_no}
 use Rattle.sdd_base.specs.declared.site.Site.TheVariants.{T}
-use Rattle.sdd_order.specs.Numbers.{IsModule}
+use Rattle.sdd_order.specs.Numbers.{IsClass, IsModule}
 use Rattle.sdd_attempt.specs.Attempts.{active}
 use Rattle.sdd_attempt.specs.Queues.{queue}
 use Rattle.sdd_dm.specs.Pipes.{pipe}
@@ -10,7 +10,7 @@ use Rattle.sdd_tm.specs.Views.{holds}
 use Rattle.sdd_log.specs.Entries.{Given, Log}
 use Rattle.sdd_log.specs.Locals.{local_of, setting_of}
 use Rattle.sdd_invariants.specs.Steps.{home}
-use Rattle.sdd_rest.specs.Quiet.{IsClass, at_home, at_module}
+use Rattle.sdd_rest.specs.Quiet.{at_home, at_module}
 
 -- every message of every pipe is processed, and no attempt is under way
 pub record IsIdle (g : Given) (log : Log) : Type 0 where

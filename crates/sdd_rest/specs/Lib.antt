@@ -1,4 +1,5 @@
 pub mod Asked
+pub mod Committed
 pub mod Finished
 pub mod Going
 pub mod Premises

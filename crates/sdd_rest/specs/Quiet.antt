@@ -1,9 +1,8 @@
 -- A log at which nothing goes on: nothing is under way on a link, nothing is due at a site, and every data module takes
 -- part.
-use Rattle.std.specs.Prelude.{ℕ, ◌≡◌, ◌≤◌, false, true, None, length}
+use Rattle.std.specs.Prelude.{ℕ, ◌≡◌, false, true, None}
 use Rattle.sdd_base.specs.Numbers.{dm_no}
 use Rattle.sdd_base.specs.declared.site.Site.TheVariants.{D}
-use Rattle.sdd_catalog.specs.Catalogue.{Catalogue}
 use Rattle.sdd_net.specs.Links.{quiet}
 use Rattle.sdd_module.specs.SiteLog as site
 use Rattle.sdd_order.specs.Numbers.{IsModule}
@@ -28,7 +27,3 @@ at_module g d log = local_of g (D (dm_no d)) log
 
 abbrev pub at_home : Given → ℕ → Log → site.Log
 at_home g c log = local_of g (home g.catalogue c) log
-
--- class 0 or a class of the catalogue
-abbrev pub IsClass : Catalogue → ℕ → Type 0
-IsClass cat c = c ≤ length cat.classes

@@ -9,11 +9,11 @@ use Rattle.sdd_base.specs.declared.usage.Use.{Use}
 use Rattle.sdd_wire.specs.Piped.{time_of}
 use Rattle.sdd_wire.specs.declared.msg.Msg.{Msg}
 use Rattle.sdd_wire.specs.declared.msg.Msg.TheVariants.{Read, Write}
-use Rattle.sdd_order.specs.Numbers.{IsModule}
+use Rattle.sdd_order.specs.Numbers.{IsClass, IsModule}
 use Rattle.sdd_pipe.specs.Pipe.{head}
 use Rattle.sdd_dm.specs.Pipes.{pipe, waits}
 use Rattle.sdd_log.specs.Entries.{Given, Log}
-use Rattle.sdd_rest.specs.Quiet.{IsClass, at_module}
+use Rattle.sdd_rest.specs.Quiet.{at_module}
 
 -- a READ of class c with this timestamp and these conditions waits at a module
 pub record IsReader (g : Given) (log : Log) (c ts : ℕ) (conds : List Cond) : Type 0 where
