@@ -14,14 +14,15 @@ pub fn law_diagonals_listed()
     ensures { DiagonalsListed }
 {}
 
-/// A law: waits never lead from the reader of a P2 diagonal to its writer. Takes no memory.
+/// A law: in a graph of waits that fits its block numbers no arcs lead from the reader of a P2
+/// diagonal to its writer. Takes no memory.
 #[tactic(auto, using(crate::proofs::Paths::no_path_to_writer))]
 pub fn law_no_path_to_writer()
     ensures { NoPathToWriter }
 {}
 
-/// A law: where each READ that waits does so because of another one that waits, none waits. Takes
-/// no memory.
+/// A law: over a graph of waits that fits its block numbers, where each READ that waits has the times
+/// of a Start and waits because of another one that waits, none waits. Takes no memory.
 pub fn law_none_waits()
     ensures { NoneWaits }
 {}

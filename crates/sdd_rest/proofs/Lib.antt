@@ -1,6 +1,7 @@
 pub mod Alone
 pub mod Applied
 pub mod Committed
+pub mod Copies
 pub mod CountedDones
 pub mod Dones
 pub mod Finished
@@ -13,5 +14,6 @@ pub mod Moves
 pub mod NoRejects
 pub mod NoneWaits
 pub mod Questions
+pub mod Settled
 pub mod Still
 pub mod WaitedFor

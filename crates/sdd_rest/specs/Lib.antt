@@ -4,4 +4,5 @@ pub mod Finished
 pub mod Going
 pub mod Premises
 pub mod Quiet
+pub mod Settled
 pub mod Waiting
