@@ -174,7 +174,7 @@ none_found : {A B : Type 0} (f : A → Option B) (xs : List A) → ((k : ℕ) (x
 none_found f [] h = refl
 none_found f (x ∷ xs) h = ap (λ o. cons_option o (filter_map f xs)) (h 0 x refl) ∙ none_found f xs (λ k y e. h (suc k) y e)
 
-not_left : (h : History) → AllCommitted h → (k : ℕ) (x : ℕ × Rec) → slice_get h k ≡ Some x → IsNotLeft h x
+pub not_left : (h : History) → AllCommitted h → (k : ℕ) (x : ℕ × Rec) → slice_get h k ≡ Some x → IsNotLeft h x
 not_left h all k (event, Submit n) e = all n.0 k (ap (option_map (λ (y : ℕ × Rec). y.1)) e)
 not_left h all k (event, _) e = tt
 

@@ -34,6 +34,7 @@ use Rattle.sdd_dm.specs.Pipes.{pipe}
 use Rattle.sdd_dm.specs.Views.{ClassView, Home, View, class_view, home_of, view_of}
 use Rattle.sdd_log.specs.Entries.{Given, Log}
 use Rattle.sdd_log.specs.Locals.{local_of, setting_of}
+use Rattle.sdd_log.specs.Permitted.{IsPermitted}
 use Rattle.sdd_log.specs.Snapshots.{base_of}
 use Rattle.sdd_invariants.proofs.Bools.{and_right, not_both, or_left, same_number}
 use Rattle.sdd_invariants.proofs.Fair.{all_new, home_fair}
@@ -208,6 +209,16 @@ read_there : (ts c : ℕ) (ns : List ℕ) (m : Msg) (unprocessed : List Msg) →
     → slice_get (filter (is_read ts c) unprocessed) 0 ≡ Some m
 read_there ts c ns m unprocessed e f = rw (f, e) refl
 
+pub goes_on : (g : Given) (log : Log) (c : ℕ) (a : Attempt) → IsPermitted g log → FitsGiven g → IsClass g.catalogue c
+    → active (setting_of g (home g.catalogue c)) c (at_home g c log) ≡ Some a → IsGoing a.exchange
+goes_on g log c a h good l e =
+    let s = setting_of g (home g.catalogue c) in
+    let at = home g.catalogue c in
+    let sp = spoken g c log h (small_home g.catalogue good.sound c l) in
+    let text : FitsText g.catalogue a.text = active_so (FitsText g.catalogue) s c (at_home g c log) a (home_fair g c log h) (all_new g at log h) (submitted_fit g good at c log h) e in
+    let parts : AllAskParts (askings 0 a.text.statements) = askings_parts g.catalogue 0 a.text.statements (recursion_from_All (FitsStatement g.catalogue) a.text.statements text.fits.statements) in
+    is_going s c (at_home g c log) a (home_fair g c log h) (home_first g c log h) sp.timely_at e parts
+
 pub has_unanswered : (g : Given) (log : Log) (c : ℕ) (a : Attempt) → IsQuiet g log → FitsGiven g → IsClass g.catalogue c
     → active (setting_of g (home g.catalogue c)) c (at_home g c log) ≡ Some a → IsUnanswered g log c a.ts
 has_unanswered g log c a h good l e =
@@ -215,9 +226,7 @@ has_unanswered g log c a h good l e =
     let at = home g.catalogue c in
     let sp = spoken g c log h.permitted (small_home g.catalogue good.sound c l) in
     let turns = home_turns g c log h.permitted sp in
-    let text : FitsText g.catalogue a.text = active_so (FitsText g.catalogue) s c (at_home g c log) a (home_fair g c log h.permitted) (all_new g at log h.permitted) (submitted_fit g good at c log h.permitted) e in
-    let parts : AllAskParts (askings 0 a.text.statements) = askings_parts g.catalogue 0 a.text.statements (recursion_from_All (FitsStatement g.catalogue) a.text.statements text.fits.statements) in
-    let going = is_going s c (at_home g c log) a (home_fair g c log h.permitted) (home_first g c log h.permitted) sp.timely_at e parts in
+    let going = goes_on g log c a h.permitted good l e in
     let waits = waits_for g.catalogue (base_of g log) c a (subst (λ o. attempt_due g.catalogue (base_of g log) c o ≡ None) e (exchange_none g log c h good.sound l)) in
     let lack = lacking_one a.exchange.lacks (going.lacks waits.not_over) in
     let d : ℕ = lack.0 in
