@@ -13,6 +13,7 @@ pub mod Lists
 pub mod Moves
 pub mod NoRejects
 pub mod NoneWaits
+pub mod OwnCopies
 pub mod Questions
 pub mod Settled
 pub mod Still
