@@ -1,0 +1,127 @@
+-- The READ of an undeclared transaction holds no WRITE back: what is put with a later timestamp was started once that
+-- transaction was applied at every module.
+use Rattle.std.specs.List.{list_any, range_with_len}
+use Rattle.std.specs.Prelude.{◌&&◌}
+use Rattle.std.proofs.Common.{ℕ, ◌++◌, ◌+◌, ◌-◌, ◌<◌, ◌==◌, ◌∙◌, ◌∷◌, ◌≡◌, ◌≢◌, ◌≤◌, Bool, List, Some, [], ap, append_assoc, arith, cond, eq-eqb, false, filter, inl, inr, length, nat_le, refl, slice_get, subst, suc, sym, true, zero}
+use Rattle.std.proofs.lemmas.Bool.{eqb-true}
+use Rattle.sdd_base.specs.Numbers.{dm_no, tm_no}
+use Rattle.sdd_base.specs.Sites.{number_of}
+use Rattle.sdd_base.specs.declared.change.Change.{Change}
+use Rattle.sdd_base.specs.declared.condition.Cond.{Cond}
+use Rattle.sdd_base.specs.declared.number.ClassNo.{ClassNo}
+use Rattle.sdd_base.specs.declared.number.DmNo.{DmNo}
+use Rattle.sdd_base.specs.declared.number.Ts.{Ts}
+use Rattle.sdd_base.specs.declared.number.TxnNo.{TxnNo}
+use Rattle.sdd_base.specs.declared.site.Site.{Site}
+use Rattle.sdd_base.specs.declared.site.Site.TheVariants.{D, T}
+use Rattle.sdd_base.specs.declared.usage.Use.{Use}
+use Rattle.sdd_catalog.proofs.Sound.{at_number, sound_classes, sound_whole}
+use Rattle.sdd_catalog.specs.Catalogue.{Catalogue, class_at, numbers_to}
+use Rattle.sdd_catalog.specs.Numbers.{IsServedClass}
+use Rattle.sdd_catalog.specs.Rules.{IsSound}
+use Rattle.sdd_graph.specs.Edges.{IsClassOf}
+use Rattle.sdd_history.specs.declared.record.Rec.TheVariants.{Answer}
+use Rattle.sdd_wire.specs.declared.msg.Msg.{Msg}
+use Rattle.sdd_wire.specs.declared.msg.Msg.TheVariants.{Read, Write}
+use Rattle.sdd_module.specs.SiteLog.{Act, Records}
+use Rattle.sdd_attempt.specs.Attempts.{Attempt}
+use Rattle.sdd_pipe.specs.Pipe.{head}
+use Rattle.sdd_dm.specs.Due.{holds, holds_back}
+use Rattle.sdd_dm.specs.Views.{home_of}
+use Rattle.sdd_tm.specs.Views.{runs}
+use Rattle.sdd_log.specs.Entries.{Does, Given, Log}
+use Rattle.sdd_log.specs.Locals.{setting_of}
+use Rattle.sdd_log.specs.Permitted.{IsPermitted}
+use Rattle.sdd_invariants.proofs.Answered.{read_of}
+use Rattle.sdd_invariants.proofs.Apart.{low_or_high}
+use Rattle.sdd_invariants.proofs.Bools.{and_left, and_right, not_zero, same_number}
+use Rattle.sdd_invariants.proofs.Dones.{all_applied}
+use Rattle.sdd_invariants.proofs.Installed.{class_number, head_put, write_origin}
+use Rattle.sdd_invariants.proofs.Lists.{any_at}
+use Rattle.sdd_invariants.proofs.Once.{answered_there}
+use Rattle.sdd_invariants.proofs.Split.{le_is}
+use Rattle.sdd_invariants.proofs.Undeclared.{Part, answered_before, commit_t, has_cond, part_join, part_of, permitted_part, read_classes}
+use Rattle.sdd_invariants.specs.Barrier.{u_stamp, zero_cond}
+use Rattle.sdd_invariants.specs.Causes.{HasAnswer, IsApplyOf}
+use Rattle.sdd_invariants.specs.Seen.{pipe_at}
+use Rattle.sdd_invariants.specs.Steps.{home}
+use Rattle.sdd_waiting.proofs.EventOver.{range_there}
+
+-- the sites of classes
+
+pub class_served : (cat : Catalogue) (i : ℕ) → IsSound cat → IsClassOf cat i → IsServedClass cat (class_at cat i)
+class_served cat i sound c = at_number (IsServedClass cat) cat.classes i _ (sound_classes cat sound) c.from c.to
+
+pub home_of_class : (cat : Catalogue) (i : ℕ) → IsClassOf cat i → home cat i ≡ T (tm_no (class_at cat i).tm.0)
+home_of_class cat i c = rw (not_zero i c.from) refl
+
+kept_there : (p : ℕ → Bool) (xs : List ℕ) (k x : ℕ) → slice_get xs k ≡ Some x → p x ≡ true → (j : ℕ) × (slice_get (filter p xs) j ≡ Some x)
+kept_there p [] k x e h = cc
+kept_there p (y ∷ xs) zero x e h = let q : y ≡ x = cc in (0, rw (ap p q ∙ h) e)
+kept_there p (y ∷ xs) (suc k) x e h =
+    let i = kept_there p xs k x e h in
+    elim (p y) as (λ b. (j : ℕ) × (slice_get (cond b (y ∷ filter p xs) (filter p xs)) j ≡ Some x)) [ true ↦ (suc i.0, i.1) | false ↦ i ]
+
+pub in_runs : (g : Given) (i : ℕ) → IsClassOf g.catalogue i
+    → (j : ℕ) × (slice_get (runs (setting_of g (T (tm_no (class_at g.catalogue i).tm.0)))) j ≡ Some i)
+in_runs g i c =
+    let t : ℕ = (class_at g.catalogue i).tm.0 in
+    let r = range_there 1 (length g.catalogue.classes) i c.from (let l = c.to in omega arith) in
+    kept_there (λ k. (class_at g.catalogue k).tm.0 == t) (numbers_to (length g.catalogue.classes)) r.0 i r.1 (same_number t)
+
+-- the READ of an undeclared transaction that is answered doesn't stand at the head again
+not_again : (g : Given) (d : DmNo) (log : Log) (a : Attempt) (ts : Ts) (k : ClassNo) (txn : TxnNo) (n : ℕ) (ds : List Cond) (us : List Use) (before : Log)
+    → IsPermitted g log → head (pipe_at g 0 d log) ≡ Some (Read ts k txn n ds us) → Part log before → HasAnswer g before d 0 a
+    → a.ts ≡ ts.0 → ⊥
+not_again g d log a ts k txn n ds us before h e p w same =
+    let ans : Act = Records 0 (Answer w.txn w.attempt (home_of (setting_of g (D d))).dm) w.sends in
+    let whole : log ≡ (p.0 ++ w.later) ++ Does (D d) ans ∷ w.before = p.1 ∙ ap (λ l. p.0 ++ l) w.is ∙ sym (append_assoc p.0 w.later (Does (D d) ans ∷ w.before)) in
+    answered_there g 0 d (p.0 ++ w.later) w.before (home_of (setting_of g (D d))).dm w.sends w.ts ts w.of k w.txn w.txn txn w.attempt w.attempt n w.conds ds w.uses us (subst (IsPermitted g) whole h) (omega arith)
+    w.head_is (subst (λ l. head (pipe_at g 0 d l) ≡ Some (Read ts k txn n ds us)) whole e) (w.ts_is ∙ same)
+
+-- while it stands there, nothing that is put is of a declared transaction with its timestamp or a later one
+none_later : (g : Given) (i num w : ℕ) (d : DmNo) (log : Log) (ts : Ts) (of : ClassNo) (txn : TxnNo) (n : ℕ) (ds : List Cond) (us : List Use)
+    → IsPermitted g log → IsSound g.catalogue → IsClassOf g.catalogue i → 1 ≤ d.0 → d.0 ≤ g.catalogue.dms
+    → head (pipe_at g 0 d log) ≡ Some (Read ts of txn n ds us) → ts.0 ≤ w → IsApplyOf g log d i num w → ⊥
+none_later g i num w d log ts of txn n ds us h sound c lo hi e le cm =
+    let t : ℕ = (class_at g.catalogue i).tm.0 in
+    let served = class_served g.catalogue i sound c in
+    let whole = sound_whole g.catalogue sound in
+    let few : g.catalogue.tms ≤ 16 = whole.few_tms in
+    let from = served.module_from in
+    let to = served.module_to in
+    let k = range_there 1 g.catalogue.tms t from (omega arith) in
+    let kd = range_there 1 g.catalogue.dms d.0 lo (omega arith) in
+    let j = in_runs g i c in
+    let hm = home_of_class g.catalogue i c in
+    let r = (read_of g 0 d log ts of txn n ds us h e).1 in
+    let ct = commit_t g t i log cm.later cm.before cm.bases cm.attempt h hm cm.is cm.active_is in
+    elim (low_or_high g k.0 t i j.0 log r.later r.before r.queued cm.attempt ct k.1 j.1 (omega arith) h r.is) [
+      | inl low ↦ (let b = low.below in omega (arith, b, le, r.ts_is, cm.ts_is))
+      | inr high ↦ (let p1 = part_of log high.start.later _ high.start.rest high.start.is in
+          let h1 = permitted_part g log high.start.rest h p1 in
+          let applied = all_applied g high.start.rest (u_stamp g r.before) kd.0 d.0 h1 high.dones kd.1 in
+          let an = answered_before g kd.0 d high.start.rest (u_stamp g r.before) h1 kd.1 applied in
+          not_again g d log an.0 ts of txn n ds us an.1 h e (part_join log high.start.rest an.1 p1 an.2) an.3 (an.4 ∙ sym r.ts_is))
+    ]
+
+-- its conditions have its timestamp
+own_time : (g : Given) (d : DmNo) (log : Log) (ts : Ts) (of : ClassNo) (txn : TxnNo) (n : ℕ) (ds : List Cond) (us : List Use) (j : ℕ) (q : Cond)
+    → IsPermitted g log → head (pipe_at g 0 d log) ≡ Some (Read ts of txn n ds us) → slice_get ds j ≡ Some q → q.time.0 ≡ ts.0
+own_time g d log ts of txn n ds us j q h e f =
+    let there = has_cond g d log ts of txn n ds us j q.class.0 h e (read_classes g d log ts of txn n ds us j q h e f) in
+    let same : Some q ≡ Some (zero_cond g ts.0 q.class.0) = sym f ∙ there in
+    let is : q ≡ zero_cond g ts.0 q.class.0 = cc in
+    ap (λ (x : Cond). x.time.0) is
+
+pub holds_none : (g : Given) (i : ℕ) (d : DmNo) (log : Log) (ts : Ts) (of : ClassNo) (txn : TxnNo) (n : ℕ) (ds : List Cond) (us : List Use) (w : Ts) (wc : ClassNo) (wt : TxnNo) (changes : List Change)
+    → IsPermitted g log → IsSound g.catalogue → IsClassOf g.catalogue i → 1 ≤ d.0 → d.0 ≤ g.catalogue.dms
+    → head (pipe_at g 0 d log) ≡ Some (Read ts of txn n ds us) → head (pipe_at g i d log) ≡ Some (Write w wc wt changes)
+    → holds_back i w.0 changes (Some (Read ts of txn n ds us)) ≡ true → ⊥
+holds_none g i d log ts of txn n ds us w wc wt changes h sound c lo hi e f b =
+    let a = any_at (holds i w.0 changes) ds b in
+    let late : nat_le a.1.time.0 w.0 ≡ true = and_left _ _ (and_right (a.1.class.0 == i) _ a.3) in
+    let time = own_time g d log ts of txn n ds us a.0 a.1 h e a.2 in
+    let put = head_put g i d log (Write w wc wt changes) h f in
+    let class : wc.0 ≡ i = class_number wc.0 i w.0 put.of_class in
+    none_later g i wt.0 w.0 d log ts of txn n ds us h sound c lo hi e (subst (λ t. t ≤ w.0) time (le_is a.1.time.0 w.0 late)) (write_origin g log i d w wc wt changes class put)
