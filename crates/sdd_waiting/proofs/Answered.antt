@@ -1,6 +1,6 @@
 -- A READ whose conditions are met is answered before the event is over.
 use Rattle.std.specs.List.{list_all}
-use Rattle.std.proofs.Common.{ℕ, ◌&&◌, ◌++◌, ◌==◌, ◌∙◌, ◌∷◌, ◌≡◌, ◌≤◌, ◌⊎◌, Bool, List, None, Option, Some, [], ap, append_assoc, arith, false, filter, if◌then◌else◌, inl, inr, length, not, refl, slice_get, subst, suc, sym, true}
+use Rattle.std.proofs.Common.{ℕ, ◌++◌, ◌∙◌, ◌∷◌, ◌≡◌, ◌≤◌, ◌⊎◌, List, None, Some, [], ap, arith, false, inl, inr, length, refl, subst, suc, sym, true}
 use Rattle.std.proofs.Math.Decide.{dec_le}
 use Rattle.sdd_base.specs.Sites.{number_of}
 use Rattle.sdd_base.specs.declared.condition.Cond.{Cond}
@@ -11,23 +11,21 @@ use Rattle.sdd_base.specs.declared.number.TxnNo.{TxnNo}
 use Rattle.sdd_base.specs.declared.site.Site.{Site}
 use Rattle.sdd_base.specs.declared.site.Site.TheVariants.{D}
 use Rattle.sdd_base.specs.declared.usage.Use.{Use}
-use Rattle.sdd_history.specs.declared.record.Rec.{Rec}
-use Rattle.sdd_history.specs.declared.record.Rec.TheVariants.{Answer, Reject as Rejected}
+use Rattle.sdd_history.specs.declared.record.Rec.TheVariants.{Answer}
 use Rattle.sdd_wire.specs.declared.msg.Msg.{Msg}
 use Rattle.sdd_wire.specs.declared.msg.Msg.TheVariants.{Read}
 use Rattle.sdd_module.specs.SiteLog.{Act, Did, Records, Setting}
 use Rattle.sdd_module.specs.SiteLog as site
 use Rattle.sdd_pipe.specs.Pipe.{Pipe, head, passed}
 use Rattle.sdd_dm.specs.Due.{is_met}
-use Rattle.sdd_dm.specs.Pipes.{is_processing, is_wait, pipe, waits}
-use Rattle.sdd_dm.specs.Views.{ClassView, at_class, view_of}
+use Rattle.sdd_dm.specs.Pipes.{pipe, waits}
+use Rattle.sdd_dm.specs.Views.{ClassView, view_of}
 use Rattle.sdd_log.specs.Due.{site_due}
 use Rattle.sdd_log.specs.Entries.{Does, Entry, Given, Log}
 use Rattle.sdd_log.specs.Locals.{setting_of}
 use Rattle.sdd_log.specs.Permitted.{IsPermitted}
 use Rattle.sdd_invariants.proofs.AreReadSteps.{class_in_view, class_not_in_view, d_step}
 use Rattle.sdd_invariants.proofs.Bools.{and_left, and_right, both, not_both, same_or_not}
-use Rattle.sdd_invariants.proofs.Made.{permitted_before}
 use Rattle.sdd_invariants.proofs.Processed.{not_own, passing, read_step_way}
 use Rattle.sdd_invariants.specs.ReadSteps.{IsClassHere, IsReadStep, by_record}
 use Rattle.sdd_invariants.specs.Steps.{home}

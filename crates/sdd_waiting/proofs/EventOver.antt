@@ -1,8 +1,7 @@
 -- Where an event is over, nothing is due at any site.
 use Rattle.std.specs.List.{range_with_len}
-use Rattle.std.proofs.Common.{ℕ, ◌++◌, ◌+◌, ◌<◌, ◌≡◌, ◌≤◌, ◌∙◌, ◌∷◌, Bool, List, None, Option, Some, [], ap, arith, false, if◌then◌else◌, inl, inr, map, refl, slice_get, subst, suc, sym, true, zero}
+use Rattle.std.proofs.Common.{ℕ, ◌+◌, ◌<◌, ◌≡◌, ◌≤◌, ◌∷◌, Bool, List, None, Option, Some, [], ap, arith, false, map, refl, slice_get, suc, true, zero}
 use Rattle.std.proofs.Math.Decide.{dec_le}
-use Rattle.sdd_base.specs.Numbers.{dm_no}
 use Rattle.sdd_base.specs.Sites.{sites}
 use Rattle.sdd_base.specs.Words.{first_some, or_else}
 use Rattle.sdd_base.specs.declared.event.Event.{Event}
@@ -10,7 +9,7 @@ use Rattle.sdd_base.specs.declared.event.Event.TheVariants.{Deliver, Down, Lose,
 use Rattle.sdd_base.specs.declared.number.DmNo.{DmNo}
 use Rattle.sdd_base.specs.declared.number.TmNo.{TmNo}
 use Rattle.sdd_base.specs.declared.site.Site.{Site}
-use Rattle.sdd_base.specs.declared.site.Site.TheVariants.{D, T, U}
+use Rattle.sdd_base.specs.declared.site.Site.TheVariants.{D, T}
 use Rattle.sdd_module.specs.SiteLog.{Act}
 use Rattle.sdd_dm.specs.Due as dm
 use Rattle.sdd_dm.specs.Views as dm_views

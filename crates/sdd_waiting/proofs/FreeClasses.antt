@@ -1,7 +1,7 @@
 -- Of a free class no attempt waits or is rejected, and what is handed over of it is processed before the event is over.
 use Rattle.std.specs.List.{list_all, list_any}
 use Rattle.std.specs.Prelude.{◌&&◌, not}
-use Rattle.std.proofs.Common.{ℕ, ◌++◌, ◌<◌, ◌==◌, ◌∙◌, ◌∷◌, ◌≡◌, ◌≢◌, ◌≤◌, ◌⊎◌, Bool, List, None, Option, Some, [], ap, append_assoc, arith, false, filter, inl, inr, length, nat_le, refl, slice_get, subst, suc, sym, true, zero}
+use Rattle.std.proofs.Common.{ℕ, ◌++◌, ◌==◌, ◌∙◌, ◌∷◌, ◌≡◌, ◌≢◌, ◌≤◌, Bool, List, None, Option, Some, [], ap, append_assoc, arith, false, inl, inr, length, refl, slice_get, subst, sym, true}
 use Rattle.std.proofs.lemmas.Bool.{eqb-true}
 use Rattle.sdd_base.specs.Numbers.{class_no, txn_no}
 use Rattle.sdd_base.specs.Words.{head_of}
@@ -16,16 +16,16 @@ use Rattle.sdd_base.specs.declared.site.Site.TheVariants.{D}
 use Rattle.sdd_base.specs.declared.usage.Use.{Use}
 use Rattle.sdd_catalog.specs.Rules.{IsSound}
 use Rattle.sdd_history.specs.declared.record.Rec.{Rec}
-use Rattle.sdd_history.specs.declared.record.Rec.TheVariants.{Answer, Apply, Pass, Reject as Rejected}
+use Rattle.sdd_history.specs.declared.record.Rec.TheVariants.{Answer, Apply, Reject as Rejected}
 use Rattle.sdd_wire.specs.Piped.{goes_through}
 use Rattle.sdd_wire.specs.declared.msg.Msg.{Msg}
-use Rattle.sdd_wire.specs.declared.msg.Msg.TheVariants.{Null, Read, Write}
+use Rattle.sdd_wire.specs.declared.msg.Msg.TheVariants.{Read, Write}
 use Rattle.sdd_module.specs.SiteLog.{Act, Records, Setting}
 use Rattle.sdd_module.specs.SiteLog as site
-use Rattle.sdd_pipe.specs.Pipe.{Pipe, head, touches}
-use Rattle.sdd_dm.specs.Due.{due, holds, holds_back, is_met}
+use Rattle.sdd_pipe.specs.Pipe.{head}
+use Rattle.sdd_dm.specs.Due.{holds, holds_back, is_met}
 use Rattle.sdd_dm.specs.Pipes.{is_wait, pipe, waits}
-use Rattle.sdd_dm.specs.Views.{ClassView, View, class_view, home_of, view_of}
+use Rattle.sdd_dm.specs.Views.{ClassView, View, view_of}
 use Rattle.sdd_log.specs.Due.{site_due}
 use Rattle.sdd_log.specs.Entries.{Does, Entry, Given, Hand, Log}
 use Rattle.sdd_log.specs.Locals.{setting_of}
@@ -35,12 +35,12 @@ use Rattle.sdd_invariants.proofs.AreReadSteps.{class_at_place}
 use Rattle.sdd_invariants.proofs.Bools.{and_left, and_right, not_both, same_number, same_or_not}
 use Rattle.sdd_invariants.proofs.Lists.{any_at, at_seam}
 use Rattle.sdd_invariants.proofs.Made.{permitted_before}
-use Rattle.sdd_invariants.specs.ReadSteps.{IsClassHere, May, spoiler}
+use Rattle.sdd_invariants.specs.ReadSteps.{IsClassHere, May}
 use Rattle.sdd_invariants.specs.Seen.{all_of, pipe_at}
 use Rattle.sdd_waiting.proofs.AtModule.{at_module}
 use Rattle.sdd_waiting.proofs.EventOver.{none_at_data}
-use Rattle.sdd_waiting.proofs.FreeConditions.{declared, names_none, unconditional}
-use Rattle.sdd_waiting.proofs.ProcessedIn.{IsProcessedIn, handed_last, processed_by_end}
+use Rattle.sdd_waiting.proofs.FreeConditions.{names_none, unconditional}
+use Rattle.sdd_waiting.proofs.ProcessedIn.{IsProcessedIn, processed_by_end}
 use Rattle.sdd_waiting.proofs.Rejected.{rejected, spoiler_there}
 use Rattle.sdd_waiting.proofs.StuckHeads.{head_stuck}
 use Rattle.sdd_waiting.proofs.UndeclaredHolds.{holds_none}

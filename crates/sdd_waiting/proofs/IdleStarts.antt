@@ -1,7 +1,7 @@
 -- Where nothing is due at a transaction module that isn't on hold, an idle class has no queue.
-use Rattle.std.proofs.Common.{ℕ, ◌∙◌, ◌∷◌, ◌≡◌, ◌≤◌, List, None, Option, Some, [], ap, arith, false, if◌then◌else◌, is_none, length, map, not, refl, slice_get, subst, suc, sym, true}
+use Rattle.std.proofs.Common.{ℕ, ◌∷◌, ◌≡◌, List, None, Option, Some, [], false, refl, slice_get, subst, sym}
 use Rattle.sdd_base.specs.Numbers.{tm_no}
-use Rattle.sdd_base.specs.Words.{first_some, head_of, or_else}
+use Rattle.sdd_base.specs.Words.{first_some, head_of}
 use Rattle.sdd_base.specs.declared.number.TmNo.{TmNo}
 use Rattle.sdd_base.specs.declared.site.Site.TheVariants.{T}
 use Rattle.sdd_catalog.specs.Catalogue.{Catalogue, class_at}

@@ -1,7 +1,7 @@
 -- A READ whose conditions are met, that doesn't wait and isn't spoilt, is answered before the event is over, or rejected
 -- after an Apply that spoils it.
 use Rattle.std.specs.List.{list_all}
-use Rattle.std.proofs.Common.{ℕ, ◌&&◌, ◌++◌, ◌==◌, ◌∙◌, ◌∷◌, ◌≡◌, ◌≤◌, ◌⊎◌, Bool, List, None, Option, Some, [], ap, cond, false, filter, inl, inr, not, refl, slice_get, subst, suc, sym, true, zero}
+use Rattle.std.proofs.Common.{ℕ, ◌++◌, ◌∙◌, ◌∷◌, ◌≡◌, ◌≤◌, ◌⊎◌, Bool, List, None, Some, [], ap, cond, false, filter, inl, inr, not, refl, slice_get, subst, suc, sym, true, zero}
 use Rattle.sdd_base.specs.Numbers.{txn_no}
 use Rattle.sdd_base.specs.Words.{head_of}
 use Rattle.sdd_base.specs.declared.condition.Cond.{Cond}
@@ -27,7 +27,7 @@ use Rattle.sdd_log.specs.Entries.{Does, Entry, Given, Log}
 use Rattle.sdd_log.specs.Locals.{setting_of}
 use Rattle.sdd_log.specs.Permitted.{IsPermitted}
 use Rattle.sdd_invariants.proofs.AreReadSteps.{d_step}
-use Rattle.sdd_invariants.proofs.Bools.{and_left, and_right, not_both, same_or_not}
+use Rattle.sdd_invariants.proofs.Bools.{and_left, and_right, same_or_not}
 use Rattle.sdd_invariants.proofs.Processed.{not_own, passing, read_step_way}
 use Rattle.sdd_invariants.specs.ReadSteps.{IsClassHere, IsReadStep, May, by_record, spoiler}
 use Rattle.sdd_waiting.proofs.Answered.{HasSmallHomes, all_met_later, answered_on, no_ready_head}
@@ -37,7 +37,7 @@ use Rattle.sdd_waiting.proofs.Rejected.{processing_of, spoiler_there}
 use Rattle.sdd_waiting.proofs.Spoilt.{spoilt_in}
 use Rattle.sdd_waiting.proofs.StuckHeads.{head_stuck}
 use Rattle.sdd_waiting.proofs.Waited.{wait_due}
-use Rattle.sdd_waiting.specs.Answers.{IsAnsweredIn, IsRejectedAfter, IsRejectedIn, IsSpoiltIn}
+use Rattle.sdd_waiting.specs.Answers.{IsAnsweredIn, IsRejectedAfter, IsRejectedIn}
 use Rattle.sdd_waiting.specs.Waited.{IsWaitOf, lacking}
 
 abbrev HeadIs : site.Log → ℕ → Msg → Type 0

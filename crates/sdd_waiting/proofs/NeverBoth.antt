@@ -1,5 +1,5 @@
 -- An attempt that had a Wait at a module has no Reject there.
-use Rattle.std.proofs.Common.{ℕ, ◌++◌, ◌∙◌, ◌∷◌, ◌≡◌, ◌≤◌, ◌⊎◌, List, Some, [], ap, append_assoc, inl, inr, refl, subst, sym, true}
+use Rattle.std.proofs.Common.{ℕ, ◌++◌, ◌∙◌, ◌∷◌, ◌≡◌, ◌≤◌, List, Some, ap, append_assoc, inl, inr, refl, subst, sym, true}
 use Rattle.sdd_base.specs.Numbers.{txn_no}
 use Rattle.sdd_base.specs.Sites.{number_of}
 use Rattle.sdd_base.specs.declared.condition.Cond.{Cond}
@@ -10,7 +10,6 @@ use Rattle.sdd_base.specs.declared.number.TxnNo.{TxnNo}
 use Rattle.sdd_base.specs.declared.site.Site.{Site}
 use Rattle.sdd_base.specs.declared.site.Site.TheVariants.{D}
 use Rattle.sdd_base.specs.declared.usage.Use.{Use}
-use Rattle.sdd_history.specs.declared.record.Rec.{Rec}
 use Rattle.sdd_history.specs.declared.record.Rec.TheVariants.{Answer, Reject as Rejected, Wait}
 use Rattle.sdd_wire.specs.declared.msg.Msg.{Msg}
 use Rattle.sdd_wire.specs.declared.msg.Msg.TheVariants.{Null, Read, Write}
@@ -34,7 +33,6 @@ use Rattle.sdd_waiting.proofs.Answered.{waits_or_answered}
 use Rattle.sdd_waiting.proofs.AtModule.{at_module}
 use Rattle.sdd_waiting.proofs.Rejected.{IsProcessing, processing_of, rejected}
 use Rattle.sdd_waiting.proofs.Waited.{wait_due}
-use Rattle.sdd_waiting.specs.Answers.{IsAnsweredIn}
 use Rattle.sdd_waiting.specs.Rejections.{IsRejectOf}
 use Rattle.sdd_waiting.specs.Waited.{IsWaitOf}
 

@@ -1,6 +1,6 @@
 -- The laws of answers and of free classes, of lawful logs at whose end an event is over.
 use Rattle.std.specs.List.{list_all}
-use Rattle.std.proofs.Common.{ℕ, ◌++◌, ◌-◌, ◌<◌, ◌==◌, ◌∙◌, ◌∷◌, ◌≡◌, ◌≤◌, ◌⊎◌, List, None, Some, [], ap, arith, false, inl, inr, length, refl, subst, suc, sym, true}
+use Rattle.std.proofs.Common.{ℕ, ◌++◌, ◌-◌, ◌∷◌, ◌≡◌, ◌≤◌, ◌⊎◌, List, None, Some, [], ap, arith, false, inl, inr, length, refl, subst, sym, true}
 use Rattle.std.proofs.Math.Decide.{dec_le}
 use Rattle.std.proofs.lemmas.List.{get_or_past}
 use Rattle.sdd_base.specs.Sites.{number_of}

@@ -25,7 +25,7 @@ use Rattle.sdd_invariants.proofs.Made.{local_grows}
 use Rattle.sdd_invariants.proofs.Once.{processed_grows}
 use Rattle.sdd_invariants.proofs.Split.{le_is}
 use Rattle.sdd_invariants.specs.Orders.{AllGe, IsRising}
-use Rattle.sdd_invariants.specs.Seen.{all_of, class_puts, pipe_at}
+use Rattle.sdd_invariants.specs.Seen.{all_of, pipe_at}
 use Rattle.sdd_invariants.specs.Steps.{home}
 
 pub is_le : (a b : ℕ) → a ≤ b → nat_le a b ≡ true

@@ -1,5 +1,5 @@
 -- A message that came to a pipe and is processed later: the record that processes it.
-use Rattle.std.proofs.Common.{ℕ, ◌&&◌, ◌++◌, ◌+◌, ◌<◌, ◌==◌, ◌∙◌, ◌∷◌, ◌≡◌, ◌≤◌, ◌⊎◌, Bool, List, None, Option, Some, [], ap, append_assoc, arith, false, if◌then◌else◌, inl, inr, length, length-append, refl, slice_get, subst, suc, sym, true, zero}
+use Rattle.std.proofs.Common.{ℕ, ◌++◌, ◌<◌, ◌∙◌, ◌∷◌, ◌≡◌, ◌≤◌, Bool, List, None, Some, [], ap, append_assoc, arith, false, if◌then◌else◌, inl, inr, length, length-append, refl, slice_get, subst, suc, sym, true}
 use Rattle.std.proofs.Math.Decide.{dec_le}
 use Rattle.sdd_base.specs.Words.{head_of}
 use Rattle.sdd_base.specs.declared.number.DmNo.{DmNo}

@@ -1,18 +1,13 @@
 -- The READ of an undeclared transaction holds no WRITE back: what is put with a later timestamp was started once that
 -- transaction was applied at every module.
-use Rattle.std.specs.List.{list_any, range_with_len}
-use Rattle.std.specs.Prelude.{◌&&◌}
-use Rattle.std.proofs.Common.{ℕ, ◌++◌, ◌+◌, ◌-◌, ◌<◌, ◌==◌, ◌∙◌, ◌∷◌, ◌≡◌, ◌≢◌, ◌≤◌, Bool, List, Some, [], ap, append_assoc, arith, cond, eq-eqb, false, filter, inl, inr, length, nat_le, refl, slice_get, subst, suc, sym, true, zero}
-use Rattle.std.proofs.lemmas.Bool.{eqb-true}
-use Rattle.sdd_base.specs.Numbers.{dm_no, tm_no}
-use Rattle.sdd_base.specs.Sites.{number_of}
+use Rattle.std.proofs.Common.{ℕ, ◌++◌, ◌==◌, ◌∙◌, ◌∷◌, ◌≡◌, ◌≤◌, Bool, List, Some, [], ap, append_assoc, arith, cond, false, filter, inl, inr, length, nat_le, refl, slice_get, subst, suc, sym, true, zero}
+use Rattle.sdd_base.specs.Numbers.{tm_no}
 use Rattle.sdd_base.specs.declared.change.Change.{Change}
 use Rattle.sdd_base.specs.declared.condition.Cond.{Cond}
 use Rattle.sdd_base.specs.declared.number.ClassNo.{ClassNo}
 use Rattle.sdd_base.specs.declared.number.DmNo.{DmNo}
 use Rattle.sdd_base.specs.declared.number.Ts.{Ts}
 use Rattle.sdd_base.specs.declared.number.TxnNo.{TxnNo}
-use Rattle.sdd_base.specs.declared.site.Site.{Site}
 use Rattle.sdd_base.specs.declared.site.Site.TheVariants.{D, T}
 use Rattle.sdd_base.specs.declared.usage.Use.{Use}
 use Rattle.sdd_catalog.proofs.Sound.{at_number, sound_classes, sound_whole}
@@ -21,7 +16,6 @@ use Rattle.sdd_catalog.specs.Numbers.{IsServedClass}
 use Rattle.sdd_catalog.specs.Rules.{IsSound}
 use Rattle.sdd_graph.specs.Edges.{IsClassOf}
 use Rattle.sdd_history.specs.declared.record.Rec.TheVariants.{Answer}
-use Rattle.sdd_wire.specs.declared.msg.Msg.{Msg}
 use Rattle.sdd_wire.specs.declared.msg.Msg.TheVariants.{Read, Write}
 use Rattle.sdd_module.specs.SiteLog.{Act, Records}
 use Rattle.sdd_attempt.specs.Attempts.{Attempt}
