@@ -153,6 +153,16 @@ permitted_within g entries log later e before h p =
     let whole : entries ++ log ≡ later ++ e ∷ (before ++ log) = ap (λ l. l ++ log) p ∙ append_assoc later (e ∷ before) log in
     (permitted_before g later (e ∷ (before ++ log)) (subst (IsPermitted g) whole h)).1
 
+answer_in : (d : DmNo) (i : ℕ) (txn : TxnNo) (attempt : ℕ) (entries later before : Log) (r : Rec) (dm : DmNo) (sends : List (Site × Msg))
+    → entries ≡ later ++ Does (D d) (Records i r sends) ∷ before → r ≡ Answer txn attempt dm → IsAnsweredIn d i txn attempt entries
+answer_in d i txn attempt entries later before r dm sends is e =
+    record { later = later; before = before; dm = dm; sends = sends; is = is ∙ ap (λ x. later ++ Does (D d) (Records i x sends) ∷ before) e }
+
+apply_in : (d : DmNo) (i : ℕ) (txn : TxnNo) (ts : Ts) (entries later before : Log) (r : Rec) (of : ClassNo) (dm : DmNo) (sends : List (Site × Msg))
+    → entries ≡ later ++ Does (D d) (Records i r sends) ∷ before → r ≡ Apply txn of dm ts → IsAppliedIn d i txn ts entries
+apply_in d i txn ts entries later before r of dm sends is e =
+    record { later = later; before = before; of = of; dm = dm; sends = sends; is = is ∙ ap (λ x. later ++ Does (D d) (Records i x sends) ∷ before) e }
+
 pub answered_by_end : (g : Given) (i : ℕ) (d : DmNo) (from : Site) (n : ℕ) (later log : Log) (ts : Ts) (of : ClassNo) (txn : TxnNo) (attempt : ℕ) (conds : List Cond) (uses : List Use)
     → IsFreeClass g i → IsSound g.catalogue → 1 ≤ d.0 → d.0 ≤ g.catalogue.dms → of.0 ≡ i
     → IsPermitted g (later ++ Hand from (D d) n (Read ts of txn attempt conds uses) ∷ log)
@@ -167,7 +177,7 @@ answered_by_end g i d from n later log ts of txn attempt conds uses free sound l
     let empty = unconditional g (p.before ++ handed) i d _ ts of txn attempt conds uses hb free (at_its_place g i d (p.before ++ handed) m p.head_is) in
     let l : site.Log = at_module g d (p.before ++ handed) in
     let a = read_answered (view_of (setting_of g (D d)) l) i (waits i l) ts of txn attempt conds uses p.rec empty p.may in
-    record { later = p.later; before = p.before; dm = a.0; sends = p.sends; is = p.is ∙ ap (λ r. p.later ++ Does (D d) (Records i r p.sends) ∷ p.before) a.1 }
+    answer_in d i txn attempt later p.later p.before p.rec a.0 p.sends p.is a.1
 
 pub applied_by_end : (g : Given) (i : ℕ) (d : DmNo) (from : Site) (n : ℕ) (later log : Log) (ts : Ts) (of : ClassNo) (txn : TxnNo) (changes : List Change)
     → IsFreeClass g i → IsSound g.catalogue → 1 ≤ d.0 → d.0 ≤ g.catalogue.dms → of.0 ≡ i
@@ -180,4 +190,4 @@ applied_by_end g i d from n later log ts of txn changes free sound lo hi class h
     let p : IsProcessedIn g handed d i m later = processed_by_end g d i from n m later log h through (none_at_head g (later ++ handed) i d free h sound lo hi none) in
     let l : site.Log = at_module g d (p.before ++ handed) in
     let a = write_applied (view_of (setting_of g (D d)) l) i (waits i l) ts of txn changes p.rec p.may in
-    record { later = p.later; before = p.before; of = of; dm = a.0; sends = p.sends; is = p.is ∙ ap (λ r. p.later ++ Does (D d) (Records i r p.sends) ∷ p.before) a.1 }
+    apply_in d i txn ts later p.later p.before p.rec of a.0 p.sends p.is a.1

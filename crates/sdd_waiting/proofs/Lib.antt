@@ -16,3 +16,4 @@ pub mod Spoilt
 pub mod StuckHeads
 pub mod UndeclaredHolds
 pub mod Waited
+pub mod Worked
