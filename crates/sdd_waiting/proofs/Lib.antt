@@ -17,3 +17,4 @@ pub mod StuckHeads
 pub mod UndeclaredHolds
 pub mod Waited
 pub mod Worked
+pub mod WorkedFree

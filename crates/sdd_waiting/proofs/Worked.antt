@@ -1,6 +1,6 @@
 -- Worked logs that meet what the laws ask. Two classes, each of which reads what the other writes: a query waits until the
 -- other class has passed its time, and is answered then; or it comes behind a later put, and is rejected.
-use Rattle.std.proofs.Common.{ℕ, ◌+◌, ◌++◌, ◌==◌, ◌∙◌, ◌∷◌, ◌≡◌, ◌≢◌, ◌≤◌, Bool, List, None, Option, Some, [], ap, arith, false, inl, inr, length, negsuc, pos, refl, slice_get, subst, suc, sym, take, true, zero, lit≤}
+use Rattle.std.proofs.Common.{ℕ, ◌+◌, ◌++◌, ◌==◌, ◌∙◌, ◌∷◌, ◌≡◌, ◌≢◌, ◌≤◌, Bool, List, None, Option, Some, [], ap, arith, false, inl, inr, length, negsuc, pos, refl, slice_get, subst, suc, sym, take, true, zero, lit≤, lit<}
 use Rattle.sdd_base.specs.Numbers.{class_no, dm_no, frag_no, rel_no, time_at, tm_no, txn_no}
 use Rattle.sdd_base.specs.declared.condition.Cond.{Cond}
 use Rattle.sdd_base.specs.declared.event.Event.{Event}
@@ -19,19 +19,29 @@ use Rattle.sdd_lang.specs.declared.statement.Stmt.TheVariants.{Put, Query}
 use Rattle.sdd_lang.specs.declared.transaction.Txn.{Txn}
 use Rattle.sdd_history.specs.declared.record.Rec.TheVariants.{Reject as Rejected}
 use Rattle.sdd_wire.specs.declared.msg.Msg.TheVariants.{Read, Reject}
-use Rattle.sdd_module.specs.SiteLog.{Act, Force, Records}
+use Rattle.sdd_module.specs.SiteLog.{Act, Force, Records, Setting}
+use Rattle.sdd_module.specs.SiteLog as site
+use Rattle.sdd_pipe.specs.Pipe.{passed}
 use Rattle.sdd_log.specs.Due.{extended, next}
 use Rattle.sdd_log.specs.Entries.{Does, Entry, Given, Log}
 use Rattle.sdd_log.specs.Lawful.{IsLawful}
+use Rattle.sdd_log.specs.Locals.{local_of, setting_of}
 use Rattle.sdd_log.specs.Permitted.{AreSubmittedOnce, IsPermitted, one_if}
 use Rattle.sdd_log.proofs.NewMarks.{lawful_permitted}
 use Rattle.sdd_invariants.proofs.Bools.{same_or_not}
+use Rattle.sdd_invariants.proofs.Fair.{d_fair}
+use Rattle.sdd_invariants.specs.Seen.{pipe_at}
 use Rattle.sdd_waiting.proofs.FromTable.{conditions_of}
 use Rattle.sdd_waiting.proofs.OfLawful.{answered}
+use Rattle.sdd_waiting.proofs.Passing.{passed_later}
 use Rattle.sdd_waiting.proofs.Rejected.{rejected}
+use Rattle.sdd_waiting.proofs.StuckHeads.{head_stuck}
+use Rattle.sdd_waiting.proofs.Waited.{since}
 use Rattle.sdd_waiting.specs.Answers.{EndsAnEvent, IsAnsweredIn}
 use Rattle.sdd_waiting.specs.Conditions.{AreConditionsOf}
+use Rattle.sdd_waiting.specs.Heads.{IsStuck}
 use Rattle.sdd_waiting.specs.Rejections.{IsRejectOf}
+use Rattle.sdd_waiting.specs.Waited.{WaitsSince}
 
 -- what is given
 
@@ -74,7 +84,7 @@ unfolding faults_of
 sound = record { valid = refl; same = refl }
 
 -- a log that the definitions make is lawful
-made_lawful : (n : ℕ) (g : Given) (log : Log) → IsLawful g log → IsLawful g (extended n g log)
+pub made_lawful : (n : ℕ) (g : Given) (log : Log) → IsLawful g log → IsLawful g (extended n g log)
 made_lawful zero g log h = h
 made_lawful (suc n) g log h =
     elim (next g log) as (λ o. next g log ≡ o → IsLawful g (elim o as (λ _. Log) [ None ↦ log | Some e ↦ extended n g (e ∷ log) ])) [
@@ -82,7 +92,7 @@ made_lawful (suc n) g log h =
       | Some e ↦ λ p. made_lawful n g (e ∷ log) (p, h)
     ] refl
 
-one_at_most : (b : Bool) → one_if b ≤ 1
+pub one_at_most : (b : Bool) → one_if b ≤ 1
 one_at_most true = omega arith
 one_at_most false = omega arith
 
@@ -122,6 +132,27 @@ one_not_zero e = cc
 pub worked_conditions : AreConditionsOf waiting null_handed 1 65 up_to_65
 worked_conditions =
     conditions_of waiting null_handed 1 (dm_no 1) 0 (time_at 65) (class_no 1) (txn_no 1) 1 up_to_65 of_query (lawful_permitted waiting null_handed waiting_once (made_lawful 12 waiting [] tt)) one_not_zero refl
+
+-- while it waits nothing is due, and since then nothing of its pipe was processed; what the other class has passed it has
+-- passed at the end
+
+abbrev at_d : Log → site.Log
+at_d log = local_of waiting (D (dm_no 1)) log
+
+abbrev as_d : Setting
+as_d = setting_of waiting (D (dm_no 1))
+
+permitted_to : (n : ℕ) → IsPermitted waiting (extended n waiting [])
+permitted_to n = lawful_permitted waiting (extended n waiting []) waiting_once (made_lawful n waiting [] tt)
+
+pub worked_head : IsStuck as_d (at_d (extended 7 waiting [])) 1 (Some (Read (time_at 65) (class_no 1) (txn_no 1) 1 up_to_65 of_query))
+worked_head = head_stuck as_d (at_d (extended 7 waiting [])) 1 (lit< tt) refl
+
+pub worked_wait : WaitsSince as_d 1 (at_d null_handed)
+worked_wait = since as_d 1 (at_d null_handed) (d_fair waiting (dm_no 1) null_handed (permitted_to 12)) refl
+
+pub worked_passed : passed (pipe_at waiting 2 (dm_no 1) (two_more ++ null_handed)) 65 ≡ true
+worked_passed = passed_later waiting 2 (dm_no 1) 65 two_more null_handed (permitted_to 14) (lit≤ tt) refl
 
 -- it comes behind the later put
 
