@@ -43,7 +43,7 @@ use Rattle.sdd_waiting.proofs.FreeConditions.{names_none, unconditional}
 use Rattle.sdd_waiting.proofs.ProcessedIn.{IsProcessedIn, processed_by_end}
 use Rattle.sdd_waiting.proofs.Rejected.{rejected, spoiler_there}
 use Rattle.sdd_waiting.proofs.StuckHeads.{head_stuck}
-use Rattle.sdd_waiting.proofs.UndeclaredHolds.{holds_none}
+use Rattle.sdd_waiting.proofs.UndeclaredReads.{holds_none}
 use Rattle.sdd_waiting.proofs.Waited.{wait_due}
 use Rattle.sdd_waiting.specs.Answers.{IsAnsweredIn, IsAppliedIn}
 use Rattle.sdd_waiting.specs.Free.{IsFreeClass}

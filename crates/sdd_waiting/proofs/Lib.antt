@@ -14,7 +14,7 @@ pub mod ProcessedIn
 pub mod Rejected
 pub mod Spoilt
 pub mod StuckHeads
-pub mod UndeclaredHolds
+pub mod UndeclaredReads
 pub mod Waited
 pub mod Worked
 pub mod WorkedFree

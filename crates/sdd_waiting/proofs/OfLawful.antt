@@ -40,7 +40,7 @@ use Rattle.sdd_waiting.proofs.EventOver.{none_due}
 use Rattle.sdd_waiting.proofs.FreeClasses as free
 use Rattle.sdd_waiting.proofs.IdleStarts as starts
 use Rattle.sdd_waiting.proofs.Judged as judged
-use Rattle.sdd_waiting.proofs.UndeclaredHolds.{class_served}
+use Rattle.sdd_waiting.proofs.UndeclaredReads.{class_served}
 use Rattle.sdd_waiting.specs.Answers.{EndsAnEvent, IsAnsweredIn, IsAppliedIn, IsRejectedAfter}
 use Rattle.sdd_waiting.specs.Free.{IsFreeClass}
 
