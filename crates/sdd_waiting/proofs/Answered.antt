@@ -2,7 +2,6 @@
 use Rattle.std.specs.List.{list_all}
 use Rattle.std.proofs.Common.{ℕ, ◌++◌, ◌∙◌, ◌∷◌, ◌≡◌, ◌≤◌, ◌⊎◌, List, None, Some, [], ap, arith, false, inl, inr, length, refl, subst, suc, sym, true}
 use Rattle.std.proofs.Math.Decide.{dec_le}
-use Rattle.sdd_base.specs.Sites.{number_of}
 use Rattle.sdd_base.specs.declared.condition.Cond.{Cond}
 use Rattle.sdd_base.specs.declared.number.ClassNo.{ClassNo}
 use Rattle.sdd_base.specs.declared.number.DmNo.{DmNo}
@@ -28,8 +27,8 @@ use Rattle.sdd_invariants.proofs.AreReadSteps.{class_in_view, class_not_in_view,
 use Rattle.sdd_invariants.proofs.Bools.{and_left, and_right, both, not_both, same_or_not}
 use Rattle.sdd_invariants.proofs.Processed.{not_own, passing, read_step_way}
 use Rattle.sdd_invariants.specs.ReadSteps.{IsClassHere, IsReadStep, by_record}
-use Rattle.sdd_invariants.specs.Steps.{home}
 use Rattle.sdd_waiting.proofs.AtModule.{IsEntryAt, acting, aside, at_module, entry_at, handed_head, handing, waits_on, waits_other}
+use Rattle.sdd_waiting.proofs.ClassSites.{HasSmallHomes}
 use Rattle.sdd_waiting.proofs.EventOver.{none_at_data}
 use Rattle.sdd_waiting.proofs.Passing.{passed_later}
 use Rattle.sdd_waiting.proofs.Rejected.{waited_answer}
@@ -38,9 +37,6 @@ use Rattle.sdd_waiting.specs.Answers.{IsAnsweredIn}
 use Rattle.sdd_waiting.specs.Heads.{IsStuck}
 
 -- what is met stays met
-
-abbrev pub HasSmallHomes : Given → Type 0
-HasSmallHomes g = (c : ℕ) → number_of (home g.catalogue c) ≤ 63
 
 met_later : (g : Given) (d : DmNo) (later log : Log) (q : Cond) → IsPermitted g (later ++ log) → HasSmallHomes g
     → is_met (view_of (setting_of g (D d)) (at_module g d log)) q ≡ true
@@ -66,7 +62,7 @@ all_met_later g d later log (q ∷ qs) h small e =
 abbrev HeadWaits : site.Log → ℕ → Msg → Type 0
 HeadWaits l c m = (waits c l ≡ true) × (head (pipe c l) ≡ Some m)
 
-abbrev Answers : ℕ → TxnNo → ℕ → Act → Type 0
+abbrev pub Answers : ℕ → TxnNo → ℕ → Act → Type 0
 Answers c txn attempt act = (dm : DmNo) × (sends : List (Site × Msg)) × (act ≡ Records c (Answer txn attempt dm) sends)
 
 act_waits : (s : Setting) (l : site.Log) (c : ℕ) (ts : Ts) (of : ClassNo) (txn : TxnNo) (attempt : ℕ) (conds : List Cond) (uses : List Use) (act : Act)
@@ -87,7 +83,7 @@ pub answered_on : (d : DmNo) (c : ℕ) (txn : TxnNo) (attempt : ℕ) (e : Entry)
 answered_on d c txn attempt e entries i =
     record { later = e ∷ i.later; before = i.before; dm = i.dm; sends = i.sends; is = ap (λ l. e ∷ l) i.is }
 
-answered_now : (d : DmNo) (c : ℕ) (txn : TxnNo) (attempt : ℕ) (e : Entry) (act : Act) (entries : Log) → e ≡ Does (D d) act
+pub answered_now : (d : DmNo) (c : ℕ) (txn : TxnNo) (attempt : ℕ) (e : Entry) (act : Act) (entries : Log) → e ≡ Does (D d) act
     → Answers c txn attempt act → IsAnsweredIn d c txn attempt (e ∷ entries)
 answered_now d c txn attempt e act entries is a =
     record { later = []; before = entries; dm = a.0; sends = a.1; is = ap (λ x. x ∷ entries) (is ∙ ap (λ x. Does (D d) x) a.2) }

@@ -21,7 +21,7 @@ use Rattle.sdd_invariants.proofs.Holding.{at_map}
 use Rattle.sdd_invariants.specs.Steps.{home}
 use Rattle.sdd_waiting.proofs.EventOver.{none_at_txn}
 use Rattle.sdd_waiting.proofs.StuckHeads.{neither_some, none_at}
-use Rattle.sdd_waiting.proofs.UndeclaredReads.{class_served, home_of_class, in_runs}
+use Rattle.sdd_waiting.proofs.ClassSites.{class_served, home_of_class, in_runs}
 
 no_start : (cat : Catalogue) (v : View) (c : ℕ) (o : Option Queued) → start_of cat v c o ≡ None → o ≡ None
 no_start cat v c None e = refl

@@ -1,5 +1,6 @@
 pub mod Answered
 pub mod AtModule
+pub mod ClassSites
 pub mod EventOver
 pub mod FreeBlocks
 pub mod FreeClasses

@@ -37,6 +37,15 @@ any_here f [] k x e h = cc
 any_here {A = A} f (y ∷ xs) zero x e h = let p : ◌≡◌ {A = A} y x = cc in or_left (f y) (list_any f xs) (ap f p ∙ h)
 any_here f (y ∷ xs) (suc k) x e h = or_right (f y) (list_any f xs) (any_here f xs k x e h)
 
+-- the head of a pipe stands behind what is processed
+
+head_in : (ps qs : List Msg) (m : Msg) → head_of qs ≡ Some m → slice_get (ps ++ qs) (length ps) ≡ Some m
+head_in ps [] m e = cc
+head_in ps (x ∷ qs) m e = at_seam ps qs x ∙ e
+
+pub head_place : (p : Pipe) (m : Msg) → head p ≡ Some m → slice_get (all_of p) (length p.processed) ≡ Some m
+head_place p m e = head_in p.processed p.unprocessed m e
+
 -- the first part of a list of rising times
 
 ge_left : (t : ℕ) (xs ys : List Msg) → AllGe t (map time_of (xs ++ ys)) → AllGe t (map time_of xs)

@@ -1,7 +1,6 @@
 -- The READ of an undeclared transaction is never rejected, and holds no WRITE back: what is put with a later timestamp was
 -- started once that transaction was applied at every module.
-use Rattle.std.proofs.Common.{ℕ, ◌++◌, ◌==◌, ◌∙◌, ◌∷◌, ◌≡◌, ◌≤◌, Bool, List, Some, [], ap, append_assoc, arith, cond, false, filter, inl, inr, length, nat_le, refl, slice_get, subst, suc, sym, true, zero}
-use Rattle.sdd_base.specs.Numbers.{tm_no}
+use Rattle.std.proofs.Common.{ℕ, ◌++◌, ◌==◌, ◌∙◌, ◌∷◌, ◌≡◌, ◌≤◌, List, Some, ap, append_assoc, arith, inl, inr, length, nat_le, slice_get, subst, sym, true}
 use Rattle.sdd_base.specs.declared.change.Change.{Change}
 use Rattle.sdd_base.specs.declared.condition.Cond.{Cond}
 use Rattle.sdd_base.specs.declared.number.ClassNo.{ClassNo}
@@ -9,11 +8,10 @@ use Rattle.sdd_base.specs.declared.number.DmNo.{DmNo}
 use Rattle.sdd_base.specs.declared.number.Ts.{Ts}
 use Rattle.sdd_base.specs.declared.number.TxnNo.{TxnNo}
 use Rattle.sdd_base.specs.declared.site.Site.{Site}
-use Rattle.sdd_base.specs.declared.site.Site.TheVariants.{D, T}
+use Rattle.sdd_base.specs.declared.site.Site.TheVariants.{D}
 use Rattle.sdd_base.specs.declared.usage.Use.{Use}
-use Rattle.sdd_catalog.proofs.Sound.{at_number, sound_classes, sound_whole}
-use Rattle.sdd_catalog.specs.Catalogue.{Catalogue, class_at, numbers_to}
-use Rattle.sdd_catalog.specs.Numbers.{IsServedClass}
+use Rattle.sdd_catalog.proofs.Sound.{sound_whole}
+use Rattle.sdd_catalog.specs.Catalogue.{class_at}
 use Rattle.sdd_catalog.specs.Rules.{IsSound}
 use Rattle.sdd_graph.specs.Edges.{IsClassOf}
 use Rattle.sdd_history.specs.declared.record.Rec.TheVariants.{Answer, Reject as Rejected}
@@ -25,7 +23,6 @@ use Rattle.sdd_attempt.specs.Attempts.{Attempt}
 use Rattle.sdd_pipe.specs.Pipe.{head}
 use Rattle.sdd_dm.specs.Due.{holds, holds_back, spoils}
 use Rattle.sdd_dm.specs.Views.{home_of, view_of}
-use Rattle.sdd_tm.specs.Views.{runs}
 use Rattle.sdd_log.specs.Entries.{Does, Given, Log}
 use Rattle.sdd_log.specs.Locals.{local_of, setting_of}
 use Rattle.sdd_log.specs.Permitted.{IsPermitted}
@@ -33,7 +30,7 @@ use Rattle.sdd_log.proofs.EachLocal.{allowed_act}
 use Rattle.sdd_invariants.proofs.Answered.{read_of}
 use Rattle.sdd_invariants.proofs.Apart.{low_or_high}
 use Rattle.sdd_invariants.proofs.AreReadSteps.{d_step}
-use Rattle.sdd_invariants.proofs.Bools.{and_left, and_right, not_both, not_zero, same_number}
+use Rattle.sdd_invariants.proofs.Bools.{and_left, and_right, not_both}
 use Rattle.sdd_invariants.proofs.Dones.{all_applied}
 use Rattle.sdd_invariants.proofs.Installed.{class_number, head_put, write_origin}
 use Rattle.sdd_invariants.proofs.Lists.{any_at, in_range}
@@ -43,31 +40,8 @@ use Rattle.sdd_invariants.proofs.Undeclared.{Part, answered_before, commit_t, ha
 use Rattle.sdd_invariants.specs.Barrier.{u_stamp, zero_cond}
 use Rattle.sdd_invariants.specs.Causes.{HasAnswer, IsApplyOf}
 use Rattle.sdd_invariants.specs.Seen.{pipe_at}
-use Rattle.sdd_invariants.specs.Steps.{home}
-use Rattle.sdd_waiting.proofs.EventOver.{range_there}
+use Rattle.sdd_waiting.proofs.ClassSites.{class_served, home_of_class, in_runs, range_there}
 use Rattle.sdd_waiting.proofs.Rejected.{IsRejecting, rejecting, spoiler_there}
-
--- the sites of classes
-
-pub class_served : (cat : Catalogue) (i : ℕ) → IsSound cat → IsClassOf cat i → IsServedClass cat (class_at cat i)
-class_served cat i sound c = at_number (IsServedClass cat) cat.classes i _ (sound_classes cat sound) c.from c.to
-
-pub home_of_class : (cat : Catalogue) (i : ℕ) → IsClassOf cat i → home cat i ≡ T (tm_no (class_at cat i).tm.0)
-home_of_class cat i c = rw (not_zero i c.from) refl
-
-kept_there : (p : ℕ → Bool) (xs : List ℕ) (k x : ℕ) → slice_get xs k ≡ Some x → p x ≡ true → (j : ℕ) × (slice_get (filter p xs) j ≡ Some x)
-kept_there p [] k x e h = cc
-kept_there p (y ∷ xs) zero x e h = let q : y ≡ x = cc in (0, rw (ap p q ∙ h) e)
-kept_there p (y ∷ xs) (suc k) x e h =
-    let i = kept_there p xs k x e h in
-    elim (p y) as (λ b. (j : ℕ) × (slice_get (cond b (y ∷ filter p xs) (filter p xs)) j ≡ Some x)) [ true ↦ (suc i.0, i.1) | false ↦ i ]
-
-pub in_runs : (g : Given) (i : ℕ) → IsClassOf g.catalogue i
-    → (j : ℕ) × (slice_get (runs (setting_of g (T (tm_no (class_at g.catalogue i).tm.0)))) j ≡ Some i)
-in_runs g i c =
-    let t : ℕ = (class_at g.catalogue i).tm.0 in
-    let r = range_there 1 (length g.catalogue.classes) i c.from (let l = c.to in omega arith) in
-    kept_there (λ k. (class_at g.catalogue k).tm.0 == t) (numbers_to (length g.catalogue.classes)) r.0 i r.1 (same_number t)
 
 -- the READ of an undeclared transaction that is answered doesn't stand at the head again
 not_again : (g : Given) (d : DmNo) (log : Log) (a : Attempt) (ts : Ts) (k : ClassNo) (txn : TxnNo) (n : ℕ) (ds : List Cond) (us : List Use) (before : Log)

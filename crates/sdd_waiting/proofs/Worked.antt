@@ -1,6 +1,6 @@
 -- Worked logs that meet what the laws ask. Two classes, each of which reads what the other writes: a query waits until the
 -- other class has passed its time, and is answered then; or it comes behind a later put, and is rejected.
-use Rattle.std.proofs.Common.{ℕ, ◌+◌, ◌++◌, ◌==◌, ◌∙◌, ◌∷◌, ◌≡◌, ◌≢◌, ◌≤◌, Bool, List, None, Option, Some, [], ap, arith, false, inl, inr, length, negsuc, pos, refl, slice_get, subst, suc, sym, take, true, zero, lit≤, lit<}
+use Rattle.std.proofs.Common.{ℕ, ◌+◌, ◌++◌, ◌==◌, ◌∷◌, ◌≡◌, ◌≢◌, ◌≤◌, Bool, List, None, Some, [], arith, false, inl, inr, negsuc, pos, refl, subst, suc, take, true, zero, lit≤, lit<}
 use Rattle.sdd_base.specs.Numbers.{class_no, dm_no, frag_no, rel_no, time_at, tm_no, txn_no}
 use Rattle.sdd_base.specs.declared.condition.Cond.{Cond}
 use Rattle.sdd_base.specs.declared.event.Event.{Event}
@@ -23,7 +23,7 @@ use Rattle.sdd_module.specs.SiteLog.{Act, Force, Records, Setting}
 use Rattle.sdd_module.specs.SiteLog as site
 use Rattle.sdd_pipe.specs.Pipe.{passed}
 use Rattle.sdd_log.specs.Due.{extended, next}
-use Rattle.sdd_log.specs.Entries.{Does, Entry, Given, Log}
+use Rattle.sdd_log.specs.Entries.{Does, Given, Log}
 use Rattle.sdd_log.specs.Lawful.{IsLawful}
 use Rattle.sdd_log.specs.Locals.{local_of, setting_of}
 use Rattle.sdd_log.specs.Permitted.{AreSubmittedOnce, IsPermitted, one_if}

@@ -1,10 +1,8 @@
 -- Worked logs of a free class: a query is answered and a put applied before the event is over in which it is handed over.
-use Rattle.std.specs.List.{All}
-use Rattle.std.proofs.Common.{ℕ, ◌++◌, ◌==◌, ◌∷◌, ◌≡◌, ◌≢◌, ◌⊎◌, ◌≤◌, List, None, Option, Some, [], arith, inl, inr, lit≤, negsuc, pos, refl, slice_get, subst, suc, sym, take, zero, ◌∙◌}
+use Rattle.std.proofs.Common.{ℕ, ◌++◌, ◌==◌, ◌∷◌, ◌≡◌, ◌⊎◌, List, Some, [], arith, inl, inr, lit≤, negsuc, pos, refl, slice_get, subst, suc, sym, take, zero, ◌∙◌}
 use Rattle.std.proofs.lemmas.List.Elements.{All-from_recursion}
 use Rattle.sdd_base.specs.Numbers.{class_no, dm_no, frag_no, rel_no, time_at, tm_no, txn_no}
 use Rattle.sdd_base.specs.declared.change.Change.{Change}
-use Rattle.sdd_base.specs.declared.event.Event.{Event}
 use Rattle.sdd_base.specs.declared.event.Event.TheVariants.{Deliver, Submit}
 use Rattle.sdd_base.specs.declared.site.Site.TheVariants.{D, T}
 use Rattle.sdd_base.specs.declared.usage.Use.{Use}
