@@ -1,8 +1,6 @@
 -- Where an event is over, nothing is due at any site.
 use Rattle.std.specs.List.{range_with_len}
-use Rattle.std.proofs.Common.{ℕ, ◌++◌, ◌+◌, ◌<◌, ◌≡◌, ◌≤◌, ◌∙◌, ◌∷◌, Bool, List, None, Option, Some, [], ap, arith, false, if◌then◌else◌, inl, inr, map, refl, slice_get, subst, suc, sym, true, zero}
-use Rattle.std.proofs.Math.Decide.{dec_le}
-use Rattle.sdd_base.specs.Numbers.{dm_no}
+use Rattle.std.proofs.Common.{ℕ, ◌≡◌, ◌≤◌, ◌∷◌, Bool, List, None, Option, Some, [], arith, false, map, refl, slice_get, suc, true}
 use Rattle.sdd_base.specs.Sites.{sites}
 use Rattle.sdd_base.specs.Words.{first_some, or_else}
 use Rattle.sdd_base.specs.declared.event.Event.{Event}
@@ -10,7 +8,7 @@ use Rattle.sdd_base.specs.declared.event.Event.TheVariants.{Deliver, Down, Lose,
 use Rattle.sdd_base.specs.declared.number.DmNo.{DmNo}
 use Rattle.sdd_base.specs.declared.number.TmNo.{TmNo}
 use Rattle.sdd_base.specs.declared.site.Site.{Site}
-use Rattle.sdd_base.specs.declared.site.Site.TheVariants.{D, T, U}
+use Rattle.sdd_base.specs.declared.site.Site.TheVariants.{D, T}
 use Rattle.sdd_module.specs.SiteLog.{Act}
 use Rattle.sdd_dm.specs.Due as dm
 use Rattle.sdd_dm.specs.Views as dm_views
@@ -23,6 +21,7 @@ use Rattle.sdd_log.specs.Snapshots.{base_of}
 use Rattle.sdd_invariants.proofs.Bools.{not_both}
 use Rattle.sdd_invariants.proofs.Holding.{at_map}
 use Rattle.sdd_invariants.proofs.Lists.{in_left, in_right}
+use Rattle.sdd_waiting.proofs.ClassSites.{range_there}
 use Rattle.sdd_waiting.proofs.StuckHeads.{none_at}
 use Rattle.sdd_waiting.specs.Answers.{IsEventOver, begins_event, begins_or_ends}
 
@@ -82,13 +81,6 @@ none_due g log e =
     (over_first (site_due g log) rest (first_of_event (λ at. does_at at (next_at g log at)) (sites g.catalogue.tms g.catalogue.dms) (λ at. does_of_event at (next_at g log at))) one.1).0
 
 -- the sites that are there
-
-pub range_there : (a n x : ℕ) → a ≤ x → x < a + n → (k : ℕ) × (slice_get (range_with_len a n) k ≡ Some x)
-range_there a zero x l h = absurd (omega arith)
-range_there a (suc n) x l h = elim (dec_le x a) [
-  | yes le ↦ (let same : a ≡ x = omega arith in (0, ap (λ y. Some y) same))
-  | no gt ↦ (let i = range_there (a + 1) n x (omega (arith, gt)) (omega arith) in (suc i.0, i.1))
-]
 
 numbered_there : (tms dms : ℕ) (x : Site) (k : ℕ) → slice_get (map (λ n. D (record { 0 = n })) (range_with_len 1 dms)) k ≡ Some x
     → (j : ℕ) × (slice_get (sites tms dms) j ≡ Some x)
