@@ -2,7 +2,6 @@ pub mod Counts
 pub mod Entries
 pub mod FileReads
 pub mod Forms
-pub mod Queries
 pub mod Submissions
 pub mod TextPieces
 pub mod Told

@@ -1,6 +1,6 @@
 -- What a call comes to, from what was read of its files; that it comes to one status.
 use Rattle.std.proofs.Common.{◌≡◌, ℕ, List, [], ◌∷◌, Bool, true, false, cond, Option, Some, None, Result, Ok, Err, refl, ap, sym, ◌∙◌, subst, ◌⊎◌, inl, inr}
-use Rattle.std.specs.Prelude.{IsSome, MatchOption, MatchResult}
+use Rattle.std.specs.Prelude.{IsSome, MatchOption, MatchResult, OnOk}
 use Rattle.std.specs.Option.{option_map}
 use Rattle.sdd_base.specs.declared.files.ShelfFile.{ShelfFile}
 use Rattle.sdd_base.specs.Outside.{KeepsOpen, find_file}
@@ -12,11 +12,14 @@ use Rattle.sdd_script.specs.declared.fault.WorkFault.{WorkFault}
 use Rattle.sdd_script.specs.declared.workload.Workload.{Workload}
 use Rattle.sdd_world.specs.declared.ends.WorldEnd.{WorldEnd}
 use Rattle.sdd_world.specs.declared.ends.WorldEnd.TheVariants as ends
-use Rattle.sdd_run.proofs.Apart.{report_or_limit}
+use Rattle.sdd_make.specs.Bank.{bank}
+use Rattle.sdd_make.specs.Turns.{workload_of}
+use Rattle.sdd_run.specs.Runs.{EndsAtLimit, IsReportOn, IsSummaryOn}
+use Rattle.sdd_run.proofs.Apart.{report_or_limit, summary_or_limit}
 use Rattle.sdd_control.specs.Report.{report}
 use Rattle.sdd_control.specs.Walk.{control_script}
 use Rattle.sdd_control.specs.declared.script.ControlScript.{ControlScript}
-use Rattle.sdd_app.specs.Answer.{script_named, control_verdict, ComesToControl, BlamesScript, catalogue_named, workload_named, OverCatalogue, ComesToListing, plain_verdict, ComesToPlain, ComesToReport, ComesToRun, FormComesTo, ComesTo, FilesOf, FilesAreThere, BlamesCatalogue, BlamesWorkload}
+use Rattle.sdd_app.specs.Answer.{script_named, control_verdict, ComesToControl, BlamesScript, catalogue_named, workload_named, OverCatalogue, ComesToListing, plain_verdict, ComesToPlain, ComesToReport, ComesToRun, ComesToSummary, TellsOfRun, FormComesTo, ComesTo, FilesOf, FilesAreThere, BlamesCatalogue, BlamesWorkload}
 use Rattle.sdd_app.specs.Command.{Form, Check, Graph, Table, Run, Plain, Control, Make, form_in}
 use Rattle.sdd_app.specs.Endings.{FilesRead, IsRead, ToItsEnd}
 use Rattle.sdd_app.specs.Serially.{serial_text}
@@ -135,23 +138,31 @@ one_listing listing cat NotBuilt w p q = absurd p
 one_plain : (fs : List ShelfFile) (work : List ℕ) (cat : Catalogue) (v w : Verdict) → ComesToPlain fs work cat v → ComesToPlain fs work cat w → status_of v ≡ status_of w
 one_plain fs work cat v w p q = ap status_of (one_verdict (option_map (plain_verdict cat) (workload_named fs cat work)) v w p q)
 
+-- no run that is told of is ended by the limit
+one_of_run : (IsSuch : List ℕ → Type 0) (cat : Catalogue) (work : Workload) → ((text : List ℕ) → IsSuch text → EndsAtLimit cat work → ⊥) → (v w : Verdict)
+    → TellsOfRun IsSuch cat work v → TellsOfRun IsSuch cat work w → status_of v ≡ status_of w
+one_of_run S cat work apart (Prints a) (Prints b) p q = refl
+one_of_run S cat work apart (Prints a) PastLimit p q = absurd (apart a p q)
+one_of_run S cat work apart (Prints a) NoForm p q = absurd q
+one_of_run S cat work apart (Prints a) (FaultyCatalogue f) p q = absurd q
+one_of_run S cat work apart (Prints a) (FaultyWorkload f) p q = absurd q
+one_of_run S cat work apart (Prints a) NotBuilt p q = absurd q
+one_of_run S cat work apart PastLimit (Prints b) p q = absurd (apart b q p)
+one_of_run S cat work apart PastLimit PastLimit p q = refl
+one_of_run S cat work apart PastLimit NoForm p q = absurd q
+one_of_run S cat work apart PastLimit (FaultyCatalogue f) p q = absurd q
+one_of_run S cat work apart PastLimit (FaultyWorkload f) p q = absurd q
+one_of_run S cat work apart PastLimit NotBuilt p q = absurd q
+one_of_run S cat work apart NoForm w p q = absurd p
+one_of_run S cat work apart (FaultyCatalogue f) w p q = absurd p
+one_of_run S cat work apart (FaultyWorkload f) w p q = absurd p
+one_of_run S cat work apart NotBuilt w p q = absurd p
+
 one_report : (cat : Catalogue) (work : Workload) (v w : Verdict) → ComesToReport cat work v → ComesToReport cat work w → status_of v ≡ status_of w
-one_report cat work (Prints a) (Prints b) p q = refl
-one_report cat work (Prints a) PastLimit p q = absurd (report_or_limit cat work a p q)
-one_report cat work (Prints a) NoForm p q = absurd q
-one_report cat work (Prints a) (FaultyCatalogue f) p q = absurd q
-one_report cat work (Prints a) (FaultyWorkload f) p q = absurd q
-one_report cat work (Prints a) NotBuilt p q = absurd q
-one_report cat work PastLimit (Prints b) p q = absurd (report_or_limit cat work b q p)
-one_report cat work PastLimit PastLimit p q = refl
-one_report cat work PastLimit NoForm p q = absurd q
-one_report cat work PastLimit (FaultyCatalogue f) p q = absurd q
-one_report cat work PastLimit (FaultyWorkload f) p q = absurd q
-one_report cat work PastLimit NotBuilt p q = absurd q
-one_report cat work NoForm w p q = absurd p
-one_report cat work (FaultyCatalogue f) w p q = absurd p
-one_report cat work (FaultyWorkload f) w p q = absurd p
-one_report cat work NotBuilt w p q = absurd p
+one_report cat work v w p q = one_of_run (IsReportOn cat work) cat work (report_or_limit cat work) v w p q
+
+one_summary : (cat : Catalogue) (work : Workload) (v w : Verdict) → ComesToSummary cat work v → ComesToSummary cat work w → status_of v ≡ status_of w
+one_summary cat work v w p q = one_of_run (IsSummaryOn cat work) cat work (summary_or_limit cat work) v w p q
 
 one_over_work : (reading : Option (Result Workload WorkFault)) (G : Workload → Verdict → Type 0) (v w : Verdict) → ((work : Workload) → G work v → G work w → status_of v ≡ status_of w)
     → OverWork reading G v → OverWork reading G w → status_of v ≡ status_of w
@@ -175,7 +186,7 @@ one_of_form fs (Table cat) v w p q = one_over (catalogue_named fs cat) (ComesToL
 one_of_form fs (Run cat work) v w p q = one_over (catalogue_named fs cat) (ComesToRun fs work) v w (λ c a b. one_run fs work c v w a b) p q
 one_of_form fs (Plain cat work) v w p q = one_over (catalogue_named fs cat) (ComesToPlain fs work) v w (λ c a b. one_plain fs work c v w a b) p q
 one_of_form fs (Control file) v w p q = ap status_of (one_verdict (option_map control_verdict (script_named fs file)) v w p q)
-one_of_form fs (Make seed count) v w p q = ap status_of (p ∙ sym q)
+one_of_form fs (Make seed count) v w p q = one_summary bank (workload_of seed count) v w p q
 
 one_of_words : (fs : List ShelfFile) (form : Option Form) (v w : Verdict) → MatchOption form (v ≡ NoForm) (λ f. FormComesTo fs f v) → MatchOption form (w ≡ NoForm) (λ f. FormComesTo fs f w)
     → status_of v ≡ status_of w
@@ -273,3 +284,8 @@ two_ended was between now unread_between unread_now was_unread f g first keep1 s
 
 pub one_ended : (was now : ℕ → Type 0) (unread : ℕ → Option (List ℕ)) (f : ℕ) → IsRead was now unread ToItsEnd f → FilesRead was now unread (ToItsEnd ∷ [])
 one_ended was now unread f first = record { files = f ∷ []; read = (first, tt, tt) }
+
+-- of a command that reads no file
+pub none_read : {T : Type 0} (r : Result T Status) (was now : ℕ → Type 0) (unread : ℕ → Option (List ℕ)) → OnOk r (FilesRead was now unread [])
+none_read (Ok v) was now unread = record { files = []; read = tt }
+none_read (Err s) was now unread = tt

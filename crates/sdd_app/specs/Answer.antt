@@ -12,13 +12,15 @@ use Rattle.sdd_control.specs.declared.script.ControlScript.{ControlScript}
 use Rattle.sdd_script.specs.Walk.{workload}
 use Rattle.sdd_script.specs.declared.fault.WorkFault.{WorkFault}
 use Rattle.sdd_script.specs.declared.workload.Workload.{Workload}
-use Rattle.sdd_run.specs.Runs.{EndsAtLimit, IsReportOn}
+use Rattle.sdd_make.specs.Bank.{bank}
+use Rattle.sdd_make.specs.Turns.{workload_of}
+use Rattle.sdd_run.specs.Runs.{EndsAtLimit, IsReportOn, IsSummaryOn}
 use Rattle.sdd_app.specs.declared.listing.Listing.{Listing}
 use Rattle.sdd_app.specs.declared.listing.Listing.TheVariants as listings
 use Rattle.sdd_app.specs.Command.{Form, Check, Graph, Table, Run, Plain, Control, Make, form_in}
 use Rattle.sdd_app.specs.Listing.{Tells}
 use Rattle.sdd_app.specs.Serially.{serial_text}
-use Rattle.sdd_app.specs.Verdict.{Verdict, NoForm, Prints, FaultyCatalogue, FaultyWorkload, PastLimit, NotBuilt}
+use Rattle.sdd_app.specs.Verdict.{Verdict, NoForm, Prints, FaultyCatalogue, FaultyWorkload, PastLimit}
 
 -- the catalogue that the file of this name gives, or its first fault
 abbrev pub catalogue_named : List ShelfFile → List ℕ → Option (Result Catalogue CatFault)
@@ -55,11 +57,19 @@ OverWorkload files cat name GoesOn verdict =
     MatchOption (workload_named files cat name) ⊥
     (λ reading. MatchResult reading (λ work. GoesOn work verdict) (λ fault. verdict ≡ FaultyWorkload fault))
 
--- the run of a workload is reported, or the limit ends it
+-- such a text about the run of a workload is printed, or the limit ends the run
+abbrev pub TellsOfRun : (List ℕ → Type 0) → Catalogue → Workload → Verdict → Type 0
+TellsOfRun IsSuch cat work (Prints text) = IsSuch text
+TellsOfRun IsSuch cat work PastLimit = EndsAtLimit cat work
+TellsOfRun IsSuch cat work verdict = ⊥
+
+-- the run of a workload is reported
 abbrev pub ComesToReport : Catalogue → Workload → Verdict → Type 0
-ComesToReport cat work (Prints text) = IsReportOn cat work text
-ComesToReport cat work PastLimit = EndsAtLimit cat work
-ComesToReport cat work verdict = ⊥
+ComesToReport cat work verdict = TellsOfRun (IsReportOn cat work) cat work verdict
+
+-- or it is summed up
+abbrev pub ComesToSummary : Catalogue → Workload → Verdict → Type 0
+ComesToSummary cat work verdict = TellsOfRun (IsSummaryOn cat work) cat work verdict
 
 abbrev pub ComesToRun : List ShelfFile → List ℕ → Catalogue → Verdict → Type 0
 ComesToRun files work cat verdict = OverWorkload files cat work (ComesToReport cat) verdict
@@ -84,7 +94,7 @@ FormComesTo files (Table cat) verdict = OverCatalogue files cat (ComesToListing 
 FormComesTo files (Run cat work) verdict = OverCatalogue files cat (ComesToRun files work) verdict
 FormComesTo files (Plain cat work) verdict = OverCatalogue files cat (ComesToPlain files work) verdict
 FormComesTo files (Control file) verdict = ComesToControl files file verdict
-FormComesTo files (Make seed count) verdict = verdict ≡ NotBuilt
+FormComesTo files (Make seed count) verdict = ComesToSummary bank (workload_of seed count) verdict
 
 -- what a call of these words comes to
 abbrev pub ComesTo : List ShelfFile → List (List ℕ) → Verdict → Type 0

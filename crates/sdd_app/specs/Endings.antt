@@ -42,7 +42,7 @@ FormEnds was stands unread (Table cat) = FilesRead was stands unread (ToItsEnd �
 FormEnds was stands unread (Run cat work) = FilesRead was stands unread (ToItsEnd ∷ ToItsEnd ∷ [])
 FormEnds was stands unread (Plain cat work) = FilesRead was stands unread (ToItsEnd ∷ ToItsEnd ∷ [])
 FormEnds was stands unread (Control file) = FilesRead was stands unread (ToItsEnd ∷ [])
-FormEnds was stands unread (Make seed count) = ⊥
+FormEnds was stands unread (Make seed count) = FilesRead was stands unread []
 
 abbrev pub AtTheirEnds : List (List ℕ) → (ℕ → Type 0) → (ℕ → Type 0) → (ℕ → Option (List ℕ)) → Type 0
 AtTheirEnds words was stands unread = MatchOption (form_in words) ⊥ (FormEnds was stands unread)

@@ -4,7 +4,6 @@ pub mod Command
 pub mod Edges
 pub mod Endings
 pub mod Listing
-pub mod Report
 pub mod Serially
 pub mod Status
 pub mod Taking

@@ -1,13 +1,15 @@
 -- What is printed of the submitted transactions, run one after the other on one database.
-use Rattle.std.specs.Prelude.{ℕ, ◌-◌, ◌≡◌, refl, List, [], ◌∷◌, map, filter_map, Option, None, slice_get}
+use Rattle.std.specs.Prelude.{ℕ, ◌-◌, ◌≡◌, refl, List, [], ◌∷◌, ◌++◌, codes, map, filter_map, Option, None, slice_get}
 use Rattle.sdd_base.specs.declared.event.Event.{Event}
 use Rattle.sdd_base.specs.declared.event.Event.TheVariants.{Submit, Settle}
+use Rattle.sdd_base.specs.declared.reply.Reply.{Reply}
+use Rattle.sdd_base.specs.declared.reply.Reply.TheVariants.{Rows, Overflow}
 use Rattle.sdd_catalog.specs.Catalogue.{Catalogue}
 use Rattle.sdd_lang.specs.Database.{Database, database_of}
 use Rattle.sdd_lang.specs.Serial.{serial}
 use Rattle.sdd_lang.specs.declared.transaction.Txn.{Txn}
+use Rattle.sdd_report.specs.Replies.{names_line, replies_along}
 use Rattle.sdd_script.specs.declared.workload.Workload.{Workload}
-use Rattle.sdd_app.specs.Report.{report, replies}
 
 -- the transaction that an event submits
 abbrev pub submitted_by : List Txn → Event → Option Txn
@@ -25,10 +27,18 @@ second_first a b c = refl
 abbrev pub names_of : List Txn → List (List ℕ)
 names_of txns = map (λ (t : Txn). t.name) txns
 
+-- the order by the transactions' names, their replies, and the end
+abbrev pub told : List (List ℕ) → List Reply → List ℕ
+told names replies = names_line names ++ replies_along names replies ++ codes "end\n"
+
+-- worked: p puts, and q fails
+pub put_and_failure : told (codes "p" ∷ codes "q" ∷ []) (Rows [] ∷ Overflow ∷ []) ≡ codes "order p q\nreply p ok\nreply q overflow\nend\n"
+put_and_failure = refl
+
 -- the lines of the replies of transactions that run one after the other on a database
 abbrev pub replies_of : Catalogue → Database → List Txn → List ℕ
-replies_of cat db txns = replies (names_of txns) (serial cat db txns).0
+replies_of cat db txns = replies_along (names_of txns) (serial cat db txns).0
 
 -- the order, and the replies on a database that began with the workload's rows
 abbrev pub serial_text : Catalogue → Workload → List ℕ
-serial_text cat w = report (names_of (submitted w)) (serial cat (database_of cat w.rows) (submitted w)).0
+serial_text cat w = told (names_of (submitted w)) (serial cat (database_of cat w.rows) (submitted w)).0

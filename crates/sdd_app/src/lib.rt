@@ -6,7 +6,8 @@
 //! what is listed of a catalogue (`specs/Listing.antt`): its counts, its conflict graph (`sdd_graph`)
 //! with the blocks, its protocol table (`sdd_protocol`); and what is printed of a workload
 //! (`specs/Serially.antt`): the replies that serial execution on one database gives (`sdd_lang`).
-//! `control` prints what a script of transaction control gives (`sdd_control`).
+//! `control` prints what a script of transaction control gives (`sdd_control`), `make` the summary of
+//! the run (`sdd_run`) of a workload that is made of a seed (`sdd_make`).
 #![tactic(auto)]
 
 mod catalogue_file;
@@ -15,7 +16,7 @@ mod command;
 mod control_file;
 mod edges;
 mod listing;
-mod report;
+mod made_input;
 mod run;
 mod serially;
 mod status;

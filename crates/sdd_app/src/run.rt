@@ -4,7 +4,7 @@ ghost use Rattle.sdd_base.specs.Outside.{Rose, with_end};
 ghost use Rattle.sdd_catalog.specs.declared.fault.CatFault.{CatFault};
 ghost use Rattle.sdd_script.specs.declared.fault.WorkFault.{WorkFault};
 ghost use Rattle.sdd_app.specs.Answer.{ComesTo, FilesAreThere, FilesOf, FormComesTo};
-ghost use Rattle.sdd_app.specs.Command.{IsNoForm, form_of};
+ghost use Rattle.sdd_app.specs.Command.{IsForm, IsNoForm, form_of};
 ghost use Rattle.sdd_app.specs.Endings.{AtTheirEnds, FormEnds, IsWithoutFiles, OpensNoFile};
 ghost use Rattle.sdd_app.specs.Status.{line_of};
 ghost use Rattle.sdd_app.specs.Taking.{TakesOrFaults};
@@ -13,6 +13,7 @@ ghost use Rattle.sdd_app.specs.Verdict.{Verdict, Prints, FaultyCatalogue, Faulty
 use crate::command::{Command, parse_words};
 use crate::control_file::control_answer;
 use crate::listing::{Listing, listing_answer};
+use crate::made_input::make_answer;
 use crate::status::Status;
 use crate::tell::tell;
 use crate::workload_answer::{plain_answer, run_answer};
@@ -21,6 +22,7 @@ use std::alloc::Global;
 
 /// The text that the command prints, or the status of a call that prints none.
 fn carried_out<S: Shelf>(alloc: Global, command: Command, shelf: &mut S) -> Result<Vec<u8>, Status>
+    requires { IsForm (form_of command) }
     ensures told { (fs : List ShelfFile) → S.files shelf.old ≡ Some fs → Answers result (λ v. v.items) (FormComesTo fs (form_of command.entry)) }
     ensures ended { OnOk result (FormEnds (S.is_open shelf.old) (S.is_open shelf.new) (S.unread shelf.new) (form_of command.entry)) }
     ensures fault { IfErr result (λ s. s ≡ Status.ReadFault → Rose (S.faults shelf.old) (S.faults shelf.new)) }
@@ -36,7 +38,7 @@ fn carried_out<S: Shelf>(alloc: Global, command: Command, shelf: &mut S) -> Resu
         Command::Run(catalogue, workload) => run_answer(alloc, shelf, catalogue, workload),
         Command::Plain(catalogue, workload) => plain_answer(alloc, shelf, catalogue, workload),
         Command::Control(file) => control_answer(alloc, shelf, file),
-        Command::Make(_, _) => Err(Status::Unbuilt),
+        Command::Make(seed, count) => make_answer(alloc, seed, count),
     }
 }
 
@@ -63,7 +65,7 @@ fn answer<S: Shelf>(alloc: Global, words: &[String], shelf: &mut S) -> Result<Ve
 /// The words are judged first, then the catalogue is read and judged, then the workload. At most two
 /// of the shelf's places are taken. Nothing is written before the text is whole. Reading takes time
 /// linear in the files, but for the square of the catalogue's parts; transactions cost what they do on
-/// one plain database.
+/// one plain database, and runs what their events cost.
 pub fn run_sdd1<S: Shelf, O: Sink, E: Sink>(
     alloc: Global,
     words: &[String],

@@ -1,17 +1,17 @@
 //! The submitted transactions of a workload, run one after the other on one database.
-ghost use Rattle.std.specs.Prelude.{◌≡◌, ◌++◌, ◌∷◌, [], List, map, filter_map, All, IfOk, OnOk};
+ghost use Rattle.std.specs.Prelude.{◌≡◌, ◌++◌, ◌∷◌, [], List, map, flat_map, filter_map, All, IfOk, OnOk};
 ghost use Rattle.sdd_lang.specs.Database.{database_of};
 ghost use Rattle.sdd_lang.specs.Fits.{Fits, FitsStart};
 ghost use Rattle.sdd_script.specs.Valid.{IsValid};
 ghost use Rattle.std.specs.Option.{option_copied};
-ghost use Rattle.sdd_app.specs.Report.{spaced};
+ghost use Rattle.sdd_report.specs.Names.{spaced};
 ghost use Rattle.sdd_app.specs.Serially.{submitted, submitted_by, names_of, replies_of, serial_text};
 
-use crate::report::{put_name, put_reply};
-use sdd_base::{Event, NoMemory};
+use sdd_base::{Event, Name, NoMemory};
 use sdd_catalog::Catalogue;
 use sdd_lang::Txn;
 use sdd_plain::Plain;
+use sdd_report::put_reply;
 use sdd_script::{StartRows, Workload};
 use sdd_words::put;
 use std::alloc::Global;
@@ -55,8 +55,17 @@ fn submitted<'a>(alloc: Global, work: &'a Workload) -> Result<Vec<&'a Txn>, NoMe
     Ok(found)
 }
 
+/// A name, behind a space.
+fn put_name(text: &mut Vec<u8>, name: &Name) -> Result<(), NoMemory>
+    ensures { OnOk result (text.new.items ≡ text.old.items ++ spaced name.now) }
+{
+    put(text, b" ")?;
+    put(text, name.as_str().as_bytes())
+}
+
 fn put_names(text: &mut Vec<u8>, txns: &[&Txn]) -> Result<(), NoMemory>
-    ensures { OnOk result (text.new.items ≡ text.old.items ++ spaced (names_of (map (λ t. t.now) txns.now))) }
+    ensures { OnOk result (text.new.items
+        ≡ text.old.items ++ flat_map spaced (names_of (map (λ t. t.now) txns.now))) }
 {
     'txns: for txn in txns {
         put_name(text, &txn.name)?;

@@ -1,6 +1,6 @@
 -- What is printed of committed transactions along the order: their names, their replies, and what was
 -- shipped for them.
-use Rattle.std.specs.Prelude.{ℕ, ◌==◌, Bool, List, [], ◌∷◌, ◌++◌, codes, flat_map, find, filter_map, Option, Some, None}
+use Rattle.std.specs.Prelude.{ℕ, ◌==◌, Bool, List, [], ◌∷◌, ◌++◌, codes, flat_map, map, find, filter_map, Option, Some, None}
 use Rattle.std.specs.Option.{option_map_or}
 use Rattle.std.specs.Fmt.{decimal}
 use Rattle.sdd_base.specs.declared.number.TxnNo.{TxnNo}
@@ -9,7 +9,7 @@ use Rattle.sdd_history.specs.declared.record.Rec.{Rec}
 use Rattle.sdd_history.specs.declared.record.Rec.TheVariants as records
 use Rattle.sdd_lang.specs.declared.transaction.Txn.{Txn}
 use Rattle.sdd_report.specs.Names.{spaced, txn_name}
-use Rattle.sdd_report.specs.Replies.{reply_lines}
+use Rattle.sdd_report.specs.Replies.{names_line, reply_lines}
 
 -- what the Commit of a transaction tells: the reply, and how many values and rows were shipped
 pub record Told : Type 0 where
@@ -31,13 +31,13 @@ is_of n told = told.txn == n
 abbrev pub told_of : List (ℕ × Rec) → ℕ → Option Told
 told_of history n = find (is_of n) (filter_map (λ (made : ℕ × Rec). told_in made.1) history)
 
--- the names of transactions, each behind a space
-abbrev pub names : List Txn → List TxnNo → List ℕ
-names txns order = flat_map (λ (n : TxnNo). spaced (txn_name txns n.0)) order
+-- the names of transactions
+abbrev pub names_of : List Txn → List TxnNo → List (List ℕ)
+names_of txns order = map (λ (n : TxnNo). txn_name txns n.0) order
 
 -- the committed transactions in the serial order
 abbrev pub order_line : List Txn → List TxnNo → List ℕ
-order_line txns order = codes "order" ++ (names txns order ++ 10 ∷ [])
+order_line txns order = names_line (names_of txns order)
 
 -- the lines of a transaction's reply; one without a Commit has none
 abbrev pub reply_of : List Txn → List (ℕ × Rec) → TxnNo → List ℕ

@@ -1,4 +1,4 @@
--- The lines of replies: what a transaction answers, with the rows of each of its queries.
+-- The line of an order, and the lines of replies: what a transaction answers, with the rows of each of its queries.
 use Rattle.std.specs.Prelude.{ℕ, ◌+◌, List, [], ◌∷◌, ◌++◌, length, flat_map, codes}
 use Rattle.std.specs.Fmt.{decimal}
 use Rattle.sdd_base.specs.declared.value.Value.{Value}
@@ -6,6 +6,7 @@ use Rattle.sdd_base.specs.declared.reply.Reply.{Reply}
 use Rattle.sdd_base.specs.declared.reply.Reply.TheVariants.{Rows, Overflow, TooMany}
 use Rattle.sdd_words.specs.Values.{value_word}
 use Rattle.sdd_words.specs.Words.{word_bytes}
+use Rattle.sdd_report.specs.Names.{spaced}
 
 -- values are printed as a workload's file spells them
 abbrev pub value_bytes : Value → List ℕ
@@ -33,3 +34,13 @@ outcome_lines TooMany = codes " toomany\n"
 -- the reply of the transaction with this name
 abbrev pub reply_lines : List ℕ → Reply → List ℕ
 reply_lines name reply = codes "reply " ++ name ++ outcome_lines reply
+
+-- the replies of transactions with these names, one after the other
+abbrev pub replies_along : List (List ℕ) → List Reply → List ℕ
+replies_along [] replies = []
+replies_along (name ∷ names) [] = []
+replies_along (name ∷ names) (reply ∷ replies) = reply_lines name reply ++ replies_along names replies
+
+-- the line of an order, by the names of its transactions
+abbrev pub names_line : List (List ℕ) → List ℕ
+names_line names = codes "order" ++ (flat_map spaced names ++ 10 ∷ [])

@@ -1,10 +1,10 @@
 -- The text of a report.
-use Rattle.std.specs.Prelude.{ℕ, List, ◌++◌, codes}
+use Rattle.std.specs.Prelude.{ℕ, List, ◌++◌, codes, flat_map}
 use Rattle.sdd_base.specs.declared.number.TxnNo.{TxnNo}
 use Rattle.sdd_catalog.specs.Catalogue.{Catalogue}
 use Rattle.sdd_history.specs.declared.record.Rec.{Rec}
 use Rattle.sdd_lang.specs.declared.transaction.Txn.{Txn}
-use Rattle.sdd_report.specs.Committed.{committed_lines}
+use Rattle.sdd_report.specs.Committed.{committed_lines, shipped_of}
 use Rattle.sdd_report.specs.Copies.{copies_lines}
 use Rattle.sdd_report.specs.Pending.{pending_lines}
 use Rattle.sdd_report.specs.Trace.{trace}
@@ -25,6 +25,12 @@ pub record Report : Type 0 where
 abbrev pub rest_of : Report → List ℕ
 rest_of r =
     committed_lines r.txns r.history r.order
+    ++ (pending_lines r.catalogue r.txns r.pending ++ (copies_lines r.catalogue r.copies ++ codes "end\n"))
+
+-- what follows the replies: what was shipped, the pending transactions, the copies, and the end
+abbrev pub after_replies : Report → List ℕ
+after_replies r =
+    flat_map (shipped_of r.txns r.history) r.order
     ++ (pending_lines r.catalogue r.txns r.pending ++ (copies_lines r.catalogue r.copies ++ codes "end\n"))
 
 -- the trace, and the rest

@@ -3,7 +3,8 @@ ghost use Rattle.std.specs.Prelude.{ℕ, ◌≡◌, ◌++◌, flat_map, IfOk, On
 ghost use Rattle.std.specs.BTreeMap.{get};
 ghost use Rattle.std.specs.Ordering.{nat_cmp};
 ghost use Rattle.sdd_report.specs.Committed as definitions;
-ghost use Rattle.sdd_report.specs.Committed.{told_in, told_of, names, order_line, reply_of, numbers_end, shipped_line, shipped_of, committed_lines};
+ghost use Rattle.sdd_report.specs.Names.{spaced};
+ghost use Rattle.sdd_report.specs.Committed.{told_in, told_of, names_of, order_line, reply_of, numbers_end, shipped_line, shipped_of, committed_lines};
 
 use crate::names::txn_name;
 use crate::replies::put_reply;
@@ -111,11 +112,10 @@ impl<'a> Commits<'a> {
     }
 }
 
-#[tactic(auto, using(crate::proofs::Lists::written))]
+/// The names of transactions, each behind a space.
 fn put_names(text: &mut Vec<u8>, txns: &[Txn], order: &[TxnNo]) -> Result<(), NoMemory>
-    ensures { OnOk result (
-        text.new.items
-        ≡ text.old.items ++ names txns.now order.now) }
+    ensures { OnOk result (text.new.items
+        ≡ text.old.items ++ flat_map spaced (names_of txns.now order.now)) }
 {
     'order: for txn in order {
         put_txn(text, txns, *txn)?;

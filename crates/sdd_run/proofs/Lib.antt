@@ -10,6 +10,10 @@ pub mod SameReport
 pub mod Starting
 pub mod Apart
 pub mod Goods
+pub mod InTurn
+pub mod Left
 pub mod Marked
+pub mod Once
 pub mod Ordered
 pub mod Reported
+pub mod Retold

@@ -1,5 +1,6 @@
 -- The history of a run has a serial order, along which one plain database gives its replies.
-use Rattle.std.proofs.Common.{◌≡◌, List, refl}
+use Rattle.std.proofs.Common.{◌≡◌, List, length, refl}
+use Rattle.std.specs.Prelude.{Contains}
 use Rattle.std.specs.List.{All, AllZip}
 use Rattle.std.proofs.lemmas.List.Elements.{All-weaker}
 use Rattle.sdd_base.specs.Numbers.{dm_no}
@@ -22,15 +23,20 @@ use Rattle.sdd_log.proofs.NewMarks.{lawful_permitted}
 use Rattle.sdd_order.specs.Orders.{IsOrderable, IsSerial}
 use Rattle.sdd_order.specs.SerialOrder.{serial_order}
 use Rattle.sdd_order.proofs.Serial.{serial_order_is}
-use Rattle.sdd_laws.specs.Replay.{IsReplyOf, run}
+use Rattle.sdd_laws.specs.Replay.{AreAllApplied, IsReplyOf, run}
+use Rattle.sdd_laws.specs.Starts.{KeepsStarts}
 use Rattle.sdd_upheld.specs.Given.{AreErasOf, HasSoundData, one_era}
 use Rattle.sdd_upheld.proofs.Named.{numbers_exist, txns_exist}
 use Rattle.sdd_upheld.proofs.OneEra.{keeps_eras, of_one_era}
+use Rattle.sdd_upheld.proofs.Starts.{keeps_starts}
 use Rattle.sdd_upheld.proofs.Together.{has_order, replies}
+use Rattle.sdd_report.specs.declared.copies.CopyTable.{CopyTable}
+use Rattle.sdd_run.specs.Copies.{rows_left, tables_of}
 use Rattle.sdd_run.specs.Runs.{given_of}
 use Rattle.sdd_run.proofs.Beginning.{rows_given}
 use Rattle.sdd_run.proofs.Goods.{held, puts_held}
 use Rattle.sdd_run.proofs.Homes.{is_dm}
+use Rattle.sdd_run.proofs.Left.{left_in}
 use Rattle.sdd_run.proofs.Marked.{are_numbered}
 use Rattle.sdd_run.proofs.Submissions.{once}
 
@@ -51,6 +57,9 @@ module _ (cat : Catalogue) (table : List Entry) (work : Workload) (sound : IsSou
   eras_are : AreErasOf (given_of cat table work) log (one_era cat)
   eras_are = of_one_era (given_of cat table work) log (record { table = tabled }) refl none
 
+  pub starts : KeepsStarts cat (one_era cat) work.txns (history log)
+  starts = keeps_starts (given_of cat table work) log (one_era cat) sound permitted eras_are
+
   pub orderable : IsOrderable cat (history log)
   orderable =
       let numbered = are_numbered (given_of cat table work) log valid.events the_log.lawful in
@@ -63,3 +72,7 @@ module _ (cat : Catalogue) (table : List Entry) (work : Workload) (sound : IsSou
 
   pub replayed : AllZip (IsReplyOf (history log)) (serial_order cat (history log)) (run cat work.rows work.txns (serial_order cat (history log))).0
   replayed = replies (given_of cat table work) work.rows (one_era cat) log (serial_order cat (history log)) sound fine permitted eras_are serial
+
+  pub left : (copy : CopyTable) → Contains (tables_of (given_of cat table work) log) copy → AreAllApplied (history log) copy.frag.0 copy.dm.0 (length (history log))
+      → copy.rows ≡ rows_left cat (run cat work.rows work.txns (serial_order cat (history log))).1 copy.frag.0
+  left = left_in (given_of cat table work) work.rows log sound fine permitted (record { table = tabled }) refl none (serial_order cat (history log)) serial

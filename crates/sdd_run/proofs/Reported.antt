@@ -1,6 +1,7 @@
--- What a world that carried out all events of a workload tells is the report on its run.
-use Rattle.std.proofs.Common.{ℕ, ◌≡◌, List, Result, Ok, Err, subst}
+-- What is told of a world that has carried out all events of a workload is told of its run.
+use Rattle.std.proofs.Common.{ℕ, ◌≡◌, ◌∙◌, List, length, Result, Ok, Err, ap, refl, subst}
 use Rattle.std.specs.Prelude.{IfOk}
+use Rattle.sdd_base.specs.Kept.{Kept}
 use Rattle.sdd_base.specs.declared.event.Event.{Event}
 use Rattle.sdd_catalog.specs.Catalogue.{Catalogue}
 use Rattle.sdd_catalog.specs.Rules.{IsSound}
@@ -9,63 +10,95 @@ use Rattle.sdd_protocol.specs.declared.entry.Entry.{Entry}
 use Rattle.sdd_report.specs.Report.{report_text}
 use Rattle.sdd_script.specs.Valid.{IsValid}
 use Rattle.sdd_script.specs.declared.workload.Workload.{Workload}
+use Rattle.sdd_lang.specs.declared.transaction.Txn.{Txn}
+use Rattle.sdd_history.specs.Records.{History}
+use Rattle.sdd_make.specs.Summary.{summary_of, summary_text}
+use Rattle.sdd_make.specs.declared.summary.Summary.{Summary}
+use Rattle.sdd_net.specs.Nets.{Directions}
 use Rattle.sdd_log.specs.Entries.{Log, history}
 use Rattle.sdd_log.specs.Lawful.{EndsByLimit, IsTheLog}
 use Rattle.sdd_log.specs.Locals.{redeclares}
-use Rattle.sdd_order.specs.Orders.{IsOrderable}
+use Rattle.sdd_mail.specs.Carries.{Carries}
+use Rattle.sdd_facts.specs.Real.{IsGood}
+use Rattle.sdd_order.specs.SerialOrder.{serial_order}
 use Rattle.sdd_schedule.specs.Schedules.{with_events}
-use Rattle.sdd_world.specs.Standing.{EndsBy}
+use Rattle.sdd_system.specs.Members.{StandFor}
+use Rattle.sdd_system.specs.declared.members.Members.{Members}
+use Rattle.sdd_world.specs.Standing.{EndsBy, StandsFor}
+use Rattle.sdd_world.specs.declared.world.World.{World}
 use Rattle.sdd_run.specs.Reports.{report_of}
-use Rattle.sdd_run.specs.Runs.{EndsAtLimit, IsReportOn, begun, given_of}
+use Rattle.sdd_run.specs.Runs.{EndsAtLimit, IsReportOn, IsSummaryOn, begun, given_of}
+use Rattle.sdd_run.specs.Worlds.{IsRunOf}
 use Rattle.sdd_run.proofs.Beginning.{all_given}
-use Rattle.sdd_run.proofs.Ordered.{orderable, replayed, serial}
+use Rattle.sdd_run.proofs.InTurn.{in_turn}
+use Rattle.sdd_run.proofs.Once.{each_once}
+use Rattle.sdd_run.proofs.Ordered.{left, orderable, replayed, serial, starts}
+use Rattle.sdd_run.proofs.Retold.{retold}
+use Rattle.sdd_upheld.specs.Given.{one_era}
 
 pub if_ok : {A E : Type 0} (res : Result A E) (P Q : A → Type 0) → ((x : A) → P x → Q x) → IfOk res P → IfOk res Q
 if_ok (Ok x) P Q f p = f x p
 if_ok (Err e) P Q f p = tt
 
-module _ (cat : Catalogue) (table : List Entry) (work : Workload) (sound : IsSound cat) (valid : IsValid cat work) (tabled : IsTable cat table) where
-  -- what a world stands for after all events
-  abbrev pub Told : List ℕ → Type 0
-  Told text = (all : Log) × IsTheLog (with_events (begun cat table work) work.events) all × (redeclares all ≡ 0)
-      × (text ≡ report_text (report_of (with_events (begun cat table work) work.events) all))
+-- a run is given all of its events
 
-  the_log : (all : Log) → IsTheLog (with_events (begun cat table work) work.events) all → IsTheLog (given_of cat table work) all
-  the_log all h = subst (λ g. IsTheLog g all) (all_given cat table work) h
+given_all : (cat : Catalogue) (table : List Entry) (work : Workload) (events : List Event) → events ≡ work.events → with_events (begun cat table work) events ≡ given_of cat table work
+given_all cat table work events same = ap (with_events (begun cat table work)) same ∙ all_given cat table work
 
-  pub always_orderable : (all : Log) → IsTheLog (with_events (begun cat table work) work.events) all → redeclares all ≡ 0 → IsOrderable cat (history all)
-  always_orderable all h none = orderable cat table work sound valid tabled all (the_log all h) none
+pub run_of : (cat : Catalogue) (table : List Entry) (work : Workload) (events : List Event) → events ≡ work.events
+    → (w : World Catalogue Members (Kept (Directions (List ℕ)))) (log : Log)
+    → StandsFor (λ (c : Catalogue). c) StandFor Carries IsGood w (with_events (begun cat table work) events) log → IsRunOf cat table work w
+run_of cat table work events same w log stands =
+    let s = subst (λ g. StandsFor (λ (c : Catalogue). c) StandFor Carries IsGood w g log) (given_all cat table work events same) stands in
+    record {
+      log = log;
+      log_is = record { lawful = s.calm.rests.lawful; within = s.calm.rests.within; complete = s.complete };
+      one_era = s.calm.parts.no_redeclares;
+      stands = record { catalogue_is = refl; stands = s };
+    }
 
-  pub reported : (text : List ℕ) → Told text → IsReportOn cat work text
-  reported text told = record {
-    table = table;
-    table_is = tabled;
-    log = told.0;
-    log_is = the_log told.0 told.1;
-    orderable = orderable cat table work sound valid tabled told.0 (the_log told.0 told.1) told.2;
-    serial = serial cat table work sound valid tabled told.0 (the_log told.0 told.1) told.2;
-    replies = replayed cat table work sound valid tabled told.0 (the_log told.0 told.1) told.2;
-    text_is = subst (λ g. text ≡ report_text (report_of g told.0)) (all_given cat table work) told.3;
-  }
+pub ended : (cat : Catalogue) (table : List Entry) (work : Workload) → IsTable cat table → (events : List Event) → events ≡ work.events
+    → EndsBy (with_events (begun cat table work) events) → EndsAtLimit cat work
+ended cat table work tabled events same e = record {
+  table = table;
+  table_is = tabled;
+  log = e.0;
+  ends = subst (λ g. EndsByLimit g e.0) (given_all cat table work events same) e.1;
+}
 
-  pub ended : EndsBy (with_events (begun cat table work) work.events) → EndsAtLimit cat work
-  ended h = record {
-    table = table;
-    table_is = tabled;
-    log = h.0;
-    ends = subst (λ g. EndsByLimit g h.0) (all_given cat table work) h.1;
-  }
+-- the report on the run
+pub reported : (cat : Catalogue) (table : List Entry) (work : Workload) (log : Log) → IsSound cat → IsValid cat work → IsTable cat table
+    → IsTheLog (given_of cat table work) log → redeclares log ≡ 0
+    → (text : List ℕ) → text ≡ report_text (report_of (given_of cat table work) log) → IsReportOn cat work text
+reported cat table work log sound valid tabled the_log none text is =
+    let fine = orderable cat table work sound valid tabled log the_log none in
+    let along = serial cat table work sound valid tabled log the_log none in
+    let given = replayed cat table work sound valid tabled log the_log none in
+    record {
+      table = table;
+      table_is = tabled;
+      log = log;
+      log_is = the_log;
+      text_is = is;
+      orderable = fine;
+      serial = along;
+      once = each_once cat (history log) (serial_order cat (history log)) along;
+      in_turn = λ x y first second class submitted.
+          in_turn cat (one_era cat) work.txns (history log) (starts cat table work sound valid tabled log the_log none) x y first second class submitted
+          (serial_order cat (history log)) along;
+      replies = given;
+      told = is ∙ retold (report_of (given_of cat table work) log) _ fine.one_commit given;
+      copies = left cat table work sound valid tabled log the_log none;
+    }
 
-  -- the same, of the events as a list that equals the workload's
-  pub always_orderable_by : (events : List Event) → events ≡ work.events → (all : Log) → IsTheLog (with_events (begun cat table work) events) all → redeclares all ≡ 0 → IsOrderable cat (history all)
-  always_orderable_by events e all h none = always_orderable all (subst (λ es. IsTheLog (with_events (begun cat table work) es) all) e h) none
-
-  pub reported_by : (events : List Event) → events ≡ work.events → (text : List ℕ)
-      → ((all : Log) × IsTheLog (with_events (begun cat table work) events) all × (redeclares all ≡ 0) × (text ≡ report_text (report_of (with_events (begun cat table work) events) all)))
-      → IsReportOn cat work text
-  reported_by events e text told =
-      reported text
-      (subst (λ es. (all : Log) × IsTheLog (with_events (begun cat table work) es) all × (redeclares all ≡ 0) × (text ≡ report_text (report_of (with_events (begun cat table work) es) all))) e told)
-
-  pub ended_by : (events : List Event) → events ≡ work.events → EndsBy (with_events (begun cat table work) events) → EndsAtLimit cat work
-  ended_by events e h = ended (subst (λ es. EndsBy (with_events (begun cat table work) es)) e h)
+-- the summary of the run: of counts that were made of its records
+pub summed_up : (cat : Catalogue) (table : List Entry) (work : Workload) (w : World Catalogue Members (Kept (Directions (List ℕ)))) → IsTable cat table
+    → (r : IsRunOf cat table work w) (text : List ℕ) (counts : Summary) (txns : List Txn) (records : History) → text ≡ summary_text counts
+    → counts ≡ summary_of (length txns) records w.marks → txns ≡ work.txns → records ≡ history r.log → IsSummaryOn cat work text
+summed_up cat table work w tabled r text counts txns records told made txns_are records_are = record {
+  table = table;
+  table_is = tabled;
+  log = r.log;
+  log_is = r.log_is;
+  text_is = told ∙ ap summary_text (made ∙ (λ i. summary_of (length (txns_are i)) (records_are i) (r.stands.stands.calm.marks_are i)));
+}

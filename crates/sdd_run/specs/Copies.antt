@@ -7,6 +7,8 @@ use Rattle.sdd_copy.specs.Contents.{Dated, contents}
 use Rattle.sdd_dm.specs.Copies.{dated}
 use Rattle.sdd_log.specs.Entries.{Given, Log}
 use Rattle.sdd_log.specs.Locals.{local_of, setting_of}
+use Rattle.sdd_lang.specs.Agree.{rows_in_fragment}
+use Rattle.sdd_lang.specs.Database.{Database, Item, Row}
 use Rattle.sdd_report.specs.declared.copies.CopyTable.{CopyTable}
 
 -- the rows of fragment f that changes leave at module d
@@ -24,3 +26,7 @@ tables_at g log d = tables_in g.catalogue d (dated (setting_of g (D (dm_no d))) 
 -- those of all modules, ascending by module
 abbrev pub tables_of : Given → Log → List CopyTable
 tables_of g log = flat_map (tables_at g log) (numbers_to g.catalogue.dms)
+
+-- the rows of fragment f in a database, ascending by key
+abbrev pub rows_left : Catalogue → Database → ℕ → List Row
+rows_left cat db f = map (λ (e : Item × Row). e.1) (rows_in_fragment cat db f)

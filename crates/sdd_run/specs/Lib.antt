@@ -2,4 +2,5 @@ pub mod Copies
 pub mod Pending
 pub mod Reports
 pub mod Runs
+pub mod Standing
 pub mod Worlds

@@ -1,16 +1,24 @@
 -- The run of a workload: what is given to its world, and which log is the run's.
-use Rattle.std.specs.Prelude.{ℕ, ◌≡◌, List, [], ◌∷◌, map}
+use Rattle.std.specs.Prelude.{ℕ, ◌≡◌, List, [], ◌∷◌, ◌++◌, Contains, length, map}
 use Rattle.std.specs.List.{AllZip}
 use Rattle.sdd_catalog.specs.Catalogue.{Catalogue, numbers_to}
 use Rattle.sdd_protocol.specs.Protocols.{IsTable}
 use Rattle.sdd_protocol.specs.declared.entry.Entry.{Entry}
 use Rattle.sdd_script.specs.declared.workload.Workload.{Workload}
-use Rattle.sdd_laws.specs.Replay.{IsReplyOf, run}
-use Rattle.sdd_log.specs.Entries.{Given, Log, history}
+use Rattle.sdd_make.specs.Summary.{summary_of, summary_text}
+use Rattle.sdd_laws.specs.Replay.{AreAllApplied, IsReplyOf, run}
+use Rattle.sdd_log.specs.Entries.{Given, Log, history, marks}
 use Rattle.sdd_log.specs.Lawful.{EndsByLimit, IsTheLog}
+use Rattle.sdd_order.specs.Attempts.{Committed, IsCommitted}
 use Rattle.sdd_order.specs.Orders.{IsOrderable, IsSerial}
 use Rattle.sdd_order.specs.SerialOrder.{serial_order}
-use Rattle.sdd_report.specs.Report.{report_text}
+use Rattle.sdd_report.specs.Committed.{names_of, order_line}
+use Rattle.sdd_report.specs.Replies.{replies_along}
+use Rattle.sdd_report.specs.Report.{after_replies, report_text}
+use Rattle.sdd_report.specs.Trace.{trace}
+use Rattle.sdd_report.specs.declared.copies.CopyTable.{CopyTable}
+use Rattle.sdd_run.specs.Copies.{rows_left, tables_of}
+use Rattle.sdd_run.specs.Standing.{IsSubmittedBefore, StandsBefore, times_in}
 use Rattle.sdd_run.specs.Reports.{report_of}
 
 -- what is given: each data module begins with the workload's rows
@@ -28,17 +36,41 @@ abbrev pub begun : Catalogue → List Entry → Workload → Given
 begun cat table work = record (given_of cat table work) { events = [] }
 
 -- A text is the report on the run: on the one log of what is given, by the protocol table of the catalogue, of which
--- there is one. Each transaction has at most one Commit, the order that the text tells is serial, and one plain database
--- of the workload's rows that runs the transactions in that order gives the replies that the Commits tell.
+-- there is one.
 pub record IsReportOn (cat : Catalogue) (work : Workload) (text : List ℕ) : Type 0 where
   pub table : List Entry
   pub table_is : IsTable cat table
   pub log : Log
   pub log_is : IsTheLog (given_of cat table work) log
+  pub text_is : text ≡ report_text (report_of (given_of cat table work) log)
+  -- The order that the text tells is serial: each committed transaction stands in it once, behind those that precede it,
+  -- of which those of its own class that were submitted before are some.
   pub orderable : IsOrderable cat (history log)
   pub serial : IsSerial cat (history log) (serial_order cat (history log))
+  pub once : (t : Committed) → IsCommitted (history log) t → times_in t.start.txn (serial_order cat (history log)) ≡ 1
+  pub in_turn : (x y : Committed) → IsCommitted (history log) x → IsCommitted (history log) y → x.start.class ≡ y.start.class
+      → IsSubmittedBefore (history log) x y → StandsBefore (serial_order cat (history log)) x.start.txn y.start.txn
+  -- One plain database of the workload's rows that runs the transactions in that order gives the replies that their
+  -- Commits tell; and these are the replies in the text, behind what happened and the order.
   pub replies : AllZip (IsReplyOf (history log)) (serial_order cat (history log)) (run cat work.rows work.txns (serial_order cat (history log))).0
-  pub text_is : text ≡ report_text (report_of (given_of cat table work) log)
+  pub told : text
+      ≡ trace cat work.txns (history log)
+      ++ (order_line work.txns (serial_order cat (history log))
+      ++ (replies_along (names_of work.txns (serial_order cat (history log))) (run cat work.rows work.txns (serial_order cat (history log))).0
+      ++ after_replies (report_of (given_of cat table work) log)))
+  -- A copy at which all is applied that changed its fragment lists the rows that this database is left with.
+  pub copies : (copy : CopyTable) → Contains (tables_of (given_of cat table work) log) copy
+      → AreAllApplied (history log) copy.frag.0 copy.dm.0 (length (history log))
+      → copy.rows ≡ rows_left cat (run cat work.rows work.txns (serial_order cat (history log))).1 copy.frag.0
+
+-- A text is the summary of the run: it tells how many transactions there are, how many Commits, Rejects and Waits the
+-- one log of what is given has, and how many events.
+pub record IsSummaryOn (cat : Catalogue) (work : Workload) (text : List ℕ) : Type 0 where
+  pub table : List Entry
+  pub table_is : IsTable cat table
+  pub log : Log
+  pub log_is : IsTheLog (given_of cat table work) log
+  pub text_is : text ≡ summary_text (summary_of (length work.txns) (history log) (marks log))
 
 -- the limit of events or of a link's messages ends the run
 pub record EndsAtLimit (cat : Catalogue) (work : Workload) : Type 0 where

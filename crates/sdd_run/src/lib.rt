@@ -1,7 +1,7 @@
 //! The run of a workload on a catalogue: its world, carried out, and the report on it.
 //!
-//! The one contract to the layer above: the text is the report on *the* log of the run, or the
-//! limit ends that log (`run_report`).
+//! The contract to the layer above: the text is the report on *the* log of the run (`run_report`),
+//! or its summary (`run_summary`), or the limit ends that log.
 #![tactic(auto)]
 
 mod commits;
@@ -12,4 +12,4 @@ mod telling;
 mod unfinished;
 mod waits;
 
-pub use run::run_report;
+pub use run::{run_report, run_summary};

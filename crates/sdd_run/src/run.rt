@@ -1,16 +1,15 @@
-//! The run of a workload.
+//! The run of a workload, and what is told of it.
 ghost use Rattle.std.specs.Prelude.{IfOk, IsErrOf};
 ghost use Rattle.sdd_script.specs.Valid.{IsValid};
-ghost use Rattle.sdd_run.specs.Runs.{EndsAtLimit, IsReportOn};
+ghost use Rattle.sdd_run.specs.Runs.{EndsAtLimit, IsReportOn, IsSummaryOn};
 
-use crate::running::run_on;
+use crate::running::finished;
+use crate::telling::report_on;
 use sdd_catalog::Catalogue;
-use sdd_mail::Mail;
+use sdd_make::{summary_of, summary_text};
 use sdd_protocol::table;
 use sdd_script::Workload;
-use sdd_sites::Home;
-use sdd_system::Members;
-use sdd_world::{World, WorldEnd};
+use sdd_world::WorldEnd;
 use std::alloc::Global;
 
 /// The text of the report on the run of a workload.
@@ -27,18 +26,27 @@ pub fn run_report(alloc: Global, catalogue: &Catalogue, work: Workload) -> Resul
 {
     catalogue.known();
     let table = table(alloc, catalogue)?;
-    let Workload { rows, txns, events } = work;
-    let members = Members::new(alloc, catalogue, &table, rows.as_slice())?;
-    let mail = Mail::new(alloc, catalogue.tms(), catalogue.dms())?;
-    let home = Home::new(alloc, catalogue);
-    let world = World::new(
-        alloc,
-        home,
-        txns,
-        catalogue.tms(),
-        catalogue.dms(),
-        members,
-        mail,
-    )?;
-    run_on(alloc, catalogue, world, events.into_vec())
+    let world = finished(alloc, catalogue, &table, work)?;
+    Ok(report_on(alloc, catalogue, &world)?)
+}
+
+/// The text of the summary of the run of a workload. Costs what its events cost.
+///
+/// # Errors
+///
+/// At the first number that is missing, of events or of a link's messages, and for want of memory.
+pub fn run_summary(
+    alloc: Global,
+    catalogue: &Catalogue,
+    work: Workload,
+) -> Result<Vec<u8>, WorldEnd>
+    requires { IsValid catalogue.now work }
+    ensures summary { IfOk result (λ text. IsSummaryOn catalogue.now work text.items) }
+    ensures limit { IsErrOf result WorldEnd.Limit → EndsAtLimit catalogue.now work }
+{
+    let transactions = work.txns.as_slice().len() as u32;
+    let table = table(alloc, catalogue)?;
+    let world = finished(alloc, catalogue, &table, work)?;
+    let summary = summary_of(transactions, world.history().as_slice(), world.marks);
+    Ok(summary_text(alloc, &summary)?)
 }

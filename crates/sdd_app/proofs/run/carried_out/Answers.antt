@@ -1,7 +1,8 @@
 use Rattle.std.proofs.Common.{sym, subst}
 use Rattle.sdd_app.specs.Answer.{FormComesTo}
-use Rattle.sdd_app.specs.Command.{form_of}
+use Rattle.sdd_app.specs.Command.{IsForm, form_of}
 use Rattle.sdd_app.specs.Verdict.{Answers}
+use Rattle.sdd_app.proofs.Verdicts.{none_read}
 use Rattle.sdd_app.proofs.run.carried_out.Goals as goal
 
 pub returns-in-Check-clause-told : goal.returns-in-Check-clause-told
@@ -27,3 +28,13 @@ returns-in-Plain-clause-told g c = λ fs told.
 pub returns-in-Control-clause-told : goal.returns-in-Control-clause-told
 returns-in-Control-clause-told g c = λ fs told.
     subst (λ command. Answers c.control_answer.result (λ v. v.items) (FormComesTo fs (form_of command))) (sym c.in-Control.is) (c.control_answer.ensures.told fs told)
+
+pub make_answer-requires : goal.make_answer-requires
+make_answer-requires g c = (subst (λ command. IsForm (form_of command)) c.in-Make.is c.requires).1
+
+pub returns-in-Make-clause-told : goal.returns-in-Make-clause-told
+returns-in-Make-clause-told g c = λ fs told.
+    subst (λ command. Answers c.make_answer.result (λ v. v.items) (FormComesTo fs (form_of command))) (sym c.in-Make.is) c.make_answer.ensures.told
+
+pub returns-in-Make-clause-ended : goal.returns-in-Make-clause-ended
+returns-in-Make-clause-ended g c = rw c.in-Make.is (none_read c.make_answer.result _ _ _)

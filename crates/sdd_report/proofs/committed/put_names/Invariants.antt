@@ -1,7 +1,8 @@
-use Rattle.std.proofs.Common.{◌≡◌, ◌++◌, drop}
-use Rattle.sdd_report.specs.Committed.{names}
+use Rattle.std.proofs.Common.{◌≡◌, ◌++◌, take, flat_map}
+use Rattle.sdd_report.specs.Committed.{names_of}
+use Rattle.sdd_report.specs.Names.{spaced}
 use Rattle.sdd_report.proofs.committed.put_names.Given as goal
 
--- what was written and what is left to write is all of it
+-- the names so far are written
 abbrev pub invariant-order : goal.invariant-order
-invariant-order l = l.text.items ++ names l.txns (drop l.txn-index l.order) ≡ l.fn.text.items ++ names l.txns l.order
+invariant-order l = l.text.items ≡ l.fn.text.items ++ flat_map spaced (names_of l.txns (take l.txn-index l.order))

@@ -1,0 +1,16 @@
+use Rattle.std.proofs.Common.{sym, subst}
+use Rattle.sdd_make.specs.Bank.{bank}
+use Rattle.sdd_make.specs.Turns.{workload_of}
+use Rattle.sdd_script.specs.Valid.{IsValid}
+use Rattle.sdd_app.specs.Answer.{ComesToSummary}
+use Rattle.sdd_app.specs.Verdict.{Answers}
+use Rattle.sdd_app.proofs.made_input.make_answer.Goals as goal
+
+pub summed_up-requires : goal.summed_up-requires
+summed_up-requires c =
+    subst (λ cat. IsValid cat c.in_ok-work.work) (sym c.in_ok-catalogue.ensures) (subst (IsValid bank) (sym c.in_ok-work.ensures) c.law_workload_allowed.ensures)
+
+pub returns-clause-told : goal.returns-clause-told
+returns-clause-told c =
+    subst (λ cat. Answers c.summed_up.result (λ v. v.items) (ComesToSummary cat (workload_of c.args.seed c.args.count))) c.in_ok-catalogue.ensures
+    (subst (λ work. Answers c.summed_up.result (λ v. v.items) (ComesToSummary c.in_ok-catalogue.catalogue work)) c.in_ok-work.ensures c.summed_up.ensures.told)

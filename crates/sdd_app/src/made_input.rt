@@ -1,0 +1,39 @@
+//! The command that runs made input.
+ghost use Rattle.std.specs.Prelude.{◌≡◌, ◌≤◌, IfErr};
+ghost use Rattle.sdd_base.specs.declared.limits.TheConstants.{MAX_TXNS};
+ghost use Rattle.sdd_make.specs.Bank.{bank};
+ghost use Rattle.sdd_make.specs.Turns.{workload_of};
+ghost use Rattle.sdd_script.specs.Valid.{IsValid};
+ghost use Rattle.sdd_app.specs.Answer.{ComesToSummary};
+ghost use Rattle.sdd_app.specs.Verdict.{Answers, ComesOfFiles};
+
+use crate::status::Status;
+use sdd_catalog::Catalogue;
+use sdd_make::{bank, law_workload_allowed, workload};
+use sdd_run::run_summary;
+use sdd_script::Workload;
+use std::alloc::Global;
+
+/// The summary of the run of the workload.
+fn summed_up(alloc: Global, catalogue: &Catalogue, work: Workload) -> Result<Vec<u8>, Status>
+    requires { IsValid catalogue.now work }
+    ensures told { Answers result (λ v. v.items) (ComesToSummary catalogue.now work) }
+    ensures errors { IfErr result ComesOfFiles }
+    ensures read { IfErr result (λ s. s ≡ Status.ReadFault → ⊥) }
+{
+    Ok(run_summary(alloc, catalogue, work)?)
+}
+
+/// What `make` answers: the summary of the run on the bank of the workload that is made of a seed,
+/// with so many transactions.
+pub fn make_answer(alloc: Global, seed: u32, count: u32) -> Result<Vec<u8>, Status>
+    requires { count ≤ MAX_TXNS }
+    ensures told { Answers result (λ v. v.items) (ComesToSummary bank (workload_of seed count)) }
+    ensures errors { IfErr result ComesOfFiles }
+    ensures read { IfErr result (λ s. s ≡ Status.ReadFault → ⊥) }
+{
+    law_workload_allowed(seed, count);
+    let catalogue = bank(alloc)?;
+    let work = workload(alloc, seed, count)?;
+    summed_up(alloc, &catalogue, work)
+}

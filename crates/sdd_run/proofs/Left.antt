@@ -1,0 +1,122 @@
+-- A copy at which all is applied that changed its fragment has the rows that one plain database is left with.
+use Rattle.std.proofs.Common.{ℕ, suc, ◌-◌, ◌≡◌, ◌∙◌, true, List, [], ◌∷◌, ◌++◌, Option, Some, None, ap, arith, filter, filter_map, length, map, refl, subst, sym, take}
+use Rattle.std.specs.Prelude.{Contains, is_none}
+use Rattle.std.specs.List.{cons_option, flat_map, list_any}
+use Rattle.std.proofs.Math.Seq.{take-append_seam}
+use Rattle.std.proofs.lemmas.List.{take_all}
+use Rattle.std.proofs.lemmas.Option.{slice_get_past}
+use Rattle.sdd_base.specs.Numbers.{dm_no}
+use Rattle.sdd_base.specs.declared.event.Event.{Event}
+use Rattle.sdd_base.specs.declared.event.Event.TheVariants.{Lose}
+use Rattle.sdd_base.specs.declared.number.RelNo.{RelNo}
+use Rattle.sdd_base.specs.declared.number.TxnNo.{TxnNo}
+use Rattle.sdd_base.specs.declared.site.Site.TheVariants.{U, D}
+use Rattle.sdd_catalog.specs.Catalogue.{Catalogue, has_copy, numbers_to}
+use Rattle.sdd_catalog.specs.Rules.{IsSound}
+use Rattle.sdd_catalog.proofs.Found.{map-map}
+use Rattle.sdd_contents.proofs.Members.{Contains-from_filter, Contains-from_flat_map, Contains-from_map}
+use Rattle.sdd_copy.specs.Contents.{Dated, contents}
+use Rattle.sdd_dm.specs.Copies.{dated}
+use Rattle.sdd_history.specs.Records.{History}
+use Rattle.sdd_history.specs.declared.record.Rec.{Rec}
+use Rattle.sdd_history.specs.declared.record.Rec.TheVariants.{Nothing}
+use Rattle.sdd_lang.specs.Database.{Item, Row}
+use Rattle.sdd_laws.specs.Replay.{AreAllApplied, run}
+use Rattle.sdd_laws.specs.Snapshots as laws
+use Rattle.sdd_log.specs.Due.{due_by, note_if}
+use Rattle.sdd_log.specs.Entries.{Given, Log, Mark, Notes, history}
+use Rattle.sdd_log.specs.Locals.{IsForce, force_at, local_of, redeclares, setting_of}
+use Rattle.sdd_log.specs.Permitted.{IsPermitted, by_event, by_mark}
+use Rattle.sdd_log.specs.Traffic.{link_of}
+use Rattle.sdd_order.specs.Attempts.{Committed, attempt_of, attempts, committed, committed_of}
+use Rattle.sdd_order.specs.Orders.{IsSerial}
+use Rattle.sdd_order.specs.Places.{placed}
+use Rattle.sdd_order.specs.Precedence.{is_apply}
+use Rattle.sdd_report.specs.declared.copies.CopyTable.{CopyTable}
+use Rattle.sdd_upheld.specs.Given.{AreErasOf, HasSoundData, one_era}
+use Rattle.sdd_upheld.specs.Made.{IsMadeAt}
+use Rattle.sdd_upheld.proofs.OneEra.{of_one_era}
+use Rattle.sdd_upheld.proofs.SameCopies.{same_copy}
+use Rattle.sdd_upheld.proofs.Together.{copies as left_in_copies}
+use Rattle.sdd_run.specs.Copies.{rows_left, table_of, tables_at, tables_of}
+
+-- The copies at the end of a log are those before a record behind it: that of an event which finds nothing to do, as one
+-- that loses a packet which isn't there.
+
+abbrev no_packet : Log → Event
+no_packet log = Lose U U (suc (length (link_of U U log).there.flight))
+
+abbrev noted : Log → Log
+noted log = Notes ∷ Mark (no_packet log) ∷ log
+
+still_permitted : (g : Given) (log : Log) → IsPermitted g log → IsPermitted g (noted log)
+still_permitted g log h =
+    let flight = (link_of U U log).there.flight in
+    let none : due_by g (no_packet log) log ≡ Some Notes = ap (λ o. note_if (is_none o)) (slice_get_past flight (suc (length flight) - 1) (omega arith)) in
+    (by_event none, (by_mark (no_packet log) refl, h))
+
+-- the record stands behind all others
+abbrev at_the_end : (log : Log) → IsMadeAt (noted log) (length (history log)) Nothing
+at_the_end log = record { later = []; entry = Notes; before = Mark (no_packet log) ∷ log; is = refl; makes = refl; place_is = refl }
+
+-- and it tells of no attempt and no Commit
+
+abbrev with_nothing : History → ℕ → History
+with_nothing h n = h ++ (n, Nothing) ∷ []
+
+found_alike : {A : Type 0} (f : ℕ × Rec → Option A) → ((k : ℕ) → f (k, Nothing) ≡ None) → (h : History) (n k : ℕ) → filter_map f (placed k (with_nothing h n)) ≡ filter_map f (placed k h)
+found_alike f none [] n k = ap (λ o. cons_option o []) (none k)
+found_alike f none (e ∷ h) n k = ap (cons_option (f (k, e.1))) (found_alike f none h n (suc k))
+
+same_attempts : (h : History) (n : ℕ) → attempts (with_nothing h n) ≡ attempts h
+same_attempts h n = found_alike attempt_of (λ k. refl) h n 0
+
+same_committed : (h : History) (n : ℕ) → committed (with_nothing h n) ≡ committed h
+same_committed h n =
+    ap (λ starts. filter_map (committed_of starts) (placed 0 (with_nothing h n))) (same_attempts h n) ∙ found_alike (committed_of (attempts h)) (λ k. refl) h n 0
+
+same_front : (h : History) (n : ℕ) → take (length h) (with_nothing h n) ≡ take (length h) h
+same_front h n = take-append_seam h ((n, Nothing) ∷ []) ∙ sym (take_all (length h) h (omega arith))
+
+-- what makes the copies at the end of the history, by its first so many records
+abbrev dated_by : Catalogue → List (RelNo × Row) → List Committed → History → ℕ → Dated
+dated_by cat rows all front d =
+    laws.first_rows cat rows ++ flat_map laws.dated (filter (λ (t : Committed). list_any (λ (e : ℕ × Rec). is_apply t.start.txn d e.1) front) all)
+
+same_dated : (cat : Catalogue) (rows : List (RelNo × Row)) (h : History) (n d : ℕ) → laws.dated_at cat rows (with_nothing h n) d (length h) ≡ laws.dated_at cat rows h d (length h)
+same_dated cat rows h n d =
+    ap (λ all. dated_by cat rows all (take (length h) (with_nothing h n)) d) (same_committed h n)
+    ∙ ap (λ front. dated_by cat rows (committed h) front d) (same_front h n)
+
+module _ (g : Given) (rows : List (RelNo × Row)) (log : Log) (sound : IsSound g.catalogue) (fine : HasSoundData g rows) (permitted : IsPermitted g log)
+    (force : IsForce (force_at g 0)) (force_is : (force_at g 0).catalogue ≡ g.catalogue) (none : redeclares log ≡ 0) where
+  eras_of : (l : Log) → redeclares l ≡ 0 → AreErasOf g l (one_era g.catalogue)
+  eras_of l one = of_one_era g l force force_is one
+
+  -- the copies that the log of a data module leaves are those that the history gives
+  contents_are : (d f : ℕ) → has_copy g.catalogue d f ≡ true
+      → contents f (dated (setting_of g (D (dm_no d))) (local_of g (D (dm_no d)) log)) ≡ laws.copy_at g.catalogue rows (history log) d (length (history log)) f
+  contents_are d f copied =
+      same_copy g rows (one_era g.catalogue) (noted log) sound fine (still_permitted g log permitted) (eras_of (noted log) none) d (length (history log)) Nothing
+      (at_the_end log) f copied
+      ∙ ap (contents f) (same_dated g.catalogue rows (history log) _ d)
+
+  module _ (order : List TxnNo) (serial : IsSerial g.catalogue (history log) order) where
+    left_at : (d f : ℕ) → has_copy g.catalogue d f ≡ true → AreAllApplied (history log) f d (length (history log))
+        → map (λ e. e.1) (contents f (dated (setting_of g (D (dm_no d))) (local_of g (D (dm_no d)) log))) ≡ rows_left g.catalogue (run g.catalogue rows g.txns order).1 f
+    left_at d f copied all =
+        let copy = laws.copy_at g.catalogue rows (history log) d (length (history log)) f in
+        ap (λ l. map (λ e. e.1) l) (contents_are d f copied)
+        ∙ sym (map-map (λ (e : Item × Row). e.1) _ copy)
+        ∙ sym (ap (map (λ (e : Item × Row). e.1)) (left_in_copies g rows (one_era g.catalogue) log order sound fine permitted (eras_of log none) serial f d (length (history log)) all))
+
+    -- each copy that is told of
+    pub left_in : (copy : CopyTable) → Contains (tables_of g log) copy → AreAllApplied (history log) copy.frag.0 copy.dm.0 (length (history log))
+        → copy.rows ≡ rows_left g.catalogue (run g.catalogue rows g.txns order).1 copy.frag.0
+    left_in copy there =
+        let at = Contains-from_flat_map (tables_at g log) (numbers_to g.catalogue.dms) copy there in
+        let xs = dated (setting_of g (D (dm_no at.0))) (local_of g (D (dm_no at.0)) log) in
+        let of = Contains-from_map (table_of at.0 xs) _ copy at.2 in
+        let copied = Contains-from_filter (has_copy g.catalogue at.0) (numbers_to (length g.catalogue.fragments)) of.0 of.1 in
+        subst (λ (t : CopyTable). AreAllApplied (history log) t.frag.0 t.dm.0 (length (history log)) → t.rows ≡ rows_left g.catalogue (run g.catalogue rows g.txns order).1 t.frag.0)
+        (sym of.2) (left_at at.0 of.0 copied.1)

@@ -1,0 +1,46 @@
+-- In a serial order each committed transaction stands once.
+use Rattle.std.proofs.Common.{ℕ, ◌+◌, ◌==◌, ◌≡◌, ◌≢◌, ◌∙◌, inl, inr, cond, List, [], ◌∷◌, ap, arith, refl, sym}
+use Rattle.std.specs.Prelude.{Contains}
+use Rattle.std.proofs.lemmas.Bool.{cases_eq, eq-eqb, ne_eqb}
+use Rattle.std.proofs.lemmas.List.Sums.{sum_by-cons}
+use Rattle.sdd_base.specs.Numbers.{txn_no}
+use Rattle.sdd_base.specs.declared.number.TxnNo.{TxnNo}
+use Rattle.sdd_base.proofs.Membership.{Contains-cases, Contains-here, Contains-later, Contains-nil}
+use Rattle.sdd_catalog.specs.Catalogue.{Catalogue}
+use Rattle.sdd_history.specs.Records.{History}
+use Rattle.sdd_order.specs.Attempts.{Committed, IsCommitted}
+use Rattle.sdd_order.specs.Orders.{IsAlong, IsSerial}
+use Rattle.sdd_run.specs.Standing.{times_in}
+
+times_more : (m : TxnNo) (rest : List TxnNo) (n : ℕ) → times_in n (m ∷ rest) ≡ cond (m.0 == n) 1 0 + times_in n rest
+times_more m rest n = sum_by-cons (λ (k : TxnNo). cond (k.0 == n) 1 0) m rest
+
+-- one that isn't there stands there at no place
+none_there : (order : List TxnNo) (n : ℕ) → ((m : TxnNo) → Contains order m → m.0 ≢ n) → times_in n order ≡ 0
+none_there [] n other = refl
+none_there (m ∷ rest) n other =
+    times_more m rest n ∙ ap (λ b. cond b 1 0 + times_in n rest) (ne_eqb m.0 n (other m (Contains-here m rest)))
+    ∙ (let none = none_there rest n (λ k there. other k (Contains-later m rest k there)) in omega (arith, none))
+
+-- one that isn't the first stands behind it
+not_first : (m : TxnNo) (rest : List TxnNo) (n : TxnNo) → m.0 ≢ n.0 → Contains (m ∷ rest) n → Contains rest n
+not_first m rest n other there =
+    elim (Contains-cases m rest n there) [
+      | inl same ↦ absurd (other (ap (λ (z : TxnNo). z.0) (sym same)))
+      | inr behind ↦ behind
+    ]
+
+once_along : (cat : Catalogue) (h : History) (order : List TxnNo) (n : TxnNo) → IsAlong cat h order → Contains order n → times_in n.0 order ≡ 1
+once_along cat h [] n along there = absurd (Contains-nil n there)
+once_along cat h (m ∷ rest) n along there =
+    elim (cases_eq m.0 n.0) [
+      | inl same ↦
+          (times_more m rest n.0 ∙ ap (λ b. cond b 1 0 + times_in n.0 rest) (eq-eqb m.0 n.0 same)
+          ∙ (let none = none_there rest n.0 (λ k behind e. along.0.other k behind (e ∙ sym same)) in omega (arith, none)))
+      | inr other ↦
+          (times_more m rest n.0 ∙ ap (λ b. cond b 1 0 + times_in n.0 rest) (ne_eqb m.0 n.0 other)
+          ∙ (let one = once_along cat h rest n along.1 (not_first m rest n other there) in omega (arith, one)))
+    ]
+
+pub each_once : (cat : Catalogue) (h : History) (order : List TxnNo) → IsSerial cat h order → (t : Committed) → IsCommitted h t → times_in t.start.txn order ≡ 1
+each_once cat h order serial t committed = once_along cat h order (txn_no t.start.txn) serial.along (serial.whole t committed)

@@ -1,0 +1,34 @@
+-- Where transactions stand in an order, and which of two was submitted first.
+use Rattle.std.specs.Prelude.{ℕ, ◌==◌, ◌<◌, ◌≡◌, List, [], ◌∷◌, ◌++◌, Contains, count_by, refl}
+use Rattle.std.proofs.Common.{lit<}
+use Rattle.sdd_base.specs.Numbers.{txn_no}
+use Rattle.sdd_base.specs.declared.number.TxnNo.{TxnNo}
+use Rattle.sdd_history.specs.Records.{History}
+use Rattle.sdd_laws.specs.Deeds.{IsSubmitted}
+use Rattle.sdd_order.specs.Attempts.{Committed}
+
+-- how often a transaction stands in an order
+abbrev pub times_in : ℕ → List TxnNo → ℕ
+times_in n order = count_by (λ (m : TxnNo). m.0 == n) order
+
+-- of two transactions the first stands in the order before the second
+pub record StandsBefore (order : List TxnNo) (n m : ℕ) : Type 0 where
+  pub front : List TxnNo
+  pub rest : List TxnNo
+  pub is : order ≡ front ++ txn_no n ∷ rest
+  pub behind : Contains rest (txn_no m)
+
+-- of two committed transactions the first was submitted before the second
+pub record IsSubmittedBefore (h : History) (x y : Committed) : Type 0 where
+  pub first_place : ℕ
+  pub second_place : ℕ
+  pub first : IsSubmitted h x.start.txn first_place
+  pub second : IsSubmitted h y.start.txn second_place
+  pub before : first_place < second_place
+
+-- worked: the second stands before the first, and none stands there twice
+pub turned : StandsBefore (txn_no 2 ∷ txn_no 3 ∷ txn_no 1 ∷ []) 2 1
+turned = record { front = []; rest = txn_no 3 ∷ txn_no 1 ∷ []; is = refl; behind = (1, lit< tt, refl) }
+
+pub once_there : times_in 3 (txn_no 2 ∷ txn_no 3 ∷ txn_no 1 ∷ []) ≡ 1
+once_there = refl
