@@ -9,6 +9,7 @@ what tools/benchmark.py takes. The kinds:
 bank       N drawn transactions of the bank (crates/sdd1/data/bank.toml) from SEED: transfers within a
            half and between the halves, reports over all, some of no class; between them drawn deliveries
 flood      a packet of one link that is repeated N times, and a delivery of each copy
+scatter    as `flood`, where each delivery takes a copy at a drawn place of those in flight
 resends    N times all unacknowledged messages of a link of 1,024, and a settle that delivers all packets
 scans      N queries over 65,536 rows, each of which answers few
 replies    N queries that answer 4,096 rows each
@@ -18,8 +19,8 @@ import argparse
 import os
 import sys
 
-MOST = {"bank": 2048, "flood": 120000, "resends": 4000, "scans": 2048, "replies": 2048, "classes": 2048}
-USUAL = {"bank": 2048, "flood": 100000, "resends": 200, "scans": 100, "replies": 200, "classes": 2048}
+MOST = {"bank": 2048, "flood": 120000, "scatter": 120000, "resends": 4000, "scans": 2048, "replies": 2048, "classes": 2048}
+USUAL = {"bank": 2048, "flood": 100000, "scatter": 100000, "resends": 200, "scans": 100, "replies": 200, "classes": 2048}
 BANK = os.path.join(os.path.dirname(os.path.abspath(__file__)), "..", "crates", "sdd1", "data", "bank.toml")
 
 
@@ -76,6 +77,14 @@ def flood(n, _):
     return one_class(True), ["txn p T1", "put acct 1 1", "done"] + events + ["settle"]
 
 
+def scatter(n, seed):
+    """A place is drawn by two numbers, since one is below 2^15."""
+    random = Random(seed)
+    places = [(random.draw(2**15) * 2**15 + random.draw(2**15)) % (n + 1 - k) + 1 for k in range(n)]
+    events = ["submit p"] + ["repeat T1 D1 1"] * n + ["deliver T1 D1 %d" % place for place in places]
+    return one_class(True), ["txn p T1", "put acct 1 1", "done"] + events + ["settle"]
+
+
 def resends(n, _):
     lines = []
     for k in range(1024):
@@ -115,7 +124,7 @@ def classes(n, _):
     return catalogue, lines + ["submit t%d" % k for k in range(n)] + ["settle"]
 
 
-KINDS = {"bank": bank, "flood": flood, "resends": resends, "scans": scans, "replies": replies, "classes": classes}
+KINDS = {"bank": bank, "flood": flood, "scatter": scatter, "resends": resends, "scans": scans, "replies": replies, "classes": classes}
 
 
 def write_workload(folder, kind, n=None, seed=1):
