@@ -216,9 +216,9 @@ module _ (edges : List Edge) (edge : Edge) (reader : ClassNo) (there : Contains 
       (shown_off_cycles edges edge there apart places (subst (λ (z : ℕ × ℕ). AreReached edges (IsOther edge) z.1 apart_nodes) is reached)
       (ap (λ (z : ℕ × ℕ). place_of places z.0) (sym is) ∙ none)))
 
-  pub good_beside : (way : List Edge) (places : List (Option ℕ)) (q : ℕ × ℕ) (advice : Advice) → q ≡ ends (Vertical reader)
+  pub good_beside : (way : List Edge) (places : List (Option ℕ)) (q : ℕ) (advice : Advice) → q ≡ (ends (Vertical reader)).1
       → IsWay edges (IsOther edge) (ends edge).1 (ends edge).0 way
-      → AreReached edges (IsAway p.0) p.1 (placed_nodes places) → place_of places q.1 ≡ None
+      → AreReached edges (IsAway p.0) p.1 (placed_nodes places) → place_of places q ≡ None
       → advice ≡ advice_of edge P2 (edge ∷ way) (placed_nodes places) → ShowsFor edges advice edge
   good_beside way places q advice own w reached none e =
       let apart_nodes = placed_nodes places in
@@ -226,15 +226,15 @@ module _ (edges : List Edge) (edge : Edge) (reader : ClassNo) (there : Contains 
       (shown_of edges (advice_of edge P2 (edge ∷ way) apart_nodes) reader edge P2 r there refl
       (shown_beside edges edge there apart (ends (Vertical reader)).1 way places w
       (subst (λ (z : ℕ × ℕ). AreReached edges (IsAway z.0) z.1 apart_nodes) is reached)
-      (ap (λ (z : ℕ × ℕ). place_of places z.1) (sym own) ∙ none)))
+      (ap (place_of places) (sym own) ∙ none)))
 
-  pub good_by_way : (way closed : List Edge) (q : ℕ × ℕ) (advice : Advice) → Contains edges (Vertical reader)
-      → q ≡ ends (Vertical reader) → IsWay edges (IsAway p.0) p.1 q.1 way → closed ≡ way ++ Vertical reader ∷ []
+  pub good_by_way : (way closed : List Edge) (q : ℕ) (advice : Advice) → Contains edges (Vertical reader)
+      → q ≡ (ends (Vertical reader)).1 → IsWay edges (IsAway p.0) p.1 q way → closed ≡ way ++ Vertical reader ∷ []
       → advice ≡ advice_of edge P3 (edge ∷ closed) [] → ShowsFor edges advice edge
   good_by_way way closed q advice upright own w is_closed e =
       let moved : IsWay edges (IsAway (ends edge).0) (ends edge).1 (ends (Vertical reader)).1 way =
-      subst (λ (z : ℕ × ℕ). IsWay edges (IsAway (ends edge).0) (ends edge).1 z.1 way) own
-      (subst (λ (z : ℕ × ℕ). IsWay edges (IsAway z.0) z.1 q.1 way) is w) in
+      subst (λ z. IsWay edges (IsAway (ends edge).0) (ends edge).1 z way) own
+      (subst (λ (z : ℕ × ℕ). IsWay edges (IsAway z.0) z.1 q way) is w) in
       subst (λ z. ShowsFor edges z edge) (sym e)
       (shown_of edges (advice_of edge P3 (edge ∷ closed) []) reader edge P3 r there refl
       (shown_by_way edges edge there apart (Vertical reader) way closed upright (not_vertical edge reader r) (one_read_node edge reader r) moved is_closed))

@@ -8,7 +8,7 @@ ghost use Rattle.sdd_advise.specs.Searches.{placed_nodes};
 ghost use Rattle.sdd_advise.specs.Ways.{IsWay};
 
 use crate::advice::Advice;
-use crate::graph::Graph;
+use crate::graph::{Graph, write_node};
 use crate::search::Search;
 use crate::without::Without;
 use sdd_base::{ClassNo, Listed, NoMemory};
@@ -120,7 +120,7 @@ fn advice_on_cycle(
     graph.known();
     let (read, write) = ends(edge);
     let vertical = Edge::Vertical(reader);
-    let own = ends(&vertical).1;
+    let own = write_node(reader);
     let beside = Search::of(alloc, graph, write, &Without::OneNode(read))?;
     match beside.place(own) {
         None => advice_beside(alloc, edge, way, &beside),

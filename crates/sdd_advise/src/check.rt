@@ -6,7 +6,7 @@ ghost use Rattle.sdd_advise.specs.Readers.{IsReadOf};
 
 use crate::advice::{Advice, Nodes};
 use crate::cycle::is_cycle_from;
-use crate::graph::Graph;
+use crate::graph::{Graph, write_node};
 use crate::search::Search;
 use crate::without::Without;
 use sdd_base::{ClassNo, Listed, NoMemory, is_same};
@@ -47,7 +47,7 @@ fn shows_protocol(
     graph.known();
     let (read, write) = ends(&advice.edge);
     let vertical = Edge::Vertical(reader);
-    let (_, own) = ends(&vertical);
+    let own = write_node(reader);
     match advice.protocol {
         Protocol::P1 => shows_p1(alloc, graph, read, write, advice),
         Protocol::P2 => shows_p2(alloc, graph, read, write, own, advice),

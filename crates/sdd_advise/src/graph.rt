@@ -1,11 +1,11 @@
 ghost use Rattle.std.specs.Prelude.{◌≡◌, ◌<◌, ◌≤◌, ◌*◌, ◌↔◌, map, All, Contains, IfOk, IsTrue};
 ghost use Rattle.std.specs.List.{range_with_len};
-ghost use Rattle.sdd_graph.specs.Edges.{NamesClasses};
-ghost use Rattle.sdd_graph.specs.Graph.{ends};
+ghost use Rattle.sdd_graph.specs.Edges.{IsClassNo, NamesClasses};
+ghost use Rattle.sdd_graph.specs.Graph.{ends, write_node};
 ghost use Rattle.sdd_advise.specs.Neighbours.{ArePaired, HasEachOnce, HasVerticals, neighbour_by, neighbours, network_of, other_end};
 
 use crate::neighbour::Neighbour;
-use sdd_base::{Listed, NoMemory, is_same};
+use sdd_base::{ClassNo, Listed, NoMemory, is_same};
 use sdd_catalog::Catalogue;
 use sdd_graph::{Edge, conflict_graph, ends};
 use std::alloc::Global;
@@ -145,6 +145,14 @@ fn neighbour_by(edge: &Edge, node: u32) -> Option<Neighbour>
         }),
         None => None,
     }
+}
+
+/// The write node of the class.
+pub(crate) fn write_node(class: ClassNo) -> u32
+    requires { IsClassNo class.0 }
+    ensures { result ≡ write_node class.0 }
+{
+    ends(&Edge::Vertical(class)).1
 }
 
 /// The end of the edge other than the node, where the edge is at the node.

@@ -17,7 +17,7 @@ shows_p2-requires-clause-own c =
     let nodes = c.args.graph.now.nodes in
     let within = All-contains (λ e. ((ends e).0 < nodes) × ((ends e).1 < nodes)) edges edge c.known.ensures.within c.requires.there in
     let named = All-contains NamesClasses edges edge c.known.ensures.named c.requires.there in
-    subst (λ (z : ℕ × ℕ). z.1 < nodes) (sym c.ends-own.ensures) (own_within edge c.args.reader nodes c.requires.reader named c.known.ensures.paired within.0)
+    subst (λ z. z < nodes) (sym c.write_node-own.ensures) (own_within edge c.args.reader nodes c.requires.reader named c.known.ensures.paired within.0)
 
 pub returns-in-P1 : goal.returns-in-P1
 returns-in-P1 c =
@@ -41,16 +41,16 @@ returns-in-P2 c =
     let edges = c.args.graph.now.edges in
     let advice = c.args.advice.now in
     let edge = advice.edge in
-    IfOk-weaker c.shows_p2.result (λ answer. IsTrue answer ↔ ShowsP2 edges edge c.ends-read.result.0 c.ends-read.result.1 c.ends-own.result.1 advice)
+    IfOk-weaker c.shows_p2.result (λ answer. IsTrue answer ↔ ShowsP2 edges edge c.ends-read.result.0 c.ends-read.result.1 c.write_node-own.result advice)
     (λ answer. IsTrue answer ↔ ShowsFor edges advice edge)
     (λ answer h. (
       (λ t.
           shown_of edges advice c.args.reader edge P2 c.requires.reader c.requires.there c.in-P2.is
-          (subst (λ (z : ℕ × ℕ). ShowsP2 edges edge (ends edge).0 (ends edge).1 z.1 advice) c.ends-own.ensures
-          (subst (λ (z : ℕ × ℕ). ShowsP2 edges edge z.0 z.1 c.ends-own.result.1 advice) c.ends-read.ensures (h.0 t)))),
+          (subst (λ z. ShowsP2 edges edge (ends edge).0 (ends edge).1 z advice) c.write_node-own.ensures
+          (subst (λ (z : ℕ × ℕ). ShowsP2 edges edge z.0 z.1 c.write_node-own.result advice) c.ends-read.ensures (h.0 t)))),
       λ s.
-          h.1 (subst (λ (z : ℕ × ℕ). ShowsP2 edges edge z.0 z.1 c.ends-own.result.1 advice) (sym c.ends-read.ensures)
-          (subst (λ (z : ℕ × ℕ). ShowsP2 edges edge (ends edge).0 (ends edge).1 z.1 advice) (sym c.ends-own.ensures)
+          h.1 (subst (λ (z : ℕ × ℕ). ShowsP2 edges edge z.0 z.1 c.write_node-own.result advice) (sym c.ends-read.ensures)
+          (subst (λ z. ShowsP2 edges edge (ends edge).0 (ends edge).1 z advice) (sym c.write_node-own.ensures)
           (shows_of edges advice c.args.reader edge P2 c.requires.reader c.in-P2.is s))),
     ))
     c.shows_p2.ensures
