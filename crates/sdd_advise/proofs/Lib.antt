@@ -1,0 +1,16 @@
+pub mod Advised
+pub mod Ascending
+pub mod Beside
+pub mod Diagonals
+pub mod Distinctness
+pub mod Edges
+pub mod Found
+pub mod Going
+pub mod Known
+pub mod Laid
+pub mod Members
+pub mod Places
+pub mod Right
+pub mod Rounds
+pub mod Showing
+pub mod WayBack
