@@ -1,18 +1,18 @@
 -- Orders in which each transaction may stand behind those before it, one transaction more.
-use Rattle.std.proofs.Common.{◌≡◌, ℕ, zero, suc, ◌+◌, ◌<◌, ◌==◌, List, [], ◌∷◌, ◌++◌, Bool, true, false, cond, not, Option, Some, None, Less, Equal, Greater, refl, sym, ap, ◌∙◌, subst, arith, ◌⊎◌, inl, inr, length, take, drop, get_or, eq-eqb, append_assoc, ◌≤◌}
+use Rattle.std.proofs.Common.{◌≡◌, ℕ, zero, suc, ◌+◌, ◌<◌, ◌==◌, List, [], ◌∷◌, ◌++◌, Bool, true, false, cond, not, Option, Some, None, Less, Equal, Greater, refl, sym, ap, ◌∙◌, subst, arith, ◌⊎◌, inl, inr, length, take, drop, get_or, eq-eqb, append_assoc}
 use Rattle.std.specs.Prelude.{◌&&◌, ◌||◌, nat_lt}
 use Rattle.std.specs.BTreeMap.{is_at}
 use Rattle.std.specs.Cmp.{nat_cmp_is}
 use Rattle.std.specs.List.{list_all}
 use Rattle.std.specs.Ordering.{nat_cmp, is_eq}
-use Rattle.std.proofs.lemmas.Bool.{cases_Bool, cases_eq, eqb-true, ltb-true, ne_eqb, lt-ltb, le-ltb}
+use Rattle.std.proofs.lemmas.Bool.{cases_Bool, cases_eq, eqb-true, ltb-true, ne_eqb, lt-ltb}
 use Rattle.std.proofs.lemmas.List.{take_more, append-nil, take-append-drop}
 use Rattle.std.proofs.lemmas.List.Folds.{list_all-append}
 use Rattle.sdd_base.specs.Words.{or_else}
 use Rattle.sdd_base.specs.declared.number.TxnNo.{TxnNo}
 use Rattle.sdd_catalog.specs.Catalogue.{Catalogue}
 use Rattle.sdd_lang.specs.declared.transaction.Txn.{Txn}
-use Rattle.sdd_verify.specs.Orders.{is_in_turn, may_follow}
+use Rattle.sdd_verify.specs.Orders.{allows, is_in_turn, may_follow}
 use Rattle.sdd_verify.specs.Submitted.{class_of}
 
 both : (a b : Bool) → (a && b) ≡ true → (a ≡ true) × (b ≡ true)
@@ -32,11 +32,6 @@ and_true false = refl
 
 some_is : {A : Type 0} (x y : A) → Some x ≡ Some y → x ≡ y
 some_is x y e = cc
-
--- whether a number may stand behind the last one of its class
-abbrev pub allows : Option ℕ → ℕ → Bool
-allows None number = true
-allows (Some last) number = nat_lt last number
 
 -- whether a key is another number
 pub is_at_number : (k n : ℕ) → is_at (nat_cmp k) n ≡ (k == n)
@@ -179,25 +174,18 @@ module _ (cat : Catalogue) (txns : List Txn) where
       ap (is_in_turn cat txns) (take_more order i d lt) ∙ turn_more (take i order) n ∙ rw (so_far, one) refl
 
   -- one that may not stand there
-  pub stops : (order : List TxnNo) (i : ℕ) (d : TxnNo) (class before : ℕ) (kept : ℕ → Option ℕ) → i < length order → class ≡ Class (get_or order i d)
-      → is_in_turn cat txns (take i order) ≡ true → AreLast kept (take i order) → Some before ≡ kept class → (get_or order i d).0 ≤ before → is_in_turn cat txns order ≡ false
-  stops order i d class before kept lt is so_far last there least =
+  pub stops : (order : List TxnNo) (i : ℕ) (d : TxnNo) (class : ℕ) (kept : ℕ → Option ℕ) → i < length order → class ≡ Class (get_or order i d)
+      → is_in_turn cat txns (take i order) ≡ true → AreLast kept (take i order) → allows (kept class) (get_or order i d).0 ≡ false → is_in_turn cat txns order ≡ false
+  stops order i d class kept lt is so_far last refused =
       let n : TxnNo = get_or order i d in
-      let here : kept (Class n) ≡ Some before = ap kept (sym is) ∙ sym there in
-      let not_less : nat_lt before n.0 ≡ false = le-ltb before n.0 least in
-      let turn : is_in_turn cat txns (take (i + 1) order) ≡ false = turn_at order i d kept lt so_far last ∙ ap (λ (o : Option ℕ). allows o n.0) here ∙ not_less in
+      let turn : is_in_turn cat txns (take (i + 1) order) ≡ false = turn_at order i d kept lt so_far last ∙ ap (λ (c : ℕ). allows (kept c) n.0) (sym is) ∙ refused in
       subst (λ (l : List TxnNo). is_in_turn cat txns l ≡ false) (take-append-drop (i + 1) order) (never_in_turn (take (i + 1) order) (drop (i + 1) order) turn)
 
-  -- one that may stand there: behind none of its class, or behind the last of it
-  pub goes_behind_none : (order : List TxnNo) (i : ℕ) (d : TxnNo) (class : ℕ) (kept : ℕ → Option ℕ) → i < length order → class ≡ Class (get_or order i d)
-      → is_in_turn cat txns (take i order) ≡ true → AreLast kept (take i order) → None ≡ kept class → is_in_turn cat txns (take (i + 1) order) ≡ true
-  goes_behind_none order i d class kept lt is so_far last there =
-      turn_at order i d kept lt so_far last ∙ ap (λ (o : Option ℕ). allows o (get_or order i d).0) (ap kept (sym is) ∙ sym there)
-
-  pub goes_behind : (order : List TxnNo) (i : ℕ) (d : TxnNo) (class before : ℕ) (kept : ℕ → Option ℕ) → i < length order → class ≡ Class (get_or order i d)
-      → is_in_turn cat txns (take i order) ≡ true → AreLast kept (take i order) → Some before ≡ kept class → before < (get_or order i d).0 → is_in_turn cat txns (take (i + 1) order) ≡ true
-  goes_behind order i d class before kept lt is so_far last there less =
-      turn_at order i d kept lt so_far last ∙ ap (λ (o : Option ℕ). allows o (get_or order i d).0) (ap kept (sym is) ∙ sym there) ∙ lt-ltb before (get_or order i d).0 less
+  -- one that may stand there
+  pub goes_on : (order : List TxnNo) (i : ℕ) (d : TxnNo) (class : ℕ) (kept : ℕ → Option ℕ) → i < length order → class ≡ Class (get_or order i d)
+      → is_in_turn cat txns (take i order) ≡ true → AreLast kept (take i order) → allows (kept class) (get_or order i d).0 ≡ true → is_in_turn cat txns (take (i + 1) order) ≡ true
+  goes_on order i d class kept lt is so_far last allowed =
+      turn_at order i d kept lt so_far last ∙ ap (λ (c : ℕ). allows (kept c) (get_or order i d).0) (sym is) ∙ allowed
 
   last_now : (class c : ℕ) (n : TxnNo) (b : Bool) (rest : Option ℕ) → (class == c) ≡ b → class ≡ Class n
       → cond b (Some n.0) rest ≡ or_else (cond (Class n == c) (Some n.0) None) rest

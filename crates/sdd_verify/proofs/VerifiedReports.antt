@@ -1,9 +1,9 @@
 -- A report is judged to be sound exactly where it is verified.
-use Rattle.std.proofs.Common.{◌≡◌, ◌≢◌, ℕ, ◌+◌, ◌-◌, ◌<◌, ◌≤◌, List, [], ◌∷◌, ◌++◌, length, map, slice_get, Bool, true, false, cond, Option, Some, None, Result, Ok, Err, refl, sym, ap, ◌∙◌, subst, arith, append_assoc, rules}
+use Rattle.std.proofs.Common.{◌≡◌, ◌≢◌, ℕ, ◌+◌, ◌-◌, ◌≤◌, List, [], ◌∷◌, ◌++◌, length, map, Bool, true, false, cond, Result, Ok, Err, refl, sym, ap, ◌∙◌, subst, arith, append_assoc, rules}
 use Rattle.std.specs.Prelude.{codes, nat_le, not, ◌&&◌}
-use Rattle.std.specs.List.{All, flat_map, list_all}
-use Rattle.std.proofs.lemmas.Bool.{leb-true, le-leb, ne_eqb}
-use Rattle.std.proofs.lemmas.List.Elements.{All-cons, All-head, All-nil, All-tail}
+use Rattle.std.specs.List.{All, list_all}
+use Rattle.std.proofs.lemmas.Bool.{leb-true, le-leb}
+use Rattle.std.proofs.lemmas.List.Elements.{All-head, All-tail}
 use Rattle.std.proofs.lemmas.List.Folds.{flat_map-map}
 use Rattle.sdd_base.proofs.ReadingLaws.{bind_ok, must_ok, ok_is}
 use Rattle.sdd_base.specs.Name.{IsName, begins_with_letter, is_keyword, is_name_byte}
@@ -13,25 +13,24 @@ use Rattle.sdd_base.specs.declared.number.TxnNo.{TxnNo}
 use Rattle.sdd_catalog.specs.Catalogue.{Catalogue}
 use Rattle.sdd_lang.specs.declared.transaction.Txn.{Txn}
 use Rattle.sdd_report.specs.Committed.{order_line}
-use Rattle.sdd_report.specs.Names.{spaced, txn_name}
 use Rattle.sdd_script.specs.Valid.{IsValid, IsValidTxn}
 use Rattle.sdd_script.specs.declared.workload.Workload.{Workload}
 use Rattle.sdd_script.proofs.WordLooks.{no_newline-append}
 use Rattle.sdd_words.specs.Lines.{AreLines, HasNoNewline, cut_lines, spelled_lines}
 use Rattle.sdd_words.specs.Words.{HasNoSpace}
 use Rattle.sdd_words.proofs.Spelled.{cut_takes}
-use Rattle.sdd_verify.specs.Lines.{Numbered, begun, ends_replies, is_order_line, lines_of, order_line_in, passed, tells_reply}
+use Rattle.sdd_verify.specs.Lines.{Numbered, begun, ends_replies, lines_of, order_line_in, passed, tells_reply}
 use Rattle.sdd_verify.specs.Orders.{is_in_turn, names_on, order_told}
-use Rattle.sdd_verify.specs.Replies.{replies, serial_replies}
+use Rattle.sdd_verify.specs.Replies.{serial_replies}
 use Rattle.sdd_verify.specs.Submitted.{named, submitted, texts_of}
 use Rattle.sdd_verify.specs.Verdict.{judged, verdict, verdict_of}
 use Rattle.sdd_verify.specs.Verified.{IsInTurn, IsVerified}
 use Rattle.sdd_verify.specs.declared.limits.TheConstants.{MAX_REPORT_BYTES}
-use Rattle.sdd_verify.specs.declared.verdict.Verdict.TheVariants.{Yes, No}
+use Rattle.sdd_verify.specs.declared.verdict.Verdict.TheVariants.{Yes}
 use Rattle.sdd_verify.proofs.DifferentNames.{submitted_differ}
 use Rattle.sdd_verify.proofs.InTurn.{in_turn, in_turn_again}
 use Rattle.sdd_verify.proofs.LineCuts.{IsWhole, cut_are_lines, line_behind, lines_behind, whole_behind, whole_is}
-use Rattle.sdd_verify.proofs.LinesFound.{FirstOrder, Follows, IsOther, first_order, follows, front_lines, order_again, passed_again, passed_is, rest_lines, spelled_apart}
+use Rattle.sdd_verify.proofs.LinesFound.{IsOther, first_order, follows, front_lines, order_again, passed_again, passed_is, rest_lines, spelled_apart}
 use Rattle.sdd_verify.proofs.NamesTold.{IsThere, all_told, member_at, name_in, told_again}
 use Rattle.sdd_verify.proofs.OrderWords.{HaveNoSpace, behind_spaces, is_order_line_again, names_again, order_line_is}
 use Rattle.sdd_verify.proofs.RepliesPassed.{replies_whole}

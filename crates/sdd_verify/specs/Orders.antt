@@ -1,5 +1,5 @@
 -- Orders of submitted transactions.
-use Rattle.std.specs.Prelude.{ℕ, nat_lt, ◌==◌, ◌&&◌, ◌||◌, not, Bool, true, List, [], ◌∷◌, Result, Ok}
+use Rattle.std.specs.Prelude.{ℕ, nat_lt, ◌==◌, ◌&&◌, ◌||◌, not, Bool, true, List, [], ◌∷◌, Option, Some, None, Result, Ok}
 use Rattle.std.specs.List.{list_all, slice_split}
 use Rattle.sdd_base.specs.Readings.{◌>>=◌, along, known, must}
 use Rattle.sdd_base.specs.Words.{tail_of}
@@ -18,6 +18,11 @@ may_follow cat txns first later =
 abbrev pub is_in_turn : Catalogue → List Txn → List TxnNo → Bool
 is_in_turn cat txns [] = true
 is_in_turn cat txns (first ∷ order) = list_all (may_follow cat txns first) order && is_in_turn cat txns order
+
+-- whether a number may stand behind the last one of its class
+abbrev pub allows : Option ℕ → ℕ → Bool
+allows None number = true
+allows (Some last) number = nat_lt last number
 
 -- the words of a line, cut at each space
 abbrev pub words_of : List ℕ → List (List ℕ)

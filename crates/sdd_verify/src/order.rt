@@ -1,9 +1,10 @@
 //! The order that an order line tells.
 ghost use Rattle.std.specs.Prelude.{◌≡◌, map, All, IfOk};
+ghost use Rattle.std.specs.Option.{option_copied};
 ghost use Rattle.sdd_base.specs.Readings.{Gives, along, known};
 ghost use Rattle.sdd_lang.specs.Fits.{Fits};
 ghost use Rattle.sdd_verify.specs.Flaws.{line_in};
-ghost use Rattle.sdd_verify.specs.Orders.{is_in_turn, names_on, order_told, words_of};
+ghost use Rattle.sdd_verify.specs.Orders.{allows, is_in_turn, names_on, order_told, words_of};
 ghost use Rattle.sdd_verify.specs.Submitted.{class_of, named};
 
 use crate::flaw::{Flaw, known, must};
@@ -80,6 +81,16 @@ fn class_of(
     }
 }
 
+/// Whether a transaction may stand behind the last one of its class.
+fn may_stand_behind(last: Option<&u32>, number: TxnNo) -> bool
+    ensures { result ≡ allows (option_copied last.entry) number.0 }
+{
+    match last {
+        Some(last) => *last < number.0,
+        None => true,
+    }
+}
+
 /// Whether each transaction of an order may stand behind those before it: none stands twice, and those of
 /// one class stand by submission. Costs, for each, what `class_for` costs and a logarithmic step.
 fn is_in_turn(
@@ -94,9 +105,8 @@ fn is_in_turn(
     let mut last: BTreeMap<u32, u32> = BTreeMap::new(alloc);
     'order: for number in order {
         let class = class_of(alloc, catalogue, submitted, *number)?;
-        match last.get(&class.0) {
-            Some(before) if number.0 <= *before => return Ok(false),
-            _ => {}
+        if !may_stand_behind(last.get(&class.0), *number) {
+            return Ok(false);
         }
         last.insert(class.0, number.0)?;
     }
