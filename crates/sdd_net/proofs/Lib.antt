@@ -2,6 +2,7 @@ pub mod Calls
 pub mod Deliveries
 pub mod Directions
 pub mod InOrder
+pub mod Joined
 pub mod Lists
 pub mod Matching
 pub mod Places

@@ -3,9 +3,9 @@ ghost use Rattle.sdd_base.specs.Words.{is_empty};
 ghost use Rattle.sdd_net.specs.Links.{without_at};
 
 use crate::packet::Packet;
+use crate::pieces::Pieces;
 use sdd_base::{NoMemory, Parcel};
 use std::alloc::Global;
-use std::collections::VecDeque;
 use std::marker::Model;
 
 /// The packets that are in flight in one direction of a link, in the order of their sending.
@@ -13,7 +13,7 @@ use std::marker::Model;
 /// A place in it counts from 1. Contracts see whether it is live, and the list of its packets.
 #[derive(Drop, Debug)]
 pub struct Flight<M> {
-    packets: VecDeque<Packet<M>>,
+    packets: Pieces<Packet<M>>,
     live: bool,
 }
 
@@ -24,7 +24,7 @@ impl<M> Model for Flight<M> {
 
     ghost Value = { Kept (List (Packet M)) };
 
-    ghost view = { λ f. record { live = f.live; value = f.packets.items } };
+    ghost view = { λ f. record { live = f.live; value = f.packets } };
 }
 
 impl<M: Parcel> Flight<M> {
@@ -33,7 +33,7 @@ impl<M: Parcel> Flight<M> {
         ensures { result ≡ record { live = true; value = [] } }
     {
         Flight {
-            packets: VecDeque::new(alloc),
+            packets: Pieces::new(alloc),
             live: true,
         }
     }
@@ -67,14 +67,15 @@ impl<M: Parcel> Flight<M> {
         ensures err { OnErr result (self.new.live ≡ false) }
     {
         self.live = false;
-        self.packets.push_back(packet)?;
+        self.packets.push(packet)?;
         self.live = true;
         Ok(())
     }
 
     /// Takes the packet at a place away, or gives None exactly where the place is past the end.
     ///
-    /// Takes no memory. Place k of n packets costs O(min(k, n - k)).
+    /// Takes no memory. Place k costs a step for each 512 packets or so before it, and at most 512
+    /// more.
     pub fn take(&mut self, place: u32) -> Option<Packet<M>>
         requires live { IsTrue self.old.live }
         requires place { 1 ≤ place }
@@ -89,7 +90,7 @@ impl<M: Parcel> Flight<M> {
     /// Puts a copy of the packet at a place at the end. The answer is false exactly where the place
     /// is past the end, and then nothing changes.
     ///
-    /// Costs what the copy costs.
+    /// Costs what the copy costs, and a step for each 512 packets or so before the place.
     pub fn repeat(&mut self, place: u32) -> Result<bool, NoMemory>
         requires live { IsTrue self.old.live }
         requires place { 1 ≤ place }
@@ -104,7 +105,7 @@ impl<M: Parcel> Flight<M> {
         let there = match self.packets.get((place - 1) as usize) {
             Some(packet) => {
                 let copy = packet.copy()?;
-                self.packets.push_back(copy)?;
+                self.packets.push(copy)?;
                 true
             }
             None => false,

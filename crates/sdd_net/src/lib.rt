@@ -9,6 +9,7 @@ mod flight;
 mod law;
 mod net;
 mod packet;
+mod pieces;
 mod receiver;
 mod sender;
 mod sites;

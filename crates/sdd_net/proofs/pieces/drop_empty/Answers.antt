@@ -1,0 +1,11 @@
+use Rattle.std.proofs.Common.{◌≡◌, ◌∙◌, ap, length, rules}
+use Rattle.std.specs.List.{flat_map}
+use Rattle.sdd_net.proofs.Joined.{without_empty, none_held}
+use Rattle.sdd_net.proofs.pieces.drop_empty.Goals as goal
+
+pub returns-then-is_empty : goal.returns-then-is_empty
+returns-then-is_empty g c =
+    let piece = c.index.result.now in
+    let none : length piece.items ≡ 0 = search rules in
+    ap (flat_map (λ q. q.items)) c.remove.ensures.items
+    ∙ without_empty _ c.args.pieces.now.items c.args.at piece c.requires c.index.ensures (none_held piece.items none)

@@ -1,0 +1,6 @@
+use Rattle.std.proofs.Common.{◌≡◌, ◌+◌, length, take}
+use Rattle.std.specs.List.{flat_map}
+use Rattle.sdd_net.proofs.pieces.find.Given as goal
+
+abbrev pub invariant-loop-at : goal.invariant-loop-at
+invariant-loop-at g l = l.rest + length (flat_map (λ q. q.items) (take l.at l.pieces)) ≡ l.place

@@ -1,0 +1,182 @@
+ghost use Rattle.std.specs.Prelude.{◌≡◌, ◌+◌, ◌<◌, ◌≤◌, [], ◌∷◌, ◌++◌, length, take, slice_get, None, Some, IfOk, IfSome, IfNone, IsSome, OnOk, OnErr, OnSome};
+ghost use Rattle.std.specs.List.{flat_map};
+ghost use Rattle.sdd_base.specs.Words.{is_empty};
+ghost use Rattle.sdd_net.specs.Links.{without_at};
+
+use sdd_base::NoMemory;
+use std::alloc::Global;
+use std::collections::VecDeque;
+use std::marker::Model;
+
+/// How many items a piece takes.
+const PIECE_LEN: usize = 512;
+
+/// A list that is kept in pieces of at most `PIECE_LEN` items, which contracts see as the list.
+///
+/// A piece that is empty goes. An item is found by the lengths of the pieces before its own, and
+/// taken out within its piece, so that a long list isn't moved.
+#[derive(Drop, Debug)]
+pub struct Pieces<T> {
+    pieces: Vec<VecDeque<T>>,
+    len: usize,
+}
+
+impl<T> Model for Pieces<T> {
+    ghost use Rattle.std.specs.Prelude.{◌≡◌, List, length};
+    ghost use Rattle.std.specs.List.{flat_map};
+
+    ghost Value = { List T };
+
+    ghost view = { λ p. flat_map (λ q. q.items) p.pieces.items };
+
+    ghost invariant = { λ p. p.len ≡ length (flat_map (λ q. q.items) p.pieces.items) };
+}
+
+impl<T: Drop> Pieces<T> {
+    /// The empty list.
+    pub fn new(alloc: Global) -> Self
+        ensures { result ≡ [] }
+    {
+        Pieces {
+            pieces: Vec::new(alloc),
+            len: 0,
+        }
+    }
+
+    /// How many items there are. Takes constant time.
+    pub fn len(&self) -> usize
+        ensures { result ≡ length self.now }
+    {
+        self.len
+    }
+
+    /// Whether there is no item. Takes constant time.
+    pub fn is_empty(&self) -> bool
+        ensures { result ≡ is_empty self.now }
+    {
+        self.len == 0
+    }
+
+    /// Puts an item at the end, in constant time but for growth.
+    ///
+    /// Where no memory is there the list stays as it is.
+    pub fn push(&mut self, item: T) -> Result<(), NoMemory>
+        ensures ok { OnOk result (self.new ≡ self.old ++ item ∷ []) }
+    {
+        let Some(len) = self.len.checked_add(1) else {
+            return Err(NoMemory);
+        };
+        let at = open_piece(&mut self.pieces)?;
+        push_at(&mut self.pieces, at, item)?;
+        self.len = len;
+        Ok(())
+    }
+
+    /// The item at a place, counted from 0.
+    ///
+    /// Costs a step for each piece before the item's.
+    pub fn get(&self, place: usize) -> Option<&T>
+        ensures some { IfSome result (λ item. slice_get self.now place ≡ Some item.now) }
+        ensures none { IfNone result (length self.now ≤ place) }
+    {
+        let Some((at, within)) = find(self.pieces.as_slice(), place) else {
+            return None;
+        };
+        self.pieces[at].get(within)
+    }
+
+    /// Takes the item at a place out, counted from 0, or gives None exactly where the place is past
+    /// the end.
+    ///
+    /// Takes no memory. Costs a step for each piece before the item's, and at most `PIECE_LEN` more.
+    pub fn remove(&mut self, place: usize) -> Option<T>
+        ensures item { result ≡ slice_get self.old place }
+        ensures some { OnSome result (self.new ≡ without_at self.old place) }
+        ensures none { result ≡ None → self.new ≡ self.old }
+    {
+        let Some((at, within)) = find(self.pieces.as_slice(), place) else {
+            return None;
+        };
+        let item = take_at(&mut self.pieces, at, within);
+        drop_empty(&mut self.pieces, at);
+        self.len -= 1;
+        item
+    }
+}
+
+/// The piece with the item at a place, and the item's place in it.
+fn find<T>(pieces: &[VecDeque<T>], place: usize) -> Option<(usize, usize)>
+    ensures piece { IfSome result (λ found. found.0 < length pieces.now) }
+    ensures place { IfSome result (λ found.
+        place ≡ length (flat_map (λ q. q.items) (take found.0 pieces.now)) + found.1) }
+    ensures within { IfSome result (λ found.
+        place < length (flat_map (λ q. q.items) (take (found.0 + 1) pieces.now))) }
+    ensures none { IfNone result (length (flat_map (λ q. q.items) pieces.now) ≤ place) }
+{
+    let mut rest = place;
+    for at in 0..pieces.len() {
+        let held = pieces[at].len();
+        if rest < held {
+            return Some((at, rest));
+        }
+        rest -= held;
+    }
+    None
+}
+
+/// The last piece, or a new one behind it where that is full.
+fn open_piece<T: Drop>(pieces: &mut Vec<VecDeque<T>>) -> Result<usize, NoMemory>
+    ensures last { IfOk result (λ at. length pieces.new.items ≡ at + 1) }
+    ensures same { flat_map (λ q. q.items) pieces.new.items ≡ flat_map (λ q. q.items) pieces.old.items }
+{
+    let count = pieces.len();
+    if count > 0 && pieces[count - 1].len() < PIECE_LEN {
+        return Ok(count - 1);
+    }
+    let piece = VecDeque::new(*pieces.allocator());
+    pieces.push(piece)?;
+    Ok(count)
+}
+
+/// Puts an item at the end of the last piece.
+fn push_at<T: Drop>(pieces: &mut Vec<VecDeque<T>>, at: usize, item: T) -> Result<(), NoMemory>
+    requires last { length pieces.old.items ≡ at + 1 }
+    ensures ok { OnOk result (
+        flat_map (λ q. q.items) pieces.new.items
+        ≡ flat_map (λ q. q.items) pieces.old.items ++ item ∷ []) }
+    ensures err { OnErr result (
+        flat_map (λ q. q.items) pieces.new.items ≡ flat_map (λ q. q.items) pieces.old.items) }
+{
+    let piece = &mut pieces[at];
+    piece.push_back(item)?;
+    Ok(())
+}
+
+/// Takes the item at a place of a piece out.
+fn take_at<T: Drop>(pieces: &mut Vec<VecDeque<T>>, at: usize, within: usize) -> Option<T>
+    requires piece { at < length pieces.old.items }
+    requires within { length (flat_map (λ q. q.items) (take at pieces.old.items)) + within
+        < length (flat_map (λ q. q.items) (take (at + 1) pieces.old.items)) }
+    ensures item { IfSome result (λ item.
+        slice_get (flat_map (λ q. q.items) pieces.old.items)
+        (length (flat_map (λ q. q.items) (take at pieces.old.items)) + within)
+        ≡ Some item) }
+    ensures some { IsSome result }
+    ensures left { flat_map (λ q. q.items) pieces.new.items
+        ≡ without_at (flat_map (λ q. q.items) pieces.old.items)
+        (length (flat_map (λ q. q.items) (take at pieces.old.items)) + within) }
+    ensures count { length pieces.new.items ≡ length pieces.old.items }
+{
+    let piece = &mut pieces[at];
+    piece.remove(within)
+}
+
+/// Drops a piece that is empty.
+fn drop_empty<T: Drop>(pieces: &mut Vec<VecDeque<T>>, at: usize)
+    requires { at < length pieces.old.items }
+    ensures { flat_map (λ q. q.items) pieces.new.items ≡ flat_map (λ q. q.items) pieces.old.items }
+{
+    if pieces[at].is_empty() {
+        pieces.remove(at);
+    }
+}
