@@ -19,7 +19,7 @@ use Rattle.sdd_script.proofs.WordLooks.{no_newline-append}
 use Rattle.sdd_words.specs.Lines.{AreLines, HasNoNewline, cut_lines, spelled_lines}
 use Rattle.sdd_words.specs.Words.{HasNoSpace}
 use Rattle.sdd_words.proofs.Spelled.{cut_takes}
-use Rattle.sdd_verify.specs.Lines.{Numbered, begun, ends_replies, lines_of, order_line_in, passed, tells_reply}
+use Rattle.sdd_verify.specs.Lines.{Numbered, begun, ends_replies, is_order_line, lines_of, order_line_in, passed, tells_reply}
 use Rattle.sdd_verify.specs.Orders.{is_in_turn, names_on, order_told}
 use Rattle.sdd_verify.specs.Replies.{serial_replies}
 use Rattle.sdd_verify.specs.Submitted.{named, submitted, texts_of}
@@ -98,6 +98,11 @@ begun_by report whole false e h = absurd cc
 begun_is : (report : List ℕ) (whole : Numbered) → begun report ≡ Ok whole → (length report ≤ MAX_REPORT_BYTES) × (whole ≡ (1, lines_of report))
 begun_is report whole h = begun_by report whole (nat_le (length report) MAX_REPORT_BYTES) refl h
 
+-- the lines of a report, part by part
+lines_parted : (lines all before : List (List ℕ)) (line words : List ℕ) (behind answers rest : List (List ℕ)) (next : List ℕ) (more : List (List ℕ))
+    → lines ≡ all → lines ≡ before ++ line ∷ behind → line ≡ words → behind ≡ answers ++ rest → rest ≡ next ∷ more → all ≡ before ++ words ∷ (answers ++ next ∷ more)
+lines_parted lines all before line words behind answers rest next more a b c d e = rw (← a, b, c, d, e) refl
+
 -- what each rule that is kept tells
 record Sound (cat : Catalogue) (work : Workload) (report : List ℕ) : Type 0 where
   small : length report ≤ MAX_REPORT_BYTES
@@ -124,16 +129,17 @@ module _ (cat : Catalogue) (work : Workload) (report : List ℕ) where
   abbrev After1 : Numbered → Result (Unit {0}) ℕ
   After1 whole = order_line_in whole.0 whole.1 >>= After2
 
-  told_by : (number : ℕ) (line : List ℕ) (order : List TxnNo) → order_told cat texts number line ≡ Ok order
-      → (names_on line ≡ map (name_in texts) order) × All (IsThere texts) order × (is_in_turn cat texts order ≡ true)
-  told_by number line order h =
+  told_by : (number : ℕ) (line : List ℕ) (order : List TxnNo) → is_order_line line ≡ true → order_told cat texts number line ≡ Ok order
+      → (line ≡ words_in texts order) × All (IsThere texts) order × (is_in_turn cat texts order ≡ true)
+  told_by number line order is h =
       let a = bind_ok (along (λ _ name. known number (named texts name)) 0 (names_on line)) (λ found. must number (is_in_turn cat texts found) >>= λ _. Ok found) order h in
       let b = bind_ok (must number (is_in_turn cat texts a.0)) (λ _. Ok a.0) order a.2 in
       let same : a.0 ≡ order = ok_is {F = ℕ} a.0 order b.2 in
       let told = all_told number texts 0 (names_on line) a.0 a.1 in
       let turn = must_ok number (is_in_turn cat texts a.0) b.0 b.1 in
-      let P : List TxnNo → Type 0 = λ o. (names_on line ≡ map (name_in texts) o) × All (IsThere texts) o × (is_in_turn cat texts o ≡ true) in
-      subst P same (told.0, told.1, turn)
+      let words : line ≡ words_in texts a.0 = order_line_is line is ∙ ap (λ (l : List (List ℕ)). codes "order" ++ behind_spaces l) told.0 in
+      let P : List TxnNo → Type 0 = λ o. (line ≡ words_in texts o) × All (IsThere texts) o × (is_in_turn cat texts o ≡ true) in
+      subst P same (words, told.1, turn)
 
   sound : (u : Unit {0}) → judged cat work report ≡ Ok u → Sound cat work report
   sound u h =
@@ -143,11 +149,8 @@ module _ (cat : Catalogue) (work : Workload) (report : List ℕ) where
       let c = bind_ok (order_told cat texts b.0.0 b.0.1) (λ order. After3 order b.0.2.0 b.0.2.1) u b.2 in
       let d = bind_ok (passed b.0.2.0 (lines_of (serial_replies cat work c.0)) b.0.2.1) (λ rest. must rest.0 (ends_replies rest.1)) u c.2 in
       let first = first_order a.0.0 a.0.1 b.0 b.1 in
-      let told = told_by b.0.0 b.0.1 c.0 c.1 in
+      let told = told_by b.0.0 b.0.1 c.0 first.is c.1 in
       let next = follows d.0.1 (must_ok d.0.0 (ends_replies d.0.1) u d.2) in
-      let line : b.0.1 ≡ words_in texts c.0 = order_line_is b.0.1 first.is ∙ ap (λ (l : List (List ℕ)). codes "order" ++ behind_spaces l) told.0 in
-      let behind : b.0.2.1 ≡ lines_of (serial_replies cat work c.0) ++ next.next ∷ next.more =
-      passed_is b.0.2.0 (lines_of (serial_replies cat work c.0)) b.0.2.1 d.0 d.1 ∙ ap (λ (l : List (List ℕ)). lines_of (serial_replies cat work c.0) ++ l) next.whole in
       record {
         small = whole.0;
         order = c.0;
@@ -158,7 +161,8 @@ module _ (cat : Catalogue) (work : Workload) (report : List ℕ) where
         next = next.next;
         other = next.other;
         more = next.more;
-        lines_are = sym (ap (λ (w : Numbered). w.1) whole.1) ∙ first.whole ∙ ap (λ (l : List ℕ). first.before ++ l ∷ b.0.2.1) line ∙ ap (λ (l : List (List ℕ)). first.before ++ words_in texts c.0 ∷ l) behind;
+        lines_are = lines_parted a.0.1 (lines_of report) first.before b.0.1 (words_in texts c.0) b.0.2.1 (lines_of (serial_replies cat work c.0)) d.0.1 next.next next.more
+            (ap (λ (w : Numbered). w.1) whole.1) first.whole told.0 (passed_is b.0.2.0 (lines_of (serial_replies cat work c.0)) b.0.2.1 d.0 d.1) next.whole;
       }
 
   -- and so the report is verified
