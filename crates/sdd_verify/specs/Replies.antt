@@ -1,20 +1,18 @@
 -- The replies of transactions that run one after the other on one plain database.
-use Rattle.std.specs.Prelude.{ℕ, List, [], ◌∷◌, ◌++◌}
+use Rattle.std.specs.Prelude.{ℕ, List, map}
 use Rattle.sdd_base.specs.declared.number.TxnNo.{TxnNo}
 use Rattle.sdd_base.specs.declared.reply.Reply.{Reply}
 use Rattle.sdd_catalog.specs.Catalogue.{Catalogue}
 use Rattle.sdd_lang.specs.Database.{Database, database_of}
 use Rattle.sdd_lang.specs.Serial.{serial}
 use Rattle.sdd_lang.specs.declared.transaction.Txn.{Txn}
-use Rattle.sdd_report.specs.Replies.{reply_lines}
+use Rattle.sdd_report.specs.Replies.{replies_along}
 use Rattle.sdd_script.specs.declared.workload.Workload.{Workload}
 use Rattle.sdd_verify.specs.Submitted.{submitted, texts_of}
 
 -- the lines of replies, each behind the name of its transaction
 abbrev pub replies : List Txn → List Reply → List ℕ
-replies [] answers = []
-replies (txn ∷ txns) [] = []
-replies (txn ∷ txns) (reply ∷ answers) = reply_lines txn.name reply ++ replies txns answers
+replies txns answers = replies_along (map (λ (t : Txn). t.name) txns) answers
 
 -- the lines of the replies of transactions that run on a database
 abbrev pub replies_on : Catalogue → Database → List Txn → List ℕ

@@ -1,0 +1,103 @@
+-- An order of a workload's transactions, by their places in the order of submission.
+use Rattle.std.proofs.Common.{◌≡◌, ◌≢◌, ℕ, zero, suc, ◌<◌, ◌≤◌, List, [], ◌∷◌, ◌++◌, length, map, Option, Some, None, refl, sym, ap, ◌∙◌, subst, arith}
+use Rattle.std.specs.Prelude.{codes}
+use Rattle.std.specs.List.{All}
+use Rattle.std.specs.Option.{option_map_or}
+use Rattle.std.proofs.lemmas.List.Elements.{All-cons, All-head, All-nil, All-tail}
+use Rattle.std.proofs.lemmas.List.Folds.{flat_map-map}
+use Rattle.sdd_base.specs.Numbers.{txn_no}
+use Rattle.sdd_base.specs.declared.number.TxnNo.{TxnNo}
+use Rattle.sdd_catalog.specs.Catalogue.{Catalogue}
+use Rattle.sdd_lang.specs.Classes.{class_for}
+use Rattle.sdd_lang.specs.declared.transaction.Txn.{Txn}
+use Rattle.sdd_report.specs.Committed.{order_line}
+use Rattle.sdd_script.specs.Valid.{IsValid}
+use Rattle.sdd_script.specs.declared.workload.Workload.{Workload}
+use Rattle.sdd_log.specs.Permitted.{submits_in}
+use Rattle.sdd_verify.specs.Submitted.{class_of, submitted, texts_of, txn_of}
+use Rattle.sdd_verify.specs.Verified.{IsInTurn, at}
+use Rattle.sdd_verify.proofs.NamesTold.{IsThere, name_in}
+use Rattle.sdd_verify.proofs.OrderWords.{behind_spaces}
+use Rattle.sdd_verified.proofs.Numbered.{PlaceOf, number_in, place_of}
+
+module _ (cat : Catalogue) (work : Workload) (valid : IsValid cat work) where
+  abbrev pub IsSubmittedOne : TxnNo → Type 0
+  IsSubmittedOne n = 1 ≤ submits_in n.0 work.events
+
+  abbrev pub moved : TxnNo → TxnNo
+  moved n = txn_no (number_in work.events n.0)
+
+  place : (n : TxnNo) → IsSubmittedOne n → PlaceOf work.txns n.0 (submitted work) (number_in work.events n.0)
+  place n some = place_of cat work.txns n.0 work.events valid.events some
+
+  pub moved_there : (order : List TxnNo) → All IsSubmittedOne order → All (IsThere (submitted work)) (map moved order)
+  moved_there [] some = All-nil (IsThere (submitted work))
+  moved_there (n ∷ order) some =
+      let p = place n (All-head IsSubmittedOne n order some) in
+      All-cons (IsThere (submitted work)) (moved n) (map moved order) (p.from, p.within) (moved_there order (All-tail IsSubmittedOne n order some))
+
+  same_text : (n : TxnNo) → IsSubmittedOne n → txn_of (submitted work) (moved n) ≡ txn_of work.txns n
+  same_text n some = (place n some).is
+
+  texts_by : (n : TxnNo) (order others : List TxnNo) (o : Option Txn) → txn_of work.txns n ≡ o → txn_of (submitted work) (moved n) ≡ o
+      → texts_of (submitted work) others ≡ texts_of work.txns order → texts_of (submitted work) (moved n ∷ others) ≡ texts_of work.txns (n ∷ order)
+  texts_by n order others None a b e = rw (a, b) e
+  texts_by n order others (Some t) a b e = rw (a, b) (ap (λ (l : List Txn). t ∷ l) e)
+
+  pub moved_texts : (order : List TxnNo) → All IsSubmittedOne order → texts_of (submitted work) (map moved order) ≡ texts_of work.txns order
+  moved_texts [] some = refl
+  moved_texts (n ∷ order) some =
+      texts_by n order (map moved order) (txn_of work.txns n) refl (same_text n (All-head IsSubmittedOne n order some)) (moved_texts order (All-tail IsSubmittedOne n order some))
+
+  moved_names : (order : List TxnNo) → All IsSubmittedOne order → map (name_in (submitted work)) (map moved order) ≡ map (name_in work.txns) order
+  moved_names [] some = refl
+  moved_names (n ∷ order) some =
+      let here : name_in (submitted work) (moved n) ≡ name_in work.txns n = ap (λ (o : Option Txn). option_map_or (λ (t : Txn). t.name) o []) (same_text n (All-head IsSubmittedOne n order some)) in
+      let more = moved_names order (All-tail IsSubmittedOne n order some) in
+      rw (here, more) refl
+
+  by_names : (txns : List Txn) (order : List TxnNo) → order_line txns order ≡ codes "order" ++ (behind_spaces (map (name_in txns) order) ++ 10 ∷ [])
+  by_names txns order = simp flat_map-map
+
+  pub moved_line : (order : List TxnNo) → All IsSubmittedOne order → order_line (submitted work) (map moved order) ≡ order_line work.txns order
+  moved_line order some =
+      by_names (submitted work) (map moved order) ∙ ap (λ (l : List (List ℕ)). codes "order" ++ (behind_spaces l ++ 10 ∷ [])) (moved_names order some) ∙ sym (by_names work.txns order)
+
+  pub moved_class : (n : TxnNo) → IsSubmittedOne n → class_of cat (submitted work) (moved n) ≡ class_of cat work.txns n
+  moved_class n some = ap (λ (o : Option Txn). option_map_or (class_for cat) o 0) (same_text n some)
+
+  -- members by their places
+
+  moved_at : (order : List TxnNo) (i : ℕ) → i < length order → at (map moved order) i ≡ moved (at order i)
+  moved_at [] i lt = absurd (omega arith)
+  moved_at (n ∷ order) zero lt = refl
+  moved_at (n ∷ order) (suc i) lt = moved_at order i (omega arith)
+
+  member_has : (order : List TxnNo) (i : ℕ) → i < length order → All IsSubmittedOne order → IsSubmittedOne (at order i)
+  member_has [] i lt some = absurd (omega arith)
+  member_has (n ∷ order) zero lt some = All-head IsSubmittedOne n order some
+  member_has (n ∷ order) (suc i) lt some = member_has order i (omega arith) (All-tail IsSubmittedOne n order some)
+
+  moved_length : (order : List TxnNo) → length (map moved order) ≡ length order
+  moved_length [] = refl
+  moved_length (n ∷ order) = let more = moved_length order in omega (arith, more)
+
+  -- of two in the order the one behind is another one, and of one class the one that is submitted later
+  abbrev pub StandInTurn : List TxnNo → Type 0
+  StandInTurn order = (i k : ℕ) → i < k → k < length order
+      → ((moved (at order i)).0 ≢ (moved (at order k)).0)
+      × (class_of cat work.txns (at order i) ≡ class_of cat work.txns (at order k) → (moved (at order i)).0 < (moved (at order k)).0)
+
+  pub moved_turn : (order : List TxnNo) → All IsSubmittedOne order → StandInTurn order → IsInTurn cat (submitted work) (map moved order)
+  moved_turn order some h i k less within =
+      let long = moved_length order in
+      let lt_k : k < length order = omega (arith, within, long) in
+      let lt_i : i < length order = omega (arith, less, lt_k) in
+      let at_i = moved_at order i lt_i in
+      let at_k = moved_at order k lt_k in
+      let turn = h i k less lt_k in
+      let class_i = moved_class (at order i) (member_has order i lt_i some) in
+      let class_k = moved_class (at order k) (member_has order k lt_k some) in
+      let P : TxnNo → TxnNo → Type 0 = λ a b. (a.0 ≢ b.0) × (class_of cat (submitted work) a ≡ class_of cat (submitted work) b → a.0 < b.0) in
+      let here : P (moved (at order i)) (moved (at order k)) = (turn.0, λ same. turn.1 (sym class_i ∙ same ∙ class_k)) in
+      subst (λ (a : TxnNo). P a (at (map moved order) k)) (sym at_i) (subst (λ (b : TxnNo). P (moved (at order i)) b) (sym at_k) here)

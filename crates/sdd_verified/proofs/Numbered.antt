@@ -1,0 +1,219 @@
+-- The submitted transactions of a schedule, by their places in the order of submission, counted from 1.
+use Rattle.std.proofs.Common.{◌≡◌, ℕ, zero, suc, ◌+◌, ◌-◌, ◌<◌, ◌≤◌, ◌==◌, List, [], ◌∷◌, ◌++◌, length, slice_get, true, false, cond, Option, Some, None, refl, sym, ap, ◌∙◌, subst, arith, eq-eqb, inl, inr}
+use Rattle.std.specs.Prelude.{MatchOption}
+use Rattle.std.specs.List.{All, filter_map}
+use Rattle.std.proofs.lemmas.Bool.{cases_eq, ne_eqb}
+use Rattle.std.proofs.lemmas.List.Elements.{All-head, All-tail}
+use Rattle.sdd_base.specs.declared.event.Event.{Event}
+use Rattle.sdd_base.specs.declared.event.Event.TheVariants.{Submit, Deliver, Lose, Repeat, Resend, Tick, Settle, Redeclare, Down, Up}
+use Rattle.sdd_catalog.specs.Catalogue.{Catalogue}
+use Rattle.sdd_lang.specs.declared.transaction.Txn.{Txn}
+use Rattle.sdd_script.specs.Valid as scripts
+use Rattle.sdd_script.specs.Valid.{IsValidEvent}
+use Rattle.sdd_log.specs.Permitted.{one_if, submits_by, submits_in}
+use Rattle.sdd_verify.specs.Submitted.{submitted_by}
+use Rattle.sdd_verify.proofs.NamesTold.{member_at}
+
+-- the place of transaction n, by what an event submits and its place behind the event
+abbrev pub number_by : Option ℕ → ℕ → ℕ → ℕ
+number_by None n behind = behind
+number_by (Some k) n behind = cond (k == n) 1 (suc behind)
+
+abbrev pub number_in : List Event → ℕ → ℕ
+number_in [] n = 0
+number_in (e ∷ events) n = number_by (scripts.submitted_by e) n (number_in events n)
+
+-- what an event submits, as it is counted and as it is read
+abbrev counted_by : Option ℕ → ℕ → ℕ
+counted_by None n = 0
+counted_by (Some k) n = one_if (k == n)
+
+counted : (e : Event) (n : ℕ) → submits_by n e ≡ counted_by (scripts.submitted_by e) n
+counted (Submit k) n = refl
+counted (Deliver from to place) n = refl
+counted (Lose from to place) n = refl
+counted (Repeat from to place) n = refl
+counted (Resend from to) n = refl
+counted (Tick tm k) n = refl
+counted Settle n = refl
+counted Redeclare n = refl
+counted (Down dm) n = refl
+counted (Up dm) n = refl
+
+-- and its text
+record Reads (txns : List Txn) (k : ℕ) (text : Option Txn) : Type 0 where
+  is : text ≡ slice_get txns (k - 1)
+  txn : Txn
+  there : text ≡ Some txn
+
+abbrev Submits : List Txn → Option ℕ → Option Txn → Type 0
+Submits txns number text = MatchOption number (text ≡ None) (λ k. Reads txns k text)
+
+submits : (cat : Catalogue) (txns : List Txn) (e : Event) → IsValidEvent cat (length txns) e → Submits txns (scripts.submitted_by e) (submitted_by txns e)
+submits cat txns (Submit number) v =
+    let from = v.0 in
+    let within = v.1 in
+    let member = member_at txns (number.0 - 1) (omega (arith, from, within)) in
+    record { is = refl; txn = member.0; there = member.1 }
+submits cat txns (Deliver from to place) v = refl
+submits cat txns (Lose from to place) v = refl
+submits cat txns (Repeat from to place) v = refl
+submits cat txns (Resend from to) v = refl
+submits cat txns (Tick tm n) v = refl
+submits cat txns Settle v = refl
+submits cat txns Redeclare v = refl
+submits cat txns (Down dm) v = refl
+submits cat txns (Up dm) v = refl
+
+-- a transaction that is submitted has a place
+
+some_by : (number : Option ℕ) (n behind count : ℕ) → (1 ≤ count → 1 ≤ behind) → 1 ≤ counted_by number n + count → 1 ≤ number_by number n behind
+some_by None n behind count later h = later (omega (arith, h))
+some_by (Some k) n behind count later h = elim (k == n) as (λ b. 1 ≤ cond b 1 (suc behind)) [ true ↦ omega arith | false ↦ omega arith ]
+
+pub some_place : (events : List Event) (n : ℕ) → 1 ≤ submits_in n events → 1 ≤ number_in events n
+some_place [] n h = omega (arith, h)
+some_place (e ∷ events) n h =
+    let count = counted e n in
+    some_by (scripts.submitted_by e) n (number_in events n) (submits_in n events) (some_place events n) (omega (arith, h, count))
+
+-- and there its text is read
+
+pub record PlaceOf (txns : List Txn) (n : ℕ) (texts : List Txn) (number : ℕ) : Type 0 where
+  pub from : 1 ≤ number
+  pub within : number ≤ length texts
+  pub is : slice_get texts (number - 1) ≡ slice_get txns (n - 1)
+
+behind_one : (txns : List Txn) (n : ℕ) (t : Txn) (texts : List Txn) (number : ℕ) → PlaceOf txns n texts number → PlaceOf txns n (t ∷ texts) (suc number)
+behind_one txns n t texts zero p = let from = p.from in absurd (omega (arith, from))
+behind_one txns n t texts (suc number) p =
+    let within = p.within in
+    let here : suc (suc number) - 1 ≡ suc number = omega arith in
+    let before : suc number - 1 ≡ number = omega arith in
+    let same : slice_get (t ∷ texts) (suc (suc number) - 1) ≡ slice_get texts number = ap (slice_get (t ∷ texts)) here in
+    record { from = omega arith; within = omega (arith, within); is = same ∙ sym (ap (slice_get texts) before) ∙ p.is }
+
+place_by : (txns : List Txn) (n : ℕ) (e : Event) (events : List Event) (number : Option ℕ) (text : Option Txn) → scripts.submitted_by e ≡ number → submitted_by txns e ≡ text → Submits txns number text
+    → (1 ≤ submits_in n events → PlaceOf txns n (filter_map (submitted_by txns) events) (number_in events n))
+    → 1 ≤ counted_by number n + submits_in n events → PlaceOf txns n (filter_map (submitted_by txns) (e ∷ events)) (number_by number n (number_in events n))
+place_by txns n e events None None a b h later some = rw b (later (omega (arith, some)))
+place_by txns n e events None (Some t) a b h later some = absurd cc
+place_by txns n e events (Some k) None a b h later some = let there = h.there in absurd cc
+place_by txns n e events (Some k) (Some t) a b h later some =
+    let texts : List Txn = filter_map (submitted_by txns) events in
+    let P : List Txn → Type 0 = λ l. PlaceOf txns n l (cond (k == n) 1 (suc (number_in events n))) in
+    let all : filter_map (submitted_by txns) (e ∷ events) ≡ t ∷ texts = rw b refl in
+    subst P (sym all) (
+    elim (cases_eq k n) [
+      | inl same ↦
+          let here : (k == n) ≡ true = eq-eqb k n same in
+          let is : Some t ≡ slice_get txns (n - 1) = h.is ∙ ap (λ (x : ℕ). slice_get txns (x - 1)) same in
+          rw here (record { from = omega arith; within = omega arith; is = is })
+      | inr other ↦
+          let apart : (k == n) ≡ false = ne_eqb k n other in
+          let behind = later (let none : counted_by (Some k) n ≡ 0 = ap one_if apart in omega (arith, some, none)) in
+          rw apart (behind_one txns n t texts (number_in events n) behind)
+    ]
+    )
+
+pub place_of : (cat : Catalogue) (txns : List Txn) (n : ℕ) (events : List Event) → All (IsValidEvent cat (length txns)) events → 1 ≤ submits_in n events
+    → PlaceOf txns n (filter_map (submitted_by txns) events) (number_in events n)
+place_of cat txns n [] fine some = absurd (omega (arith, some))
+place_of cat txns n (e ∷ events) fine some =
+    let count = counted e n in
+    place_by txns n e events (scripts.submitted_by e) (submitted_by txns e) refl refl (submits cat txns e (All-head (IsValidEvent cat (length txns)) e events fine))
+    (place_of cat txns n events (All-tail (IsValidEvent cat (length txns)) e events fine)) (omega (arith, some, count))
+
+-- different transactions have different places
+
+differ_by : (number : Option ℕ) (n m a b count_n count_m : ℕ) → (1 ≤ count_n → 1 ≤ count_m → a ≡ b → n ≡ m) → (1 ≤ count_n → 1 ≤ a) → (1 ≤ count_m → 1 ≤ b)
+    → 1 ≤ counted_by number n + count_n → 1 ≤ counted_by number m + count_m → number_by number n a ≡ number_by number m b → n ≡ m
+differ_by None n m a b count_n count_m later x y p q e = later (omega (arith, p)) (omega (arith, q)) e
+differ_by (Some k) n m a b count_n count_m later x y p q e =
+    elim (cases_eq k n) [
+      | inl here ↦ elim (cases_eq k m) [
+        | inl also ↦ sym here ∙ also
+        | inr far ↦
+            let h : (k == n) ≡ true = eq-eqb k n here in
+            let f : (k == m) ≡ false = ne_eqb k m far in
+            let g : 1 ≡ suc b = rw (h, f) at e in
+            let none : counted_by (Some k) m ≡ 0 = ap one_if f in
+            let least = y (omega (arith, q, none)) in
+            absurd (omega (arith, g, least))
+      ]
+      | inr far ↦ elim (cases_eq k m) [
+        | inl also ↦
+            let h : (k == m) ≡ true = eq-eqb k m also in
+            let f : (k == n) ≡ false = ne_eqb k n far in
+            let g : suc a ≡ 1 = rw (f, h) at e in
+            let none : counted_by (Some k) n ≡ 0 = ap one_if f in
+            let least = x (omega (arith, p, none)) in
+            absurd (omega (arith, g, least))
+        | inr away ↦
+            let f : (k == n) ≡ false = ne_eqb k n far in
+            let h : (k == m) ≡ false = ne_eqb k m away in
+            let g : suc a ≡ suc b = rw (f, h) at e in
+            let none : counted_by (Some k) n ≡ 0 = ap one_if f in
+            let no : counted_by (Some k) m ≡ 0 = ap one_if h in
+            later (omega (arith, p, none)) (omega (arith, q, no)) (omega (arith, g))
+      ]
+    ]
+
+pub one_place : (events : List Event) (n m : ℕ) → 1 ≤ submits_in n events → 1 ≤ submits_in m events → number_in events n ≡ number_in events m → n ≡ m
+one_place [] n m p q e = absurd (omega (arith, p))
+one_place (event ∷ events) n m p q e =
+    let a = counted event n in
+    let b = counted event m in
+    differ_by (scripts.submitted_by event) n m (number_in events n) (number_in events m) (submits_in n events) (submits_in m events)
+    (one_place events n m) (some_place events n) (some_place events m) (omega (arith, p, a)) (omega (arith, q, b)) e
+
+-- a smaller place stands before a greater one
+
+pub record Separates (events : List Event) (m n : ℕ) : Type 0 where
+  pub front : List Event
+  pub rest : List Event
+  pub is : events ≡ front ++ rest
+  pub first : 1 ≤ submits_in m front
+  pub not_yet : submits_in n front ≡ 0
+
+more_front : (e : Event) (events : List Event) (m n : ℕ) → submits_by n e ≡ 0 → Separates events m n → Separates (e ∷ events) m n
+more_front e events m n none s =
+    let first = s.first in
+    let not_yet = s.not_yet in
+    record { front = e ∷ s.front; rest = s.rest; is = ap (λ (l : List Event). e ∷ l) s.is; first = omega (arith, first); not_yet = omega (arith, none, not_yet) }
+
+separates_by : (e : Event) (events : List Event) (number : Option ℕ) (m n : ℕ) → scripts.submitted_by e ≡ number
+    → (1 ≤ submits_in m events → number_in events m < number_in events n → Separates events m n) → 1 ≤ counted_by number m + submits_in m events
+    → number_by number m (number_in events m) < number_by number n (number_in events n) → Separates (e ∷ events) m n
+separates_by e events None m n a later some less =
+    let none : submits_by n e ≡ 0 = counted e n ∙ ap (λ (o : Option ℕ). counted_by o n) a in
+    more_front e events m n none (later (omega (arith, some)) less)
+separates_by e events (Some k) m n a later some less =
+    elim (cases_eq k n) [
+      | inl here ↦
+          let h : (k == n) ≡ true = eq-eqb k n here in
+          let l : cond (k == m) 1 (suc (number_in events m)) < 1 = rw h at less in
+          absurd (elim (cases_eq k m) [
+            | inl also ↦ let g : (k == m) ≡ true = eq-eqb k m also in let x : 1 < 1 = rw g at l in omega (arith, x)
+            | inr away ↦ let g : (k == m) ≡ false = ne_eqb k m away in let x : suc (number_in events m) < 1 = rw g at l in omega (arith, x)
+          ])
+      | inr far ↦
+          let f : (k == n) ≡ false = ne_eqb k n far in
+          let none : submits_by n e ≡ 0 = counted e n ∙ ap (λ (o : Option ℕ). counted_by o n) a ∙ ap one_if f in
+          elim (cases_eq k m) [
+            | inl also ↦
+                let one : submits_by m e ≡ 1 = counted e m ∙ ap (λ (o : Option ℕ). counted_by o m) a ∙ ap one_if (eq-eqb k m also) in
+                record { front = e ∷ []; rest = events; is = refl; first = omega (arith, one); not_yet = omega (arith, none) }
+            | inr away ↦
+                let g : (k == m) ≡ false = ne_eqb k m away in
+                let l : suc (number_in events m) < suc (number_in events n) = rw (g, f) at less in
+                let no : counted_by (Some k) m ≡ 0 = ap one_if g in
+                more_front e events m n none (later (omega (arith, some, no)) (omega (arith, l)))
+          ]
+    ]
+
+pub separates : (events : List Event) (m n : ℕ) → 1 ≤ submits_in m events → number_in events m < number_in events n → Separates events m n
+separates [] m n some less = absurd (omega (arith, some))
+separates (e ∷ events) m n some less =
+    let a = counted e m in
+    separates_by e events (scripts.submitted_by e) m n refl (separates events m n) (omega (arith, some, a)) less

@@ -1,0 +1,225 @@
+-- The lines of a report: none of its trace tells an order, and what follows the replies begins with a line of no reply.
+use Rattle.std.proofs.Common.{◌≡◌, ◌≢◌, ℕ, zero, suc, ◌+◌, ◌-◌, ◌/◌, ◌%◌, ◌<◌, ◌≤◌, ◌==◌, List, [], ◌∷◌, ◌++◌, slice_get, true, false, cond, Option, Some, None, refl, sym, ap, ◌∙◌, subst, arith, append_assoc, rules}
+use Rattle.std.specs.Prelude.{codes}
+use Rattle.std.specs.Fmt.{decimal, digit_glyph, digits, digits_onto}
+use Rattle.std.specs.List.{All, flat_map}
+use Rattle.std.specs.Option.{option_map_or}
+use Rattle.std.proofs.lemmas.Bool.{ne_eqb}
+use Rattle.std.proofs.lemmas.Bool.Decides.{nat_tests}
+use Rattle.std.proofs.lemmas.List.Elements.{All-cons, All-nil}
+use Rattle.sdd_base.specs.Name.{IsName}
+use Rattle.sdd_base.specs.declared.condition.Cond.{Cond}
+use Rattle.sdd_base.specs.declared.number.Ts.{Ts}
+use Rattle.sdd_base.specs.declared.number.TxnNo.{TxnNo}
+use Rattle.sdd_catalog.specs.Catalogue.{Catalogue}
+use Rattle.sdd_catalog.specs.declared.resolved.Class.{Class}
+use Rattle.sdd_history.specs.declared.record.Rec.{Rec}
+use Rattle.sdd_history.specs.declared.record.Rec.TheVariants as records
+use Rattle.sdd_lang.specs.declared.transaction.Txn.{Txn}
+use Rattle.sdd_report.specs.Committed.{Told, shipped_line, shipped_of, told_of}
+use Rattle.sdd_report.specs.Copies.{copies_lines, copy_lines}
+use Rattle.sdd_report.specs.Names.{attempt_word, class_name, class_time, class_word, module_word, spaced, txn_name}
+use Rattle.sdd_report.specs.Pending.{pending_line, pending_lines}
+use Rattle.sdd_report.specs.Trace.{cond_words, of_attempt, of_visit, record_words, time_word, trace, trace_line}
+use Rattle.sdd_report.specs.declared.copies.CopyTable.{CopyTable}
+use Rattle.sdd_report.specs.declared.pending.Pending.{Pending}
+use Rattle.sdd_script.proofs.WordLooks.{no_newline-append}
+use Rattle.sdd_words.specs.Lines.{AreLines, HasNoNewline, spelled_lines}
+use Rattle.sdd_verify.specs.Lines.{is_order_line, tells_reply}
+use Rattle.sdd_verify.proofs.LinesFound.{IsOther}
+use Rattle.sdd_verify.proofs.Submissions.{found_member}
+use Rattle.sdd_verify.proofs.VerifiedReports.{name_line}
+
+-- numbers
+
+record IsNumber (text : List ℕ) : Type 0 where
+  first : ℕ
+  rest : List ℕ
+  is : text ≡ first ∷ rest
+  most : first ≤ 57
+  least : 48 ≤ first
+  line : HasNoNewline text
+
+glyph_is : (d : ℕ) → d < 10 → digit_glyph false d ≡ 48 + d
+glyph_is d lt = grind (arith, nat_tests)
+
+digit_first : (n : ℕ) (acc : List ℕ) → HasNoNewline acc → IsNumber (digit_glyph false (n % 10) ∷ acc)
+digit_first n acc h =
+    let small : n % 10 < 10 = omega arith in
+    let glyph = glyph_is (n % 10) small in
+    record { first = digit_glyph false (n % 10); rest = acc; is = refl; most = omega (arith, glyph, small); least = omega (arith, glyph); line = (λ e. omega (arith, glyph, e), h) }
+
+digits_from : (k n : ℕ) (acc : List ℕ) → HasNoNewline acc → IsNumber (digits_onto (suc k) 10 false n acc)
+digits_from zero n acc h =
+    let here = digit_first n acc h in
+    let g : ℕ = digit_glyph false (n % 10) in
+    elim (n / 10 == 0) as (λ b. IsNumber (cond b (g ∷ acc) (digits_onto zero 10 false (n / 10) (g ∷ acc)))) [ true ↦ here | false ↦ here ]
+digits_from (suc k) n acc h =
+    let here = digit_first n acc h in
+    let g : ℕ = digit_glyph false (n % 10) in
+    elim (n / 10 == 0) as (λ b. IsNumber (cond b (g ∷ acc) (digits_onto (suc k) 10 false (n / 10) (g ∷ acc)))) [
+      | true ↦ here
+      | false ↦ digits_from k (n / 10) (g ∷ acc) here.line
+    ]
+
+decimal_is : (n : ℕ) → IsNumber (decimal n)
+unfolding digits
+decimal_is n = digits_from 63 n [] tt
+
+number_line : (n : ℕ) → HasNoNewline (decimal n)
+number_line n = (decimal_is n).line
+
+spaced_line : (word : List ℕ) → HasNoNewline word → HasNoNewline (spaced word)
+spaced_line word h = (λ e. omega (arith, e), h)
+
+-- names
+
+named_by : {A : Type 0} (name : A → List ℕ) (members : List A) (i : ℕ) (o : Option A) → slice_get members i ≡ o → All (λ m. IsName (name m)) members → HasNoNewline (option_map_or name o [])
+named_by name members i None is named = tt
+named_by {A} name members i (Some m) is named = name_line (name m) (found_member (λ (k : A). IsName (name k)) members i m named is)
+
+module _ (cat : Catalogue) (txns : List Txn) (classes_named : All (λ (k : Class). IsName k.name) cat.classes) (txns_named : All (λ (t : Txn). IsName t.name) txns) where
+  txn_line : (n : ℕ) → HasNoNewline (txn_name txns n)
+  txn_line n = named_by (λ (t : Txn). t.name) txns (n - 1) (slice_get txns (n - 1)) refl txns_named
+
+  class_line : (c : ℕ) → HasNoNewline (class_word cat c)
+  class_line c =
+      let named = named_by (λ (k : Class). k.name) cat.classes (c - 1) (slice_get cat.classes (c - 1)) refl classes_named in
+      let dash : HasNoNewline (codes "-") = search rules in
+      elim (c == 0) as (λ b. HasNoNewline (cond b (codes "-") (class_name cat c))) [ true ↦ dash | false ↦ named ]
+
+  attempt_line : (n attempt : ℕ) → HasNoNewline (attempt_word txns n attempt)
+  attempt_line n attempt = no_newline-append (txn_name txns n) (35 ∷ decimal attempt) (txn_line n) (λ e. omega (arith, e), number_line attempt)
+
+  class_time_line : (c time : ℕ) → HasNoNewline (class_time cat c time)
+  class_time_line c time = no_newline-append (spaced (class_word cat c)) (spaced (decimal time)) (spaced_line (class_word cat c) (class_line c)) (spaced_line (decimal time) (number_line time))
+
+  time_line : (time : Option Ts) → HasNoNewline (time_word time)
+  time_line None = search rules
+  time_line (Some time) = number_line time.0
+
+  module_line : (d : ℕ) → HasNoNewline (spaced (module_word d))
+  module_line d = spaced_line (module_word d) (λ e. omega (arith, e), number_line d)
+
+  conds_line : (conds : List Cond) → HasNoNewline (cond_words cat conds)
+  conds_line [] = tt
+  conds_line (c ∷ conds) = no_newline-append (class_time cat c.class.0 c.time.0) (cond_words cat conds) (class_time_line c.class.0 c.time.0) (conds_line conds)
+
+  attempt_of_line : (word : List ℕ) (n attempt : ℕ) → HasNoNewline word → HasNoNewline (of_attempt word txns n attempt)
+  attempt_of_line word n attempt h = no_newline-append word (spaced (attempt_word txns n attempt)) h (spaced_line (attempt_word txns n attempt) (attempt_line n attempt))
+
+  visit_line : (word : List ℕ) (n attempt d : ℕ) → HasNoNewline word → HasNoNewline (of_visit word txns n attempt d)
+  visit_line word n attempt d h = no_newline-append (of_attempt word txns n attempt) (spaced (module_word d)) (attempt_of_line word n attempt h) (module_line d)
+
+  record_line : (r : Rec) → HasNoNewline (record_words cat txns r)
+  record_line (records.Submit txn) = no_newline-append (codes "submit") (spaced (txn_name txns txn.0)) (search rules) (spaced_line (txn_name txns txn.0) (txn_line txn.0))
+  record_line (records.Start txn attempt class ts p2 uses) =
+      no_newline-append (of_attempt (codes "start") txns txn.0 attempt) (class_time cat class.0 ts.0 ++ spaced (time_word p2)) (attempt_of_line (codes "start") txn.0 attempt (search rules))
+      (no_newline-append (class_time cat class.0 ts.0) (spaced (time_word p2)) (class_time_line class.0 ts.0) (spaced_line (time_word p2) (time_line p2)))
+  record_line (records.Arrive txn attempt dm) = visit_line (codes "arrive") txn.0 attempt dm.0 (search rules)
+  record_line (records.Wait txn attempt dm conds) =
+      no_newline-append (of_visit (codes "wait") txns txn.0 attempt dm.0) (cond_words cat conds) (visit_line (codes "wait") txn.0 attempt dm.0 (search rules)) (conds_line conds)
+  record_line (records.Answer txn attempt dm) = visit_line (codes "answer") txn.0 attempt dm.0 (search rules)
+  record_line (records.Reject txn attempt dm class ts) =
+      no_newline-append (of_visit (codes "reject") txns txn.0 attempt dm.0) (class_time cat class.0 ts.0) (visit_line (codes "reject") txn.0 attempt dm.0 (search rules)) (class_time_line class.0 ts.0)
+  record_line (records.Commit txn attempt reply changes values rows) = attempt_of_line (codes "commit") txn.0 attempt (search rules)
+  record_line (records.Apply txn class dm ts) =
+      no_newline-append (codes "apply") (spaced (txn_name txns txn.0) ++ spaced (module_word dm.0)) (search rules)
+      (no_newline-append (spaced (txn_name txns txn.0)) (spaced (module_word dm.0)) (spaced_line (txn_name txns txn.0) (txn_line txn.0)) (module_line dm.0))
+  record_line (records.Pass class dm time) =
+      no_newline-append (codes "pass") (spaced (class_word cat class.0) ++ (spaced (module_word dm.0) ++ spaced (decimal time.0))) (search rules)
+      (no_newline-append (spaced (class_word cat class.0)) (spaced (module_word dm.0) ++ spaced (decimal time.0)) (spaced_line (class_word cat class.0) (class_line class.0))
+      (no_newline-append (spaced (module_word dm.0)) (spaced (decimal time.0)) (module_line dm.0) (spaced_line (decimal time.0) (number_line time.0))))
+  record_line records.Nothing = search rules
+
+  -- the lines of a trace
+
+  abbrev pub line_of : ℕ × Rec → List ℕ
+  line_of made = decimal made.0 ++ spaced (record_words cat txns made.1)
+
+  abbrev pub lines_in : List (ℕ × Rec) → List (List ℕ)
+  lines_in [] = []
+  lines_in (made ∷ history) = line_of made ∷ lines_in history
+
+  pub trace_is : (history : List (ℕ × Rec)) → trace cat txns history ≡ spelled_lines (lines_in history)
+  trace_is [] = refl
+  trace_is (made ∷ history) =
+      let words : List ℕ = spaced (record_words cat txns made.1) in
+      ap (λ (l : List ℕ). trace_line cat txns made ++ l) (trace_is history)
+      ∙ append_assoc (decimal made.0) (words ++ 10 ∷ []) (spelled_lines (lines_in history))
+      ∙ ap (λ (l : List ℕ). decimal made.0 ++ l) (append_assoc words (10 ∷ []) (spelled_lines (lines_in history)))
+      ∙ sym (append_assoc (decimal made.0) words (10 ∷ spelled_lines (lines_in history)))
+
+  pub trace_lines : (history : List (ℕ × Rec)) → AreLines (lines_in history)
+  trace_lines [] = tt
+  trace_lines (made ∷ history) =
+      (no_newline-append (decimal made.0) (spaced (record_words cat txns made.1)) (number_line made.0) (spaced_line (record_words cat txns made.1) (record_line made.1)), trace_lines history)
+
+  -- which begin with a digit
+  other_by : (first : ℕ) (rest : List ℕ) → first ≤ 57 → is_order_line (first ∷ rest) ≡ false
+  other_by first rest most =
+      let a : (first == 111) ≡ false = ne_eqb first 111 (λ e. omega (arith, e, most)) in
+      let b : (111 == first) ≡ false = ne_eqb 111 first (λ e. omega (arith, e, most)) in
+      rw (a, b) refl
+
+  other_line : (made : ℕ × Rec) → is_order_line (line_of made) ≡ false
+  other_line made =
+      let number = decimal_is made.0 in
+      subst (λ (l : List ℕ). is_order_line (l ++ spaced (record_words cat txns made.1)) ≡ false) (sym number.is) (other_by number.first (number.rest ++ spaced (record_words cat txns made.1)) number.most)
+
+  pub trace_others : (history : List (ℕ × Rec)) → All IsOther (lines_in history)
+  trace_others [] = All-nil IsOther
+  trace_others (made ∷ history) = All-cons IsOther (line_of made) (lines_in history) (other_line made) (trace_others history)
+
+-- what follows the replies begins with a line of no reply
+
+-- a byte with which no line of a reply begins
+abbrev pub BeginsNone : ℕ → Type 0
+BeginsNone c = (c ≢ 10) × ((rest : List ℕ) → tells_reply (c ∷ rest) ≡ false)
+
+pub record Begins (text : List ℕ) : Type 0 where
+  pub first : ℕ
+  pub rest : List ℕ
+  pub is : text ≡ first ∷ rest
+  pub none : BeginsNone first
+
+begins_front : (a b : List ℕ) → Begins a → Begins (a ++ b)
+begins_front a b h = record { first = h.first; rest = h.rest ++ b; is = ap (λ (l : List ℕ). l ++ b) h.is; none = h.none }
+
+shipped_begins : (name : List ℕ) (told : Told) → Begins (shipped_line name told)
+shipped_begins name told = record { first = 115; rest = _; is = refl; none = (λ e. omega (arith, e), λ rest. refl) }
+
+pending_begins : (cat : Catalogue) (txns : List Txn) (p : Pending) → Begins (pending_line cat txns p)
+pending_begins cat txns p = record { first = 112; rest = _; is = refl; none = (λ e. omega (arith, e), λ rest. refl) }
+
+copy_begins : (cat : Catalogue) (table : CopyTable) → Begins (copy_lines cat table)
+copy_begins cat table = record { first = 99; rest = _; is = refl; none = (λ e. omega (arith, e), λ rest. refl) }
+
+end_begins : Begins (codes "end\n")
+end_begins = record { first = 101; rest = _; is = refl; none = (λ e. omega (arith, e), λ rest. refl) }
+
+shipped_by : (txns : List Txn) (n : TxnNo) (o : Option Told) (rest : List ℕ) → Begins rest → Begins (option_map_or (λ (told : Told). shipped_line (txn_name txns n.0) told) o [] ++ rest)
+shipped_by txns n None rest h = h
+shipped_by txns n (Some told) rest h = begins_front (shipped_line (txn_name txns n.0) told) rest (shipped_begins (txn_name txns n.0) told)
+
+all_shipped : (txns : List Txn) (history : List (ℕ × Rec)) (order : List TxnNo) (rest : List ℕ) → Begins rest → Begins (flat_map (shipped_of txns history) order ++ rest)
+all_shipped txns history [] rest h = h
+all_shipped txns history (n ∷ order) rest h =
+    subst Begins (sym (append_assoc (shipped_of txns history n) (flat_map (shipped_of txns history) order) rest))
+    (shipped_by txns n (told_of history n.0) (flat_map (shipped_of txns history) order ++ rest) (all_shipped txns history order rest h))
+
+all_pending : (cat : Catalogue) (txns : List Txn) (pending : List Pending) (rest : List ℕ) → Begins rest → Begins (pending_lines cat txns pending ++ rest)
+all_pending cat txns [] rest h = h
+all_pending cat txns (p ∷ pending) rest h =
+    subst Begins (sym (append_assoc (pending_line cat txns p) (pending_lines cat txns pending) rest)) (begins_front (pending_line cat txns p) (pending_lines cat txns pending ++ rest) (pending_begins cat txns p))
+
+all_copies : (cat : Catalogue) (copies : List CopyTable) (rest : List ℕ) → Begins rest → Begins (copies_lines cat copies ++ rest)
+all_copies cat [] rest h = h
+all_copies cat (table ∷ copies) rest h =
+    subst Begins (sym (append_assoc (copy_lines cat table) (copies_lines cat copies) rest)) (begins_front (copy_lines cat table) (copies_lines cat copies ++ rest) (copy_begins cat table))
+
+pub rest_begins : (cat : Catalogue) (txns : List Txn) (history : List (ℕ × Rec)) (order : List TxnNo) (pending : List Pending) (copies : List CopyTable)
+    → Begins (flat_map (shipped_of txns history) order ++ (pending_lines cat txns pending ++ (copies_lines cat copies ++ codes "end\n")))
+rest_begins cat txns history order pending copies =
+    all_shipped txns history order (pending_lines cat txns pending ++ (copies_lines cat copies ++ codes "end\n"))
+    (all_pending cat txns pending (copies_lines cat copies ++ codes "end\n") (all_copies cat copies (codes "end\n") end_begins))

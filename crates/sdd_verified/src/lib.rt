@@ -1,0 +1,9 @@
+//! The report on a run is verified, so that what judges reports finds no fault in it.
+//!
+//! The one contract to the layer above: `law_verified`, which joins the report on a run of `sdd_run` to
+//! the verdict of `sdd_verify`.
+#![tactic(auto)]
+
+mod law;
+
+pub use law::law_verified;
