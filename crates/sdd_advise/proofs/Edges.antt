@@ -1,0 +1,79 @@
+-- The edges of a graph by their places, and what walks along them reach.
+use Rattle.std.proofs.Common.{ℕ, zero, suc, ◌-◌, ◌≡◌, ◌≢◌, List, [], ◌∷◌, map, Option, Some, None, refl, sym, ap, ◌∙◌, subst, inl, inr}
+use Rattle.std.specs.Prelude.{slice_get, Contains, option_map}
+use Rattle.std.specs.List.{AllZip}
+use Rattle.std.proofs.lemmas.Option.{none-some, same_Some, slice_get-map, slice_get_within, get_or_from_slice_get}
+use Rattle.sdd_blocks.specs.Graph.{Step, Has, IsWalk, edges_of, nodes_of}
+use Rattle.sdd_blocks.specs.Graph as blocks
+use Rattle.sdd_graph.specs.declared.edge.Edge.{Edge}
+use Rattle.sdd_graph.specs.Graph.{ends}
+use Rattle.sdd_advise.specs.Cycles.{GoesAlong}
+use Rattle.sdd_advise.specs.Reach.{Joins, CanReach, IsOther, IsAway}
+use Rattle.sdd_advise.specs.Reach.CanReach.{along}
+
+-- what stands at a place is contained
+pub contains_at : {X : Type 0} (xs : List X) (k : ℕ) (x : X) → slice_get xs k ≡ Some x → Contains xs x
+contains_at xs k x e = (k, slice_get_within xs k x e, get_or_from_slice_get xs k x x e)
+
+-- of what an image is
+mapped : {X Y : Type 0} (f : X → Y) (o : Option X) (y : Y) → option_map f o ≡ Some y
+    → (x : X) × (o ≡ Some x) × (f x ≡ y)
+mapped f None y e = absurd (none-some y e)
+mapped f (Some x) y e = (x, refl, same_Some (f x) y e)
+
+-- an edge at a place joins its ends there
+pub joins_at : (edges : List Edge) (k : ℕ) (e : Edge) (a b : ℕ) → slice_get edges k ≡ Some e → Joins e a b
+    → blocks.Joins (map ends edges) k a b
+joins_at edges k e a b at (inl p) = inl (slice_get-map ends edges k ∙ ap (option_map ends) at ∙ ap (λ z. Some z) p)
+joins_at edges k e a b at (inr p) = inr (slice_get-map ends edges k ∙ ap (option_map ends) at ∙ ap (λ z. Some z) p)
+
+-- and what joins there is such an edge
+pub joins_from : (edges : List Edge) (k a b : ℕ) → blocks.Joins (map ends edges) k a b
+    → (e : Edge) × (slice_get edges k ≡ Some e) × Joins e a b
+joins_from edges k a b (inl p) =
+    let r = mapped ends (slice_get edges k) (a, b) (sym (slice_get-map ends edges k) ∙ p) in
+    (r.0, r.1, inl r.2)
+joins_from edges k a b (inr p) =
+    let r = mapped ends (slice_get edges k) (b, a) (sym (slice_get-map ends edges k) ∙ p) in
+    (r.0, r.1, inr r.2)
+
+-- what is reached by a walk that doesn't go along an edge
+pub reach_without_edge : (edges : List Edge) (k : ℕ) (e : Edge)
+    → ((j : ℕ) → slice_get edges j ≡ Some e → j ≡ k)
+    → (start from : ℕ) (steps : List Step) (to : ℕ) → CanReach edges (IsOther e) start from
+    → IsWalk (map ends edges) from steps to → (¬ Has (edges_of steps) k)
+    → CanReach edges (IsOther e) start to
+reach_without_edge edges k e one start from [] to r w away = subst (λ z. CanReach edges (IsOther e) start z) w r
+reach_without_edge edges k e one start from (s ∷ steps) to r w away =
+    let j = joins_from edges s.edge from s.to w.0 in
+    let other : IsOther e j.0 = λ p. away (inl (one s.edge (j.1 ∙ ap (λ z. Some z) p))) in
+    reach_without_edge edges k e one start s.to steps to (along j.0 r (contains_at edges s.edge j.0 j.1) other j.2) w.1
+    (λ h. away (inr h))
+
+-- an edge between nodes other than one is away from that
+pub is_away : (e : Edge) (a b node : ℕ) → Joins e a b → a ≢ node → b ≢ node → IsAway node e
+is_away e a b node (inl p) n m = ((λ q. n (sym (ap (λ z. z.0) p) ∙ q)), λ q. m (sym (ap (λ z. z.1) p) ∙ q))
+is_away e a b node (inr p) n m = ((λ q. m (sym (ap (λ z. z.0) p) ∙ q)), λ q. n (sym (ap (λ z. z.1) p) ∙ q))
+
+-- what is reached by a walk that doesn't meet a node
+pub reach_without_node : (edges : List Edge) (node start from : ℕ) (steps : List Step) (to : ℕ)
+    → CanReach edges (IsAway node) start from → IsWalk (map ends edges) from steps to
+    → (¬ Has (from ∷ nodes_of steps) node) → CanReach edges (IsAway node) start to
+reach_without_node edges node start from [] to r w away = subst (λ z. CanReach edges (IsAway node) start z) w r
+reach_without_node edges node start from (s ∷ steps) to r w away =
+    let j = joins_from edges s.edge from s.to w.0 in
+    let passes : IsAway node j.0 = is_away j.0 from s.to node j.2 (λ p. away (inl p)) (λ p. away (inr (inl p))) in
+    reach_without_node edges node start s.to steps to (along j.0 r (contains_at edges s.edge j.0 j.1) passes j.2) w.1
+    (λ h. away (inr h))
+
+-- the place of an edge of the cycle is one along which a step goes
+pub step_along : (edges : List Edge) (steps : List Step) (cycle : List Edge) (m : ℕ) (e : Edge)
+    → AllZip (GoesAlong edges) steps cycle → slice_get cycle m ≡ Some e
+    → (k : ℕ) × Has (edges_of steps) k × (slice_get edges k ≡ Some e)
+step_along edges [] [] m e z at = absurd (none-some e at)
+step_along edges [] (x ∷ cycle) m e z at = absurd z
+step_along edges (s ∷ steps) [] m e z at = absurd z
+step_along edges (s ∷ steps) (x ∷ cycle) zero e z at = (s.edge, inl refl, z.0 ∙ at)
+step_along edges (s ∷ steps) (x ∷ cycle) (suc m) e z at =
+    let r = step_along edges steps cycle m e z.1 at in
+    (r.0, inr r.1, r.2)

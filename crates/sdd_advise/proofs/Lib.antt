@@ -1,0 +1,4 @@
+pub mod Edges
+pub mod Members
+pub mod Places
+pub mod Right

@@ -1,0 +1,98 @@
+-- No edge is twice in a conflict graph.
+use Rattle.std.proofs.Common.{ℕ, ◌≡◌, ◌++◌, Some, refl, sym, ap, ◌∙◌, arith, inl, inr}
+use Rattle.std.specs.Prelude.{◌==◌, nat_lt, ◌&&◌, not, is_some, filter, slice_get}
+use Rattle.sdd_base.specs.Numbers.{class_no, frag_no}
+use Rattle.sdd_catalog.specs.Catalogue.{Catalogue, reads_at, writes}
+use Rattle.sdd_graph.specs.declared.edge.Edge.{Edge}
+use Rattle.sdd_graph.specs.declared.edge.Edge.TheVariants.{Vertical, Horizontal, Diagonal}
+use Rattle.sdd_graph.specs.Graph.{classes_of, fragments_of, vertical_edges, write_sets_meet, horizontals_from, horizontal_edges, diagonals_between, diagonals_from, diagonal_edges, conflict_graph}
+use Rattle.sdd_advise.proofs.Members.{Among, Unlike, among_append, among_map, among_flat, unlike_range, unlike_append, unlike_map, unlike_filter, unlike_flat, one_place}
+
+-- what tells edges apart
+abbrev first_class : Edge → ℕ
+first_class (Vertical i) = i.0
+first_class (Horizontal i j) = i.0
+first_class (Diagonal i j f) = i.0
+
+abbrev second_class : Edge → ℕ
+second_class (Vertical i) = 0
+second_class (Horizontal i j) = j.0
+second_class (Diagonal i j f) = j.0
+
+abbrev fragment : Edge → ℕ
+fragment (Vertical i) = 0
+fragment (Horizontal i j) = 0
+fragment (Diagonal i j f) = f.0
+
+abbrev kind : Edge → ℕ
+kind (Vertical i) = 0
+kind (Horizontal i j) = 1
+kind (Diagonal i j f) = 2
+
+verticals_unlike : (cat : Catalogue) → Unlike (vertical_edges cat)
+verticals_unlike cat = unlike_map (λ i. Vertical (class_no i)) first_class (classes_of cat) (λ i. refl) (unlike_range 1 _)
+
+horizontals_unlike : (cat : Catalogue) → Unlike (horizontal_edges cat)
+horizontals_unlike cat =
+    unlike_flat (horizontals_from cat) first_class (classes_of cat)
+    (λ i e m.
+    let r = among_map (λ j. Horizontal (class_no i) (class_no j)) (filter (λ j. nat_lt i j && write_sets_meet cat i j) (classes_of cat)) e m in
+    ap first_class (sym r.2))
+    (λ i. unlike_map (λ j. Horizontal (class_no i) (class_no j)) second_class (filter (λ j. nat_lt i j && write_sets_meet cat i j) (classes_of cat)) (λ j. refl) (unlike_filter _ (classes_of cat) (unlike_range 1 _)))
+    (unlike_range 1 _)
+
+-- the diagonals between two classes, from one class
+between : (cat : Catalogue) (i j : ℕ) (e : Edge) → Among (diagonals_between cat i j) e
+    → (f : ℕ) × (Diagonal (class_no i) (class_no j) (frag_no f) ≡ e)
+between cat i j e m =
+    let r = among_map (λ f. Diagonal (class_no i) (class_no j) (frag_no f)) (filter (λ f. not (i == j) && (is_some (reads_at cat i f) && writes cat j f)) (fragments_of cat)) e m in
+    (r.0, r.2)
+
+from : (cat : Catalogue) (i : ℕ) (e : Edge) → Among (diagonals_from cat i) e
+    → (j : ℕ) × (f : ℕ) × (Diagonal (class_no i) (class_no j) (frag_no f) ≡ e)
+from cat i e m =
+    let r = among_flat (diagonals_between cat i) (classes_of cat) e m in
+    let s = between cat i r.0 e r.2 in
+    (r.0, s.0, s.1)
+
+from_unlike : (cat : Catalogue) (i : ℕ) → Unlike (diagonals_from cat i)
+from_unlike cat i =
+    unlike_flat (diagonals_between cat i) second_class (classes_of cat)
+    (λ j e m. ap second_class (sym (between cat i j e m).1))
+    (λ j. unlike_map (λ f. Diagonal (class_no i) (class_no j) (frag_no f)) fragment (filter (λ f. not (i == j) && (is_some (reads_at cat i f) && writes cat j f)) (fragments_of cat)) (λ f. refl) (unlike_filter _ (fragments_of cat) (unlike_range 1 _)))
+    (unlike_range 1 _)
+
+diagonals_unlike : (cat : Catalogue) → Unlike (diagonal_edges cat)
+diagonals_unlike cat =
+    unlike_flat (diagonals_from cat) first_class (classes_of cat)
+    (λ i e m. ap first_class (sym (from cat i e m).2)) (from_unlike cat) (unlike_range 1 _)
+
+-- the kinds of the three parts
+vertical_kind : (cat : Catalogue) (e : Edge) → Among (vertical_edges cat) e → kind e ≡ 0
+vertical_kind cat e m = ap kind (sym (among_map (λ i. Vertical (class_no i)) (classes_of cat) e m).2)
+
+horizontal_kind : (cat : Catalogue) (e : Edge) → Among (horizontal_edges cat) e → kind e ≡ 1
+horizontal_kind cat e m =
+    let r = among_flat (horizontals_from cat) (classes_of cat) e m in
+    ap kind (sym (among_map (λ j. Horizontal (class_no r.0) (class_no j)) (filter (λ j. nat_lt r.0 j && write_sets_meet cat r.0 j) (classes_of cat)) e r.2).2)
+
+diagonal_kind : (cat : Catalogue) (e : Edge) → Among (diagonal_edges cat) e → kind e ≡ 2
+diagonal_kind cat e m =
+    let r = among_flat (diagonals_from cat) (classes_of cat) e m in
+    ap kind (sym (from cat r.0 e r.2).2)
+
+edges_unlike : (cat : Catalogue) → Unlike (conflict_graph cat)
+edges_unlike cat =
+    unlike_append (vertical_edges cat) (horizontal_edges cat ++ diagonal_edges cat) (verticals_unlike cat)
+    (unlike_append (horizontal_edges cat) (diagonal_edges cat) (horizontals_unlike cat) (diagonals_unlike cat)
+    (λ e m n. omega (arith, (sym (horizontal_kind cat e m) ∙ diagonal_kind cat e n))))
+    (λ e m n.
+    elim (among_append (horizontal_edges cat) (diagonal_edges cat) e n) [
+      | inl p ↦ omega (arith, (sym (vertical_kind cat e m) ∙ horizontal_kind cat e p))
+      | inr q ↦ omega (arith, (sym (vertical_kind cat e m) ∙ diagonal_kind cat e q))
+    ])
+
+-- each edge has one place
+pub one_place_each : (cat : Catalogue) (j k : ℕ) (e : Edge) → slice_get (conflict_graph cat) j ≡ Some e
+    → slice_get (conflict_graph cat) k ≡ Some e → j ≡ k
+one_place_each cat j k e p q = one_place (conflict_graph cat) j k e (edges_unlike cat) p q

@@ -1,0 +1,203 @@
+-- A good advice for a diagonal says the protocol that the table says.
+use Rattle.std.proofs.Common.{ℕ, suc, zero, ◌+◌, ◌-◌, ◌<◌, ◌≤◌, ◌≡◌, ◌≢◌, List, ◌++◌, map, length, get_or, Some, refl, sym, ap, ◌∙◌, subst, arith, inl, inr}
+use Rattle.std.specs.Prelude.{slice_get, Contains, option_map}
+use Rattle.std.proofs.lemmas.Bool.{eq-eqb, ne_eqb, cases_eq}
+use Rattle.std.proofs.lemmas.List.{length-append, length-map, get_or_append_left}
+use Rattle.std.proofs.lemmas.List.FromFn.{length-map-range_with_len, get_or-map-range_with_len}
+use Rattle.std.proofs.lemmas.Option.{slice_get-map, slice_get-get_or}
+use Rattle.sdd_base.specs.Numbers.{class_no}
+use Rattle.sdd_base.specs.declared.number.ClassNo.{ClassNo}
+use Rattle.sdd_base.specs.declared.number.FragNo.{FragNo}
+use Rattle.sdd_blocks.specs.Blocks.{AreBlocks, ShareACycle}
+use Rattle.sdd_blocks.specs.Blocks.Linked.{last}
+use Rattle.sdd_blocks.specs.Graph.{Has, edges_of}
+use Rattle.sdd_blocks.proofs.Beside.{linked_around}
+use Rattle.sdd_blocks.proofs.Bridges.{cycle_joined_ends}
+use Rattle.sdd_catalog.specs.Catalogue.{Catalogue}
+use Rattle.sdd_graph.specs.Edges.{IsEdgeOf, ReadsFrom}
+use Rattle.sdd_graph.specs.Graph.{vertical_edges, horizontal_edges, diagonal_edges, conflict_graph, ends, read_node, write_node}
+use Rattle.sdd_graph.specs.declared.edge.Edge.{Edge}
+use Rattle.sdd_graph.specs.declared.edge.Edge.TheVariants.{Vertical, Horizontal, Diagonal}
+use Rattle.sdd_graph.proofs.Known.{edges_known}
+use Rattle.sdd_protocol.specs.Protocols.{IsTable, is_vertical_of, vertical_block, diagonal_protocol, protocol_in}
+use Rattle.sdd_protocol.specs.declared.entry.Entry.{Entry}
+use Rattle.sdd_protocol.specs.declared.protocol.Protocol.{Protocol}
+use Rattle.sdd_protocol.specs.declared.protocol.Protocol.TheVariants.{P1, P2, P3}
+use Rattle.sdd_protocol.proofs.Tables.{all_at, blocks_of, first_block, vertical_block-lists, first_block-vertical}
+use Rattle.sdd_advise.proofs.Edges.{joins_at, reach_without_edge, reach_without_node, step_along}
+use Rattle.sdd_advise.proofs.Members.{place_in}
+use Rattle.sdd_advise.proofs.Places.{one_place_each}
+use Rattle.sdd_advise.specs.Advices.{BeginsWith, ShowsP1, ShowsP2, ShowsP3, ShowsProtocol, ShowsFor}
+use Rattle.sdd_advise.specs.Cycles.{IsCycleFrom}
+use Rattle.sdd_advise.specs.Laws.{GoodAdviceIsRight}
+use Rattle.sdd_advise.specs.Reach.CanReach.{here}
+use Rattle.sdd_advise.specs.declared.advice.Advice.{Advice}
+
+many_edges : (cat : Catalogue) → length cat.classes ≤ length (conflict_graph cat)
+many_edges cat =
+    omega (
+      arith,
+      length-append (vertical_edges cat) (horizontal_edges cat ++ diagonal_edges cat),
+      length-map-range_with_len (λ i. Vertical (class_no i)) 1 (length cat.classes),
+    )
+
+-- the vertical edge of a class stands at the place of the class
+vertical_at : (cat : Catalogue) (i : ClassNo) → 1 ≤ i.0 → i.0 ≤ length cat.classes
+    → slice_get (conflict_graph cat) (i.0 - 1) ≡ Some (Vertical i)
+vertical_at cat i from to =
+    let d : Edge = Vertical i in
+    let n = length-map-range_with_len (λ c. Vertical (class_no c)) 1 (length cat.classes) in
+    let many = many_edges cat in
+    slice_get-get_or (conflict_graph cat) (i.0 - 1) d (omega arith)
+    ∙ ap (λ z. Some z)
+      (get_or_append_left (vertical_edges cat) (horizontal_edges cat ++ diagonal_edges cat) d (i.0 - 1) (omega arith)
+      ∙ get_or-map-range_with_len (λ c. Vertical (class_no c)) 1 (length cat.classes) (i.0 - 1) i.0 d (omega arith) (omega arith))
+
+-- the protocol of a diagonal by its block
+off_cycles : (b v : ℕ) → b ≡ 0 → diagonal_protocol b v ≡ P1
+off_cycles b v e = ap (λ z. diagonal_protocol z v) e
+
+linked_with : (b v : ℕ) → b ≢ 0 → b ≡ v → diagonal_protocol b v ≡ P3
+linked_with b v n e = rw (ne_eqb b 0 n, eq-eqb b v e) refl
+
+on_other_cycles : (b v : ℕ) → b ≢ 0 → b ≢ v → diagonal_protocol b v ≡ P2
+on_other_cycles b v n m = rw (ne_eqb b 0 n, ne_eqb b v m) refl
+
+-- a diagonal of the graph with its place and block, and the place and block of its reader's vertical edge
+record HasBlocks (cat : Catalogue) (blocks : List ℕ) (i j : ClassNo) (f : FragNo) (k b v : ℕ) : Type 0 where
+  are : AreBlocks (map ends (conflict_graph cat)) blocks
+  here_at : slice_get (conflict_graph cat) k ≡ Some (Diagonal i j f)
+  block_at : slice_get blocks k ≡ Some b
+  there_at : slice_get (conflict_graph cat) (i.0 - 1) ≡ Some (Vertical i)
+  vertical_at : slice_get blocks (i.0 - 1) ≡ Some v
+  apart : write_node j.0 ≢ read_node i.0
+  own_apart : write_node i.0 ≢ read_node i.0
+
+module _ (cat : Catalogue) (blocks : List ℕ) (i j : ClassNo) (f : FragNo) (k b v : ℕ) (h : HasBlocks cat blocks i j f k b v) (advice : Advice) where
+  shown_p1 : ShowsP1 (conflict_graph cat) (Diagonal i j f) (read_node i.0) (write_node j.0) advice
+      → diagonal_protocol b v ≡ P1
+  shown_p1 s =
+      let edges = conflict_graph cat in
+      let joins = joins_at edges k (Diagonal i j f) (read_node i.0) (write_node j.0) h.here_at (inl refl) in
+      off_cycles b v
+      (elim (cases_eq b 0) [
+        | inl e ↦ e
+        | inr n ↦
+            let positive : b ≡ suc (b - 1) = omega arith in
+            let on = h.are.some k (b - 1) (h.block_at ∙ ap (λ z. Some z) positive) in
+            let w = cycle_joined_ends (map ends edges) k (read_node i.0) (write_node j.0) on joins in
+            absurd (s.reader_apart ((s.reached.whole (read_node i.0)).1
+            (reach_without_edge edges k (Diagonal i j f) (λ m e. one_place_each cat m k (Diagonal i j f) e h.here_at)
+            (write_node j.0) (write_node j.0) w.steps (read_node i.0) here w.walk w.avoids)))
+      ])
+
+  -- the diagonal and an edge that are on the cycle share it
+  share : (start : ℕ) (cycle : List Edge) (m n y : ℕ) (e : Edge) → IsCycleFrom (conflict_graph cat) start cycle
+      → slice_get cycle m ≡ Some (Diagonal i j f) → slice_get cycle n ≡ Some e
+      → slice_get (conflict_graph cat) y ≡ Some e → ShareACycle (map ends (conflict_graph cat)) k y
+  share start cycle m n y e c p q there =
+      let one = step_along (conflict_graph cat) c.steps cycle m (Diagonal i j f) c.along p in
+      let other = step_along (conflict_graph cat) c.steps cycle n e c.along q in
+      record {
+        start = start;
+        steps = c.steps;
+        cycle = c.simple;
+        first = subst (λ z. Has (edges_of c.steps) z) (one_place_each cat one.0 k (Diagonal i j f) one.2 h.here_at) one.1;
+        second = subst (λ z. Has (edges_of c.steps) z) (one_place_each cat other.0 y e other.2 there) other.1;
+      }
+
+  -- so it has a block
+  on_cycle : (start : ℕ) (cycle : List Edge) → IsCycleFrom (conflict_graph cat) start cycle
+      → BeginsWith (Diagonal i j f) cycle → b ≢ 0
+  on_cycle start cycle c p z =
+      h.are.none k (h.block_at ∙ ap (λ y. Some y) z) (share start cycle 0 0 k (Diagonal i j f) c p p h.here_at)
+
+  shown_p2 : ShowsP2 (conflict_graph cat) (Diagonal i j f) (read_node i.0) (write_node j.0) (write_node i.0) advice
+      → diagonal_protocol b v ≡ P2
+  shown_p2 s =
+      let edges = conflict_graph cat in
+      let n = on_cycle (read_node i.0) advice.cycle s.cycle s.begins in
+      on_other_cycles b v n
+      (λ e.
+      let linked = (h.are.same k (i.0 - 1) b v h.block_at h.vertical_at n).0 e in
+      let w =
+      linked_around (map ends edges) (read_node i.0) k (write_node j.0) (i.0 - 1) (write_node i.0) linked
+      (joins_at edges k (Diagonal i j f) (read_node i.0) (write_node j.0) h.here_at (inl refl)) h.apart
+      (joins_at edges (i.0 - 1) (Vertical i) (read_node i.0) (write_node i.0) h.there_at (inl refl)) h.own_apart in
+      s.own_apart ((s.reached.whole (write_node i.0)).1
+      (reach_without_node edges (read_node i.0) (write_node j.0) (write_node j.0) w.steps (write_node i.0) here w.walk w.avoids)))
+
+  shown_p3 : ShowsP3 (conflict_graph cat) (Diagonal i j f) (Vertical i) (read_node i.0) advice
+      → diagonal_protocol b v ≡ P3
+  shown_p3 s =
+      let n = on_cycle (read_node i.0) advice.cycle s.cycle s.begins in
+      let both = share (read_node i.0) advice.cycle 0 (length advice.cycle - 1) (i.0 - 1) (Vertical i) s.cycle s.begins s.ends h.there_at in
+      linked_with b v n ((h.are.same k (i.0 - 1) b v h.block_at h.vertical_at n).1 (last both))
+
+  shown : (p : Protocol) → ShowsProtocol (conflict_graph cat) (Diagonal i j f) i j advice p
+      → diagonal_protocol b v ≡ p
+  shown P1 s = shown_p1 s
+  shown P2 s = shown_p2 s
+  shown P3 s = shown_p3 s
+
+module _ (cat : Catalogue) (entries : List Entry) (t : IsTable cat entries) (k : ℕ) (entry : Entry) (at : slice_get entries k ≡ Some entry) where
+  edge_at : slice_get (conflict_graph cat) k ≡ Some entry.edge
+  edge_at =
+      ap (λ z. slice_get z k) (sym t.edges)
+      ∙ slice_get-map (λ z. z.edge) entries k
+      ∙ ap (λ o. option_map (λ (z : Entry). z.edge) o) at
+
+  block_at : slice_get (blocks_of entries) k ≡ Some entry.block
+  block_at = slice_get-map (λ z. z.block) entries k ∙ ap (λ o. option_map (λ (z : Entry). z.block) o) at
+
+  module _ (i j : ClassNo) (f : FragNo) (is : entry.edge ≡ Diagonal i j f) where
+    known : ReadsFrom cat i.0 j.0 f.0
+    known = subst (λ z. IsEdgeOf cat z) is (all_at (IsEdgeOf cat) (conflict_graph cat) k entry.edge (edges_known cat) edge_at)
+
+    -- the block of the reader's vertical edge
+    vertical_is : vertical_block entries i.0 ≡ get_or (blocks_of entries) (i.0 - 1) 0
+    vertical_is =
+        let from = known.reader.from in
+        let to = known.reader.to in
+        let many = many_edges cat in
+        let long : length (blocks_of entries) ≡ length (conflict_graph cat) = t.blocks.one_each ∙ length-map (conflict_graph cat) ends in
+        vertical_block-lists entries i.0
+        ∙ ap (λ z. first_block (is_vertical_of i.0) z (blocks_of entries)) t.edges
+        ∙ first_block-vertical (length cat.classes) 1 (i.0 - 1) i.0 (horizontal_edges cat ++ diagonal_edges cat) (blocks_of entries) (omega arith) (omega arith) (omega arith)
+
+    has_blocks : HasBlocks cat (blocks_of entries) i j f k entry.block (vertical_block entries i.0)
+    has_blocks =
+        let edges = conflict_graph cat in
+        let from = known.reader.from in
+        let to = known.reader.to in
+        let from_j = known.writer.from in
+        let others = known.others in
+        let many = many_edges cat in
+        let long : length (blocks_of entries) ≡ length edges = t.blocks.one_each ∙ length-map edges ends in
+        record {
+          are = t.blocks;
+          here_at = edge_at ∙ ap (λ z. Some z) is;
+          block_at = block_at;
+          there_at = vertical_at cat i from to;
+          vertical_at = slice_get-get_or (blocks_of entries) (i.0 - 1) 0 (omega arith) ∙ ap (λ z. Some z) (sym vertical_is);
+          apart = λ e. omega arith;
+          own_apart = λ e. omega arith;
+        }
+
+    right : (advice : Advice) → ShowsProtocol (conflict_graph cat) (Diagonal i j f) i j advice advice.protocol
+        → entry.protocol ≡ advice.protocol
+    right advice s =
+        all_at (λ z. z.protocol ≡ protocol_in entries z.edge z.block) entries k entry t.protocols at
+        ∙ ap (λ z. protocol_in entries z entry.block) is
+        ∙ shown cat (blocks_of entries) i j f k entry.block (vertical_block entries i.0) has_blocks advice advice.protocol s
+
+  right_for : (e : Edge) → entry.edge ≡ e → (advice : Advice) → ShowsFor (conflict_graph cat) advice e
+      → entry.protocol ≡ advice.protocol
+  right_for (Vertical i) is advice s = absurd s
+  right_for (Horizontal i j) is advice s = absurd s
+  right_for (Diagonal i j f) is advice s = right i j f is advice s.1
+
+pub good_advice_is_right : (cat : Catalogue) → GoodAdviceIsRight cat
+good_advice_is_right cat entries t advice good entry among is =
+    let k = place_in entries entry among in
+    right_for cat entries t k.0 entry k.1 advice.edge is advice good

@@ -1,0 +1,11 @@
+pub mod Advices
+pub mod Cycles
+pub mod Laws
+pub mod Neighbours
+pub mod Passing
+pub mod Reach
+pub mod Rows
+pub mod Searches
+pub mod Texts
+pub mod Walks
+pub mod Ways

@@ -1,0 +1,150 @@
+ghost use Rattle.std.specs.Prelude.{◌≡◌, ◌<◌, ◌≤◌, ◌*◌, ◌↔◌, map, All, Contains, IfOk, IsTrue};
+ghost use Rattle.std.specs.List.{range_with_len};
+ghost use Rattle.sdd_graph.specs.Edges.{NamesClasses};
+ghost use Rattle.sdd_graph.specs.Graph.{ends};
+ghost use Rattle.sdd_advise.specs.Neighbours.{neighbour_by, neighbours, network_of, other_end};
+
+use crate::neighbour::Neighbour;
+use sdd_base::{Listed, MAX_CLASSES, NoMemory, is_same};
+use sdd_catalog::Catalogue;
+use sdd_graph::{Edge, conflict_graph, ends};
+use std::alloc::Global;
+use std::marker::Model;
+
+/// A conflict graph, with the edges at each node laid out for quick answers.
+#[derive(Drop)]
+pub(crate) struct Graph {
+    nodes: u32,
+    edges: Vec<Edge>,
+    neighbours: Vec<Listed<Neighbour>>,
+}
+
+impl Model for Graph {
+    ghost use Rattle.std.specs.Prelude.{◌≤◌};
+    ghost use Rattle.sdd_advise.specs.Neighbours as network;
+
+    ghost Value = { network.Network };
+
+    ghost view = { λ g. record { edges = g.edges.items; nodes = g.nodes } };
+
+    ghost invariant = { λ g. network.IsLaidOut g.edges.items g.nodes g.neighbours.items };
+}
+
+impl Graph {
+    /// The catalogue's conflict graph. Costs one pass over its edges for each node.
+    pub(crate) fn of(alloc: Global, cat: &Catalogue) -> Result<Graph, NoMemory>
+        ensures { IfOk result (λ graph. graph ≡ network_of cat.now) }
+    {
+        cat.known();
+        let edges = conflict_graph(alloc, cat)?;
+        let nodes = 2 * cat.classes();
+        let neighbours = all_neighbours(alloc, &edges, nodes)?;
+        Ok(Graph {
+            nodes,
+            edges,
+            neighbours,
+        })
+    }
+
+    /// How many nodes there are.
+    pub(crate) fn nodes(&self) -> u32
+        ensures { result ≡ self.now.nodes }
+    {
+        self.nodes
+    }
+
+    /// The edges, in their order.
+    pub(crate) fn edges(&self) -> &[Edge]
+        ensures list { result.now ≡ self.now.edges }
+        ensures named { All NamesClasses result.now }
+        ensures within { All (λ e. ((ends e).0 < self.now.nodes) × ((ends e).1 < self.now.nodes)) result.now }
+    {
+        self.edges.as_slice()
+    }
+
+    /// The edges at the node, in their order, each with the node to which it leads.
+    pub(crate) fn neighbours(&self, node: u32) -> &[Neighbour]
+        requires { node < self.now.nodes }
+        ensures { result.now ≡ neighbours self.now.edges node }
+    {
+        self.neighbours[node as usize].as_slice()
+    }
+
+    /// Whether the edge is one of the graph. Costs a pass over the edges.
+    pub(crate) fn has(&self, edge: &Edge) -> bool
+        ensures { IsTrue result ↔ Contains self.now.edges edge.now }
+    {
+        has_edge(&self.edges, edge)
+    }
+}
+
+/// Whether the edge is one of the edges.
+fn has_edge(edges: &[Edge], edge: &Edge) -> bool
+    ensures { IsTrue result ↔ Contains edges.now edge.now }
+{
+    for other in edges {
+        if is_same(other, edge) {
+            return true;
+        }
+    }
+    false
+}
+
+/// For each node, ascending, the edges at it.
+fn all_neighbours(
+    alloc: Global,
+    edges: &[Edge],
+    nodes: u32,
+) -> Result<Vec<Listed<Neighbour>>, NoMemory>
+    requires { All NamesClasses edges.now }
+    ensures { IfOk result (λ lists. lists.items ≡ map (neighbours edges.now) (range_with_len 0 nodes)) }
+{
+    let mut lists = Vec::new(alloc);
+    for node in 0..nodes {
+        let list = neighbours_at(alloc, edges, node)?;
+        lists.push(Listed::from_vec(list))?;
+    }
+    Ok(lists)
+}
+
+/// The edges at the node.
+fn neighbours_at(alloc: Global, edges: &[Edge], node: u32) -> Result<Vec<Neighbour>, NoMemory>
+    requires { All NamesClasses edges.now }
+    ensures { IfOk result (λ list. list.items ≡ neighbours edges.now node) }
+{
+    Ok(
+        edges
+            .iter()
+            .filter_map(|edge| neighbour_by(edge, node))
+            .collect(alloc)?,
+    )
+}
+
+/// The edge as one that leads from the node to a neighbour, where it is at the node.
+fn neighbour_by(edge: &Edge, node: u32) -> Option<Neighbour>
+    requires { NamesClasses edge.now }
+    ensures { result ≡ neighbour_by node edge.now }
+{
+    match other_end(edge, node) {
+        Some(other) => Some(Neighbour {
+            edge: *edge,
+            node: other,
+        }),
+        None => None,
+    }
+}
+
+/// The end of the edge other than the node, where the edge is at the node.
+pub(crate) fn other_end(edge: &Edge, node: u32) -> Option<u32>
+    requires { NamesClasses edge.now }
+    ensures { result ≡ other_end edge.now node }
+{
+    let (a, b) = ends(edge);
+    if a == node {
+        Some(b)
+    } else if b == node {
+        Some(a)
+    } else {
+        None
+    }
+}

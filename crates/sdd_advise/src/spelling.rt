@@ -1,0 +1,259 @@
+ghost use Rattle.std.specs.Prelude.{◌≡◌, ◌≤◌, ◌<◌, ◌*◌, ◌++◌, length, All, IfOk, OnOk};
+ghost use Rattle.std.specs.List.{flat_map};
+ghost use Rattle.sdd_graph.specs.Edges.{IsEdgeOf};
+ghost use Rattle.sdd_advise.specs.Advices.{IsGood};
+ghost use Rattle.sdd_advise.specs.Texts as shown;
+
+use crate::advice::Advice;
+use crate::advising::advise;
+use sdd_base::{ClassNo, FragNo, NoMemory};
+use sdd_catalog::Catalogue;
+use sdd_graph::Edge;
+use sdd_protocol::Protocol;
+use sdd_words::{put, put_count};
+use std::alloc::Global;
+
+/// The text of one good advice for each diagonal of the catalogue's conflict graph, in their order.
+///
+/// The first line of an advice says what the reader reads, where, who writes it, and the protocol; then
+/// each edge of the cycle has a line, and the nodes apart have one, but for P3. Costs what `advise` does,
+/// and time linear in the text.
+pub fn advice_text(alloc: Global, cat: &Catalogue) -> Result<Vec<u8>, NoMemory>
+    ensures { IfOk result (λ text. shown.IsAdviceText cat.now text.items) }
+{
+    let advices = advise(alloc, cat)?;
+    let mut text = Vec::new(alloc);
+    put_advices(&mut text, cat, &advices)?;
+    Ok(text)
+}
+
+fn put_advices(text: &mut Vec<u8>, cat: &Catalogue, advices: &[Advice]) -> Result<(), NoMemory>
+    requires { All (IsGood cat.now) advices.now }
+    ensures { OnOk result (text.new.items ≡ text.old.items ++ shown.advices_text cat.now advices.now) }
+{
+    'advices: for advice in advices {
+        put_advice(text, cat, advice)?;
+    }
+    Ok(())
+}
+
+fn put_advice(text: &mut Vec<u8>, cat: &Catalogue, advice: &Advice) -> Result<(), NoMemory>
+    requires { IsGood cat.now advice.now }
+    ensures { OnOk result (text.new.items ≡ text.old.items ++ shown.advice_lines cat.now advice.now) }
+{
+    put_first_line(text, cat, advice.protocol, &advice.edge)?;
+    put_cycle(text, cat, advice.cycle.as_slice())?;
+    put_apart(text, cat, advice.protocol, advice.apart.as_slice())
+}
+
+/// The first line of a diagonal's advice; another edge has none.
+fn put_first_line(
+    text: &mut Vec<u8>,
+    cat: &Catalogue,
+    protocol: Protocol,
+    edge: &Edge,
+) -> Result<(), NoMemory>
+    requires { IsEdgeOf cat.now edge.now }
+    ensures { OnOk result (text.new.items ≡ text.old.items ++ shown.first_line cat.now protocol edge.now) }
+{
+    match edge {
+        Edge::Vertical(_) => Ok(()),
+        Edge::Horizontal(_, _) => Ok(()),
+        Edge::Diagonal(reader, writer, frag) => {
+            put_read(text, cat, *reader, *frag)?;
+            put_writer(text, cat, *writer, protocol)?;
+            put(text, b"\n")
+        }
+    }
+}
+
+/// Which fragment a class reads, and where.
+fn put_read(
+    text: &mut Vec<u8>,
+    cat: &Catalogue,
+    class: ClassNo,
+    frag: FragNo,
+) -> Result<(), NoMemory>
+    requires class_from { 1 ≤ class.0 }
+    requires class_to { class.0 ≤ length cat.now.classes }
+    requires from { 1 ≤ frag.0 }
+    requires to { frag.0 ≤ length cat.now.fragments }
+    ensures { OnOk result (text.new.items ≡ text.old.items ++ shown.read_words cat.now class frag) }
+{
+    put_class(text, cat, class)?;
+    put(text, b" reads ")?;
+    put_fragment(text, cat, frag)?;
+    put(text, b" at D")?;
+    put_module(text, cat, class, frag)
+}
+
+/// The number of the module at which the class reads the fragment.
+fn put_module(
+    text: &mut Vec<u8>,
+    cat: &Catalogue,
+    class: ClassNo,
+    frag: FragNo,
+) -> Result<(), NoMemory>
+    requires class { class.0 ≤ length cat.now.classes }
+    requires from { 1 ≤ frag.0 }
+    requires to { frag.0 ≤ length cat.now.fragments }
+    ensures { OnOk result (text.new.items ≡ text.old.items ++ shown.module_number cat.now class frag) }
+{
+    match cat.reads_at(class, frag) {
+        Some(module) => put_count(text, u64::from(module.0)),
+        None => put_count(text, 0),
+    }
+}
+
+/// Who writes it, and the protocol.
+fn put_writer(
+    text: &mut Vec<u8>,
+    cat: &Catalogue,
+    class: ClassNo,
+    protocol: Protocol,
+) -> Result<(), NoMemory>
+    requires from { 1 ≤ class.0 }
+    requires to { class.0 ≤ length cat.now.classes }
+    ensures { OnOk result (text.new.items ≡ text.old.items ++ shown.writer_words cat.now class protocol) }
+{
+    put(text, b" writer ")?;
+    put_class(text, cat, class)?;
+    put(text, b" ")?;
+    put_protocol(text, protocol)
+}
+
+fn put_protocol(text: &mut Vec<u8>, protocol: Protocol) -> Result<(), NoMemory>
+    ensures { OnOk result (text.new.items ≡ text.old.items ++ shown.protocol_word protocol) }
+{
+    match protocol {
+        Protocol::P1 => put(text, b"P1"),
+        Protocol::P2 => put(text, b"P2"),
+        Protocol::P3 => put(text, b"P3"),
+    }
+}
+
+/// One line for each edge of the cycle.
+fn put_cycle(text: &mut Vec<u8>, cat: &Catalogue, cycle: &[Edge]) -> Result<(), NoMemory>
+    requires { All (IsEdgeOf cat.now) cycle.now }
+    ensures { OnOk result (text.new.items ≡ text.old.items ++ flat_map (shown.cycle_line cat.now) cycle.now) }
+{
+    'edges: for edge in cycle {
+        put_cycle_line(text, cat, edge)?;
+    }
+    Ok(())
+}
+
+fn put_cycle_line(text: &mut Vec<u8>, cat: &Catalogue, edge: &Edge) -> Result<(), NoMemory>
+    requires { IsEdgeOf cat.now edge.now }
+    ensures { OnOk result (text.new.items ≡ text.old.items ++ shown.cycle_line cat.now edge.now) }
+{
+    put(text, b"by ")?;
+    put_edge(text, cat, edge)?;
+    put(text, b"\n")
+}
+
+/// What an edge is, and what it joins.
+fn put_edge(text: &mut Vec<u8>, cat: &Catalogue, edge: &Edge) -> Result<(), NoMemory>
+    requires { IsEdgeOf cat.now edge.now }
+    ensures { OnOk result (text.new.items ≡ text.old.items ++ shown.edge_words cat.now edge.now) }
+{
+    match edge {
+        Edge::Vertical(class) => {
+            put(text, b"vertical ")?;
+            put_class(text, cat, *class)
+        }
+        Edge::Horizontal(first, second) => {
+            put(text, b"horizontal ")?;
+            put_classes(text, cat, *first, *second)
+        }
+        Edge::Diagonal(reader, writer, frag) => {
+            put(text, b"diagonal ")?;
+            put_classes(text, cat, *reader, *writer)?;
+            put(text, b" ")?;
+            put_fragment(text, cat, *frag)
+        }
+    }
+}
+
+/// The names of two classes.
+fn put_classes(
+    text: &mut Vec<u8>,
+    cat: &Catalogue,
+    first: ClassNo,
+    second: ClassNo,
+) -> Result<(), NoMemory>
+    requires first_from { 1 ≤ first.0 }
+    requires first_to { first.0 ≤ length cat.now.classes }
+    requires second_from { 1 ≤ second.0 }
+    requires second_to { second.0 ≤ length cat.now.classes }
+    ensures { OnOk result (text.new.items ≡ text.old.items ++ shown.two_words (shown.class_name cat.now first) (shown.class_name cat.now second)) }
+{
+    put_class(text, cat, first)?;
+    put(text, b" ")?;
+    put_class(text, cat, second)
+}
+
+fn put_class(text: &mut Vec<u8>, cat: &Catalogue, class: ClassNo) -> Result<(), NoMemory>
+    requires from { 1 ≤ class.0 }
+    requires to { class.0 ≤ length cat.now.classes }
+    ensures { OnOk result (text.new.items ≡ text.old.items ++ shown.class_name cat.now class) }
+{
+    put(text, cat.class(class).name.as_str().as_bytes())
+}
+
+fn put_fragment(text: &mut Vec<u8>, cat: &Catalogue, frag: FragNo) -> Result<(), NoMemory>
+    requires from { 1 ≤ frag.0 }
+    requires to { frag.0 ≤ length cat.now.fragments }
+    ensures { OnOk result (text.new.items ≡ text.old.items ++ shown.fragment_name cat.now frag) }
+{
+    put(text, cat.fragment(frag).name.as_str().as_bytes())
+}
+
+/// The line of the nodes apart, which P3 hasn't.
+fn put_apart(
+    text: &mut Vec<u8>,
+    cat: &Catalogue,
+    protocol: Protocol,
+    nodes: &[u32],
+) -> Result<(), NoMemory>
+    requires { All (λ node. node < 2 * length cat.now.classes) nodes.now }
+    ensures { OnOk result (text.new.items ≡ text.old.items ++ shown.apart_line cat.now protocol nodes.now) }
+{
+    match protocol {
+        Protocol::P1 => put_nodes_line(text, cat, nodes),
+        Protocol::P2 => put_nodes_line(text, cat, nodes),
+        Protocol::P3 => Ok(()),
+    }
+}
+
+fn put_nodes_line(text: &mut Vec<u8>, cat: &Catalogue, nodes: &[u32]) -> Result<(), NoMemory>
+    requires { All (λ node. node < 2 * length cat.now.classes) nodes.now }
+    ensures { OnOk result (text.new.items ≡ text.old.items ++ shown.nodes_line cat.now nodes.now) }
+{
+    put(text, b"apart")?;
+    put_nodes(text, cat, nodes)?;
+    put(text, b"\n")
+}
+
+fn put_nodes(text: &mut Vec<u8>, cat: &Catalogue, nodes: &[u32]) -> Result<(), NoMemory>
+    requires { All (λ node. node < 2 * length cat.now.classes) nodes.now }
+    ensures { OnOk result (text.new.items ≡ text.old.items ++ flat_map (shown.spaced_node cat.now) nodes.now) }
+{
+    'nodes: for node in nodes {
+        put_node(text, cat, *node)?;
+    }
+    Ok(())
+}
+
+/// A node, with a space before it: whether it is a read or a write node, and of which class.
+fn put_node(text: &mut Vec<u8>, cat: &Catalogue, node: u32) -> Result<(), NoMemory>
+    requires { node < 2 * length cat.now.classes }
+    ensures { OnOk result (text.new.items ≡ text.old.items ++ shown.spaced_node cat.now node) }
+{
+    if node % 2 == 0 {
+        put(text, b" r:")?;
+    } else {
+        put(text, b" w:")?;
+    }
+    put_class(text, cat, ClassNo(node / 2 + 1))
+}
