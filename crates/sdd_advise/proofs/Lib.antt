@@ -1,4 +1,12 @@
+pub mod Ascending
+pub mod Beside
+pub mod Distinctness
 pub mod Edges
+pub mod Found
+pub mod Going
+pub mod Laid
 pub mod Members
 pub mod Places
 pub mod Right
+pub mod Rounds
+pub mod WayBack

@@ -76,8 +76,8 @@ pub unlike_map : {X Y : Type 0} (f : X → Y) (back : Y → X) (xs : List X) →
 unlike_map f back [] told one = tt
 unlike_map f back (x ∷ xs) told one = (
   (λ h.
-  let r = among_map f xs (f x) h in
-  one.0 (subst (λ z. Among xs z) (sym (told r.0) ∙ ap back r.2 ∙ told x) r.1)),
+      let r = among_map f xs (f x) h in
+      one.0 (subst (λ z. Among xs z) (sym (told r.0) ∙ ap back r.2 ∙ told x) r.1)),
   unlike_map f back xs told one.1,
 )
 

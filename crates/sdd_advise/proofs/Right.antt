@@ -50,8 +50,8 @@ vertical_at cat i from to =
     let many = many_edges cat in
     slice_get-get_or (conflict_graph cat) (i.0 - 1) d (omega arith)
     ∙ ap (λ z. Some z)
-      (get_or_append_left (vertical_edges cat) (horizontal_edges cat ++ diagonal_edges cat) d (i.0 - 1) (omega arith)
-      ∙ get_or-map-range_with_len (λ c. Vertical (class_no c)) 1 (length cat.classes) (i.0 - 1) i.0 d (omega arith) (omega arith))
+    (get_or_append_left (vertical_edges cat) (horizontal_edges cat ++ diagonal_edges cat) d (i.0 - 1) (omega arith)
+    ∙ get_or-map-range_with_len (λ c. Vertical (class_no c)) 1 (length cat.classes) (i.0 - 1) i.0 d (omega arith) (omega arith))
 
 -- the protocol of a diagonal by its block
 off_cycles : (b v : ℕ) → b ≡ 0 → diagonal_protocol b v ≡ P1

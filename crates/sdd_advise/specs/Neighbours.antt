@@ -1,5 +1,5 @@
 -- The edges at a node of a conflict graph.
-use Rattle.std.specs.Prelude.{ℕ, ◌*◌, ◌<◌, ◌==◌, ◌≡◌, if◌then◌else◌, List, map, length, All, Option, None, Some, option_map}
+use Rattle.std.specs.Prelude.{ℕ, ◌*◌, ◌<◌, ◌==◌, ◌≡◌, if◌then◌else◌, List, map, length, slice_get, All, Option, None, Some, option_map}
 use Rattle.std.specs.List.{filter_map, range_with_len}
 use Rattle.sdd_catalog.specs.Catalogue.{Catalogue}
 use Rattle.sdd_graph.specs.declared.edge.Edge.{Edge}
@@ -30,8 +30,14 @@ pub record Network : Type 0 where
 abbrev pub network_of : Catalogue → Network
 network_of cat = record { edges = conflict_graph cat; nodes = 2 * length cat.classes }
 
+-- no edge is there twice
+abbrev pub HasEachOnce : List Edge → Type 0
+HasEachOnce edges =
+    (j k : ℕ) (edge : Edge) → slice_get edges j ≡ Some edge → slice_get edges k ≡ Some edge → j ≡ k
+
 -- what is known of the edges, and what is kept for each node, ascending
 pub record IsLaidOut (edges : List Edge) (nodes : ℕ) (lists : List (List Neighbour)) : Type 0 where
+  pub once : HasEachOnce edges
   pub named : All NamesClasses edges
   pub within : All (λ edge. ((ends edge).0 < nodes) × ((ends edge).1 < nodes)) edges
   pub laid : lists ≡ map (neighbours edges) (range_with_len 0 nodes)

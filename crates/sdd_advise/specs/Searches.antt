@@ -1,5 +1,5 @@
 -- A search of a graph: the nodes that were reached, in that order, and for each node its place among them.
-use Rattle.std.specs.Prelude.{ℕ, ◌+◌, ◌<◌, ◌≤◌, ◌≡◌, true, List, length, filter, slice_index_or, count_by, Option, None, Some, is_some, is_none, MatchOption, Contains}
+use Rattle.std.specs.Prelude.{ℕ, ◌+◌, ◌^◌, ◌<◌, ◌≤◌, ◌≡◌, true, List, length, filter, slice_index_or, count_by, Option, None, Some, is_some, is_none, MatchOption, Contains}
 use Rattle.std.specs.List.{range_with_len}
 use Rattle.sdd_graph.specs.declared.edge.Edge.{Edge}
 use Rattle.sdd_advise.specs.Neighbours.{Network}
@@ -36,6 +36,7 @@ pub record LeadsTo (edges : List Edge) (Goes : Edge → Type 0) (reached : List 
 
 -- the search is under way: from the nodes before a place it has gone on along all edges that pass
 pub record IsUnderWay (edges : List Edge) (Goes : Edge → Type 0) (nodes place : ℕ) (places : List (Option ℕ)) (reached : List Reached) : Type 0 where
+  pub few : nodes < 2 ^ 32
   pub one_each : length places ≡ nodes
   pub room : count_by is_none places + length reached ≡ nodes
   pub up_to : place ≤ length reached

@@ -81,7 +81,10 @@ fn shows_p2(
         IsTrue answer ↔ ShowsP2 graph.now.edges advice.now.edge read write own advice.now) }
 {
     let cycle = advice.cycle.as_slice();
-    if !begins_with(cycle, &advice.edge) || !is_cycle_from(alloc, graph, read, cycle)? {
+    if !begins_with(cycle, &advice.edge) {
+        return Ok(false);
+    }
+    if !is_cycle_from(alloc, graph, read, cycle)? {
         return Ok(false);
     }
     let without = Without::OneNode(read);
@@ -99,7 +102,10 @@ fn shows_p3(
         IsTrue answer ↔ ShowsP3 graph.now.edges advice.now.edge vertical.now read advice.now) }
 {
     let cycle = advice.cycle.as_slice();
-    if !begins_with(cycle, &advice.edge) || !ends_with(cycle, vertical) {
+    if !begins_with(cycle, &advice.edge) {
+        return Ok(false);
+    }
+    if !ends_with(cycle, vertical) {
         return Ok(false);
     }
     if !advice.apart.as_slice().is_empty() {

@@ -19,7 +19,11 @@ pub(crate) fn is_cycle_from(
 ) -> Result<bool, NoMemory>
     ensures { IfOk result (λ answer. IsTrue answer ↔ IsCycleFrom graph.now.edges start cycle.now) }
 {
-    if cycle.len() < 2 || !has_all(graph, cycle) {
+    graph.known();
+    if cycle.len() < 2 {
+        return Ok(false);
+    }
+    if !has_all(graph, cycle) {
         return Ok(false);
     }
     // Two parallel edges form a cycle, one edge there and back does not.
@@ -52,7 +56,7 @@ fn nodes_along(alloc: Global, start: u32, edges: &[Edge]) -> Result<Option<Vec<u
 {
     let mut nodes = Vec::new(alloc);
     let mut at = start;
-    for edge in edges {
+    'edges: for edge in edges {
         match other_end(edge, at) {
             Some(next) => {
                 nodes.push(next)?;
@@ -69,9 +73,19 @@ fn is_round(alloc: Global, nodes: &[u32], start: u32, limit: u32) -> Result<bool
     requires { All (λ node. node < limit) nodes.now }
     ensures { IfOk result (λ answer. IsTrue answer ↔ ((slice_get nodes.now (length nodes.now - 1) ≡ Some start) × Differ nodes.now)) }
 {
+    if !ends_at(nodes, start) {
+        return Ok(false);
+    }
+    differ(alloc, nodes, limit)
+}
+
+/// Whether the node is the last of the nodes.
+fn ends_at(nodes: &[u32], node: u32) -> bool
+    ensures { IsTrue result ↔ (slice_get nodes.now (length nodes.now - 1) ≡ Some node) }
+{
     match nodes.last() {
-        Some(last) => Ok(*last == start && differ(alloc, nodes, limit)?),
-        None => Ok(false),
+        Some(last) => *last == node,
+        None => false,
     }
 }
 
@@ -81,7 +95,7 @@ fn differ(alloc: Global, nodes: &[u32], limit: u32) -> Result<bool, NoMemory>
     ensures { IfOk result (λ answer. IsTrue answer ↔ Differ nodes.now) }
 {
     let mut met = vec![in alloc; false; limit as usize]?;
-    for node in nodes {
+    'nodes: for node in nodes {
         if met[*node as usize] {
             return Ok(false);
         }

@@ -2,7 +2,7 @@ ghost use Rattle.std.specs.Prelude.{◌≡◌, ◌<◌, ◌≤◌, ◌*◌, ◌�
 ghost use Rattle.std.specs.List.{range_with_len};
 ghost use Rattle.sdd_graph.specs.Edges.{NamesClasses};
 ghost use Rattle.sdd_graph.specs.Graph.{ends};
-ghost use Rattle.sdd_advise.specs.Neighbours.{neighbour_by, neighbours, network_of, other_end};
+ghost use Rattle.sdd_advise.specs.Neighbours.{HasEachOnce, neighbour_by, neighbours, network_of, other_end};
 
 use crate::neighbour::Neighbour;
 use sdd_base::{Listed, MAX_CLASSES, NoMemory, is_same};
@@ -46,6 +46,16 @@ impl Graph {
         })
     }
 
+    /// What is known of every graph: no edge is there twice, each names classes by their numbers, and joins
+    /// nodes. Takes no memory.
+    pub(crate) fn known(&self)
+        ensures once { HasEachOnce self.now.edges }
+        ensures named { All NamesClasses self.now.edges }
+        ensures within { All (λ e. ((ends e).0 < self.now.nodes) × ((ends e).1 < self.now.nodes)) self.now.edges }
+    {
+        let _ = &self.edges;
+    }
+
     /// How many nodes there are.
     pub(crate) fn nodes(&self) -> u32
         ensures { result ≡ self.now.nodes }
@@ -55,9 +65,7 @@ impl Graph {
 
     /// The edges, in their order.
     pub(crate) fn edges(&self) -> &[Edge]
-        ensures list { result.now ≡ self.now.edges }
-        ensures named { All NamesClasses result.now }
-        ensures within { All (λ e. ((ends e).0 < self.now.nodes) × ((ends e).1 < self.now.nodes)) result.now }
+        ensures { result.now ≡ self.now.edges }
     {
         self.edges.as_slice()
     }
@@ -65,7 +73,9 @@ impl Graph {
     /// The edges at the node, in their order, each with the node to which it leads.
     pub(crate) fn neighbours(&self, node: u32) -> &[Neighbour]
         requires { node < self.now.nodes }
-        ensures { result.now ≡ neighbours self.now.edges node }
+        ensures list { result.now ≡ neighbours self.now.edges node }
+        ensures named { All (λ n. NamesClasses n.edge) result.now }
+        ensures within { All (λ n. n.node < self.now.nodes) result.now }
     {
         self.neighbours[node as usize].as_slice()
     }
@@ -82,7 +92,7 @@ impl Graph {
 fn has_edge(edges: &[Edge], edge: &Edge) -> bool
     ensures { IsTrue result ↔ Contains edges.now edge.now }
 {
-    for other in edges {
+    'others: for other in edges {
         if is_same(other, edge) {
             return true;
         }
@@ -100,7 +110,7 @@ fn all_neighbours(
     ensures { IfOk result (λ lists. lists.items ≡ map (neighbours edges.now) (range_with_len 0 nodes)) }
 {
     let mut lists = Vec::new(alloc);
-    for node in 0..nodes {
+    'nodes: for node in 0..nodes {
         let list = neighbours_at(alloc, edges, node)?;
         lists.push(Listed::from_vec(list))?;
     }

@@ -52,7 +52,7 @@ impl Search {
     {
         let mut search = Search::begun(alloc, graph.nodes(), start)?;
         let mut place = 0u32;
-        while (place as usize) < search.reached.len() {
+        'places: while (place as usize) < search.reached.len() {
             search.go_on(graph, without, place)?;
             place += 1;
         }
@@ -87,7 +87,7 @@ impl Search {
             (reached_at self.new.reached.items 0).node ≡ (reached_at self.old.reached.items 0).node) }
     {
         let node = self.reached[place as usize].node;
-        for neighbour in graph.neighbours(node) {
+        'neighbours: for neighbour in graph.neighbours(node) {
             if without.passes(&neighbour.edge) {
                 self.reach(
                     neighbour.node,
@@ -136,10 +136,11 @@ impl Search {
 
     /// The nodes that were reached, ascending.
     pub(crate) fn nodes(&self, alloc: Global) -> Result<Vec<u32>, NoMemory>
+        requires { length self.now.places.items < 2 ^ 32 }
         ensures { IfOk result (λ nodes. nodes.items ≡ placed_nodes self.now.places.items) }
     {
         let mut nodes = Vec::new(alloc);
-        for node in 0..self.places.len() as u32 {
+        'nodes: for node in 0..self.places.len() as u32 {
             if self.place(node).is_some() {
                 nodes.push(node)?;
             }
@@ -166,7 +167,7 @@ impl Search {
     {
         let mut way = Vec::new(alloc);
         let mut at = place;
-        while let Some(came) = self.came_to(at) {
+        'way: while let Some(came) = self.came_to(at) {
             way.push(came.edge)?;
             at = came.from;
         }

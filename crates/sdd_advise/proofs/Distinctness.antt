@@ -1,0 +1,78 @@
+-- Whether no node is twice in a list, by marks.
+use Rattle.std.proofs.Common.{ℕ, zero, suc, ◌+◌, ◌<◌, ◌≤◌, ◌≡◌, Bool, true, false, List, [], ◌∷◌, ◌++◌, length, get_or, set, take, replicate, refl, sym, ap, ◌∙◌, subst, arith, inl, inr, length-set}
+use Rattle.std.proofs.lemmas.Bool.{both_ways, false_from_ne_true}
+use Rattle.std.proofs.lemmas.List.{take_more, take_all, length-replicate, get_or-replicate}
+use Rattle.sdd_blocks.specs.Graph.{Has, Differ}
+use Rattle.sdd_blocks.proofs.Members.{has_push_cases, has_push_last, differ_push}
+use Rattle.sdd_blocks.proofs.Places.{read_set}
+
+-- the nodes so far differ, and are those that are marked
+pub record IsMarking (nodes : List ℕ) (count limit : ℕ) (marks : List Bool) : Type 0 where
+  pub one_each : length marks ≡ limit
+  pub differ : Differ (take count nodes)
+  pub marked : (v : ℕ) → v < limit → get_or marks v false ≡ true → Has (take count nodes) v
+  pub has : (v : ℕ) → v < limit → Has (take count nodes) v → get_or marks v false ≡ true
+
+pub none_marked : (nodes : List ℕ) (limit : ℕ) (marks : List Bool) → marks ≡ replicate limit false
+    → IsMarking nodes 0 limit marks
+none_marked nodes limit marks e =
+    subst (λ z. IsMarking nodes 0 limit z) (sym e)
+    (record {
+      one_each = length-replicate limit false;
+      differ = tt;
+      marked = λ v l m. absurd (both_ways (get_or (replicate limit false) v false) (get_or-replicate limit v false false l) m);
+      has = λ v l h. absurd h;
+    })
+
+has_left : (xs ys : List ℕ) (v : ℕ) → Has xs v → Has (xs ++ ys) v
+has_left [] ys v h = absurd h
+has_left (x ∷ xs) ys v (inl e) = inl e
+has_left (x ∷ xs) ys v (inr h) = inr (has_left xs ys v h)
+
+pub one_marked : (nodes : List ℕ) (count limit : ℕ) (marks more : List Bool) → IsMarking nodes count limit marks
+    → count < length nodes → get_or nodes count 0 < limit
+    → get_or marks (get_or nodes count 0) false ≡ false → more ≡ set marks (get_or nodes count 0) true
+    → IsMarking nodes (count + 1) limit more
+one_marked nodes count limit marks more m l w fresh e =
+    let v = get_or nodes count 0 in
+    let longer : take (count + 1) nodes ≡ take count nodes ++ v ∷ [] = take_more nodes count 0 l in
+    let room : v < length marks = omega (arith, m.one_each) in
+    subst (λ z. IsMarking nodes (count + 1) limit z) (sym e)
+    (record {
+      one_each = length-set marks v true ∙ m.one_each;
+      differ =
+          subst Differ (sym longer)
+          (differ_push (take count nodes) v m.differ (λ h. both_ways (get_or marks v false) fresh (m.has v w h)));
+      marked = λ a b t.
+          subst (λ z. Has z a) (sym longer)
+          (elim (read_set marks v true a false room) [
+            | inl h ↦ subst (λ z. Has (take count nodes ++ v ∷ []) z) (sym h.0) (has_push_last (take count nodes) v)
+            | inr h ↦ has_left (take count nodes) (v ∷ []) a (m.marked a b (sym h.1 ∙ t))
+          ]);
+      has = λ a b h.
+          elim (read_set marks v true a false room) [
+            | inl r ↦ r.1
+            | inr r ↦
+                r.1
+                ∙ elim (has_push_cases (take count nodes) v a (subst (λ z. Has z a) longer h)) [
+                  | inl p ↦ m.has a b p
+                  | inr q ↦ absurd (r.0 (sym q))
+                ]
+          ];
+    })
+
+has_at : (xs : List ℕ) (k : ℕ) → k < length xs → Has xs (get_or xs k 0)
+has_at [] k l = absurd (omega arith)
+has_at (x ∷ xs) zero l = inl refl
+has_at (x ∷ xs) (suc k) l = inr (has_at xs k (omega arith))
+
+pub met_again : (nodes : List ℕ) (count : ℕ) → count < length nodes → Has (take count nodes) (get_or nodes count 0)
+    → ¬ Differ nodes
+met_again [] count l h d = absurd (omega arith)
+met_again (x ∷ xs) zero l h d = h
+met_again (x ∷ xs) (suc count) l (inl e) d = d.0 (subst (λ z. Has xs z) (sym e) (has_at xs count (omega arith)))
+met_again (x ∷ xs) (suc count) l (inr h) d = met_again xs count (omega arith) h d.1
+
+pub all_marked : (nodes : List ℕ) (count limit : ℕ) (marks : List Bool) → IsMarking nodes count limit marks
+    → length nodes ≤ count → Differ nodes
+all_marked nodes count limit marks m l = subst Differ (take_all count nodes l) m.differ

@@ -1,0 +1,70 @@
+-- How a graph is laid out.
+use Rattle.std.proofs.Common.{ℕ, ◌+◌, ◌*◌, ◌<◌, ◌≡◌, List, [], ◌∷◌, ◌++◌, map, length, get_or, sym, ap, ◌∙◌, subst, arith}
+use Rattle.std.specs.Prelude.{All}
+use Rattle.std.specs.List.{range_with_len}
+use Rattle.std.proofs.lemmas.List.Elements.{All-weaker, All-contains, All-same}
+use Rattle.std.proofs.lemmas.List.FromFn.{length-map-range_with_len, get_or-map-range_with_len, map-range_with_len_more}
+use Rattle.sdd_catalog.specs.Catalogue.{Catalogue}
+use Rattle.sdd_graph.specs.declared.edge.Edge.{Edge}
+use Rattle.sdd_graph.specs.Edges.{NamesClasses, JoinsNodes}
+use Rattle.sdd_graph.specs.Graph.{conflict_graph, ends}
+use Rattle.sdd_advise.specs.Neighbours.{neighbours, HasEachOnce, IsLaidOut}
+use Rattle.sdd_advise.specs.declared.neighbour.Neighbour.{Neighbour}
+use Rattle.sdd_advise.specs.Reach.{Joins}
+use Rattle.sdd_advise.proofs.Beside.{IsNeighbour, all_neighbours}
+use Rattle.sdd_advise.proofs.Places.{one_place_each}
+use Rattle.sdd_advise.proofs.Rounds.{end_within}
+
+pub laid_out : (cat : Catalogue) (classes nodes : ℕ) (edges : List Edge) (lists : List (List Neighbour))
+    → edges ≡ conflict_graph cat → All NamesClasses edges → All (JoinsNodes classes) edges
+    → nodes ≡ 2 * classes → lists ≡ map (neighbours edges) (range_with_len 0 nodes)
+    → IsLaidOut edges nodes lists
+laid_out cat classes nodes edges lists e named joined n laid =
+    record {
+      once = subst HasEachOnce (sym e) (one_place_each cat);
+      named = named;
+      within =
+          All-weaker (JoinsNodes classes) (λ x. ((ends x).0 < nodes) × ((ends x).1 < nodes))
+          (λ x j. (let l : (ends x).0 < 2 * classes = j.first in omega arith, let l : (ends x).1 < 2 * classes = j.second in omega arith))
+          edges joined;
+      laid = laid;
+    }
+
+pub laid_long : (edges : List Edge) (nodes : ℕ) (lists : List (List Neighbour)) → IsLaidOut edges nodes lists
+    → length lists ≡ nodes
+laid_long edges nodes lists laid = ap length laid.laid ∙ length-map-range_with_len (neighbours edges) 0 nodes
+
+pub laid_at : (edges : List Edge) (nodes node : ℕ) (lists : List (List Neighbour)) (d : List Neighbour)
+    → IsLaidOut edges nodes lists → node < nodes → get_or lists node d ≡ neighbours edges node
+laid_at edges nodes node lists d laid l =
+    ap (λ z. get_or z node d) laid.laid
+    ∙ get_or-map-range_with_len (neighbours edges) 0 nodes node node d l (omega arith)
+
+-- what leads from a node names classes and leads to nodes
+pub neighbours_named : (edges : List Edge) (nodes node : ℕ) (lists : List (List Neighbour)) (list : List Neighbour)
+    → IsLaidOut edges nodes lists → list ≡ neighbours edges node → All (λ n. NamesClasses n.edge) list
+neighbours_named edges nodes node lists list laid e =
+    All-same (λ (n : Neighbour). NamesClasses n.edge) list (neighbours edges node) e
+    (All-weaker (IsNeighbour edges node) (λ (n : Neighbour). NamesClasses n.edge)
+    (λ n is. All-contains NamesClasses edges n.edge laid.named is.is_edge)
+    (neighbours edges node) (all_neighbours edges node))
+
+pub neighbours_within : (edges : List Edge) (nodes node : ℕ) (lists : List (List Neighbour)) (list : List Neighbour)
+    → IsLaidOut edges nodes lists → list ≡ neighbours edges node → All (λ n. n.node < nodes) list
+neighbours_within edges nodes node lists list laid e =
+    All-same (λ (n : Neighbour). n.node < nodes) list (neighbours edges node) e
+    (All-weaker (IsNeighbour edges node) (λ (n : Neighbour). n.node < nodes)
+    (λ n is.
+    let w = All-contains (λ x. ((ends x).0 < nodes) × ((ends x).1 < nodes)) edges n.edge laid.within is.is_edge in
+    end_within nodes n.edge node n.node is.joins w.0 w.1)
+    (neighbours edges node) (all_neighbours edges node))
+
+-- one list more
+pub laid_more : (edges : List Edge) (lists more : List (List Neighbour)) (node : ℕ) (list : List Neighbour)
+    → lists ≡ map (neighbours edges) (range_with_len 0 node) → list ≡ neighbours edges node
+    → more ≡ lists ++ list ∷ [] → more ≡ map (neighbours edges) (range_with_len 0 (node + 1))
+laid_more edges lists more node list e same m =
+    m
+    ∙ ap (λ z. z ++ list ∷ []) e
+    ∙ ap (λ z. map (neighbours edges) (range_with_len 0 node) ++ z ∷ []) same
+    ∙ sym (map-range_with_len_more (neighbours edges) 0 node node (omega arith))

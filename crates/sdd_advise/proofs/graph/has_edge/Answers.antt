@@ -1,0 +1,19 @@
+use Rattle.std.proofs.Common.{◌≡◌, ◌≢◌, refl, subst, sym}
+use Rattle.std.specs.Prelude.{All}
+use Rattle.std.proofs.lemmas.Bool.{both_ways, false≢true}
+use Rattle.std.proofs.lemmas.List.{take_all}
+use Rattle.std.proofs.lemmas.List.Elements.{All-more, All-contains, Contains-get_or}
+use Rattle.sdd_advise.proofs.graph.has_edge.Goals as goal
+
+pub others-preserved : goal.others-preserved
+others-preserved c =
+    All-more (λ other. other ≢ c.args.edge.now) c.args.edges.now c.others.other-index _ c.others-test.true c.others.invariant
+    (λ e. both_ways _ c.if-is_same.false (c.is_same.ensures.1 e))
+
+pub returns : goal.returns
+returns c = (
+  (λ t. absurd (false≢true t)),
+  λ m.
+      absurd (All-contains (λ other. other ≢ c.args.edge.now) c.args.edges.now c.args.edge.now
+      (subst (λ z. All (λ other. other ≢ c.args.edge.now) z) (take_all c.others.other-index c.args.edges.now c.others-test.false) c.others.invariant) m refl),
+)

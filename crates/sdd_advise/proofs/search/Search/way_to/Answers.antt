@@ -1,0 +1,28 @@
+use Rattle.std.proofs.Common.{◌<◌, ◌≡◌, length, ◌∙◌, sym, refl, subst, arith}
+use Rattle.std.proofs.lemmas.Option.{MatchOption-at_some}
+use Rattle.sdd_advise.specs.Passing.{Passes}
+use Rattle.sdd_advise.specs.Searches.{reached_at}
+use Rattle.sdd_advise.specs.declared.search.Came.{Came}
+use Rattle.sdd_advise.proofs.WayBack.{IsWayBack, at_last, one_back}
+use Rattle.sdd_advise.proofs.search.Search.way_to.Goals as goal
+
+pub way-init : goal.way-init
+way-init c = (
+  c.requires.within,
+  λ network without done.
+      subst (λ z. IsWayBack network.edges (Passes without) c.args.self.now.places.items c.args.self.now.reached.items (reached_at c.args.self.now.reached.items c.args.place).node c.args.place z)
+      (sym c.new-way.ensures.items)
+      (at_last network.edges (Passes without) network.nodes _ c.args.self.now.places.items c.args.self.now.reached.items done _ c.args.place c.requires.within refl),
+)
+
+pub way-preserved : goal.way-preserved
+way-preserved c =
+    let is : (reached_at c.args.self.now.reached.items c.way.at).came ≡ _ = sym c.came_to.ensures ∙ c.in-Some.is in
+    let l = c.way.invariant.0 in
+    let before : c.in-Some.came.from < c.way.at =
+    MatchOption-at_some (c.way.at ≡ 0) (λ (came : Came). came.from < c.way.at) c.in-Some.came is (c.requires.traced.earlier c.way.at l) in (
+      omega arith,
+      λ network without done.
+          one_back network.edges (Passes without) network.nodes _ c.args.self.now.places.items c.args.self.now.reached.items done _ c.way.at c.in-Some.came
+          c.way.way.items c.push.new.self.items l is (c.way.invariant.1 network without done) c.in_ok-push.ensures.items,
+    )
