@@ -3,7 +3,7 @@ use Rattle.std.proofs.Common.{ℕ, zero, suc, ◌+◌, ◌-◌, ◌<◌, ◌≤�
 use Rattle.std.specs.Prelude.{All, Contains, slice_get, option_map, option_and_then}
 use Rattle.std.specs.List.{AllZip}
 use Rattle.std.proofs.lemmas.List.{append-nil, append_assoc, drop_more, drop_all}
-use Rattle.std.proofs.lemmas.List.Elements.{All-nil, All-cons, All-head, All-tail}
+use Rattle.std.proofs.lemmas.List.Elements.{All-nil, All-cons, All-head, All-tail, All-weaker, All-contains}
 use Rattle.std.proofs.lemmas.Option.{none-some, same_Some, option_and_then_some}
 use Rattle.sdd_blocks.specs.Graph.{Step, Has, Differ, IsWalk, IsSimpleCycle, edges_of, nodes_of}
 use Rattle.sdd_blocks.proofs.ClosedWalks.{closed_walks_are_cycles}
@@ -85,7 +85,7 @@ last_step : (edges : List (ℕ × ℕ)) (start : ℕ) (steps : List Step) (to : 
 last_step edges start [] to w = w
 last_step edges start (s ∷ steps) to w = last_step edges s.to steps to w.1
 
-all_along : (edges : List Edge) (steps : List Step) (cycle : List Edge) → AllZip (GoesAlong edges) steps cycle
+pub all_along : (edges : List Edge) (steps : List Step) (cycle : List Edge) → AllZip (GoesAlong edges) steps cycle
     → All (Contains edges) cycle
 all_along edges [] [] z = All-nil (Contains edges)
 all_along edges [] (x ∷ cycle) z = absurd z
@@ -221,3 +221,62 @@ walk_done start edges i at nodes l e =
     e
     ∙ ap (λ z. option_map (λ (ns : List ℕ). nodes ++ ns) (nodes_along at z)) (drop_all i edges l)
     ∙ ap (λ z. Some z) (append-nil nodes))
+
+-- a list of two edges or more
+split : (cycle : List Edge) → 2 ≤ length cycle
+    → (x : Edge) × (y : Edge) × (rest : List Edge) × (x ∷ y ∷ rest ≡ cycle)
+split [] l = absurd (omega arith)
+split (x ∷ []) l = absurd (omega arith)
+split (x ∷ y ∷ rest) l = (x, y, rest, refl)
+
+-- the first two edges of a cycle differ
+pub first_two_differ : (edges : List Edge) → HasEachOnce edges → (start : ℕ) (cycle : List Edge) (d e : Edge)
+    → IsCycleFrom edges start cycle → get_or cycle 0 d ≢ get_or cycle 1 e
+first_two_differ edges once start cycle d e c same =
+    let s = split cycle (cycle_is_long edges start cycle c) in
+    let r = cycle_is_round edges once start s.0 s.1 s.2 (subst (IsCycleFrom edges start) (sym s.3) c) in
+    r.differ (ap (λ z. get_or z 0 d) s.3 ∙ same ∙ ap (λ z. get_or z 1 e) (sym s.3))
+
+pub all_in_graph : (edges : List Edge) (start : ℕ) (cycle : List Edge) → IsCycleFrom edges start cycle
+    → All (Contains edges) cycle
+all_in_graph edges start cycle c = all_along edges c.steps cycle c.along
+
+-- the edges of a cycle lead on
+pub leads_on : (edges : List Edge) (start : ℕ) (cycle : List Edge) → None ≡ nodes_along start cycle
+    → ¬ IsCycleFrom edges start cycle
+leads_on edges start cycle e c =
+    none-some (nodes_of c.steps) (e ∙ along_steps edges start c.steps cycle start c.along c.simple.closed)
+
+-- they form a cycle exactly where the last node is the start and none is there twice
+pub cycle_where_round : (edges : List Edge) → HasEachOnce edges → (start : ℕ) (cycle : List Edge) (nodes : List ℕ) (d e : Edge)
+    → 2 ≤ length cycle → All (Contains edges) cycle → get_or cycle 0 d ≢ get_or cycle 1 e
+    → nodes_along start cycle ≡ Some nodes
+    → (IsCycleFrom edges start cycle → (slice_get nodes (length nodes - 1) ≡ Some start) × Differ nodes)
+    × ((slice_get nodes (length nodes - 1) ≡ Some start) × Differ nodes → IsCycleFrom edges start cycle)
+cycle_where_round edges once start cycle nodes d e long all differ along =
+    let s = split cycle long in (
+      (λ c.
+      let r = cycle_is_round edges once start s.0 s.1 s.2 (subst (IsCycleFrom edges start) (sym s.3) c) in
+      let same : r.nodes ≡ nodes = same_Some r.nodes nodes (sym r.along ∙ ap (nodes_along start) s.3 ∙ along) in
+      subst (λ z. (slice_get z (length z - 1) ≡ Some start) × Differ z) same (r.closed, r.nodes_differ)),
+      λ h.
+          subst (IsCycleFrom edges start) s.3
+          (round_is_cycle edges start s.0 s.1 s.2 (record {
+            all = subst (All (Contains edges)) (sym s.3) all;
+            differ = λ q. differ (ap (λ z. get_or z 0 d) (sym s.3) ∙ q ∙ ap (λ z. get_or z 1 e) s.3);
+            nodes = nodes;
+            along = ap (nodes_along start) s.3 ∙ along;
+            nodes_differ = h.1;
+            closed = h.0;
+          })),
+    )
+
+-- the nodes of edges of the graph are nodes of it
+pub nodes_within : (edges : List Edge) (limit : ℕ) → All (λ e. ((ends e).0 < limit) × ((ends e).1 < limit)) edges
+    → (start : ℕ) (cycle : List Edge) (nodes : List ℕ) → All (Contains edges) cycle
+    → nodes_along start cycle ≡ Some nodes → All (λ node. node < limit) nodes
+nodes_within edges limit within start cycle nodes all along =
+    along_within limit start cycle nodes
+    (All-weaker (Contains edges) (λ e. ((ends e).0 < limit) × ((ends e).1 < limit))
+    (λ e m. All-contains (λ x. ((ends x).0 < limit) × ((ends x).1 < limit)) edges e within m) cycle all)
+    along

@@ -40,7 +40,7 @@ pub(crate) fn is_cycle_from(
 fn has_all(graph: &Graph, edges: &[Edge]) -> bool
     ensures { IsTrue result ↔ All (Contains graph.now.edges) edges.now }
 {
-    for edge in edges {
+    'edges: for edge in edges {
         if !graph.has(edge) {
             return false;
         }

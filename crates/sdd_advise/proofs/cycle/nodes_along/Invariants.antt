@@ -1,0 +1,8 @@
+use Rattle.std.proofs.Common.{◌≡◌, ◌++◌, drop}
+use Rattle.std.specs.Prelude.{option_map}
+use Rattle.sdd_advise.specs.Walks.{nodes_along}
+use Rattle.sdd_advise.proofs.cycle.nodes_along.Given as goal
+
+abbrev pub invariant-edges : goal.invariant-edges
+invariant-edges l =
+    nodes_along l.fn.start l.edges ≡ option_map (λ ns. l.nodes.items ++ ns) (nodes_along l.at (drop l.edge-index l.edges))
