@@ -1,19 +1,37 @@
 -- How a graph is laid out.
-use Rattle.std.proofs.Common.{ℕ, ◌+◌, ◌*◌, ◌<◌, ◌≡◌, List, [], ◌∷◌, ◌++◌, map, length, get_or, sym, ap, ◌∙◌, subst, arith}
-use Rattle.std.specs.Prelude.{All}
+use Rattle.std.proofs.Common.{ℕ, ◌+◌, ◌-◌, ◌*◌, ◌<◌, ◌≡◌, List, [], ◌∷◌, ◌++◌, map, length, get_or, sym, ap, ◌∙◌, subst, arith}
+use Rattle.std.specs.Prelude.{All, Contains}
 use Rattle.std.specs.List.{range_with_len}
 use Rattle.std.proofs.lemmas.List.Elements.{All-weaker, All-contains, All-same}
 use Rattle.std.proofs.lemmas.List.FromFn.{length-map-range_with_len, get_or-map-range_with_len, map-range_with_len_more}
+use Rattle.sdd_base.specs.declared.number.ClassNo.{ClassNo}
 use Rattle.sdd_catalog.specs.Catalogue.{Catalogue}
 use Rattle.sdd_graph.specs.declared.edge.Edge.{Edge}
-use Rattle.sdd_graph.specs.Edges.{NamesClasses, JoinsNodes}
+use Rattle.sdd_graph.specs.declared.edge.Edge.TheVariants.{Vertical, Horizontal, Diagonal}
+use Rattle.sdd_graph.specs.Edges.{IsEdgeOf, NamesClasses, JoinsNodes}
 use Rattle.sdd_graph.specs.Graph.{conflict_graph, ends}
-use Rattle.sdd_advise.specs.Neighbours.{neighbours, HasEachOnce, IsLaidOut}
+use Rattle.sdd_graph.proofs.Known.{edges_known}
+use Rattle.sdd_advise.specs.Neighbours.{neighbours, HasEachOnce, HasVerticals, IsLaidOut}
+use Rattle.sdd_advise.specs.Readers.{IsReadOf}
 use Rattle.sdd_advise.specs.declared.neighbour.Neighbour.{Neighbour}
 use Rattle.sdd_advise.specs.Reach.{Joins}
 use Rattle.sdd_advise.proofs.Beside.{IsNeighbour, all_neighbours}
+use Rattle.sdd_advise.proofs.Edges.{contains_at}
 use Rattle.sdd_advise.proofs.Places.{one_place_each}
+use Rattle.sdd_advise.proofs.Right.{vertical_at}
 use Rattle.sdd_advise.proofs.Rounds.{end_within}
+
+vertical_there : (cat : Catalogue) (edge : Edge) (reader : ClassNo) → IsEdgeOf cat edge → IsReadOf reader edge
+    → Contains (conflict_graph cat) (Vertical reader)
+vertical_there cat (Vertical i) reader is r = absurd r
+vertical_there cat (Horizontal i j) reader is r = absurd r
+vertical_there cat (Diagonal i j f) reader is r =
+    subst (λ z. Contains (conflict_graph cat) (Vertical z)) r
+    (contains_at (conflict_graph cat) (i.0 - 1) (Vertical i) (vertical_at cat i is.reader.from is.reader.to))
+
+verticals_there : (cat : Catalogue) → HasVerticals (conflict_graph cat)
+verticals_there cat edge reader m r =
+    vertical_there cat edge reader (All-contains (IsEdgeOf cat) (conflict_graph cat) edge (edges_known cat) m) r
 
 pub laid_out : (cat : Catalogue) (classes nodes : ℕ) (edges : List Edge) (lists : List (List Neighbour))
     → edges ≡ conflict_graph cat → All NamesClasses edges → All (JoinsNodes classes) edges
@@ -22,6 +40,8 @@ pub laid_out : (cat : Catalogue) (classes nodes : ℕ) (edges : List Edge) (list
 laid_out cat classes nodes edges lists e named joined n laid =
     record {
       once = subst HasEachOnce (sym e) (one_place_each cat);
+      verticals = subst HasVerticals (sym e) (verticals_there cat);
+      paired = (classes, n);
       named = named;
       within =
           All-weaker (JoinsNodes classes) (λ x. ((ends x).0 < nodes) × ((ends x).1 < nodes))

@@ -9,4 +9,5 @@ pub mod Members
 pub mod Places
 pub mod Right
 pub mod Rounds
+pub mod Showing
 pub mod WayBack

@@ -42,7 +42,7 @@ many_edges cat =
     )
 
 -- the vertical edge of a class stands at the place of the class
-vertical_at : (cat : Catalogue) (i : ClassNo) → 1 ≤ i.0 → i.0 ≤ length cat.classes
+pub vertical_at : (cat : Catalogue) (i : ClassNo) → 1 ≤ i.0 → i.0 ≤ length cat.classes
     → slice_get (conflict_graph cat) (i.0 - 1) ≡ Some (Vertical i)
 vertical_at cat i from to =
     let d : Edge = Vertical i in

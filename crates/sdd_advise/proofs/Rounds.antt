@@ -256,9 +256,9 @@ pub cycle_where_round : (edges : List Edge) → HasEachOnce edges → (start : �
 cycle_where_round edges once start cycle nodes d e long all differ along =
     let s = split cycle long in (
       (λ c.
-      let r = cycle_is_round edges once start s.0 s.1 s.2 (subst (IsCycleFrom edges start) (sym s.3) c) in
-      let same : r.nodes ≡ nodes = same_Some r.nodes nodes (sym r.along ∙ ap (nodes_along start) s.3 ∙ along) in
-      subst (λ z. (slice_get z (length z - 1) ≡ Some start) × Differ z) same (r.closed, r.nodes_differ)),
+          let r = cycle_is_round edges once start s.0 s.1 s.2 (subst (IsCycleFrom edges start) (sym s.3) c) in
+          let same : r.nodes ≡ nodes = same_Some r.nodes nodes (sym r.along ∙ ap (nodes_along start) s.3 ∙ along) in
+          subst (λ z. (slice_get z (length z - 1) ≡ Some start) × Differ z) same (r.closed, r.nodes_differ)),
       λ h.
           subst (IsCycleFrom edges start) s.3
           (round_is_cycle edges start s.0 s.1 s.2 (record {

@@ -4,6 +4,7 @@ pub mod Laws
 pub mod Neighbours
 pub mod Passing
 pub mod Reach
+pub mod Readers
 pub mod Rows
 pub mod Searches
 pub mod Texts

@@ -1,10 +1,13 @@
 -- The edges at a node of a conflict graph.
-use Rattle.std.specs.Prelude.{ℕ, ◌*◌, ◌<◌, ◌==◌, ◌≡◌, if◌then◌else◌, List, map, length, slice_get, All, Option, None, Some, option_map}
+use Rattle.std.specs.Prelude.{ℕ, ◌*◌, ◌<◌, ◌==◌, ◌≡◌, if◌then◌else◌, List, map, length, slice_get, All, Contains, Option, None, Some, option_map}
 use Rattle.std.specs.List.{filter_map, range_with_len}
+use Rattle.sdd_base.specs.declared.number.ClassNo.{ClassNo}
 use Rattle.sdd_catalog.specs.Catalogue.{Catalogue}
 use Rattle.sdd_graph.specs.declared.edge.Edge.{Edge}
+use Rattle.sdd_graph.specs.declared.edge.Edge.TheVariants.{Vertical}
 use Rattle.sdd_graph.specs.Edges.{NamesClasses}
 use Rattle.sdd_graph.specs.Graph.{conflict_graph, ends}
+use Rattle.sdd_advise.specs.Readers.{IsReadOf}
 use Rattle.sdd_advise.specs.declared.neighbour.Neighbour.{Neighbour}
 
 -- the end of an edge other than the node, where the edge is at the node
@@ -35,9 +38,20 @@ abbrev pub HasEachOnce : List Edge → Type 0
 HasEachOnce edges =
     (j k : ℕ) (edge : Edge) → slice_get edges j ≡ Some edge → slice_get edges k ≡ Some edge → j ≡ k
 
+-- the reader of each diagonal has its vertical edge
+abbrev pub HasVerticals : List Edge → Type 0
+HasVerticals edges =
+    (edge : Edge) (reader : ClassNo) → Contains edges edge → IsReadOf reader edge → Contains edges (Vertical reader)
+
+-- there are two nodes for each class
+abbrev pub ArePaired : ℕ → Type 0
+ArePaired nodes = (classes : ℕ) × (nodes ≡ 2 * classes)
+
 -- what is known of the edges, and what is kept for each node, ascending
 pub record IsLaidOut (edges : List Edge) (nodes : ℕ) (lists : List (List Neighbour)) : Type 0 where
   pub once : HasEachOnce edges
+  pub verticals : HasVerticals edges
+  pub paired : ArePaired nodes
   pub named : All NamesClasses edges
   pub within : All (λ edge. ((ends edge).0 < nodes) × ((ends edge).1 < nodes)) edges
   pub laid : lists ≡ map (neighbours edges) (range_with_len 0 nodes)

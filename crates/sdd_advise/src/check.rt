@@ -3,6 +3,7 @@ ghost use Rattle.sdd_graph.specs.Graph.{read_node, write_node};
 ghost use Rattle.sdd_advise.specs.Advices.{BeginsWith, EndsWith, IsGood, ShowsP1, ShowsP2, ShowsP3, ShowsFor};
 ghost use Rattle.sdd_advise.specs.Passing.{Passes};
 ghost use Rattle.sdd_advise.specs.Reach.{AreReached};
+ghost use Rattle.sdd_advise.specs.Readers.{IsReadOf};
 
 use crate::advice::{Advice, Nodes};
 use crate::cycle::is_cycle_from;
@@ -38,12 +39,19 @@ fn shows_protocol(
     graph: &Graph,
     reader: ClassNo,
     advice: &Advice,
-) -> Result<bool, NoMemory> {
+) -> Result<bool, NoMemory>
+    requires reader { IsReadOf reader advice.now.edge }
+    requires there { Contains graph.now.edges advice.now.edge }
+    ensures { IfOk result (λ answer.
+        IsTrue answer ↔ ShowsFor graph.now.edges advice.now advice.now.edge) }
+{
+    graph.known();
     let (read, write) = ends(&advice.edge);
     let vertical = Edge::Vertical(reader);
+    let (_, own) = ends(&vertical);
     match advice.protocol {
         Protocol::P1 => shows_p1(alloc, graph, read, write, advice),
-        Protocol::P2 => shows_p2(alloc, graph, read, write, ends(&vertical).1, advice),
+        Protocol::P2 => shows_p2(alloc, graph, read, write, own, advice),
         Protocol::P3 => shows_p3(alloc, graph, &vertical, read, advice),
     }
 }

@@ -2,7 +2,7 @@ ghost use Rattle.std.specs.Prelude.{◌≡◌, ◌<◌, ◌≤◌, ◌*◌, ◌�
 ghost use Rattle.std.specs.List.{range_with_len};
 ghost use Rattle.sdd_graph.specs.Edges.{NamesClasses};
 ghost use Rattle.sdd_graph.specs.Graph.{ends};
-ghost use Rattle.sdd_advise.specs.Neighbours.{HasEachOnce, neighbour_by, neighbours, network_of, other_end};
+ghost use Rattle.sdd_advise.specs.Neighbours.{ArePaired, HasEachOnce, HasVerticals, neighbour_by, neighbours, network_of, other_end};
 
 use crate::neighbour::Neighbour;
 use sdd_base::{Listed, MAX_CLASSES, NoMemory, is_same};
@@ -46,10 +46,11 @@ impl Graph {
         })
     }
 
-    /// What is known of every graph: no edge is there twice, each names classes by their numbers, and joins
-    /// nodes. Takes no memory.
+    /// What is known of every graph. Takes no memory.
     pub(crate) fn known(&self)
         ensures once { HasEachOnce self.now.edges }
+        ensures verticals { HasVerticals self.now.edges }
+        ensures paired { ArePaired self.now.nodes }
         ensures named { All NamesClasses self.now.edges }
         ensures within { All (λ e. ((ends e).0 < self.now.nodes) × ((ends e).1 < self.now.nodes)) self.now.edges }
     {

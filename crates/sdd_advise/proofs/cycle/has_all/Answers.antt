@@ -11,6 +11,7 @@ edges-preserved c =
     (c.has.ensures.0 c.if-not-has.false)
 
 pub returns : goal.returns
-returns c =
-    ((λ t. subst (All (Contains c.args.graph.now.edges)) (take_all c.edges.edge-index c.args.edges.now c.edges-test.false) c.edges.invariant),
-    λ all. refl)
+returns c = (
+  (λ t. subst (All (Contains c.args.graph.now.edges)) (take_all c.edges.edge-index c.args.edges.now c.edges-test.false) c.edges.invariant),
+  λ all. refl,
+)

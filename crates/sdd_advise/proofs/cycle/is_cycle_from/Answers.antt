@@ -19,9 +19,10 @@ returns-then-not-has_all c =
     ((λ t. absurd (false≢true t)), λ cycle. c.if-not-has_all.ensures.1 (all_in_graph c.args.graph.now.edges c.args.start c.args.cycle.now cycle))
 
 pub returns-then-is_same : goal.returns-then-is_same
-returns-then-is_same c =
-    ((λ t. absurd (false≢true t)),
-    λ cycle. absurd (first_two_differ c.args.graph.now.edges c.known.ensures.once c.args.start c.args.cycle.now _ _ cycle (c.if-is_same.ensures.0 refl)))
+returns-then-is_same c = (
+  (λ t. absurd (false≢true t)),
+  λ cycle. absurd (first_two_differ c.args.graph.now.edges c.known.ensures.once c.args.start c.args.cycle.now _ _ cycle (c.if-is_same.ensures.0 refl)),
+)
 
 pub nodes_along-requires : goal.nodes_along-requires
 nodes_along-requires c =
@@ -48,8 +49,9 @@ returns-in-Some c =
     (λ answer h. ((λ t. iff.1 (h.0 t)), λ cycle. h.1 (iff.0 cycle))) c.is_round.ensures
 
 pub returns-in-None : goal.returns-in-None
-returns-in-None c =
-    ((λ t. absurd (false≢true t)),
-    λ cycle.
-    absurd (leads_on c.args.graph.now.edges c.args.start c.args.cycle.now
-    (ap (λ o. option_map (λ (v : Vec ℕ Global). v.items) o) (sym c.in-None.is) ∙ c.in_ok-nodes.ensures) cycle))
+returns-in-None c = (
+  (λ t. absurd (false≢true t)),
+  λ cycle.
+      absurd (leads_on c.args.graph.now.edges c.args.start c.args.cycle.now
+      (ap (λ o. option_map (λ (v : Vec ℕ Global). v.items) o) (sym c.in-None.is) ∙ c.in_ok-nodes.ensures) cycle),
+)
