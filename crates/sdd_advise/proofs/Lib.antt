@@ -1,3 +1,4 @@
+pub mod Advised
 pub mod Ascending
 pub mod Beside
 pub mod Distinctness

@@ -11,6 +11,10 @@ use Rattle.sdd_advise.specs.Cycles.{IsCycleFrom}
 use Rattle.sdd_advise.specs.Reach.{AreReached, IsOther, IsAway}
 use Rattle.sdd_advise.specs.declared.advice.Advice.{Advice}
 
+abbrev pub advice_of : Edge → Protocol → List Edge → List ℕ → Advice
+advice_of edge protocol cycle apart =
+    record { edge = edge; protocol = protocol; cycle = cycle; apart = apart }
+
 abbrev pub is_diagonal : Edge → Bool
 is_diagonal (Vertical i) = false
 is_diagonal (Horizontal i j) = false

@@ -1,6 +1,11 @@
-ghost use Rattle.std.specs.Prelude.{◌≡◌, ◌++◌, ◌∷◌, [], map, filter, All, Contains, IfOk, OnOk};
-ghost use Rattle.sdd_graph.specs.Edges.{NamesClasses};
-ghost use Rattle.sdd_advise.specs.Advices.{AreAdvices, IsGood, ShowsFor, is_diagonal};
+ghost use Rattle.std.specs.Prelude.{◌≡◌, ◌^◌, ◌<◌, ◌++◌, ◌∷◌, [], length, map, filter, All, Contains, IfOk, OnOk};
+ghost use Rattle.sdd_graph.specs.Graph.{ends};
+ghost use Rattle.sdd_protocol.specs.declared.protocol.Protocol.TheVariants.{P1, P2, P3};
+ghost use Rattle.sdd_advise.specs.Advices.{AreAdvices, ShowsFor, advice_of, is_diagonal};
+ghost use Rattle.sdd_advise.specs.Reach.{IsOther};
+ghost use Rattle.sdd_advise.specs.Readers.{IsReadOf};
+ghost use Rattle.sdd_advise.specs.Searches.{placed_nodes};
+ghost use Rattle.sdd_advise.specs.Ways.{IsWay};
 
 use crate::advice::Advice;
 use crate::graph::Graph;
@@ -21,9 +26,18 @@ pub fn advise(alloc: Global, cat: &Catalogue) -> Result<Vec<Advice>, NoMemory>
     ensures { IfOk result (λ advices. AreAdvices cat.now advices.items) }
 {
     let graph = Graph::of(alloc, cat)?;
+    advices_of(alloc, &graph)
+}
+
+/// The advices for all diagonals of the graph.
+fn advices_of(alloc: Global, graph: &Graph) -> Result<Vec<Advice>, NoMemory>
+    ensures edges { IfOk result (λ advices.
+        map (λ a. a.edge) advices.items ≡ filter is_diagonal graph.now.edges) }
+    ensures good { IfOk result (λ advices. All (λ a. ShowsFor graph.now.edges a a.edge) advices.items) }
+{
     let mut advices = Vec::new(alloc);
-    for edge in graph.edges() {
-        add_advice(alloc, &graph, edge, &mut advices)?;
+    'edges: for edge in graph.edges() {
+        add_advice(alloc, graph, edge, &mut advices)?;
     }
     Ok(advices)
 }
@@ -34,7 +48,15 @@ fn add_advice(
     graph: &Graph,
     edge: &Edge,
     advices: &mut Vec<Advice>,
-) -> Result<(), NoMemory> {
+) -> Result<(), NoMemory>
+    requires { Contains graph.now.edges edge.now }
+    ensures edges { OnOk result (
+        map (λ a. a.edge) advices.new.items
+        ≡ map (λ a. a.edge) advices.old.items ++ filter is_diagonal (edge.now ∷ [])) }
+    ensures good { OnOk result (
+        All (λ a. ShowsFor graph.now.edges a a.edge) advices.old.items
+        → All (λ a. ShowsFor graph.now.edges a a.edge) advices.new.items) }
+{
     if let Edge::Diagonal(reader, _, _) = edge {
         advices.push(advice_for(alloc, graph, edge, *reader)?)?;
     }
@@ -47,7 +69,13 @@ fn advice_for(
     graph: &Graph,
     edge: &Edge,
     reader: ClassNo,
-) -> Result<Advice, NoMemory> {
+) -> Result<Advice, NoMemory>
+    requires reader { IsReadOf reader edge.now }
+    requires there { Contains graph.now.edges edge.now }
+    ensures edge { IfOk result (λ advice. advice.edge ≡ edge.now) }
+    ensures shown { IfOk result (λ advice. ShowsFor graph.now.edges advice edge.now) }
+{
+    graph.known();
     let (read, write) = ends(edge);
     let around = Search::of(alloc, graph, write, &Without::OneEdge(*edge))?;
     match around.place(read) {
@@ -60,7 +88,11 @@ fn advice_for(
 }
 
 /// The advice for a diagonal on no cycle: without it a search has not reached the reader's read node.
-fn advice_off_cycles(alloc: Global, edge: &Edge, around: &Search) -> Result<Advice, NoMemory> {
+fn advice_off_cycles(alloc: Global, edge: &Edge, around: &Search) -> Result<Advice, NoMemory>
+    requires { length around.now.places.items < 2 ^ 32 }
+    ensures { IfOk result (λ advice.
+        advice ≡ advice_of edge.now P1 [] (placed_nodes around.now.places.items)) }
+{
     let apart = around.nodes(alloc)?;
     Ok(Advice {
         edge: *edge,
@@ -78,7 +110,14 @@ fn advice_on_cycle(
     edge: &Edge,
     reader: ClassNo,
     way: &[Edge],
-) -> Result<Advice, NoMemory> {
+) -> Result<Advice, NoMemory>
+    requires reader { IsReadOf reader edge.now }
+    requires there { Contains graph.now.edges edge.now }
+    requires way { IsWay graph.now.edges (IsOther edge.now) (ends edge.now).1 (ends edge.now).0 way.now }
+    ensures edge { IfOk result (λ advice. advice.edge ≡ edge.now) }
+    ensures shown { IfOk result (λ advice. ShowsFor graph.now.edges advice edge.now) }
+{
+    graph.known();
     let (read, write) = ends(edge);
     let vertical = Edge::Vertical(reader);
     let own = ends(&vertical).1;
@@ -99,7 +138,11 @@ fn advice_beside(
     edge: &Edge,
     way: &[Edge],
     beside: &Search,
-) -> Result<Advice, NoMemory> {
+) -> Result<Advice, NoMemory>
+    requires { length beside.now.places.items < 2 ^ 32 }
+    ensures { IfOk result (λ advice.
+        advice ≡ advice_of edge.now P2 (edge.now ∷ way.now) (placed_nodes beside.now.places.items)) }
+{
     let cycle = cycle_of(alloc, edge, way)?;
     let apart = beside.nodes(alloc)?;
     Ok(Advice {
@@ -111,7 +154,9 @@ fn advice_beside(
 }
 
 /// The advice for a diagonal on a cycle with the reader's vertical edge, with which the way ends.
-fn advice_by_way(alloc: Global, edge: &Edge, way: &[Edge]) -> Result<Advice, NoMemory> {
+fn advice_by_way(alloc: Global, edge: &Edge, way: &[Edge]) -> Result<Advice, NoMemory>
+    ensures { IfOk result (λ advice. advice ≡ advice_of edge.now P3 (edge.now ∷ way.now) []) }
+{
     let cycle = cycle_of(alloc, edge, way)?;
     Ok(Advice {
         edge: *edge,
