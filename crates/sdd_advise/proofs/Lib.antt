@@ -5,6 +5,7 @@ pub mod Distinctness
 pub mod Edges
 pub mod Found
 pub mod Going
+pub mod Known
 pub mod Laid
 pub mod Members
 pub mod Places
