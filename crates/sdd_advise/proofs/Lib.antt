@@ -1,6 +1,7 @@
 pub mod Advised
 pub mod Ascending
 pub mod Beside
+pub mod Diagonals
 pub mod Distinctness
 pub mod Edges
 pub mod Found

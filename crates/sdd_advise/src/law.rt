@@ -1,4 +1,4 @@
-ghost use Rattle.sdd_advise.specs.Laws.{GoodAdviceIsRight};
+ghost use Rattle.sdd_advise.specs.Laws.{AdvicesSayTheTable, GoodAdviceIsRight};
 
 use sdd_catalog::Catalogue;
 
@@ -6,4 +6,10 @@ use sdd_catalog::Catalogue;
 /// memory.
 pub fn law_good_advice_is_right(cat: &Catalogue)
     ensures { GoodAdviceIsRight cat.now }
+{}
+
+/// A law of every catalogue: good advices for all diagonals, in their order, say what the table says of
+/// its diagonals. Takes no memory.
+pub fn law_advices_say_the_table(cat: &Catalogue)
+    ensures { AdvicesSayTheTable cat.now }
 {}

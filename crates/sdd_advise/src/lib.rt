@@ -3,8 +3,8 @@
 //!
 //! The one contract to the layer above: `advise` gives a good advice for each diagonal of a catalogue, in
 //! order, `check_advice` says whether an advice is good, as `specs/Advices.antt` defines it, and
-//! `advice_text` gives the text of such advices (`specs/Texts.antt`). That a good advice says the protocol
-//! of the catalogue's table is a law (`specs/Laws.antt`).
+//! `advice_text` gives the text of such advices (`specs/Texts.antt`). That good advices say what the table
+//! of the catalogue says is a law (`specs/Laws.antt`).
 #![tactic(auto)]
 
 mod advice;
@@ -21,5 +21,5 @@ mod without;
 pub use advice::{Advice, Edges, Nodes};
 pub use advising::advise;
 pub use check::check_advice;
-pub use law::law_good_advice_is_right;
+pub use law::{law_advices_say_the_table, law_good_advice_is_right};
 pub use spelling::advice_text;
