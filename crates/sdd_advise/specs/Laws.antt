@@ -13,7 +13,8 @@ abbrev pub GoodAdviceIsRight : Catalogue → Type 0
 GoodAdviceIsRight cat =
     (entries : List Entry) → IsTable cat entries
     → (advice : Advice) → IsGood cat advice
-    → (entry : Entry) → Contains entries entry → entry.edge ≡ advice.edge → entry.protocol ≡ advice.protocol
+    → (entry : Entry) → Contains entries entry → entry.edge ≡ advice.edge
+    → entry.protocol ≡ advice.protocol
 
 abbrev pub advised : Advice → Edge × Protocol
 advised advice = (advice.edge, advice.protocol)

@@ -41,7 +41,8 @@ HasEachOnce edges =
 -- the reader of each diagonal has its vertical edge
 abbrev pub HasVerticals : List Edge → Type 0
 HasVerticals edges =
-    (edge : Edge) (reader : ClassNo) → Contains edges edge → IsReadOf reader edge → Contains edges (Vertical reader)
+    (edge : Edge) (reader : ClassNo) → Contains edges edge → IsReadOf reader edge
+    → Contains edges (Vertical reader)
 
 -- there are two nodes for each class
 abbrev pub ArePaired : ℕ → Type 0

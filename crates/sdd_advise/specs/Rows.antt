@@ -26,7 +26,10 @@ of_b = diagonal 2 1 2
 
 -- the two diagonals are a cycle, and the nodes of class 1 lie apart from those of class 2
 abbrev advices : List Advice
-advices = advice_of of_a P2 (of_a ∷ of_b ∷ []) (0 ∷ 1 ∷ []) ∷ advice_of of_b P2 (of_b ∷ of_a ∷ []) (0 ∷ 1 ∷ []) ∷ []
+advices =
+    advice_of of_a P2 (of_a ∷ of_b ∷ []) (0 ∷ 1 ∷ [])
+    ∷ advice_of of_b P2 (of_b ∷ of_a ∷ []) (0 ∷ 1 ∷ [])
+    ∷ []
 
 pub diagonals_row : diagonals two ≡ of_a ∷ of_b ∷ []
 diagonals_row = refl
@@ -38,7 +41,8 @@ unfolding digits
 text_row = refl
 
 -- P1 has no cycle, and P3 no nodes apart
-pub p1_row : advice_lines two (advice_of of_a P1 [] (0 ∷ 1 ∷ [])) ≡ codes "r reads a at D1 writer w P1\napart r:w w:w\n"
+pub p1_row : advice_lines two (advice_of of_a P1 [] (0 ∷ 1 ∷ []))
+    ≡ codes "r reads a at D1 writer w P1\napart r:w w:w\n"
 unfolding digits
 p1_row = refl
 

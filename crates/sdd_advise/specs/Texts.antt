@@ -41,7 +41,8 @@ module_number cat i f = decimal (unwrap_or (reads_at cat i.0 f.0) 0)
 
 -- which fragment a class reads, and where
 abbrev pub read_words : Catalogue → ClassNo → FragNo → List ℕ
-read_words cat i f = (class_name cat i ++ codes " reads ") ++ ((fragment_name cat f ++ codes " at D") ++ module_number cat i f)
+read_words cat i f =
+    (class_name cat i ++ codes " reads ") ++ ((fragment_name cat f ++ codes " at D") ++ module_number cat i f)
 
 -- who writes it, and the protocol
 abbrev pub writer_words : Catalogue → ClassNo → Protocol → List ℕ

@@ -56,6 +56,7 @@ fn shows_protocol(
     }
 }
 
+/// Whether it shows that the diagonal is on no cycle.
 fn shows_p1(
     alloc: Global,
     graph: &Graph,
@@ -75,6 +76,7 @@ fn shows_p1(
     lies_apart(alloc, graph, write, &without, &advice.apart, read)
 }
 
+/// Whether it shows that the diagonal is on a cycle, but not linked with the reader's vertical edge.
 fn shows_p2(
     alloc: Global,
     graph: &Graph,
@@ -99,6 +101,7 @@ fn shows_p2(
     lies_apart(alloc, graph, write, &without, &advice.apart, own)
 }
 
+/// Whether it shows that the diagonal is on a cycle with the reader's vertical edge.
 fn shows_p3(
     alloc: Global,
     graph: &Graph,
@@ -144,6 +147,7 @@ fn lies_apart(
     Ok(is_same(nodes, &Listed::from_vec(reached)))
 }
 
+/// Whether the cycle begins with the edge.
 fn begins_with(cycle: &[Edge], edge: &Edge) -> bool
     ensures { IsTrue result ↔ BeginsWith edge.now cycle.now }
 {
@@ -153,6 +157,7 @@ fn begins_with(cycle: &[Edge], edge: &Edge) -> bool
     }
 }
 
+/// Whether the cycle ends with the edge.
 fn ends_with(cycle: &[Edge], edge: &Edge) -> bool
     ensures { IsTrue result ↔ EndsWith edge.now cycle.now }
 {

@@ -71,7 +71,8 @@ fn nodes_along(alloc: Global, start: u32, edges: &[Edge]) -> Result<Option<Vec<u
 /// Whether the last of the nodes is the start, and none is there twice.
 fn is_round(alloc: Global, nodes: &[u32], start: u32, limit: u32) -> Result<bool, NoMemory>
     requires { All (λ node. node < limit) nodes.now }
-    ensures { IfOk result (λ answer. IsTrue answer ↔ ((slice_get nodes.now (length nodes.now - 1) ≡ Some start) × Differ nodes.now)) }
+    ensures { IfOk result (λ answer. IsTrue answer
+        ↔ ((slice_get nodes.now (length nodes.now - 1) ≡ Some start) × Differ nodes.now)) }
 {
     if !ends_at(nodes, start) {
         return Ok(false);

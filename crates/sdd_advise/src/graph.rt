@@ -52,7 +52,8 @@ impl Graph {
         ensures verticals { HasVerticals self.now.edges }
         ensures paired { ArePaired self.now.nodes }
         ensures named { All NamesClasses self.now.edges }
-        ensures within { All (λ e. ((ends e).0 < self.now.nodes) × ((ends e).1 < self.now.nodes)) self.now.edges }
+        ensures within { All
+            (λ e. ((ends e).0 < self.now.nodes) × ((ends e).1 < self.now.nodes)) self.now.edges }
     {
         let _ = &self.edges;
     }
@@ -108,7 +109,8 @@ fn all_neighbours(
     nodes: u32,
 ) -> Result<Vec<Listed<Neighbour>>, NoMemory>
     requires { All NamesClasses edges.now }
-    ensures { IfOk result (λ lists. lists.items ≡ map (neighbours edges.now) (range_with_len 0 nodes)) }
+    ensures { IfOk result (λ lists.
+        lists.items ≡ map (neighbours edges.now) (range_with_len 0 nodes)) }
 {
     let mut lists = Vec::new(alloc);
     'nodes: for node in 0..nodes {

@@ -29,7 +29,8 @@ pub fn advice_text(alloc: Global, cat: &Catalogue) -> Result<Vec<u8>, NoMemory>
 
 fn put_advices(text: &mut Vec<u8>, cat: &Catalogue, advices: &[Advice]) -> Result<(), NoMemory>
     requires { All (IsGood cat.now) advices.now }
-    ensures { OnOk result (text.new.items ≡ text.old.items ++ shown.advices_text cat.now advices.now) }
+    ensures { OnOk result (text.new.items
+        ≡ text.old.items ++ shown.advices_text cat.now advices.now) }
 {
     'advices: for advice in advices {
         put_advice(text, cat, advice)?;
@@ -39,7 +40,8 @@ fn put_advices(text: &mut Vec<u8>, cat: &Catalogue, advices: &[Advice]) -> Resul
 
 fn put_advice(text: &mut Vec<u8>, cat: &Catalogue, advice: &Advice) -> Result<(), NoMemory>
     requires { IsGood cat.now advice.now }
-    ensures { OnOk result (text.new.items ≡ text.old.items ++ shown.advice_lines cat.now advice.now) }
+    ensures { OnOk result (text.new.items
+        ≡ text.old.items ++ shown.advice_lines cat.now advice.now) }
 {
     put_first_line(text, cat, advice.protocol, &advice.edge)?;
     put_cycle(text, cat, advice.cycle.as_slice())?;
@@ -54,7 +56,8 @@ fn put_first_line(
     edge: &Edge,
 ) -> Result<(), NoMemory>
     requires { IsEdgeOf cat.now edge.now }
-    ensures { OnOk result (text.new.items ≡ text.old.items ++ shown.first_line cat.now protocol edge.now) }
+    ensures { OnOk result (text.new.items
+        ≡ text.old.items ++ shown.first_line cat.now protocol edge.now) }
 {
     match edge {
         Edge::Vertical(_) => Ok(()),
@@ -97,7 +100,8 @@ fn put_module(
     requires class { class.0 ≤ length cat.now.classes }
     requires from { 1 ≤ frag.0 }
     requires to { frag.0 ≤ length cat.now.fragments }
-    ensures { OnOk result (text.new.items ≡ text.old.items ++ shown.module_number cat.now class frag) }
+    ensures { OnOk result (text.new.items
+        ≡ text.old.items ++ shown.module_number cat.now class frag) }
 {
     match cat.reads_at(class, frag) {
         Some(module) => put_count(text, u64::from(module.0)),
@@ -114,7 +118,8 @@ fn put_writer(
 ) -> Result<(), NoMemory>
     requires from { 1 ≤ class.0 }
     requires to { class.0 ≤ length cat.now.classes }
-    ensures { OnOk result (text.new.items ≡ text.old.items ++ shown.writer_words cat.now class protocol) }
+    ensures { OnOk result (text.new.items
+        ≡ text.old.items ++ shown.writer_words cat.now class protocol) }
 {
     put(text, b" writer ")?;
     put_class(text, cat, class)?;
@@ -135,7 +140,8 @@ fn put_protocol(text: &mut Vec<u8>, protocol: Protocol) -> Result<(), NoMemory>
 /// One line for each edge of the cycle.
 fn put_cycle(text: &mut Vec<u8>, cat: &Catalogue, cycle: &[Edge]) -> Result<(), NoMemory>
     requires { All (IsEdgeOf cat.now) cycle.now }
-    ensures { OnOk result (text.new.items ≡ text.old.items ++ flat_map (shown.cycle_line cat.now) cycle.now) }
+    ensures { OnOk result (text.new.items
+        ≡ text.old.items ++ flat_map (shown.cycle_line cat.now) cycle.now) }
 {
     'edges: for edge in cycle {
         put_cycle_line(text, cat, edge)?;
@@ -186,7 +192,9 @@ fn put_classes(
     requires first_to { first.0 ≤ length cat.now.classes }
     requires second_from { 1 ≤ second.0 }
     requires second_to { second.0 ≤ length cat.now.classes }
-    ensures { OnOk result (text.new.items ≡ text.old.items ++ shown.two_words (shown.class_name cat.now first) (shown.class_name cat.now second)) }
+    ensures { OnOk result (text.new.items
+        ≡ text.old.items ++ shown.two_words
+        (shown.class_name cat.now first) (shown.class_name cat.now second)) }
 {
     put_class(text, cat, first)?;
     put(text, b" ")?;
@@ -217,7 +225,8 @@ fn put_apart(
     nodes: &[u32],
 ) -> Result<(), NoMemory>
     requires { All (λ node. node < 2 * length cat.now.classes) nodes.now }
-    ensures { OnOk result (text.new.items ≡ text.old.items ++ shown.apart_line cat.now protocol nodes.now) }
+    ensures { OnOk result (text.new.items
+        ≡ text.old.items ++ shown.apart_line cat.now protocol nodes.now) }
 {
     match protocol {
         Protocol::P1 => put_nodes_line(text, cat, nodes),
@@ -237,7 +246,8 @@ fn put_nodes_line(text: &mut Vec<u8>, cat: &Catalogue, nodes: &[u32]) -> Result<
 
 fn put_nodes(text: &mut Vec<u8>, cat: &Catalogue, nodes: &[u32]) -> Result<(), NoMemory>
     requires { All (λ node. node < 2 * length cat.now.classes) nodes.now }
-    ensures { OnOk result (text.new.items ≡ text.old.items ++ flat_map (shown.spaced_node cat.now) nodes.now) }
+    ensures { OnOk result (text.new.items
+        ≡ text.old.items ++ flat_map (shown.spaced_node cat.now) nodes.now) }
 {
     'nodes: for node in nodes {
         put_node(text, cat, *node)?;
