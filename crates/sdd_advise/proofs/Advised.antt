@@ -1,5 +1,5 @@
 -- The advices that two searches give.
-use Rattle.std.proofs.Common.{ℕ, zero, suc, ◌+◌, ◌-◌, ◌≤◌, ◌<◌, ◌≡◌, ◌≢◌, Bool, true, false, List, [], ◌∷◌, ◌++◌, map, filter, length, get_or, take, Option, Some, None, refl, sym, ap, ◌∙◌, subst, arith, inl, inr}
+use Rattle.std.proofs.Common.{ℕ, ◌+◌, ◌-◌, ◌≤◌, ◌<◌, ◌≡◌, ◌≢◌, true, List, [], ◌∷◌, ◌++◌, map, filter, length, get_or, take, Option, Some, None, refl, sym, ap, ◌∙◌, subst, arith, inl, inr}
 use Rattle.std.specs.Prelude.{All, Contains, slice_get, is_some}
 use Rattle.std.specs.List.{AllZip}
 use Rattle.std.proofs.lemmas.Bool.{false≢true}
@@ -16,7 +16,7 @@ use Rattle.sdd_graph.specs.declared.edge.Edge.TheVariants.{Vertical, Horizontal,
 use Rattle.sdd_graph.specs.Edges.{NamesClasses}
 use Rattle.sdd_graph.specs.Graph.{conflict_graph, ends}
 use Rattle.sdd_protocol.specs.declared.protocol.Protocol.TheVariants.{P1, P2, P3}
-use Rattle.sdd_advise.specs.Advices.{ShowsP1, ShowsP2, ShowsP3, ShowsFor, EndsWith, AreAdvices, advice_of, is_diagonal, diagonals}
+use Rattle.sdd_advise.specs.Advices.{ShowsP1, ShowsP2, ShowsP3, ShowsFor, EndsWith, AreAdvices, advice_of, is_diagonal}
 use Rattle.sdd_advise.specs.Cycles.{GoesAlong, IsCycleFrom}
 use Rattle.sdd_advise.specs.Reach.{Joins, AreReached, IsOther, IsAway}
 use Rattle.sdd_advise.specs.Readers.{IsReadOf}

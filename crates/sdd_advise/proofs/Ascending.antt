@@ -8,7 +8,7 @@ use Rattle.std.proofs.lemmas.List.{append-nil}
 use Rattle.std.proofs.lemmas.List.Elements.{filter-append}
 use Rattle.std.proofs.lemmas.List.FromFn.{get_or-range_with_len, length-range_with_len}
 use Rattle.std.proofs.lemmas.List.Kept.{IsStrictlyIncreasing-filter}
-use Rattle.sdd_advise.proofs.Members.{Among, among_at, among_filter, place_in}
+use Rattle.sdd_advise.proofs.Members.{Among, among_at, place_in}
 
 -- a member is contained
 pub contains_from_among : {X : Type 0} (xs : List X) (x : X) → Among xs x → Contains xs x

@@ -1,12 +1,11 @@
 -- The edges at a node.
-use Rattle.std.proofs.Common.{ℕ, ◌≡◌, ◌==◌, ◌<◌, Bool, true, false, cond, List, [], ◌∷◌, Option, Some, None, refl, sym, ap, ◌∙◌, subst, inl, inr}
+use Rattle.std.proofs.Common.{ℕ, ◌≡◌, ◌==◌, true, false, cond, List, [], ◌∷◌, Option, Some, None, refl, sym, ap, ◌∙◌, subst, inl, inr}
 use Rattle.std.specs.Prelude.{All, Contains, option_map}
 use Rattle.std.specs.List.{filter_map, cons_option, AllByRecursion}
 use Rattle.std.proofs.lemmas.Bool.{cases_eq, eqb-true, eq-eqb, ne_eqb}
-use Rattle.std.proofs.lemmas.List.Elements.{All-from_recursion, All-contains, All-weaker, All-head, All-tail}
+use Rattle.std.proofs.lemmas.List.Elements.{All-from_recursion}
 use Rattle.std.proofs.lemmas.Option.{none-some, same_Some}
 use Rattle.sdd_graph.specs.declared.edge.Edge.{Edge}
-use Rattle.sdd_graph.specs.Edges.{NamesClasses}
 use Rattle.sdd_graph.specs.Graph.{ends}
 use Rattle.sdd_advise.specs.Neighbours.{other_end, neighbour_by, neighbours}
 use Rattle.sdd_advise.specs.Reach.{Joins}

@@ -1,12 +1,10 @@
 -- Good advices for all diagonals say what the table says of its diagonals.
 use Rattle.std.proofs.Common.{ℕ, ◌<◌, ◌≡◌, Bool, true, false, cond, List, [], ◌∷◌, map, filter, length, get_or, refl, sym, ap, ◌∙◌, arith}
-use Rattle.std.specs.Prelude.{All, Contains}
+use Rattle.std.specs.Prelude.{Contains}
 use Rattle.std.proofs.lemmas.List.{get_or-map, length-map, same_lists}
 use Rattle.std.proofs.lemmas.List.Elements.{All-filter, All-contains_itself}
 use Rattle.sdd_catalog.specs.Catalogue.{Catalogue}
-use Rattle.sdd_graph.specs.declared.edge.Edge.{Edge}
 use Rattle.sdd_protocol.specs.declared.entry.Entry.{Entry}
-use Rattle.sdd_protocol.specs.declared.protocol.Protocol.{Protocol}
 use Rattle.sdd_advise.specs.Advices.{is_diagonal}
 use Rattle.sdd_advise.specs.Laws.{AdvicesSayTheTable, advised, listed}
 use Rattle.sdd_advise.specs.declared.advice.Advice.{Advice}

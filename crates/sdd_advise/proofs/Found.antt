@@ -1,5 +1,5 @@
 -- The steps of a search.
-use Rattle.std.proofs.Common.{ℕ, zero, suc, ◌+◌, ◌<◌, ◌≤◌, ◌^◌, ◌≡◌, ◌≢◌, Bool, true, false, cond, List, [], ◌∷◌, ◌++◌, length, get_or, set, replicate, Option, Some, None, refl, sym, ap, ◌∙◌, subst, arith, inl, inr, ◌⊎◌, length-set, get_or-set_same, get_or-set_other, length-append}
+use Rattle.std.proofs.Common.{ℕ, zero, suc, ◌+◌, ◌<◌, ◌^◌, ◌≡◌, ◌≢◌, true, cond, List, [], ◌∷◌, ◌++◌, length, set, replicate, Option, Some, None, refl, sym, ap, ◌∙◌, subst, arith, inl, inr, ◌⊎◌, length-set, get_or-set_same, get_or-set_other}
 use Rattle.std.specs.Prelude.{count_by, is_some, is_none, MatchOption, Contains}
 use Rattle.std.proofs.lemmas.Bool.{cases_eq, cases_lt}
 use Rattle.std.proofs.lemmas.List.{length-replicate, get_or-replicate, get_or_past, get_or_append_left, get_or_push, length_push}
@@ -7,7 +7,7 @@ use Rattle.std.proofs.lemmas.List.Sums.{sum_by-set, sum_by-cons}
 use Rattle.std.proofs.lemmas.Option.{none-some, same_Some, MatchOption-at_some}
 use Rattle.sdd_graph.specs.declared.edge.Edge.{Edge}
 use Rattle.sdd_advise.specs.Reach.{Joins}
-use Rattle.sdd_advise.specs.Searches.{reached_at, place_of, IsTraced, LeadsTo, IsUnderWay}
+use Rattle.sdd_advise.specs.Searches.{reached_at, place_of, LeadsTo, IsUnderWay}
 use Rattle.sdd_advise.specs.declared.search.Came.{Came}
 use Rattle.sdd_advise.specs.declared.search.Reached.{Reached}
 

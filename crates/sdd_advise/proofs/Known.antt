@@ -1,5 +1,5 @@
 -- What a good advice names is there.
-use Rattle.std.proofs.Common.{ℕ, ◌*◌, ◌<◌, ◌≡◌, List, [], length, get_or, sym, subst, inl}
+use Rattle.std.proofs.Common.{ℕ, ◌*◌, ◌<◌, List, length, get_or, sym, subst}
 use Rattle.std.specs.Prelude.{All, Contains}
 use Rattle.std.proofs.lemmas.List.Elements.{All-nil, All-weaker, All-contains, Contains-get_or}
 use Rattle.sdd_base.specs.declared.number.ClassNo.{ClassNo}

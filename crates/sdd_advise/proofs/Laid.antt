@@ -14,7 +14,6 @@ use Rattle.sdd_graph.proofs.Known.{edges_known}
 use Rattle.sdd_advise.specs.Neighbours.{neighbours, HasEachOnce, HasVerticals, IsLaidOut}
 use Rattle.sdd_advise.specs.Readers.{IsReadOf}
 use Rattle.sdd_advise.specs.declared.neighbour.Neighbour.{Neighbour}
-use Rattle.sdd_advise.specs.Reach.{Joins}
 use Rattle.sdd_advise.proofs.Beside.{IsNeighbour, all_neighbours}
 use Rattle.sdd_advise.proofs.Edges.{contains_at}
 use Rattle.sdd_advise.proofs.Places.{one_place_each}

@@ -1,5 +1,5 @@
 -- What an advice shows of its edge, for each protocol.
-use Rattle.std.proofs.Common.{ℕ, ◌*◌, ◌-◌, ◌≡◌, ◌≢◌, ◌<◌, ◌≤◌, Bool, true, false, List, [], length, Option, refl, sym, ap, ◌∙◌, subst, arith}
+use Rattle.std.proofs.Common.{ℕ, ◌*◌, ◌-◌, ◌≡◌, ◌<◌, ◌≤◌, true, false, List, length, Option, sym, subst, arith}
 use Rattle.std.specs.Prelude.{Contains, is_some}
 use Rattle.std.proofs.lemmas.Bool.{both_ways}
 use Rattle.sdd_base.specs.declared.number.ClassNo.{ClassNo}

@@ -1,12 +1,10 @@
 -- The way by which a search came to a node, from its end.
-use Rattle.std.proofs.Common.{ℕ, ◌<◌, ◌≡◌, List, [], ◌∷◌, ◌++◌, map, length, reverse, Option, Some, None, refl, sym, ap, ◌∙◌, subst, arith, inl, inr}
-use Rattle.std.specs.Prelude.{slice_get}
+use Rattle.std.proofs.Common.{ℕ, ◌<◌, ◌≡◌, List, [], ◌∷◌, ◌++◌, length, reverse, Option, Some, None, sym, ap, ◌∙◌, subst, arith, inl, inr}
 use Rattle.std.specs.List.{AllZip}
 use Rattle.std.proofs.lemmas.List.{reverse-append}
 use Rattle.std.proofs.lemmas.Option.{same_Some, MatchOption-at_some, MatchOption-at_none}
-use Rattle.sdd_blocks.specs.Graph.{Step, Has, IsWalk, Differ, nodes_of}
+use Rattle.sdd_blocks.specs.Graph.{Step, Has, nodes_of}
 use Rattle.sdd_graph.specs.declared.edge.Edge.{Edge}
-use Rattle.sdd_graph.specs.Graph.{ends}
 use Rattle.sdd_advise.specs.Cycles.{GoesAlong}
 use Rattle.sdd_advise.specs.Searches.{reached_at, place_of, IsUnderWay}
 use Rattle.sdd_advise.specs.Ways.{IsWay}

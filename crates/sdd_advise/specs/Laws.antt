@@ -1,5 +1,5 @@
 -- What good advices show.
-use Rattle.std.specs.Prelude.{ℕ, ◌≡◌, List, map, filter, Contains}
+use Rattle.std.specs.Prelude.{◌≡◌, List, map, filter, Contains}
 use Rattle.sdd_catalog.specs.Catalogue.{Catalogue}
 use Rattle.sdd_graph.specs.declared.edge.Edge.{Edge}
 use Rattle.sdd_protocol.specs.Protocols.{IsTable}

@@ -1,5 +1,4 @@
-ghost use Rattle.std.specs.Prelude.{◌≡◌, ◌<◌, ◌↔◌, Contains, IfOk, IsTrue};
-ghost use Rattle.sdd_graph.specs.Graph.{read_node, write_node};
+ghost use Rattle.std.specs.Prelude.{◌<◌, ◌↔◌, Contains, IfOk, IsTrue};
 ghost use Rattle.sdd_advise.specs.Advices.{BeginsWith, EndsWith, IsGood, ShowsP1, ShowsP2, ShowsP3, ShowsFor};
 ghost use Rattle.sdd_advise.specs.Passing.{Passes};
 ghost use Rattle.sdd_advise.specs.Reach.{AreReached};

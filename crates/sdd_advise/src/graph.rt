@@ -5,7 +5,7 @@ ghost use Rattle.sdd_graph.specs.Graph.{ends};
 ghost use Rattle.sdd_advise.specs.Neighbours.{ArePaired, HasEachOnce, HasVerticals, neighbour_by, neighbours, network_of, other_end};
 
 use crate::neighbour::Neighbour;
-use sdd_base::{Listed, MAX_CLASSES, NoMemory, is_same};
+use sdd_base::{Listed, NoMemory, is_same};
 use sdd_catalog::Catalogue;
 use sdd_graph::{Edge, conflict_graph, ends};
 use std::alloc::Global;

@@ -1,5 +1,4 @@
 ghost use Rattle.std.specs.Prelude.{◌≡◌, ◌+◌, ◌<◌, ◌^◌, ◌++◌, ◌∷◌, [], length, replicate, None, Some, is_some, slice_set, true, IfOk, OnOk};
-ghost use Rattle.sdd_graph.specs.Edges.{NamesClasses};
 ghost use Rattle.sdd_advise.specs.Neighbours.{Network};
 ghost use Rattle.sdd_advise.specs.Passing.{Passes};
 ghost use Rattle.sdd_advise.specs.Reach.{AreReached};

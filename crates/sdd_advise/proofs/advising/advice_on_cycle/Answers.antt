@@ -1,10 +1,9 @@
-use Rattle.std.proofs.Common.{◌≡◌, ◌∷◌, [], Some, sym, ap, ◌∙◌, refl}
+use Rattle.std.proofs.Common.{◌≡◌, ◌∷◌, [], sym, ◌∙◌, refl}
 use Rattle.std.proofs.lemmas.Result.{IfOk-weaker}
-use Rattle.sdd_graph.specs.Graph.{ends}
 use Rattle.sdd_protocol.specs.declared.protocol.Protocol.TheVariants.{P2, P3}
 use Rattle.sdd_advise.specs.Advices.{ShowsFor, advice_of}
 use Rattle.sdd_advise.specs.Reach.{IsAway}
-use Rattle.sdd_advise.specs.Searches.{place_of, placed_nodes, reached_at}
+use Rattle.sdd_advise.specs.Searches.{placed_nodes, reached_at}
 use Rattle.sdd_advise.specs.declared.without.Without.TheVariants.{OneNode}
 use Rattle.sdd_advise.proofs.Advised.{good_beside, good_by_way, way_moved}
 use Rattle.sdd_advise.proofs.advising.advice_on_cycle.Goals as goal

@@ -1,5 +1,5 @@
-use Rattle.std.proofs.Common.{ℕ, ◌≡◌, ◌<◌, Bool, refl, sym, ap, ◌∙◌, subst}
-use Rattle.std.specs.Prelude.{◌↔◌, IsTrue, All}
+use Rattle.std.proofs.Common.{ℕ, ◌<◌, sym, subst}
+use Rattle.std.specs.Prelude.{◌↔◌, IsTrue}
 use Rattle.std.proofs.lemmas.List.Elements.{All-contains}
 use Rattle.std.proofs.lemmas.Result.{IfOk-weaker}
 use Rattle.sdd_graph.specs.declared.edge.Edge.TheVariants.{Vertical}

@@ -1,4 +1,4 @@
-use Rattle.std.proofs.Common.{◌≡◌, ◌<◌, false, true, length, get_or, sym, ◌∙◌, arith, refl}
+use Rattle.std.proofs.Common.{◌<◌, false, length, get_or, sym, ◌∙◌, arith, refl}
 use Rattle.std.proofs.lemmas.Bool.{false≢true}
 use Rattle.std.proofs.lemmas.List.{get_or_read}
 use Rattle.sdd_advise.proofs.Distinctness.{one_marked, met_again}

@@ -1,4 +1,4 @@
-use Rattle.std.proofs.Common.{ℕ, Global, Vec, Bool, ◌≡◌, ◌<◌, ◌-◌, Some, length, refl, sym, ap, ◌∙◌, subst, arith}
+use Rattle.std.proofs.Common.{ℕ, Global, Vec, ◌≡◌, ◌<◌, ◌-◌, Some, length, refl, sym, ap, ◌∙◌, subst, arith}
 use Rattle.std.specs.Prelude.{All, Contains, option_map, slice_get, ◌↔◌, IsTrue}
 use Rattle.std.proofs.lemmas.Bool.{false≢true}
 use Rattle.std.proofs.lemmas.List.Elements.{All-weaker, All-contains}

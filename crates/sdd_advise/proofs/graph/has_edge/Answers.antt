@@ -1,8 +1,8 @@
-use Rattle.std.proofs.Common.{◌≡◌, ◌≢◌, refl, subst, sym}
+use Rattle.std.proofs.Common.{◌≢◌, refl, subst}
 use Rattle.std.specs.Prelude.{All}
 use Rattle.std.proofs.lemmas.Bool.{both_ways, false≢true}
 use Rattle.std.proofs.lemmas.List.{take_all}
-use Rattle.std.proofs.lemmas.List.Elements.{All-more, All-contains, Contains-get_or}
+use Rattle.std.proofs.lemmas.List.Elements.{All-more, All-contains}
 use Rattle.sdd_advise.proofs.graph.has_edge.Goals as goal
 
 pub others-preserved : goal.others-preserved

@@ -1,8 +1,7 @@
-use Rattle.std.proofs.Common.{ℕ, None, Some, replicate, set, length, ◌≡◌, ◌≤◌, ◌<◌, ◌^◌, ◌∙◌, ap, subst, sym, refl, arith}
+use Rattle.std.proofs.Common.{ℕ, None, Some, replicate, set, length, ◌≡◌, ◌≤◌, ◌<◌, ◌^◌, ◌∙◌, ap, subst, arith}
 use Rattle.sdd_advise.specs.Passing.{Passes}
 use Rattle.sdd_advise.specs.Reach.{AreReached}
 use Rattle.sdd_advise.specs.Searches.{IsUnderWay, placed_nodes, reached_at}
-use Rattle.sdd_advise.specs.declared.search.Reached.{Reached}
 use Rattle.sdd_advise.proofs.Found.{search_begun}
 use Rattle.sdd_advise.proofs.Going.{are_reached}
 use Rattle.sdd_advise.proofs.search.Search.of.Goals as goal

@@ -1,4 +1,4 @@
-use Rattle.std.proofs.Common.{◌<◌, ◌≡◌, length, ◌∙◌, sym, refl, subst, arith}
+use Rattle.std.proofs.Common.{◌<◌, ◌≡◌, ◌∙◌, sym, refl, subst, arith}
 use Rattle.std.proofs.lemmas.Option.{MatchOption-at_some}
 use Rattle.sdd_advise.specs.Passing.{Passes}
 use Rattle.sdd_advise.specs.Searches.{reached_at}
