@@ -1,0 +1,68 @@
+-- The words of an order line.
+use Rattle.std.proofs.Common.{◌≡◌, ℕ, List, [], ◌∷◌, ◌++◌, drop, Bool, true, false, eqb, refl, sym, ap, ◌∙◌, ◌⊎◌, inl, inr, append-nil, rules}
+use Rattle.std.specs.Prelude.{codes, ◌||◌}
+use Rattle.std.specs.List.{All, flat_map, join_with_byte}
+use Rattle.std.specs.Str.{bytes_eq}
+use Rattle.std.proofs.lemmas.Bool.{ne_eqb}
+use Rattle.std.proofs.lemmas.Bool.Decides.{Decides-eqb}
+use Rattle.std.proofs.lemmas.List.Elements.{All-cons, All-nil}
+use Rattle.std.proofs.lemmas.List.Splits.{join_with_byte-slice_split, slice_split_at, slice_split_none}
+use Rattle.std.proofs.lemmas.Slice.Eq.{bytes_eq-Decides, starts_is}
+use Rattle.sdd_base.specs.Words.{tail_of}
+use Rattle.sdd_words.specs.Words.{HasNoSpace}
+use Rattle.sdd_verify.specs.Lines.{is_order_line}
+use Rattle.sdd_verify.specs.Orders.{names_on, words_of}
+
+-- words, each behind a space
+abbrev pub behind_spaces : List (List ℕ) → List ℕ
+behind_spaces names = flat_map (λ name. 32 ∷ name) names
+
+no_space : (bytes : List ℕ) → HasNoSpace bytes → All (λ c. eqb c 32 ≡ false) bytes
+no_space [] h = All-nil (λ c. eqb c 32 ≡ false)
+no_space (c ∷ bytes) h = All-cons (λ c. eqb c 32 ≡ false) c bytes (ne_eqb c 32 h.0) (no_space bytes h.1)
+
+abbrev pub HaveNoSpace : List (List ℕ) → Type 0
+HaveNoSpace [] = Unit {0}
+HaveNoSpace (name ∷ names) = HasNoSpace name × HaveNoSpace names
+
+-- words that are put behind spaces are cut again
+pub words_again : (word : List ℕ) (names : List (List ℕ)) → HasNoSpace word → HaveNoSpace names → words_of (word ++ behind_spaces names) ≡ word ∷ names
+words_again word [] h hs = ap words_of (append-nil word) ∙ slice_split_none (λ c. eqb c 32) word (no_space word h)
+words_again word (name ∷ names) h hs =
+    slice_split_at (λ c. eqb c 32) word 32 (name ++ behind_spaces names) (no_space word h) refl
+    ∙ ap (λ (l : List (List ℕ)). word ∷ l) (words_again name names hs.0 hs.1)
+
+-- so the names of an order line are read again
+pub names_again : (names : List (List ℕ)) → HaveNoSpace names → names_on (codes "order" ++ behind_spaces names) ≡ names
+names_again names h = ap tail_of (words_again (codes "order") names (search rules) h)
+
+-- and it is an order line
+pub is_order_line_again : (names : List (List ℕ)) → is_order_line (codes "order" ++ behind_spaces names) ≡ true
+is_order_line_again [] = refl
+is_order_line_again (name ∷ names) = refl
+
+-- words joined by spaces
+joined : (word : List ℕ) (names : List (List ℕ)) → join_with_byte 32 (word ∷ names) ≡ word ++ behind_spaces names
+joined word [] = sym (append-nil word)
+joined word (name ∷ names) = ap (λ (l : List ℕ). word ++ 32 ∷ l) (joined name names)
+
+-- what is cut at spaces is the first word and the others behind spaces
+cut_joined : (line word : List ℕ) (names : List (List ℕ)) → words_of line ≡ word ∷ names → line ≡ word ++ behind_spaces (names_on line)
+cut_joined line word names e =
+    let is : names_on line ≡ names = ap tail_of e in
+    sym (join_with_byte-slice_split 32 line) ∙ ap (join_with_byte 32) e ∙ joined word names ∙ ap (λ (l : List (List ℕ)). word ++ behind_spaces l) (sym is)
+
+either : (a b : Bool) → (a || b) ≡ true → (a ≡ true) ⊎ (b ≡ true)
+either true b e = inl refl
+either false b e = inr e
+
+-- an order line is the word `order` and its names behind spaces
+pub order_line_is : (line : List ℕ) → is_order_line line ≡ true → line ≡ codes "order" ++ behind_spaces (names_on line)
+order_line_is line e =
+    elim (either (bytes_eq line (codes "order")) _ e) [
+      | inl same ↦ let is : line ≡ codes "order" = (bytes_eq-Decides line (codes "order")).0 same in cut_joined line (codes "order") [] (rw is refl)
+      | inr begins ↦
+          let rest : List ℕ = drop 6 line in
+          let is : line ≡ codes "order " ++ rest = (starts_is Decides-eqb line (codes "order ") _ refl).0 begins in
+          cut_joined line (codes "order") (words_of rest) (ap words_of is)
+    ]

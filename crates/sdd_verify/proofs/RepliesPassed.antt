@@ -1,0 +1,110 @@
+-- The replies of transactions that have to come, one after the other.
+use Rattle.std.proofs.Common.{◌≡◌, ℕ, ◌+◌, List, [], ◌∷◌, ◌++◌, Result, Ok, sym, ap, ◌∙◌, append_assoc, subst, length, map, drop, get_or, ◌<◌, ◌≤◌, Bor}
+use Rattle.std.specs.Fmt.{decimal}
+use Rattle.std.proofs.lemmas.List.{drop_all, drop_more}
+use Rattle.std.specs.Prelude.{codes, flat_map}
+use Rattle.sdd_base.proofs.ReadingLaws.{fails_bind}
+use Rattle.sdd_base.specs.Readings.{◌>>=◌, Fails}
+use Rattle.sdd_base.specs.declared.reply.Reply.{Reply}
+use Rattle.sdd_base.specs.declared.reply.Reply.TheVariants.{Rows, Overflow, TooMany}
+use Rattle.sdd_base.specs.declared.value.Value.{Value}
+use Rattle.sdd_catalog.specs.Catalogue.{Catalogue}
+use Rattle.sdd_lang.specs.Database.{Database}
+use Rattle.sdd_lang.specs.Effect.{effect}
+use Rattle.sdd_lang.specs.Serial.{after_changes}
+use Rattle.sdd_lang.specs.declared.transaction.Txn.{Txn}
+use Rattle.sdd_report.specs.Replies.{outcome_lines, queries_from, query_lines, reply_lines, row_line, value_bytes}
+use Rattle.sdd_words.specs.Lines.{cut_lines}
+use Rattle.sdd_verify.specs.Flaws.{line_in}
+use Rattle.sdd_verify.specs.declared.flaw.Flaw.{Flaw}
+use Rattle.sdd_verify.specs.Lines.{Numbered, lines_of, passed}
+use Rattle.sdd_verify.specs.Replies.{replies, replies_on}
+use Rattle.sdd_verify.proofs.LineCuts.{IsWhole, whole_append, whole_behind, whole_empty, whole_ended}
+use Rattle.sdd_verify.proofs.LinesPassed.{after_lines}
+
+-- all that is printed of replies ends its lines
+
+row_whole : (row : List Value) → IsWhole (row_line row)
+row_whole row = whole_ended (codes "row" ++ flat_map (λ v. 32 ∷ value_bytes v) row) [] whole_empty
+
+rows_whole : (rows : List (List Value)) → IsWhole (flat_map row_line rows)
+rows_whole [] = whole_empty
+rows_whole (row ∷ rows) = whole_append (row_line row) (flat_map row_line rows) (row_whole row) (rows_whole rows)
+
+query_whole : (number : ℕ) (rows : List (List Value)) → IsWhole (query_lines number rows)
+query_whole number rows =
+    whole_append (((codes "query " ++ decimal number) ++ 32 ∷ decimal (length rows)) ++ 10 ∷ []) (flat_map row_line rows)
+    (whole_ended ((codes "query " ++ decimal number) ++ 32 ∷ decimal (length rows)) [] whole_empty) (rows_whole rows)
+
+queries_whole : (number : ℕ) (answers : List (List (List Value))) → IsWhole (queries_from number answers)
+queries_whole number [] = whole_empty
+queries_whole number (rows ∷ answers) = whole_append (query_lines number rows) (queries_from (number + 1) answers) (query_whole number rows) (queries_whole (number + 1) answers)
+
+outcome_whole : (reply : Reply) → IsWhole (outcome_lines reply)
+outcome_whole (Rows answers) = whole_append (codes " ok\n") (queries_from 1 answers) (whole_ended (codes " ok") [] whole_empty) (queries_whole 1 answers)
+outcome_whole Overflow = whole_ended (codes " overflow") [] whole_empty
+outcome_whole TooMany = whole_ended (codes " toomany") [] whole_empty
+
+-- behind a text that ends no line
+behind_front : (front word rest : List ℕ) → IsWhole rest → IsWhole (front ++ (word ++ 10 ∷ rest))
+behind_front front word rest h = subst IsWhole (append_assoc front word (10 ∷ rest)) (whole_ended (front ++ word) rest h)
+
+pub reply_whole : (name : List ℕ) (reply : Reply) → IsWhole (reply_lines name reply)
+reply_whole name (Rows answers) = behind_front (codes "reply " ++ name) (codes " ok") (queries_from 1 answers) (queries_whole 1 answers)
+reply_whole name Overflow = behind_front (codes "reply " ++ name) (codes " overflow") [] whole_empty
+reply_whole name TooMany = behind_front (codes "reply " ++ name) (codes " toomany") [] whole_empty
+
+pub replies_whole : (txns : List Txn) (answers : List Reply) → IsWhole (replies txns answers)
+replies_whole [] answers = whole_empty
+replies_whole (txn ∷ txns) [] = whole_empty
+replies_whole (txn ∷ txns) (reply ∷ answers) = whole_append (reply_lines txn.name reply) (replies txns answers) (reply_whole txn.name reply) (replies_whole txns answers)
+
+-- the first reply, and then the others
+first_reply : (number : ℕ) (name : List ℕ) (reply : Reply) (others : List ℕ) (lines : List (List ℕ))
+    → passed number (lines_of (reply_lines name reply ++ others)) lines ≡ (passed number (lines_of (reply_lines name reply)) lines >>= λ rest. passed rest.0 (lines_of others) rest.1)
+first_reply number name reply others lines =
+    ap (λ (cut : List (List ℕ) × List ℕ). passed number cut.0 lines) (whole_behind (reply_lines name reply) others (reply_whole name reply))
+    ∙ after_lines number (lines_of (reply_lines name reply)) (lines_of others) lines
+
+-- the transactions that are left, the first of them apart
+module _ (cat : Catalogue) (db : Database) (txns : List (Bor Txn)) (i : ℕ) (t : Bor Txn) (reply : Reply) (number : ℕ) (lines : List (List ℕ))
+    (within : i < length txns) (there : t ≡ get_or txns i t) (replied : reply ≡ (effect cat db t.now).reply) where
+  apart : passed number (lines_of (replies_on cat db (map (λ u. u.now) (drop i txns)))) lines
+      ≡ (passed number (lines_of (reply_lines t.now.name reply)) lines
+      >>= λ rest. passed rest.0 (lines_of (replies_on cat (after_changes cat db (effect cat db t.now).changes) (map (λ u. u.now) (drop (i + 1) txns)))) rest.1)
+  apart =
+      let next : Database = after_changes cat db (effect cat db t.now).changes in
+      let others : List Txn = map (λ (u : Bor Txn). u.now) (drop (i + 1) txns) in
+      let first : drop i txns ≡ t ∷ drop (i + 1) txns = drop_more txns i t within ∙ ap (λ (u : Bor Txn). u ∷ drop (i + 1) txns) (sym there) in
+      ap (λ (us : List (Bor Txn)). passed number (lines_of (replies_on cat db (map (λ u. u.now) us))) lines) first
+      ∙ ap (λ (r : Reply). passed number (lines_of (reply_lines t.now.name r ++ replies_on cat next others)) lines) (sym replied)
+      ∙ first_reply number t.now.name reply (replies_on cat next others) lines
+
+  -- where the first reply is there, the others have to come behind it
+  pub goes_on : (name : List ℕ) (now : Database) (rest : Numbered) (total : Result Numbered ℕ) → name ≡ t.now.name → now ≡ after_changes cat db (effect cat db t.now).changes
+      → passed number (lines_of (reply_lines name reply)) lines ≡ Ok rest
+      → passed number (lines_of (replies_on cat db (map (λ u. u.now) (drop i txns)))) lines ≡ total
+      → passed rest.0 (lines_of (replies_on cat now (map (λ u. u.now) (drop (i + 1) txns)))) rest.1 ≡ total
+  goes_on name now rest total same is passes so_far =
+      let here : passed number (lines_of (reply_lines t.now.name reply)) lines ≡ Ok rest = ap (λ (n : List ℕ). passed number (lines_of (reply_lines n reply)) lines) (sym same) ∙ passes in
+      let next : Database = after_changes cat db (effect cat db t.now).changes in
+      ap (λ (d : Database). passed rest.0 (lines_of (replies_on cat d (map (λ u. u.now) (drop (i + 1) txns)))) rest.1) is
+      ∙ sym (apart ∙ ap (λ (r : Result Numbered ℕ). r >>= λ more. passed more.0 (lines_of (replies_on cat next (map (λ u. u.now) (drop (i + 1) txns)))) more.1) here)
+      ∙ so_far
+
+  -- where it isn't, its fault is that of all
+  pub fails : (e : Flaw) (name : List ℕ) (total : Result Numbered ℕ) → name ≡ t.now.name → Fails line_in e (passed number (lines_of (reply_lines name reply)) lines)
+      → passed number (lines_of (replies_on cat db (map (λ u. u.now) (drop i txns)))) lines ≡ total → Fails line_in e total
+  fails e name total same breaks so_far =
+      let P : Result Numbered ℕ → Type 0 = λ r. Fails line_in e r in
+      let next : Database = after_changes cat db (effect cat db t.now).changes in
+      let more : Numbered → Result Numbered ℕ = λ rest. passed rest.0 (lines_of (replies_on cat next (map (λ u. u.now) (drop (i + 1) txns)))) rest.1 in
+      let here : Fails line_in e (passed number (lines_of (reply_lines t.now.name reply)) lines) = subst (λ (n : List ℕ). Fails line_in e (passed number (lines_of (reply_lines n reply)) lines)) same breaks in
+      subst P (sym apart ∙ so_far) (fails_bind line_in e (passed number (lines_of (reply_lines t.now.name reply)) lines) more here)
+
+-- where no transaction is left, nothing has to come
+pub none_left : (cat : Catalogue) (db : Database) (txns : List (Bor Txn)) (i number : ℕ) (lines : List (List ℕ)) (total : Result Numbered ℕ) → length txns ≤ i
+    → passed number (lines_of (replies_on cat db (map (λ u. u.now) (drop i txns)))) lines ≡ total → total ≡ Ok (number, lines)
+unfolding cut_lines
+none_left cat db txns i number lines total past so_far =
+    sym so_far ∙ ap (λ (us : List (Bor Txn)). passed number (lines_of (replies_on cat db (map (λ u. u.now) us))) lines) (drop_all i txns past)

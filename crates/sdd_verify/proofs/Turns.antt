@@ -1,0 +1,214 @@
+-- Orders in which each transaction may stand behind those before it, one transaction more.
+use Rattle.std.proofs.Common.{◌≡◌, ℕ, zero, suc, ◌+◌, ◌<◌, ◌==◌, List, [], ◌∷◌, ◌++◌, Bool, true, false, cond, not, Option, Some, None, Less, Equal, Greater, refl, sym, ap, ◌∙◌, subst, arith, ◌⊎◌, inl, inr, length, take, drop, get_or, eq-eqb, append_assoc, ◌≤◌}
+use Rattle.std.specs.Prelude.{◌&&◌, ◌||◌, nat_lt}
+use Rattle.std.specs.BTreeMap.{is_at}
+use Rattle.std.specs.Cmp.{nat_cmp_is}
+use Rattle.std.specs.List.{list_all}
+use Rattle.std.specs.Ordering.{nat_cmp, is_eq}
+use Rattle.std.proofs.lemmas.Bool.{cases_Bool, cases_eq, eqb-true, ltb-true, ne_eqb, lt-ltb, le-ltb}
+use Rattle.std.proofs.lemmas.List.{take_more, append-nil, take-append-drop}
+use Rattle.std.proofs.lemmas.List.Folds.{list_all-append}
+use Rattle.sdd_base.specs.Words.{or_else}
+use Rattle.sdd_base.specs.declared.number.TxnNo.{TxnNo}
+use Rattle.sdd_catalog.specs.Catalogue.{Catalogue}
+use Rattle.sdd_lang.specs.declared.transaction.Txn.{Txn}
+use Rattle.sdd_verify.specs.Orders.{is_in_turn, may_follow}
+use Rattle.sdd_verify.specs.Submitted.{class_of}
+
+both : (a b : Bool) → (a && b) ≡ true → (a ≡ true) × (b ≡ true)
+both true b e = (refl, e)
+both false b e = absurd cc
+
+both_true : (a b : Bool) → a ≡ true → b ≡ true → (a && b) ≡ true
+both_true a b e f = rw (e, f) refl
+
+and_again : (a b c : Bool) → (a && (b && c)) ≡ ((a && b) && c)
+and_again true b c = refl
+and_again false b c = refl
+
+and_true : (a : Bool) → (a && true) ≡ a
+and_true true = refl
+and_true false = refl
+
+some_is : {A : Type 0} (x y : A) → Some x ≡ Some y → x ≡ y
+some_is x y e = cc
+
+-- whether a number may stand behind the last one of its class
+abbrev pub allows : Option ℕ → ℕ → Bool
+allows None number = true
+allows (Some last) number = nat_lt last number
+
+-- whether a key is another number
+pub is_at_number : (k n : ℕ) → is_at (nat_cmp k) n ≡ (k == n)
+is_at_number k n =
+    elim (cases_eq k n) [
+      | inl e ↦ ap is_eq (sym (nat_cmp_is k n Equal e)) ∙ sym (eq-eqb k n e)
+      | inr d ↦ elim (less_or_greater k n d) [
+        | inl l ↦ ap is_eq (sym (nat_cmp_is k n Less l)) ∙ sym (ne_eqb k n d)
+        | inr g ↦ ap is_eq (sym (nat_cmp_is k n Greater g)) ∙ sym (ne_eqb k n d)
+      ]
+    ]
+  where
+    less_or_greater : (m n : ℕ) → (m ≡ n → ⊥) → (m < n) ⊎ (n < m)
+    less_or_greater zero zero d = absurd (d refl)
+    less_or_greater zero (suc n) d = inl (omega arith)
+    less_or_greater (suc m) zero d = inr (omega arith)
+    less_or_greater (suc m) (suc n) d = elim (less_or_greater m n (λ e. d (ap suc e))) [ inl l ↦ inl (omega arith) | inr l ↦ inr (omega arith) ]
+
+same_number : (m n : TxnNo) → m.0 ≡ n.0 → m ≡ n
+same_number m n e = ap (λ (k : ℕ). let t : TxnNo = record { 0 = k } in t) e
+
+module _ (cat : Catalogue) (txns : List Txn) where
+  abbrev Class : TxnNo → ℕ
+  Class n = class_of cat txns n
+
+  -- that it is another one need not be asked
+  follows_by_class : (m n : TxnNo) (same class less : Bool) → (m.0 == n.0) ≡ same → (Class m == Class n) ≡ class → nat_lt m.0 n.0 ≡ less
+      → (not same && (not class || less)) ≡ (not class || less)
+  follows_by_class m n false class less e f g = refl
+  follows_by_class m n true true false e f g = refl
+  follows_by_class m n true true true e f g = let is = eqb-true m.0 n.0 e in let lt : m.0 < n.0 = ltb-true m.0 n.0 g in absurd (omega arith)
+  follows_by_class m n true false less e f g =
+      let is = same_number m n (eqb-true m.0 n.0 e) in
+      let one : (Class m == Class n) ≡ true = eq-eqb (Class m) (Class n) (ap Class is) in
+      absurd cc
+
+  by_class : (m n : TxnNo) → may_follow cat txns m n ≡ (not (Class m == Class n) || nat_lt m.0 n.0)
+  by_class m n = follows_by_class m n (m.0 == n.0) (Class m == Class n) (nat_lt m.0 n.0) refl refl refl
+
+  -- the last of a class
+  abbrev pub last_of : ℕ → List TxnNo → Option ℕ
+  last_of c [] = None
+  last_of c (n ∷ order) = or_else (last_of c order) (cond (Class n == c) (Some n.0) None)
+
+  -- one more at the end
+
+  or_again : (a b d : Option ℕ) → or_else (or_else a b) d ≡ or_else a (or_else b d)
+  or_again None b d = refl
+  or_again (Some x) b d = refl
+
+  or_none : (a : Option ℕ) → or_else a None ≡ a
+  or_none None = refl
+  or_none (Some x) = refl
+
+  pub last_more : (c : ℕ) (order : List TxnNo) (n : TxnNo) → last_of c (order ++ n ∷ []) ≡ or_else (cond (Class n == c) (Some n.0) None) (last_of c order)
+  last_more c [] n = sym (or_none (cond (Class n == c) (Some n.0) None))
+  last_more c (m ∷ order) n =
+      let more = last_more c order n in
+      rw more (or_again (cond (Class n == c) (Some n.0) None) (last_of c order) (cond (Class m == c) (Some m.0) None))
+
+  pub turn_more : (order : List TxnNo) (n : TxnNo) → is_in_turn cat txns (order ++ n ∷ []) ≡ (is_in_turn cat txns order && list_all (λ m. may_follow cat txns m n) order)
+  turn_more [] n = refl
+  turn_more (m ∷ order) n =
+      let more = turn_more order n in
+      let front = list_all-append (may_follow cat txns m) order (n ∷ []) in
+      rw (front, more) (regroup (list_all (may_follow cat txns m) order) (may_follow cat txns m n) (is_in_turn cat txns order) (list_all (λ k. may_follow cat txns k n) order))
+    where
+      regroup : (a b c d : Bool) → ((a && (b && true)) && (c && d)) ≡ ((a && c) && (b && d))
+      regroup true true c d = refl
+      regroup true false true d = refl
+      regroup true false false d = refl
+      regroup false b c d = refl
+
+  -- the last of a class was submitted behind all of it before
+
+  last_by : (c p : ℕ) (m n : TxnNo) (class : Bool) (rest : Option ℕ) → (Class n == c) ≡ class → may_follow cat txns m n ≡ true → Class m ≡ c
+      → (rest ≡ Some p → m.0 < p) → or_else rest (cond class (Some n.0) None) ≡ Some p → m.0 < p
+  last_by c p m n class (Some q) e f is above g = above g
+  last_by c p m n false None e f is above g = absurd cc
+  last_by c p m n true None e f is above g =
+      let here : n.0 ≡ p = some_is n.0 p g in
+      let one : (Class m == Class n) ≡ true = eq-eqb (Class m) (Class n) (is ∙ sym (eqb-true (Class n) c e)) in
+      let lt : nat_lt m.0 n.0 ≡ true = rw one at (sym (by_class m n) ∙ f) in
+      subst (λ (k : ℕ). m.0 < k) here (ltb-true m.0 n.0 lt)
+
+  last_above : (c p : ℕ) (m : TxnNo) (order : List TxnNo) → list_all (may_follow cat txns m) order ≡ true → Class m ≡ c → last_of c order ≡ Some p → m.0 < p
+  last_above c p m [] h is e = absurd cc
+  last_above c p m (n ∷ order) h is e =
+      let parts = both (may_follow cat txns m n) (list_all (may_follow cat txns m) order) h in
+      last_by c p m n (Class n == c) (last_of c order) refl parts.0 is (λ there. last_above c p m order parts.1 is there) e
+
+  -- so it alone is to be compared
+
+  compared : (c : ℕ) (m n : TxnNo) (class less : Bool) (rest : Option ℕ) → Class n ≡ c → (Class m == c) ≡ class → nat_lt m.0 n.0 ≡ less
+      → ((p : ℕ) → rest ≡ Some p → class ≡ true → m.0 < p)
+      → ((not class || less) && allows rest n.0) ≡ allows (or_else rest (cond class (Some m.0) None)) n.0
+  compared c m n false less (Some q) is e f above = refl
+  compared c m n true true (Some q) is e f above = refl
+  compared c m n true false (Some q) is e f above =
+      let lt = above q refl refl in
+      elim (cases_Bool (nat_lt q n.0)) [
+        | inl y ↦ let past : q < n.0 = ltb-true q n.0 y in let less : nat_lt m.0 n.0 ≡ true = lt-ltb m.0 n.0 (omega arith) in absurd cc
+        | inr far ↦ sym far
+      ]
+  compared c m n false less None is e f above = refl
+  compared c m n true less None is e f above = and_true less ∙ sym f
+
+  pub followed : (order : List TxnNo) (n : TxnNo) → is_in_turn cat txns order ≡ true → list_all (λ m. may_follow cat txns m n) order ≡ allows (last_of (Class n) order) n.0
+  followed [] n h = refl
+  followed (m ∷ order) n h =
+      let parts = both (list_all (may_follow cat txns m) order) (is_in_turn cat txns order) h in
+      let more = followed order n parts.1 in
+      let here = by_class m n in
+      rw (here, more) (compared (Class n) m n (Class m == Class n) (nat_lt m.0 n.0) (last_of (Class n) order) refl refl refl
+      (λ p there class. last_above (Class n) p m order parts.0 (eqb-true (Class m) (Class n) class) there))
+
+  -- an order that isn't in turn from the front isn't
+
+  and_false : (a b : Bool) → a ≡ false → (a && b) ≡ false
+  and_false a b e = rw e refl
+
+  pub never_in_turn : (order rest : List TxnNo) → is_in_turn cat txns order ≡ false → is_in_turn cat txns (order ++ rest) ≡ false
+  never_in_turn order [] h = rw append-nil h
+  never_in_turn order (n ∷ rest) h =
+      let more : is_in_turn cat txns (order ++ n ∷ []) ≡ false = turn_more order n ∙ and_false (is_in_turn cat txns order) (list_all (λ m. may_follow cat txns m n) order) h in
+      let all : (order ++ n ∷ []) ++ rest ≡ order ++ n ∷ rest = append_assoc order (n ∷ []) rest in
+      subst (λ (l : List TxnNo). is_in_turn cat txns l ≡ false) all (never_in_turn (order ++ n ∷ []) rest more)
+
+  -- one step of the loop
+
+  -- of each class the last one is kept
+  abbrev pub AreLast : (ℕ → Option ℕ) → List TxnNo → Type 0
+  AreLast kept order = (c : ℕ) → kept c ≡ last_of c order
+
+  turn_at : (order : List TxnNo) (i : ℕ) (d : TxnNo) (kept : ℕ → Option ℕ) → i < length order → is_in_turn cat txns (take i order) ≡ true → AreLast kept (take i order)
+      → is_in_turn cat txns (take (i + 1) order) ≡ allows (kept (Class (get_or order i d))) (get_or order i d).0
+  turn_at order i d kept lt so_far last =
+      let n : TxnNo = get_or order i d in
+      let one : list_all (λ m. may_follow cat txns m n) (take i order) ≡ allows (kept (Class n)) n.0 = followed (take i order) n so_far ∙ ap (λ (o : Option ℕ). allows o n.0) (sym (last (Class n))) in
+      ap (is_in_turn cat txns) (take_more order i d lt) ∙ turn_more (take i order) n ∙ rw (so_far, one) refl
+
+  -- one that may not stand there
+  pub stops : (order : List TxnNo) (i : ℕ) (d : TxnNo) (class before : ℕ) (kept : ℕ → Option ℕ) → i < length order → class ≡ Class (get_or order i d)
+      → is_in_turn cat txns (take i order) ≡ true → AreLast kept (take i order) → Some before ≡ kept class → (get_or order i d).0 ≤ before → is_in_turn cat txns order ≡ false
+  stops order i d class before kept lt is so_far last there least =
+      let n : TxnNo = get_or order i d in
+      let here : kept (Class n) ≡ Some before = ap kept (sym is) ∙ sym there in
+      let not_less : nat_lt before n.0 ≡ false = le-ltb before n.0 least in
+      let turn : is_in_turn cat txns (take (i + 1) order) ≡ false = turn_at order i d kept lt so_far last ∙ ap (λ (o : Option ℕ). allows o n.0) here ∙ not_less in
+      subst (λ (l : List TxnNo). is_in_turn cat txns l ≡ false) (take-append-drop (i + 1) order) (never_in_turn (take (i + 1) order) (drop (i + 1) order) turn)
+
+  -- one that may stand there: behind none of its class, or behind the last of it
+  pub goes_behind_none : (order : List TxnNo) (i : ℕ) (d : TxnNo) (class : ℕ) (kept : ℕ → Option ℕ) → i < length order → class ≡ Class (get_or order i d)
+      → is_in_turn cat txns (take i order) ≡ true → AreLast kept (take i order) → None ≡ kept class → is_in_turn cat txns (take (i + 1) order) ≡ true
+  goes_behind_none order i d class kept lt is so_far last there =
+      turn_at order i d kept lt so_far last ∙ ap (λ (o : Option ℕ). allows o (get_or order i d).0) (ap kept (sym is) ∙ sym there)
+
+  pub goes_behind : (order : List TxnNo) (i : ℕ) (d : TxnNo) (class before : ℕ) (kept : ℕ → Option ℕ) → i < length order → class ≡ Class (get_or order i d)
+      → is_in_turn cat txns (take i order) ≡ true → AreLast kept (take i order) → Some before ≡ kept class → before < (get_or order i d).0 → is_in_turn cat txns (take (i + 1) order) ≡ true
+  goes_behind order i d class before kept lt is so_far last there less =
+      turn_at order i d kept lt so_far last ∙ ap (λ (o : Option ℕ). allows o (get_or order i d).0) (ap kept (sym is) ∙ sym there) ∙ lt-ltb before (get_or order i d).0 less
+
+  last_now : (class c : ℕ) (n : TxnNo) (b : Bool) (rest : Option ℕ) → (class == c) ≡ b → class ≡ Class n
+      → cond b (Some n.0) rest ≡ or_else (cond (Class n == c) (Some n.0) None) rest
+  last_now class c n true rest e is = let here : (Class n == c) ≡ true = rw (← is) e in rw here refl
+  last_now class c n false rest e is = let here : (Class n == c) ≡ false = rw (← is) e in rw here refl
+
+  -- and it is the last of its class
+  pub last_at : (order : List TxnNo) (i : ℕ) (d : TxnNo) (class : ℕ) (kept new : ℕ → Option ℕ) → i < length order → class ≡ Class (get_or order i d)
+      → AreLast kept (take i order) → ((c : ℕ) → new c ≡ cond (is_at (nat_cmp class) c) (Some (get_or order i d).0) (kept c)) → AreLast new (take (i + 1) order)
+  last_at order i d class kept new lt is last updates c =
+      let n : TxnNo = get_or order i d in
+      let before : Option ℕ = last_of c (take i order) in
+      updates c ∙ ap (λ (b : Bool). cond b (Some n.0) (kept c)) (is_at_number class c) ∙ ap (λ (o : Option ℕ). cond (class == c) (Some n.0) o) (last c)
+      ∙ last_now class c n (class == c) before refl is ∙ sym (ap (last_of c) (take_more order i d lt) ∙ last_more c (take i order) n)

@@ -1,0 +1,8 @@
+use Rattle.std.proofs.Common.{◌≡◌, take, map}
+use Rattle.std.specs.List.{filter_map}
+use Rattle.sdd_verify.specs.Submitted.{submitted_by}
+use Rattle.sdd_verify.proofs.submitted.submissions.Given as goal
+
+-- the transactions of the events so far
+abbrev pub invariant-events : goal.invariant-events
+invariant-events l = map (λ t. t.now) l.found.items ≡ filter_map (submitted_by l.work.txns) (take l.event-index l.event-items)

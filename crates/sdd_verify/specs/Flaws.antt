@@ -1,0 +1,9 @@
+-- The line that ends the judging of a report.
+use Rattle.std.specs.Prelude.{ℕ, Option, Some, None}
+use Rattle.sdd_verify.specs.declared.flaw.Flaw.{Flaw}
+use Rattle.sdd_verify.specs.declared.flaw.Flaw.TheVariants.{Line, NoMemory}
+
+-- the line at fault; want of memory tells none
+abbrev pub line_in : Flaw → Option ℕ
+line_in (Line number) = Some number
+line_in NoMemory = None

@@ -1,0 +1,36 @@
+-- Orders of submitted transactions.
+use Rattle.std.specs.Prelude.{ℕ, nat_lt, ◌==◌, ◌&&◌, ◌||◌, not, Bool, true, List, [], ◌∷◌, Result, Ok}
+use Rattle.std.specs.List.{list_all, slice_split}
+use Rattle.sdd_base.specs.Readings.{◌>>=◌, along, known, must}
+use Rattle.sdd_base.specs.Words.{tail_of}
+use Rattle.sdd_base.specs.declared.number.TxnNo.{TxnNo}
+use Rattle.sdd_catalog.specs.Catalogue.{Catalogue}
+use Rattle.sdd_lang.specs.declared.transaction.Txn.{Txn}
+use Rattle.sdd_verify.specs.Submitted.{class_of, named}
+
+-- whether a transaction may stand somewhere behind another: it is another one, and where it has the other's class it was
+-- submitted later
+abbrev pub may_follow : Catalogue → List Txn → TxnNo → TxnNo → Bool
+may_follow cat txns first later =
+    not (first.0 == later.0) && (not (class_of cat txns first == class_of cat txns later) || nat_lt first.0 later.0)
+
+-- whether each transaction of an order may stand behind all that stand before it
+abbrev pub is_in_turn : Catalogue → List Txn → List TxnNo → Bool
+is_in_turn cat txns [] = true
+is_in_turn cat txns (first ∷ order) = list_all (may_follow cat txns first) order && is_in_turn cat txns order
+
+-- the words of a line, cut at each space
+abbrev pub words_of : List ℕ → List (List ℕ)
+words_of line = slice_split (λ c. c == 32) line
+
+-- the names on an order line, which are its words but the first
+abbrev pub names_on : List ℕ → List (List ℕ)
+names_on line = tail_of (words_of line)
+
+-- the order that an order line with this number tells; the line is at fault where it names what isn't submitted, or one
+-- that may not stand there
+abbrev pub order_told : Catalogue → List Txn → ℕ → List ℕ → Result (List TxnNo) ℕ
+order_told cat txns number line = do
+  order ← along (λ _ name. known number (named txns name)) 0 (names_on line)
+  _ ← must number (is_in_turn cat txns order)
+  Ok order

@@ -1,0 +1,26 @@
+-- The replies of transactions that run one after the other on one plain database.
+use Rattle.std.specs.Prelude.{ℕ, List, [], ◌∷◌, ◌++◌}
+use Rattle.sdd_base.specs.declared.number.TxnNo.{TxnNo}
+use Rattle.sdd_base.specs.declared.reply.Reply.{Reply}
+use Rattle.sdd_catalog.specs.Catalogue.{Catalogue}
+use Rattle.sdd_lang.specs.Database.{Database, database_of}
+use Rattle.sdd_lang.specs.Serial.{serial}
+use Rattle.sdd_lang.specs.declared.transaction.Txn.{Txn}
+use Rattle.sdd_report.specs.Replies.{reply_lines}
+use Rattle.sdd_script.specs.declared.workload.Workload.{Workload}
+use Rattle.sdd_verify.specs.Submitted.{submitted, texts_of}
+
+-- the lines of replies, each behind the name of its transaction
+abbrev pub replies : List Txn → List Reply → List ℕ
+replies [] answers = []
+replies (txn ∷ txns) [] = []
+replies (txn ∷ txns) (reply ∷ answers) = reply_lines txn.name reply ++ replies txns answers
+
+-- the lines of the replies of transactions that run on a database
+abbrev pub replies_on : Catalogue → Database → List Txn → List ℕ
+replies_on cat db txns = replies txns (serial cat db txns).0
+
+-- the lines of the replies that one plain database gives which begins with the workload's rows and runs the submitted
+-- transactions with these numbers, in this order
+abbrev pub serial_replies : Catalogue → Workload → List TxnNo → List ℕ
+serial_replies cat work order = replies_on cat (database_of cat work.rows) (texts_of (submitted work) order)

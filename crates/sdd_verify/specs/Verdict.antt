@@ -1,0 +1,30 @@
+-- What a report is judged to be: the rules in their order, of which the first that is broken tells a line.
+use Rattle.std.specs.Prelude.{ℕ, List, Result, Ok, Err}
+use Rattle.sdd_base.specs.Readings.{◌>>=◌, must}
+use Rattle.sdd_base.specs.declared.number.TxnNo.{TxnNo}
+use Rattle.sdd_catalog.specs.Catalogue.{Catalogue}
+use Rattle.sdd_script.specs.declared.workload.Workload.{Workload}
+use Rattle.sdd_verify.specs.Lines.{Numbered, begun, ends_replies, lines_of, order_line_in, passed}
+use Rattle.sdd_verify.specs.Orders.{order_told}
+use Rattle.sdd_verify.specs.Replies.{serial_replies}
+use Rattle.sdd_verify.specs.Submitted.{submitted}
+use Rattle.sdd_verify.specs.declared.verdict.Verdict.{Verdict}
+use Rattle.sdd_verify.specs.declared.verdict.Verdict.TheVariants.{Yes, No}
+
+-- The number of the first line at fault, 0 for the whole report. The rules are:
+-- the report isn't too long; it has an order line; the first one tells an order of submitted transactions; behind it
+-- stand the lines of the replies that one plain database gives along the order; and behind these a line of no reply.
+abbrev pub judged : Catalogue → Workload → List ℕ → Result (Unit {0}) ℕ
+judged cat work report = do
+  (whole : Numbered) ← begun report
+  (at : ℕ × List ℕ × Numbered) ← order_line_in whole.0 whole.1
+  (order : List TxnNo) ← order_told cat (submitted work) at.0 at.1
+  (rest : Numbered) ← passed at.2.0 (lines_of (serial_replies cat work order)) at.2.1
+  must rest.0 (ends_replies rest.1)
+
+abbrev pub verdict_of : Result (Unit {0}) ℕ → Verdict
+verdict_of (Ok sound) = Yes
+verdict_of (Err number) = No number
+
+abbrev pub verdict : Catalogue → Workload → List ℕ → Verdict
+verdict cat work report = verdict_of (judged cat work report)

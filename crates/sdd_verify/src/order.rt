@@ -1,0 +1,123 @@
+//! The order that an order line tells.
+ghost use Rattle.std.specs.Prelude.{◌≡◌, map, All, IfOk};
+ghost use Rattle.sdd_base.specs.Readings.{Gives, along, known};
+ghost use Rattle.sdd_lang.specs.Fits.{Fits};
+ghost use Rattle.sdd_verify.specs.Flaws.{line_in};
+ghost use Rattle.sdd_verify.specs.Orders.{is_in_turn, names_on, order_told, words_of};
+ghost use Rattle.sdd_verify.specs.Submitted.{class_of, named};
+
+use crate::flaw::{Flaw, known, must};
+use crate::submitted::Submitted;
+use sdd_base::{ClassNo, NoMemory, TxnNo};
+use sdd_catalog::Catalogue;
+use sdd_lang::class_for;
+use std::alloc::{AllocError, Global};
+use std::collections::BTreeMap;
+
+/// The words of a line, cut at each space.
+fn words_of(alloc: Global, line: &[u8]) -> Result<Vec<&[u8]>, AllocError>
+    ensures { IfOk result (λ words. map (λ w. w.now) words.items ≡ words_of line.now) }
+{
+    line.split(|byte| *byte == b' ').collect(alloc)
+}
+
+/// The number of the transaction of this name, without which the line is at fault.
+fn number_of(alloc: Global, submitted: &Submitted, line: u32, name: &[u8]) -> Result<TxnNo, Flaw>
+    ensures { Gives line_in (λ number. number) result (known line (named submitted.now name.now)) }
+{
+    known(line, submitted.named(alloc, name)?)
+}
+
+/// The numbers of the transactions of these names.
+#[tactic(auto, using(sdd_base::proofs::ReadingLaws::goes_on, sdd_base::proofs::ReadingLaws::ends, sdd_base::proofs::ReadingLaws::is_done))]
+fn numbers_of(
+    alloc: Global,
+    submitted: &Submitted,
+    line: u32,
+    names: &[&[u8]],
+) -> Result<Vec<TxnNo>, Flaw>
+    ensures { Gives line_in (λ order. order.items) result
+        (along (λ _ name. known line (named submitted.now name)) 0 (map (λ w. w.now) names.now)) }
+{
+    let mut order = Vec::new(alloc);
+    'names: for name in names {
+        let number = number_of(alloc, submitted, line, name)?;
+        order.push(number)?;
+    }
+    Ok(order)
+}
+
+/// The numbers of the transactions that an order line names.
+fn named_on(
+    alloc: Global,
+    submitted: &Submitted,
+    number: u32,
+    line: &[u8],
+) -> Result<Vec<TxnNo>, Flaw>
+    ensures { Gives line_in (λ order. order.items) result
+        (along (λ _ name. known number (named submitted.now name)) 0 (names_on line.now)) }
+{
+    let words = words_of(alloc, line)?;
+    match words.as_slice() {
+        [_, names @ ..] => numbers_of(alloc, submitted, number, names),
+        [] => Ok(Vec::new(alloc)),
+    }
+}
+
+/// The class of a transaction; a number past the last has class 0.
+fn class_of(
+    alloc: Global,
+    catalogue: &Catalogue,
+    submitted: &Submitted,
+    number: TxnNo,
+) -> Result<ClassNo, NoMemory>
+    requires { All (Fits catalogue.now) submitted.now }
+    ensures { IfOk result (λ class. class.0 ≡ class_of catalogue.now submitted.now number) }
+{
+    match submitted.txn(number) {
+        Some(txn) => class_for(alloc, catalogue, txn),
+        None => Ok(ClassNo(0)),
+    }
+}
+
+/// Whether each transaction of an order may stand behind those before it: none stands twice, and those of
+/// one class stand by submission. Costs, for each, what `class_for` costs and a logarithmic step.
+fn is_in_turn(
+    alloc: Global,
+    catalogue: &Catalogue,
+    submitted: &Submitted,
+    order: &[TxnNo],
+) -> Result<bool, NoMemory>
+    requires { All (Fits catalogue.now) submitted.now }
+    ensures { IfOk result (λ is. is ≡ is_in_turn catalogue.now submitted.now order.now) }
+{
+    let mut last: BTreeMap<u32, u32> = BTreeMap::new(alloc);
+    'order: for number in order {
+        let class = class_of(alloc, catalogue, submitted, *number)?;
+        match last.get(&class.0) {
+            Some(before) if number.0 <= *before => return Ok(false),
+            _ => {}
+        }
+        last.insert(class.0, number.0)?;
+    }
+    Ok(true)
+}
+
+/// The order that the order line with this number tells.
+pub(crate) fn told_order(
+    alloc: Global,
+    catalogue: &Catalogue,
+    submitted: &Submitted,
+    number: u32,
+    line: &[u8],
+) -> Result<Vec<TxnNo>, Flaw>
+    requires { All (Fits catalogue.now) submitted.now }
+    ensures { Gives line_in (λ order. order.items) result (order_told catalogue.now submitted.now number line.now) }
+{
+    let order = named_on(alloc, submitted, number, line)?;
+    must(
+        number,
+        is_in_turn(alloc, catalogue, submitted, order.as_slice())?,
+    )?;
+    Ok(order)
+}
