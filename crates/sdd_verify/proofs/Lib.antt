@@ -1,7 +1,12 @@
+pub mod DifferentNames
+pub mod InTurn
 pub mod LineCuts
+pub mod LinesFound
 pub mod LinesPassed
 pub mod NamesFound
+pub mod NamesTold
 pub mod OrderWords
 pub mod RepliesPassed
 pub mod Submissions
 pub mod Turns
+pub mod VerifiedReports

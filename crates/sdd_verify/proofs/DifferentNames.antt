@@ -1,0 +1,127 @@
+-- The names of the transactions that a valid workload submits differ.
+use Rattle.std.proofs.Common.{◌≡◌, ◌≢◌, ℕ, zero, suc, ◌+◌, ◌-◌, ◌<◌, ◌≤◌, List, [], ◌∷◌, length, map, get_or, slice_get, Bool, true, false, Option, Some, None, refl, sym, ap, ◌∙◌, subst, arith}
+use Rattle.std.specs.Prelude.{MatchOption}
+use Rattle.std.specs.List.{All, filter_map, position}
+use Rattle.std.specs.Str.{bytes_eq}
+use Rattle.std.proofs.lemmas.List.Elements.{All-cons, All-head, All-nil, All-tail}
+use Rattle.sdd_base.specs.declared.event.Event.{Event}
+use Rattle.sdd_base.specs.declared.event.Event.TheVariants.{Submit, Deliver, Lose, Repeat, Resend, Tick, Settle, Redeclare, Down, Up}
+use Rattle.sdd_catalog.specs.Catalogue.{Catalogue}
+use Rattle.sdd_catalog.specs.Rules.{repeats}
+use Rattle.sdd_lang.specs.declared.transaction.Txn.{Txn}
+use Rattle.sdd_script.specs.Valid as scripts
+use Rattle.sdd_script.specs.Valid.{AreDistinct, IsValid, IsValidEvent}
+use Rattle.sdd_script.specs.declared.workload.Workload.{Workload}
+use Rattle.sdd_script.proofs.NamePlaces.{place_of_name}
+use Rattle.sdd_verify.specs.Submitted.{submitted, submitted_by}
+use Rattle.sdd_verify.proofs.NamesTold.{AllDiffer}
+
+some_is : {A : Type 0} (x y : A) → Some x ≡ Some y → x ≡ y
+some_is x y e = cc
+
+abbrev names_of : List Txn → List (List ℕ)
+names_of txns = map (λ (t : Txn). t.name) txns
+
+record NameAt (txns : List Txn) (i : ℕ) (name : List ℕ) : Type 0 where
+  is : get_or (names_of txns) i [] ≡ name
+  within : i < length (names_of txns)
+
+name_at : (txns : List Txn) (i : ℕ) (t : Txn) → slice_get txns i ≡ Some t → NameAt txns i t.name
+name_at [] i t e = absurd cc
+name_at (txn ∷ txns) zero t e = record { is = ap (λ (u : Txn). u.name) (some_is txn t e); within = omega arith }
+name_at (txn ∷ txns) (suc i) t e =
+    let more = name_at txns i t e in
+    let within = more.within in
+    record { is = more.is; within = omega (arith, within) }
+
+-- transactions of one name stand at one place
+one_place : (txns : List Txn) (i k : ℕ) (t u : Txn) → repeats (names_of txns) ≡ false → slice_get txns i ≡ Some t → slice_get txns k ≡ Some u → t.name ≡ u.name → i ≡ k
+one_place txns i k t u none e f same =
+    let a = name_at txns i t e in
+    let b = name_at txns k u f in
+    let first : position (bytes_eq (get_or (names_of txns) i [])) (names_of txns) ≡ Some i = place_of_name (names_of txns) i none a.within in
+    let second : position (bytes_eq (get_or (names_of txns) k [])) (names_of txns) ≡ Some k = place_of_name (names_of txns) k none b.within in
+    let names : get_or (names_of txns) i [] ≡ get_or (names_of txns) k [] = a.is ∙ same ∙ sym b.is in
+    some_is i k (sym first ∙ ap (λ (n : List ℕ). position (bytes_eq n) (names_of txns)) names ∙ second)
+
+-- numbers that differ
+
+abbrev NotAmong : ℕ → List ℕ → Type 0
+NotAmong x [] = Unit {0}
+NotAmong x (n ∷ ns) = (n ≢ x) × NotAmong x ns
+
+not_among : (x : ℕ) (ns : List ℕ) → ((k : ℕ) → k < length ns → get_or ns k 0 ≢ x) → NotAmong x ns
+not_among x [] h = tt
+not_among x (n ∷ ns) h = (h 0 (omega arith), not_among x ns (λ k lt. h (suc k) (omega arith)))
+
+first_apart : (x : ℕ) (ns : List ℕ) → AreDistinct (x ∷ ns) → NotAmong x ns
+first_apart x ns h = not_among x ns (λ k lt e. h 0 (suc k) (omega arith) (omega arith) 0 (sym e))
+
+others_apart : (x : ℕ) (ns : List ℕ) → AreDistinct (x ∷ ns) → AreDistinct ns
+others_apart x ns h i k less within d e = h (suc i) (suc k) (omega arith) (omega arith) d e
+
+-- what an event submits, by its number and by its text
+abbrev Submits : List Txn → Option ℕ → Option Txn → Type 0
+Submits txns number text = MatchOption number (text ≡ None) (λ n. (text ≡ slice_get txns (n - 1)) × (1 ≤ n))
+
+submits : (cat : Catalogue) (count : ℕ) (txns : List Txn) (e : Event) → IsValidEvent cat count e → Submits txns (scripts.submitted_by e) (submitted_by txns e)
+submits cat count txns (Submit number) v = (refl, v.0)
+submits cat count txns (Deliver from to place) v = refl
+submits cat count txns (Lose from to place) v = refl
+submits cat count txns (Repeat from to place) v = refl
+submits cat count txns (Resend from to) v = refl
+submits cat count txns (Tick tm n) v = refl
+submits cat count txns Settle v = refl
+submits cat count txns Redeclare v = refl
+submits cat count txns (Down dm) v = refl
+submits cat count txns (Up dm) v = refl
+
+module _ (cat : Catalogue) (count : ℕ) (txns : List Txn) (none : repeats (names_of txns) ≡ false) where
+  abbrev Other : Txn → Txn → Type 0
+  Other t u = u.name ≢ t.name
+
+  abbrev IsFine : Event → Type 0
+  IsFine e = IsValidEvent cat count e
+
+  differs : (x m : ℕ) (t u : Txn) → slice_get txns (x - 1) ≡ Some t → 1 ≤ x → slice_get txns (m - 1) ≡ Some u → 1 ≤ m → m ≢ x → Other t u
+  differs x m t u e least f more apart same =
+      let places : m - 1 ≡ x - 1 = one_place txns (m - 1) (x - 1) u t none f e same in
+      apart (omega (arith, places, least, more))
+
+  others_by : (x : ℕ) (t : Txn) (e : Event) (events : List Event) (number : Option ℕ) (text : Option Txn) → slice_get txns (x - 1) ≡ Some t → 1 ≤ x
+      → scripts.submitted_by e ≡ number → submitted_by txns e ≡ text → Submits txns number text
+      → (NotAmong x (filter_map scripts.submitted_by events) → All (Other t) (filter_map (submitted_by txns) events))
+      → NotAmong x (filter_map scripts.submitted_by (e ∷ events)) → All (Other t) (filter_map (submitted_by txns) (e ∷ events))
+  others_by x t e events None None is least a b h later apart = let there = rw a at apart in rw b (later there)
+  others_by x t e events None (Some u) is least a b h later apart = absurd cc
+  others_by x t e events (Some m) None is least a b h later apart = let there = rw a at apart in rw b (later there.1)
+  others_by x t e events (Some m) (Some u) is least a b h later apart =
+      let there = rw a at apart in
+      rw b (All-cons (Other t) u (filter_map (submitted_by txns) events) (differs x m t u is least (sym h.0) h.1 there.0) (later there.1))
+
+  others_differ : (x : ℕ) (t : Txn) (events : List Event) → slice_get txns (x - 1) ≡ Some t → 1 ≤ x → All IsFine events
+      → NotAmong x (filter_map scripts.submitted_by events) → All (Other t) (filter_map (submitted_by txns) events)
+  others_differ x t [] is least fine apart = All-nil (Other t)
+  others_differ x t (e ∷ events) is least fine apart =
+      others_by x t e events (scripts.submitted_by e) (submitted_by txns e) is least refl refl (submits cat count txns e (All-head IsFine e events fine))
+      (λ more. others_differ x t events is least (All-tail IsFine e events fine) more) apart
+
+  all_by : (e : Event) (events : List Event) (number : Option ℕ) (text : Option Txn) → scripts.submitted_by e ≡ number → submitted_by txns e ≡ text → Submits txns number text
+      → All IsFine events → (AreDistinct (filter_map scripts.submitted_by events) → AllDiffer (filter_map (submitted_by txns) events))
+      → AreDistinct (filter_map scripts.submitted_by (e ∷ events)) → AllDiffer (filter_map (submitted_by txns) (e ∷ events))
+  all_by e events None None a b h fine later apart = let there = rw a at apart in rw b (later there)
+  all_by e events None (Some u) a b h fine later apart = absurd cc
+  all_by e events (Some m) None a b h fine later apart = let there = rw a at apart in rw b (later (others_apart m (filter_map scripts.submitted_by events) there))
+  all_by e events (Some m) (Some u) a b h fine later apart =
+      let there = rw a at apart in
+      let numbers : List ℕ = filter_map scripts.submitted_by events in
+      rw b (others_differ m u events (sym h.0) h.1 fine (first_apart m numbers there), later (others_apart m numbers there))
+
+  all_differ : (events : List Event) → All IsFine events → AreDistinct (filter_map scripts.submitted_by events) → AllDiffer (filter_map (submitted_by txns) events)
+  all_differ [] fine apart = tt
+  all_differ (e ∷ events) fine apart =
+      all_by e events (scripts.submitted_by e) (submitted_by txns e) refl refl (submits cat count txns e (All-head IsFine e events fine)) (All-tail IsFine e events fine)
+      (λ more. all_differ events (All-tail IsFine e events fine) more) apart
+
+pub submitted_differ : (cat : Catalogue) (work : Workload) → IsValid cat work → AllDiffer (submitted work)
+submitted_differ cat work valid = all_differ cat (length work.txns) work.txns valid.names work.events valid.events valid.submitted

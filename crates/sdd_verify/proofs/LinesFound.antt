@@ -1,0 +1,102 @@
+-- What rules that are kept tell of the lines of a report, and the other way round.
+use Rattle.std.proofs.Common.{◌≡◌, ℕ, zero, suc, ◌+◌, List, [], ◌∷◌, ◌++◌, length, Bool, true, false, cond, not, Result, Ok, Err, refl, sym, ap, ◌∙◌, arith, subst, append_assoc}
+use Rattle.std.specs.List.{All}
+use Rattle.std.specs.Str.{bytes_eq}
+use Rattle.std.proofs.lemmas.List.Elements.{All-cons, All-head, All-nil, All-tail}
+use Rattle.std.proofs.lemmas.Slice.Eq.{bytes_eq-Decides}
+use Rattle.sdd_base.proofs.ReadingLaws.{ok_is}
+use Rattle.sdd_words.specs.Lines.{AreLines, HasNoNewline, spelled_lines}
+use Rattle.sdd_verify.specs.Lines.{Numbered, ends_replies, is_order_line, order_line_in, passed, tells_reply}
+
+abbrev pub IsOther : List ℕ → Type 0
+IsOther line = is_order_line line ≡ false
+
+-- the first order line, behind lines that are none
+pub record FirstOrder (number : ℕ) (lines : List (List ℕ)) (at : ℕ × List ℕ × Numbered) : Type 0 where
+  pub before : List (List ℕ)
+  pub others : All IsOther before
+  pub is : is_order_line at.1 ≡ true
+  pub whole : lines ≡ before ++ at.1 ∷ at.2.1
+
+first_by : (number : ℕ) (line : List ℕ) (lines : List (List ℕ)) (at : ℕ × List ℕ × Numbered) (b : Bool) → is_order_line line ≡ b
+    → (order_line_in (number + 1) lines ≡ Ok at → FirstOrder (number + 1) lines at)
+    → cond b (Ok (number, line, (number + 1, lines))) (order_line_in (number + 1) lines) ≡ Ok at → FirstOrder number (line ∷ lines) at
+first_by number line lines at true e later h =
+    let here : ℕ × List ℕ × Numbered = (number, line, (number + 1, lines)) in
+    let same : here ≡ at = ok_is {F = ℕ} here at h in
+    subst (FirstOrder number (line ∷ lines)) same (record { before = []; others = All-nil IsOther; is = e; whole = refl })
+first_by number line lines at false e later h =
+    let f = later h in
+    record { before = line ∷ f.before; others = All-cons IsOther line f.before e f.others; is = f.is; whole = ap (λ (l : List (List ℕ)). line ∷ l) f.whole }
+
+pub first_order : (number : ℕ) (lines : List (List ℕ)) (at : ℕ × List ℕ × Numbered) → order_line_in number lines ≡ Ok at → FirstOrder number lines at
+first_order number [] at h = absurd cc
+first_order number (line ∷ lines) at h = first_by number line lines at (is_order_line line) refl (λ more. first_order (number + 1) lines at more) h
+
+-- and the other way round
+pub order_again : (number : ℕ) (before : List (List ℕ)) (line : List ℕ) (lines : List (List ℕ)) → All IsOther before → is_order_line line ≡ true
+    → order_line_in number (before ++ line ∷ lines) ≡ Ok (number + length before, line, (number + length before + 1, lines))
+order_again number [] line lines others is = let none : number + 0 ≡ number = omega arith in rw (is, none) refl
+order_again number (first ∷ before) line lines others is =
+    let other = All-head IsOther first before others in
+    let more = order_again (number + 1) before line lines (All-tail IsOther first before others) is in
+    let count : number + 1 + length before ≡ number + length (first ∷ before) = omega arith in
+    rw (other, more, count) refl
+
+-- lines that have come stand there, and then the rest
+
+passed_by : (number : ℕ) (line : List ℕ) (more : List (List ℕ)) (told : List ℕ) (lines : List (List ℕ)) (rest : Numbered) (b : Bool) → bytes_eq told line ≡ b
+    → (passed (number + 1) more lines ≡ Ok rest → lines ≡ more ++ rest.1)
+    → cond b (passed (number + 1) more lines) (Err number) ≡ Ok rest → told ∷ lines ≡ (line ∷ more) ++ rest.1
+passed_by number line more told lines rest true e later h =
+    let same : told ≡ line = (bytes_eq-Decides told line).0 e in
+    let behind = later h in
+    rw (same, behind) refl
+passed_by number line more told lines rest false e later h = absurd cc
+
+pub passed_is : (number : ℕ) (expected lines : List (List ℕ)) (rest : Numbered) → passed number expected lines ≡ Ok rest → lines ≡ expected ++ rest.1
+passed_is number [] lines rest h =
+    let here : Numbered = (number, lines) in
+    let same : here ≡ rest = ok_is {F = ℕ} here rest h in
+    ap (λ (r : Numbered). r.1) same
+passed_is number (line ∷ more) [] rest h = absurd cc
+passed_is number (line ∷ more) (told ∷ lines) rest h = passed_by number line more told lines rest (bytes_eq told line) refl (λ later. passed_is (number + 1) more lines rest later) h
+
+pub passed_again : (number : ℕ) (expected lines : List (List ℕ)) → passed number expected (expected ++ lines) ≡ Ok (number + length expected, lines)
+passed_again number [] lines = let none : number + 0 ≡ number = omega arith in rw none refl
+passed_again number (line ∷ expected) lines =
+    let same : bytes_eq line line ≡ true = (bytes_eq-Decides line line).1 refl in
+    let more = passed_again (number + 1) expected lines in
+    let count : number + 1 + length expected ≡ number + length (line ∷ expected) = omega arith in
+    rw (same, more, count) refl
+
+-- a line of no reply
+pub record Follows (lines : List (List ℕ)) : Type 0 where
+  pub next : List ℕ
+  pub more : List (List ℕ)
+  pub whole : lines ≡ next ∷ more
+  pub other : tells_reply next ≡ false
+
+not_true : (b : Bool) → not b ≡ true → b ≡ false
+not_true true e = absurd cc
+not_true false e = refl
+
+pub follows : (lines : List (List ℕ)) → ends_replies lines ≡ true → Follows lines
+follows [] h = absurd cc
+follows (line ∷ lines) h = record { next = line; more = lines; whole = refl; other = not_true (tells_reply line) h }
+
+-- lines of which some stand before others
+
+pub front_lines : (front rest : List (List ℕ)) → AreLines (front ++ rest) → AreLines front
+front_lines [] rest h = tt
+front_lines (line ∷ front) rest h = (h.0, front_lines front rest h.1)
+
+pub rest_lines : (front rest : List (List ℕ)) → AreLines (front ++ rest) → AreLines rest
+rest_lines [] rest h = h
+rest_lines (line ∷ front) rest h = rest_lines front rest h.1
+
+pub spelled_apart : (front rest : List (List ℕ)) (tail : List ℕ) → spelled_lines (front ++ rest) ++ tail ≡ spelled_lines front ++ (spelled_lines rest ++ tail)
+spelled_apart [] rest tail = refl
+spelled_apart (line ∷ front) rest tail =
+    let more = spelled_apart front rest tail in
+    append_assoc line (10 ∷ spelled_lines (front ++ rest)) tail ∙ ap (λ (l : List ℕ). line ++ 10 ∷ l) more ∙ sym (append_assoc line (10 ∷ spelled_lines front) (spelled_lines rest ++ tail))

@@ -1,0 +1,142 @@
+-- Names of transactions, and the numbers that they tell.
+use Rattle.std.proofs.Common.{◌≡◌, ◌≢◌, ℕ, zero, suc, ◌+◌, ◌-◌, ◌<◌, ◌≤◌, List, [], ◌∷◌, ◌++◌, length, map, Bool, true, false, cond, Option, Some, None, Result, Ok, Err, refl, sym, ap, ◌∙◌, subst, arith, slice_get, ◌⊎◌, inl, inr}
+use Rattle.std.proofs.lemmas.Bool.{cases_Bool}
+use Rattle.std.specs.List.{All, flat_map}
+use Rattle.std.specs.Str.{bytes_eq}
+use Rattle.std.proofs.lemmas.List.Elements.{All-cons, All-head, All-nil, All-tail}
+use Rattle.std.proofs.lemmas.Slice.Eq.{bytes_eq-Decides}
+use Rattle.sdd_base.specs.Numbers.{txn_no}
+use Rattle.sdd_base.specs.Readings.{along, known}
+use Rattle.sdd_base.specs.declared.number.TxnNo.{TxnNo}
+use Rattle.sdd_base.proofs.ReadingLaws.{Answers, along_ok, known_ok, ok_along}
+use Rattle.sdd_lang.specs.Fits.{IsFrom1To}
+use Rattle.sdd_lang.specs.declared.transaction.Txn.{Txn}
+use Rattle.sdd_report.specs.Names.{txn_name}
+use Rattle.sdd_verify.specs.Submitted.{named, named_from}
+use Rattle.sdd_verify.proofs.Submissions.{found_member}
+
+some_is : {A : Type 0} (x y : A) → Some x ≡ Some y → x ≡ y
+some_is x y e = cc
+
+-- a number that a name tells is that of a transaction of this name
+pub record Tells (txns : List Txn) (name : List ℕ) (number : TxnNo) : Type 0 where
+  pub there : IsFrom1To (length txns) number.0
+  pub name_is : txn_name txns number.0 ≡ name
+
+-- counted from a number on
+record TellsFrom (first : ℕ) (txns : List Txn) (name : List ℕ) (number : TxnNo) : Type 0 where
+  from : first ≤ number.0
+  within : number.0 < first + length txns
+  found : (place : ℕ) → number.0 ≡ first + place → (t : Txn) × (slice_get txns place ≡ Some t) × (t.name ≡ name)
+
+tells_by : (first : ℕ) (txn : Txn) (txns : List Txn) (name : List ℕ) (number : TxnNo) (b : Bool) → bytes_eq txn.name name ≡ b
+    → (named_from (first + 1) txns name ≡ Some number → TellsFrom (first + 1) txns name number)
+    → cond b (Some (txn_no first)) (named_from (first + 1) txns name) ≡ Some number → TellsFrom first (txn ∷ txns) name number
+tells_by first txn txns name number true e later h =
+    let is : first ≡ number.0 = ap (λ (n : TxnNo). n.0) (some_is (txn_no first) number h) in
+    record {
+      from = omega (arith, is);
+      within = omega (arith, is);
+      found = λ place at. let zero_is : place ≡ 0 = omega (arith, is, at) in rw zero_is (txn, refl, (bytes_eq-Decides txn.name name).0 e);
+    }
+tells_by first txn txns name number false e later h =
+    let t = later h in
+    let from = t.from in
+    let within = t.within in
+    record {
+      from = omega (arith, from);
+      within = omega (arith, within);
+      found = λ place at. found_behind place at;
+    }
+  where
+    found_behind : (place : ℕ) → number.0 ≡ first + place → (t : Txn) × (slice_get (txn ∷ txns) place ≡ Some t) × (t.name ≡ name)
+    found_behind zero at = let from = (later h).from in absurd (omega (arith, from, at))
+    found_behind (suc place) at = (later h).found place (omega (arith, at))
+
+tells_from : (first : ℕ) (txns : List Txn) (name : List ℕ) (number : TxnNo) → named_from first txns name ≡ Some number → TellsFrom first txns name number
+tells_from first [] name number h = absurd cc
+tells_from first (txn ∷ txns) name number h = tells_by first txn txns name number (bytes_eq txn.name name) refl (λ later. tells_from (first + 1) txns name number later) h
+
+pub named_tells : (txns : List Txn) (name : List ℕ) (number : TxnNo) → named txns name ≡ Some number → Tells txns name number
+named_tells txns name number h =
+    let t = tells_from 1 txns name number h in
+    let from = t.from in
+    let within = t.within in
+    let found = t.found (number.0 - 1) (omega (arith, from)) in
+    let there = found.1 in
+    record { there = (omega (arith, from), omega (arith, within)); name_is = rw there found.2 }
+
+-- names that differ
+
+differ : (a b : List ℕ) → a ≢ b → bytes_eq a b ≡ false
+differ a b h = elim (cases_Bool (bytes_eq a b)) [ inl y ↦ absurd (h ((bytes_eq-Decides a b).0 y)) | inr f ↦ f ]
+
+abbrev pub AllDiffer : List Txn → Type 0
+AllDiffer [] = Unit {0}
+AllDiffer (txn ∷ txns) = All (λ (u : Txn). u.name ≢ txn.name) txns × AllDiffer txns
+
+-- a name tells the number of its transaction
+again_from : (first : ℕ) (txns : List Txn) (place : ℕ) (t : Txn) → AllDiffer txns → slice_get txns place ≡ Some t → named_from first txns t.name ≡ Some (txn_no (first + place))
+again_from first [] place t apart there = absurd cc
+again_from first (txn ∷ txns) zero t apart there =
+    let is : txn ≡ t = some_is txn t there in
+    let same : bytes_eq txn.name t.name ≡ true = (bytes_eq-Decides txn.name t.name).1 (ap (λ (u : Txn). u.name) is) in
+    let none : first + 0 ≡ first = omega arith in
+    rw (same, none) refl
+again_from first (txn ∷ txns) (suc place) t apart there =
+    let other : t.name ≢ txn.name = found_member (λ (u : Txn). u.name ≢ txn.name) txns place t apart.0 there in
+    let differs : bytes_eq txn.name t.name ≡ false = differ txn.name t.name (λ e. other (sym e)) in
+    let more = again_from (first + 1) txns place t apart.1 there in
+    let count : first + 1 + place ≡ first + suc place = omega arith in
+    rw (differs, more, count) refl
+
+pub member_at : (txns : List Txn) (place : ℕ) → place < length txns → (t : Txn) × (slice_get txns place ≡ Some t)
+member_at [] place lt = absurd (omega arith)
+member_at (txn ∷ txns) zero lt = (txn, refl)
+member_at (txn ∷ txns) (suc place) lt = member_at txns place (omega arith)
+
+pub named_again : (txns : List Txn) (number : TxnNo) → AllDiffer txns → IsFrom1To (length txns) number.0 → named txns (txn_name txns number.0) ≡ Some number
+named_again txns number apart there =
+    let from = there.0 in
+    let within = there.1 in
+    let member = member_at txns (number.0 - 1) (omega (arith, from, within)) in
+    let is = member.1 in
+    let name_is : txn_name txns number.0 ≡ member.0.name = rw is refl in
+    let count : 1 + (number.0 - 1) ≡ number.0 = omega (arith, from) in
+    ap (named txns) name_is ∙ again_from 1 txns (number.0 - 1) member.0 apart is ∙ ap (λ (k : ℕ). Some (txn_no k)) count
+
+-- the numbers that names tell, and names that tell numbers
+
+abbrev pub name_in : List Txn → TxnNo → List ℕ
+name_in txns number = txn_name txns number.0
+
+abbrev pub IsThere : List Txn → TxnNo → Type 0
+IsThere txns number = IsFrom1To (length txns) number.0
+
+answers_told : (line : ℕ) (txns : List Txn) (count : ℕ) (names : List (List ℕ)) (order : List TxnNo) → Answers (λ _ name. known line (named txns name)) count names order
+    → (names ≡ map (name_in txns) order) × All (IsThere txns) order
+answers_told line txns count [] [] h = (refl, All-nil (IsThere txns))
+answers_told line txns count [] (number ∷ order) h = absurd h
+answers_told line txns count (name ∷ names) [] h = absurd h
+answers_told line txns count (name ∷ names) (number ∷ order) h =
+    let one = named_tells txns name number (known_ok line (named txns name) number h.0) in
+    let more = answers_told line txns (count + 1) names order h.1 in
+    let here = sym one.name_is in
+    let behind = more.0 in
+    (rw (here, behind) refl, All-cons (IsThere txns) number order one.there more.1)
+
+pub all_told : (line : ℕ) (txns : List Txn) (count : ℕ) (names : List (List ℕ)) (order : List TxnNo) → along (λ _ name. known line (named txns name)) count names ≡ Ok order
+    → (names ≡ map (name_in txns) order) × All (IsThere txns) order
+all_told line txns count names order h = answers_told line txns count names order (along_ok (λ _ name. known line (named txns name)) count names order h)
+
+answers_again : (line : ℕ) (txns : List Txn) (count : ℕ) (order : List TxnNo) → AllDiffer txns → All (IsThere txns) order
+    → Answers (λ _ name. known line (named txns name)) count (map (name_in txns) order) order
+answers_again line txns count [] apart there = tt
+answers_again line txns count (number ∷ order) apart there =
+    let one = named_again txns number apart (All-head (IsThere txns) number order there) in
+    (ap (known line) one, answers_again line txns (count + 1) order apart (All-tail (IsThere txns) number order there))
+
+pub told_again : (line : ℕ) (txns : List Txn) (count : ℕ) (order : List TxnNo) → AllDiffer txns → All (IsThere txns) order
+    → along (λ _ name. known line (named txns name)) count (map (name_in txns) order) ≡ Ok order
+told_again line txns count order apart there =
+    ok_along (λ _ name. known line (named txns name)) count (map (name_in txns) order) order (answers_again line txns count order apart there)

@@ -1,0 +1,259 @@
+-- A report is judged to be sound exactly where it is verified.
+use Rattle.std.proofs.Common.{◌≡◌, ◌≢◌, ℕ, ◌+◌, ◌-◌, ◌<◌, ◌≤◌, List, [], ◌∷◌, ◌++◌, length, map, slice_get, Bool, true, false, cond, Option, Some, None, Result, Ok, Err, refl, sym, ap, ◌∙◌, subst, arith, append_assoc, rules}
+use Rattle.std.specs.Prelude.{codes, nat_le, not, ◌&&◌}
+use Rattle.std.specs.List.{All, flat_map, list_all}
+use Rattle.std.proofs.lemmas.Bool.{leb-true, le-leb, ne_eqb}
+use Rattle.std.proofs.lemmas.List.Elements.{All-cons, All-head, All-nil, All-tail}
+use Rattle.std.proofs.lemmas.List.Folds.{flat_map-map}
+use Rattle.sdd_base.proofs.ReadingLaws.{bind_ok, must_ok, ok_is}
+use Rattle.sdd_base.specs.Name.{IsName, begins_with_letter, is_keyword, is_name_byte}
+use Rattle.sdd_base.specs.Readings.{◌>>=◌, along, known, must}
+use Rattle.sdd_base.specs.declared.limits.TheConstants.{MAX_NAME_BYTES}
+use Rattle.sdd_base.specs.declared.number.TxnNo.{TxnNo}
+use Rattle.sdd_catalog.specs.Catalogue.{Catalogue}
+use Rattle.sdd_lang.specs.declared.transaction.Txn.{Txn}
+use Rattle.sdd_report.specs.Committed.{names, order_line}
+use Rattle.sdd_report.specs.Names.{spaced, txn_name}
+use Rattle.sdd_script.specs.Valid.{IsValid, IsValidTxn}
+use Rattle.sdd_script.specs.declared.workload.Workload.{Workload}
+use Rattle.sdd_script.proofs.WordLooks.{no_newline-append}
+use Rattle.sdd_words.specs.Lines.{AreLines, HasNoNewline, cut_lines, spelled_lines}
+use Rattle.sdd_words.specs.Words.{HasNoSpace}
+use Rattle.sdd_words.proofs.Spelled.{cut_takes}
+use Rattle.sdd_verify.specs.Lines.{Numbered, begun, ends_replies, is_order_line, lines_of, order_line_in, passed, tells_reply}
+use Rattle.sdd_verify.specs.Orders.{is_in_turn, names_on, order_told}
+use Rattle.sdd_verify.specs.Replies.{replies, serial_replies}
+use Rattle.sdd_verify.specs.Submitted.{named, submitted, texts_of}
+use Rattle.sdd_verify.specs.Verdict.{judged, verdict, verdict_of}
+use Rattle.sdd_verify.specs.Verified.{IsInTurn, IsVerified}
+use Rattle.sdd_verify.specs.declared.limits.TheConstants.{MAX_REPORT_BYTES}
+use Rattle.sdd_verify.specs.declared.verdict.Verdict.TheVariants.{Yes, No}
+use Rattle.sdd_verify.proofs.DifferentNames.{submitted_differ}
+use Rattle.sdd_verify.proofs.InTurn.{in_turn, in_turn_again}
+use Rattle.sdd_verify.proofs.LineCuts.{IsWhole, cut_are_lines, line_behind, lines_behind, whole_behind, whole_is}
+use Rattle.sdd_verify.proofs.LinesFound.{FirstOrder, Follows, IsOther, first_order, follows, front_lines, order_again, passed_again, passed_is, rest_lines, spelled_apart}
+use Rattle.sdd_verify.proofs.NamesTold.{IsThere, all_told, member_at, name_in, told_again}
+use Rattle.sdd_verify.proofs.OrderWords.{HaveNoSpace, behind_spaces, is_order_line_again, names_again, order_line_is}
+use Rattle.sdd_verify.proofs.RepliesPassed.{replies_whole}
+use Rattle.sdd_verify.proofs.Submissions.{found_member, submitted_valid}
+
+-- the words of an order line
+abbrev words_in : List Txn → List TxnNo → List ℕ
+words_in txns order = codes "order" ++ behind_spaces (map (name_in txns) order)
+
+-- which the line of the order spells, and ends
+line_is : (txns : List Txn) (order : List TxnNo) (rest : List ℕ) → order_line txns order ++ rest ≡ words_in txns order ++ 10 ∷ rest
+line_is txns order rest =
+    let words : List ℕ = behind_spaces (map (name_in txns) order) in
+    let same : names txns order ≡ words = sym (flat_map-map (λ (name : List ℕ). 32 ∷ name) (name_in txns) order) in
+    ap (λ (w : List ℕ). (codes "order" ++ (w ++ 10 ∷ [])) ++ rest) same
+    ∙ append_assoc (codes "order") (words ++ 10 ∷ []) rest
+    ∙ ap (λ (w : List ℕ). codes "order" ++ w) (append_assoc words (10 ∷ []) rest)
+    ∙ sym (append_assoc (codes "order") words (10 ∷ rest))
+
+-- names hold no space and no newline
+
+both : (a b : Bool) → (a && b) ≡ true → (a ≡ true) × (b ≡ true)
+both true b e = (refl, e)
+both false b e = absurd cc
+
+not_it : (c k : ℕ) → is_name_byte k ≡ false → is_name_byte c ≡ true → c ≢ k
+not_it c k other e same = let q : is_name_byte c ≡ is_name_byte k = ap is_name_byte same in absurd cc
+
+bytes_fine : (bytes : List ℕ) → list_all is_name_byte bytes ≡ true → HasNoSpace bytes × HasNoNewline bytes
+bytes_fine [] e = (tt, tt)
+bytes_fine (c ∷ bytes) e =
+    let h = both (is_name_byte c) (list_all is_name_byte bytes) e in
+    let more = bytes_fine bytes h.1 in
+    ((not_it c 32 refl h.0, more.0), (not_it c 10 refl h.0, more.1))
+
+named_bytes : (name : List ℕ) → IsName name → list_all is_name_byte name ≡ true
+named_bytes name h =
+    let front : Bool = begins_with_letter name && nat_le (length name) MAX_NAME_BYTES in
+    (both front (list_all is_name_byte name) (both (front && list_all is_name_byte name) (not (is_keyword name)) h).0).1
+
+name_fine : (cat : Catalogue) (txns : List Txn) (number : TxnNo) → All (IsValidTxn cat) txns → IsThere txns number → HasNoSpace (name_in txns number) × HasNoNewline (name_in txns number)
+name_fine cat txns number valid there =
+    let from = there.0 in
+    let within = there.1 in
+    let member = member_at txns (number.0 - 1) (omega (arith, from, within)) in
+    let is = member.1 in
+    let name_is : name_in txns number ≡ member.0.name = rw is refl in
+    let named = (found_member (IsValidTxn cat) txns (number.0 - 1) member.0 valid is).named in
+    let P : List ℕ → Type 0 = λ l. HasNoSpace l × HasNoNewline l in
+    subst P (sym name_is) (bytes_fine member.0.name (named_bytes member.0.name named))
+
+-- all lines of a report that isn't too long
+
+abbrev begun_if : Bool → List ℕ → Result Numbered ℕ
+begun_if b report = cond b (Ok (1, lines_of report)) (Err 0)
+
+begun_by : (report : List ℕ) (whole : Numbered) (b : Bool) → nat_le (length report) MAX_REPORT_BYTES ≡ b → begun_if b report ≡ Ok whole
+    → (length report ≤ MAX_REPORT_BYTES) × (whole ≡ (1, lines_of report))
+begun_by report whole true e h = let all : Numbered = (1, lines_of report) in (leb-true (length report) MAX_REPORT_BYTES e, sym (ok_is {F = ℕ} all whole h))
+begun_by report whole false e h = absurd cc
+
+begun_is : (report : List ℕ) (whole : Numbered) → begun report ≡ Ok whole → (length report ≤ MAX_REPORT_BYTES) × (whole ≡ (1, lines_of report))
+begun_is report whole h = begun_by report whole (nat_le (length report) MAX_REPORT_BYTES) refl h
+
+-- what each rule that is kept tells
+record Sound (cat : Catalogue) (work : Workload) (report : List ℕ) : Type 0 where
+  small : length report ≤ MAX_REPORT_BYTES
+  order : List TxnNo
+  there : All (IsThere (submitted work)) order
+  turn : is_in_turn cat (submitted work) order ≡ true
+  before : List (List ℕ)
+  others : All IsOther before
+  next : List ℕ
+  other : tells_reply next ≡ false
+  more : List (List ℕ)
+  lines_are : lines_of report ≡ before ++ words_in (submitted work) order ∷ (lines_of (serial_replies cat work order) ++ next ∷ more)
+
+module _ (cat : Catalogue) (work : Workload) (report : List ℕ) where
+  abbrev texts : List Txn
+  texts = submitted work
+
+  abbrev After3 : List TxnNo → ℕ → List (List ℕ) → Result (Unit {0}) ℕ
+  After3 order number lines = passed number (lines_of (serial_replies cat work order)) lines >>= (λ rest. must rest.0 (ends_replies rest.1))
+
+  abbrev After2 : ℕ × List ℕ × Numbered → Result (Unit {0}) ℕ
+  After2 found = order_told cat texts found.0 found.1 >>= (λ order. After3 order found.2.0 found.2.1)
+
+  abbrev After1 : Numbered → Result (Unit {0}) ℕ
+  After1 whole = order_line_in whole.0 whole.1 >>= After2
+
+  told_by : (number : ℕ) (line : List ℕ) (order : List TxnNo) → order_told cat texts number line ≡ Ok order
+      → (names_on line ≡ map (name_in texts) order) × All (IsThere texts) order × (is_in_turn cat texts order ≡ true)
+  told_by number line order h =
+      let a = bind_ok (along (λ _ name. known number (named texts name)) 0 (names_on line)) (λ found. must number (is_in_turn cat texts found) >>= λ _. Ok found) order h in
+      let b = bind_ok (must number (is_in_turn cat texts a.0)) (λ _. Ok a.0) order a.2 in
+      let same : a.0 ≡ order = ok_is {F = ℕ} a.0 order b.2 in
+      let told = all_told number texts 0 (names_on line) a.0 a.1 in
+      let turn = must_ok number (is_in_turn cat texts a.0) b.0 b.1 in
+      let P : List TxnNo → Type 0 = λ o. (names_on line ≡ map (name_in texts) o) × All (IsThere texts) o × (is_in_turn cat texts o ≡ true) in
+      subst P same (told.0, told.1, turn)
+
+  sound : (u : Unit {0}) → judged cat work report ≡ Ok u → Sound cat work report
+  sound u h =
+      let a = bind_ok (begun report) After1 u h in
+      let whole = begun_is report a.0 a.1 in
+      let b = bind_ok (order_line_in a.0.0 a.0.1) After2 u a.2 in
+      let c = bind_ok (order_told cat texts b.0.0 b.0.1) (λ order. After3 order b.0.2.0 b.0.2.1) u b.2 in
+      let d = bind_ok (passed b.0.2.0 (lines_of (serial_replies cat work c.0)) b.0.2.1) (λ rest. must rest.0 (ends_replies rest.1)) u c.2 in
+      let first = first_order a.0.0 a.0.1 b.0 b.1 in
+      let told = told_by b.0.0 b.0.1 c.0 c.1 in
+      let next = follows d.0.1 (must_ok d.0.0 (ends_replies d.0.1) u d.2) in
+      let line : b.0.1 ≡ words_in texts c.0 = order_line_is b.0.1 first.is ∙ ap (λ (l : List (List ℕ)). codes "order" ++ behind_spaces l) told.0 in
+      let behind : b.0.2.1 ≡ lines_of (serial_replies cat work c.0) ++ next.next ∷ next.more =
+      passed_is b.0.2.0 (lines_of (serial_replies cat work c.0)) b.0.2.1 d.0 d.1 ∙ ap (λ (l : List (List ℕ)). lines_of (serial_replies cat work c.0) ++ l) next.whole in
+      record {
+        small = whole.0;
+        order = c.0;
+        there = told.1;
+        turn = told.2;
+        before = first.before;
+        others = first.others;
+        next = next.next;
+        other = next.other;
+        more = next.more;
+        lines_are = sym (ap (λ (w : Numbered). w.1) whole.1) ∙ first.whole ∙ ap (λ (l : List ℕ). first.before ++ l ∷ b.0.2.1) line ∙ ap (λ (l : List (List ℕ)). first.before ++ words_in texts c.0 ∷ l) behind;
+      }
+
+  -- and so the report is verified
+  verified_by : Sound cat work report → IsVerified cat work report
+  verified_by s =
+      let answers : List ℕ = serial_replies cat work s.order in
+      let line : List ℕ = words_in texts s.order in
+      let tail : List ℕ = (cut_lines report).1 in
+      let ended : List ℕ = spelled_lines s.more ++ tail in
+      let whole : IsWhole answers = replies_whole (texts_of texts s.order) _ in
+      let lines : AreLines (s.before ++ line ∷ (lines_of answers ++ s.next ∷ s.more)) = subst AreLines s.lines_are (cut_are_lines report) in
+      let behind : AreLines (lines_of answers ++ s.next ∷ s.more) = (rest_lines s.before (line ∷ (lines_of answers ++ s.next ∷ s.more)) lines).1 in
+      let next : List ℕ = s.next ++ 10 ∷ ended in
+      let spelled : spelled_lines (lines_of answers ++ s.next ∷ s.more) ++ tail ≡ answers ++ next =
+      spelled_apart (lines_of answers) (s.next ∷ s.more) tail ∙ ap (λ (l : List ℕ). l ++ (spelled_lines (s.next ∷ s.more) ++ tail)) (sym (whole_is answers whole))
+      ∙ ap (λ (l : List ℕ). answers ++ l) (append_assoc s.next (10 ∷ spelled_lines s.more) tail) in
+      let of_order : spelled_lines (line ∷ (lines_of answers ++ s.next ∷ s.more)) ++ tail ≡ order_line texts s.order ++ (answers ++ next) =
+      append_assoc line (10 ∷ spelled_lines (lines_of answers ++ s.next ∷ s.more)) tail ∙ ap (λ (l : List ℕ). line ++ 10 ∷ l) spelled ∙ sym (line_is texts s.order (answers ++ next)) in
+      record {
+        small = s.small;
+        order = s.order;
+        are_submitted = s.there;
+        in_turn = in_turn cat texts s.order s.turn;
+        before = s.before;
+        before_lines = front_lines s.before (line ∷ (lines_of answers ++ s.next ∷ s.more)) lines;
+        before_order = s.others;
+        next = s.next;
+        next_line = (rest_lines (lines_of answers) (s.next ∷ s.more) behind).0;
+        next_other = s.other;
+        rest = ended;
+        text_is = sym (cut_takes report) ∙ ap (λ (l : List (List ℕ)). spelled_lines l ++ tail) s.lines_are
+            ∙ spelled_apart s.before (line ∷ (lines_of answers ++ s.next ∷ s.more)) tail ∙ ap (λ (l : List ℕ). spelled_lines s.before ++ l) of_order;
+      }
+
+  judged_yes : (r : Result (Unit {0}) ℕ) → verdict_of r ≡ Yes → (u : Unit {0}) × (r ≡ Ok u)
+  judged_yes (Ok u) h = (u, refl)
+  judged_yes (Err number) h = absurd cc
+
+  pub yes_verified : verdict cat work report ≡ Yes → IsVerified cat work report
+  yes_verified h = let j = judged_yes (judged cat work report) h in verified_by (sound j.0 j.1)
+
+  -- the other way round
+
+  names_fine : (order : List TxnNo) → All (IsValidTxn cat) texts → All (IsThere texts) order → HaveNoSpace (map (name_in texts) order) × HasNoNewline (behind_spaces (map (name_in texts) order))
+  names_fine [] valid there = (tt, tt)
+  names_fine (number ∷ order) valid there =
+      let one = name_fine cat texts number valid (All-head (IsThere texts) number order there) in
+      let more = names_fine order valid (All-tail (IsThere texts) number order there) in
+      ((one.0, more.0), (λ e. omega (arith, e), no_newline-append (name_in texts number) (behind_spaces (map (name_in texts) order)) one.1 more.1))
+
+  line_fine : (order : List TxnNo) → HasNoNewline (behind_spaces (map (name_in texts) order)) → HasNoNewline (words_in texts order)
+  line_fine order h = no_newline-append (codes "order") (behind_spaces (map (name_in texts) order)) (search rules) h
+
+  lines_again : (v : IsVerified cat work report) → HasNoNewline (words_in texts v.order)
+      → lines_of report ≡ v.before ++ words_in texts v.order ∷ (lines_of (serial_replies cat work v.order) ++ v.next ∷ lines_of v.rest)
+  lines_again v line =
+      let answers : List ℕ = serial_replies cat work v.order in
+      let words : List ℕ = words_in texts v.order in
+      let next : List ℕ = v.next ++ 10 ∷ v.rest in
+      let whole : IsWhole answers = replies_whole (texts_of texts v.order) _ in
+      let First : List (List ℕ) × List ℕ → List (List ℕ) = λ cut. cut.0 in
+      ap lines_of v.text_is ∙ ap First (lines_behind v.before (order_line texts v.order ++ (answers ++ next)) v.before_lines)
+      ∙ ap (λ (l : List (List ℕ)). v.before ++ l)
+      (ap lines_of (line_is texts v.order (answers ++ next)) ∙ ap First (line_behind words (answers ++ next) line)
+      ∙ ap (λ (l : List (List ℕ)). words ∷ l) (ap First (whole_behind answers next whole) ∙ ap (λ (l : List (List ℕ)). lines_of answers ++ l) (ap First (line_behind v.next v.rest v.next_line))))
+
+  order_told_again : (number : ℕ) (order : List TxnNo) → IsValid cat work → All (IsThere texts) order → IsInTurn cat texts order → HaveNoSpace (map (name_in texts) order)
+      → order_told cat texts number (words_in texts order) ≡ Ok order
+  order_told_again number order valid there turn fine =
+      let words : List (List ℕ) = map (name_in texts) order in
+      let Rest : Result (List TxnNo) ℕ → Result (List TxnNo) ℕ = λ r. r >>= λ found. must number (is_in_turn cat texts found) >>= λ _. Ok found in
+      let are : names_on (words_in texts order) ≡ words = names_again words fine in
+      let told : along (λ _ name. known number (named texts name)) 0 words ≡ Ok order = told_again number texts 0 order (submitted_differ cat work valid) there in
+      let turned : is_in_turn cat texts order ≡ true = in_turn_again cat texts order turn in
+      ap (λ (l : List (List ℕ)). Rest (along (λ _ name. known number (named texts name)) 0 l)) are ∙ ap Rest told
+      ∙ ap (λ (b : Bool). must number b >>= λ _. Ok order) turned
+
+  judged_again : IsValid cat work → IsVerified cat work report → judged cat work report ≡ Ok tt
+  judged_again valid v =
+      let names_are = names_fine v.order (submitted_valid cat work valid) v.are_submitted in
+      let answers : List ℕ = serial_replies cat work v.order in
+      let words : List ℕ = words_in texts v.order in
+      let number : ℕ = 1 + length v.before in
+      let behind : List (List ℕ) = lines_of answers ++ v.next ∷ lines_of v.rest in
+      let all : begun report ≡ Ok (1, lines_of report) = ap (λ (b : Bool). begun_if b report) (le-leb (length report) MAX_REPORT_BYTES v.small) in
+      let lines = lines_again v (line_fine v.order names_are.1) in
+      let found : order_line_in 1 (v.before ++ words ∷ behind) ≡ Ok (number, words, (number + 1, behind)) = order_again 1 v.before words behind v.before_order (is_order_line_again (map (name_in texts) v.order)) in
+      let told : order_told cat texts number words ≡ Ok v.order = order_told_again number v.order valid v.are_submitted v.in_turn names_are.0 in
+      let came : passed (number + 1) (lines_of answers) behind ≡ Ok (number + 1 + length (lines_of answers), v.next ∷ lines_of v.rest) = passed_again (number + 1) (lines_of answers) (v.next ∷ lines_of v.rest) in
+      let other = v.next_other in
+      let last : must (number + 1 + length (lines_of answers)) (ends_replies (v.next ∷ lines_of v.rest)) ≡ Ok tt = rw other refl in
+      ap (λ (r : Result Numbered ℕ). r >>= After1) all
+      ∙ ap (λ (l : List (List ℕ)). order_line_in 1 l >>= After2) lines
+      ∙ ap (λ (r : Result (ℕ × List ℕ × Numbered) ℕ). r >>= After2) found
+      ∙ ap (λ (r : Result (List TxnNo) ℕ). r >>= λ order. After3 order (number + 1) behind) told
+      ∙ ap (λ (r : Result Numbered ℕ). r >>= λ rest. must rest.0 (ends_replies rest.1)) came
+      ∙ last
+
+  pub verified_yes : IsValid cat work → IsVerified cat work report → verdict cat work report ≡ Yes
+  verified_yes valid v = ap verdict_of (judged_again valid v)
