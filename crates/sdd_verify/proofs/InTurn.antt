@@ -21,9 +21,10 @@ module _ (cat : Catalogue) (txns : List Txn) where
   tells_by m n false true false e f g h = absurd cc
   tells_by m n false true true e f g h =
       (λ is. let t : (m.0 == n.0) ≡ true = eq-eqb m.0 n.0 is in absurd cc, λ _. ltb-true m.0 n.0 g)
-  tells_by m n false false less e f g h =
-      (λ is. let t : (m.0 == n.0) ≡ true = eq-eqb m.0 n.0 is in absurd cc,
-      λ is. let t : (class_of cat txns m == class_of cat txns n) ≡ true = eq-eqb (class_of cat txns m) (class_of cat txns n) is in absurd cc)
+  tells_by m n false false less e f g h = (
+    λ is. let t : (m.0 == n.0) ≡ true = eq-eqb m.0 n.0 is in absurd cc,
+    λ is. let t : (class_of cat txns m == class_of cat txns n) ≡ true = eq-eqb (class_of cat txns m) (class_of cat txns n) is in absurd cc,
+  )
 
   tells : (m n : TxnNo) → may_follow cat txns m n ≡ true → MayFollow m n
   tells m n h = tells_by m n (m.0 == n.0) (class_of cat txns m == class_of cat txns n) (nat_lt m.0 n.0) refl refl refl h

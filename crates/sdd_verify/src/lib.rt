@@ -7,6 +7,7 @@
 
 mod flaw;
 mod judging;
+mod laws;
 mod limits;
 mod lines;
 mod order;
@@ -17,5 +18,6 @@ mod submitted;
 mod verdict;
 
 pub use judging::verify;
+pub use laws::law_yes;
 pub use limits::MAX_REPORT_BYTES;
 pub use verdict::Verdict;

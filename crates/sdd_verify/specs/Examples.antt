@@ -1,0 +1,89 @@
+-- Worked rows: p puts a row, and q, of the same class, asks for all rows.
+use Rattle.std.specs.Prelude.{ℕ, ◌≡◌, [], ◌∷◌, ◌++◌, List, codes, pos, refl}
+use Rattle.std.specs.Fmt.{digits}
+use Rattle.sdd_base.specs.Numbers.{rel_no, tm_no, txn_no}
+use Rattle.sdd_base.specs.declared.event.Event.TheVariants.{Submit, Settle}
+use Rattle.sdd_base.specs.declared.value.Value.TheVariants.{Int}
+use Rattle.sdd_lang.specs.declared.condition.Ref.{Ref}
+use Rattle.sdd_lang.specs.declared.statement.Stmt.TheVariants.{Put, Query}
+use Rattle.sdd_lang.specs.declared.transaction.Txn.{Txn}
+use Rattle.sdd_script.specs.Examples.{accounts}
+use Rattle.sdd_script.specs.declared.workload.Workload.{Workload}
+use Rattle.sdd_words.specs.Lines.{cut_lines}
+use Rattle.sdd_verify.specs.Verdict.{verdict}
+use Rattle.sdd_verify.specs.declared.verdict.Verdict.{Verdict}
+use Rattle.sdd_verify.specs.declared.verdict.Verdict.TheVariants.{Yes, No}
+
+abbrev column_ref : ℕ → Ref
+column_ref column = record { part = 1; column = column }
+
+abbrev p : Txn
+p = record { name = codes "p"; tm = tm_no 1; statements = Put (rel_no 1) (Int (pos 5) ∷ Int (pos 10) ∷ []) ∷ [] }
+
+abbrev q : Txn
+q = record { name = codes "q"; tm = tm_no 1; statements = Query (column_ref 1 ∷ column_ref 2 ∷ []) (rel_no 1 ∷ []) [] ∷ [] }
+
+-- a third one that isn't submitted
+abbrev r : Txn
+r = record { name = codes "r"; tm = tm_no 1; statements = [] }
+
+abbrev put_and_query : Workload
+put_and_query = record { rows = []; txns = p ∷ q ∷ r ∷ []; events = Submit (txn_no 1) ∷ Submit (txn_no 2) ∷ Settle ∷ [] }
+
+-- the verdict on a report of one record, with these lines from the order line on
+abbrev told : List ℕ → Verdict
+told lines = verdict accounts put_and_query (codes "1 submit p\n" ++ lines)
+
+pub right : told (codes "order p q\nreply p ok\nreply q ok\nquery 1 1\nrow 5 10\nshipped p 0 0\nend\n") ≡ Yes
+unfolding cut_lines digits
+right = refl
+
+-- nothing is asked of what the report doesn't name
+pub no_name : told (codes "order\nend\n") ≡ Yes
+unfolding cut_lines digits
+no_name = refl
+
+pub empty : verdict accounts put_and_query [] ≡ No 1
+unfolding cut_lines digits
+empty = refl
+
+pub no_order : told (codes "ordered p q\n") ≡ No 3
+unfolding cut_lines digits
+no_order = refl
+
+-- what stands behind the last newline is no line
+pub no_line : told (codes "order") ≡ No 2
+unfolding cut_lines digits
+no_line = refl
+
+pub exchanged : told (codes "order q p\nreply q ok\nquery 1 0\nreply p ok\nend\n") ≡ No 2
+unfolding cut_lines digits
+exchanged = refl
+
+pub named_twice : told (codes "order p p\nreply p ok\nreply p ok\nend\n") ≡ No 2
+unfolding cut_lines digits
+named_twice = refl
+
+pub not_submitted : told (codes "order p r\nreply p ok\nreply r ok\nend\n") ≡ No 2
+unfolding cut_lines digits
+not_submitted = refl
+
+pub two_spaces : told (codes "order p  q\n") ≡ No 2
+unfolding cut_lines digits
+two_spaces = refl
+
+pub another_row : told (codes "order p q\nreply p ok\nreply q ok\nquery 1 1\nrow 5 11\nend\n") ≡ No 6
+unfolding cut_lines digits
+another_row = refl
+
+pub no_row : told (codes "order p q\nreply p ok\nreply q ok\nquery 1 1\n") ≡ No 6
+unfolding cut_lines digits
+no_row = refl
+
+pub further_row : told (codes "order p q\nreply p ok\nreply q ok\nquery 1 1\nrow 5 10\nrow 5 10\nend\n") ≡ No 7
+unfolding cut_lines digits
+further_row = refl
+
+pub no_end : told (codes "order p q\nreply p ok\nreply q ok\nquery 1 1\nrow 5 10\n") ≡ No 7
+unfolding cut_lines digits
+no_end = refl
