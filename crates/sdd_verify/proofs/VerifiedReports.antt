@@ -12,7 +12,7 @@ use Rattle.sdd_base.specs.declared.limits.TheConstants.{MAX_NAME_BYTES}
 use Rattle.sdd_base.specs.declared.number.TxnNo.{TxnNo}
 use Rattle.sdd_catalog.specs.Catalogue.{Catalogue}
 use Rattle.sdd_lang.specs.declared.transaction.Txn.{Txn}
-use Rattle.sdd_report.specs.Committed.{names, order_line}
+use Rattle.sdd_report.specs.Committed.{order_line}
 use Rattle.sdd_report.specs.Names.{spaced, txn_name}
 use Rattle.sdd_script.specs.Valid.{IsValid, IsValidTxn}
 use Rattle.sdd_script.specs.declared.workload.Workload.{Workload}
@@ -45,8 +45,8 @@ words_in txns order = codes "order" ++ behind_spaces (map (name_in txns) order)
 line_is : (txns : List Txn) (order : List TxnNo) (rest : List ℕ) → order_line txns order ++ rest ≡ words_in txns order ++ 10 ∷ rest
 line_is txns order rest =
     let words : List ℕ = behind_spaces (map (name_in txns) order) in
-    let same : names txns order ≡ words = sym (flat_map-map (λ (name : List ℕ). 32 ∷ name) (name_in txns) order) in
-    ap (λ (w : List ℕ). (codes "order" ++ (w ++ 10 ∷ [])) ++ rest) same
+    let same : order_line txns order ≡ codes "order" ++ (words ++ 10 ∷ []) = simp flat_map-map in
+    ap (λ (l : List ℕ). l ++ rest) same
     ∙ append_assoc (codes "order") (words ++ 10 ∷ []) rest
     ∙ ap (λ (w : List ℕ). codes "order" ++ w) (append_assoc words (10 ∷ []) rest)
     ∙ sym (append_assoc (codes "order") words (10 ∷ rest))
@@ -71,6 +71,9 @@ named_bytes : (name : List ℕ) → IsName name → list_all is_name_byte name �
 named_bytes name h =
     let front : Bool = begins_with_letter name && nat_le (length name) MAX_NAME_BYTES in
     (both front (list_all is_name_byte name) (both (front && list_all is_name_byte name) (not (is_keyword name)) h).0).1
+
+pub name_line : (name : List ℕ) → IsName name → HasNoNewline name
+name_line name h = (bytes_fine name (named_bytes name h)).1
 
 name_fine : (cat : Catalogue) (txns : List Txn) (number : TxnNo) → All (IsValidTxn cat) txns → IsThere txns number → HasNoSpace (name_in txns number) × HasNoNewline (name_in txns number)
 name_fine cat txns number valid there =
