@@ -1,7 +1,7 @@
 -- What reading a file says of what is in it.
-use Rattle.std.proofs.Common.{◌≡◌, ℕ, ◌<◌, ◌≤◌, List, length, Option, Some, None, Result, Ok, Err, refl, ap, sym, subst, ◌∙◌, arith, inl, inr}
-use Rattle.std.proofs.lemmas.Bool.{cases_lt, lt-ltb}
-use Rattle.std.specs.Prelude.{IsSome, IfSome, IfErr, IsErrOf, OnOk, MatchResult, take, ◌+◌, nat_lt, true}
+use Rattle.std.proofs.Common.{◌≡◌, ℕ, ◌<◌, ◌≤◌, List, [], false, length, Option, Some, None, Result, Ok, Err, refl, ap, sym, subst, ◌∙◌, arith, inl, inr}
+use Rattle.std.proofs.lemmas.Bool.{cases_lt, lt-leb, lt-ltb}
+use Rattle.std.specs.Prelude.{IsSome, IfSome, IfErr, IsErrOf, OnOk, MatchResult, take, ◌+◌, nat_le, nat_lt, true}
 use Rattle.std.specs.Option.{option_map}
 use Rattle.sdd_base.specs.declared.limits.TheConstants.{MAX_CATALOGUE_BYTES, MAX_WORKLOAD_BYTES}
 use Rattle.sdd_base.specs.Outside.{ReadsTo, find_file}
@@ -9,7 +9,12 @@ use Rattle.sdd_base.specs.declared.files.ShelfFile.{ShelfFile}
 use Rattle.sdd_control.specs.Walk.{control_script, most_bytes}
 use Rattle.sdd_control.specs.declared.script.ControlScript.{ControlScript}
 use Rattle.sdd_app.specs.Answer.{BlamesScript, script_named, BlamesCatalogue, BlamesWorkload, catalogue_named, workload_named}
-use Rattle.sdd_app.specs.Verdict.{ComesOfFiles, Explains}
+use Rattle.sdd_app.specs.Answer.{judged_as}
+use Rattle.sdd_app.specs.Endings.{IsReadTo, ToItsLimit}
+use Rattle.sdd_app.specs.Judging.{verdict_line}
+use Rattle.sdd_app.specs.Verdict.{Prints, ComesOfFiles, Explains}
+use Rattle.sdd_verify.specs.declared.limits.TheConstants.{MAX_REPORT_BYTES}
+use Rattle.sdd_verify.specs.declared.verdict.Verdict.TheVariants.{No}
 use Rattle.sdd_app.specs.declared.status.Status.{Status}
 use Rattle.sdd_app.specs.declared.status.Status.TheVariants.{Usage}
 use Rattle.sdd_catalog.specs.Catalogue.{Catalogue}
@@ -107,6 +112,28 @@ pub script_gives : (result : Result ControlScript Status) (fs : List ShelfFile) 
 script_gives (Ok x) fs name bytes reads e = read_gives MAX_WORKLOAD_BYTES control_script long_scripts (find_file fs name) bytes reads ∙ ap (λ r. Some r) e
 script_gives (Err s) fs name bytes reads e =
     subst (λ r. Explains s (BlamesScript r)) (sym (read_gives MAX_WORKLOAD_BYTES control_script long_scripts (find_file fs name) bytes reads)) e
+
+-- reports past their limit are alike
+
+long_report : (cat : Catalogue) (work : Workload) (bytes : List ℕ) → MAX_REPORT_BYTES < length bytes → judged_as cat work bytes ≡ Prints (verdict_line (No 0))
+long_report cat work bytes long =
+    let no : nat_le (length bytes) MAX_REPORT_BYTES ≡ false = lt-leb (length bytes) MAX_REPORT_BYTES long in
+    rw no refl
+
+pub long_reports : (cat : Catalogue) (work : Workload) (a b : List ℕ) → MAX_REPORT_BYTES < length a → MAX_REPORT_BYTES < length b → judged_as cat work a ≡ judged_as cat work b
+long_reports cat work a b la lb = long_report cat work a la ∙ sym (long_report cat work b lb)
+
+-- a file that was read to its end, or one byte past the limit, has its end where the limit says so
+pub read_to_limit : (files : Option (List ShelfFile)) (limit : ℕ) (name read : List ℕ) (unread : Option (List ℕ))
+    → ((fs : List ShelfFile) → files ≡ Some fs → ReadsTo limit (find_file fs name) read) → (length read ≤ limit → IfSome unread (λ left. left ≡ []))
+    → IsReadTo files (ToItsLimit limit name) unread
+read_to_limit None limit name read unread reads ended = tt
+read_to_limit (Some fs) limit name read unread reads ended = of_file (find_file fs name) (reads fs refl)
+  where
+    of_file : (file : Option (List ℕ)) → ReadsTo limit file read → IfSome file (λ bytes. length bytes ≤ limit → IfSome unread (λ left. left ≡ []))
+    of_file None r = tt
+    of_file (Some bytes) r = λ few.
+        elim (cases_lt limit (length read)) [ inl past ↦ absurd (let more = (r.past past).1 in omega (arith, few, more)) | inr within ↦ ended within ]
 
 -- what follows where a call went well
 pub on_ok_by : {T : Type 0} (r : Result T Status) (P : T → Type 0) (Q : Status → Type 0) (R : Type 0) → MatchResult r P Q → ((v : T) → P v → R) → OnOk r R

@@ -4,7 +4,7 @@ use Rattle.std.specs.Prelude.{codes}
 use Rattle.std.specs.Fmt.{decimal}
 use Rattle.std.specs.Str.{bytes_eq}
 use Rattle.std.proofs.lemmas.Slice.Eq.{bytes_eq-Decides}
-use Rattle.sdd_app.specs.Command.{Form, Check, Graph, Table, Run, Plain, Control, Make, IsForm, IsNoForm, words_of, count_in, made, form_in}
+use Rattle.sdd_app.specs.Command.{Form, Check, Graph, Table, Run, Plain, Control, Make, Verify, Advise, IsForm, IsNoForm, words_of, count_in, made, form_in}
 use Rattle.sdd_app.proofs.Counts.{counted, spelled}
 
 -- the words of a form have it
@@ -16,6 +16,8 @@ form_found (Table cat) is = refl
 form_found (Run cat work) is = refl
 form_found (Plain cat work) is = refl
 form_found (Control file) is = refl
+form_found (Verify cat work report) is = refl
+form_found (Advise cat) is = refl
 form_found (Make seed count) is =
     rw (counted (2 ^ 31) seed is.0 (omega (arith, is.0)), counted 2049 count (omega (arith, is.1)) (omega (arith, is.1))) refl
 
@@ -43,13 +45,16 @@ made_so first second (Some s) (Some n) form p q e =
 made_so first second (Some s) None form p q e = absurd cc
 made_so first second None count form p q e = absurd cc
 
-two_so : (name cat : List ℕ) (form : Form) (x y z u : Bool) → bytes_eq name (codes "check") ≡ x → bytes_eq name (codes "graph") ≡ y → bytes_eq name (codes "table") ≡ z
-    → bytes_eq name (codes "control") ≡ u → cond x (Some (Check cat)) (cond y (Some (Graph cat)) (cond z (Some (Table cat)) (cond u (Some (Control cat)) None))) ≡ Some form → Has (name ∷ cat ∷ []) form
-two_so name cat form true y z u p q r t e = has_so (name ∷ cat ∷ []) (Check cat) form tt (ap (λ w. w ∷ cat ∷ []) (named name (codes "check") p)) e
-two_so name cat form false true z u p q r t e = has_so (name ∷ cat ∷ []) (Graph cat) form tt (ap (λ w. w ∷ cat ∷ []) (named name (codes "graph") q)) e
-two_so name cat form false false true u p q r t e = has_so (name ∷ cat ∷ []) (Table cat) form tt (ap (λ w. w ∷ cat ∷ []) (named name (codes "table") r)) e
-two_so name cat form false false false true p q r t e = has_so (name ∷ cat ∷ []) (Control cat) form tt (ap (λ w. w ∷ cat ∷ []) (named name (codes "control") t)) e
-two_so name cat form false false false false p q r t e = absurd cc
+two_so : (name cat : List ℕ) (form : Form) (x y z u v : Bool) → bytes_eq name (codes "check") ≡ x → bytes_eq name (codes "graph") ≡ y → bytes_eq name (codes "table") ≡ z
+    → bytes_eq name (codes "control") ≡ u → bytes_eq name (codes "advise") ≡ v
+    → cond x (Some (Check cat)) (cond y (Some (Graph cat)) (cond z (Some (Table cat)) (cond u (Some (Control cat)) (cond v (Some (Advise cat)) None)))) ≡ Some form
+    → Has (name ∷ cat ∷ []) form
+two_so name cat form true y z u v p q r t s e = has_so (name ∷ cat ∷ []) (Check cat) form tt (ap (λ w. w ∷ cat ∷ []) (named name (codes "check") p)) e
+two_so name cat form false true z u v p q r t s e = has_so (name ∷ cat ∷ []) (Graph cat) form tt (ap (λ w. w ∷ cat ∷ []) (named name (codes "graph") q)) e
+two_so name cat form false false true u v p q r t s e = has_so (name ∷ cat ∷ []) (Table cat) form tt (ap (λ w. w ∷ cat ∷ []) (named name (codes "table") r)) e
+two_so name cat form false false false true v p q r t s e = has_so (name ∷ cat ∷ []) (Control cat) form tt (ap (λ w. w ∷ cat ∷ []) (named name (codes "control") t)) e
+two_so name cat form false false false false true p q r t s e = has_so (name ∷ cat ∷ []) (Advise cat) form tt (ap (λ w. w ∷ cat ∷ []) (named name (codes "advise") s)) e
+two_so name cat form false false false false false p q r t s e = absurd cc
 
 three_so : (name first second : List ℕ) (form : Form) (x y z : Bool) → bytes_eq name (codes "run") ≡ x → bytes_eq name (codes "plain") ≡ y → bytes_eq name (codes "make") ≡ z
     → cond x (Some (Run first second)) (cond y (Some (Plain first second)) (cond z (made (count_in (2 ^ 31) first) (count_in 2049 second)) None)) ≡ Some form
@@ -60,13 +65,20 @@ three_so name first second form false false true p q r e =
     subst (λ w. Has (w ∷ first ∷ second ∷ []) form) (sym (named name (codes "make") r)) (made_so first second (count_in (2 ^ 31) first) (count_in 2049 second) form refl refl e)
 three_so name first second form false false false p q r e = absurd cc
 
+four_so : (name cat work report : List ℕ) (form : Form) (x : Bool) → bytes_eq name (codes "verify") ≡ x
+    → cond x (Some (Verify cat work report)) None ≡ Some form → Has (name ∷ cat ∷ work ∷ report ∷ []) form
+four_so name cat work report form true p e =
+    has_so (name ∷ cat ∷ work ∷ report ∷ []) (Verify cat work report) form tt (ap (λ w. w ∷ cat ∷ work ∷ report ∷ []) (named name (codes "verify") p)) e
+four_so name cat work report form false p e = absurd cc
+
 form_has : (ws : List (List ℕ)) (form : Form) → form_in ws ≡ Some form → Has ws form
 unfolding form_in
 form_has [] form e = absurd cc
 form_has (name ∷ []) form e = absurd cc
-form_has (name ∷ cat ∷ []) form e = two_so name cat form (bytes_eq name (codes "check")) (bytes_eq name (codes "graph")) (bytes_eq name (codes "table")) (bytes_eq name (codes "control")) refl refl refl refl e
+form_has (name ∷ cat ∷ []) form e = two_so name cat form (bytes_eq name (codes "check")) (bytes_eq name (codes "graph")) (bytes_eq name (codes "table")) (bytes_eq name (codes "control")) (bytes_eq name (codes "advise")) refl refl refl refl refl e
 form_has (name ∷ first ∷ second ∷ []) form e = three_so name first second form (bytes_eq name (codes "run")) (bytes_eq name (codes "plain")) (bytes_eq name (codes "make")) refl refl refl e
-form_has (name ∷ first ∷ second ∷ third ∷ rest) form e = absurd cc
+form_has (name ∷ cat ∷ work ∷ report ∷ []) form e = four_so name cat work report form (bytes_eq name (codes "verify")) refl e
+form_has (name ∷ first ∷ second ∷ third ∷ fourth ∷ rest) form e = absurd cc
 
 pub form_spelled : (ws : List (List ℕ)) (form : Form) → form_in ws ≡ Some form → IsForm form × (ws ≡ words_of form)
 form_spelled ws form e = let h = form_has ws form e in (h.is, h.words)

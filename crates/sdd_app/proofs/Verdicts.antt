@@ -19,9 +19,9 @@ use Rattle.sdd_run.proofs.Apart.{report_or_limit, summary_or_limit}
 use Rattle.sdd_control.specs.Report.{report}
 use Rattle.sdd_control.specs.Walk.{control_script}
 use Rattle.sdd_control.specs.declared.script.ControlScript.{ControlScript}
-use Rattle.sdd_app.specs.Answer.{script_named, control_verdict, ComesToControl, BlamesScript, catalogue_named, workload_named, OverCatalogue, ComesToListing, plain_verdict, ComesToPlain, ComesToReport, ComesToRun, ComesToSummary, TellsOfRun, FormComesTo, ComesTo, FilesOf, FilesAreThere, BlamesCatalogue, BlamesWorkload}
-use Rattle.sdd_app.specs.Command.{Form, Check, Graph, Table, Run, Plain, Control, Make, form_in}
-use Rattle.sdd_app.specs.Endings.{FilesRead, IsRead, ToItsEnd}
+use Rattle.sdd_app.specs.Answer.{script_named, control_verdict, ComesToControl, BlamesScript, catalogue_named, workload_named, OverCatalogue, ComesToListing, plain_verdict, ComesToPlain, ComesToReport, ComesToRun, ComesToSummary, ComesToVerdict, ComesToVerify, TellsOfRun, judged_as, FormComesTo, ComesTo, FilesOf, FilesAreThere, BlamesCatalogue, BlamesWorkload}
+use Rattle.sdd_app.specs.Command.{Form, Check, Graph, Table, Run, Plain, Control, Make, Verify, Advise, form_in}
+use Rattle.sdd_app.specs.Endings.{FilesRead, IsRead, ToItsEnd, ToItsLimit}
 use Rattle.sdd_app.specs.Serially.{serial_text}
 use Rattle.sdd_app.specs.Verdict.{Verdict, NoForm, Prints, FaultyCatalogue, FaultyWorkload, PastLimit, NotBuilt, status_of, status_of_end, IsRefusal, Explains, Answers}
 use Rattle.sdd_app.specs.declared.listing.Listing.{Listing}
@@ -86,6 +86,10 @@ blamed_work reading G NotBuilt e = absurd e
 pub blamed_run : (fs : List ShelfFile) (work : List ℕ) (cat : Catalogue) (v : Verdict) → BlamesWorkload (workload_named fs cat work) v → ComesToRun fs work cat v
 blamed_run fs work cat v e = blamed_work (workload_named fs cat work) (ComesToReport cat) v e
 
+pub blamed_verify : (fs : List ShelfFile) (work report : List ℕ) (cat : Catalogue) (v : Verdict) → BlamesWorkload (workload_named fs cat work) v
+    → ComesToVerify fs work report cat v
+blamed_verify fs work report cat v e = blamed_work (workload_named fs cat work) (ComesToVerdict fs report cat) v e
+
 -- over a workload that was read
 pub replies_plain : (fs : List ShelfFile) (work : List ℕ) (cat : Catalogue) (w : Workload) (text : List ℕ) → workload_named fs cat work ≡ Some (Ok w) → text ≡ serial_text cat w
     → ComesToPlain fs work cat (Prints text)
@@ -94,6 +98,10 @@ replies_plain fs work cat w text e is = ap (λ r. option_map (plain_verdict cat)
 pub reports_run : (fs : List ShelfFile) (work : List ℕ) (cat : Catalogue) (w : Workload) (v : Verdict) → workload_named fs cat work ≡ Some (Ok w) → ComesToReport cat w v
     → ComesToRun fs work cat v
 reports_run fs work cat w v e p = subst (λ r. OverWork r (ComesToReport cat) v) (sym e) p
+
+pub judges_report : (fs : List ShelfFile) (work report : List ℕ) (cat : Catalogue) (w : Workload) (v : Verdict) → workload_named fs cat work ≡ Some (Ok w)
+    → ComesToVerdict fs report cat w v → ComesToVerify fs work report cat v
+judges_report fs work report cat w v e p = subst (λ r. OverWork r (ComesToVerdict fs report cat) v) (sym e) p
 
 -- a faulty script is what `control` comes to, and so is what a sound one gives
 pub blamed_control : (fs : List ShelfFile) (name : List ℕ) (v : Verdict) → BlamesScript (script_named fs name) v → ComesToControl fs name v
@@ -173,6 +181,12 @@ one_over_work (Some (Err f)) G v w one p q = ap status_of (p ∙ sym q)
 one_run : (fs : List ShelfFile) (work : List ℕ) (cat : Catalogue) (v w : Verdict) → ComesToRun fs work cat v → ComesToRun fs work cat w → status_of v ≡ status_of w
 one_run fs work cat v w p q = one_over_work (workload_named fs cat work) (ComesToReport cat) v w (λ k a b. one_report cat k v w a b) p q
 
+one_judged : (fs : List ShelfFile) (work report : List ℕ) (cat : Catalogue) (v w : Verdict) → ComesToVerify fs work report cat v → ComesToVerify fs work report cat w
+    → status_of v ≡ status_of w
+one_judged fs work report cat v w p q =
+    one_over_work (workload_named fs cat work) (ComesToVerdict fs report cat) v w
+    (λ k a b. ap status_of (one_verdict (option_map (judged_as cat k) (find_file fs report)) v w a b)) p q
+
 one_over : (reading : Option (Result Catalogue CatFault)) (G : Catalogue → Verdict → Type 0) (v w : Verdict) → ((cat : Catalogue) → G cat v → G cat w → status_of v ≡ status_of w)
     → Over reading G v → Over reading G w → status_of v ≡ status_of w
 one_over None G v w one p q = absurd p
@@ -187,6 +201,8 @@ one_of_form fs (Run cat work) v w p q = one_over (catalogue_named fs cat) (Comes
 one_of_form fs (Plain cat work) v w p q = one_over (catalogue_named fs cat) (ComesToPlain fs work) v w (λ c a b. one_plain fs work c v w a b) p q
 one_of_form fs (Control file) v w p q = ap status_of (one_verdict (option_map control_verdict (script_named fs file)) v w p q)
 one_of_form fs (Make seed count) v w p q = one_summary bank (workload_of seed count) v w p q
+one_of_form fs (Verify cat work report) v w p q = one_over (catalogue_named fs cat) (ComesToVerify fs work report) v w (λ c a b. one_judged fs work report c v w a b) p q
+one_of_form fs (Advise cat) v w p q = one_over (catalogue_named fs cat) (ComesToListing listings.Advice) v w (λ c a b. one_listing listings.Advice c v w a b) p q
 
 one_of_words : (fs : List ShelfFile) (form : Option Form) (v w : Verdict) → MatchOption form (v ≡ NoForm) (λ f. FormComesTo fs f v) → MatchOption form (w ≡ NoForm) (λ f. FormComesTo fs f w)
     → status_of v ≡ status_of w
@@ -239,6 +255,18 @@ work_there give verdict v (Some bytes) e = refl
 run_there : (fs : List ShelfFile) (work : List ℕ) (cat : Catalogue) (v : Verdict) → ComesToRun fs work cat v → IsSome (find_file fs work)
 run_there fs work cat v p = file_there (workload cat) (λ r. MatchResult r (λ w. ComesToReport cat w v) (λ fault. v ≡ FaultyWorkload fault)) (find_file fs work) p
 
+some_there : {A : Type 0} (give : List ℕ → A) (v : A) (file : Option (List ℕ)) → option_map give file ≡ Some v → IsSome file
+some_there give v None e = absurd cc
+some_there give v (Some bytes) e = refl
+
+over_work_at : (reading : Option (Result Workload WorkFault)) (G : Workload → Verdict → Type 0) (work : Workload) (v : Verdict) → OverWork reading G v
+    → reading ≡ Some (Ok work) → G work v
+over_work_at reading G work v over e = subst (λ r. OverWork r G v) e over
+
+verify_there : (fs : List ShelfFile) (work report : List ℕ) (cat : Catalogue) (v : Verdict) → ComesToVerify fs work report cat v → IsSome (find_file fs work)
+verify_there fs work report cat v p =
+    file_there (workload cat) (λ r. MatchResult r (λ w. ComesToVerdict fs report cat w v) (λ fault. v ≡ FaultyWorkload fault)) (find_file fs work) p
+
 -- a status in place of a report
 pub explains_end : (end : WorldEnd) (P : Verdict → Type 0) → (end ≡ ends.Limit → P PastLimit) → Explains (status_of_end end) P
 explains_end ends.Limit P limit = limit refl
@@ -258,6 +286,16 @@ form_there fs (Plain cat work) v p = (
 )
 form_there fs (Control file) v p = work_there control_script control_verdict v (find_file fs file) p
 form_there fs (Make seed count) v p = tt
+form_there fs (Verify cat work report) v p = (
+  (
+    over_there fs cat (ComesToVerify fs work report) v p,
+    λ says e first. verify_there fs work report says v (over_at (catalogue_named fs cat) (ComesToVerify fs work report) says v p e),
+  ),
+  λ says asks e f.
+      some_there (judged_as says asks) v (find_file fs report)
+      (over_work_at (workload_named fs says work) (ComesToVerdict fs report says) asks v (over_at (catalogue_named fs cat) (ComesToVerify fs work report) says v p e) f),
+)
+form_there fs (Advise cat) v p = over_there fs cat (ComesToListing listings.Advice) v p
 
 words_there : (fs : List ShelfFile) (form : Option Form) (v : Verdict) → MatchOption form (v ≡ NoForm) (λ f. FormComesTo fs f v) → MatchOption form (Unit {0}) (FilesOf fs)
 words_there fs None v p = tt
@@ -267,11 +305,11 @@ pub files_there : (fs : List ShelfFile) (ws : List (List ℕ)) (v : Verdict) →
 files_there fs ws v p = words_there fs (form_in ws) v p
 
 -- two files that were opened one after the other and read to their ends
-pub two_ended : (was between now : ℕ → Type 0) (unread_between unread_now was_unread : ℕ → Option (List ℕ)) (f g : ℕ)
-    → IsRead was between unread_between ToItsEnd f → KeepsOpen (λ _. Unit {0}) was between was_unread unread_between
-    → IsRead between now unread_now ToItsEnd g → KeepsOpen (λ _. Unit {0}) between now unread_between unread_now
-    → FilesRead was now unread_now (ToItsEnd ∷ ToItsEnd ∷ [])
-two_ended was between now unread_between unread_now was_unread f g first keep1 second keep2 =
+pub two_ended : (files files2 : Option (List ShelfFile)) (was between now : ℕ → Type 0) (unread_between unread_now was_unread : ℕ → Option (List ℕ)) (f g : ℕ)
+    → IsRead files was between unread_between ToItsEnd f → KeepsOpen (λ _. Unit {0}) was between was_unread unread_between
+    → IsRead files2 between now unread_now ToItsEnd g → KeepsOpen (λ _. Unit {0}) between now unread_between unread_now
+    → FilesRead files was now unread_now (ToItsEnd ∷ ToItsEnd ∷ [])
+two_ended files files2 was between now unread_between unread_now was_unread f g first keep1 second keep2 =
     let later = keep2 f tt first.opened in
     record {
       files = f ∷ g ∷ [];
@@ -282,10 +320,40 @@ two_ended was between now unread_between unread_now was_unread f g first keep1 s
       );
     }
 
-pub one_ended : (was now : ℕ → Type 0) (unread : ℕ → Option (List ℕ)) (f : ℕ) → IsRead was now unread ToItsEnd f → FilesRead was now unread (ToItsEnd ∷ [])
-one_ended was now unread f first = record { files = f ∷ []; read = (first, tt, tt) }
+-- and a third
+pub three_ended : (files files2 files3 : Option (List ShelfFile)) (was second third now : ℕ → Type 0) (was_unread unread2 unread3 unread : ℕ → Option (List ℕ)) (limit : ℕ)
+    (name : List ℕ) (f g h : ℕ) → files3 ≡ files
+    → IsRead files was second unread2 ToItsEnd f → KeepsOpen (λ _. Unit {0}) was second was_unread unread2
+    → IsRead files2 second third unread3 ToItsEnd g → KeepsOpen (λ _. Unit {0}) second third unread2 unread3
+    → IsRead files3 third now unread (ToItsLimit limit name) h → KeepsOpen (λ _. Unit {0}) third now unread3 unread
+    → FilesRead files was now unread (ToItsEnd ∷ ToItsEnd ∷ ToItsLimit limit name ∷ [])
+three_ended files files2 files3 was second third now was_unread unread2 unread3 unread limit name f g h same a keep1 b keep2 c keep3 =
+    let a2 = keep2 f tt a.opened in
+    let a3 = keep3 f tt a2.0 in
+    let b3 = keep3 g tt b.opened in
+    let c' = subst (λ fs. IsRead fs third now unread (ToItsLimit limit name) h) same c in
+    record {
+      files = f ∷ g ∷ h ∷ [];
+      read = (
+        record { fresh = a.fresh; opened = a3.0; ended = rw (a3.1 ∙ a2.1) a.ended },
+        ((λ e. b.fresh (subst second e a.opened)), ((λ e. c.fresh (subst third e a2.0)), tt)),
+        (
+          record { fresh = λ was_g. b.fresh (keep1 g tt was_g).0; opened = b3.0; ended = rw b3.1 b.ended },
+          ((λ e. c.fresh (subst third e b.opened)), tt),
+          (
+            record { fresh = λ was_h. c'.fresh (keep2 h tt (keep1 h tt was_h).0).0; opened = c'.opened; ended = c'.ended },
+            tt,
+            tt,
+          ),
+        ),
+      );
+    }
+
+pub one_ended : (files : Option (List ShelfFile)) (was now : ℕ → Type 0) (unread : ℕ → Option (List ℕ)) (f : ℕ) → IsRead files was now unread ToItsEnd f
+    → FilesRead files was now unread (ToItsEnd ∷ [])
+one_ended files was now unread f first = record { files = f ∷ []; read = (first, tt, tt) }
 
 -- of a command that reads no file
-pub none_read : {T : Type 0} (r : Result T Status) (was now : ℕ → Type 0) (unread : ℕ → Option (List ℕ)) → OnOk r (FilesRead was now unread [])
-none_read (Ok v) was now unread = record { files = []; read = tt }
-none_read (Err s) was now unread = tt
+pub none_read : {T : Type 0} (r : Result T Status) (files : Option (List ShelfFile)) (was now : ℕ → Type 0) (unread : ℕ → Option (List ℕ)) → OnOk r (FilesRead files was now unread [])
+none_read (Ok v) files was now unread = record { files = []; read = tt }
+none_read (Err s) files was now unread = tt

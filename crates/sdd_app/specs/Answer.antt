@@ -12,12 +12,14 @@ use Rattle.sdd_control.specs.declared.script.ControlScript.{ControlScript}
 use Rattle.sdd_script.specs.Walk.{workload}
 use Rattle.sdd_script.specs.declared.fault.WorkFault.{WorkFault}
 use Rattle.sdd_script.specs.declared.workload.Workload.{Workload}
+use Rattle.sdd_verify.specs.Verdict as judging
 use Rattle.sdd_make.specs.Bank.{bank}
 use Rattle.sdd_make.specs.Turns.{workload_of}
 use Rattle.sdd_run.specs.Runs.{EndsAtLimit, IsReportOn, IsSummaryOn}
 use Rattle.sdd_app.specs.declared.listing.Listing.{Listing}
 use Rattle.sdd_app.specs.declared.listing.Listing.TheVariants as listings
-use Rattle.sdd_app.specs.Command.{Form, Check, Graph, Table, Run, Plain, Control, Make, form_in}
+use Rattle.sdd_app.specs.Command.{Form, Check, Graph, Table, Run, Plain, Control, Make, Verify, Advise, form_in}
+use Rattle.sdd_app.specs.Judging.{verdict_line}
 use Rattle.sdd_app.specs.Listing.{Tells}
 use Rattle.sdd_app.specs.Serially.{serial_text}
 use Rattle.sdd_app.specs.Verdict.{Verdict, NoForm, Prints, FaultyCatalogue, FaultyWorkload, PastLimit}
@@ -74,6 +76,16 @@ ComesToSummary cat work verdict = TellsOfRun (IsSummaryOn cat work) cat work ver
 abbrev pub ComesToRun : List ShelfFile → List ℕ → Catalogue → Verdict → Type 0
 ComesToRun files work cat verdict = OverWorkload files cat work (ComesToReport cat) verdict
 
+-- the report in the file of this name is judged against one plain database
+abbrev pub judged_as : Catalogue → Workload → List ℕ → Verdict
+judged_as cat work report = Prints (verdict_line (judging.verdict cat work report))
+
+abbrev pub ComesToVerdict : List ShelfFile → List ℕ → Catalogue → Workload → Verdict → Type 0
+ComesToVerdict files report cat work verdict = option_map (judged_as cat work) (find_file files report) ≡ Some verdict
+
+abbrev pub ComesToVerify : List ShelfFile → List ℕ → List ℕ → Catalogue → Verdict → Type 0
+ComesToVerify files work report cat verdict = OverWorkload files cat work (ComesToVerdict files report cat) verdict
+
 -- the script of transaction control that the file of this name gives, or its first fault
 abbrev pub script_named : List ShelfFile → List ℕ → Option (Result ControlScript WorkFault)
 script_named files name = option_map control_script (find_file files name)
@@ -95,6 +107,8 @@ FormComesTo files (Run cat work) verdict = OverCatalogue files cat (ComesToRun f
 FormComesTo files (Plain cat work) verdict = OverCatalogue files cat (ComesToPlain files work) verdict
 FormComesTo files (Control file) verdict = ComesToControl files file verdict
 FormComesTo files (Make seed count) verdict = ComesToSummary bank (workload_of seed count) verdict
+FormComesTo files (Verify cat work report) verdict = OverCatalogue files cat (ComesToVerify files work report) verdict
+FormComesTo files (Advise cat) verdict = OverCatalogue files cat (ComesToListing listings.Advice) verdict
 
 -- what a call of these words comes to
 abbrev pub ComesTo : List ShelfFile → List (List ℕ) → Verdict → Type 0
@@ -107,6 +121,12 @@ HasFiles files cat work GoesOn =
     IsSome (find_file files cat)
     × ((says : Catalogue) → catalogue_named files cat ≡ Some (Ok says) → GoesOn says → IsSome (find_file files work))
 
+-- where it goes on over both, that of a report
+abbrev pub HasReport : List ShelfFile → List ℕ → List ℕ → List ℕ → Type 0
+HasReport files cat work report =
+    (says : Catalogue) (asks : Workload) → catalogue_named files cat ≡ Some (Ok says) → workload_named files says work ≡ Some (Ok asks)
+    → IsSome (find_file files report)
+
 -- the files that a command of this form reads are there
 abbrev pub FilesOf : List ShelfFile → Form → Type 0
 FilesOf files (Check cat) = IsSome (find_file files cat)
@@ -116,6 +136,8 @@ FilesOf files (Run cat work) = HasFiles files cat work (λ _. Unit {0})
 FilesOf files (Plain cat work) = HasFiles files cat work (λ _. Unit {0})
 FilesOf files (Control file) = IsSome (find_file files file)
 FilesOf files (Make seed count) = Unit {0}
+FilesOf files (Verify cat work report) = HasFiles files cat work (λ _. Unit {0}) × HasReport files cat work report
+FilesOf files (Advise cat) = IsSome (find_file files cat)
 
 -- the files that a call of these words reads are there
 abbrev pub FilesAreThere : List ShelfFile → List (List ℕ) → Type 0

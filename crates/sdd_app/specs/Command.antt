@@ -14,6 +14,8 @@ pub data Form : Type 0 where
   Plain : List ℕ → List ℕ → Form
   Control : List ℕ → Form
   Make : ℕ → ℕ → Form
+  Verify : List ℕ → List ℕ → List ℕ → Form
+  Advise : List ℕ → Form
 
 -- a seed is below 2^31, and at most 2,048 transactions are made
 abbrev pub IsForm : Form → Type 0
@@ -28,6 +30,8 @@ words_of (Run cat work) = codes "run" ∷ cat ∷ work ∷ []
 words_of (Plain cat work) = codes "plain" ∷ cat ∷ work ∷ []
 words_of (Control file) = codes "control" ∷ file ∷ []
 words_of (Make seed count) = codes "make" ∷ decimal seed ∷ decimal count ∷ []
+words_of (Verify cat work report) = codes "verify" ∷ cat ∷ work ∷ report ∷ []
+words_of (Advise cat) = codes "advise" ∷ cat ∷ []
 
 -- the words are none of the forms
 abbrev pub IsNoForm : List (List ℕ) → Type 0
@@ -46,6 +50,7 @@ form_of_two name cat =
     else if bytes_eq name (codes "graph") then Some (Graph cat)
     else if bytes_eq name (codes "table") then Some (Table cat)
     else if bytes_eq name (codes "control") then Some (Control cat)
+    else if bytes_eq name (codes "advise") then Some (Advise cat)
     else None
 
 abbrev pub made : Option ℕ → Option ℕ → Option Form
@@ -61,10 +66,15 @@ form_of_three name first second =
     else if bytes_eq name (codes "make") then made (count_in (2 ^ 31) first) (count_in 2049 second)
     else None
 
+-- and four
+abbrev pub form_of_four : List ℕ → List ℕ → List ℕ → List ℕ → Option Form
+form_of_four name cat work report = if bytes_eq name (codes "verify") then Some (Verify cat work report) else None
+
 -- the form that the words have
 unfoldable pub form_in : List (List ℕ) → Option Form
 form_in (name ∷ cat ∷ []) = form_of_two name cat
 form_in (name ∷ first ∷ second ∷ []) = form_of_three name first second
+form_in (name ∷ cat ∷ work ∷ report ∷ []) = form_of_four name cat work report
 form_in words = None
 
 abbrev pub form_of : Command → Form
@@ -75,6 +85,8 @@ form_of (commands.Run cat work) = Run cat.now work.now
 form_of (commands.Plain cat work) = Plain cat.now work.now
 form_of (commands.Control file) = Control file.now
 form_of (commands.Make seed count) = Make seed count
+form_of (commands.Verify cat work report) = Verify cat.now work.now report.now
+form_of (commands.Advise cat) = Advise cat.now
 
 -- the command makes an input of these words
 abbrev pub MakesBy : List ℕ → List ℕ → Command → Type 0

@@ -3,6 +3,7 @@ use Rattle.std.specs.Prelude.{ℕ, ◌≡◌, List}
 use Rattle.sdd_catalog.specs.Catalogue.{Catalogue}
 use Rattle.sdd_protocol.specs.declared.entry.Entry.{Entry}
 use Rattle.sdd_protocol.specs.Protocols.{IsTable}
+use Rattle.sdd_advise.specs.Texts.{IsAdviceText}
 use Rattle.sdd_app.specs.declared.listing.Listing.{Listing}
 use Rattle.sdd_app.specs.declared.listing.Listing.TheVariants as listings
 use Rattle.sdd_app.specs.Check.{check_line}
@@ -19,3 +20,4 @@ abbrev pub Tells : Listing → Catalogue → List ℕ → Type 0
 Tells listings.Counts cat text = text ≡ check_line cat
 Tells listings.Graph cat text = TellsTable cat graph_text text
 Tells listings.Table cat text = TellsTable cat table_text text
+Tells listings.Advice cat text = IsAdviceText cat text

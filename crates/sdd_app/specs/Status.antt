@@ -98,7 +98,7 @@ work_fault_line fault = codes "workload: line " ++ (decimal fault.line ++ (codes
 -- the line on standard error
 abbrev pub line_of : Status → List ℕ
 line_of Done = []
-line_of Usage = codes "usage: sdd1 check CAT | graph CAT | table CAT | run CAT WORK | plain CAT WORK | make SEED N | control FILE\n"
+line_of Usage = codes "usage: sdd1 check CAT | graph CAT | table CAT | run CAT WORK | plain CAT WORK | make SEED N | control FILE | verify CAT WORK REPORT | advise CAT\n"
 line_of (BadCatalogue fault) = fault_line fault
 line_of (BadWorkload fault) = work_fault_line fault
 line_of ReadFault = codes "read fault\n"

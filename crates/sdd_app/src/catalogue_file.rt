@@ -53,7 +53,7 @@ pub fn accepted_catalogue<S: Shelf>(
 ) -> Result<Catalogue, Status>
     ensures told { (fs : List ShelfFile) → S.files shelf.old ≡ Some fs → MatchResult result
         (λ cat. catalogue_named fs name.now ≡ Some (Ok cat)) (λ s. Explains s (BlamesCatalogue (catalogue_named fs name.now))) }
-    ensures ended { OnOk result ((file : ℕ) × IsRead (S.is_open shelf.old) (S.is_open shelf.new) (S.unread shelf.new) ToItsEnd file) }
+    ensures ended { OnOk result ((file : ℕ) × IsRead (S.files shelf.old) (S.is_open shelf.old) (S.is_open shelf.new) (S.unread shelf.new) ToItsEnd file) }
     ensures others { KeepsOpen (λ _. Unit {0}) (S.is_open shelf.old) (S.is_open shelf.new) (S.unread shelf.old) (S.unread shelf.new) }
     ensures files { S.files shelf.new ≡ S.files shelf.old }
     ensures later { S.faults shelf.old ≤ S.faults shelf.new }

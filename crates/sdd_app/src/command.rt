@@ -4,7 +4,7 @@ ghost use Rattle.sdd_app.specs.Command.{Form, IsForm, MakesBy, words_of, form_of
 
 use sdd_words::read_count;
 
-/// What the words of the command line ask for. CAT and WORK are names of files.
+/// What the words of the command line ask for. CAT, WORK and REPORT are names of files.
 #[derive(Clone, Copy)]
 pub enum Command<'a> {
     Check(&'a str),
@@ -16,6 +16,8 @@ pub enum Command<'a> {
     Control(&'a str),
     /// A seed and a number of transactions.
     Make(u32, u32),
+    Verify(&'a str, &'a str, &'a str),
+    Advise(&'a str),
 }
 
 /// The command that has these words.
@@ -29,12 +31,17 @@ pub fn parse_words<'a>(words: &'a [String]) -> Option<Command<'a>>
             "graph" => Some(Command::Graph(cat.as_str())),
             "table" => Some(Command::Table(cat.as_str())),
             "control" => Some(Command::Control(cat.as_str())),
+            "advise" => Some(Command::Advise(cat.as_str())),
             _ => None,
         },
         [name, first, second] => match name.as_str() {
             "run" => Some(Command::Run(first.as_str(), second.as_str())),
             "plain" => Some(Command::Plain(first.as_str(), second.as_str())),
             "make" => make_of(first.as_str(), second.as_str()),
+            _ => None,
+        },
+        [name, cat, work, report] => match name.as_str() {
+            "verify" => Some(Command::Verify(cat.as_str(), work.as_str(), report.as_str())),
             _ => None,
         },
         _ => None,

@@ -33,7 +33,7 @@ fn accepted_script<S: Shelf>(
     ensures told { (fs : List ShelfFile) → S.files shelf.old ≡ Some fs → MatchResult result
         (λ s. script_named fs name.now ≡ Some (Ok s)) (λ s. Explains s (BlamesScript (script_named fs name.now))) }
     ensures sound { IfOk result IsSound }
-    ensures ended { OnOk result ((file : ℕ) × IsRead (S.is_open shelf.old) (S.is_open shelf.new) (S.unread shelf.new) ToItsEnd file) }
+    ensures ended { OnOk result ((file : ℕ) × IsRead (S.files shelf.old) (S.is_open shelf.old) (S.is_open shelf.new) (S.unread shelf.new) ToItsEnd file) }
     ensures fault { IfErr result (λ s. s ≡ Status.ReadFault → Rose (S.faults shelf.old) (S.faults shelf.new)) }
     ensures errors { IfErr result ComesOfFiles }
     ensures surely { (free : ℕ) (fs : List ShelfFile) → S.sure shelf.old (free + 1) → S.files shelf.old ≡ Some fs → IsSome (find_file fs name.now)
@@ -46,7 +46,7 @@ fn accepted_script<S: Shelf>(
 /// What `control` answers over the script in the file.
 pub fn control_answer<S: Shelf>(alloc: Global, shelf: &mut S, file: &str) -> Result<Vec<u8>, Status>
     ensures told { (fs : List ShelfFile) → S.files shelf.old ≡ Some fs → Answers result (λ v. v.items) (ComesToControl fs file.now) }
-    ensures ended { OnOk result (FilesRead (S.is_open shelf.old) (S.is_open shelf.new) (S.unread shelf.new) (ToItsEnd ∷ [])) }
+    ensures ended { OnOk result (FilesRead (S.files shelf.old) (S.is_open shelf.old) (S.is_open shelf.new) (S.unread shelf.new) (ToItsEnd ∷ [])) }
     ensures fault { IfErr result (λ s. s ≡ Status.ReadFault → Rose (S.faults shelf.old) (S.faults shelf.new)) }
     ensures errors { IfErr result ComesOfFiles }
     ensures surely { (free : ℕ) (fs : List ShelfFile) → S.sure shelf.old (free + 1) → S.files shelf.old ≡ Some fs → IsSome (find_file fs file.now)

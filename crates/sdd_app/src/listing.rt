@@ -11,6 +11,7 @@ use crate::catalogue_file::accepted_catalogue;
 use crate::check::counts;
 use crate::edges::{graph_text, table_text};
 use crate::status::Status;
+use sdd_advise::advice_text;
 use sdd_base::{NoMemory, Shelf};
 use sdd_catalog::Catalogue;
 use sdd_protocol::table;
@@ -25,6 +26,8 @@ pub enum Listing {
     Graph,
     /// The diagonal edges with their protocols.
     Table,
+    /// Why each diagonal edge has its protocol.
+    Advice,
 }
 
 /// What is told of the catalogue.
@@ -41,6 +44,7 @@ fn listed(alloc: Global, catalogue: &Catalogue, listing: Listing) -> Result<Vec<
             let table = table(alloc, catalogue)?;
             table_text(alloc, catalogue, &table)
         }
+        Listing::Advice => advice_text(alloc, catalogue),
     }
 }
 
@@ -53,7 +57,7 @@ pub fn listing_answer<S: Shelf>(
 ) -> Result<Vec<u8>, Status>
     ensures told { (fs : List ShelfFile) → S.files shelf.old ≡ Some fs
         → Answers result (λ v. v.items) (OverCatalogue fs catalogue.now (ComesToListing listing)) }
-    ensures ended { OnOk result (FilesRead (S.is_open shelf.old) (S.is_open shelf.new) (S.unread shelf.new) (ToItsEnd ∷ [])) }
+    ensures ended { OnOk result (FilesRead (S.files shelf.old) (S.is_open shelf.old) (S.is_open shelf.new) (S.unread shelf.new) (ToItsEnd ∷ [])) }
     ensures fault { IfErr result (λ s. s ≡ Status.ReadFault → Rose (S.faults shelf.old) (S.faults shelf.new)) }
     ensures errors { IfErr result ComesOfFiles }
     ensures surely { (free : ℕ) (fs : List ShelfFile) → S.sure shelf.old (free + 1) → S.files shelf.old ≡ Some fs → IsSome (find_file fs catalogue.now)

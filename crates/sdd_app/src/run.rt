@@ -12,6 +12,7 @@ ghost use Rattle.sdd_app.specs.Verdict.{Verdict, Prints, FaultyCatalogue, Faulty
 
 use crate::command::{Command, parse_words};
 use crate::control_file::control_answer;
+use crate::judging::verify_answer;
 use crate::listing::{Listing, listing_answer};
 use crate::made_input::make_answer;
 use crate::status::Status;
@@ -24,11 +25,11 @@ use std::alloc::Global;
 fn carried_out<S: Shelf>(alloc: Global, command: Command, shelf: &mut S) -> Result<Vec<u8>, Status>
     requires { IsForm (form_of command) }
     ensures told { (fs : List ShelfFile) → S.files shelf.old ≡ Some fs → Answers result (λ v. v.items) (FormComesTo fs (form_of command.entry)) }
-    ensures ended { OnOk result (FormEnds (S.is_open shelf.old) (S.is_open shelf.new) (S.unread shelf.new) (form_of command.entry)) }
+    ensures ended { OnOk result (FormEnds (S.files shelf.old) (S.is_open shelf.old) (S.is_open shelf.new) (S.unread shelf.new) (form_of command.entry)) }
     ensures fault { IfErr result (λ s. s ≡ Status.ReadFault → Rose (S.faults shelf.old) (S.faults shelf.new)) }
     ensures errors { IfErr result ComesOfFiles }
     ensures untouched { IsWithoutFiles (form_of command.entry) → shelf.new ≡ shelf.old }
-    ensures surely { (free : ℕ) (fs : List ShelfFile) → S.sure shelf.old (free + 1 + 1) → S.files shelf.old ≡ Some fs → FilesOf fs (form_of command.entry)
+    ensures surely { (free : ℕ) (fs : List ShelfFile) → S.sure shelf.old (free + 1 + 1 + 1) → S.files shelf.old ≡ Some fs → FilesOf fs (form_of command.entry)
         → IfErr result (λ s. s ≡ Status.ReadFault → ⊥) × (S.faults shelf.new ≡ S.faults shelf.old) }
 {
     match command {
@@ -39,18 +40,22 @@ fn carried_out<S: Shelf>(alloc: Global, command: Command, shelf: &mut S) -> Resu
         Command::Plain(catalogue, workload) => plain_answer(alloc, shelf, catalogue, workload),
         Command::Control(file) => control_answer(alloc, shelf, file),
         Command::Make(seed, count) => make_answer(alloc, seed, count),
+        Command::Verify(catalogue, workload, report) => {
+            verify_answer(alloc, shelf, catalogue, workload, report)
+        }
+        Command::Advise(catalogue) => listing_answer(alloc, shelf, catalogue, Listing::Advice),
     }
 }
 
 /// The text for the words, or the status of a call that prints none.
 fn answer<S: Shelf>(alloc: Global, words: &[String], shelf: &mut S) -> Result<Vec<u8>, Status>
     ensures told { (fs : List ShelfFile) → S.files shelf.old ≡ Some fs → Answers result (λ v. v.items) (ComesTo fs (map string_bytes words.now)) }
-    ensures ended { OnOk result (AtTheirEnds (map string_bytes words.now) (S.is_open shelf.old) (S.is_open shelf.new) (S.unread shelf.new)) }
+    ensures ended { OnOk result (AtTheirEnds (map string_bytes words.now) (S.files shelf.old) (S.is_open shelf.old) (S.is_open shelf.new) (S.unread shelf.new)) }
     ensures usage { IsErrOf result Status.Usage ↔ IsNoForm (map string_bytes words.now) }
     ensures fault { IfErr result (λ s. s ≡ Status.ReadFault → Rose (S.faults shelf.old) (S.faults shelf.new)) }
     ensures errors { IfErr result (λ s. (s ≡ Status.Done → ⊥) × (s ≡ Status.WriteFault → ⊥)) }
     ensures untouched { OpensNoFile (map string_bytes words.now) → shelf.new ≡ shelf.old }
-    ensures surely { (free : ℕ) (fs : List ShelfFile) → S.sure shelf.old (free + 1 + 1) → S.files shelf.old ≡ Some fs → FilesAreThere fs (map string_bytes words.now)
+    ensures surely { (free : ℕ) (fs : List ShelfFile) → S.sure shelf.old (free + 1 + 1 + 1) → S.files shelf.old ≡ Some fs → FilesAreThere fs (map string_bytes words.now)
         → IfErr result (λ s. s ≡ Status.ReadFault → ⊥) × (S.faults shelf.new ≡ S.faults shelf.old) }
 {
     match parse_words(words) {
@@ -62,8 +67,8 @@ fn answer<S: Shelf>(alloc: Global, words: &[String], shelf: &mut S) -> Result<Ve
 /// Does all that the program does: takes the words behind the program's name, reads the files that
 /// they name from the shelf, writes the whole text to `out` or else the status's line to `err`.
 ///
-/// The words are judged first, then the catalogue is read and judged, then the workload. At most two
-/// of the shelf's places are taken. Nothing is written before the text is whole. Reading takes time
+/// The words are judged first, then the catalogue is read and judged, then the workload, then a report.
+/// At most three of the shelf's places are taken. Nothing is written before the text is whole. Reading takes time
 /// linear in the files, but for the square of the catalogue's parts; transactions cost what they do on
 /// one plain database, and runs what their events cost.
 pub fn run_sdd1<S: Shelf, O: Sink, E: Sink>(
@@ -77,7 +82,7 @@ pub fn run_sdd1<S: Shelf, O: Sink, E: Sink>(
     ensures done { result ≡ Status.Done → (fs : List ShelfFile) → S.files shelf.old ≡ Some fs → (text : List ℕ)
         × ComesTo fs (map string_bytes words.now) (Prints text) × (O.taken out.new ≡ with_end (O.taken out.old) text) }
     ensures ended { result ≡ Status.Done
-        → AtTheirEnds (map string_bytes words.now) (S.is_open shelf.old) (S.is_open shelf.new) (S.unread shelf.new) }
+        → AtTheirEnds (map string_bytes words.now) (S.files shelf.old) (S.is_open shelf.old) (S.is_open shelf.new) (S.unread shelf.new) }
 
     // Why another status comes.
     ensures usage { (result ≡ Status.Usage) ↔ IsNoForm (map string_bytes words.now) }
@@ -103,10 +108,10 @@ pub fn run_sdd1<S: Shelf, O: Sink, E: Sink>(
         → (result ≡ Status.Done) ⊎ (result ≡ Status.NoMemory) }
     ensures refused { (fs : List ShelfFile) (v : Verdict) → S.files shelf.old ≡ Some fs → ComesTo fs (map string_bytes words.now) v → IsRefusal v
         → (Rose (S.faults shelf.old) (S.faults shelf.new) → ⊥) → (result ≡ status_of v) ⊎ (result ≡ Status.NoMemory) }
-    ensures surely { (free room : ℕ) (fs : List ShelfFile) (text : List ℕ) → S.sure shelf.old (free + 1 + 1) → O.sure out.old room
+    ensures surely { (free room : ℕ) (fs : List ShelfFile) (text : List ℕ) → S.sure shelf.old (free + 1 + 1 + 1) → O.sure out.old room
         → S.files shelf.old ≡ Some fs → ((each : List ℕ) → ComesTo fs (map string_bytes words.now) (Prints each) → length each ≤ room)
         → ComesTo fs (map string_bytes words.now) (Prints text) → (result ≡ Status.Done) ⊎ (result ≡ Status.NoMemory) }
-    ensures surely_refused { (free : ℕ) (fs : List ShelfFile) (v : Verdict) → S.sure shelf.old (free + 1 + 1) → S.files shelf.old ≡ Some fs
+    ensures surely_refused { (free : ℕ) (fs : List ShelfFile) (v : Verdict) → S.sure shelf.old (free + 1 + 1 + 1) → S.files shelf.old ≡ Some fs
         → ComesTo fs (map string_bytes words.now) v → IsRefusal v → (result ≡ status_of v) ⊎ (result ≡ Status.NoMemory) }
 
     // Words of no form, and those of a form that opens no file, leave the shelf as it was.
@@ -114,7 +119,7 @@ pub fn run_sdd1<S: Shelf, O: Sink, E: Sink>(
 
     // Over a sure shelf that has the files, and sinks that are sure to take what is written, no count
     // rises, whatever the answer.
-    ensures shelf_still { (free : ℕ) (fs : List ShelfFile) → S.sure shelf.old (free + 1 + 1) → S.files shelf.old ≡ Some fs
+    ensures shelf_still { (free : ℕ) (fs : List ShelfFile) → S.sure shelf.old (free + 1 + 1 + 1) → S.files shelf.old ≡ Some fs
         → FilesAreThere fs (map string_bytes words.now) → S.faults shelf.new ≡ S.faults shelf.old }
     ensures out_still { (room : ℕ) (fs : List ShelfFile) → O.sure out.old room → S.files shelf.old ≡ Some fs
         → ((each : List ℕ) → ComesTo fs (map string_bytes words.now) (Prints each) → length each ≤ room)

@@ -10,7 +10,7 @@ use sdd_catalog::{CatFault, CatRule, Counted, Part};
 use sdd_script::{Counts, WorkFault, WorkRule};
 
 const USAGE: &[u8] =
-    b"usage: sdd1 check CAT | graph CAT | table CAT | run CAT WORK | plain CAT WORK | make SEED N | control FILE\n";
+    b"usage: sdd1 check CAT | graph CAT | table CAT | run CAT WORK | plain CAT WORK | make SEED N | control FILE | verify CAT WORK REPORT | advise CAT\n";
 
 /// Writes pieces one after the other, until a call fails.
 fn tell_pieces<E: Sink>(err: &mut E, pieces: &[&[u8]])

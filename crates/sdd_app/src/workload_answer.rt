@@ -36,7 +36,7 @@ pub fn plain_answer<S: Shelf>(
 ) -> Result<Vec<u8>, Status>
     ensures told { (fs : List ShelfFile) → S.files shelf.old ≡ Some fs
         → Answers result (λ v. v.items) (OverCatalogue fs catalogue.now (ComesToPlain fs workload.now)) }
-    ensures ended { OnOk result (FilesRead (S.is_open shelf.old) (S.is_open shelf.new) (S.unread shelf.new) (ToItsEnd ∷ ToItsEnd ∷ [])) }
+    ensures ended { OnOk result (FilesRead (S.files shelf.old) (S.is_open shelf.old) (S.is_open shelf.new) (S.unread shelf.new) (ToItsEnd ∷ ToItsEnd ∷ [])) }
     ensures fault { IfErr result (λ s. s ≡ Status.ReadFault → Rose (S.faults shelf.old) (S.faults shelf.new)) }
     ensures errors { IfErr result ComesOfFiles }
     ensures surely { (free : ℕ) (fs : List ShelfFile) → S.sure shelf.old (free + 1 + 1) → S.files shelf.old ≡ Some fs
@@ -57,7 +57,7 @@ pub fn run_answer<S: Shelf>(
 ) -> Result<Vec<u8>, Status>
     ensures told { (fs : List ShelfFile) → S.files shelf.old ≡ Some fs
         → Answers result (λ v. v.items) (OverCatalogue fs catalogue.now (ComesToRun fs workload.now)) }
-    ensures ended { OnOk result (FilesRead (S.is_open shelf.old) (S.is_open shelf.new) (S.unread shelf.new) (ToItsEnd ∷ ToItsEnd ∷ [])) }
+    ensures ended { OnOk result (FilesRead (S.files shelf.old) (S.is_open shelf.old) (S.is_open shelf.new) (S.unread shelf.new) (ToItsEnd ∷ ToItsEnd ∷ [])) }
     ensures fault { IfErr result (λ s. s ≡ Status.ReadFault → Rose (S.faults shelf.old) (S.faults shelf.new)) }
     ensures errors { IfErr result ComesOfFiles }
     ensures surely { (free : ℕ) (fs : List ShelfFile) → S.sure shelf.old (free + 1 + 1) → S.files shelf.old ≡ Some fs

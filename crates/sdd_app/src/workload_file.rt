@@ -37,8 +37,9 @@ pub fn accepted_workload<S: Shelf>(
         (λ w. workload_named fs catalogue.now name.now ≡ Some (Ok w))
         (λ s. Explains s (BlamesWorkload (workload_named fs catalogue.now name.now))) }
     ensures valid { IfOk result (λ w. IsValid catalogue.now w) }
-    ensures ended { OnOk result ((file : ℕ) × IsRead (S.is_open shelf.old) (S.is_open shelf.new) (S.unread shelf.new) ToItsEnd file) }
+    ensures ended { OnOk result ((file : ℕ) × IsRead (S.files shelf.old) (S.is_open shelf.old) (S.is_open shelf.new) (S.unread shelf.new) ToItsEnd file) }
     ensures others { KeepsOpen (λ _. Unit {0}) (S.is_open shelf.old) (S.is_open shelf.new) (S.unread shelf.old) (S.unread shelf.new) }
+    ensures files { S.files shelf.new ≡ S.files shelf.old }
     ensures later { S.faults shelf.old ≤ S.faults shelf.new }
     ensures fault { IfErr result (λ s. s ≡ Status.ReadFault → Rose (S.faults shelf.old) (S.faults shelf.new)) }
     ensures errors { IfErr result ComesOfFiles }

@@ -14,7 +14,7 @@ returns-clause-told g c = λ fs told.
     reports_control fs c.args.file.now c.in_ok-script.script c.into_vec.result.items (c.in_ok-script.ensures.told fs told) (rw c.into_vec.ensures c.in_ok-text.ensures)
 
 pub returns-clause-ended : goal.returns-clause-ended
-returns-clause-ended g c = let e = c.in_ok-script.ensures.ended in one_ended _ _ _ e.0 e.1
+returns-clause-ended g c = let e = c.in_ok-script.ensures.ended in one_ended _ _ _ _ e.0 e.1
 
 pub returns-in_err-script-clause-surely : goal.returns-in_err-script-clause-surely
 returns-in_err-script-clause-surely g c = λ free fs sure told some.

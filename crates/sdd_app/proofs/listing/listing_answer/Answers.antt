@@ -22,7 +22,7 @@ returns-clause-told g c = λ fs told.
     goes_on fs c.args.catalogue.now (ComesToListing c.args.listing) c.in_ok-catalogue.catalogue (Prints c.in_ok-listed.field-0.items) (c.in_ok-catalogue.ensures.told fs told) c.in_ok-listed.ensures
 
 pub returns-clause-ended : goal.returns-clause-ended
-returns-clause-ended g c = let e = c.in_ok-catalogue.ensures.ended in one_ended _ _ _ e.0 e.1
+returns-clause-ended g c = let e = c.in_ok-catalogue.ensures.ended in one_ended _ _ _ _ e.0 e.1
 
 pub returns-in_err-listed-clause-surely : goal.returns-in_err-listed-clause-surely
 returns-in_err-listed-clause-surely g c = λ free fs sure told some.

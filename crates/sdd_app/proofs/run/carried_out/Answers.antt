@@ -1,5 +1,5 @@
 use Rattle.std.proofs.Common.{sym, subst}
-use Rattle.sdd_app.specs.Answer.{FormComesTo}
+use Rattle.sdd_app.specs.Answer.{FilesOf, FormComesTo}
 use Rattle.sdd_app.specs.Command.{IsForm, form_of}
 use Rattle.sdd_app.specs.Verdict.{Answers}
 use Rattle.sdd_app.proofs.Verdicts.{none_read}
@@ -37,4 +37,18 @@ returns-in-Make-clause-told g c = λ fs told.
     subst (λ command. Answers c.make_answer.result (λ v. v.items) (FormComesTo fs (form_of command))) (sym c.in-Make.is) c.make_answer.ensures.told
 
 pub returns-in-Make-clause-ended : goal.returns-in-Make-clause-ended
-returns-in-Make-clause-ended g c = rw c.in-Make.is (none_read c.make_answer.result _ _ _)
+returns-in-Make-clause-ended g c = rw c.in-Make.is (none_read c.make_answer.result _ _ _ _)
+
+pub returns-in-Verify-clause-told : goal.returns-in-Verify-clause-told
+returns-in-Verify-clause-told g c = λ fs told.
+    subst (λ command. Answers c.verify_answer.result (λ v. v.items) (FormComesTo fs (form_of command))) (sym c.in-Verify.is) (c.verify_answer.ensures.told fs told)
+
+pub returns-in-Verify-clause-surely : goal.returns-in-Verify-clause-surely
+returns-in-Verify-clause-surely g c = λ free fs sure told there.
+    let has = subst (λ command. FilesOf fs (form_of command)) c.in-Verify.is there in
+    c.verify_answer.ensures.surely free fs sure told has.0 has.1
+
+pub returns-in-Advise-clause-told : goal.returns-in-Advise-clause-told
+returns-in-Advise-clause-told g c = λ fs told.
+    subst (λ command. Answers c.listing_answer-in-Advise.result (λ v. v.items) (FormComesTo fs (form_of command))) (sym c.in-Advise.is)
+    (c.listing_answer-in-Advise.ensures.told fs told)

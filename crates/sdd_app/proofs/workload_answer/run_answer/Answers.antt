@@ -44,7 +44,7 @@ pub returns-clause-ended : goal.returns-clause-ended
 returns-clause-ended g c =
     let first = c.in_ok-catalogue.ensures in
     let second = c.in_ok-work.ensures in
-    two_ended _ _ _ _ _ _ first.ended.0 second.ended.0 first.ended.1 first.others second.ended.1 second.others
+    two_ended _ _ _ _ _ _ _ _ first.ended.0 second.ended.0 first.ended.1 first.others second.ended.1 second.others
 
 pub returns-in_err-catalogue-clause-surely : goal.returns-in_err-catalogue-clause-surely
 returns-in_err-catalogue-clause-surely g c = λ free fs sure told has.

@@ -1,0 +1,44 @@
+use Rattle.std.proofs.Common.{Some, ap, sym, ◌∙◌}
+use Rattle.std.proofs.lemmas.Result.{err_from_is_err_and}
+use Rattle.sdd_base.specs.Outside.{find_file}
+use Rattle.sdd_verify.specs.declared.limits.TheConstants.{MAX_REPORT_BYTES}
+use Rattle.sdd_app.specs.Answer.{ComesToVerdict, judged_as}
+use Rattle.sdd_app.specs.Verdict.{Prints}
+use Rattle.sdd_app.proofs.FileReads.{long_reports, read_gives, read_to_limit}
+use Rattle.sdd_app.proofs.Verdicts.{explains_more}
+use Rattle.sdd_app.proofs.judging.report_answer.Goals as goal
+
+pub returns-in_err-bytes-clause-told : goal.returns-in_err-bytes-clause-told
+returns-in_err-bytes-clause-told g c = λ fs told.
+    let p = err_from_is_err_and c.from_residual.result c.from_residual.ensures.1 in
+    rw (p.1, p.2) (explains_more c.in_err-bytes.field-0.0 (λ _. ⊥) (ComesToVerdict fs c.args.report.now c.args.catalogue.now c.args.work.now) (λ v no. absurd no) c.in_err-bytes.ensures.silent)
+
+pub returns-in_err-bytes-clause-surely : goal.returns-in_err-bytes-clause-surely
+returns-in_err-bytes-clause-surely g c = λ free fs sure told some.
+    let p = err_from_is_err_and c.from_residual.result c.from_residual.ensures.1 in
+    let k = c.in_err-bytes.ensures.surely free fs sure told some in
+    rw (p.1, p.2) (k.0, k.2)
+
+pub returns-in_err-judged-clause-surely : goal.returns-in_err-judged-clause-surely
+returns-in_err-judged-clause-surely g c = λ free fs sure told some.
+    let p = err_from_is_err_and c.from_residual-in_err-judged.result c.from_residual-in_err-judged.ensures.1 in
+    let k = c.in_ok-bytes.ensures.surely free fs sure told some in
+    rw (p.1, p.2) (λ is. absurd cc, k.2)
+
+pub returns-clause-told : goal.returns-clause-told
+returns-clause-told g c = λ fs told.
+    let cat = c.args.catalogue.now in
+    let work = c.args.work.now in
+    let text = c.in_ok-judged.field-0.items in
+    read_gives MAX_REPORT_BYTES (judged_as cat work) (long_reports cat work) (find_file fs c.args.report.now) c.as_slice.result.now
+    (rw c.as_slice.ensures.value (c.in_ok-bytes.ensures.read fs told))
+    ∙ ap (λ t. Some (Prints t)) (sym c.in_ok-judged.ensures)
+
+pub returns-clause-ended : goal.returns-clause-ended
+returns-clause-ended g c =
+    let e = c.in_ok-bytes.ensures.ended in
+    (e.0, record { fresh = e.1; opened = e.2; ended = read_to_limit _ MAX_REPORT_BYTES c.args.report.now c.in_ok-bytes.bytes.items _ c.in_ok-bytes.ensures.read e.3 })
+
+pub returns-clause-surely : goal.returns-clause-surely
+returns-clause-surely g c = λ free fs sure told some.
+    let k = c.in_ok-bytes.ensures.surely free fs sure told some in (tt, k.2)

@@ -1,0 +1,97 @@
+//! The command that judges a report.
+ghost use Rattle.std.specs.Prelude.{◌≡◌, ◌≤◌, ◌++◌, ◌+◌, ◌∷◌, [], ℕ, List, IfOk, OnOk, IfErr, IsSome, Some};
+ghost use Rattle.sdd_base.specs.declared.files.ShelfFile.{ShelfFile};
+ghost use Rattle.sdd_base.specs.Outside.{KeepsOpen, Rose, find_file};
+ghost use Rattle.sdd_script.specs.Valid.{IsValid};
+ghost use Rattle.sdd_verify.specs.Verdict.{verdict};
+ghost use Rattle.sdd_app.specs.Answer.{ComesToVerdict, ComesToVerify, HasFiles, HasReport, OverCatalogue};
+ghost use Rattle.sdd_app.specs.Endings.{FilesRead, IsRead, ToItsEnd, ToItsLimit};
+ghost use Rattle.sdd_app.specs.Judging.{verdict_line};
+ghost use Rattle.sdd_app.specs.Verdict.{Answers, ComesOfFiles};
+
+use crate::catalogue_file::{accepted_catalogue, read_named};
+use crate::status::Status;
+use crate::workload_file::accepted_workload;
+use sdd_base::{NoMemory, Shelf};
+use sdd_catalog::Catalogue;
+use sdd_script::Workload;
+use sdd_verify::{MAX_REPORT_BYTES, Verdict, verify};
+use sdd_words::{put, put_count};
+use std::alloc::Global;
+
+fn put_verdict(text: &mut Vec<u8>, verdict: Verdict) -> Result<(), NoMemory>
+    ensures { OnOk result (text.new.items ≡ text.old.items ++ verdict_line verdict) }
+{
+    match verdict {
+        Verdict::Yes => put(text, b"yes\n"),
+        Verdict::No(line) => {
+            put(text, b"no ")?;
+            put_count(text, u64::from(line))?;
+            put(text, b"\n")
+        }
+    }
+}
+
+/// The line that tells what the report is judged to be.
+fn judged(
+    alloc: Global,
+    catalogue: &Catalogue,
+    work: &Workload,
+    report: &[u8],
+) -> Result<Vec<u8>, NoMemory>
+    requires { IsValid catalogue.now work.now }
+    ensures { IfOk result (λ text. text.items ≡ verdict_line (verdict catalogue.now work.now report.now)) }
+{
+    let verdict = verify(alloc, catalogue, work, report)?;
+    let mut text = Vec::new(alloc);
+    put_verdict(&mut text, verdict)?;
+    Ok(text)
+}
+
+/// What is told of the report in the file.
+fn report_answer<S: Shelf>(
+    alloc: Global,
+    shelf: &mut S,
+    catalogue: &Catalogue,
+    work: &Workload,
+    report: &str,
+) -> Result<Vec<u8>, Status>
+    requires { IsValid catalogue.now work.now }
+    ensures told { (fs : List ShelfFile) → S.files shelf.old ≡ Some fs
+        → Answers result (λ v. v.items) (ComesToVerdict fs report.now catalogue.now work.now) }
+    ensures ended { OnOk result ((file : ℕ) × IsRead (S.files shelf.old) (S.is_open shelf.old) (S.is_open shelf.new) (S.unread shelf.new) (ToItsLimit MAX_REPORT_BYTES report.now) file) }
+    ensures others { KeepsOpen (λ _. Unit {0}) (S.is_open shelf.old) (S.is_open shelf.new) (S.unread shelf.old) (S.unread shelf.new) }
+    ensures later { S.faults shelf.old ≤ S.faults shelf.new }
+    ensures fault { IfErr result (λ s. s ≡ Status.ReadFault → Rose (S.faults shelf.old) (S.faults shelf.new)) }
+    ensures errors { IfErr result ComesOfFiles }
+    ensures surely { (free : ℕ) (fs : List ShelfFile) → S.sure shelf.old (free + 1) → S.files shelf.old ≡ Some fs → IsSome (find_file fs report.now)
+        → IfErr result (λ s. s ≡ Status.ReadFault → ⊥) × (S.faults shelf.new ≡ S.faults shelf.old) }
+{
+    let bytes = read_named(alloc, shelf, report, MAX_REPORT_BYTES)?;
+    Ok(judged(alloc, catalogue, work, bytes.as_slice())?)
+}
+
+/// What `verify` answers over the catalogue in the first file, the workload in the second and the
+/// report in the third.
+pub fn verify_answer<S: Shelf>(
+    alloc: Global,
+    shelf: &mut S,
+    catalogue: &str,
+    workload: &str,
+    report: &str,
+) -> Result<Vec<u8>, Status>
+    ensures told { (fs : List ShelfFile) → S.files shelf.old ≡ Some fs
+        → Answers result (λ v. v.items) (OverCatalogue fs catalogue.now (ComesToVerify fs workload.now report.now)) }
+    ensures ended { OnOk result (FilesRead (S.files shelf.old) (S.is_open shelf.old) (S.is_open shelf.new) (S.unread shelf.new)
+        (ToItsEnd ∷ ToItsEnd ∷ ToItsLimit MAX_REPORT_BYTES report.now ∷ [])) }
+    ensures fault { IfErr result (λ s. s ≡ Status.ReadFault → Rose (S.faults shelf.old) (S.faults shelf.new)) }
+    ensures errors { IfErr result ComesOfFiles }
+    ensures surely { (free : ℕ) (fs : List ShelfFile) → S.sure shelf.old (free + 1 + 1 + 1) → S.files shelf.old ≡ Some fs
+        → HasFiles fs catalogue.now workload.now (λ _. Unit {0}) → HasReport fs catalogue.now workload.now report.now
+        → IfErr result (λ s. s ≡ Status.ReadFault → ⊥) × (S.faults shelf.new ≡ S.faults shelf.old) }
+{
+    let catalogue = accepted_catalogue(alloc, shelf, catalogue)?;
+    let work = accepted_workload(alloc, shelf, workload, &catalogue)?;
+    let text = report_answer(alloc, shelf, &catalogue, &work, report)?;
+    Ok(text)
+}
