@@ -1,7 +1,7 @@
 -- While the READ of an undeclared transaction is next at a module, each declared transaction whose WRITE is next there has a
 -- smaller timestamp, so that the READ holds no WRITE back.
-use Rattle.std.proofs.Common.{ℕ, ◌++◌, ◌-◌, ◌<◌, ◌==◌, ◌∙◌, ◌∷◌, ◌≡◌, ◌≤◌, List, Some, [], ap, append_assoc, arith, false, inl, inr, refl, slice_get, subst, sym, true}
-use Rattle.sdd_base.specs.Numbers.{dm_no, tm_no}
+use Rattle.std.proofs.Common.{ℕ, ◌++◌, ◌-◌, ◌<◌, ◌==◌, ◌∙◌, ◌∷◌, ◌≡◌, ◌≤◌, List, Some, ap, append_assoc, arith, false, inl, inr, slice_get, subst, sym}
+use Rattle.sdd_base.specs.Numbers.{tm_no}
 use Rattle.sdd_base.specs.Sites.{number_of}
 use Rattle.sdd_base.specs.declared.change.Change.{Change}
 use Rattle.sdd_base.specs.declared.condition.Cond.{Cond}
@@ -21,7 +21,6 @@ use Rattle.sdd_order.specs.Numbers.{IsClass, IsModule}
 use Rattle.sdd_attempt.specs.Attempts.{Attempt}
 use Rattle.sdd_pipe.specs.Pipe.{head}
 use Rattle.sdd_dm.specs.Views.{home_of}
-use Rattle.sdd_tm.specs.Views.{runs}
 use Rattle.sdd_log.specs.Entries.{Does, Given, Log}
 use Rattle.sdd_log.specs.Locals.{setting_of}
 use Rattle.sdd_log.specs.Permitted.{IsPermitted}
@@ -32,7 +31,7 @@ use Rattle.sdd_invariants.proofs.Installed.{class_number, head_put, write_origin
 use Rattle.sdd_invariants.proofs.Once.{answered_there}
 use Rattle.sdd_invariants.proofs.Undeclared.{Part, answered_before, commit_t, has_cond, part_join, part_of, permitted_part, read_classes}
 use Rattle.sdd_invariants.specs.Barrier.{u_stamp, zero_cond}
-use Rattle.sdd_invariants.specs.Causes.{HasAnswer, IsApplyOf}
+use Rattle.sdd_invariants.specs.Causes.{HasAnswer}
 use Rattle.sdd_invariants.specs.Seen.{pipe_at}
 use Rattle.sdd_invariants.specs.Steps.{home}
 use Rattle.sdd_facts.proofs.HoldsFit.{at_place}

@@ -1,13 +1,12 @@
 -- The worked log meets what the laws take.
 use Rattle.std.specs.List.{All}
-use Rattle.std.proofs.Common.{ℕ, suc, zero, ◌-◌, ◌==◌, ◌∷◌, ◌≡◌, ◌≤◌, List, None, Option, Some, [], ap, arith, false, inl, inr, lit≤, refl, slice_get, subst, sym}
+use Rattle.std.proofs.Common.{ℕ, suc, zero, ◌-◌, ◌∷◌, ◌≡◌, ◌≤◌, None, Some, [], ap, arith, inl, inr, lit≤, refl, slice_get, subst, sym}
 use Rattle.std.proofs.lemmas.List.Elements.{All-from_recursion}
 use Rattle.std.specs.Prelude.{slice_index_or}
 use Rattle.sdd_base.specs.Numbers.{txn_no}
 use Rattle.sdd_base.specs.declared.event.Event.TheVariants.{Submit}
 use Rattle.sdd_base.specs.declared.number.RelNo.{RelNo}
 use Rattle.sdd_base.specs.declared.restriction.Op.TheVariants.{Le}
-use Rattle.sdd_catalog.specs.Catalogue.{Catalogue}
 use Rattle.sdd_histories.specs.Catalogues.{crossing}
 use Rattle.sdd_histories.specs.Texts.{given_to, put_row, query_and_put, values_by}
 use Rattle.sdd_histories.proofs.Sound.{sound_crossing}
@@ -16,7 +15,6 @@ use Rattle.sdd_histories.proofs.WorkedTables.{is_crossing}
 use Rattle.sdd_lang.specs.Database.{Row, database_of, item_cmp}
 use Rattle.sdd_lang.specs.Fits.{Fits, FitsStart}
 use Rattle.sdd_lang.specs.Sound.{IsDatabase, IsEntry, IsHeld, PutsHeld}
-use Rattle.sdd_lang.specs.declared.statement.Stmt.{Stmt}
 use Rattle.sdd_lang.specs.declared.transaction.Txn.{Txn}
 use Rattle.sdd_lang.proofs.SortedEntries.{sorted_nil}
 use Rattle.sdd_order.specs.Examples.{row_of}
@@ -27,7 +25,7 @@ use Rattle.sdd_log.specs.Lawful.{IsLawful}
 use Rattle.sdd_log.specs.Permitted.{one_if, submits_by, submits_in}
 use Rattle.sdd_invariants.proofs.Bools.{same_or_not}
 use Rattle.sdd_upheld.specs.Given.{HasSoundData, SubmitGiven}
-use Rattle.sdd_facts.specs.Fitting.{FitsGiven, FitsText}
+use Rattle.sdd_facts.specs.Fitting.{FitsText}
 use Rattle.sdd_rest.proofs.Settled.{settle_ends, settled_is_committed, settled_is_finished}
 use Rattle.sdd_rest.specs.Committed.{AllCommitted}
 use Rattle.sdd_rest.specs.Examples.{before_settle, worked, worked_log}
@@ -117,7 +115,7 @@ worked_data = record {
 -- so it is finished, and both transactions are committed
 
 pub worked_is_finished : IsFinished worked worked_log
-worked_is_finished = settled_is_finished worked worked_log worked_table worked_submits.once (settle_ends before_settle worked_log worked_ends)
+worked_is_finished = settled_is_finished worked worked_log worked_table worked_submits.once (settle_ends worked worked_log before_settle.events refl worked_ends)
 
 pub worked_is_committed : AllCommitted (history worked_log)
-worked_is_committed = settled_is_committed worked worked_log worked_table worked_submits (settle_ends before_settle worked_log worked_ends)
+worked_is_committed = settled_is_committed worked worked_log worked_table worked_submits (settle_ends worked worked_log before_settle.events refl worked_ends)

@@ -1,5 +1,6 @@
 -- A complete log at whose end the links are quiet is one at which nothing goes on; and it is, where a settle is the last.
-use Rattle.std.proofs.Common.{◌≡◌, None}
+use Rattle.std.proofs.Common.{◌++◌, ◌∷◌, ◌≡◌, List, [], ap, subst}
+use Rattle.sdd_base.specs.declared.event.Event.{Event}
 use Rattle.sdd_base.specs.declared.event.Event.TheVariants.{Settle}
 use Rattle.sdd_log.specs.Entries.{Given, Log, history, with_event}
 use Rattle.sdd_log.specs.Permitted.{AreSubmittedOnce}
@@ -32,5 +33,9 @@ settled_is_committed g log one given s =
     all_committed g log (settled_is_quiet g log given.once s) one s.at_end.one_list (lawful_numbered g log given s.at_end.lawful) (settled_is_finished g log one given.once s)
 
 -- where a settle is the last of the events
-pub settle_ends : (g : Given) (log : Log) → IsAtEnd (with_event g Settle) log → IsSettled (with_event g Settle) log
-settle_ends g log s = record { at_end = s; links = quiet_at_last g log s.lawful s.complete }
+pub settle_ends : (g : Given) (log : Log) (events : List Event) → g.events ≡ events ++ Settle ∷ [] → IsAtEnd g log → IsSettled g log
+settle_ends g log events e s =
+    let before : Given = record g { events = events } in
+    let same : g ≡ with_event before Settle = ap (λ es. record g { events = es }) e in
+    let there : IsAtEnd (with_event before Settle) log = subst (λ x. IsAtEnd x log) same s in
+    record { at_end = s; links = quiet_at_last before log there.lawful there.complete }

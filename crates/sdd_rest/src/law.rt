@@ -1,7 +1,8 @@
 ghost use Rattle.std.specs.List.{list_any};
-ghost use Rattle.std.specs.Prelude.{◌≡◌, ℕ, true, Bool, List, Some, length, slice_get};
+ghost use Rattle.std.specs.Prelude.{◌≡◌, ◌++◌, ◌∷◌, ℕ, true, Bool, List, [], Some, length, slice_get};
 ghost use Rattle.sdd_base.specs.Numbers.{dm_no, txn_no};
 ghost use Rattle.sdd_base.specs.declared.change.Change.{Change};
+ghost use Rattle.sdd_base.specs.declared.event.Event.{Event};
 ghost use Rattle.sdd_base.specs.declared.event.Event.TheVariants.{Settle};
 ghost use Rattle.sdd_base.specs.declared.number.RelNo.{RelNo};
 ghost use Rattle.sdd_base.specs.declared.number.TxnNo.{TxnNo};
@@ -18,7 +19,7 @@ ghost use Rattle.sdd_order.specs.Orders.{IsSerial};
 ghost use Rattle.sdd_dm.specs.Copies.{dated};
 ghost use Rattle.sdd_laws.specs.Replay.{AreAllApplied, run};
 ghost use Rattle.sdd_laws.specs.Snapshots.{copy_at, items_of};
-ghost use Rattle.sdd_log.specs.Entries.{Given, Log, history, with_event};
+ghost use Rattle.sdd_log.specs.Entries.{Given, Log, history};
 ghost use Rattle.sdd_log.specs.Locals.{local_of, redeclares, setting_of};
 ghost use Rattle.sdd_log.specs.Permitted.{AreSubmittedOnce};
 ghost use Rattle.sdd_upheld.specs.Given.{AreNumbered, HasSoundData, SubmitGiven};
@@ -85,6 +86,6 @@ pub fn law_settled()
         → AreSubmittedOnce given.events → IsSettled given log → IsFinished given log }
     ensures committed { (given : Given) (log : Log) → HasOneTable given → SubmitGiven given
         → IsSettled given log → AllCommitted (history log) }
-    ensures behind_settle { (given : Given) (log : Log) → IsAtEnd (with_event given Settle) log
-        → IsSettled (with_event given Settle) log }
+    ensures behind_settle { (given : Given) (log : Log) (events : List Event)
+        → given.events ≡ events ++ Settle ∷ [] → IsAtEnd given log → IsSettled given log }
 {}
