@@ -1,5 +1,5 @@
 ghost use Rattle.std.specs.List.{list_any};
-ghost use Rattle.std.specs.Prelude.{◌≡◌, ◌++◌, ◌∷◌, ℕ, true, Bool, List, [], Some, length, slice_get};
+ghost use Rattle.std.specs.Prelude.{◌≡◌, ◌++◌, ◌∷◌, ℕ, false, true, Bool, List, [], Some, length, slice_get};
 ghost use Rattle.sdd_base.specs.Numbers.{dm_no, txn_no};
 ghost use Rattle.sdd_base.specs.declared.change.Change.{Change};
 ghost use Rattle.sdd_base.specs.declared.event.Event.{Event};
@@ -15,6 +15,8 @@ ghost use Rattle.sdd_history.specs.declared.record.Rec.TheVariants.{Commit};
 ghost use Rattle.sdd_lang.specs.Agree.{rows_in_fragment};
 ghost use Rattle.sdd_lang.specs.Database.{Row};
 ghost use Rattle.sdd_copy.specs.Contents.{contents};
+ghost use Rattle.sdd_net.specs.Links.{quiet};
+ghost use Rattle.sdd_order.specs.Numbers.{IsModule};
 ghost use Rattle.sdd_order.specs.Orders.{IsSerial};
 ghost use Rattle.sdd_dm.specs.Copies.{dated};
 ghost use Rattle.sdd_laws.specs.Replay.{AreAllApplied, run};
@@ -22,6 +24,8 @@ ghost use Rattle.sdd_laws.specs.Snapshots.{copy_at, items_of};
 ghost use Rattle.sdd_log.specs.Entries.{Given, Log, history};
 ghost use Rattle.sdd_log.specs.Locals.{local_of, redeclares, setting_of};
 ghost use Rattle.sdd_log.specs.Permitted.{AreSubmittedOnce};
+ghost use Rattle.sdd_log.specs.Traffic.{all_links, calls_of, is_down};
+ghost use Rattle.sdd_step.specs.Resting.{Rests};
 ghost use Rattle.sdd_upheld.specs.Given.{AreNumbered, HasSoundData, SubmitGiven};
 ghost use Rattle.sdd_rest.specs.Committed.{AllCommitted, IsNotLeft, WasCommitted};
 ghost use Rattle.sdd_rest.specs.Finished.{IsFinished, IsIdle};
@@ -74,6 +78,14 @@ pub fn law_copies()
         → rows_in_fragment given.catalogue (run given.catalogue rows given.txns order).1 f
         ≡ items_of given.catalogue f (contents f
         (dated (setting_of given (D (dm_no d))) (local_of given (D (dm_no d)) log))) }
+{}
+
+/// A law: between events, where no note, act or hand is due, a lawful log at which the links are
+/// quiet and no data module is down is one at which nothing goes on.
+pub fn law_resting()
+    ensures { (given : Given) (log : Log) → AreSubmittedOnce given.events → Rests given log
+        → quiet (all_links given) (calls_of log) ≡ true
+        → ((d : ℕ) → IsModule given.catalogue d → is_down d log ≡ false) → IsQuiet given log }
 {}
 
 /// A law: a complete log at whose end the links are quiet and no data module is down is one at which
