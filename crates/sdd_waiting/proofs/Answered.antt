@@ -1,8 +1,7 @@
 -- A READ whose conditions are met is answered before the event is over.
 use Rattle.std.specs.List.{list_all}
-use Rattle.std.proofs.Common.{ℕ, ◌&&◌, ◌++◌, ◌==◌, ◌∙◌, ◌∷◌, ◌≡◌, ◌≤◌, ◌⊎◌, Bool, List, None, Option, Some, [], ap, append_assoc, arith, false, filter, if◌then◌else◌, inl, inr, length, not, refl, slice_get, subst, suc, sym, true}
+use Rattle.std.proofs.Common.{ℕ, ◌++◌, ◌∙◌, ◌∷◌, ◌≡◌, ◌≤◌, ◌⊎◌, List, None, Some, [], ap, arith, false, inl, inr, length, refl, subst, suc, sym, true}
 use Rattle.std.proofs.Math.Decide.{dec_le}
-use Rattle.sdd_base.specs.Sites.{number_of}
 use Rattle.sdd_base.specs.declared.condition.Cond.{Cond}
 use Rattle.sdd_base.specs.declared.number.ClassNo.{ClassNo}
 use Rattle.sdd_base.specs.declared.number.DmNo.{DmNo}
@@ -11,27 +10,25 @@ use Rattle.sdd_base.specs.declared.number.TxnNo.{TxnNo}
 use Rattle.sdd_base.specs.declared.site.Site.{Site}
 use Rattle.sdd_base.specs.declared.site.Site.TheVariants.{D}
 use Rattle.sdd_base.specs.declared.usage.Use.{Use}
-use Rattle.sdd_history.specs.declared.record.Rec.{Rec}
-use Rattle.sdd_history.specs.declared.record.Rec.TheVariants.{Answer, Reject as Rejected}
+use Rattle.sdd_history.specs.declared.record.Rec.TheVariants.{Answer}
 use Rattle.sdd_wire.specs.declared.msg.Msg.{Msg}
 use Rattle.sdd_wire.specs.declared.msg.Msg.TheVariants.{Read}
 use Rattle.sdd_module.specs.SiteLog.{Act, Did, Records, Setting}
 use Rattle.sdd_module.specs.SiteLog as site
 use Rattle.sdd_pipe.specs.Pipe.{Pipe, head, passed}
 use Rattle.sdd_dm.specs.Due.{is_met}
-use Rattle.sdd_dm.specs.Pipes.{is_processing, is_wait, pipe, waits}
-use Rattle.sdd_dm.specs.Views.{ClassView, at_class, view_of}
+use Rattle.sdd_dm.specs.Pipes.{pipe, waits}
+use Rattle.sdd_dm.specs.Views.{ClassView, view_of}
 use Rattle.sdd_log.specs.Due.{site_due}
 use Rattle.sdd_log.specs.Entries.{Does, Entry, Given, Log}
 use Rattle.sdd_log.specs.Locals.{setting_of}
 use Rattle.sdd_log.specs.Permitted.{IsPermitted}
 use Rattle.sdd_invariants.proofs.AreReadSteps.{class_in_view, class_not_in_view, d_step}
 use Rattle.sdd_invariants.proofs.Bools.{and_left, and_right, both, not_both, same_or_not}
-use Rattle.sdd_invariants.proofs.Made.{permitted_before}
 use Rattle.sdd_invariants.proofs.Processed.{not_own, passing, read_step_way}
 use Rattle.sdd_invariants.specs.ReadSteps.{IsClassHere, IsReadStep, by_record}
-use Rattle.sdd_invariants.specs.Steps.{home}
 use Rattle.sdd_waiting.proofs.AtModule.{IsEntryAt, acting, aside, at_module, entry_at, handed_head, handing, waits_on, waits_other}
+use Rattle.sdd_waiting.proofs.ClassSites.{HasSmallHomes}
 use Rattle.sdd_waiting.proofs.EventOver.{none_at_data}
 use Rattle.sdd_waiting.proofs.Passing.{passed_later}
 use Rattle.sdd_waiting.proofs.Rejected.{waited_answer}
@@ -40,9 +37,6 @@ use Rattle.sdd_waiting.specs.Answers.{IsAnsweredIn}
 use Rattle.sdd_waiting.specs.Heads.{IsStuck}
 
 -- what is met stays met
-
-abbrev pub HasSmallHomes : Given → Type 0
-HasSmallHomes g = (c : ℕ) → number_of (home g.catalogue c) ≤ 63
 
 met_later : (g : Given) (d : DmNo) (later log : Log) (q : Cond) → IsPermitted g (later ++ log) → HasSmallHomes g
     → is_met (view_of (setting_of g (D d)) (at_module g d log)) q ≡ true
@@ -68,7 +62,7 @@ all_met_later g d later log (q ∷ qs) h small e =
 abbrev HeadWaits : site.Log → ℕ → Msg → Type 0
 HeadWaits l c m = (waits c l ≡ true) × (head (pipe c l) ≡ Some m)
 
-abbrev Answers : ℕ → TxnNo → ℕ → Act → Type 0
+abbrev pub Answers : ℕ → TxnNo → ℕ → Act → Type 0
 Answers c txn attempt act = (dm : DmNo) × (sends : List (Site × Msg)) × (act ≡ Records c (Answer txn attempt dm) sends)
 
 act_waits : (s : Setting) (l : site.Log) (c : ℕ) (ts : Ts) (of : ClassNo) (txn : TxnNo) (attempt : ℕ) (conds : List Cond) (uses : List Use) (act : Act)
@@ -89,7 +83,7 @@ pub answered_on : (d : DmNo) (c : ℕ) (txn : TxnNo) (attempt : ℕ) (e : Entry)
 answered_on d c txn attempt e entries i =
     record { later = e ∷ i.later; before = i.before; dm = i.dm; sends = i.sends; is = ap (λ l. e ∷ l) i.is }
 
-answered_now : (d : DmNo) (c : ℕ) (txn : TxnNo) (attempt : ℕ) (e : Entry) (act : Act) (entries : Log) → e ≡ Does (D d) act
+pub answered_now : (d : DmNo) (c : ℕ) (txn : TxnNo) (attempt : ℕ) (e : Entry) (act : Act) (entries : Log) → e ≡ Does (D d) act
     → Answers c txn attempt act → IsAnsweredIn d c txn attempt (e ∷ entries)
 answered_now d c txn attempt e act entries is a =
     record { later = []; before = entries; dm = a.0; sends = a.1; is = ap (λ x. x ∷ entries) (is ∙ ap (λ x. Does (D d) x) a.2) }

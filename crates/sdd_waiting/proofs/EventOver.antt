@@ -1,8 +1,6 @@
 -- Where an event is over, nothing is due at any site.
 use Rattle.std.specs.List.{range_with_len}
-use Rattle.std.proofs.Common.{ℕ, ◌++◌, ◌+◌, ◌<◌, ◌≡◌, ◌≤◌, ◌∙◌, ◌∷◌, Bool, List, None, Option, Some, [], ap, arith, false, if◌then◌else◌, inl, inr, map, refl, slice_get, subst, suc, sym, true, zero}
-use Rattle.std.proofs.Math.Decide.{dec_le}
-use Rattle.sdd_base.specs.Numbers.{dm_no}
+use Rattle.std.proofs.Common.{◌∙◌, ℕ, ◌≡◌, ◌≤◌, ◌∷◌, Bool, List, None, Option, Some, [], ap, arith, false, map, refl, slice_get, suc, true}
 use Rattle.sdd_base.specs.Sites.{sites}
 use Rattle.sdd_base.specs.Words.{first_some, or_else}
 use Rattle.sdd_base.specs.declared.event.Event.{Event}
@@ -10,19 +8,21 @@ use Rattle.sdd_base.specs.declared.event.Event.TheVariants.{Deliver, Down, Lose,
 use Rattle.sdd_base.specs.declared.number.DmNo.{DmNo}
 use Rattle.sdd_base.specs.declared.number.TmNo.{TmNo}
 use Rattle.sdd_base.specs.declared.site.Site.{Site}
-use Rattle.sdd_base.specs.declared.site.Site.TheVariants.{D, T, U}
+use Rattle.sdd_base.specs.declared.site.Site.TheVariants.{D, T}
 use Rattle.sdd_module.specs.SiteLog.{Act}
 use Rattle.sdd_dm.specs.Due as dm
 use Rattle.sdd_dm.specs.Views as dm_views
 use Rattle.sdd_tm.specs.Due as tm
 use Rattle.sdd_log.specs.Due.{does_at, due_by, hand_due, mark_due, next_at, note_if, site_due}
 use Rattle.sdd_log.specs.Entries.{Does, Entry, Given, Hand, Log, Mark, Notes, Redeclares, Round, Submitted}
+use Rattle.sdd_log.specs.Lawful.{IsLawful, IsTheLog}
 use Rattle.sdd_log.specs.Locals.{local_of, setting_of}
 use Rattle.sdd_log.specs.Marks.{next_mark}
 use Rattle.sdd_log.specs.Snapshots.{base_of}
 use Rattle.sdd_invariants.proofs.Bools.{not_both}
 use Rattle.sdd_invariants.proofs.Holding.{at_map}
 use Rattle.sdd_invariants.proofs.Lists.{in_left, in_right}
+use Rattle.sdd_waiting.proofs.ClassSites.{range_there}
 use Rattle.sdd_waiting.proofs.StuckHeads.{none_at}
 use Rattle.sdd_waiting.specs.Answers.{IsEventOver, begins_event, begins_or_ends}
 
@@ -75,6 +75,14 @@ over_first : (a b : Option Entry) → IsOfEvent a → begins_or_ends (or_else a 
 over_first None b h e = (refl, e)
 over_first (Some x) b h e = absurd (not_both (begins_event x) e h)
 
+-- before the next event, and at the end of the log
+
+pub over_before : (g : Given) (e : Entry) (log : Log) → IsLawful g (e ∷ log) → begins_event e ≡ true → IsEventOver g log
+over_before g e log h b = ap begins_or_ends h.0 ∙ b
+
+pub over_at_end : (g : Given) (log : Log) → IsTheLog g log → IsEventOver g log
+over_at_end g log h = ap begins_or_ends h.complete
+
 pub none_due : (g : Given) (log : Log) → IsEventOver g log → site_due g log ≡ None
 none_due g log e =
     let rest : Option Entry = or_else (hand_due g log) (next_mark g log) in
@@ -82,13 +90,6 @@ none_due g log e =
     (over_first (site_due g log) rest (first_of_event (λ at. does_at at (next_at g log at)) (sites g.catalogue.tms g.catalogue.dms) (λ at. does_of_event at (next_at g log at))) one.1).0
 
 -- the sites that are there
-
-pub range_there : (a n x : ℕ) → a ≤ x → x < a + n → (k : ℕ) × (slice_get (range_with_len a n) k ≡ Some x)
-range_there a zero x l h = absurd (omega arith)
-range_there a (suc n) x l h = elim (dec_le x a) [
-  | yes le ↦ (let same : a ≡ x = omega arith in (0, ap (λ y. Some y) same))
-  | no gt ↦ (let i = range_there (a + 1) n x (omega (arith, gt)) (omega arith) in (suc i.0, i.1))
-]
 
 numbered_there : (tms dms : ℕ) (x : Site) (k : ℕ) → slice_get (map (λ n. D (record { 0 = n })) (range_with_len 1 dms)) k ≡ Some x
     → (j : ℕ) × (slice_get (sites tms dms) j ≡ Some x)

@@ -1,13 +1,11 @@
 -- A class is free exactly where all edges at its nodes have block 0; so no diagonal from it or to it has P2 or P3.
 use Rattle.std.specs.Prelude.{option_map}
-use Rattle.std.proofs.Common.{ℕ, ◌-◌, ◌+◌, ◌*◌, ◌==◌, ◌||◌, ◌∙◌, ◌∷◌, ◌≡◌, ◌≢◌, ◌≤◌, List, None, Option, Some, [], ap, eq-eqb, refl, slice_get, subst, suc, sym, true, zero, map}
-use Rattle.std.proofs.lemmas.Option.{slice_get-map, same_Some}
-use Rattle.sdd_blocks.specs.Blocks.{OnACycle}
+use Rattle.std.proofs.Common.{ℕ, ◌==◌, ◌∙◌, ◌≡◌, List, Some, ap, eq-eqb, refl, slice_get, suc, sym, true, zero, map}
+use Rattle.std.proofs.lemmas.Option.{slice_get-map}
 use Rattle.sdd_catalog.specs.Catalogue.{Catalogue}
 use Rattle.sdd_base.specs.declared.number.ClassNo.{ClassNo}
 use Rattle.sdd_base.specs.declared.number.FragNo.{FragNo}
 use Rattle.sdd_graph.specs.Graph.{conflict_graph, ends, read_node, write_node}
-use Rattle.sdd_graph.specs.declared.edge.Edge.{Edge}
 use Rattle.sdd_graph.specs.declared.edge.Edge.TheVariants.{Diagonal}
 use Rattle.sdd_protocol.proofs.Tables.{all_at}
 use Rattle.sdd_protocol.specs.Protocols.{IsTable, diagonal_protocol, protocol_in, vertical_block}

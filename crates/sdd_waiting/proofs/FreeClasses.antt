@@ -1,10 +1,9 @@
 -- Of a free class no attempt waits or is rejected, and what is handed over of it is processed before the event is over.
 use Rattle.std.specs.List.{list_all, list_any}
 use Rattle.std.specs.Prelude.{◌&&◌, not}
-use Rattle.std.proofs.Common.{ℕ, ◌++◌, ◌<◌, ◌==◌, ◌∙◌, ◌∷◌, ◌≡◌, ◌≢◌, ◌≤◌, ◌⊎◌, Bool, List, None, Option, Some, [], ap, append_assoc, arith, false, filter, inl, inr, length, nat_le, refl, slice_get, subst, suc, sym, true, zero}
+use Rattle.std.proofs.Common.{ℕ, ◌++◌, ◌==◌, ◌∙◌, ◌∷◌, ◌≡◌, ◌≢◌, ◌≤◌, Bool, List, None, Option, Some, [], ap, append_assoc, arith, false, inl, inr, refl, slice_get, subst, sym, true}
 use Rattle.std.proofs.lemmas.Bool.{eqb-true}
 use Rattle.sdd_base.specs.Numbers.{class_no, txn_no}
-use Rattle.sdd_base.specs.Words.{head_of}
 use Rattle.sdd_base.specs.declared.change.Change.{Change}
 use Rattle.sdd_base.specs.declared.condition.Cond.{Cond}
 use Rattle.sdd_base.specs.declared.number.ClassNo.{ClassNo}
@@ -16,16 +15,16 @@ use Rattle.sdd_base.specs.declared.site.Site.TheVariants.{D}
 use Rattle.sdd_base.specs.declared.usage.Use.{Use}
 use Rattle.sdd_catalog.specs.Rules.{IsSound}
 use Rattle.sdd_history.specs.declared.record.Rec.{Rec}
-use Rattle.sdd_history.specs.declared.record.Rec.TheVariants.{Answer, Apply, Pass, Reject as Rejected}
+use Rattle.sdd_history.specs.declared.record.Rec.TheVariants.{Answer, Apply, Reject as Rejected}
 use Rattle.sdd_wire.specs.Piped.{goes_through}
 use Rattle.sdd_wire.specs.declared.msg.Msg.{Msg}
-use Rattle.sdd_wire.specs.declared.msg.Msg.TheVariants.{Null, Read, Write}
+use Rattle.sdd_wire.specs.declared.msg.Msg.TheVariants.{Read, Write}
 use Rattle.sdd_module.specs.SiteLog.{Act, Records, Setting}
 use Rattle.sdd_module.specs.SiteLog as site
-use Rattle.sdd_pipe.specs.Pipe.{Pipe, head, touches}
-use Rattle.sdd_dm.specs.Due.{due, holds, holds_back, is_met}
+use Rattle.sdd_pipe.specs.Pipe.{head}
+use Rattle.sdd_dm.specs.Due.{holds, holds_back, is_met}
 use Rattle.sdd_dm.specs.Pipes.{is_wait, pipe, waits}
-use Rattle.sdd_dm.specs.Views.{ClassView, View, class_view, home_of, view_of}
+use Rattle.sdd_dm.specs.Views.{ClassView, View, view_of}
 use Rattle.sdd_log.specs.Due.{site_due}
 use Rattle.sdd_log.specs.Entries.{Does, Entry, Given, Hand, Log}
 use Rattle.sdd_log.specs.Locals.{setting_of}
@@ -33,17 +32,18 @@ use Rattle.sdd_log.specs.Permitted.{IsPermitted}
 use Rattle.sdd_log.proofs.EachLocal.{allowed_act}
 use Rattle.sdd_invariants.proofs.AreReadSteps.{class_at_place}
 use Rattle.sdd_invariants.proofs.Bools.{and_left, and_right, not_both, same_number, same_or_not}
-use Rattle.sdd_invariants.proofs.Lists.{any_at, at_seam}
+use Rattle.sdd_invariants.proofs.Lists.{any_at}
 use Rattle.sdd_invariants.proofs.Made.{permitted_before}
-use Rattle.sdd_invariants.specs.ReadSteps.{IsClassHere, May, spoiler}
-use Rattle.sdd_invariants.specs.Seen.{all_of, pipe_at}
+use Rattle.sdd_invariants.specs.ReadSteps.{IsClassHere, May}
+use Rattle.sdd_invariants.specs.Seen.{pipe_at}
 use Rattle.sdd_waiting.proofs.AtModule.{at_module}
 use Rattle.sdd_waiting.proofs.EventOver.{none_at_data}
-use Rattle.sdd_waiting.proofs.FreeConditions.{declared, names_none, unconditional}
-use Rattle.sdd_waiting.proofs.ProcessedIn.{IsProcessedIn, handed_last, processed_by_end}
+use Rattle.sdd_waiting.proofs.FreeConditions.{names_none, unconditional}
+use Rattle.sdd_waiting.proofs.Passing.{head_place}
+use Rattle.sdd_waiting.proofs.ProcessedIn.{IsProcessedIn, processed_by_end}
 use Rattle.sdd_waiting.proofs.Rejected.{rejected, spoiler_there}
 use Rattle.sdd_waiting.proofs.StuckHeads.{head_stuck}
-use Rattle.sdd_waiting.proofs.UndeclaredHolds.{holds_none}
+use Rattle.sdd_waiting.proofs.UndeclaredReads.{holds_none}
 use Rattle.sdd_waiting.proofs.Waited.{wait_due}
 use Rattle.sdd_waiting.specs.Answers.{IsAnsweredIn, IsAppliedIn}
 use Rattle.sdd_waiting.specs.Free.{IsFreeClass}
@@ -51,27 +51,18 @@ use Rattle.sdd_waiting.specs.Heads.{IsStuck}
 use Rattle.sdd_waiting.specs.Rejections.{IsRejectOf}
 use Rattle.sdd_waiting.specs.Waited.{IsWaitOf, lacking}
 
--- a head stands in its pipe
-head_there : (ps qs : List Msg) (m : Msg) → head_of qs ≡ Some m → slice_get (ps ++ qs) (length ps) ≡ Some m
-head_there ps [] m e = cc
-head_there ps (x ∷ qs) m e = at_seam ps qs x ∙ e
-
-pub at_its_place : (g : Given) (c : ℕ) (d : DmNo) (log : Log) (m : Msg) → head (pipe_at g c d log) ≡ Some m
-    → slice_get (all_of (pipe_at g c d log)) (length (pipe_at g c d log).processed) ≡ Some m
-at_its_place g c d log m e = head_there (pipe_at g c d log).processed (pipe_at g c d log).unprocessed m e
-
 -- no attempt waits, and none is rejected
 
-not_some : {A : Type 0} (v : View) (conds : List Cond) (first : Cond) (more : List Cond) → conds ≡ [] → lacking v conds ≡ first ∷ more → A
-not_some v conds first more e f = let h : [] ≡ first ∷ more = sym (ap (lacking v) e) ∙ f in cc
+nothing_lacks : {A : Type 0} (v : View) (conds : List Cond) (first : Cond) (more : List Cond) → conds ≡ [] → lacking v conds ≡ first ∷ more → A
+nothing_lacks v conds first more e f = let h : [] ≡ first ∷ more = sym (ap (lacking v) e) ∙ f in cc
 
 pub never_waits : (g : Given) (log : Log) (i : ℕ) (d : DmNo) (r : Rec) (sends : List (Site × Msg)) → IsFreeClass g i
     → IsPermitted g (Does (D d) (Records i r sends) ∷ log) → is_wait r ≡ true → ⊥
 never_waits g log i d r sends free h w =
     let s : Setting = setting_of g (D d) in
     let x : IsWaitOf s (at_module g d log) i (Records i r sends) = wait_due s (at_module g d log) i r sends (allowed_act g log (Does (D d) (Records i r sends)) h.0) w in
-    let none = unconditional g log i d _ x.ts x.of x.txn x.attempt x.conds x.uses h.1 free (at_its_place g i d log _ x.head_is) in
-    not_some (view_of s (at_module g d log)) x.conds x.first x.more none x.lacks
+    let none = unconditional g log i d _ x.ts x.of x.txn x.attempt x.conds x.uses h.1 free (head_place (pipe_at g i d log) _ x.head_is) in
+    nothing_lacks (view_of s (at_module g d log)) x.conds x.first x.more none x.lacks
 
 none_there : {A : Type 0} (conds : List Cond) (k : ℕ) (q : Cond) → conds ≡ [] → slice_get conds k ≡ Some q → A
 none_there conds k q e f = let h : slice_get [] k ≡ Some q = subst (λ ds. slice_get ds k ≡ Some q) e f in cc
@@ -80,7 +71,7 @@ pub never_rejected : (g : Given) (log : Log) (i : ℕ) (d : DmNo) (txn : TxnNo) 
     → IsFreeClass g i → IsPermitted g (Does (D d) (Records i (Rejected txn attempt dm by write) sends) ∷ log) → ⊥
 never_rejected g log i d txn attempt dm by write sends free h =
     let x : IsRejectOf g log d i txn attempt by write = rejected g log d i txn attempt dm by write sends h in
-    let none = unconditional g log i d _ x.ts x.of txn attempt x.conds x.uses h.1 free (at_its_place g i d log _ x.head_is) in
+    let none = unconditional g log i d _ x.ts x.of txn attempt x.conds x.uses h.1 free (head_place (pipe_at g i d log) _ x.head_is) in
     none_there x.conds x.place x.cond_by none x.there
 
 -- no WRITE of the class is held
@@ -94,7 +85,7 @@ held_by g log i k d w wc wt changes (Some (Read ts of txn n ds us)) free h sound
   | inr z ↦ (let a = any_at (holds i w.0 changes) ds b in
       let class : a.1.class.0 ≡ i = eqb-true a.1.class.0 i (and_left _ _ a.3) in
       let zero_not : k ≢ 0 = λ p. let q : (k == 0) ≡ true = ap (λ y. y == 0) p in not_both (k == 0) q z in
-      names_none g log i k d _ ts of txn n ds us a.0 a.1 h free zero_not (at_its_place g k d log _ f) a.2 class)
+      names_none g log i k d _ ts of txn n ds us a.0 a.1 h free zero_not (head_place (pipe_at g k d log) _ f) a.2 class)
 ]
 held_by g log i k d w wc wt changes (Some _) free h sound lo hi e f b = cc
 
@@ -104,7 +95,7 @@ no_head : (g : Given) (log : Log) (i : ℕ) (d : DmNo) (m : Msg) → IsFreeClass
     → d.0 ≤ g.catalogue.dms → head (pipe_at g i d log) ≡ Some m → IsStuck (setting_of g (D d)) (at_module g d log) i (Some m) → ⊥
 no_head g log i d (Read ts of txn attempt conds uses) free h sound lo hi e x =
     let v : View = view_of (setting_of g (D d)) (at_module g d log) in
-    let none = unconditional g log i d _ ts of txn attempt conds uses h free (at_its_place g i d log _ e) in
+    let none = unconditional g log i d _ ts of txn attempt conds uses h free (head_place (pipe_at g i d log) _ e) in
     let met : true ≡ false = subst (λ ds. list_all (is_met v) ds ≡ false) none x.1 in
     cc
 no_head g log i d (Write w wc wt changes) free h sound lo hi e x =
@@ -153,6 +144,16 @@ permitted_within g entries log later e before h p =
     let whole : entries ++ log ≡ later ++ e ∷ (before ++ log) = ap (λ l. l ++ log) p ∙ append_assoc later (e ∷ before) log in
     (permitted_before g later (e ∷ (before ++ log)) (subst (IsPermitted g) whole h)).1
 
+answer_in : (d : DmNo) (i : ℕ) (txn : TxnNo) (attempt : ℕ) (entries later before : Log) (r : Rec) (dm : DmNo) (sends : List (Site × Msg))
+    → entries ≡ later ++ Does (D d) (Records i r sends) ∷ before → r ≡ Answer txn attempt dm → IsAnsweredIn d i txn attempt entries
+answer_in d i txn attempt entries later before r dm sends is e =
+    record { later = later; before = before; dm = dm; sends = sends; is = is ∙ ap (λ x. later ++ Does (D d) (Records i x sends) ∷ before) e }
+
+apply_in : (d : DmNo) (i : ℕ) (txn : TxnNo) (ts : Ts) (entries later before : Log) (r : Rec) (of : ClassNo) (dm : DmNo) (sends : List (Site × Msg))
+    → entries ≡ later ++ Does (D d) (Records i r sends) ∷ before → r ≡ Apply txn of dm ts → IsAppliedIn d i txn ts entries
+apply_in d i txn ts entries later before r of dm sends is e =
+    record { later = later; before = before; of = of; dm = dm; sends = sends; is = is ∙ ap (λ x. later ++ Does (D d) (Records i x sends) ∷ before) e }
+
 pub answered_by_end : (g : Given) (i : ℕ) (d : DmNo) (from : Site) (n : ℕ) (later log : Log) (ts : Ts) (of : ClassNo) (txn : TxnNo) (attempt : ℕ) (conds : List Cond) (uses : List Use)
     → IsFreeClass g i → IsSound g.catalogue → 1 ≤ d.0 → d.0 ≤ g.catalogue.dms → of.0 ≡ i
     → IsPermitted g (later ++ Hand from (D d) n (Read ts of txn attempt conds uses) ∷ log)
@@ -164,10 +165,10 @@ answered_by_end g i d from n later log ts of txn attempt conds uses free sound l
     let through : goes_through i m ≡ true = ap (λ k. k == i) class ∙ same_number i in
     let p : IsProcessedIn g handed d i m later = processed_by_end g d i from n m later log h through (none_at_head g (later ++ handed) i d free h sound lo hi none) in
     let hb : IsPermitted g (p.before ++ handed) = permitted_within g later handed p.later (Does (D d) (Records i p.rec p.sends)) p.before h p.is in
-    let empty = unconditional g (p.before ++ handed) i d _ ts of txn attempt conds uses hb free (at_its_place g i d (p.before ++ handed) m p.head_is) in
+    let empty = unconditional g (p.before ++ handed) i d _ ts of txn attempt conds uses hb free (head_place (pipe_at g i d (p.before ++ handed)) m p.head_is) in
     let l : site.Log = at_module g d (p.before ++ handed) in
     let a = read_answered (view_of (setting_of g (D d)) l) i (waits i l) ts of txn attempt conds uses p.rec empty p.may in
-    record { later = p.later; before = p.before; dm = a.0; sends = p.sends; is = p.is ∙ ap (λ r. p.later ++ Does (D d) (Records i r p.sends) ∷ p.before) a.1 }
+    answer_in d i txn attempt later p.later p.before p.rec a.0 p.sends p.is a.1
 
 pub applied_by_end : (g : Given) (i : ℕ) (d : DmNo) (from : Site) (n : ℕ) (later log : Log) (ts : Ts) (of : ClassNo) (txn : TxnNo) (changes : List Change)
     → IsFreeClass g i → IsSound g.catalogue → 1 ≤ d.0 → d.0 ≤ g.catalogue.dms → of.0 ≡ i
@@ -180,4 +181,4 @@ applied_by_end g i d from n later log ts of txn changes free sound lo hi class h
     let p : IsProcessedIn g handed d i m later = processed_by_end g d i from n m later log h through (none_at_head g (later ++ handed) i d free h sound lo hi none) in
     let l : site.Log = at_module g d (p.before ++ handed) in
     let a = write_applied (view_of (setting_of g (D d)) l) i (waits i l) ts of txn changes p.rec p.may in
-    record { later = p.later; before = p.before; of = of; dm = a.0; sends = p.sends; is = p.is ∙ ap (λ r. p.later ++ Does (D d) (Records i r p.sends) ∷ p.before) a.1 }
+    apply_in d i txn ts later p.later p.before p.rec of a.0 p.sends p.is a.1

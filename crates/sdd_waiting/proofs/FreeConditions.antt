@@ -1,5 +1,5 @@
 -- A READ of a free class has no conditions, and no condition of another declared class names it.
-use Rattle.std.proofs.Common.{ℕ, ◌∙◌, ◌∷◌, ◌≡◌, ◌≢◌, ◌⊎◌, ◌≤◌, List, None, Option, Some, [], ap, arith, inl, inr, length, refl, slice_get, subst, suc, sym, zero}
+use Rattle.std.proofs.Common.{ℕ, ◌∷◌, ◌≡◌, ◌≢◌, List, Some, [], ap, arith, inl, inr, refl, slice_get, subst, suc, zero}
 use Rattle.std.specs.Prelude.{slice_index_or}
 use Rattle.sdd_base.specs.declared.condition.Cond.{Cond}
 use Rattle.sdd_base.specs.declared.number.ClassNo.{ClassNo}
@@ -14,13 +14,13 @@ use Rattle.sdd_protocol.specs.declared.protocol.Protocol.TheVariants.{P1, P2, P3
 use Rattle.sdd_wire.specs.declared.msg.Msg.TheVariants.{Read}
 use Rattle.sdd_module.specs.SiteLog.{Force}
 use Rattle.sdd_log.specs.Entries.{Given, Log}
-use Rattle.sdd_log.specs.Locals.{IsForce, force_at}
+use Rattle.sdd_log.specs.Locals.{force_at}
 use Rattle.sdd_log.specs.Permitted.{IsPermitted}
 use Rattle.sdd_invariants.specs.Seen.{all_of, pipe_at}
 use Rattle.sdd_waiting.proofs.FreeBlocks.{none_from, none_to}
 use Rattle.sdd_waiting.proofs.FromTable.{conditions_of}
-use Rattle.sdd_waiting.specs.Conditions.{AllDiagonalsIn, IsDiagonalIn, IsFromTable}
-use Rattle.sdd_waiting.specs.Free.{IsFree, IsFreeClass}
+use Rattle.sdd_waiting.specs.Conditions.{IsDiagonalIn, IsFromTable}
+use Rattle.sdd_waiting.specs.Free.{IsFreeClass}
 
 third_not : {A : Type 0} → P3 ≡ P1 → A
 third_not e = cc

@@ -2,9 +2,9 @@
 use Rattle.std.specs.List.{cons_option}
 use Rattle.std.specs.Option.{option_or}
 use Rattle.std.specs.Prelude.{filter_map}
-use Rattle.std.proofs.Common.{ℕ, ◌&&◌, ◌++◌, ◌==◌, ◌∙◌, ◌∷◌, ◌≡◌, ◌≢◌, ◌⊎◌, Bool, List, None, Option, Some, [], ap, cond, false, if◌then◌else◌, inl, inr, map, refl, slice_get, subst, suc, sym, true, zero}
+use Rattle.std.proofs.Common.{ℕ, ◌&&◌, ◌++◌, ◌==◌, ◌∙◌, ◌∷◌, ◌≡◌, ◌≢◌, ◌⊎◌, Bool, List, None, Option, Some, [], ap, cond, false, inl, inr, map, refl, slice_get, subst, suc, sym, true, zero}
 use Rattle.std.proofs.lemmas.Bool.{eqb-true}
-use Rattle.sdd_base.specs.Numbers.{class_no, frag_no, tm_no}
+use Rattle.sdd_base.specs.Numbers.{frag_no, tm_no}
 use Rattle.sdd_base.specs.Sites.{same_site}
 use Rattle.sdd_base.specs.Words.{ascending}
 use Rattle.sdd_base.specs.declared.condition.Cond.{Cond}
@@ -49,7 +49,7 @@ use Rattle.sdd_invariants.specs.Puts.{IsRead}
 use Rattle.sdd_invariants.specs.Seen.{all_of, class_puts, pipe_at}
 use Rattle.sdd_invariants.specs.Steps.{bound, home, next_stamp, start_at, start_read}
 use Rattle.sdd_invariants.specs.Traffic.{to_site}
-use Rattle.sdd_waiting.specs.Conditions.{AllDiagonalsIn, AreConditionsOf, IsDiagonalIn, IsFromTable}
+use Rattle.sdd_waiting.specs.Conditions.{AllDiagonalsIn, AreConditionsOf, IsFromTable}
 
 -- the classes in force at a transaction module are those of the list that was put in force last
 

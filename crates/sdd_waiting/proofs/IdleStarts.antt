@@ -1,7 +1,7 @@
 -- Where nothing is due at a transaction module that isn't on hold, an idle class has no queue.
-use Rattle.std.proofs.Common.{ℕ, ◌∙◌, ◌∷◌, ◌≡◌, ◌≤◌, List, None, Option, Some, [], ap, arith, false, if◌then◌else◌, is_none, length, map, not, refl, slice_get, subst, suc, sym, true}
+use Rattle.std.proofs.Common.{ℕ, ◌∷◌, ◌≡◌, List, None, Option, Some, [], false, refl, slice_get, subst, sym}
 use Rattle.sdd_base.specs.Numbers.{tm_no}
-use Rattle.sdd_base.specs.Words.{first_some, head_of, or_else}
+use Rattle.sdd_base.specs.Words.{first_some, head_of}
 use Rattle.sdd_base.specs.declared.number.TmNo.{TmNo}
 use Rattle.sdd_base.specs.declared.site.Site.TheVariants.{T}
 use Rattle.sdd_catalog.specs.Catalogue.{Catalogue, class_at}
@@ -21,7 +21,7 @@ use Rattle.sdd_invariants.proofs.Holding.{at_map}
 use Rattle.sdd_invariants.specs.Steps.{home}
 use Rattle.sdd_waiting.proofs.EventOver.{none_at_txn}
 use Rattle.sdd_waiting.proofs.StuckHeads.{neither_some, none_at}
-use Rattle.sdd_waiting.proofs.UndeclaredHolds.{class_served, home_of_class, in_runs}
+use Rattle.sdd_waiting.proofs.ClassSites.{class_served, home_of_class, in_runs}
 
 no_start : (cat : Catalogue) (v : View) (c : ℕ) (o : Option Queued) → start_of cat v c o ≡ None → o ≡ None
 no_start cat v c None e = refl

@@ -1,7 +1,7 @@
 -- A READ whose conditions are met, that doesn't wait and isn't spoilt, is answered before the event is over, or rejected
 -- after an Apply that spoils it.
 use Rattle.std.specs.List.{list_all}
-use Rattle.std.proofs.Common.{ℕ, ◌&&◌, ◌++◌, ◌==◌, ◌∙◌, ◌∷◌, ◌≡◌, ◌≤◌, ◌⊎◌, Bool, List, None, Option, Some, [], ap, cond, false, filter, inl, inr, not, refl, slice_get, subst, suc, sym, true, zero}
+use Rattle.std.proofs.Common.{ℕ, ◌++◌, ◌∙◌, ◌∷◌, ◌≡◌, ◌≤◌, ◌⊎◌, Bool, List, None, Some, [], ap, cond, false, filter, inl, inr, not, refl, slice_get, subst, suc, sym, true, zero}
 use Rattle.sdd_base.specs.Numbers.{txn_no}
 use Rattle.sdd_base.specs.Words.{head_of}
 use Rattle.sdd_base.specs.declared.condition.Cond.{Cond}
@@ -27,17 +27,18 @@ use Rattle.sdd_log.specs.Entries.{Does, Entry, Given, Log}
 use Rattle.sdd_log.specs.Locals.{setting_of}
 use Rattle.sdd_log.specs.Permitted.{IsPermitted}
 use Rattle.sdd_invariants.proofs.AreReadSteps.{d_step}
-use Rattle.sdd_invariants.proofs.Bools.{and_left, and_right, not_both, same_or_not}
+use Rattle.sdd_invariants.proofs.Bools.{and_left, and_right, same_or_not}
 use Rattle.sdd_invariants.proofs.Processed.{not_own, passing, read_step_way}
 use Rattle.sdd_invariants.specs.ReadSteps.{IsClassHere, IsReadStep, May, by_record, spoiler}
-use Rattle.sdd_waiting.proofs.Answered.{HasSmallHomes, all_met_later, answered_on, no_ready_head}
+use Rattle.sdd_waiting.proofs.Answered.{Answers, all_met_later, answered_now, answered_on, no_ready_head}
 use Rattle.sdd_waiting.proofs.AtModule.{IsEntryAt, acting, aside, at_module, entry_at, handed_head, handing, waits_other}
+use Rattle.sdd_waiting.proofs.ClassSites.{HasSmallHomes}
 use Rattle.sdd_waiting.proofs.EventOver.{none_at_data}
 use Rattle.sdd_waiting.proofs.Rejected.{processing_of, spoiler_there}
 use Rattle.sdd_waiting.proofs.Spoilt.{spoilt_in}
 use Rattle.sdd_waiting.proofs.StuckHeads.{head_stuck}
 use Rattle.sdd_waiting.proofs.Waited.{wait_due}
-use Rattle.sdd_waiting.specs.Answers.{IsAnsweredIn, IsRejectedAfter, IsRejectedIn, IsSpoiltIn}
+use Rattle.sdd_waiting.specs.Answers.{IsAnsweredIn, IsRejectedAfter, IsRejectedIn}
 use Rattle.sdd_waiting.specs.Waited.{IsWaitOf, lacking}
 
 abbrev HeadIs : site.Log → ℕ → Msg → Type 0
@@ -50,8 +51,8 @@ none_lacks p (d ∷ ds) e =
     let first : p d ≡ true = and_left _ _ e in
     ap (λ b. cond (not b) (d ∷ filter (λ x. not (p x)) ds) (filter (λ x. not (p x)) ds)) first ∙ none_lacks p ds (and_right _ _ e)
 
-some_not : {A : Type 0} (x : Cond) (xs : List Cond) → [] ≡ x ∷ xs → A
-some_not x xs e = cc
+none_is_some : {A : Type 0} (x : Cond) (xs : List Cond) → [] ≡ x ∷ xs → A
+none_is_some x xs e = cc
 
 -- so no Wait is due
 no_wait : {A : Type 0} (s : Setting) (l : site.Log) (c k : ℕ) (ts : Ts) (of : ClassNo) (txn : TxnNo) (attempt : ℕ) (conds : List Cond) (uses : List Use) (r : Rec) (sends : List (Site × Msg))
@@ -62,12 +63,9 @@ no_wait s l c k ts of txn attempt conds uses r sends e h met due w =
     let x : IsWaitOf s l c (Records k r sends) = subst (λ z. IsWaitOf s l z (Records k r sends)) e i in
     let same : Some (Read x.ts x.of x.txn x.attempt x.conds x.uses) ≡ Some (Read ts of txn attempt conds uses) = sym x.head_is ∙ h in
     let ds : x.conds ≡ conds = cc in
-    some_not x.first x.more (sym (ap (lacking (view_of s l)) ds ∙ none_lacks (is_met (view_of s l)) conds met) ∙ x.lacks)
+    none_is_some x.first x.more (sym (ap (lacking (view_of s l)) ds ∙ none_lacks (is_met (view_of s l)) conds met) ∙ x.lacks)
 
 -- what processes it
-
-abbrev pub Answers : ℕ → TxnNo → ℕ → Act → Type 0
-Answers c txn attempt act = (dm : DmNo) × (sends : List (Site × Msg)) × (act ≡ Records c (Answer txn attempt dm) sends)
 
 abbrev pub Rejects : View → ℕ → TxnNo → ℕ → List Cond → Act → Type 0
 Rejects v c txn attempt conds act =
@@ -147,11 +145,6 @@ rejected_now g d c txn attempt conds e entries log act h clean is r =
       names = r.7;
       spoilt = spoilt_in g d r.4 entries log h then_not f.0;
     }
-
-answered_now : (d : DmNo) (c : ℕ) (txn : TxnNo) (attempt : ℕ) (e : Entry) (act : Act) (entries : Log) → e ≡ Does (D d) act
-    → Answers c txn attempt act → IsAnsweredIn d c txn attempt (e ∷ entries)
-answered_now d c txn attempt e act entries is a =
-    record { later = []; before = entries; dm = a.0; sends = a.1; is = ap (λ x. x ∷ entries) (is ∙ ap (λ x. Does (D d) x) a.2) }
 
 rejected_on : (g : Given) (log : Log) (d : DmNo) (c : ℕ) (txn : TxnNo) (attempt : ℕ) (conds : List Cond) (e : Entry) (entries : Log)
     → IsRejectedAfter g log d c txn attempt conds entries → IsRejectedAfter g log d c txn attempt conds (e ∷ entries)

@@ -1,5 +1,6 @@
 pub mod Answered
 pub mod AtModule
+pub mod ClassSites
 pub mod EventOver
 pub mod FreeBlocks
 pub mod FreeClasses
@@ -14,5 +15,7 @@ pub mod ProcessedIn
 pub mod Rejected
 pub mod Spoilt
 pub mod StuckHeads
-pub mod UndeclaredHolds
+pub mod UndeclaredReads
 pub mod Waited
+pub mod Worked
+pub mod WorkedFree

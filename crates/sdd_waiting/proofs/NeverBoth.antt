@@ -1,5 +1,5 @@
 -- An attempt that had a Wait at a module has no Reject there.
-use Rattle.std.proofs.Common.{ℕ, ◌++◌, ◌∙◌, ◌∷◌, ◌≡◌, ◌≤◌, ◌⊎◌, List, Some, [], ap, append_assoc, inl, inr, refl, subst, sym, true}
+use Rattle.std.proofs.Common.{ℕ, ◌++◌, ◌∙◌, ◌∷◌, ◌≡◌, ◌≤◌, List, Some, ap, append_assoc, inl, inr, refl, subst, sym, true}
 use Rattle.sdd_base.specs.Numbers.{txn_no}
 use Rattle.sdd_base.specs.Sites.{number_of}
 use Rattle.sdd_base.specs.declared.condition.Cond.{Cond}
@@ -10,7 +10,6 @@ use Rattle.sdd_base.specs.declared.number.TxnNo.{TxnNo}
 use Rattle.sdd_base.specs.declared.site.Site.{Site}
 use Rattle.sdd_base.specs.declared.site.Site.TheVariants.{D}
 use Rattle.sdd_base.specs.declared.usage.Use.{Use}
-use Rattle.sdd_history.specs.declared.record.Rec.{Rec}
 use Rattle.sdd_history.specs.declared.record.Rec.TheVariants.{Answer, Reject as Rejected, Wait}
 use Rattle.sdd_wire.specs.declared.msg.Msg.{Msg}
 use Rattle.sdd_wire.specs.declared.msg.Msg.TheVariants.{Null, Read, Write}
@@ -34,7 +33,6 @@ use Rattle.sdd_waiting.proofs.Answered.{waits_or_answered}
 use Rattle.sdd_waiting.proofs.AtModule.{at_module}
 use Rattle.sdd_waiting.proofs.Rejected.{IsProcessing, processing_of, rejected}
 use Rattle.sdd_waiting.proofs.Waited.{wait_due}
-use Rattle.sdd_waiting.specs.Answers.{IsAnsweredIn}
 use Rattle.sdd_waiting.specs.Rejections.{IsRejectOf}
 use Rattle.sdd_waiting.specs.Waited.{IsWaitOf}
 
@@ -67,9 +65,13 @@ read_answered s l c txn attempt dm sends i =
     answered_read (view_of s l) l c p.msg txn attempt dm p.head_is p.may
 
 -- a Wait leaves its READ at the head, and that waits
-waits_now : (c : ℕ) (txn : TxnNo) (attempt : ℕ) (dm : DmNo) (conds : List Cond) (sends : List (Site × Msg)) (l : site.Log)
-    → waits c (Did (Records c (Wait txn attempt dm conds) sends) ∷ l) ≡ true
-waits_now c txn attempt dm conds sends l = rw (same_number c) refl
+after_wait : (c : ℕ) (txn : TxnNo) (attempt : ℕ) (dm : DmNo) (conds : List Cond) (sends : List (Site × Msg)) (l k : site.Log) (m : Msg)
+    → k ≡ Did (Records c (Wait txn attempt dm conds) sends) ∷ l → head (pipe c l) ≡ Some m
+    → (waits c k ≡ true) × (head (pipe c k) ≡ Some m)
+after_wait c txn attempt dm conds sends l k m e h =
+    let waits_then : waits c (Did (Records c (Wait txn attempt dm conds) sends) ∷ l) ≡ true = rw (same_number c) refl in
+    let head_then : head (pipe c (Did (Records c (Wait txn attempt dm conds) sends) ∷ l)) ≡ Some m = ap (λ (p : Pipe). head p) (not_own c c (Wait txn attempt dm conds) sends l (inr refl)).pipe_same ∙ h in
+    (subst (λ x. waits c x ≡ true) (sym e) waits_then, subst (λ x. head (pipe c x) ≡ Some m) (sym e) head_then)
 
 txn_waited : Act → TxnNo → TxnNo
 txn_waited (Records k (Wait txn attempt dm conds) sends) other = txn
@@ -90,13 +92,11 @@ never_both g d c later before txn other attempt another dm dm2 conds by write se
     let l : site.Log = at_module g d before in
     let hw : IsPermitted g log = permitted_before g later log h.1 in
     let x : IsWaitOf s l c act = wait_due s l c (Wait txn attempt dm conds) sends (allowed_act g before (Does (D d) act) hw.0) refl in
-    let own : at_module g d log ≡ Did act ∷ l = own_act g (D d) act before in
-    let w : waits c (at_module g d log) ≡ true = ap (waits c) own ∙ waits_now c txn attempt dm conds sends l in
-    let e : head (pipe c (at_module g d log)) ≡ Some (Read x.ts x.of x.txn x.attempt x.conds x.uses) = ap (λ k. head (pipe c k)) own ∙ ap (λ (p : Pipe). head p) (not_own c c (Wait txn attempt dm conds) sends l (inr refl)).pipe_same ∙ x.head_is in
+    let w = after_wait c txn attempt dm conds sends l (at_module g d log) (Read x.ts x.of x.txn x.attempt x.conds x.uses) (own_act g (D d) act before) x.head_is in
     let r : IsRejectOf g (later ++ log) d c other another by write = rejected g (later ++ log) d c other another dm2 by write more h in
     let txn_is : txn ≡ x.txn = ap (λ a. txn_waited a txn) x.act_is in
     let attempt_is : attempt ≡ x.attempt = ap attempt_waited x.act_is in
-    elim (waits_or_answered g d c later log x.ts x.of x.txn x.attempt x.conds x.uses h.1 (w, e)) [
+    elim (waits_or_answered g d c later log x.ts x.of x.txn x.attempt x.conds x.uses h.1 w) [
       | inl y ↦ not_both (waits c (at_module g d (later ++ log))) y.0 r.waits_not
       | inr y ↦ (let ans : Act = Records c (Answer x.txn x.attempt y.dm) y.sends in
           let part : Log = y.before ++ log in

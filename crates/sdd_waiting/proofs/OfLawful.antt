@@ -1,9 +1,6 @@
 -- The laws of answers and of free classes, of lawful logs at whose end an event is over.
 use Rattle.std.specs.List.{list_all}
-use Rattle.std.proofs.Common.{ℕ, ◌++◌, ◌-◌, ◌<◌, ◌==◌, ◌∙◌, ◌∷◌, ◌≡◌, ◌≤◌, ◌⊎◌, List, None, Some, [], ap, arith, false, inl, inr, length, refl, subst, suc, sym, true}
-use Rattle.std.proofs.Math.Decide.{dec_le}
-use Rattle.std.proofs.lemmas.List.{get_or_past}
-use Rattle.sdd_base.specs.Sites.{number_of}
+use Rattle.std.proofs.Common.{ℕ, ◌++◌, ◌∷◌, ◌≡◌, ◌≤◌, ◌⊎◌, List, None, Some, [], arith, false, length, true}
 use Rattle.sdd_base.specs.declared.change.Change.{Change}
 use Rattle.sdd_base.specs.declared.condition.Cond.{Cond}
 use Rattle.sdd_base.specs.declared.number.ClassNo.{ClassNo}
@@ -13,10 +10,6 @@ use Rattle.sdd_base.specs.declared.number.TxnNo.{TxnNo}
 use Rattle.sdd_base.specs.declared.site.Site.{Site}
 use Rattle.sdd_base.specs.declared.site.Site.TheVariants.{D}
 use Rattle.sdd_base.specs.declared.usage.Use.{Use}
-use Rattle.sdd_catalog.proofs.Sound.{sound_whole}
-use Rattle.sdd_catalog.specs.Catalogue.{Catalogue, class_at}
-use Rattle.sdd_catalog.specs.Rules.{IsSound}
-use Rattle.sdd_catalog.specs.declared.resolved.Class.{Class}
 use Rattle.sdd_graph.specs.Edges.{IsClassOf}
 use Rattle.sdd_wire.specs.declared.msg.Msg.TheVariants.{Read, Write}
 use Rattle.sdd_attempt.specs.Attempts.{active}
@@ -30,45 +23,20 @@ use Rattle.sdd_log.specs.Entries.{Given, Hand, Log}
 use Rattle.sdd_log.specs.Locals.{local_of, setting_of}
 use Rattle.sdd_log.proofs.NewMarks.{lawful_permitted}
 use Rattle.sdd_log.specs.Permitted.{IsPermitted}
-use Rattle.sdd_invariants.proofs.Bools.{same_or_not}
 use Rattle.sdd_invariants.specs.ReadSteps.{IsClassHere, spoiler}
 use Rattle.sdd_invariants.specs.Seen.{pipe_at}
 use Rattle.sdd_invariants.specs.Steps.{home}
 use Rattle.sdd_waiting.proofs.Answered as ready
-use Rattle.sdd_waiting.proofs.Answered.{HasSmallHomes}
+use Rattle.sdd_waiting.proofs.ClassSites.{small_homes}
 use Rattle.sdd_waiting.proofs.EventOver.{none_due}
 use Rattle.sdd_waiting.proofs.FreeClasses as free
 use Rattle.sdd_waiting.proofs.IdleStarts as starts
 use Rattle.sdd_waiting.proofs.Judged as judged
-use Rattle.sdd_waiting.proofs.UndeclaredHolds.{class_served}
 use Rattle.sdd_waiting.specs.Answers.{EndsAnEvent, IsAnsweredIn, IsAppliedIn, IsRejectedAfter}
 use Rattle.sdd_waiting.specs.Free.{IsFreeClass}
 
 permitted_to : (g : Given) (log : Log) → EndsAnEvent g log → IsPermitted g log
 permitted_to g log h = lawful_permitted g log h.once h.lawful
-
--- the sites that run classes have small numbers
-
-module_small : (cat : Catalogue) (c : ℕ) → IsSound cat → (class_at cat c).tm.0 ≤ 16
-module_small cat c sound =
-    let whole = sound_whole cat sound in
-    let few : cat.tms ≤ 16 = whole.few_tms in
-    elim (dec_le (length cat.classes) (c - 1)) [
-      | yes past ↦ (let e : (class_at cat c).tm.0 ≡ 0 = ap (λ (k : Class). k.tm.0) (get_or_past cat.classes (c - 1) _ past) in omega arith)
-      | no there ↦ elim (dec_le 1 c) [
-        | yes from ↦ (let to = (class_served cat c sound (record { from = from; to = omega (arith, there) })).module_to in omega arith)
-        | no none ↦ (let z : c ≡ 0 = omega (arith, none) in
-            let same : (class_at cat c).tm.0 ≡ (class_at cat 1).tm.0 = ap (λ k. (class_at cat k).tm.0) z in
-            let to = (class_served cat 1 sound (record { from = omega arith; to = omega (arith, there) })).module_to in omega arith)
-      ]
-    ]
-
-small_homes : (g : Given) → IsSound g.catalogue → HasSmallHomes g
-small_homes g sound c = elim (same_or_not c 0) [
-  | inl z ↦ subst (λ k. number_of (home g.catalogue k) ≤ 63) (sym z) (omega arith)
-  | inr n ↦ (let m = module_small g.catalogue c sound in
-      let e : number_of (home g.catalogue c) ≡ (class_at g.catalogue c).tm.0 = rw n refl in omega arith)
-]
 
 class_here : (g : Given) (c : ℕ) (d : DmNo) → c ≤ length g.catalogue.classes → IsClassHere (setting_of g (D d)) c
 class_here g c d l = omega arith

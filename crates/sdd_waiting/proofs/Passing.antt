@@ -25,7 +25,7 @@ use Rattle.sdd_invariants.proofs.Made.{local_grows}
 use Rattle.sdd_invariants.proofs.Once.{processed_grows}
 use Rattle.sdd_invariants.proofs.Split.{le_is}
 use Rattle.sdd_invariants.specs.Orders.{AllGe, IsRising}
-use Rattle.sdd_invariants.specs.Seen.{all_of, class_puts, pipe_at}
+use Rattle.sdd_invariants.specs.Seen.{all_of, pipe_at}
 use Rattle.sdd_invariants.specs.Steps.{home}
 
 pub is_le : (a b : ℕ) → a ≤ b → nat_le a b ≡ true
@@ -36,6 +36,15 @@ pub any_here : {A : Type 0} (f : A → Bool) (xs : List A) (k : ℕ) (x : A) →
 any_here f [] k x e h = cc
 any_here {A = A} f (y ∷ xs) zero x e h = let p : ◌≡◌ {A = A} y x = cc in or_left (f y) (list_any f xs) (ap f p ∙ h)
 any_here f (y ∷ xs) (suc k) x e h = or_right (f y) (list_any f xs) (any_here f xs k x e h)
+
+-- the head of a pipe stands behind what is processed
+
+head_in : (ps qs : List Msg) (m : Msg) → head_of qs ≡ Some m → slice_get (ps ++ qs) (length ps) ≡ Some m
+head_in ps [] m e = cc
+head_in ps (x ∷ qs) m e = at_seam ps qs x ∙ e
+
+pub head_place : (p : Pipe) (m : Msg) → head p ≡ Some m → slice_get (all_of p) (length p.processed) ≡ Some m
+head_place p m e = head_in p.processed p.unprocessed m e
 
 -- the first part of a list of rising times
 

@@ -1,5 +1,5 @@
 -- A message that came to a pipe and is processed later: the record that processes it.
-use Rattle.std.proofs.Common.{ℕ, ◌&&◌, ◌++◌, ◌+◌, ◌<◌, ◌==◌, ◌∙◌, ◌∷◌, ◌≡◌, ◌≤◌, ◌⊎◌, Bool, List, None, Option, Some, [], ap, append_assoc, arith, false, if◌then◌else◌, inl, inr, length, length-append, refl, slice_get, subst, suc, sym, true, zero}
+use Rattle.std.proofs.Common.{ℕ, ◌++◌, ◌<◌, ◌∙◌, ◌∷◌, ◌≡◌, ◌≤◌, Bool, List, None, Some, [], ap, append_assoc, arith, false, if◌then◌else◌, inl, inr, length, length-append, refl, slice_get, subst, suc, sym, true}
 use Rattle.std.proofs.Math.Decide.{dec_le}
 use Rattle.sdd_base.specs.Words.{head_of}
 use Rattle.sdd_base.specs.declared.number.DmNo.{DmNo}
@@ -25,7 +25,7 @@ use Rattle.sdd_invariants.proofs.Sites.{site_self}
 use Rattle.sdd_invariants.specs.ReadSteps.{IsReadStep, May, by_record}
 use Rattle.sdd_invariants.specs.Seen.{all_of}
 use Rattle.sdd_waiting.proofs.AtModule.{IsEntryAt, acting, aside, at_module, entry_at, handing}
-use Rattle.sdd_waiting.proofs.Passing.{pipe_later}
+use Rattle.sdd_waiting.proofs.Passing.{head_place, pipe_later}
 use Rattle.sdd_waiting.proofs.Rejected.{IsProcessing, processing_of}
 
 -- among these entries, which came after the log, is a record that processes this message of class c at module d
@@ -37,11 +37,6 @@ pub record IsProcessedIn (g : Given) (log : Log) (d : DmNo) (c : ℕ) (m : Msg) 
   pub is : entries ≡ later ++ Does (D d) (Records c rec sends) ∷ before
   pub head_is : head (pipe c (at_module g d (before ++ log))) ≡ Some m
   pub may : May (view_of (setting_of g (D d)) (at_module g d (before ++ log))) c (waits c (at_module g d (before ++ log))) m rec
-
--- the head stands behind what is processed
-head_at : (ps qs : List Msg) (m : Msg) → head_of qs ≡ Some m → slice_get (ps ++ qs) (length ps) ≡ Some m
-head_at ps [] m e = cc
-head_at ps (x ∷ qs) m e = at_seam ps qs x ∙ e
 
 -- an act that takes the count of what is processed past a place processes what stands there
 
@@ -62,7 +57,7 @@ own_processes s l c k m r sends p i there lo hi =
     let n : length (pipe c (Did (Records c r sends) ∷ l)).processed ≡ length ((pipe c l).processed ++ x.msg ∷ []) = ap length grew in
     let one = length-append (pipe c l).processed (x.msg ∷ []) in
     let at : k ≡ length (pipe c l).processed = omega (arith, lo, hi, n, one) in
-    let same : Some x.msg ≡ Some m = sym (head_at (pipe c l).processed (pipe c l).unprocessed x.msg x.head_is) ∙ ap (slice_get (all_of (pipe c l))) (sym at) ∙ there in
+    let same : Some x.msg ≡ Some m = sym (head_place (pipe c l) x.msg x.head_is) ∙ ap (slice_get (all_of (pipe c l))) (sym at) ∙ there in
     let is : x.msg ≡ m = cc in
     (r, sends, refl, x.head_is ∙ same, subst (λ y. May (view_of s l) c (waits c l) y r) is x.may)
 

@@ -1,6 +1,5 @@
 -- A Reject names a WRITE that was processed; a READ that waits is never rejected.
-use Rattle.std.specs.List.{list_all}
-use Rattle.std.proofs.Common.{ℕ, ◌&&◌, ◌++◌, ◌==◌, ◌||◌, ◌∙◌, ◌∷◌, ◌≡◌, ◌≤◌, ◌⊎◌, Bool, List, None, Option, Some, [], ap, arith, false, filter, if◌then◌else◌, inl, inr, length, refl, slice_get, subst, suc, sym, true}
+use Rattle.std.proofs.Common.{ℕ, ◌∙◌, ◌∷◌, ◌≡◌, ◌≤◌, List, Some, [], ap, arith, false, filter, refl, slice_get, subst, sym, true}
 use Rattle.sdd_base.specs.Numbers.{time_at, txn_no}
 use Rattle.sdd_base.specs.Words.{head_of}
 use Rattle.sdd_base.specs.declared.condition.Cond.{Cond}
@@ -20,7 +19,7 @@ use Rattle.sdd_module.specs.SiteLog as site
 use Rattle.sdd_pipe.specs.Pipe.{head}
 use Rattle.sdd_dm.specs.Due.{last_write_for, or_zero, spoils}
 use Rattle.sdd_dm.specs.Pipes.{is_processing, pipe, waits}
-use Rattle.sdd_dm.specs.Views.{View, home_of, view_of}
+use Rattle.sdd_dm.specs.Views.{View, view_of}
 use Rattle.sdd_log.specs.Entries.{Does, Given, Log}
 use Rattle.sdd_log.specs.Locals.{local_of, setting_of}
 use Rattle.sdd_log.specs.Permitted.{IsPermitted}
@@ -29,7 +28,6 @@ use Rattle.sdd_invariants.proofs.Again.{is_spoilt, writer_of}
 use Rattle.sdd_invariants.proofs.AreReadSteps.{d_step}
 use Rattle.sdd_invariants.proofs.Bools.{not_both}
 use Rattle.sdd_invariants.proofs.Lists.{in_filtered}
-use Rattle.sdd_invariants.specs.Causes.{IsWriter}
 use Rattle.sdd_invariants.specs.ReadSteps.{IsDueEach, IsReadStep, May, by_record, by_wait, in_passing, spoiler}
 use Rattle.sdd_invariants.specs.Seen.{pipe_at}
 use Rattle.sdd_waiting.proofs.Waited.{since}

@@ -1,6 +1,6 @@
 -- A condition that is spoilt, and was not before, was spoilt by an Apply in between.
 use Rattle.std.specs.List.{list_any}
-use Rattle.std.proofs.Common.{ℕ, ◌&&◌, ◌++◌, ◌==◌, ◌||◌, ◌∙◌, ◌∷◌, ◌≡◌, ◌≤◌, ◌⊎◌, Bool, List, None, Option, Some, [], ap, arith, cond, false, inl, inr, length, refl, subst, suc, sym, true}
+use Rattle.std.proofs.Common.{ℕ, ◌++◌, ◌||◌, ◌∙◌, ◌∷◌, ◌≡◌, ◌≤◌, Bool, List, None, Some, [], ap, arith, cond, false, inl, inr, length, refl, subst, suc, sym, true}
 use Rattle.std.proofs.Math.Decide.{dec_le}
 use Rattle.sdd_base.specs.Numbers.{class_no, txn_no}
 use Rattle.sdd_base.specs.declared.change.Change.{Change}
@@ -12,15 +12,15 @@ use Rattle.sdd_base.specs.declared.number.TxnNo.{TxnNo}
 use Rattle.sdd_base.specs.declared.site.Site.{Site}
 use Rattle.sdd_base.specs.declared.site.Site.TheVariants.{D}
 use Rattle.sdd_history.specs.declared.record.Rec.{Rec}
-use Rattle.sdd_history.specs.declared.record.Rec.TheVariants.{Answer, Apply, Pass, Reject as Rejected}
+use Rattle.sdd_history.specs.declared.record.Rec.TheVariants.{Apply}
 use Rattle.sdd_wire.specs.declared.msg.Msg.{Msg}
-use Rattle.sdd_wire.specs.declared.msg.Msg.TheVariants.{Null, Read, Write}
+use Rattle.sdd_wire.specs.declared.msg.Msg.TheVariants.{Write}
 use Rattle.sdd_module.specs.SiteLog.{Act, Did, Handed, Records, Setting}
 use Rattle.sdd_module.specs.SiteLog as site
 use Rattle.sdd_pipe.specs.Pipe.{Pipe, head, touches}
 use Rattle.sdd_dm.specs.Due.{is_at_least, spoils}
 use Rattle.sdd_dm.specs.Pipes.{is_processing, pipe, waits}
-use Rattle.sdd_dm.specs.Views.{View, ClassView, at_class, view_of}
+use Rattle.sdd_dm.specs.Views.{ClassView, view_of}
 use Rattle.sdd_log.specs.Entries.{Does, Entry, Given, Log}
 use Rattle.sdd_log.specs.Locals.{setting_of}
 use Rattle.sdd_log.specs.Permitted.{IsPermitted}
@@ -28,9 +28,8 @@ use Rattle.sdd_invariants.proofs.AreReadSteps.{class_not_in_view, d_step}
 use Rattle.sdd_invariants.proofs.Bools.{neither_left, neither_right, not_both, only_right, same_or_not, true_or_false}
 use Rattle.sdd_invariants.proofs.Processed.{not_own, own_record, passing, processed_handed, processed_more, read_step_way}
 use Rattle.sdd_invariants.proofs.Split.{le_is}
-use Rattle.sdd_invariants.proofs.Waiting.{processed_in, processed_in_is, spoils_is}
+use Rattle.sdd_invariants.proofs.Waiting.{processed_in_is, spoils_is}
 use Rattle.sdd_invariants.specs.ReadSteps.{IsClassHere, IsReadStep, May}
-use Rattle.sdd_invariants.specs.Seen.{pipe_at}
 use Rattle.sdd_invariants.specs.Unspoilt.{spoiling}
 use Rattle.sdd_waiting.proofs.AtModule.{IsEntryAt, acting, aside, at_module, entry_at, handing}
 use Rattle.sdd_waiting.specs.Answers.{IsSpoiltIn}

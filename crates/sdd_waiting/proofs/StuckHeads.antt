@@ -1,22 +1,21 @@
 -- Where nothing is due at a data module, the head of each pipe is stuck.
 use Rattle.std.specs.List.{list_all}
-use Rattle.std.proofs.Common.{ℕ, ◌++◌, ◌∙◌, ◌∷◌, ◌≡◌, Bool, List, None, Option, Some, [], ap, false, if◌then◌else◌, not, filter, refl, slice_get, subst, suc, sym, true, zero}
-use Rattle.sdd_base.specs.Words.{first_some, head_of, or_else}
-use Rattle.sdd_base.specs.declared.condition.Cond.{Cond}
+use Rattle.std.proofs.Common.{ℕ, ◌++◌, ◌∙◌, ◌∷◌, ◌≡◌, Bool, List, None, Option, Some, [], ap, false, if◌then◌else◌, refl, slice_get, subst, suc, sym, true, zero, length}
+use Rattle.sdd_base.specs.Words.{first_some, or_else}
 use Rattle.sdd_wire.specs.Piped.{goes_through}
 use Rattle.sdd_wire.specs.declared.msg.Msg.{Msg}
 use Rattle.sdd_wire.specs.declared.msg.Msg.TheVariants.{Null, Read, Write}
-use Rattle.sdd_module.specs.SiteLog.{Act, Did, Handed, Log, Redeclared, Setting, Submits, Ticked}
-use Rattle.sdd_pipe.specs.Pipe.{Pipe, head}
+use Rattle.sdd_module.specs.SiteLog.{Did, Handed, Log, Redeclared, Setting, Submits, Ticked}
+use Rattle.sdd_pipe.specs.Pipe.{head}
 use Rattle.sdd_dm.proofs.Prefix.{all_handed, all_there}
-use Rattle.sdd_dm.specs.Due.{act_where, due, head_due, is_held, is_met, judge, open_due, step_on}
+use Rattle.sdd_dm.specs.Due.{act_where, due, head_due, is_held, is_met, open_due, step_on}
 use Rattle.sdd_dm.specs.Pipes.{pipe, waits}
 use Rattle.sdd_dm.specs.Views.{Home, View, class_view, home_of, view_of}
 use Rattle.sdd_dm.specs.declared.step.Step.{Step}
 use Rattle.sdd_dm.specs.declared.step.Step.TheVariants.{Processes}
-use Rattle.sdd_invariants.proofs.Lists.{at_seam}
 use Rattle.sdd_invariants.proofs.Waiting.{class_there}
 use Rattle.sdd_invariants.specs.ReadSteps.{IsClassHere}
+use Rattle.sdd_waiting.proofs.Passing.{head_place}
 use Rattle.sdd_waiting.specs.Heads.{IsStuck}
 
 -- options of which none is there
@@ -50,15 +49,10 @@ all_through c (Submits n txn ∷ log) k x e = all_through c log k x e
 all_through c (Redeclared force t ∷ log) k x e = all_through c log k x e
 all_through c (Did act ∷ log) k x e = all_through c log k x e
 
-at_head : (ps qs : List Msg) (m : Msg) → head_of qs ≡ Some m → (k : ℕ) × (slice_get (ps ++ qs) k ≡ Some m)
-at_head ps [] m e = cc
-at_head [] (q ∷ qs) m e = (0, e)
-at_head (p ∷ ps) (q ∷ qs) m e = let i = at_head ps (q ∷ qs) m e in (suc i.0, i.1)
-
 pub head_through : (c : ℕ) (log : Log) (m : Msg) → head (pipe c log) ≡ Some m → goes_through c m ≡ true
 head_through c log m e =
-    let i = at_head (pipe c log).processed (pipe c log).unprocessed m e in
-    all_through c log i.0 m (subst (λ ms. slice_get ms i.0 ≡ Some m) (all_there c log) i.1)
+    all_through c log (length (pipe c log).processed) m
+    (subst (λ ms. slice_get ms (length (pipe c log).processed) ≡ Some m) (all_there c log) (head_place (pipe c log) m e))
 
 -- a head for which nothing is due
 

@@ -1,11 +1,6 @@
--- The READ of an undeclared transaction holds no WRITE back: what is put with a later timestamp was started once that
--- transaction was applied at every module.
-use Rattle.std.specs.List.{list_any, range_with_len}
-use Rattle.std.specs.Prelude.{◌&&◌}
-use Rattle.std.proofs.Common.{ℕ, ◌++◌, ◌+◌, ◌-◌, ◌<◌, ◌==◌, ◌∙◌, ◌∷◌, ◌≡◌, ◌≢◌, ◌≤◌, Bool, List, Some, [], ap, append_assoc, arith, cond, eq-eqb, false, filter, inl, inr, length, nat_le, refl, slice_get, subst, suc, sym, true, zero}
-use Rattle.std.proofs.lemmas.Bool.{eqb-true}
-use Rattle.sdd_base.specs.Numbers.{dm_no, tm_no}
-use Rattle.sdd_base.specs.Sites.{number_of}
+-- The READ of an undeclared transaction is never rejected, and holds no WRITE back: what is put with a later timestamp was
+-- started once that transaction was applied at every module.
+use Rattle.std.proofs.Common.{ℕ, ◌++◌, ◌==◌, ◌∙◌, ◌∷◌, ◌≡◌, ◌≤◌, List, Some, ap, append_assoc, arith, inl, inr, length, nat_le, slice_get, subst, sym, true}
 use Rattle.sdd_base.specs.declared.change.Change.{Change}
 use Rattle.sdd_base.specs.declared.condition.Cond.{Cond}
 use Rattle.sdd_base.specs.declared.number.ClassNo.{ClassNo}
@@ -13,61 +8,40 @@ use Rattle.sdd_base.specs.declared.number.DmNo.{DmNo}
 use Rattle.sdd_base.specs.declared.number.Ts.{Ts}
 use Rattle.sdd_base.specs.declared.number.TxnNo.{TxnNo}
 use Rattle.sdd_base.specs.declared.site.Site.{Site}
-use Rattle.sdd_base.specs.declared.site.Site.TheVariants.{D, T}
+use Rattle.sdd_base.specs.declared.site.Site.TheVariants.{D}
 use Rattle.sdd_base.specs.declared.usage.Use.{Use}
-use Rattle.sdd_catalog.proofs.Sound.{at_number, sound_classes, sound_whole}
-use Rattle.sdd_catalog.specs.Catalogue.{Catalogue, class_at, numbers_to}
-use Rattle.sdd_catalog.specs.Numbers.{IsServedClass}
+use Rattle.sdd_catalog.proofs.Sound.{sound_whole}
+use Rattle.sdd_catalog.specs.Catalogue.{class_at}
 use Rattle.sdd_catalog.specs.Rules.{IsSound}
 use Rattle.sdd_graph.specs.Edges.{IsClassOf}
-use Rattle.sdd_history.specs.declared.record.Rec.TheVariants.{Answer}
+use Rattle.sdd_history.specs.declared.record.Rec.TheVariants.{Answer, Reject as Rejected}
 use Rattle.sdd_wire.specs.declared.msg.Msg.{Msg}
 use Rattle.sdd_wire.specs.declared.msg.Msg.TheVariants.{Read, Write}
-use Rattle.sdd_module.specs.SiteLog.{Act, Records}
+use Rattle.sdd_module.specs.SiteLog.{Act, Records, Setting}
+use Rattle.sdd_module.specs.SiteLog as site
 use Rattle.sdd_attempt.specs.Attempts.{Attempt}
 use Rattle.sdd_pipe.specs.Pipe.{head}
-use Rattle.sdd_dm.specs.Due.{holds, holds_back}
-use Rattle.sdd_dm.specs.Views.{home_of}
-use Rattle.sdd_tm.specs.Views.{runs}
+use Rattle.sdd_dm.specs.Due.{holds, holds_back, spoils}
+use Rattle.sdd_dm.specs.Views.{home_of, view_of}
 use Rattle.sdd_log.specs.Entries.{Does, Given, Log}
-use Rattle.sdd_log.specs.Locals.{setting_of}
+use Rattle.sdd_log.specs.Locals.{local_of, setting_of}
 use Rattle.sdd_log.specs.Permitted.{IsPermitted}
+use Rattle.sdd_log.proofs.EachLocal.{allowed_act}
 use Rattle.sdd_invariants.proofs.Answered.{read_of}
 use Rattle.sdd_invariants.proofs.Apart.{low_or_high}
-use Rattle.sdd_invariants.proofs.Bools.{and_left, and_right, not_zero, same_number}
+use Rattle.sdd_invariants.proofs.AreReadSteps.{d_step}
+use Rattle.sdd_invariants.proofs.Bools.{and_left, and_right, not_both}
 use Rattle.sdd_invariants.proofs.Dones.{all_applied}
 use Rattle.sdd_invariants.proofs.Installed.{class_number, head_put, write_origin}
-use Rattle.sdd_invariants.proofs.Lists.{any_at}
+use Rattle.sdd_invariants.proofs.Lists.{any_at, in_range}
 use Rattle.sdd_invariants.proofs.Once.{answered_there}
 use Rattle.sdd_invariants.proofs.Split.{le_is}
-use Rattle.sdd_invariants.proofs.Undeclared.{Part, answered_before, commit_t, has_cond, part_join, part_of, permitted_part, read_classes}
+use Rattle.sdd_invariants.proofs.Undeclared.{Part, answered_before, commit_t, has_cond, never_spoilt, part_join, part_of, permitted_part, read_classes}
 use Rattle.sdd_invariants.specs.Barrier.{u_stamp, zero_cond}
 use Rattle.sdd_invariants.specs.Causes.{HasAnswer, IsApplyOf}
 use Rattle.sdd_invariants.specs.Seen.{pipe_at}
-use Rattle.sdd_invariants.specs.Steps.{home}
-use Rattle.sdd_waiting.proofs.EventOver.{range_there}
-
--- the sites of classes
-
-pub class_served : (cat : Catalogue) (i : ℕ) → IsSound cat → IsClassOf cat i → IsServedClass cat (class_at cat i)
-class_served cat i sound c = at_number (IsServedClass cat) cat.classes i _ (sound_classes cat sound) c.from c.to
-
-pub home_of_class : (cat : Catalogue) (i : ℕ) → IsClassOf cat i → home cat i ≡ T (tm_no (class_at cat i).tm.0)
-home_of_class cat i c = rw (not_zero i c.from) refl
-
-kept_there : (p : ℕ → Bool) (xs : List ℕ) (k x : ℕ) → slice_get xs k ≡ Some x → p x ≡ true → (j : ℕ) × (slice_get (filter p xs) j ≡ Some x)
-kept_there p [] k x e h = cc
-kept_there p (y ∷ xs) zero x e h = let q : y ≡ x = cc in (0, rw (ap p q ∙ h) e)
-kept_there p (y ∷ xs) (suc k) x e h =
-    let i = kept_there p xs k x e h in
-    elim (p y) as (λ b. (j : ℕ) × (slice_get (cond b (y ∷ filter p xs) (filter p xs)) j ≡ Some x)) [ true ↦ (suc i.0, i.1) | false ↦ i ]
-
-pub in_runs : (g : Given) (i : ℕ) → IsClassOf g.catalogue i
-    → (j : ℕ) × (slice_get (runs (setting_of g (T (tm_no (class_at g.catalogue i).tm.0)))) j ≡ Some i)
-in_runs g i c =
-    let t : ℕ = (class_at g.catalogue i).tm.0 in
-    let r = range_there 1 (length g.catalogue.classes) i c.from (let l = c.to in omega arith) in
-    kept_there (λ k. (class_at g.catalogue k).tm.0 == t) (numbers_to (length g.catalogue.classes)) r.0 i r.1 (same_number t)
+use Rattle.sdd_waiting.proofs.ClassSites.{class_served, home_of_class, in_runs, range_there}
+use Rattle.sdd_waiting.proofs.Rejected.{IsRejecting, rejecting, spoiler_there}
 
 -- the READ of an undeclared transaction that is answered doesn't stand at the head again
 not_again : (g : Given) (d : DmNo) (log : Log) (a : Attempt) (ts : Ts) (k : ClassNo) (txn : TxnNo) (n : ℕ) (ds : List Cond) (us : List Use) (before : Log)
@@ -125,3 +99,34 @@ holds_none g i d log ts of txn n ds us w wc wt changes h sound c lo hi e f b =
     let put = head_put g i d log (Write w wc wt changes) h f in
     let class : wc.0 ≡ i = class_number wc.0 i w.0 put.of_class in
     none_later g i wt.0 w.0 d log ts of txn n ds us h sound c lo hi e (subst (λ t. t ≤ w.0) time (le_is a.1.time.0 w.0 late)) (write_origin g log i d w wc wt changes class put)
+
+-- and is never rejected
+
+class_of_cond : (g : Given) (d : DmNo) (log : Log) (ts : Ts) (of : ClassNo) (txn : TxnNo) (n : ℕ) (ds : List Cond) (us : List Use) (j : ℕ) (q : Cond)
+    → IsPermitted g log → head (pipe_at g 0 d log) ≡ Some (Read ts of txn n ds us) → slice_get ds j ≡ Some q
+    → IsClassOf g.catalogue q.class.0
+class_of_cond g d log ts of txn n ds us j q h e f =
+    let r = in_range 1 (length g.catalogue.classes) j q.class.0 (read_classes g d log ts of txn n ds us j q h e f) in
+    record { from = r.0; to = (let l = r.1 in omega arith) }
+
+pub not_rejected : (g : Given) (log : Log) (d : DmNo) (txn : TxnNo) (attempt : ℕ) (dm : DmNo) (by : ClassNo) (write : Ts) (sends : List (Site × Msg))
+    → IsSound g.catalogue → 1 ≤ d.0 → d.0 ≤ g.catalogue.dms
+    → IsPermitted g (Does (D d) (Records 0 (Rejected txn attempt dm by write) sends) ∷ log) → ⊥
+not_rejected g log d txn attempt dm by write sends sound lo hi h =
+    let s : Setting = setting_of g (D d) in
+    let l : site.Log = local_of g (D d) log in
+    let act : Act = Records 0 (Rejected txn attempt dm by write) sends in
+    let r : IsRejecting s l 0 txn attempt by write = rejecting s l 0 txn attempt dm by write sends (d_step s l act (allowed_act g log (Does (D d) act) h.0)) in
+    let q : Cond = r.cond_by in
+    let f = spoiler_there (view_of s l) r.conds q r.spoiler_is in
+    let class = class_of_cond g d log r.ts r.of txn attempt r.conds r.uses f.1 q h.1 r.head_is f.2 in
+    let served = class_served g.catalogue q.class.0 sound class in
+    let whole = sound_whole g.catalogue sound in
+    let few : g.catalogue.tms ≤ 16 = whole.few_tms in
+    let to = served.module_to in
+    let t : ℕ = (class_at g.catalogue q.class.0).tm.0 in
+    let k = range_there 1 g.catalogue.tms t served.module_from (omega arith) in
+    let kd = range_there 1 g.catalogue.dms d.0 lo (omega arith) in
+    let j = in_runs g q.class.0 class in
+    let clean = never_spoilt g k.0 t j.0 kd.0 f.1 d log r.ts r.of txn attempt r.conds r.uses q h.1 k.1 j.1 (omega arith) (home_of_class g.catalogue q.class.0 class) kd.1 r.head_is f.2 in
+    not_both (spoils (view_of s l) q) f.0 clean
