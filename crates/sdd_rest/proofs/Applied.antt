@@ -1,5 +1,5 @@
 -- Where nothing goes on and a pipe has nothing unprocessed, every WRITE of its class that touches the module is applied.
-use Rattle.std.proofs.Common.{ℕ, ◌++◌, ◌<◌, ◌==◌, ◌∙◌, ◌∷◌, ◌≡◌, ◌≤◌, ◌⊎◌, List, Some, [], ap, append-nil, inl, inr, length, refl, slice_get, subst, sym, take, true}
+use Rattle.std.proofs.Common.{ℕ, ◌++◌, ◌<◌, ◌==◌, ◌∙◌, ◌∷◌, ◌≡◌, ◌⊎◌, Some, [], ap, append-nil, length, slice_get, subst, sym, true}
 use Rattle.std.proofs.lemmas.List.{take_all}
 use Rattle.sdd_base.specs.Numbers.{class_no, dm_no, time_at, txn_no}
 use Rattle.sdd_base.specs.declared.site.Site.TheVariants.{D}
@@ -12,14 +12,14 @@ use Rattle.sdd_attempt.specs.Acts.{commit_act}
 use Rattle.sdd_attempt.specs.Attempts.{Attempt}
 use Rattle.sdd_dm.specs.Pipes.{pipe}
 use Rattle.sdd_log.specs.Entries.{Does, Given, Log}
-use Rattle.sdd_log.specs.Locals.{local_of, setting_of}
+use Rattle.sdd_log.specs.Locals.{setting_of}
 use Rattle.sdd_log.specs.Traffic.{handed}
 use Rattle.sdd_invariants.proofs.Fair.{d_fair}
 use Rattle.sdd_invariants.proofs.InPipe.{pipe_is}
 use Rattle.sdd_invariants.proofs.Installed.{commit_put}
 use Rattle.sdd_invariants.proofs.Processed.{matched, zip_at}
 use Rattle.sdd_invariants.specs.ReadSteps.{IsOf, results}
-use Rattle.sdd_invariants.specs.Seen.{IsApplied, all_of, changes_to, class_puts, pipe_at}
+use Rattle.sdd_invariants.specs.Seen.{IsApplied, all_of, changes_to, class_puts}
 use Rattle.sdd_invariants.specs.Steps.{home}
 use Rattle.sdd_invariants.specs.Traffic.{class_in, puts_to}
 use Rattle.sdd_rest.proofs.Handed.{none_left}

@@ -8,7 +8,6 @@ use Rattle.sdd_base.specs.Numbers.{tm_no, txn_no}
 use Rattle.sdd_base.specs.Words.{head_of}
 use Rattle.sdd_base.specs.declared.change.Change.{Change}
 use Rattle.sdd_base.specs.declared.event.Event.TheVariants.{Submit as Submitting}
-use Rattle.sdd_base.specs.declared.number.TxnNo.{TxnNo}
 use Rattle.sdd_base.specs.declared.reply.Reply.{Reply}
 use Rattle.sdd_base.specs.declared.site.Site.{Site}
 use Rattle.sdd_base.specs.declared.site.Site.TheVariants.{T}
@@ -19,11 +18,9 @@ use Rattle.sdd_history.specs.declared.record.Rec.TheVariants.{Commit, Submit}
 use Rattle.sdd_lang.specs.Classes.{class_for, covers}
 use Rattle.sdd_lang.specs.declared.transaction.Txn.{Txn}
 use Rattle.sdd_module.specs.SiteLog.{Act, Did, Force, Records, Submits, in_force}
-use Rattle.sdd_module.specs.SiteLog as site
 use Rattle.sdd_order.specs.Numbers.{IsClass}
 use Rattle.sdd_order.specs.Places.{Stands}
-use Rattle.sdd_attempt.specs.Queues.{Queued, is_for, queue}
-use Rattle.sdd_laws.specs.Deeds.{IsSubmitted}
+use Rattle.sdd_attempt.specs.Queues.{is_for}
 use Rattle.sdd_laws.proofs.EraSets.{covered}
 use Rattle.sdd_laws.proofs.Lists.{first_passes}
 use Rattle.sdd_log.specs.Due.{home_of}
@@ -35,7 +32,7 @@ use Rattle.sdd_invariants.proofs.Fair.{all_new, home_fair}
 use Rattle.sdd_invariants.proofs.Lists.{member_there}
 use Rattle.sdd_invariants.proofs.Made.{permitted_before, place_of_act}
 use Rattle.sdd_invariants.proofs.Queues.{queue_is}
-use Rattle.sdd_invariants.specs.Steps.{home, is_committed, queued, starts_of, submits_of}
+use Rattle.sdd_invariants.specs.Steps.{home, is_committed, queued, submits_of}
 use Rattle.sdd_upheld.specs.Given.{AreNumbered}
 use Rattle.sdd_upheld.proofs.Classes.{IsForClass, at_home, force_there, further_back, home_by, home_setting, submit_local}
 use Rattle.sdd_upheld.proofs.Commits.{Told, commit_rec}
@@ -145,8 +142,8 @@ all_committed g log h one none numbered done n k submitted =
     let force : (force_at g (redeclares s.rest)).catalogue ≡ g.catalogue = ap (λ i. (force_at g i).catalogue) first ∙ one.same in
     let class : class_for (force_at g (redeclares s.rest)).catalogue t.text ≡ c = ap (λ w. class_for w t.text) force in
     let at : s.at ≡ home g.catalogue c =
-        x.at_is ∙ ap (home_of (force_at g (redeclares x.earlier)).catalogue) t.is ∙ ap (λ i. home_of (force_at g i).catalogue (Some t.text)) (sym (ap redeclares x.is))
-        ∙ ap (λ w. home_of w (Some t.text)) force ∙ home_is g.catalogue t.text c refl in
+    x.at_is ∙ ap (home_of (force_at g (redeclares x.earlier)).catalogue) t.is ∙ ap (λ i. home_of (force_at g i).catalogue (Some t.text)) (sym (ap redeclares x.is))
+    ∙ ap (λ w. home_of w (Some t.text)) force ∙ home_is g.catalogue t.text c refl in
     let is : log ≡ s.later ++ Submitted (home g.catalogue c) n ∷ s.rest = s.is ∙ ap (λ a. s.later ++ Submitted a n ∷ s.rest) at in
     let m = submit_local g c n t.text s.later s.rest t.is in
     let local : at_home g c log ≡ m.0 ++ Submits n t.text ∷ at_home g c s.rest = ap (at_home g c) is ∙ m.1 in

@@ -1,9 +1,9 @@
 -- The DONEs that were handed to the module for undeclared transactions, against those that it counts for its last Commit.
-use Rattle.std.proofs.Common.{ℕ, ◌+◌, ◌++◌, ◌<◌, ◌==◌, ◌∙◌, ◌∷◌, ◌≡◌, ◌≤◌, Bool, List, None, Option, Some, [], ap, arith, false, if◌then◌else◌, inl, inr, refl, slice_get, suc, subst, sym, true, zero}
+use Rattle.std.proofs.Common.{ℕ, ◌+◌, ◌<◌, ◌==◌, ◌∙◌, ◌∷◌, ◌≡◌, ◌≤◌, List, None, Option, Some, [], ap, arith, false, if◌then◌else◌, refl, slice_get, suc, subst, sym, true}
 use Rattle.std.proofs.Math.Decide.{dec_le}
 use Rattle.std.proofs.lemmas.Bool.{eqb-true}
 use Rattle.sdd_base.specs.Numbers.{dm_no, tm_no}
-use Rattle.sdd_base.specs.Sites.{number_of, same_site}
+use Rattle.sdd_base.specs.Sites.{number_of}
 use Rattle.sdd_base.specs.Words.{head_of}
 use Rattle.sdd_base.specs.declared.site.Site.{Site}
 use Rattle.sdd_base.specs.declared.site.Site.TheVariants.{D, T, U}
@@ -23,13 +23,12 @@ use Rattle.sdd_log.specs.Permitted.{IsAllowed, IsPermitted}
 use Rattle.sdd_log.specs.Traffic.{handed}
 use Rattle.sdd_log.proofs.EachLocal.{each_local}
 use Rattle.sdd_invariants.proofs.Answered.{from_a_d}
-use Rattle.sdd_invariants.proofs.Bools.{same_number}
 use Rattle.sdd_invariants.proofs.Clocks.{bound_below_next, bound_rises, limit_le}
 use Rattle.sdd_invariants.proofs.InOrder.{hand_was_put}
 use Rattle.sdd_invariants.proofs.Serving.{u_due, u_way}
 use Rattle.sdd_invariants.specs.AtU.{IsFairU, IsStepU}
 use Rattle.sdd_invariants.specs.Releases.{dones_of, is_done_of}
-use Rattle.sdd_invariants.specs.Steps.{IsFair, bound, limit, limit_of, next_stamp, start_at}
+use Rattle.sdd_invariants.specs.Steps.{IsFair, bound, limit_of, next_stamp, start_at}
 use Rattle.sdd_invariants.specs.Traffic.{puts_to}
 use Rattle.sdd_invariants.specs.Turns.{one_if}
 use Rattle.sdd_facts.proofs.DonesFit.{done_fits}

@@ -1,9 +1,7 @@
 -- Where nothing goes on and all WRITEs are applied, the module for undeclared transactions has counted the DONE of each data
 -- module for its last Commit.
-use Rattle.std.specs.List.{range_with_len}
-use Rattle.std.proofs.Common.{ℕ, ◌+◌, ◌++◌, ◌<◌, ◌==◌, ◌∙◌, ◌∷◌, ◌≡◌, ◌≤◌, Bool, List, None, Option, Some, [], ap, arith, false, if◌then◌else◌, inl, inr, length, refl, slice_get, suc, subst, sym, true, zero}
-use Rattle.std.proofs.Math.Decide.{dec_le}
-use Rattle.sdd_base.specs.Numbers.{class_no, dm_no, time_at, txn_no}
+use Rattle.std.proofs.Common.{ℕ, ◌+◌, ◌++◌, ◌<◌, ◌==◌, ◌∙◌, ◌∷◌, ◌≡◌, ◌≤◌, Bool, List, Some, [], ap, arith, false, if◌then◌else◌, inl, inr, refl, slice_get, suc, subst, sym, true, zero}
+use Rattle.sdd_base.specs.Numbers.{dm_no, time_at}
 use Rattle.sdd_base.specs.Sites.{number_of, same_site}
 use Rattle.sdd_base.specs.declared.number.ClassNo.{ClassNo}
 use Rattle.sdd_base.specs.declared.number.DmNo.{DmNo}
@@ -16,16 +14,13 @@ use Rattle.sdd_catalog.specs.Rules.{IsSound}
 use Rattle.sdd_history.specs.declared.record.Rec.{Rec}
 use Rattle.sdd_history.specs.declared.record.Rec.TheVariants.{Apply}
 use Rattle.sdd_wire.specs.declared.msg.Msg.{Msg}
-use Rattle.sdd_wire.specs.declared.msg.Msg.TheVariants.{Done, Write}
+use Rattle.sdd_wire.specs.declared.msg.Msg.TheVariants.{Done}
 use Rattle.sdd_module.specs.SiteLog.{Act, Bases, Did, Each, Handed, Records, Redeclared, Setting, Submits, Ticked, sends_of_act}
 use Rattle.sdd_module.specs.SiteLog as site
-use Rattle.sdd_order.specs.Numbers.{IsClass, IsModule}
+use Rattle.sdd_order.specs.Numbers.{IsModule}
 use Rattle.sdd_attempt.specs.Acts.{commit_act}
 use Rattle.sdd_attempt.specs.Attempts.{Attempt}
-use Rattle.sdd_pipe.specs.Pipe.{head}
 use Rattle.sdd_dm.specs.Due.{done_for}
-use Rattle.sdd_dm.specs.Pipes.{pipe}
-use Rattle.sdd_dm.specs.Views.{home_of}
 use Rattle.sdd_umod.specs.Views.{last_served}
 use Rattle.sdd_log.specs.Entries.{Does, Given, Log}
 use Rattle.sdd_log.specs.Locals.{local_of, setting_of}
@@ -34,7 +29,6 @@ use Rattle.sdd_invariants.proofs.Bools.{same_number, same_or_not}
 use Rattle.sdd_invariants.proofs.Dones.{dones_few}
 use Rattle.sdd_invariants.proofs.Fair.{d_fair, u_fair}
 use Rattle.sdd_invariants.proofs.HoldChain.{u_table}
-use Rattle.sdd_invariants.proofs.Lists.{in_right}
 use Rattle.sdd_invariants.proofs.Origins.{is_put}
 use Rattle.sdd_invariants.proofs.Turns.{tally_append}
 use Rattle.sdd_invariants.specs.ReadSteps.{IsDueEach, IsOfWrite}
@@ -149,11 +143,11 @@ pub all_done : (g : Given) (log : Log) (later before : Log) (bases : Bases) (a :
 all_done g log later before bases a h sound idle is =
     let each : (d : ℕ) → 1 ≤ d → d < 1 + g.catalogue.dms → 1 ≤ from_module a.ts (local_of g U log) d =
     λ d l m.
-      (let in_range : IsModule g.catalogue d = (l, omega (arith, m)) in
-      let x = all_applied g log 0 d later before bases a h sound (omega arith) in_range (idle.processed 0 d (omega arith) in_range) is (inl refl) in
-      let p = done_put g log d a.txn a.ts x.rec h x.is (result_in 0 (at_module g d log) x.place x.rec x.there) in
-      let same = all_handed g log (D (dm_no d)) U h (home_linked g.catalogue 0 d sound (omega arith) in_range).1 in
-      one_there (is_done_of a.ts) (hands_from (D (dm_no d)) (local_of g U log)) p.0 (Done (time_at a.ts)) (subst (λ ms. slice_get ms p.0 ≡ Some (Done (time_at a.ts))) (sym same) p.1) (same_number a.ts)) in
+    (let in_range : IsModule g.catalogue d = (l, omega (arith, m)) in
+    let x = all_applied g log 0 d later before bases a h sound (omega arith) in_range (idle.processed 0 d (omega arith) in_range) is (inl refl) in
+    let p = done_put g log d a.txn a.ts x.rec h x.is (result_in 0 (at_module g d log) x.place x.rec x.there) in
+    let same = all_handed g log (D (dm_no d)) U h (home_linked g.catalogue 0 d sound (omega arith) in_range).1 in
+    one_there (is_done_of a.ts) (hands_from (D (dm_no d)) (local_of g U log)) p.0 (Done (time_at a.ts)) (subst (λ ms. slice_get ms p.0 ≡ Some (Done (time_at a.ts))) (sym same) p.1) (same_number a.ts)) in
     let n = one_each (from_module a.ts (local_of g U log)) g.catalogue.dms 1 each in
     let m = dones_of_modules a.ts g.catalogue.dms 1 (local_of g U log) in
     omega (arith, n, m)

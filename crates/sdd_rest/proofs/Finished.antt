@@ -1,20 +1,19 @@
 -- Where nothing goes on and all is idle, no transaction module is on hold and no transaction is in a queue.
 use Rattle.std.specs.List.{list_all}
 use Rattle.std.specs.Prelude.{nat_lt}
-use Rattle.std.proofs.Common.{ℕ, ◌&&◌, ◌-◌, ◌<◌, ◌==◌, ◌∙◌, ◌∷◌, ◌≡◌, ◌≤◌, ◌⊎◌, Bool, List, None, Option, Some, [], ap, arith, false, if◌then◌else◌, inl, inr, is_none, length, map, not, refl, slice_get, subst, suc, sym, true}
+use Rattle.std.proofs.Common.{ℕ, ◌&&◌, ◌-◌, ◌<◌, ◌==◌, ◌∙◌, ◌∷◌, ◌≡◌, ◌≤◌, Bool, List, None, Option, Some, [], ap, arith, false, if◌then◌else◌, inl, inr, is_none, length, not, refl, slice_get, subst, suc, sym, true}
 use Rattle.std.proofs.Math.Decide.{dec_le}
 use Rattle.std.proofs.lemmas.Bool.{eq-eqb, eqb-true, le-ltb, lt-ltb}
-use Rattle.sdd_base.specs.Numbers.{dm_no, tm_no}
-use Rattle.sdd_base.specs.Sites.{number_of}
+use Rattle.sdd_base.specs.Numbers.{tm_no}
 use Rattle.sdd_base.specs.Words.{head_of}
-use Rattle.sdd_base.specs.declared.site.Site.TheVariants.{D, T, U}
+use Rattle.sdd_base.specs.declared.site.Site.TheVariants.{T, U}
 use Rattle.sdd_catalog.specs.Catalogue.{Catalogue, class_at, numbers_to}
 use Rattle.sdd_catalog.specs.Rules.{IsSound}
 use Rattle.sdd_catalog.proofs.Sound.{sound_whole}
 use Rattle.sdd_module.specs.SiteLog as site
 use Rattle.sdd_order.specs.Numbers.{IsClass}
 use Rattle.sdd_attempt.specs.Acts.{commit_act}
-use Rattle.sdd_attempt.specs.Attempts.{Attempt, active}
+use Rattle.sdd_attempt.specs.Attempts.{active}
 use Rattle.sdd_attempt.specs.Queues.{Queued, queue}
 use Rattle.sdd_net.specs.Nets.{is_link}
 use Rattle.sdd_tm.specs.Due as tm
@@ -31,8 +30,7 @@ use Rattle.sdd_invariants.proofs.Holding.{t_helds}
 use Rattle.sdd_invariants.proofs.Lists.{in_filtered, in_mapped, in_range}
 use Rattle.sdd_invariants.proofs.Made.{place_of_act}
 use Rattle.sdd_invariants.proofs.Serving.{chain}
-use Rattle.sdd_invariants.specs.AtU.{AllZero, starts}
-use Rattle.sdd_invariants.specs.Barrier.{IsHoldChain}
+use Rattle.sdd_invariants.specs.AtU.{AllZero}
 use Rattle.sdd_invariants.specs.Steps.{home}
 use Rattle.sdd_invariants.specs.Traffic.{hands_from, puts_to}
 use Rattle.sdd_invariants.specs.Turns.{is_a_held, is_a_hold, is_a_release, tally}
@@ -43,7 +41,7 @@ use Rattle.sdd_rest.proofs.Handed.{all_handed}
 use Rattle.sdd_rest.proofs.Holds.{holds_needed, last_commit}
 use Rattle.sdd_rest.proofs.Lists.{all_true, if_none, no_head}
 use Rattle.sdd_rest.proofs.NoRejects.{all_served}
-use Rattle.sdd_rest.proofs.Still.{IsStillT, IsStillU, run_at, runs_place, t_site, t_still, u_still}
+use Rattle.sdd_rest.proofs.Still.{run_at, runs_place, t_site, t_still, u_still}
 use Rattle.sdd_rest.specs.Finished.{IsFinished, IsIdle}
 use Rattle.sdd_rest.specs.Quiet.{IsQuiet, at_home}
 
@@ -109,11 +107,11 @@ all_idle : (g : Given) (log : Log) (t : ℕ) → IsIdle g log → 1 ≤ t
     → list_all tm_views.is_idle (tm_views.view_of (setting_of g (T (tm_no t))) (local_of g (T (tm_no t)) log)).classes ≡ true
 all_idle g log t idle l =
     all_true tm_views.is_idle _ (λ k x e.
-      (let r = in_mapped (tm_views.class_view (setting_of g (T (tm_no t))) (local_of g (T (tm_no t)) log)) (tm_views.runs (setting_of g (T (tm_no t)))) k x e in
-      let run = run_by g r.0 t k r.1 in
-      let none = idle.no_attempt r.0 run.2 in
-      let here : active (setting_of g (T (tm_no t))) r.0 (local_of g (T (tm_no t)) log) ≡ None = subst (λ y. active (setting_of g y) r.0 (local_of g y log) ≡ None) run.1 none in
-      ap tm_views.is_idle (sym r.2) ∙ ap is_none here))
+    (let r = in_mapped (tm_views.class_view (setting_of g (T (tm_no t))) (local_of g (T (tm_no t)) log)) (tm_views.runs (setting_of g (T (tm_no t)))) k x e in
+    let run = run_by g r.0 t k r.1 in
+    let none = idle.no_attempt r.0 run.2 in
+    let here : active (setting_of g (T (tm_no t))) r.0 (local_of g (T (tm_no t)) log) ≡ None = subst (λ y. active (setting_of g y) r.0 (local_of g y log) ≡ None) run.1 none in
+    ap tm_views.is_idle (sym r.2) ∙ ap is_none here))
 
 held_told : (g : Given) (log : Log) (t : ℕ) → IsQuiet g log → IsIdle g log → 1 ≤ t → t ≤ g.catalogue.tms
     → (holds (local_of g (T (tm_no t)) log)).releases < (holds (local_of g (T (tm_no t)) log)).holds
@@ -142,7 +140,7 @@ u_holding g log q h sound idle e t l m =
     let v = level g log t h l m in
     let released = all_released g log t h sound idle l m in
     let due : um.hold_to (counts t lu) (Some q) ≡ None = subst (λ o. um.hold_to (counts t lu) o ≡ None) e ((u_still g log h).holds (t - 1) t (at_place g.catalogue.tms t l m)) in
-    let apart = if_none _ _ due in
+    let apart : ((counts t lu).releases == (counts t lu).holds) ≡ false = if_none _ _ due in
     let ahead : (counts t lu).releases < (counts t lu).holds = elim (dec_le (counts t lu).holds (counts t lu).releases) [
       | yes p ↦ (let same : (counts t lu).releases ≡ (counts t lu).holds = omega (arith, p, c.committed, c.started, c.got_held, c.put_held, c.got_hold, c.put_hold) in absurd (not_both _ (eq-eqb _ _ same) apart))
       | no p ↦ omega (arith, p)
@@ -167,10 +165,10 @@ u_no_queue g log h sound idle (Some q) e =
     let fresh : q.tries ≡ 0 = zero_head (queue s 0 lu) q served.1 e in
     let ready = u_holding g log q h sound idle e in
     let all : list_all (um.is_holding v) v.counts ≡ true = all_true (um.is_holding v) v.counts (λ k x i.
-      (let r = in_mapped (λ t. counts t lu) (numbers_to g.catalogue.tms) k x i in
-      let t = in_range 1 g.catalogue.tms k r.0 r.1 in
-      let n = ready r.0 t.0 (omega (arith, t.1)) in
-      ap (um.is_holding v) (sym r.2) ∙ both _ _ (eq-eqb _ _ n.0) (eq-eqb _ _ n.1))) in
+    (let r = in_mapped (λ t. counts t lu) (numbers_to g.catalogue.tms) k x i in
+    let t = in_range 1 g.catalogue.tms k r.0 r.1 in
+    let n = ready r.0 t.0 (omega (arith, t.1)) in
+    ap (um.is_holding v) (sym r.2) ∙ both _ _ (eq-eqb _ _ n.0) (eq-eqb _ _ n.1))) in
     let due : um.start_of g.catalogue v (Some q) ≡ None = subst (λ o. um.start_of g.catalogue v o ≡ None) e (u_still g log h).start in
     let off = if_none _ _ due in
     let on = both _ _ (eq-eqb _ _ fresh) all in

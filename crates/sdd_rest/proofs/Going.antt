@@ -26,7 +26,7 @@ use Rattle.sdd_facts.proofs.Asking.{in_turn}
 use Rattle.sdd_facts.proofs.AtTurn.{StandsAt, awaits}
 use Rattle.sdd_facts.proofs.FirstSends.{IsFirstEach}
 use Rattle.sdd_facts.proofs.Hearing.{AtTurn, InTurn, IsTimely, answers_asked, is_awaited}
-use Rattle.sdd_facts.specs.Turns.{Asks, MayAnswer, Refused, Replies, RepliesToFetch, RepliesToRead, RepliesToReduce, RepliesToShip, Silent, Told, Turn, is_answer, turn_at}
+use Rattle.sdd_facts.specs.Turns.{MayAnswer, Replies, Turn, is_answer, turn_at}
 use Rattle.sdd_upheld.proofs.Asks.{contains_either}
 use Rattle.sdd_rest.proofs.Lists.{either}
 use Rattle.sdd_rest.proofs.Moves.{move_reads}
@@ -182,17 +182,17 @@ reply_to x d v m st may =
 hand_goes : (ts c d : ℕ) (m : Msg) (x : Exchange) → (is_answer ts c m ≡ true → IsReplyTo x d m) → IsGoing x → IsGoing (after_hand ts c d m x)
 hand_goes ts c d (Ready t k counts) x r h =
     answer_if ts c d ((t.0 == ts) && (k.0 == c)) x (record x { counts = counted d counts x.counts }) h (λ e.
-      (let w = r e in
-      let us : map (λ (n : ℕ × ℕ). n.0) counts ≡ w.uses = ready_uses w.uses w.question t k counts w.replies in
-      let all : AllRead x.modules w.uses = all_read x.modules d w.uses (λ u f. subst (λ l. contains l u ≡ true) (sym w.uses_are) f) in
-      record { modules = h.counted.modules; reduces = h.counted.reduces; counts = counted_read d x.modules counts x.counts (subst (AllRead x.modules) (sym us) all) h.counted.counts; left = h.counted.left }))
+    (let w = r e in
+    let us : map (λ (n : ℕ × ℕ). n.0) counts ≡ w.uses = ready_uses w.uses w.question t k counts w.replies in
+    let all : AllRead x.modules w.uses = all_read x.modules d w.uses (λ u f. subst (λ l. contains l u ≡ true) (sym w.uses_are) f) in
+    record { modules = h.counted.modules; reduces = h.counted.reduces; counts = counted_read d x.modules counts x.counts (subst (AllRead x.modules) (sym us) all) h.counted.counts; left = h.counted.left }))
 hand_goes ts c d (Values t k u values) x r h =
     answer_if ts c d ((t.0 == ts) && (k.0 == c)) x (record x { union = with_values x.union values; values = x.values + length values }) h (λ e. record { modules = h.counted.modules; reduces = h.counted.reduces; counts = h.counted.counts; left = h.counted.left })
 hand_goes ts c d (Reduced t k u n) x r h =
     answer_if ts c d ((t.0 == ts) && (k.0 == c)) x (record x { counts = counted d ((u, n) ∷ []) x.counts }) h (λ e.
-      (let w = r e in
-      let read : IsRead x.modules u = reduced_use x.modules w.uses x.phase w.question t k u n w.replies w.awaited h.counted.reduces in
-      record { modules = h.counted.modules; reduces = h.counted.reduces; counts = counted_read d x.modules ((u, n) ∷ []) x.counts (read, tt) h.counted.counts; left = h.counted.left }))
+    (let w = r e in
+    let read : IsRead x.modules u = reduced_use x.modules w.uses x.phase w.question t k u n w.replies w.awaited h.counted.reduces in
+    record { modules = h.counted.modules; reduces = h.counted.reduces; counts = counted_read d x.modules ((u, n) ∷ []) x.counts (read, tt) h.counted.counts; left = h.counted.left }))
 hand_goes ts c d (Rows t k rows) x r h =
     answer_if ts c d ((t.0 == ts) && (k.0 == c)) x (record x { found = x.found ++ rows; rows = x.rows + length rows }) h (λ e. record { modules = h.counted.modules; reduces = h.counted.reduces; counts = h.counted.counts; left = h.counted.left })
 hand_goes ts c d _ x r h = h

@@ -1,27 +1,23 @@
 -- Where nothing goes on, all that was put on a link was handed over at its end.
-use Rattle.std.specs.Prelude.{filter_map, flat_map, nat_le}
+use Rattle.std.specs.Prelude.{filter_map, flat_map}
 use Rattle.std.specs.List.{cons_option}
-use Rattle.std.proofs.Common.{ℕ, ◌&&◌, ◌++◌, ◌-◌, ◌<◌, ◌≤◌, ◌∙◌, ◌∷◌, ◌≡◌, Bool, List, None, Option, Some, [], ap, arith, cond, drop, false, length, refl, slice_get, suc, subst, sym, take, true, zero}
+use Rattle.std.proofs.Common.{ℕ, ◌-◌, ◌≤◌, ◌∙◌, ◌∷◌, ◌≡◌, List, None, Option, Some, [], ap, arith, cond, drop, false, length, refl, slice_get, suc, subst, sym, true, zero}
 use Rattle.std.proofs.Math.Decide.{dec_le}
 use Rattle.std.proofs.lemmas.List.{take_all}
-use Rattle.sdd_base.specs.Numbers.{dm_no}
 use Rattle.sdd_base.specs.Sites.{are_linked, links, sites}
 use Rattle.sdd_base.specs.Words.{is_empty}
 use Rattle.sdd_base.specs.declared.site.Site.{Site}
 use Rattle.sdd_base.specs.declared.site.Site.TheVariants.{D, T, U}
-use Rattle.sdd_wire.specs.declared.msg.Msg.{Msg}
 use Rattle.sdd_net.specs.Links.{delivered, is_quiet_link, link}
 use Rattle.sdd_net.specs.Nets.{is_link, is_site}
 use Rattle.sdd_net.proofs.Directions.{link_parts}
 use Rattle.sdd_net.proofs.Sound.{sound}
-use Rattle.sdd_order.specs.Numbers.{IsModule}
 use Rattle.sdd_log.specs.Due.{hand_on}
 use Rattle.sdd_log.specs.Entries.{Given, Log}
 use Rattle.sdd_log.specs.Locals.{local_of}
-use Rattle.sdd_log.specs.Permitted.{IsPermitted}
 use Rattle.sdd_log.specs.Traffic.{all_links, calls_of, handed, is_down, link_of, sent, takes_part}
 use Rattle.sdd_invariants.proofs.Bools.{and_left, and_right, none_not_some}
-use Rattle.sdd_invariants.proofs.InOrder.{delivered_within, in_order}
+use Rattle.sdd_invariants.proofs.InOrder.{in_order}
 use Rattle.sdd_invariants.proofs.Lists.{all_at, in_left, in_right, member_there}
 use Rattle.sdd_invariants.proofs.Sent.{sent_is}
 use Rattle.sdd_invariants.proofs.Split.{le_is}

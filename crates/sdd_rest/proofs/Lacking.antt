@@ -1,18 +1,17 @@
 -- Where nothing goes on, an active attempt has a READ that is not processed.
 use Rattle.std.specs.List.{AllByRecursion}
-use Rattle.std.proofs.Common.{ℕ, ◌&&◌, ◌+◌, ◌++◌, ◌==◌, ◌∙◌, ◌∷◌, ◌≡◌, ◌≤◌, Bool, List, None, Option, Some, [], ap, arith, cond, drop, false, filter, if◌then◌else◌, inl, inr, length, map, refl, slice_get, suc, subst, sym, true}
+use Rattle.std.proofs.Common.{ℕ, ◌+◌, ◌==◌, ◌∙◌, ◌∷◌, ◌≡◌, ◌≤◌, Bool, List, None, Option, Some, [], ap, arith, cond, false, filter, if◌then◌else◌, inl, inr, length, map, refl, slice_get, suc, subst, sym, true}
 use Rattle.std.proofs.lemmas.Bool.{eqb-true}
 use Rattle.std.proofs.lemmas.List.Elements.{recursion_from_All}
 use Rattle.sdd_base.specs.Numbers.{dm_no}
-use Rattle.sdd_base.specs.Sites.{number_of}
-use Rattle.sdd_base.specs.Words.{contains, first_some, head_of, is_empty, or_else}
+use Rattle.sdd_base.specs.Words.{contains, first_some, head_of, is_empty}
 use Rattle.sdd_base.specs.declared.number.RelNo.{RelNo}
 use Rattle.sdd_base.specs.declared.site.Site.{Site}
 use Rattle.sdd_base.specs.declared.site.Site.TheVariants.{D}
 use Rattle.sdd_catalog.specs.Catalogue.{Catalogue}
 use Rattle.sdd_catalog.specs.Rules.{IsSound}
 use Rattle.sdd_catalog.proofs.Sound.{sound_whole}
-use Rattle.sdd_lang.specs.Fits.{FitsCondition, FitsQuery, FitsStatement, IsFrom1To}
+use Rattle.sdd_lang.specs.Fits.{FitsCondition, FitsQuery, FitsStatement}
 use Rattle.sdd_lang.specs.Source.{uses_in}
 use Rattle.sdd_lang.specs.declared.condition.Condition.{Condition}
 use Rattle.sdd_lang.specs.declared.condition.Condition.TheVariants.{Const, Same}
@@ -24,16 +23,15 @@ use Rattle.sdd_module.specs.SiteLog as site
 use Rattle.sdd_order.specs.Numbers.{IsClass, IsModule}
 use Rattle.sdd_attempt.specs.Acts.{attempt_due}
 use Rattle.sdd_attempt.specs.Attempts.{Attempt, active, asks_rows}
-use Rattle.sdd_attempt.specs.Exchange.{Asking, Exchange, Phase, askings, first_send, is_over, send_due}
+use Rattle.sdd_attempt.specs.Exchange.{Exchange, askings, first_send, is_over, send_due}
 use Rattle.sdd_attempt.specs.Fits.{is_read}
-use Rattle.sdd_pipe.specs.Pipe.{Pipe}
 use Rattle.sdd_dm.specs.Due.{answer_of, answer_to, open_due}
 use Rattle.sdd_dm.specs.Opens.{Open, class_asked, is_asked_of, is_number, opens}
 use Rattle.sdd_dm.specs.Copies.{classes_of}
 use Rattle.sdd_dm.specs.Pipes.{pipe}
 use Rattle.sdd_dm.specs.Views.{ClassView, Home, View, class_view, home_of, view_of}
 use Rattle.sdd_log.specs.Entries.{Given, Log}
-use Rattle.sdd_log.specs.Locals.{local_of, setting_of}
+use Rattle.sdd_log.specs.Locals.{setting_of}
 use Rattle.sdd_log.specs.Permitted.{IsPermitted}
 use Rattle.sdd_log.specs.Snapshots.{base_of}
 use Rattle.sdd_invariants.proofs.Bools.{and_right, not_both, or_left, same_number}
@@ -42,7 +40,7 @@ use Rattle.sdd_invariants.proofs.Holding.{at_map}
 use Rattle.sdd_invariants.proofs.Lists.{in_filtered}
 use Rattle.sdd_invariants.specs.Steps.{home}
 use Rattle.sdd_facts.proofs.AtTurn.{StandsAt, answered_last, apart, awaited, unsent}
-use Rattle.sdd_facts.proofs.Halves.{data_turns, home_log, home_turns}
+use Rattle.sdd_facts.proofs.Halves.{data_turns, home_turns}
 use Rattle.sdd_facts.proofs.Hearing.{AtTurn}
 use Rattle.sdd_facts.proofs.Modules.{firsts, to_module}
 use Rattle.sdd_facts.proofs.Near.{HasNear, IsNear, IsNearBy, active_near}
@@ -53,7 +51,7 @@ use Rattle.sdd_facts.proofs.Starts.{small_home}
 use Rattle.sdd_facts.proofs.Sums.{range_at}
 use Rattle.sdd_facts.proofs.Texts.{active_so, submitted_fit}
 use Rattle.sdd_facts.specs.Fitting.{FitsGiven, FitsText}
-use Rattle.sdd_facts.specs.Stages.{IsStage, agreed, answer_goes, flight, question_goes}
+use Rattle.sdd_facts.specs.Stages.{IsStage, agreed, answer_goes, question_goes}
 use Rattle.sdd_facts.specs.Turns.{Asks, Turn, answers, is_question, questions, reads_asked, rows_asked, turn_at, turn_with}
 use Rattle.sdd_rest.proofs.Going.{is_going}
 use Rattle.sdd_rest.proofs.Handed.{none_in_flight}

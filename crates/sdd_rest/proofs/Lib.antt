@@ -4,6 +4,7 @@ pub mod Committed
 pub mod Copies
 pub mod CountedDones
 pub mod Dones
+pub mod Examples
 pub mod Finished
 pub mod Going
 pub mod Handed

@@ -1,7 +1,7 @@
 -- Small facts on lists, options and tests.
 use Rattle.std.specs.List.{list_all}
 use Rattle.std.proofs.Common.{ℕ, ◌&&◌, ◌||◌, ◌∷◌, ◌≡◌, ◌⊎◌, Bool, List, None, Option, Some, [], cond, false, filter, if◌then◌else◌, inl, inr, refl, slice_get, subst, suc, sym, true, zero}
-use Rattle.sdd_base.specs.Words.{first_some, head_of, or_else}
+use Rattle.sdd_base.specs.Words.{first_some, head_of}
 use Rattle.sdd_invariants.proofs.Bools.{both}
 use Rattle.sdd_step.proofs.Ticking.{or_none}
 

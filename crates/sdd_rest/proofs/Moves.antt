@@ -1,7 +1,7 @@
 -- The use that a next move reduces has rows, at a module that reads it.
 use Rattle.std.specs.Prelude.{filter_map, nat_lt, slice_index_or, sum}
 use Rattle.std.specs.List.{range_with_len, flat_map}
-use Rattle.std.proofs.Common.{ℕ, ◌&&◌, ◌+◌, ◌-◌, ◌<◌, ◌≤◌, ◌==◌, ◌∙◌, ◌∷◌, ◌≡◌, ◌⊎◌, Bool, List, None, Option, Some, [], ap, arith, cond, false, filter, if◌then◌else◌, inl, inr, map, refl, suc, subst, sym, true, zero}
+use Rattle.std.proofs.Common.{ℕ, ◌+◌, ◌-◌, ◌<◌, ◌≤◌, ◌==◌, ◌∷◌, ◌≡◌, ◌⊎◌, Bool, List, None, Option, Some, [], ap, arith, cond, false, filter, if◌then◌else◌, inl, inr, map, refl, suc, subst, sym, true, zero}
 use Rattle.std.proofs.lemmas.Bool.{ltb-true}
 use Rattle.sdd_lang.specs.declared.condition.Condition.{Condition}
 use Rattle.sdd_lang.specs.declared.condition.Condition.TheVariants.{Const, Same}
@@ -9,7 +9,7 @@ use Rattle.sdd_semijoin.specs.Steps.{Join, Move, better, fewest, is_candidate, j
 use Rattle.sdd_semijoin.specs.declared.step.Step.{Step}
 use Rattle.sdd_attempt.specs.Exchange.{Asking, Exchange, count_of, counts_for, move_at}
 use Rattle.sdd_invariants.proofs.Bools.{and_right, same_or_not}
-use Rattle.sdd_rest.specs.Going.{AllHaveParts, CountsRead, HasParts, IsRead}
+use Rattle.sdd_rest.specs.Going.{AllHaveParts, CountsRead, IsRead}
 
 -- the moves of a query reduce parts that count from 1
 abbrev AllReduceParts : List Move → Type 0
@@ -35,9 +35,11 @@ abbrev AllHaveTargets : List ℕ → List Move → Type 0
 AllHaveTargets counts [] = Unit {0}
 AllHaveTargets counts (m ∷ ms) = HasTarget counts m × AllHaveTargets counts ms
 
+some_rows : (a b : ℕ) → a < b → 0 < b
+some_rows a b l = omega (arith, l)
+
 has_target : (counts : List ℕ) (done : List Step) (m : Move) → 1 ≤ m.target.part → is_candidate counts done m ≡ true → HasTarget counts m
-has_target counts done m l e =
-    let less : rows_at counts m.source.part < rows_at counts m.target.part = ltb-true _ _ (and_right _ _ e) in (l, omega (arith, less))
+has_target counts done m l e = (l, some_rows (rows_at counts m.source.part) (rows_at counts m.target.part) (ltb-true _ _ (and_right _ _ e)))
 
 candidates : (counts : List ℕ) (done : List Step) (ms : List Move) → AllReduceParts ms → AllHaveTargets counts (filter (is_candidate counts done) ms)
 candidates counts done [] h = tt

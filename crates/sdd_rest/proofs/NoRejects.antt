@@ -1,7 +1,6 @@
 -- An attempt of an undeclared transaction is never rejected, so where none is under way as many are committed as were started.
-use Rattle.std.proofs.Common.{ℕ, ◌++◌, ◌<◌, ◌==◌, ◌∙◌, ◌∷◌, ◌≡◌, ◌≤◌, Bool, List, None, Option, Some, [], ap, arith, false, if◌then◌else◌, inl, inr, refl, slice_get, subst, suc, sym, true}
+use Rattle.std.proofs.Common.{ℕ, ◌<◌, ◌==◌, ◌∙◌, ◌∷◌, ◌≡◌, Bool, List, None, Some, [], ap, if◌then◌else◌, inl, inr, refl, slice_get, subst, true}
 use Rattle.std.proofs.lemmas.Bool.{eqb-true}
-use Rattle.sdd_base.specs.Numbers.{dm_no}
 use Rattle.sdd_base.specs.Words.{ascending, contains, head_of}
 use Rattle.sdd_base.specs.declared.condition.Cond.{Cond}
 use Rattle.sdd_base.specs.declared.number.ClassNo.{ClassNo}
@@ -26,7 +25,7 @@ use Rattle.sdd_log.specs.Locals.{local_of, setting_of}
 use Rattle.sdd_log.specs.Permitted.{IsPermitted}
 use Rattle.sdd_log.specs.Traffic.{handed}
 use Rattle.sdd_invariants.proofs.Answered.{put_in_by_d}
-use Rattle.sdd_invariants.proofs.Bools.{not_both, true_or_false}
+use Rattle.sdd_invariants.proofs.Bools.{true_or_false}
 use Rattle.sdd_invariants.proofs.Fair.{all_new, u_fair}
 use Rattle.sdd_invariants.proofs.HoldChain.{u_table}
 use Rattle.sdd_invariants.proofs.InOrder.{hand_was_put}

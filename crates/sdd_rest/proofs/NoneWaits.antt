@@ -1,7 +1,7 @@
 -- Where nothing goes on, no READ waits, so every message is processed and no attempt is under way.
 use Rattle.std.specs.List.{list_all}
-use Rattle.std.proofs.Common.{ℕ, ◌*◌, ◌+◌, ◌++◌, ◌<◌, ◌==◌, ◌∙◌, ◌∷◌, ◌≡◌, ◌≢◌, ◌≤◌, ◌⊎◌, Bool, List, None, Option, Some, [], ap, arith, false, if◌then◌else◌, inl, inr, length, refl, slice_get, subst, suc, sym, true, zero}
-use Rattle.sdd_base.specs.Numbers.{dm_no, time_at, tm_no}
+use Rattle.std.proofs.Common.{ℕ, ◌+◌, ◌++◌, ◌==◌, ◌∙◌, ◌∷◌, ◌≡◌, ◌≤◌, Bool, List, None, Some, [], ap, arith, false, if◌then◌else◌, inl, inr, length, refl, slice_get, subst, suc, sym, true}
+use Rattle.sdd_base.specs.Numbers.{dm_no, time_at}
 use Rattle.sdd_base.specs.Sites.{number_of}
 use Rattle.sdd_base.specs.Words.{head_of}
 use Rattle.sdd_base.specs.declared.change.Change.{Change}
@@ -14,7 +14,6 @@ use Rattle.sdd_base.specs.declared.site.Site.TheVariants.{D}
 use Rattle.sdd_base.specs.declared.usage.Use.{Use}
 use Rattle.sdd_catalog.specs.Catalogue.{Catalogue}
 use Rattle.sdd_catalog.specs.Rules.{IsSound}
-use Rattle.sdd_protocol.specs.Protocols.{IsTable}
 use Rattle.sdd_protocol.specs.declared.entry.Entry as line
 use Rattle.sdd_protocol.specs.declared.protocol.Protocol.{Protocol}
 use Rattle.sdd_protocol.specs.declared.protocol.Protocol.TheVariants.{P2, P3}
@@ -24,7 +23,7 @@ use Rattle.sdd_wire.specs.declared.msg.Msg.TheVariants.{Read, Write}
 use Rattle.sdd_module.specs.SiteLog.{Setting}
 use Rattle.sdd_module.specs.SiteLog as site
 use Rattle.sdd_order.specs.Numbers.{IsClass, IsModule}
-use Rattle.sdd_attempt.specs.Attempts.{Attempt, active}
+use Rattle.sdd_attempt.specs.Attempts.{active}
 use Rattle.sdd_attempt.specs.Clocks.{clock}
 use Rattle.sdd_pipe.specs.Pipe.{Pipe, head}
 use Rattle.sdd_dm.specs.Due.{is_met}
@@ -41,14 +40,14 @@ use Rattle.sdd_invariants.proofs.Lists.{at_seam, in_range}
 use Rattle.sdd_invariants.proofs.Recorded.{start_of_active}
 use Rattle.sdd_invariants.proofs.Undeclared.{part_of, permitted_part, read_classes}
 use Rattle.sdd_invariants.specs.Seen.{all_of}
-use Rattle.sdd_invariants.specs.Steps.{bound, home, next_stamp}
+use Rattle.sdd_invariants.specs.Steps.{bound, home}
 use Rattle.sdd_quiet.proofs.Descent.{none_waits}
 use Rattle.sdd_quiet.proofs.Listed.{diagonals_listed}
 use Rattle.sdd_quiet.proofs.TableFits.{table_fits}
-use Rattle.sdd_quiet.specs.WaitGraph.{Fits, WaitDiagonal, WaitGraph}
+use Rattle.sdd_quiet.specs.WaitGraph.{Fits, WaitGraph}
 use Rattle.sdd_quiet.specs.WaitGraphs.{HasDiagonal, wait_graph, wait_protocol}
 use Rattle.sdd_quiet.specs.Waiting.{IsStamped, IsTimestamp, WaitingRead, WaitsOn, holder, reader, wait_time}
-use Rattle.sdd_upheld.proofs.Homes.{home_small, positive}
+use Rattle.sdd_upheld.proofs.Homes.{home_small}
 use Rattle.sdd_waiting.proofs.FromTable.{conditions_of}
 use Rattle.sdd_waiting.proofs.StuckHeads.{head_stuck}
 use Rattle.sdd_waiting.specs.Conditions.{AllDiagonalsIn, AreConditionsOf, IsDiagonalIn, IsFromTable}
@@ -61,7 +60,7 @@ use Rattle.sdd_rest.proofs.WaitedFor.{next_head, next_reader}
 use Rattle.sdd_rest.specs.Finished.{IsIdle}
 use Rattle.sdd_rest.specs.Premises.{HasOneTable}
 use Rattle.sdd_rest.specs.Quiet.{IsQuiet, at_home, at_module}
-use Rattle.sdd_rest.specs.Waiting.{IsBelow, IsEarlierReader, IsHolder, IsReader}
+use Rattle.sdd_rest.specs.Waiting.{IsBelow, IsHolder, IsReader}
 
 -- a READ that waits has a condition that isn't met
 

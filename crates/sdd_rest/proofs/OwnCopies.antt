@@ -1,6 +1,5 @@
 -- The copy that a data module has at the end of a log is that which the history gives. What is known of copies at records is
 -- said of the record of an event that finds nothing to do behind the log.
-use Rattle.std.specs.Bool.{if◌then◌else◌}
 use Rattle.std.specs.List.{cons_option, flat_map, list_any}
 use Rattle.std.specs.Prelude.{filter, filter_map, not}
 use Rattle.std.proofs.Common.{ℕ, suc, ◌++◌, ◌∙◌, ◌∷◌, ◌≡◌, List, None, Option, Some, [], ap, false, length, refl, take, true}

@@ -5,13 +5,13 @@ use Rattle.std.specs.Prelude.{max, nat_le}
 use Rattle.std.proofs.Common.{ℕ, ◌*◌, ◌+◌, ◌++◌, ◌/◌, ◌<◌, ◌==◌, ◌∙◌, ◌∷◌, ◌≡◌, ◌≢◌, ◌≤◌, ◌⊎◌, Bool, List, None, Option, Some, [], ap, arith, false, if◌then◌else◌, inl, inr, length, not, refl, slice_get, subst, suc, sym, true, zero}
 use Rattle.std.proofs.lemmas.Bool.{eqb-true, leb-false, leb-true}
 use Rattle.sdd_base.specs.Clock.{bound_of}
-use Rattle.sdd_base.specs.Numbers.{class_no, dm_no, time_at, tm_no}
+use Rattle.sdd_base.specs.Numbers.{class_no, time_at}
 use Rattle.sdd_base.specs.Sites.{same_site}
 use Rattle.sdd_base.specs.Words.{first_some, head_of, or_else}
 use Rattle.sdd_base.specs.declared.number.ClassNo.{ClassNo}
 use Rattle.sdd_base.specs.declared.number.Ts.{Ts}
 use Rattle.sdd_base.specs.declared.site.Site.{Site}
-use Rattle.sdd_base.specs.declared.site.Site.TheVariants.{D, T, U}
+use Rattle.sdd_base.specs.declared.site.Site.TheVariants.{U}
 use Rattle.sdd_catalog.specs.Catalogue.{Catalogue}
 use Rattle.sdd_wire.specs.declared.msg.Msg.{Msg}
 use Rattle.sdd_wire.specs.declared.msg.Msg.TheVariants.{Ask, Held, Null}
@@ -23,9 +23,9 @@ use Rattle.sdd_attempt.specs.Clocks.{clock}
 use Rattle.sdd_attempt.specs.Exchange.{first_send, is_over}
 use Rattle.sdd_attempt.specs.Queues.{Queued}
 use Rattle.sdd_tm.proofs.OpenAsks.{open_did, open_handed}
-use Rattle.sdd_tm.specs.Due.{IsDue, by_ask, by_exchange, by_hold, by_start, exchange_due, null_at, null_due, null_time, null_to, start_of}
+use Rattle.sdd_tm.specs.Due.{IsDue, by_ask, by_exchange, by_hold, by_start, null_at, null_due, null_time, null_to, start_of}
 use Rattle.sdd_tm.specs.Stands.{AreOpen, Rise}
-use Rattle.sdd_tm.specs.Views.{ClassView, Question, View, asks, asks_acted, asks_handed, class_view, holds, runs, view_of}
+use Rattle.sdd_tm.specs.Views.{Question, View, asks, asks_acted, asks_handed, class_view, holds, runs, view_of}
 use Rattle.sdd_invariants.proofs.Bools.{same_number}
 use Rattle.sdd_invariants.proofs.Clocks.{clock_rises}
 use Rattle.sdd_invariants.proofs.Holding.{at_map}

@@ -1,10 +1,10 @@
 -- Where nothing goes on, nothing is due at any site.
-use Rattle.std.proofs.Common.{ℕ, ◌&&◌, ◌-◌, ◌==◌, ◌∙◌, ◌∷◌, ◌≡◌, ◌≤◌, ◌⊎◌, Bool, List, None, Option, Some, [], ap, arith, cond, false, filter, inl, inr, length, refl, slice_get, suc, subst, sym, true, zero}
+use Rattle.std.proofs.Common.{ℕ, ◌&&◌, ◌-◌, ◌==◌, ◌≡◌, ◌≤◌, ◌⊎◌, None, Option, Some, ap, false, inl, inr, length, refl, slice_get, subst, sym, true}
 use Rattle.std.specs.Prelude.{nat_le}
 use Rattle.std.proofs.lemmas.Bool.{le-leb}
 use Rattle.sdd_base.specs.Numbers.{dm_no, tm_no}
 use Rattle.sdd_base.specs.Sites.{sites}
-use Rattle.sdd_base.specs.Words.{first_some, or_else}
+use Rattle.sdd_base.specs.Words.{first_some}
 use Rattle.sdd_base.specs.declared.site.Site.{Site}
 use Rattle.sdd_base.specs.declared.site.Site.TheVariants.{D, T, U}
 use Rattle.sdd_catalog.specs.Catalogue.{Catalogue, class_at, numbers_to}
@@ -24,7 +24,7 @@ use Rattle.sdd_log.specs.Due.{does_at, next_at}
 use Rattle.sdd_log.specs.Entries.{Given, Log}
 use Rattle.sdd_log.specs.Locals.{local_of, setting_of}
 use Rattle.sdd_log.specs.Snapshots.{base_of}
-use Rattle.sdd_invariants.proofs.Bools.{not_zero, same_number, same_or_not}
+use Rattle.sdd_invariants.proofs.Bools.{same_number, same_or_not}
 use Rattle.sdd_invariants.proofs.Holding.{at_map}
 use Rattle.sdd_invariants.specs.Steps.{home}
 use Rattle.sdd_facts.proofs.HoldsFit.{at_place}

@@ -1,9 +1,9 @@
 -- Where nothing goes on, a READ that waits does so because of another READ that waits: an earlier one of the class that it
 -- waits for, or one that holds back a WRITE of that class.
-use Rattle.std.specs.List.{list_all, list_any}
+use Rattle.std.specs.List.{list_any}
 use Rattle.std.specs.Prelude.{nat_le}
-use Rattle.std.proofs.Common.{ℕ, ◌&&◌, ◌++◌, ◌<◌, ◌==◌, ◌∙◌, ◌∷◌, ◌≡◌, ◌≤◌, ◌⊎◌, Bool, List, None, Option, Some, [], ap, append-nil, append_assoc, arith, false, filter, if◌then◌else◌, inl, inr, length, map, not, refl, slice_get, subst, suc, sym, true, zero}
-use Rattle.std.proofs.lemmas.Bool.{eqb-true, leb-true}
+use Rattle.std.proofs.Common.{ℕ, ◌&&◌, ◌++◌, ◌<◌, ◌==◌, ◌∙◌, ◌∷◌, ◌≡◌, ◌≤◌, ◌⊎◌, List, None, Option, Some, [], ap, append-nil, append_assoc, arith, false, if◌then◌else◌, inl, inr, map, not, refl, slice_get, subst, suc, sym, true, zero}
+use Rattle.std.proofs.lemmas.Bool.{eqb-true}
 use Rattle.sdd_base.specs.Numbers.{dm_no, time_at, tm_no}
 use Rattle.sdd_base.specs.Sites.{same_site}
 use Rattle.sdd_base.specs.Words.{head_of}
@@ -23,9 +23,9 @@ use Rattle.sdd_order.specs.Numbers.{IsClass, IsModule}
 use Rattle.sdd_attempt.specs.Attempts.{Attempt, active}
 use Rattle.sdd_attempt.specs.Fits.{is_read}
 use Rattle.sdd_pipe.specs.Pipe.{Pipe, head, passed, touches}
-use Rattle.sdd_dm.specs.Due.{ask_for, holds, holds_back, is_held, is_met}
+use Rattle.sdd_dm.specs.Due.{ask_for, holds, holds_back, is_met}
 use Rattle.sdd_dm.specs.Pipes.{pipe, waits}
-use Rattle.sdd_dm.specs.Views.{ClassView, View, class_view, home_of, source_of, view_of}
+use Rattle.sdd_dm.specs.Views.{ClassView, View, home_of, source_of, view_of}
 use Rattle.sdd_log.specs.Entries.{Given, Log}
 use Rattle.sdd_log.specs.Locals.{local_of, setting_of}
 use Rattle.sdd_invariants.proofs.AreReadSteps.{class_at_place, class_in_view}
@@ -39,18 +39,16 @@ use Rattle.sdd_invariants.proofs.Origins.{is_put}
 use Rattle.sdd_invariants.proofs.Sites.{site_self}
 use Rattle.sdd_invariants.proofs.Split.{le_is}
 use Rattle.sdd_invariants.specs.Orders.{AllGe, IsRising}
-use Rattle.sdd_invariants.specs.ReadSteps.{IsClassHere}
-use Rattle.sdd_invariants.specs.Seen.{all_of, class_puts}
+use Rattle.sdd_invariants.specs.Seen.{all_of}
 use Rattle.sdd_invariants.specs.Steps.{home}
 use Rattle.sdd_invariants.specs.Traffic.{class_in, hands_from, puts_to, to_site}
 use Rattle.sdd_facts.proofs.OfNext.{IsThere}
 use Rattle.sdd_facts.proofs.Sources.{source_is_home}
 use Rattle.sdd_facts.specs.Fitting.{FitsGiven}
-use Rattle.sdd_waiting.proofs.Passing.{HasReached, head_below, passed_lasts, reached_is_passed}
+use Rattle.sdd_waiting.proofs.Passing.{head_below, passed_lasts, reached_is_passed}
 use Rattle.sdd_waiting.proofs.StuckHeads.{head_stuck}
 use Rattle.sdd_waiting.proofs.Waited.{since}
 use Rattle.sdd_waiting.specs.Heads.{IsStuck}
-use Rattle.sdd_waiting.specs.Waited.{WaitsSince, lacking}
 use Rattle.sdd_upheld.proofs.Homes.{home_small, positive}
 use Rattle.sdd_rest.proofs.Applied.{pipe_has_all}
 use Rattle.sdd_rest.proofs.Handed.{all_handed}
@@ -58,7 +56,6 @@ use Rattle.sdd_rest.proofs.Lacking.{has_unanswered}
 use Rattle.sdd_rest.proofs.Lists.{kept_there, no_head}
 use Rattle.sdd_rest.proofs.Questions.{covered, open_is_blocked}
 use Rattle.sdd_rest.proofs.Still.{d_still, home_linked, run_at, runs_place, t_still}
-use Rattle.sdd_rest.specs.Asked.{IsUnanswered}
 use Rattle.sdd_rest.specs.Quiet.{IsQuiet, at_home, at_module}
 use Rattle.sdd_rest.specs.Waiting.{IsBelow, IsEarlierReader, IsHolder, IsReader}
 

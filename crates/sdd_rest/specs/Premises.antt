@@ -1,7 +1,7 @@
 -- What is needed of what is given, and of a log, so that a log at which nothing goes on is finished.
-use Rattle.std.specs.Prelude.{ℕ, ◌≡◌, ◌≤◌}
-use Rattle.sdd_log.specs.Entries.{Given, Log}
-use Rattle.sdd_log.specs.Locals.{IsForce, force_at, redeclares}
+use Rattle.std.specs.Prelude.{◌≡◌}
+use Rattle.sdd_log.specs.Entries.{Given}
+use Rattle.sdd_log.specs.Locals.{IsForce, force_at}
 use Rattle.sdd_facts.specs.Fitting.{FitsGiven}
 
 -- what is given fits its catalogue, and the list in force at the beginning, which is that of the catalogue, has its

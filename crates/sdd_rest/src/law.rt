@@ -1,7 +1,8 @@
 ghost use Rattle.std.specs.List.{list_any};
-ghost use Rattle.std.specs.Prelude.{◌≡◌, ℕ, true, Bool, List, Some, length, slice_get};
+ghost use Rattle.std.specs.Prelude.{◌≡◌, ◌++◌, ◌∷◌, ℕ, false, true, Bool, List, [], Some, length, slice_get};
 ghost use Rattle.sdd_base.specs.Numbers.{dm_no, txn_no};
 ghost use Rattle.sdd_base.specs.declared.change.Change.{Change};
+ghost use Rattle.sdd_base.specs.declared.event.Event.{Event};
 ghost use Rattle.sdd_base.specs.declared.event.Event.TheVariants.{Settle};
 ghost use Rattle.sdd_base.specs.declared.number.RelNo.{RelNo};
 ghost use Rattle.sdd_base.specs.declared.number.TxnNo.{TxnNo};
@@ -14,13 +15,17 @@ ghost use Rattle.sdd_history.specs.declared.record.Rec.TheVariants.{Commit};
 ghost use Rattle.sdd_lang.specs.Agree.{rows_in_fragment};
 ghost use Rattle.sdd_lang.specs.Database.{Row};
 ghost use Rattle.sdd_copy.specs.Contents.{contents};
+ghost use Rattle.sdd_net.specs.Links.{quiet};
+ghost use Rattle.sdd_order.specs.Numbers.{IsModule};
 ghost use Rattle.sdd_order.specs.Orders.{IsSerial};
 ghost use Rattle.sdd_dm.specs.Copies.{dated};
 ghost use Rattle.sdd_laws.specs.Replay.{AreAllApplied, run};
 ghost use Rattle.sdd_laws.specs.Snapshots.{copy_at, items_of};
-ghost use Rattle.sdd_log.specs.Entries.{Given, Log, history, with_event};
+ghost use Rattle.sdd_log.specs.Entries.{Given, Log, history};
 ghost use Rattle.sdd_log.specs.Locals.{local_of, redeclares, setting_of};
 ghost use Rattle.sdd_log.specs.Permitted.{AreSubmittedOnce};
+ghost use Rattle.sdd_log.specs.Traffic.{all_links, calls_of, is_down};
+ghost use Rattle.sdd_step.specs.Resting.{Rests};
 ghost use Rattle.sdd_upheld.specs.Given.{AreNumbered, HasSoundData, SubmitGiven};
 ghost use Rattle.sdd_rest.specs.Committed.{AllCommitted, IsNotLeft, WasCommitted};
 ghost use Rattle.sdd_rest.specs.Finished.{IsFinished, IsIdle};
@@ -75,6 +80,14 @@ pub fn law_copies()
         (dated (setting_of given (D (dm_no d))) (local_of given (D (dm_no d)) log))) }
 {}
 
+/// A law: between events, where no note, act or hand is due, a lawful log at which the links are
+/// quiet and no data module is down is one at which nothing goes on.
+pub fn law_resting()
+    ensures { (given : Given) (log : Log) → AreSubmittedOnce given.events → Rests given log
+        → quiet (all_links given) (calls_of log) ≡ true
+        → ((d : ℕ) → IsModule given.catalogue d → is_down d log ≡ false) → IsQuiet given log }
+{}
+
 /// A law: a complete log at whose end the links are quiet and no data module is down is one at which
 /// nothing goes on. So all is finished, and all that was submitted is committed. Where the last event
 /// is a settle, the links are quiet.
@@ -85,6 +98,6 @@ pub fn law_settled()
         → AreSubmittedOnce given.events → IsSettled given log → IsFinished given log }
     ensures committed { (given : Given) (log : Log) → HasOneTable given → SubmitGiven given
         → IsSettled given log → AllCommitted (history log) }
-    ensures behind_settle { (given : Given) (log : Log) → IsAtEnd (with_event given Settle) log
-        → IsSettled (with_event given Settle) log }
+    ensures behind_settle { (given : Given) (log : Log) (events : List Event)
+        → given.events ≡ events ++ Settle ∷ [] → IsAtEnd given log → IsSettled given log }
 {}

@@ -1,6 +1,6 @@
 -- Where an event is over, nothing is due at any site.
 use Rattle.std.specs.List.{range_with_len}
-use Rattle.std.proofs.Common.{ℕ, ◌≡◌, ◌≤◌, ◌∷◌, Bool, List, None, Option, Some, [], arith, false, map, refl, slice_get, suc, true}
+use Rattle.std.proofs.Common.{◌∙◌, ℕ, ◌≡◌, ◌≤◌, ◌∷◌, Bool, List, None, Option, Some, [], ap, arith, false, map, refl, slice_get, suc, true}
 use Rattle.sdd_base.specs.Sites.{sites}
 use Rattle.sdd_base.specs.Words.{first_some, or_else}
 use Rattle.sdd_base.specs.declared.event.Event.{Event}
@@ -15,6 +15,7 @@ use Rattle.sdd_dm.specs.Views as dm_views
 use Rattle.sdd_tm.specs.Due as tm
 use Rattle.sdd_log.specs.Due.{does_at, due_by, hand_due, mark_due, next_at, note_if, site_due}
 use Rattle.sdd_log.specs.Entries.{Does, Entry, Given, Hand, Log, Mark, Notes, Redeclares, Round, Submitted}
+use Rattle.sdd_log.specs.Lawful.{IsLawful, IsTheLog}
 use Rattle.sdd_log.specs.Locals.{local_of, setting_of}
 use Rattle.sdd_log.specs.Marks.{next_mark}
 use Rattle.sdd_log.specs.Snapshots.{base_of}
@@ -73,6 +74,14 @@ first_of_event f (s ∷ ss) h = either_of_event (f s) (first_some f ss) (h s) (f
 over_first : (a b : Option Entry) → IsOfEvent a → begins_or_ends (or_else a b) ≡ true → (a ≡ None) × (begins_or_ends b ≡ true)
 over_first None b h e = (refl, e)
 over_first (Some x) b h e = absurd (not_both (begins_event x) e h)
+
+-- before the next event, and at the end of the log
+
+pub over_before : (g : Given) (e : Entry) (log : Log) → IsLawful g (e ∷ log) → begins_event e ≡ true → IsEventOver g log
+over_before g e log h b = ap begins_or_ends h.0 ∙ b
+
+pub over_at_end : (g : Given) (log : Log) → IsTheLog g log → IsEventOver g log
+over_at_end g log h = ap begins_or_ends h.complete
 
 pub none_due : (g : Given) (log : Log) → IsEventOver g log → site_due g log ≡ None
 none_due g log e =
