@@ -1,5 +1,5 @@
 -- A list that is joined of pieces: where an item of a piece stands, and what a change of a piece changes.
-use Rattle.std.proofs.Common.{ℕ, zero, suc, ◌+◌, ◌-◌, ◌<◌, ◌≤◌, List, [], ◌∷◌, ◌++◌, length, get_or, take, drop, ◌≡◌, refl, ap, ◌∙◌, arith, sym, append-nil, append_assoc, length-append}
+use Rattle.std.proofs.Common.{ℕ, zero, suc, ◌+◌, ◌-◌, ◌<◌, List, [], ◌∷◌, ◌++◌, length, get_or, take, drop, ◌≡◌, refl, ap, ◌∙◌, arith, sym, append-nil, append_assoc, length-append}
 use Rattle.std.specs.Prelude.{slice_get, slice_set, Result, Ok, Err, OnErr, Option, Some, None, IfSome, IsSome, OnSome}
 use Rattle.std.proofs.lemmas.Option.{slice_get_read}
 use Rattle.std.specs.List.{flat_map, remove}

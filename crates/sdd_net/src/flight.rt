@@ -10,7 +10,9 @@ use std::marker::Model;
 
 /// The packets that are in flight in one direction of a link, in the order of their sending.
 ///
-/// A place in it counts from 1. Contracts see whether it is live, and the list of its packets.
+/// A place in it counts from 1. Contracts see whether it is live, and the list of its packets. These
+/// are kept in pieces of 512 packets that were sent one after the other, less those that were taken;
+/// a piece goes, and gives its room back, with the last of its packets.
 #[derive(Drop, Debug)]
 pub struct Flight<M> {
     packets: Pieces<Packet<M>>,
@@ -74,8 +76,7 @@ impl<M: Parcel> Flight<M> {
 
     /// Takes the packet at a place away, or gives None exactly where the place is past the end.
     ///
-    /// Takes no memory. Place k costs a step for each 512 packets or so before it, and at most 512
-    /// more.
+    /// Takes no memory. Costs a step for each piece before the packet's, and at most 512 more.
     pub fn take(&mut self, place: u32) -> Option<Packet<M>>
         requires live { IsTrue self.old.live }
         requires place { 1 ≤ place }
@@ -90,7 +91,7 @@ impl<M: Parcel> Flight<M> {
     /// Puts a copy of the packet at a place at the end. The answer is false exactly where the place
     /// is past the end, and then nothing changes.
     ///
-    /// Costs what the copy costs, and a step for each 512 packets or so before the place.
+    /// Costs what the copy costs, and a step for each piece before the packet's.
     pub fn repeat(&mut self, place: u32) -> Result<bool, NoMemory>
         requires live { IsTrue self.old.live }
         requires place { 1 ≤ place }

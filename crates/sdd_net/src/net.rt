@@ -109,8 +109,8 @@ impl<M: Parcel> Net<M> {
     /// Delivers the packet at a place of the flight. A message packet is acknowledged first of all.
     /// The answer is `Nothing` exactly where the place is past the flight's end.
     ///
-    /// To take place k of n packets costs O(min(k, n - k)), and a message O(log w) where w messages
-    /// came early, and as much for each message that is handed on.
+    /// Costs what `Flight::take` does, and a message O(log w) where w messages came early, and as much
+    /// for each message that is handed on.
     pub fn deliver(&mut self, from: Site, to: Site, place: u32) -> Result<Delivered<M>, NoMemory>
         requires live { IsTrue self.old.live }
         requires exists { HasLink self.old from to }
@@ -132,7 +132,7 @@ impl<M: Parcel> Net<M> {
     /// Takes the packet at a place of the flight away. The answer is false exactly where the place
     /// is past the flight's end, and then nothing changes.
     ///
-    /// Takes no memory. Place k of n packets costs O(min(k, n - k)).
+    /// Takes no memory, and costs what `Flight::take` does.
     pub fn lose(&mut self, from: Site, to: Site, place: u32) -> bool
         requires live { IsTrue self.old.live }
         requires exists { HasLink self.old from to }
@@ -147,6 +147,8 @@ impl<M: Parcel> Net<M> {
 
     /// Puts a copy of the packet at a place of the flight at its end. The answer is false exactly
     /// where the place is past the flight's end, and then nothing changes.
+    ///
+    /// Costs what `Flight::repeat` does.
     pub fn repeat(&mut self, from: Site, to: Site, place: u32) -> Result<bool, NoMemory>
         requires live { IsTrue self.old.live }
         requires exists { HasLink self.old from to }
@@ -166,6 +168,8 @@ impl<M: Parcel> Net<M> {
 
     /// Puts a packet for each unacknowledged message at the flight's end, in order. The answer is
     /// false exactly where nothing is unacknowledged, and then nothing changes.
+    ///
+    /// Costs a copy of each of these messages.
     pub fn resend(&mut self, from: Site, to: Site) -> Result<bool, NoMemory>
         requires live { IsTrue self.old.live }
         requires exists { HasLink self.old from to }

@@ -13,8 +13,8 @@ const PIECE_LEN: usize = 512;
 
 /// A list that is kept in pieces of at most `PIECE_LEN` items, which contracts see as the list.
 ///
-/// A piece that is empty goes. An item is found by the lengths of the pieces before its own, and
-/// taken out within its piece, so that a long list isn't moved.
+/// An item is found by the lengths of the pieces before its own, and taken out within its piece, so
+/// that a long list isn't moved. A piece goes once it is empty; pieces aren't joined.
 #[derive(Drop, Debug)]
 pub struct Pieces<T> {
     pieces: Vec<VecDeque<T>>,
@@ -63,6 +63,7 @@ impl<T: Drop> Pieces<T> {
     pub fn push(&mut self, item: T) -> Result<(), NoMemory>
         ensures ok { OnOk result (self.new ≡ self.old ++ item ∷ []) }
     {
+        // More items than a number counts find no memory either.
         let Some(len) = self.len.checked_add(1) else {
             return Err(NoMemory);
         };
@@ -124,7 +125,7 @@ fn find<T>(pieces: &[VecDeque<T>], place: usize) -> Option<(usize, usize)>
     None
 }
 
-/// The last piece, or a new one behind it where that is full.
+/// The place of the last piece, or of a new one behind it where that is full.
 fn open_piece<T: Drop>(pieces: &mut Vec<VecDeque<T>>) -> Result<usize, NoMemory>
     ensures last { IfOk result (λ at. length pieces.new.items ≡ at + 1) }
     ensures same { flat_map (λ q. q.items) pieces.new.items ≡ flat_map (λ q. q.items) pieces.old.items }
