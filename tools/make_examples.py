@@ -4,8 +4,8 @@
     tools/make_examples.py [--program COMMAND] [--only NAME ..] [--check]
 
 Of each example the program COMMAND (a built `sdd1`; without it `rt try`, minutes for each example) gives
-the report of its workload, and tools/picture.py and tools/graph_picture.py draw `picture.svg` and, where
-`dot` of Graphviz is installed, `graph.svg`. With --check nothing is written, and each file that would
+the report of its workload, or the advice on its catalogue where it has no workload; tools/picture.py
+and tools/graph_picture.py draw `picture.svg` and, where `dot` of Graphviz is installed, `graph.svg`. With --check nothing is written, and each file that would
 change is told; `graph.svg` is left out then, since it depends on the version of `dot` and its fonts.
 """
 import argparse
@@ -30,6 +30,14 @@ def draw(script, words):
         raise BadInput(done.stderr.decode(errors="replace").strip())
 
 
+def write(folder, name, text):
+    """The path of the file that is written."""
+    path = os.path.join(folder, name)
+    with open(path, "w", encoding="utf-8", newline="") as f:
+        f.write(text)
+    return path
+
+
 def make(name, program, folder, check):
     """Makes the files of an example in the folder; their names."""
     mine = os.path.join(EXAMPLES, name)
@@ -38,10 +46,12 @@ def make(name, program, folder, check):
     if name == "bank":
         catalogue, workload = write_workload(folder, "bank", 300)
         made += ["catalogue.toml", "workload"]
-    report = os.path.join(folder, "report")
-    with open(report, "w", encoding="utf-8", newline="") as f:
-        f.write(run_program(program, ["run", catalogue, workload]))
-    draw("picture.py", [report, catalogue, "--into", os.path.join(folder, "picture.svg")] + WINDOWS.get(name, []))
+    if os.path.exists(workload):
+        report = write(folder, "report", run_program(program, ["run", catalogue, workload]))
+        draw("picture.py", [report, catalogue, "--into", os.path.join(folder, "picture.svg")] + WINDOWS.get(name, []))
+    else:
+        made = ["advice"]
+        write(folder, "advice", run_program(program, ["advise", catalogue]))
     if shutil.which("dot") and not check:
         more = ["--program", program] if program else []
         draw("graph_picture.py", [catalogue, "--into", os.path.join(folder, "graph.svg")] + more)
