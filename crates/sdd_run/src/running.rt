@@ -33,7 +33,9 @@ pub fn finished<'a>(
     ensures limit { IsErrOf result WorldEnd.Limit → EndsAtLimit catalogue.now work }
 {
     catalogue.known();
-    let Workload { rows, txns, events } = work;
+    let Workload {
+        rows, txns, events, ..
+    } = work;
     let members = Members::new(alloc, catalogue, table, rows.as_slice())?;
     let mail = Mail::new(alloc, catalogue.tms(), catalogue.dms())?;
     let home = Home::new(alloc, catalogue);

@@ -7,6 +7,7 @@
 //! allows.
 #![tactic(auto)]
 
+mod class_lists;
 mod columns;
 mod deletes;
 mod fault;
@@ -18,9 +19,11 @@ mod limits;
 mod names;
 mod naming;
 mod occurrences;
+mod open_list;
 mod place;
 mod queries;
 mod reader;
+mod redeclaring;
 mod state;
 mod statements;
 mod updates;
@@ -28,10 +31,12 @@ mod values;
 mod walk;
 mod workload;
 mod write_lines;
+mod write_lists;
 mod write_words;
 
 pub use fault::{Counts, WorkError, WorkFault, WorkRule};
 pub use laws::law_round_trip;
+pub use limits::MAX_LISTS;
 pub use walk::read_workload;
-pub use workload::{StartRows, Txns, Workload};
+pub use workload::{ClassLists, StartRows, Txns, Workload};
 pub use write_lines::write_workload;
