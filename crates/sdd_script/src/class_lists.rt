@@ -1,13 +1,14 @@
 //! The lines of lists of classes, by their words.
-ghost use Rattle.std.specs.Prelude.{◌≡◌, map, IfOk};
-ghost use Rattle.std.specs.List.{flat_map};
+ghost use Rattle.std.specs.Prelude.{◌≡◌, List, map};
+ghost use Rattle.std.specs.List.{list_any};
+ghost use Rattle.std.specs.Str.{bytes_eq};
 ghost use Rattle.sdd_base.specs.Readings.{Gives};
 ghost use Rattle.sdd_catalog.specs.Rules.{has_name};
 ghost use Rattle.sdd_catalog.specs.declared.parts.ClassPart.{ClassPart};
 ghost use Rattle.sdd_catalog.specs.declared.parts.ReadPart.{ReadPart};
 ghost use Rattle.sdd_words.specs.declared.word.Word.TheVariants.{Plain};
 ghost use Rattle.sdd_script.specs.ClassLists.{all_classes, fragment_of, is_taken, with_class_of, with_read_of, with_write_of, list_rules, class_rules, reads_rules, writes_rules, class_line_rules};
-ghost use Rattle.sdd_script.specs.OpenLists.{classes_in};
+ghost use Rattle.sdd_script.specs.OpenLists.{classes_in, last_class};
 ghost use Rattle.sdd_script.specs.Places.{open_list};
 ghost use Rattle.sdd_script.specs.Rules.{rule_in};
 
@@ -16,7 +17,7 @@ use crate::keyword::ClassKey;
 use crate::limits::{MAX_LISTS, one_more_class};
 use crate::naming::{fragment_named, has_class, has_copy, name_in_word};
 use crate::occurrences::{read_dm, read_tm};
-use crate::open_list::{no_classes, with_class, with_read, with_write};
+use crate::open_list::{OpenClass, OpenList, no_classes, with_class, with_read, with_write};
 use crate::place::Place;
 use crate::state::State;
 use sdd_base::{DmNo, MAX_READS, Name, TmNo};
@@ -43,7 +44,7 @@ fn list_line(alloc: Global, state: &mut State, words: &[Word]) -> Result<(), Lin
 }
 
 fn is_among(classes: &[ClassPart], name: &[u8]) -> bool
-    ensures { result ≡ has_name (map (λ (c : ClassPart). c.name) classes.now) name.now }
+    ensures { result ≡ list_any (λ (c : ClassPart). bytes_eq name.now c.name) classes.now }
 {
     classes
         .iter()
@@ -51,32 +52,49 @@ fn is_among(classes: &[ClassPart], name: &[u8]) -> bool
 }
 
 fn is_among_lists(lists: &[ClassParts], name: &[u8]) -> bool
-    ensures { result ≡ has_name (map (λ (c : ClassPart). c.name) (flat_map (λ classes. classes) lists.now)) name.now }
+    ensures { result ≡ list_any (λ (l : List ClassPart). list_any (λ (c : ClassPart). bytes_eq name.now c.name) l) lists.now }
 {
     lists.iter().any(|list| is_among(list.as_slice(), name))
 }
 
+fn is_last(last: &Option<OpenClass>, name: &[u8]) -> bool
+    ensures { result ≡ list_any (λ (c : ClassPart). bytes_eq name.now c.name) (last_class last.now) }
+{
+    match last {
+        None => false,
+        Some(class) => name == class.name.as_str().as_bytes(),
+    }
+}
+
+#[tactic(auto, using(crate::proofs::ClassNames::classes_or_last))]
+fn is_in_list(list: &OpenList, name: &[u8]) -> bool
+    ensures { result ≡ list_any (λ (c : ClassPart). bytes_eq name.now c.name) (classes_in list.now) }
+{
+    is_among(list.classes.as_slice(), name) || is_last(&list.last, name)
+}
+
 fn is_in_open_list(place: &Place, name: &[u8]) -> bool
-    ensures { result ≡ has_name (map (λ (c : ClassPart). c.name) (classes_in (open_list place.now))) name.now }
+    ensures { result ≡ list_any (λ (c : ClassPart). bytes_eq name.now c.name) (classes_in (open_list place.now)) }
 {
     match place {
-        Place::Listing(list) => match &list.last {
-            None => is_among(list.classes.as_slice(), name),
-            Some(last) => {
-                is_among(list.classes.as_slice(), name) || name == last.name.as_str().as_bytes()
-            }
-        },
+        Place::Listing(list) => is_in_list(list, name),
         _ => false,
     }
 }
 
-/// Whether a class of the catalogue, or one before, has the name.
+#[tactic(auto, using(crate::proofs::ClassNames::lists_or_open_list))]
+fn is_declared(state: &State, name: &[u8]) -> bool
+    ensures { result ≡ list_any (λ (c : ClassPart). bytes_eq name.now c.name) (all_classes state.now) }
+{
+    is_among_lists(state.lists.as_slice(), name) || is_in_open_list(&state.place, name)
+}
+
+/// Whether a class of the catalogue, or one of the lists so far, has the name.
+#[tactic(auto, using(crate::proofs::ClassNames::catalogue_or_lists))]
 fn is_taken(cat: &Catalogue, state: &State, name: &[u8]) -> bool
     ensures { result ≡ is_taken cat.now state.now name.now }
 {
-    has_class(cat, name)
-        || is_among_lists(state.lists.as_slice(), name)
-        || is_in_open_list(&state.place, name)
+    has_class(cat, name) || is_declared(state, name)
 }
 
 fn add_class(
@@ -144,12 +162,18 @@ fn read_fragment(alloc: Global, cat: &Catalogue, word: &Word) -> Result<(Name, u
     }
 }
 
-fn is_read(reads: &[ReadPart], name: &[u8]) -> bool
-    ensures { result ≡ has_name (map (λ (r : ReadPart). r.fragment) reads.now) name.now }
+fn names_fragment(reads: &[ReadPart], name: &[u8]) -> bool
+    ensures { result ≡ list_any (λ (r : ReadPart). bytes_eq name.now r.fragment) reads.now }
 {
     reads
         .iter()
         .any(|read| name == read.fragment.as_str().as_bytes())
+}
+
+fn is_read(reads: &[ReadPart], name: &[u8]) -> bool
+    ensures { result ≡ has_name (map (λ (r : ReadPart). r.fragment) reads.now) name.now }
+{
+    names_fragment(reads, name)
 }
 
 fn is_written(writes: &[Name], name: &[u8]) -> bool

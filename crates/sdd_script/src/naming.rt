@@ -1,10 +1,11 @@
 //! Relations, columns, fragments and classes by their names.
 ghost use Rattle.std.specs.Prelude.{◌≡◌, ◌≤◌, ◌<◌, ◌^◌, length, slice_get, option_map, MatchOption, Some, None};
+ghost use Rattle.std.specs.List.{list_any};
 ghost use Rattle.std.specs.Str.{bytes_eq};
 ghost use Rattle.sdd_base.specs.Readings.{Gives};
 ghost use Rattle.sdd_script.specs.Rules.{rule_in};
 ghost use Rattle.sdd_script.specs.Naming.{name_of, relation_if, columns_of, key_of, name_of_relation, relation_named, relation_of, column_named, kind_of_place, name_of_fragment, fragment_named, name_of_class, class_names};
-ghost use Rattle.sdd_catalog.specs.Catalogue.{has_copy};
+ghost use Rattle.sdd_catalog.specs.Catalogue.{has_copy, numbers_to};
 ghost use Rattle.sdd_catalog.specs.Rules.{has_name};
 
 use crate::fault::{LineError, WorkRule, broken, known};
@@ -150,12 +151,18 @@ fn is_class_name(cat: &Catalogue, class: u32, name: &[u8]) -> bool
     name == name_of_class(cat, class)
 }
 
+fn has_numbered_class(cat: &Catalogue, name: &[u8]) -> bool
+    ensures { result ≡ list_any (λ class. bytes_eq name.now (name_of_class cat.now class)) (numbers_to (length cat.now.classes)) }
+{
+    cat.known();
+    (1..cat.classes() + 1).any(|class| is_class_name(cat, class, name))
+}
+
 /// Whether a class of the catalogue has the name. Costs time in the number of classes.
 pub fn has_class(cat: &Catalogue, name: &[u8]) -> bool
     ensures { result ≡ has_name (class_names cat.now) name.now }
 {
-    cat.known();
-    (1..cat.classes() + 1).any(|class| is_class_name(cat, class, name))
+    has_numbered_class(cat, name)
 }
 
 /// The name that a word is.

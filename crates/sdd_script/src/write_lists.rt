@@ -1,5 +1,5 @@
 //! Writing the lines of lists of classes.
-ghost use Rattle.std.specs.Prelude.{◌≡◌, ◌++◌, flat_map, OnOk};
+ghost use Rattle.std.specs.Prelude.{◌≡◌, ◌++◌, ℕ, List, flat_map, OnOk};
 ghost use Rattle.sdd_catalog.specs.declared.parts.ReadPart.{ReadPart};
 ghost use Rattle.sdd_script.specs.Spelling.{ended, class_words, reads_words, writes_words, class_bytes, list_bytes};
 
@@ -53,7 +53,7 @@ fn put_reads(out: &mut Vec<u8>, reads: &[ReadPart]) -> Result<(), NoMemory>
 fn put_writes(out: &mut Vec<u8>, fragments: &[Name]) -> Result<(), NoMemory>
     ensures { OnOk result (
         out.new.items ≡ out.old.items
-        ++ flat_map (λ f. ended (writes_words f)) fragments.now
+        ++ flat_map (λ (f : List ℕ). ended (writes_words f)) fragments.now
         ) }
 {
     'fragments: for fragment in fragments {
@@ -67,7 +67,8 @@ fn put_class(out: &mut Vec<u8>, class: &ClassPart) -> Result<(), NoMemory>
 {
     put_class_header(out, class)?;
     put_reads(out, class.reads.as_slice())?;
-    put_writes(out, class.writes.as_slice())
+    put_writes(out, class.writes.as_slice())?;
+    Ok(())
 }
 
 #[tactic(auto, using(crate::proofs::Lists::written))]
@@ -85,7 +86,8 @@ fn put_list(out: &mut Vec<u8>, classes: &[ClassPart]) -> Result<(), NoMemory>
 {
     put(out, b"list\n")?;
     put_classes(out, classes)?;
-    put(out, b"done\n")
+    put(out, b"done\n")?;
+    Ok(())
 }
 
 /// Puts the lines of lists of classes.
