@@ -66,8 +66,8 @@ no_class = record { name = []; tm = tm_no 0; reads = []; writes = [] }
 pub named_by_number : (cat : Catalogue) (name : List ℕ) → list_any (λ class. bytes_eq name (name_of_class cat class)) (numbers_to (length cat.classes)) ≡ has_name (class_names cat) name
 named_by_number cat name =
     any_number (λ class. bytes_eq name (name_of_class cat class)) (λ (c : Class). bytes_eq name c.name) cat.classes no_class 1 (λ i lt.
-        let place : 1 + i - 1 ≡ i = omega arith in
-        ap (λ (n : ℕ). bytes_eq name (get_or cat.classes n no_class).name) place)
+    let place : 1 + i - 1 ≡ i = omega arith in
+    ap (λ (n : ℕ). bytes_eq name (get_or cat.classes n no_class).name) place)
     ∙ sym (list_any-map (bytes_eq name) (λ (c : Class). c.name) cat.classes)
 
 -- ---- the name of one of several lists of classes
@@ -83,10 +83,34 @@ pub classes_or_last : (name : List ℕ) (classes : List ClassPart) (last : List 
     → list_any (λ (c : ClassPart). bytes_eq name c.name) (classes ++ last) ≡ (list_any (λ (c : ClassPart). bytes_eq name c.name) classes || list_any (λ (c : ClassPart). bytes_eq name c.name) last)
 classes_or_last name classes last = list_any-append (named name) classes last
 
-pub lists_or_open_list : (name : List ℕ) (lists : List (List ClassPart)) (classes : List ClassPart)
+lists_or_open_list : (name : List ℕ) (lists : List (List ClassPart)) (classes : List ClassPart)
     → list_any (λ (c : ClassPart). bytes_eq name c.name) (joined lists ++ classes) ≡ (list_any (λ (l : List ClassPart). list_any (λ (c : ClassPart). bytes_eq name c.name) l) lists || list_any (λ (c : ClassPart). bytes_eq name c.name) classes)
 lists_or_open_list name lists classes = list_any-append (named name) (joined lists) classes ∙ ap (λ (b : Bool). b || list_any (named name) classes) (any_joined (named name) lists)
 
 pub catalogue_or_lists : (cat : Catalogue) (classes : List ClassPart) (name : List ℕ)
     → has_name (class_names cat ++ part_names classes) name ≡ (has_name (class_names cat) name || list_any (λ (c : ClassPart). bytes_eq name c.name) classes)
 catalogue_or_lists cat classes name = list_any-append (bytes_eq name) (class_names cat) (part_names classes) ∙ ap (λ (b : Bool). has_name (class_names cat) name || b) (list_any-map (bytes_eq name) (λ (c : ClassPart). c.name) classes)
+
+-- ---- a test of two, of which the second is asked where the first fails
+
+either_first : (b l k : Bool) → b ≡ l → b ≡ true → b ≡ (l || k)
+either_first true true k e t = refl
+either_first true false k e t = absurd cc
+either_first false l k e t = absurd cc
+
+either_second : (b l d k : Bool) → b ≡ l → b ≡ false → d ≡ k → d ≡ (l || k)
+either_second false false d k e f g = g
+either_second false true d k e f g = absurd cc
+either_second true l d k e f g = absurd cc
+
+abbrev pub in_lists : List ℕ → List (List ClassPart) → Bool
+in_lists name lists = list_any (λ (l : List ClassPart). list_any (λ (c : ClassPart). bytes_eq name c.name) l) lists
+
+abbrev pub in_classes : List ℕ → List ClassPart → Bool
+in_classes name classes = list_any (λ (c : ClassPart). bytes_eq name c.name) classes
+
+pub declared_in_lists : (name : List ℕ) (lists : List (List ClassPart)) (classes : List ClassPart) (b : Bool) → b ≡ in_lists name lists → b ≡ true → b ≡ in_classes name (joined lists ++ classes)
+declared_in_lists name lists classes b e t = either_first b (in_lists name lists) (in_classes name classes) e t ∙ sym (lists_or_open_list name lists classes)
+
+pub declared_in_open_list : (name : List ℕ) (lists : List (List ClassPart)) (classes : List ClassPart) (b d : Bool) → b ≡ in_lists name lists → b ≡ false → d ≡ in_classes name classes → d ≡ in_classes name (joined lists ++ classes)
+declared_in_open_list name lists classes b d e f g = either_second b (in_lists name lists) d (in_classes name classes) e f g ∙ sym (lists_or_open_list name lists classes)

@@ -166,9 +166,9 @@ class_leads cat st to (word ∷ tm ∷ []) s e =
     let l : OpenList = open_list st.place in
     let spelled : Plain (codes "class") ∷ word ∷ tm ∷ [] ≡ class_words (class_so_far (record { name = b.0; tm = c.0; reads = []; writes = [] })) = two_words (Plain (codes "class")) word (Plain b.0) tm (site_word (T c.0)) w.0 t.0 in
     let leads = inside_leads cat st (with_class l b.0 c.0) (st.classes + 1) (class_words (class_so_far (record { name = b.0; tm = c.0; reads = []; writes = [] }))) s (in_list st.place place)
-        (class_declared cat st.lists l st.classes b.0 c.0 s.declares w.1 t.1 (not_true (is_taken cat st b.0) d.0) n.1) (class_more l b.0 c.0) in
+    (class_declared cat st.lists l st.classes b.0 c.0 s.declares w.1 t.1 (not_true (is_taken cat st b.0) d.0) n.1) (class_more l b.0 c.0) in
     subst (λ (x : State). Leads cat st x (Plain (codes "class") ∷ word ∷ tm ∷ [])) (ap (classed st b.0 c.0) n.0 ∙ ok_is (classed st b.0 c.0 f.0) to f.2)
-        (subst (λ (ws : List Word). Leads cat st (classed st b.0 c.0 (st.classes + 1)) ws) (sym spelled) leads)
+    (subst (λ (ws : List Word). Leads cat st (classed st b.0 c.0 (st.classes + 1)) ws) (sym spelled) leads)
 class_leads cat st to (a ∷ b ∷ c ∷ rest) s e = absurd cc
 
 -- a read
@@ -209,9 +209,9 @@ reads_leads cat st to (word ∷ dm ∷ []) s e =
     let valid : IsValidRead cat r = record { fragment = w.there; module_is_there = t.1; copy = kept_at cat c.0.0 b.0.0 b.0.1 w.number ∙ may.1 } in
     let spelled : Plain (codes "reads") ∷ word ∷ dm ∷ [] ≡ reads_words r = two_words (Plain (codes "reads")) word (Plain b.0.0) dm (site_word (D c.0)) w.spelled t.0 in
     let leads = inside_leads cat st (with_read l r) st.classes (reads_words r) s place.0
-        (read_declared cat (joined st.lists) l st.classes r s.declares valid (not_true (has_name (read_names (reads_at st.place)) b.0.0) may.0) (ltb-true (length (reads_at st.place)) MAX_READS f.0)) (read_more l r place.1) in
+    (read_declared cat (joined st.lists) l st.classes r s.declares valid (not_true (has_name (read_names (reads_at st.place)) b.0.0) may.0) (ltb-true (length (reads_at st.place)) MAX_READS f.0)) (read_more l r place.1) in
     subst (λ (x : State). Leads cat st x (Plain (codes "reads") ∷ word ∷ dm ∷ [])) (ok_is (reading st b.0.0 c.0) to f.1)
-        (subst (λ (ws : List Word). Leads cat st (reading st b.0.0 c.0) ws) (sym spelled) leads)
+    (subst (λ (ws : List Word). Leads cat st (reading st b.0.0 c.0) ws) (sym spelled) leads)
 reads_leads cat st to (a ∷ b ∷ c ∷ rest) s e = absurd cc
 
 -- a write
@@ -242,9 +242,9 @@ writes_leads cat st to (word ∷ []) s e =
     let l : OpenList = open_list st.place in
     let spelled : Plain (codes "writes") ∷ word ∷ [] ≡ writes_words b.0.0 = one_word (Plain (codes "writes")) word (Plain b.0.0) w.spelled in
     let leads = inside_leads cat st (with_write l b.0.0) st.classes (writes_words b.0.0) s place.0
-        (write_declared cat (joined st.lists) l st.classes b.0.0 s.declares w.there (not_true (has_name (writes_at st.place) b.0.0) d.0)) (write_more l b.0.0 place.1) in
+    (write_declared cat (joined st.lists) l st.classes b.0.0 s.declares w.there (not_true (has_name (writes_at st.place) b.0.0) d.0)) (write_more l b.0.0 place.1) in
     subst (λ (x : State). Leads cat st x (Plain (codes "writes") ∷ word ∷ [])) (ok_is (writing st b.0.0) to d.1)
-        (subst (λ (ws : List Word). Leads cat st (writing st b.0.0) ws) (sym spelled) leads)
+    (subst (λ (ws : List Word). Leads cat st (writing st b.0.0) ws) (sym spelled) leads)
 writes_leads cat st to (a ∷ b ∷ rest) s e = absurd cc
 
 -- ---- a list ends, or a transaction

@@ -1,15 +1,16 @@
 //! The lines of lists of classes, by their words.
-ghost use Rattle.std.specs.Prelude.{◌≡◌, List, map};
+ghost use Rattle.std.specs.Prelude.{◌≡◌, ◌&&◌, List, map, not};
 ghost use Rattle.std.specs.List.{list_any};
 ghost use Rattle.std.specs.Str.{bytes_eq};
 ghost use Rattle.sdd_base.specs.Readings.{Gives};
+ghost use Rattle.sdd_catalog.specs.Catalogue.{has_copy};
 ghost use Rattle.sdd_catalog.specs.Rules.{has_name};
 ghost use Rattle.sdd_catalog.specs.declared.parts.ClassPart.{ClassPart};
 ghost use Rattle.sdd_catalog.specs.declared.parts.ReadPart.{ReadPart};
 ghost use Rattle.sdd_words.specs.declared.word.Word.TheVariants.{Plain};
 ghost use Rattle.sdd_script.specs.ClassLists.{all_classes, fragment_of, is_taken, with_class_of, with_read_of, with_write_of, list_rules, class_rules, reads_rules, writes_rules, class_line_rules};
 ghost use Rattle.sdd_script.specs.OpenLists.{classes_in, last_class};
-ghost use Rattle.sdd_script.specs.Places.{open_list};
+ghost use Rattle.sdd_script.specs.Places.{open_list, reads_at};
 ghost use Rattle.sdd_script.specs.Rules.{rule_in};
 
 use crate::fault::{Counts, LineError, WorkRule, broken, known, must};
@@ -82,7 +83,6 @@ fn is_in_open_list(place: &Place, name: &[u8]) -> bool
     }
 }
 
-#[tactic(auto, using(crate::proofs::ClassNames::lists_or_open_list))]
 fn is_declared(state: &State, name: &[u8]) -> bool
     ensures { result ≡ list_any (λ (c : ClassPart). bytes_eq name.now c.name) (all_classes state.now) }
 {
@@ -184,26 +184,33 @@ fn is_written(writes: &[Name], name: &[u8]) -> bool
         .any(|written| name == written.as_str().as_bytes())
 }
 
+/// Whether the class that is open may read the fragment at the module.
+fn may_read(cat: &Catalogue, place: &Place, fragment: &[u8], number: u32, dm: DmNo) -> bool
+    ensures { result ≡ (not (has_name (map (λ (r : ReadPart). r.fragment) (reads_at place.now)) fragment.now) && has_copy cat.now dm.0 number) }
+{
+    !is_read(place.reads(), fragment) && has_copy(cat, dm, number)
+}
+
 fn add_read(
     alloc: Global,
     cat: &Catalogue,
     state: &mut State,
-    fragment: (Name, u32),
+    fragment: Name,
+    number: u32,
     dm: DmNo,
 ) -> Result<(), LineError>
-    ensures { Gives rule_in (λ _. state.new) result (with_read_of cat.now state.old fragment dm) }
+    ensures { Gives rule_in (λ _. state.new) result (with_read_of cat.now state.old (fragment, number) dm) }
 {
-    let (name, number) = fragment;
     must(
         WorkRule::BadClass,
-        !is_read(state.place.reads(), name.as_str().as_bytes()) && has_copy(cat, dm, number),
+        may_read(cat, &state.place, fragment.as_str().as_bytes(), number, dm),
     )?;
     must(
         WorkRule::TooMany(Counts::Read),
         state.place.reads().len() < MAX_READS,
     )?;
     let read = ReadPart {
-        fragment: name,
+        fragment,
         at: u32::from(dm.0),
     };
     let list = mem::replace(&mut state.place, Place::Listed).into_list(alloc);
@@ -225,9 +232,9 @@ fn reads_line(
                 WorkRule::BadLine,
                 state.place.takes_reads() && (stands_free(word) && stands_free(dm)),
             )?;
-            let fragment = read_fragment(alloc, cat, word)?;
+            let (fragment, number) = read_fragment(alloc, cat, word)?;
             let dm = read_dm(cat, dm)?;
-            add_read(alloc, cat, state, fragment, dm)
+            add_read(alloc, cat, state, fragment, number, dm)
         }
         _ => broken(WorkRule::BadLine),
     }
@@ -259,8 +266,8 @@ fn writes_line(
                 WorkRule::BadLine,
                 state.place.takes_writes() && stands_free(word),
             )?;
-            let (name, _) = read_fragment(alloc, cat, word)?;
-            add_write(alloc, state, name)
+            let (fragment, _) = read_fragment(alloc, cat, word)?;
+            add_write(alloc, state, fragment)
         }
         _ => broken(WorkRule::BadLine),
     }
