@@ -1,14 +1,13 @@
 -- The names of a catalogue's classes: they differ, and they are found by numbers.
-use Rattle.std.proofs.Common.{◌≡◌, ℕ, zero, suc, ◌+◌, ◌-◌, ◌<◌, ◌≤◌, List, [], ◌∷◌, ◌++◌, length, get_or, map, Bool, true, false, refl, sym, ap, subst, ◌∙◌, arith, append-nil, append_assoc}
+use Rattle.std.proofs.Common.{◌≡◌, ℕ, suc, ◌+◌, ◌-◌, ◌<◌, List, [], ◌∷◌, ◌++◌, length, get_or, map, Bool, true, false, refl, sym, ap, subst, ◌∙◌, arith, append-nil, append_assoc}
 use Rattle.std.specs.Prelude.{◌||◌}
 use Rattle.std.specs.Str.{bytes_eq}
 use Rattle.std.specs.List.{list_any, range_with_len}
 use Rattle.std.proofs.lemmas.List.{map-append}
 use Rattle.std.proofs.lemmas.List.Folds.{list_any-append}
 use Rattle.sdd_base.specs.Numbers.{tm_no}
-use Rattle.sdd_catalog.specs.Catalogue.{Catalogue, parts_of, class_part, class_at, numbers_to}
-use Rattle.sdd_catalog.specs.Rules.{IsSound, repeats, has_name, found_from, class_rules, faults_of_class, when}
-use Rattle.sdd_catalog.specs.declared.fault.CatFault.{CatFault}
+use Rattle.sdd_catalog.specs.Catalogue.{Catalogue, parts_of, class_part, numbers_to}
+use Rattle.sdd_catalog.specs.Rules.{IsSound, repeats, has_name, found_from, class_rules, faults_of_class}
 use Rattle.sdd_catalog.specs.declared.parts.ClassPart.{ClassPart}
 use Rattle.sdd_catalog.specs.declared.parts.Parts.{Parts}
 use Rattle.sdd_catalog.specs.declared.resolved.Class.{Class}

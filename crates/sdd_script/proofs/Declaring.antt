@@ -1,8 +1,8 @@
 -- The classes that lists declare, with one class more, or with one read or write more of the last one.
-use Rattle.std.proofs.Common.{◌≡◌, ℕ, ◌+◌, ◌<◌, List, [], ◌∷◌, ◌++◌, length, map, flat_map, Bool, true, false, Option, Some, None, refl, sym, ap, subst, ◌∙◌, arith, append-nil, append_assoc}
+use Rattle.std.proofs.Common.{◌≡◌, ℕ, ◌+◌, ◌<◌, List, [], ◌∷◌, ◌++◌, length, map, false, Option, Some, None, refl, sym, ap, subst, ◌∙◌, arith, append-nil, append_assoc}
 use Rattle.std.specs.Str.{bytes_eq}
 use Rattle.std.specs.List.{All, AllByRecursion}
-use Rattle.std.proofs.lemmas.List.{map-append, length-append}
+use Rattle.std.proofs.lemmas.List.{map-append}
 use Rattle.std.proofs.lemmas.List.Elements.{All-from_recursion, recursion_from_All}
 use Rattle.std.proofs.lemmas.Grind.{flat_map-append}
 use Rattle.sdd_base.specs.Name.{IsName}
@@ -15,7 +15,7 @@ use Rattle.sdd_catalog.specs.declared.parts.ReadPart.{ReadPart}
 use Rattle.sdd_lang.specs.Fits.{IsFrom1To}
 use Rattle.sdd_script.specs.ClassLists.{joined, part_names}
 use Rattle.sdd_script.specs.Naming.{class_names}
-use Rattle.sdd_script.specs.OpenLists.{class_so_far, classes_in, with_class, with_read, with_write, reads_in, writes_in, takes_writes}
+use Rattle.sdd_script.specs.OpenLists.{class_so_far, classes_in, with_class, with_read, with_write, reads_in, writes_in}
 use Rattle.sdd_script.specs.Valid.{IsFragment, IsValidRead, IsValidClass, read_names}
 use Rattle.sdd_script.specs.declared.open_list.OpenClass.{OpenClass}
 use Rattle.sdd_script.specs.declared.open_list.OpenList.{OpenList}

@@ -1,8 +1,7 @@
 -- Fragments by their names: what is read is there, and what is there is read.
-use Rattle.std.proofs.Common.{◌≡◌, ℕ, List, Bool, true, false, cond, Option, Some, None, Result, Ok, Err, refl, ap, subst, ◌∙◌}
+use Rattle.std.proofs.Common.{◌≡◌, ℕ, List, Bool, true, false, cond, Option, Some, None, Result, Ok, refl, ap, subst, ◌∙◌}
 use Rattle.std.specs.Prelude.{is_some}
 use Rattle.std.specs.Option.{option_map_or}
-use Rattle.sdd_base.specs.Name.{IsName, is_name}
 use Rattle.sdd_base.specs.Readings.{◌>>=◌, known}
 use Rattle.sdd_catalog.specs.Catalogue.{Catalogue, has_copy}
 use Rattle.sdd_words.specs.Names.{name_in}

@@ -2,7 +2,7 @@
 use Rattle.std.proofs.Common.{◌≡◌, ℕ, ◌+◌, ◌<◌, ◌≤◌, List, [], ◌∷◌, ◌++◌, length, map, flat_map, Bool, true, false, cond, ◌&&◌, ltb, Option, Some, None, Result, Ok, refl, sym, ap, subst, ◌∙◌, arith, append-nil, append_assoc}
 use Rattle.std.specs.Prelude.{not, nat_lt}
 use Rattle.std.specs.Str.{bytes_eq}
-use Rattle.std.specs.List.{All, AllByRecursion}
+use Rattle.std.specs.List.{AllByRecursion}
 use Rattle.std.proofs.lemmas.Bool.{lt-ltb}
 use Rattle.std.proofs.lemmas.List.{map-append, length-append}
 use Rattle.std.proofs.lemmas.List.Elements.{recursion_from_All}
@@ -18,9 +18,8 @@ use Rattle.sdd_catalog.specs.declared.parts.ClassPart.{ClassPart}
 use Rattle.sdd_catalog.specs.declared.parts.ReadPart.{ReadPart}
 use Rattle.sdd_words.specs.Keywords.{is_free}
 use Rattle.sdd_words.specs.Words.{line_bytes}
-use Rattle.sdd_words.specs.declared.word.Word.{Word}
 use Rattle.sdd_words.specs.declared.word.Word.TheVariants.{Plain}
-use Rattle.sdd_script.specs.ClassLists.{joined, part_names, is_taken, one_more_class, fragment_of, with_class_of, with_read_of, with_write_of}
+use Rattle.sdd_script.specs.ClassLists.{joined, part_names, one_more_class, fragment_of, with_class_of, with_read_of, with_write_of}
 use Rattle.sdd_script.specs.Naming.{name_of, class_names}
 use Rattle.sdd_script.specs.Occurrences.{dm_of, tm_of}
 use Rattle.sdd_script.specs.OpenLists.{classes_in, no_classes}

@@ -1,5 +1,5 @@
 -- How the lines of a list of classes add themselves to the lines before.
-use Rattle.std.proofs.Common.{◌≡◌, ℕ, List, [], ◌∷◌, ◌++◌, map, flat_map, length, Bool, true, Option, Some, None, refl, sym, ap, subst, ◌∙◌, append_assoc, append-nil, arith}
+use Rattle.std.proofs.Common.{◌≡◌, ℕ, List, [], ◌∷◌, ◌++◌, map, flat_map, length, true, Option, Some, None, refl, sym, ap, ◌∙◌, append_assoc, append-nil, arith}
 use Rattle.std.specs.Prelude.{◌==◌}
 use Rattle.std.proofs.lemmas.Bool.{eqb-true}
 use Rattle.std.proofs.lemmas.List.{map-append}
@@ -14,7 +14,7 @@ use Rattle.sdd_catalog.specs.declared.parts.ReadPart.{ReadPart}
 use Rattle.sdd_lang.specs.declared.statement.Stmt.{Stmt}
 use Rattle.sdd_lang.specs.declared.transaction.Txn.{Txn}
 use Rattle.sdd_words.specs.declared.word.Word.{Word}
-use Rattle.sdd_script.specs.OpenLists.{class_so_far, last_class, classes_in, no_classes, with_class, with_read, with_write, takes_reads, takes_writes}
+use Rattle.sdd_script.specs.OpenLists.{class_so_far, classes_in, no_classes, with_class, with_read, with_write, takes_reads, takes_writes}
 use Rattle.sdd_script.specs.Places.{takes_lists}
 use Rattle.sdd_script.specs.Spelling.{start_words, txn_lines, list_words, class_words, reads_words, writes_words, class_lines, list_lines, done_words}
 use Rattle.sdd_script.specs.declared.open_list.OpenClass.{OpenClass}

@@ -1,5 +1,5 @@
 -- The lines of lists of classes keep what holds in every state, and add themselves to the lines before.
-use Rattle.std.proofs.Common.{◌≡◌, ℕ, ◌+◌, ◌<◌, ◌≤◌, List, [], ◌∷◌, ◌++◌, length, Bool, true, false, cond, ◌&&◌, Option, Some, None, Result, Ok, refl, sym, ap, subst, ◌∙◌, arith, append-nil}
+use Rattle.std.proofs.Common.{◌≡◌, ℕ, ◌+◌, ◌<◌, ◌≤◌, List, [], ◌∷◌, ◌++◌, length, Bool, true, false, cond, ◌&&◌, Some, None, Ok, refl, sym, ap, subst, ◌∙◌, arith, append-nil}
 use Rattle.std.specs.Prelude.{codes, not, nat_lt}
 use Rattle.std.proofs.lemmas.Bool.{ltb-true}
 use Rattle.sdd_base.specs.declared.event.Event.{Event}
@@ -39,7 +39,7 @@ use Rattle.sdd_script.proofs.Fragments.{fragment_takes, kept_at}
 use Rattle.sdd_script.proofs.Declaring.{class_declared, read_declared, write_declared, joined_more}
 use Rattle.sdd_script.proofs.ListLines.{AddsLine, list_more, listing_more, class_more, read_more, write_more, listed_more}
 use Rattle.sdd_script.proofs.RedeclareLaws.{none_timely}
-use Rattle.sdd_script.proofs.SoFar.{lines_at, so_far, InOrder}
+use Rattle.sdd_script.proofs.SoFar.{lines_at, InOrder}
 use Rattle.sdd_script.proofs.SoundStates.{Sound, Declares, Leads, HeaderFits, names_of, open_name, lists_open, name_of_takes, one_longer, at_place, txn_closed, two_words}
 
 -- ---- only the place, the lists and the count of classes change
