@@ -211,7 +211,7 @@ classes_chain cat k st done rest (c ∷ cs) n l h once few =
 open_still : (p : Place) → takes_lists p ≡ true → is_ended p ≡ false
 open_still places.Rows t = refl
 open_still places.Between t = refl
-open_still places.Listed t = refl
+open_still places.Declared t = refl
 open_still (places.Inside h) t = absurd cc
 open_still (places.Listing l) t = absurd cc
 open_still places.Events t = absurd cc
@@ -225,17 +225,17 @@ list_step cat st p done n t room =
     ap (λ (b : Bool). must BadLine b >>= λ _. must (TooMany counts.List) (nat_lt (length done) MAX_LISTS) >>= λ _. Ok to) t
     ∙ ap (λ (b : Bool). must (TooMany counts.List) b >>= λ _. Ok to) few)
 
-listed_step : (cat : Catalogue) (st : State) (l : OpenList) (done : List (List ClassPart)) (n : ℕ) → IsStep cat (at st (places.Listing l) done n) (at st places.Listed (done ++ classes_in l ∷ []) n) (line_bytes done_words)
-listed_step cat st l done n = line_step cat (at st (places.Listing l) done n) (at st places.Listed (done ++ classes_in l ∷ []) n) keys.Done [] refl (keyword_fine keys.Done, tt) refl
+listed_step : (cat : Catalogue) (st : State) (l : OpenList) (done : List (List ClassPart)) (n : ℕ) → IsStep cat (at st (places.Listing l) done n) (at st places.Declared (done ++ classes_in l ∷ []) n) (line_bytes done_words)
+listed_step cat st l done n = line_step cat (at st (places.Listing l) done n) (at st places.Declared (done ++ classes_in l ∷ []) n) keys.Done [] refl (keyword_fine keys.Done, tt) refl
 
 list_chain : (cat : Catalogue) → IsKnown cat → (st : State) (p : Place) (done : List (List ClassPart)) (rest cs : List ClassPart) (n : ℕ) → takes_lists p ≡ true → length done < MAX_LISTS → AllByRecursion (IsValidClass cat) cs → Differ cat (joined done ++ (cs ++ rest)) → n + length cs ≤ MAX_CLASSES
-    → Chain cat (at st p done n) (map line_bytes (list_lines cs)) (at st places.Listed (done ++ cs ∷ []) (n + length cs))
+    → Chain cat (at st p done n) (map line_bytes (list_lines cs)) (at st places.Declared (done ++ cs ∷ []) (n + length cs))
 list_chain cat k st p done rest cs n t room h once few =
     let begun : State = at st (places.Listing no_classes) done n in
     let body = classes_chain cat k st done rest cs n no_classes h (subst (λ (x : List ClassPart). Differ cat (x ++ (cs ++ rest))) (sym (append-nil (joined done))) once) few in
     let mid : State = at st (places.Listing body.last) done (n + length cs) in
-    let to : State = at st places.Listed (done ++ cs ∷ []) (n + length cs) in
-    let step : IsStep cat mid to (line_bytes done_words) = subst (λ (x : List ClassPart). IsStep cat mid (at st places.Listed (done ++ x ∷ []) (n + length cs)) (line_bytes done_words)) body.whole (listed_step cat st body.last done (n + length cs)) in
+    let to : State = at st places.Declared (done ++ cs ∷ []) (n + length cs) in
+    let step : IsStep cat mid to (line_bytes done_words) = subst (λ (x : List ClassPart). IsStep cat mid (at st places.Declared (done ++ x ∷ []) (n + length cs)) (line_bytes done_words)) body.whole (listed_step cat st body.last done (n + length cs)) in
     let last : Chain cat mid (line_bytes done_words ∷ []) to = (to, step, refl) in
     let both : Chain cat begun (map line_bytes (flat_map class_lines cs) ++ line_bytes done_words ∷ []) to = chain-append cat begun mid to (map line_bytes (flat_map class_lines cs)) (line_bytes done_words ∷ []) body.chain last in (
       begun,
@@ -266,9 +266,9 @@ lists_chain cat k st (cs ∷ ls) p done n t h once few room =
     let len : length (done ++ cs ∷ []) ≡ length done + 1 = length-append done (cs ∷ []) in
     let one = list_chain cat k st p done (joined ls) cs n t (omega (arith, few)) valid.0 once (omega (arith, room, size)) in
     let joins : joined done ++ (cs ++ joined ls) ≡ joined (done ++ cs ∷ []) ++ joined ls = sym (append_assoc (joined done) cs (joined ls)) ∙ ap (λ (x : List ClassPart). x ++ joined ls) (sym (joined_on done cs)) in
-    let more = lists_chain cat k st ls places.Listed (done ++ cs ∷ []) (n + length cs) refl valid.1 (subst (Differ cat) joins once) (omega (arith, few, len)) (omega (arith, room, size)) in
+    let more = lists_chain cat k st ls places.Declared (done ++ cs ∷ []) (n + length cs) refl valid.1 (subst (Differ cat) joins once) (omega (arith, few, len)) (omega (arith, room, size)) in
     let from : State = at st p done n in
-    let mid : State = at st places.Listed (done ++ cs ∷ []) (n + length cs) in
+    let mid : State = at st places.Declared (done ++ cs ∷ []) (n + length cs) in
     let to : State = at st more.place (done ++ cs ∷ ls) more.classes in
     let others : Chain cat mid (map line_bytes (flat_map list_lines ls)) to = subst (λ (l : List (List ClassPart)). Chain cat mid (map line_bytes (flat_map list_lines ls)) (at st more.place l more.classes)) (append_assoc done (cs ∷ []) ls) more.chain in
     let both : Chain cat from (map line_bytes (list_lines cs) ++ map line_bytes (flat_map list_lines ls)) to = chain-append cat from mid to (map line_bytes (list_lines cs)) (map line_bytes (flat_map list_lines ls)) one others in

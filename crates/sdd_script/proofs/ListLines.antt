@@ -26,17 +26,17 @@ use Rattle.sdd_script.proofs.SoFar.{lines_at, InOrder, opens, stays_open, closes
 -- ---- a list begins
 
 begins_in : (cat : Catalogue) (rows : List (RelNo × List Value)) (txns : List Txn) (lists : List (List ClassPart)) (statements : List Stmt) (events : List Event) → events ≡ []
-    → lines_at cat rows txns lists (places.Listing no_classes) statements events ≡ lines_at cat rows txns lists places.Listed statements events ++ list_words ∷ []
+    → lines_at cat rows txns lists (places.Listing no_classes) statements events ≡ lines_at cat rows txns lists places.Declared statements events ++ list_words ∷ []
 begins_in cat rows txns lists statements events q =
     ap (λ (x : List Event). lines_at cat rows txns lists (places.Listing no_classes) statements x) q
     ∙ opens (map (start_words cat) rows ++ flat_map (txn_lines cat) txns ++ flat_map list_lines lists) list_words
-    ∙ ap (λ (x : List Event). lines_at cat rows txns lists places.Listed statements x ++ list_words ∷ []) (sym q)
+    ∙ ap (λ (x : List Event). lines_at cat rows txns lists places.Declared statements x ++ list_words ∷ []) (sym q)
 
 pub list_more : (cat : Catalogue) (rows : List (RelNo × List Value)) (txns : List Txn) (lists : List (List ClassPart)) (place : Place) (statements : List Stmt) (events : List Event) → takes_lists place ≡ true → InOrder place txns lists statements events
     → lines_at cat rows txns lists (places.Listing no_classes) statements events ≡ lines_at cat rows txns lists place statements events ++ list_words ∷ []
 list_more cat rows txns lists places.Rows statements events t o = begins_in cat rows txns lists statements events o.3
 list_more cat rows txns lists places.Between statements events t o = begins_in cat rows txns lists statements events o.2
-list_more cat rows txns lists places.Listed statements events t o = begins_in cat rows txns lists statements events o.1
+list_more cat rows txns lists places.Declared statements events t o = begins_in cat rows txns lists statements events o.1
 list_more cat rows txns lists (places.Inside header) statements events t o = absurd cc
 list_more cat rows txns lists (places.Listing list) statements events t o = absurd cc
 list_more cat rows txns lists places.Events statements events t o = absurd cc
@@ -100,10 +100,10 @@ write_more l f t = last_write l.classes l.last f t
 -- ---- a list ends
 
 pub listed_more : (cat : Catalogue) (rows : List (RelNo × List Value)) (txns : List Txn) (lists : List (List ClassPart)) (l : OpenList) (statements : List Stmt) (events : List Event) → events ≡ []
-    → lines_at cat rows txns (lists ++ classes_in l ∷ []) places.Listed statements events ≡ lines_at cat rows txns lists (places.Listing l) statements events ++ done_words ∷ []
+    → lines_at cat rows txns (lists ++ classes_in l ∷ []) places.Declared statements events ≡ lines_at cat rows txns lists (places.Listing l) statements events ++ done_words ∷ []
 listed_more cat rows txns lists l statements events q =
     let front : List (List Word) = map (start_words cat) rows ++ flat_map (txn_lines cat) txns in
-    ap (λ (x : List Event). lines_at cat rows txns (lists ++ classes_in l ∷ []) places.Listed statements x) q
+    ap (λ (x : List Event). lines_at cat rows txns (lists ++ classes_in l ∷ []) places.Declared statements x) q
     ∙ ap (λ (x : List (List Word)). front ++ x ++ [] ++ [] ++ []) (flat_map-append list_lines lists (classes_in l ∷ []))
     ∙ closes front (flat_map list_lines lists) (flat_map class_lines (classes_in l)) list_words done_words
     ∙ ap (λ (x : List Event). lines_at cat rows txns lists (places.Listing l) statements x ++ done_words ∷ []) (sym q)

@@ -1,15 +1,16 @@
 -- A workload without lists of classes has no `redeclare` among its events.
-use Rattle.std.proofs.Common.{◌≡◌, ℕ, suc, List, [], ◌∷◌, length, Bool, true, false, not, Some, refl, ap, arith}
+use Rattle.std.proofs.Common.{◌≡◌, ℕ, zero, suc, List, [], ◌∷◌, length, Bool, true, false, not, Some, refl, ap, subst, arith}
 use Rattle.std.specs.Prelude.{slice_get, ◌==◌}
 use Rattle.std.specs.List.{All, AllByRecursion}
 use Rattle.std.proofs.lemmas.Bool.{eqb-true}
-use Rattle.std.proofs.lemmas.List.Elements.{All-from_recursion}
+use Rattle.std.proofs.lemmas.List.Elements.{All-from_recursion, recursion_from_All}
 use Rattle.sdd_base.specs.declared.event.Event.{Event}
 use Rattle.sdd_base.specs.declared.event.Event.TheVariants.{Submit, Deliver, Lose, Repeat, Resend, Tick, Settle, Redeclare, Down, Up}
 use Rattle.sdd_catalog.specs.Catalogue.{Catalogue}
 use Rattle.sdd_script.specs.Redeclaring.{is_redeclare, has_lists}
-use Rattle.sdd_script.specs.Valid.{IsValid}
+use Rattle.sdd_script.specs.Valid.{AreTimely, IsValid}
 use Rattle.sdd_script.specs.declared.workload.Workload.{Workload}
+use Rattle.sdd_script.proofs.StepLaws.{some_is}
 
 -- an event that is no `redeclare`, by cases
 abbrev pub IsNoRedeclare : Event → Type 0
@@ -42,3 +43,13 @@ pub no_redeclare : (cat : Catalogue) (w : Workload) → IsValid cat w → has_li
 no_redeclare cat w v none =
     let empty : length w.lists ≡ 0 = eqb-true (length w.lists) 0 (not_false (length w.lists == 0) none) in
     All-from_recursion IsNoRedeclare w.events (by_place w.events (λ i is. let m = v.timely i is in omega (arith, m.left, empty)))
+
+-- ---- events of which none is a `redeclare` stand where they may, whatever the lists
+
+item_of : {A : Type 0} (P : A → Type 0) (xs : List A) → AllByRecursion P xs → (i : ℕ) (x : A) → slice_get xs i ≡ Some x → P x
+item_of P [] h i x e = absurd cc
+item_of P (y ∷ xs) h zero x e = subst P (some_is y x e) h.0
+item_of P (y ∷ xs) h (suc i) x e = item_of P xs h.1 i x e
+
+pub timely_without : (dms lists : ℕ) (es : List Event) → All IsNoRedeclare es → AreTimely dms lists es
+timely_without dms lists es h i is = let none : is_redeclare Redeclare ≡ false = item_of IsNoRedeclare es (recursion_from_All IsNoRedeclare es h) i Redeclare is in absurd cc

@@ -294,7 +294,7 @@ ended_place places.Rows e = absurd cc
 ended_place (places.Inside h) e = absurd cc
 ended_place places.Between e = absurd cc
 ended_place (places.Listing list) e = absurd cc
-ended_place places.Listed e = absurd cc
+ended_place places.Declared e = absurd cc
 ended_place places.Events e = absurd cc
 
 sound_valid : (cat : Catalogue) (st : State) → Sound cat st → st.place ≡ places.Ended → IsValid cat (made st)

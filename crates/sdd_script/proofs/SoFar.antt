@@ -47,7 +47,7 @@ InOrder places.Rows txns lists statements events = (txns ≡ []) × (lists ≡ [
 InOrder (places.Inside header) txns lists statements events = (lists ≡ []) × (events ≡ [])
 InOrder places.Between txns lists statements events = (lists ≡ []) × (statements ≡ []) × (events ≡ [])
 InOrder (places.Listing list) txns lists statements events = (statements ≡ []) × (events ≡ [])
-InOrder places.Listed txns lists statements events = (statements ≡ []) × (events ≡ [])
+InOrder places.Declared txns lists statements events = (statements ≡ []) × (events ≡ [])
 InOrder places.Events txns lists statements events = statements ≡ []
 InOrder places.Ended txns lists statements events = statements ≡ []
 
@@ -79,7 +79,7 @@ row_more cat rows r txns lists places.Rows statements events t o =
 row_more cat rows r txns lists (places.Inside header) statements events t o = absurd cc
 row_more cat rows r txns lists places.Between statements events t o = absurd cc
 row_more cat rows r txns lists (places.Listing list) statements events t o = absurd cc
-row_more cat rows r txns lists places.Listed statements events t o = absurd cc
+row_more cat rows r txns lists places.Declared statements events t o = absurd cc
 row_more cat rows r txns lists places.Events statements events t o = absurd cc
 row_more cat rows r txns lists places.Ended statements events t o = absurd cc
 
@@ -106,7 +106,7 @@ header_more cat rows txns lists places.Rows statements events header t o = heade
 header_more cat rows txns lists places.Between statements events header t o = header_in cat rows txns lists statements events header o.1 o.2
 header_more cat rows txns lists (places.Inside h) statements events header t o = absurd cc
 header_more cat rows txns lists (places.Listing list) statements events header t o = absurd cc
-header_more cat rows txns lists places.Listed statements events header t o = absurd cc
+header_more cat rows txns lists places.Declared statements events header t o = absurd cc
 header_more cat rows txns lists places.Events statements events header t o = absurd cc
 header_more cat rows txns lists places.Ended statements events header t o = absurd cc
 
@@ -127,7 +127,7 @@ statement_more cat rows txns lists (places.Inside header) statements s events t 
 statement_more cat rows txns lists places.Rows statements s events t o = absurd cc
 statement_more cat rows txns lists places.Between statements s events t o = absurd cc
 statement_more cat rows txns lists (places.Listing list) statements s events t o = absurd cc
-statement_more cat rows txns lists places.Listed statements s events t o = absurd cc
+statement_more cat rows txns lists places.Declared statements s events t o = absurd cc
 statement_more cat rows txns lists places.Events statements s events t o = absurd cc
 statement_more cat rows txns lists places.Ended statements s events t o = absurd cc
 
@@ -180,7 +180,7 @@ pub event_more : (cat : Catalogue) (rows : List (RelNo × List Value)) (txns : L
     → lines_at cat rows txns lists places.Events statements (events ++ e ∷ []) ≡ lines_at cat rows txns lists place statements events ++ event_words txns e ∷ []
 event_more cat rows txns lists places.Rows statements events e t = event_in cat rows txns lists statements events e
 event_more cat rows txns lists places.Between statements events e t = event_in cat rows txns lists statements events e
-event_more cat rows txns lists places.Listed statements events e t = event_in cat rows txns lists statements events e
+event_more cat rows txns lists places.Declared statements events e t = event_in cat rows txns lists statements events e
 event_more cat rows txns lists places.Events statements events e t = event_in cat rows txns lists statements events e
 event_more cat rows txns lists (places.Inside header) statements events e t = absurd cc
 event_more cat rows txns lists (places.Listing list) statements events e t = absurd cc
@@ -199,7 +199,7 @@ pub end_more : (cat : Catalogue) (rows : List (RelNo × List Value)) (txns : Lis
     → lines_at cat rows txns lists places.Ended statements events ≡ lines_at cat rows txns lists place statements events ++ end_words ∷ []
 end_more cat rows txns lists places.Rows statements events t = end_in cat rows txns lists statements events
 end_more cat rows txns lists places.Between statements events t = end_in cat rows txns lists statements events
-end_more cat rows txns lists places.Listed statements events t = end_in cat rows txns lists statements events
+end_more cat rows txns lists places.Declared statements events t = end_in cat rows txns lists statements events
 end_more cat rows txns lists places.Events statements events t = end_in cat rows txns lists statements events
 end_more cat rows txns lists (places.Inside header) statements events t = absurd cc
 end_more cat rows txns lists (places.Listing list) statements events t = absurd cc

@@ -51,7 +51,7 @@ with_occurrence st e = record st { place = places.Events; events = st.events ++ 
 pub no_open : (place : Place) → takes_events place ≡ true → open_name place ≡ []
 no_open places.Rows t = refl
 no_open places.Between t = refl
-no_open places.Listed t = refl
+no_open places.Declared t = refl
 no_open places.Events t = refl
 no_open (places.Inside h) t = absurd cc
 no_open (places.Listing list) t = absurd cc
@@ -60,7 +60,7 @@ no_open places.Ended t = absurd cc
 pub no_statements : (place : Place) (txns : List Txn) (lists : List (List ClassPart)) (ss : List Stmt) (events : List Event) → takes_events place ≡ true → InOrder place txns lists ss events → ss ≡ []
 no_statements places.Rows txns lists ss events t o = o.2
 no_statements places.Between txns lists ss events t o = o.1
-no_statements places.Listed txns lists ss events t o = o.0
+no_statements places.Declared txns lists ss events t o = o.0
 no_statements places.Events txns lists ss events t o = o
 no_statements (places.Inside h) txns lists ss events t o = absurd cc
 no_statements (places.Listing list) txns lists ss events t o = absurd cc
@@ -70,7 +70,7 @@ no_statements places.Ended txns lists ss events t o = absurd cc
 none_open : (place : Place) → takes_events place ≡ true → open_list place ≡ no_classes
 none_open places.Rows t = refl
 none_open places.Between t = refl
-none_open places.Listed t = refl
+none_open places.Declared t = refl
 none_open places.Events t = refl
 none_open (places.Inside h) t = absurd cc
 none_open (places.Listing list) t = absurd cc

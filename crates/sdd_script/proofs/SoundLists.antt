@@ -88,7 +88,7 @@ record IsOutside (place : Place) (ss : List Stmt) (events : List Event) : Type 0
 outside : (place : Place) (txns : List Txn) (lists : List (List ClassPart)) (ss : List Stmt) (events : List Event) → takes_lists place ≡ true → InOrder place txns lists ss events → IsOutside place ss events
 outside places.Rows txns lists ss events t o = record { unnamed = refl; none = refl; no_statements = o.2; no_events = o.3 }
 outside places.Between txns lists ss events t o = record { unnamed = refl; none = refl; no_statements = o.1; no_events = o.2 }
-outside places.Listed txns lists ss events t o = record { unnamed = refl; none = refl; no_statements = o.0; no_events = o.1 }
+outside places.Declared txns lists ss events t o = record { unnamed = refl; none = refl; no_statements = o.0; no_events = o.1 }
 outside (places.Inside header) txns lists ss events t o = absurd cc
 outside (places.Listing list) txns lists ss events t o = absurd cc
 outside places.Events txns lists ss events t o = absurd cc
@@ -139,7 +139,7 @@ in_list (places.Listing list) t = refl
 in_list places.Rows t = absurd cc
 in_list (places.Inside header) t = absurd cc
 in_list places.Between t = absurd cc
-in_list places.Listed t = absurd cc
+in_list places.Declared t = absurd cc
 in_list places.Events t = absurd cc
 in_list places.Ended t = absurd cc
 
@@ -178,7 +178,7 @@ reads_within (places.Listing list) t = (refl, t)
 reads_within places.Rows t = absurd cc
 reads_within (places.Inside header) t = absurd cc
 reads_within places.Between t = absurd cc
-reads_within places.Listed t = absurd cc
+reads_within places.Declared t = absurd cc
 reads_within places.Events t = absurd cc
 reads_within places.Ended t = absurd cc
 
@@ -221,7 +221,7 @@ writes_within (places.Listing list) t = (refl, t)
 writes_within places.Rows t = absurd cc
 writes_within (places.Inside header) t = absurd cc
 writes_within places.Between t = absurd cc
-writes_within places.Listed t = absurd cc
+writes_within places.Declared t = absurd cc
 writes_within places.Events t = absurd cc
 writes_within places.Ended t = absurd cc
 
@@ -250,13 +250,13 @@ writes_leads cat st to (a ∷ b ∷ rest) s e = absurd cc
 -- ---- a list ends, or a transaction
 
 abbrev listed : State → OpenList → State
-listed st l = record st { place = places.Listed; lists = st.lists ++ classes_in l ∷ [] }
+listed st l = record st { place = places.Declared; lists = st.lists ++ classes_in l ∷ [] }
 
 list_closed : (cat : Catalogue) (st to : State) (l : OpenList) → Sound cat (at_place st (places.Listing l)) → closed (places.Listing l) st ≡ Ok to → Leads cat (at_place st (places.Listing l)) to done_words
 list_closed cat st to l s e =
     let joins : joined (st.lists ++ classes_in l ∷ []) ++ [] ≡ joined st.lists ++ classes_in l = append-nil (joined (st.lists ++ classes_in l ∷ [])) ∙ joined_more st.lists (classes_in l) in
     subst (λ (x : State). Leads cat (at_place st (places.Listing l)) x done_words) (ok_is (listed st l) to e) (record {
-      sound = moved cat (at_place st (places.Listing l)) places.Listed (st.lists ++ classes_in l ∷ []) st.classes s refl s.order.1 (record {
+      sound = moved cat (at_place st (places.Listing l)) places.Declared (st.lists ++ classes_in l ∷ []) st.classes s refl s.order.1 (record {
         header = tt;
         unnamed = refl;
         declares = subst (λ (cs : List ClassPart). Declares cat cs st.classes) (sym joins) s.declares;
@@ -271,7 +271,7 @@ closed_leads cat st to (places.Inside h) s e = txn_closed cat st to h s e
 closed_leads cat st to (places.Listing l) s e = list_closed cat st to l s e
 closed_leads cat st to places.Rows s e = absurd cc
 closed_leads cat st to places.Between s e = absurd cc
-closed_leads cat st to places.Listed s e = absurd cc
+closed_leads cat st to places.Declared s e = absurd cc
 closed_leads cat st to places.Events s e = absurd cc
 closed_leads cat st to places.Ended s e = absurd cc
 

@@ -178,7 +178,7 @@ closed_name places.Rows t = refl
 closed_name places.Between t = refl
 closed_name (places.Inside h) t = absurd cc
 closed_name (places.Listing list) t = absurd cc
-closed_name places.Listed t = absurd cc
+closed_name places.Declared t = absurd cc
 closed_name places.Events t = absurd cc
 closed_name places.Ended t = absurd cc
 
@@ -187,7 +187,7 @@ no_more places.Rows txns lists ss events t o = (o.1, o.3)
 no_more places.Between txns lists ss events t o = (o.0, o.2)
 no_more (places.Inside h) txns lists ss events t o = absurd cc
 no_more (places.Listing list) txns lists ss events t o = absurd cc
-no_more places.Listed txns lists ss events t o = absurd cc
+no_more places.Declared txns lists ss events t o = absurd cc
 no_more places.Events txns lists ss events t o = absurd cc
 no_more places.Ended txns lists ss events t o = absurd cc
 
@@ -198,7 +198,7 @@ none_open places.Rows t = refl
 none_open places.Between t = refl
 none_open (places.Inside h) t = refl
 none_open (places.Listing list) t = absurd cc
-none_open places.Listed t = refl
+none_open places.Declared t = refl
 none_open places.Events t = refl
 none_open places.Ended t = refl
 
@@ -285,7 +285,7 @@ statement_order (places.Inside h) txns lists ss other events t o = o
 statement_order places.Rows txns lists ss other events t o = absurd cc
 statement_order places.Between txns lists ss other events t o = absurd cc
 statement_order (places.Listing list) txns lists ss other events t o = absurd cc
-statement_order places.Listed txns lists ss other events t o = absurd cc
+statement_order places.Declared txns lists ss other events t o = absurd cc
 statement_order places.Events txns lists ss other events t o = absurd cc
 statement_order places.Ended txns lists ss other events t o = absurd cc
 

@@ -217,7 +217,7 @@ going_on places.Rows t = refl
 going_on places.Between t = refl
 going_on (places.Inside h) t = absurd cc
 going_on (places.Listing list) t = absurd cc
-going_on places.Listed t = absurd cc
+going_on places.Declared t = absurd cc
 going_on places.Events t = absurd cc
 going_on places.Ended t = absurd cc
 

@@ -132,7 +132,7 @@ fresh submitted (Up dm) es d = record { new = refl; distinct = d }
 still : (place : Place) → takes_events place ≡ true → is_ended place ≡ false
 still places.Rows t = refl
 still places.Between t = refl
-still places.Listed t = refl
+still places.Declared t = refl
 still places.Events t = refl
 still (places.Inside h) t = absurd cc
 still (places.Listing list) t = absurd cc
@@ -237,14 +237,14 @@ lists_from places.Rows t = refl
 lists_from places.Between t = refl
 lists_from (places.Inside h) t = absurd cc
 lists_from (places.Listing list) t = absurd cc
-lists_from places.Listed t = absurd cc
+lists_from places.Declared t = absurd cc
 lists_from places.Events t = absurd cc
 lists_from places.Ended t = absurd cc
 
 events_from : (place : Place) → takes_lists place ≡ true → takes_events place ≡ true
 events_from places.Rows t = refl
 events_from places.Between t = refl
-events_from places.Listed t = refl
+events_from places.Declared t = refl
 events_from (places.Inside h) t = absurd cc
 events_from (places.Listing list) t = absurd cc
 events_from places.Events t = absurd cc

@@ -105,7 +105,7 @@ statement_rules st reading = do
 abbrev pub closed : Place → State → Result State WorkRule
 closed (places.Inside header) st =
     Ok (record st { place = places.Between; txns = st.txns ++ record { name = header.name; tm = header.tm; statements = st.statements } ∷ []; statements = [] })
-closed (places.Listing list) st = Ok (record st { place = places.Listed; lists = st.lists ++ classes_in list ∷ [] })
+closed (places.Listing list) st = Ok (record st { place = places.Declared; lists = st.lists ++ classes_in list ∷ [] })
 closed place st = Err BadLine
 
 abbrev pub done_rules : State → List Word → Result State WorkRule

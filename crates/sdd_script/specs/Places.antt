@@ -4,7 +4,7 @@ use Rattle.sdd_catalog.specs.declared.parts.ReadPart.{ReadPart}
 use Rattle.sdd_script.specs.OpenLists.{no_classes, reads_in, writes_in, takes_reads as takes_reads_in, takes_writes as takes_writes_in}
 use Rattle.sdd_script.specs.declared.open_list.OpenList.{OpenList}
 use Rattle.sdd_script.specs.declared.place.Place.{Place}
-use Rattle.sdd_script.specs.declared.place.Place.TheVariants.{Rows, Inside, Between, Listing, Listed, Events, Ended}
+use Rattle.sdd_script.specs.declared.place.Place.TheVariants.{Rows, Inside, Between, Listing, Declared, Events, Ended}
 
 -- where a row may stand
 abbrev pub takes_rows : Place → Bool
@@ -26,7 +26,7 @@ takes_statements _ = false
 abbrev pub takes_lists : Place → Bool
 takes_lists Rows = true
 takes_lists Between = true
-takes_lists Listed = true
+takes_lists Declared = true
 takes_lists _ = false
 
 -- where a class of a list may begin
@@ -48,7 +48,7 @@ takes_writes _ = false
 abbrev pub takes_events : Place → Bool
 takes_events Rows = true
 takes_events Between = true
-takes_events Listed = true
+takes_events Declared = true
 takes_events Events = true
 takes_events _ = false
 

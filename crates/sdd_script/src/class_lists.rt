@@ -114,7 +114,7 @@ fn add_class(
         WorkRule::TooMany(Counts::Class),
         one_more_class(state.classes),
     )?;
-    let list = mem::replace(&mut state.place, Place::Listed).into_list(alloc);
+    let list = mem::replace(&mut state.place, Place::Declared).into_list(alloc);
     state.place = Place::Listing(with_class(alloc, list, name, tm)?);
     Ok(())
 }
@@ -213,7 +213,7 @@ fn add_read(
         fragment,
         at: u32::from(dm.0),
     };
-    let list = mem::replace(&mut state.place, Place::Listed).into_list(alloc);
+    let list = mem::replace(&mut state.place, Place::Declared).into_list(alloc);
     state.place = Place::Listing(with_read(list, read)?);
     Ok(())
 }
@@ -247,7 +247,7 @@ fn add_write(alloc: Global, state: &mut State, name: Name) -> Result<(), LineErr
         WorkRule::BadClass,
         !is_written(state.place.writes(), name.as_str().as_bytes()),
     )?;
-    let list = mem::replace(&mut state.place, Place::Listed).into_list(alloc);
+    let list = mem::replace(&mut state.place, Place::Declared).into_list(alloc);
     state.place = Place::Listing(with_write(list, name)?);
     Ok(())
 }

@@ -25,7 +25,7 @@ pub enum Place {
     /// Inside a list of classes.
     Listing(OpenList),
     /// Behind a list of classes.
-    Listed,
+    Declared,
     /// Behind an event.
     Events,
     /// Behind the line `end`.
@@ -58,7 +58,7 @@ impl Place {
     pub fn takes_lists(&self) -> bool
         ensures { result ≡ takes_lists self.now }
     {
-        matches!(self, Place::Rows | Place::Between | Place::Listed)
+        matches!(self, Place::Rows | Place::Between | Place::Declared)
     }
 
     /// Whether a class of a list may begin there.
@@ -94,7 +94,7 @@ impl Place {
     {
         matches!(
             self,
-            Place::Rows | Place::Between | Place::Listed | Place::Events
+            Place::Rows | Place::Between | Place::Declared | Place::Events
         )
     }
 

@@ -126,7 +126,7 @@ fn close(alloc: Global, state: &mut State) -> Result<(), LineError>
         }
         Place::Listing(list) => {
             let classes = classes_in(list)?;
-            state.place = Place::Listed;
+            state.place = Place::Declared;
             state.lists.push(classes.into_listed())?;
             Ok(())
         }
