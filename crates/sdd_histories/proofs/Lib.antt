@@ -12,11 +12,11 @@ mod Misses
 mod OneAfterOther
 mod ReadsBefore
 mod RunsAlone
-mod Sound
+pub mod Sound
 mod Starts
 mod StartsAgain
-mod Texts
+pub mod Texts
 mod Undeclared
 mod WaitsAtTwo
 mod WaitsForOther
-mod WorkedTables
+pub mod WorkedTables

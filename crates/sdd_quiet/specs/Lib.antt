@@ -1,0 +1,4 @@
+pub mod Theorems
+pub mod WaitGraph
+pub mod WaitGraphs
+pub mod Waiting

@@ -1,0 +1,266 @@
+-- A history has no more attempts than the square of the number of its transactions: each starts once more than others
+-- commit at most, and each commits once.
+use Rattle.std.proofs.Common.{ℕ, zero, suc, ◌+◌, ◌*◌, ◌<◌, ◌≤◌, ◌==◌, ◌≡◌, ◌≢◌, eqb, nat_le, Bool, true, false, not, cond, List, [], ◌∷◌, length, Option, Some, None, refl, sym, ap, subst, inl, inr, arith}
+use Rattle.std.specs.Prelude.{filter, filter_map}
+use Rattle.std.specs.List.{AllByRecursion, IsDistinct, cons_option, list_any}
+use Rattle.std.proofs.Math.Nat.{suc-mul}
+use Rattle.std.proofs.lemmas.Bool.{cases_Bool, cases_eq, cases_lt, eqb-false, eqb-true, eq-eqb, le-leb, ne_eqb}
+use Rattle.std.proofs.lemmas.Bool.Decides.{nat_tests}
+use Rattle.std.proofs.lemmas.List.Elements.{All-head, All-tail}
+use Rattle.std.proofs.lemmas.Map.Keys.{IsDistinct-cons}
+use Rattle.std.proofs.lemmas.Option.{same_Some}
+use Rattle.std.proofs.lemmas.Map.Steps.{length-le_from_distinct_below}
+use Rattle.sdd_history.specs.declared.record.Rec.{Rec}
+use Rattle.sdd_history.specs.declared.record.Rec.TheVariants.{Submit, Start, Arrive, Wait, Answer, Reject, Commit, Apply, Pass, Nothing}
+use Rattle.sdd_history.specs.Records.{History}
+use Rattle.sdd_order.specs.Attempts.{HasCommit, attempt_of, attempts}
+use Rattle.sdd_order.specs.Places.{placed}
+use Rattle.sdd_laws.specs.Few.{AreFew, commits_of_others, is_commit_of_other, starts_of}
+use Rattle.sdd_laws.specs.Numbers.{NamesOneOf, TxnsExist}
+use Rattle.sdd_laws.specs.Starts.{is_start_of}
+
+-- each transaction has one Commit
+abbrev pub OneCommit : History → Type 0
+OneCommit h = (n i j k l : ℕ) → HasCommit h n i k → HasCommit h n j l → k ≡ l
+
+-- the transactions other than n that commit
+
+committer : ℕ → Rec → Option ℕ
+committer n (Commit txn attempt reply changes values rows) = cond (txn.0 == n) None (Some txn.0)
+committer n r = None
+
+committers : ℕ → History → List ℕ
+committers n [] = []
+committers n (e ∷ h) = cons_option (committer n e.1) (committers n h)
+
+one_each : {A : Type 0} (b : Bool) (x : ℕ) (e : A) (xs : List ℕ) (es : List A) → length xs ≡ length es
+    → length (cons_option (cond b None (Some x)) xs) ≡ length (cond (not b) (e ∷ es) es)
+one_each true x e xs es l = l
+one_each false x e xs es l = ap suc l
+
+as_many : (n : ℕ) (h : History) → length (committers n h) ≡ commits_of_others h n
+unfolding committer committers
+as_many n [] = refl
+as_many n ((k, Commit txn attempt reply changes values rows) ∷ h) =
+    one_each (txn.0 == n) txn.0 (k, Commit txn attempt reply changes values rows) (committers n h) (filter (λ d. is_commit_of_other n d.1) h) (as_many n h)
+as_many n ((k, Submit txn) ∷ h) = as_many n h
+as_many n ((k, Start txn attempt class ts p2 uses) ∷ h) = as_many n h
+as_many n ((k, Arrive txn attempt dm) ∷ h) = as_many n h
+as_many n ((k, Wait txn attempt dm conds) ∷ h) = as_many n h
+as_many n ((k, Answer txn attempt dm) ∷ h) = as_many n h
+as_many n ((k, Reject txn attempt dm class ts) ∷ h) = as_many n h
+as_many n ((k, Apply txn class dm ts) ∷ h) = as_many n h
+as_many n ((k, Pass class dm time) ∷ h) = as_many n h
+as_many n ((k, Nothing) ∷ h) = as_many n h
+
+-- each commits at some place, is another one than n, and is one of so many
+
+pub record IsCommitter (n count : ℕ) (h : History) (q place : ℕ) : Type 0 where
+  pub other : q ≢ n
+  pub from : 1 ≤ q
+  pub to : q ≤ count
+  pub number : ℕ
+  pub commit : HasCommit h q number place
+
+abbrev Commits : ℕ → ℕ → History → ℕ → Type 0
+Commits n count h q = (place : ℕ) × IsCommitter n count h q place
+
+commit_later : (e : ℕ × Rec) (h : History) (q number place : ℕ) → HasCommit h q number place
+    → HasCommit (e ∷ h) q number (suc place)
+commit_later e h q number place m = record { reply = m.reply; changes = m.changes; values = m.values; rows = m.rows; stands = m.stands }
+
+commits_later : (n count : ℕ) (e : ℕ × Rec) (h : History) (q : ℕ) → Commits n count h q → Commits n count (e ∷ h) q
+commits_later n count e h q c =
+    (suc c.0, record { other = c.1.other; from = c.1.from; to = c.1.to; number = c.1.number; commit = commit_later e h q c.1.number c.0 c.1.commit })
+
+commits_here : (n count : ℕ) (e : ℕ × Rec) (h : History) (q : ℕ) → NamesOneOf count e.1 → committer n e.1 ≡ Some q
+    → IsCommitter n count (e ∷ h) q 0
+unfolding committer
+commits_here n count (k, Commit txn attempt reply changes values rows) h q named e =
+    elim (txn.0 == n) as (λ b. (txn.0 == n) ≡ b → cond b None (Some txn.0) ≡ Some q → IsCommitter n count ((k, Commit txn attempt reply changes values rows) ∷ h) q 0) [
+      | true ↦ λ p s. absurd (cc)
+      | false ↦ λ p s.
+          let same : txn.0 ≡ q = same_Some txn.0 q s in
+          subst (λ z. IsCommitter n count ((k, Commit txn attempt reply changes values rows) ∷ h) z 0) same
+          (record { other = eqb-false txn.0 n p; from = named.0; to = named.1; number = attempt; commit = record { reply = reply; changes = changes; values = values; rows = rows; stands = refl } })
+    ] refl e
+commits_here n count (k, Submit txn) h q named e = absurd (cc)
+commits_here n count (k, Start txn attempt class ts p2 uses) h q named e = absurd (cc)
+commits_here n count (k, Arrive txn attempt dm) h q named e = absurd (cc)
+commits_here n count (k, Wait txn attempt dm conds) h q named e = absurd (cc)
+commits_here n count (k, Answer txn attempt dm) h q named e = absurd (cc)
+commits_here n count (k, Reject txn attempt dm class ts) h q named e = absurd (cc)
+commits_here n count (k, Apply txn class dm ts) h q named e = absurd (cc)
+commits_here n count (k, Pass class dm time) h q named e = absurd (cc)
+commits_here n count (k, Nothing) h q named e = absurd (cc)
+
+each_weaker : {P Q : ℕ → Type 0} → ((j : ℕ) → P j → Q j) → (js : List ℕ) → AllByRecursion P js → AllByRecursion Q js
+each_weaker f [] all = tt
+each_weaker f (j ∷ js) all = (f j all.0, each_weaker f js all.1)
+
+member_is : (P : ℕ → Type 0) (js : List ℕ) (i : ℕ) → AllByRecursion P js → list_any (eqb i) js ≡ true → P i
+member_is P [] i all e = absurd (cc)
+member_is P (j ∷ js) i all e =
+    elim (cases_Bool (eqb i j)) [
+      | inl same ↦ subst P (sym (eqb-true i j same)) all.0
+      | inr other ↦ member_is P js i all.1 (rw other at e)
+    ]
+
+not_at : (x m : ℕ) → x ≢ suc m → suc m ≤ x → nat_le x (suc m) ≡ false
+not_at x m other high = let l : suc m < x = omega (arith, other) in grind (arith, nat_tests)
+
+-- they differ
+pub record AreCommitters (n count : ℕ) (h : History) (qs : List ℕ) : Type 0 where
+  pub differ : IsDistinct eqb qs
+  pub each : AllByRecursion (Commits n count h) qs
+
+no_committers : (n count : ℕ) → AreCommitters n count [] []
+unfolding IsDistinct
+no_committers n count = record { differ = tt; each = tt }
+
+with_committer : (n count : ℕ) (e : ℕ × Rec) (h : History) (o : Option ℕ) (qs : List ℕ) → OneCommit (e ∷ h)
+    → ((q : ℕ) → o ≡ Some q → IsCommitter n count (e ∷ h) q 0) → AreCommitters n count h qs
+    → AreCommitters n count (e ∷ h) (cons_option o qs)
+with_committer n count e h None qs one here rest =
+    record { differ = rest.differ; each = each_weaker (λ q c. commits_later n count e h q c) qs rest.each }
+with_committer n count e h (Some q) qs one here rest =
+    let first = here q refl in
+    let later = each_weaker (λ z c. commits_later n count e h z c) qs rest.each in
+    let apart : (z : ℕ) → Commits n count h z → eqb q z ≡ false =
+    λ z c. ne_eqb q z (λ same.
+    let again = commit_later e h z c.1.number c.0 c.1.commit in
+    let places : 0 ≡ suc c.0 = one q first.number c.1.number 0 (suc c.0) first.commit (subst (λ y. HasCommit (e ∷ h) y c.1.number (suc c.0)) (sym same) again) in
+    absurd (omega arith)) in
+    record { differ = IsDistinct-cons eqb q qs (each_weaker apart qs rest.each) rest.differ; each = ((0, first), later) }
+
+one_later : (e : ℕ × Rec) (h : History) → OneCommit (e ∷ h) → OneCommit h
+one_later e h one n i j k l a b =
+    let same = one n i j (suc k) (suc l) (commit_later e h n i k a) (commit_later e h n j l b) in omega arith
+
+all_committers : (n count : ℕ) (h : History) → OneCommit h → TxnsExist count h → AreCommitters n count h (committers n h)
+unfolding committers
+all_committers n count [] one exist = no_committers n count
+all_committers n count (e ∷ h) one exist =
+    with_committer n count e h (committer n e.1) (committers n h) one
+    (λ q is. commits_here n count e h q (All-head (λ d. NamesOneOf count d.1) e h exist) is)
+    (all_committers n count h (one_later e h one) (All-tail (λ d. NamesOneOf count d.1) e h exist))
+
+-- with 0 and n itself they are different numbers up to the count
+pub commits_few : (n count : ℕ) (h : History) → OneCommit h → TxnsExist count h → 1 ≤ n → n ≤ count
+    → suc (commits_of_others h n) ≤ count
+commits_few n count h one exist low high =
+    let all = all_committers n count h one exist in
+    let qs = committers n h in
+    let from_n : AllByRecursion (λ q. eqb n q ≡ false) qs = each_weaker (λ q c. ne_eqb n q (λ e. c.1.other (sym e))) qs all.each in
+    let from_zero : AllByRecursion (λ q. eqb 0 q ≡ false) (n ∷ qs) =
+    (ne_eqb 0 n (λ e. absurd (omega arith)), each_weaker (λ q c. ne_eqb 0 q (λ e. let f = c.1.from in absurd (omega arith))) qs all.each) in
+    let differ = IsDistinct-cons eqb 0 (n ∷ qs) from_zero (IsDistinct-cons eqb n qs from_n all.differ) in
+    let small : AllByRecursion (λ q. q < count + 1) (0 ∷ n ∷ qs) =
+    (omega arith, (omega arith, each_weaker (λ q c. (let t = c.1.to in omega arith)) qs all.each)) in
+    let fit = length-le_from_distinct_below (0 ∷ n ∷ qs) (count + 1) differ (λ q m. member_is (λ z. z < count + 1) (0 ∷ n ∷ qs) q small m) in
+    omega (arith, fit, as_many n h)
+
+-- Starts of the transactions up to m
+
+start_to : ℕ → Rec → Bool
+start_to m (Start txn attempt class ts p2 uses) = nat_le txn.0 m
+start_to m r = false
+
+starts_to : History → ℕ → ℕ
+starts_to h m = length (filter (λ e. start_to m e.1) h)
+
+one_more : {A : Type 0} (x m : ℕ) (e : A) (xs ys zs : List A) → length xs ≤ length ys + length zs
+    → length (cond (nat_le x (suc m)) (e ∷ xs) xs) ≤ length (cond (nat_le x m) (e ∷ ys) ys) + length (cond (x == suc m) (e ∷ zs) zs)
+one_more x m e xs ys zs l =
+    elim (cases_lt x (suc m)) [
+      | inl low ↦
+          let a : nat_le x (suc m) ≡ true = le-leb x (suc m) (omega arith) in
+          let b : nat_le x m ≡ true = le-leb x m (omega arith) in
+          let c : (x == suc m) ≡ false = ne_eqb x (suc m) (λ same. absurd (omega arith)) in
+          rw (a, b, c) (omega (arith, l))
+      | inr high ↦ elim (cases_eq x (suc m)) [
+        | inl same ↦
+            let a : nat_le x (suc m) ≡ true = le-leb x (suc m) (omega arith) in
+            let b : nat_le x m ≡ false = grind (arith, nat_tests) in
+            let c : (x == suc m) ≡ true = eq-eqb x (suc m) same in
+            rw (a, b, c) (omega (arith, l))
+        | inr other ↦
+            let a : nat_le x (suc m) ≡ false = not_at x m other high in
+            let b : nat_le x m ≡ false = grind (arith, nat_tests) in
+            let c : (x == suc m) ≡ false = ne_eqb x (suc m) other in
+            rw (a, b, c) l
+      ]
+    ]
+
+step : (h : History) (m : ℕ) → starts_to h (suc m) ≤ starts_to h m + starts_of h (suc m)
+unfolding start_to starts_to
+step [] m = omega arith
+step ((k, Start txn attempt class ts p2 uses) ∷ h) m =
+    one_more txn.0 m (k, Start txn attempt class ts p2 uses) (filter (λ e. start_to (suc m) e.1) h) (filter (λ e. start_to m e.1) h) (filter (λ e. is_start_of (suc m) e.1) h) (step h m)
+step ((k, Submit txn) ∷ h) m = step h m
+step ((k, Arrive txn attempt dm) ∷ h) m = step h m
+step ((k, Wait txn attempt dm conds) ∷ h) m = step h m
+step ((k, Answer txn attempt dm) ∷ h) m = step h m
+step ((k, Reject txn attempt dm class ts) ∷ h) m = step h m
+step ((k, Commit txn attempt reply changes values rows) ∷ h) m = step h m
+step ((k, Apply txn class dm ts) ∷ h) m = step h m
+step ((k, Pass class dm time) ∷ h) m = step h m
+step ((k, Nothing) ∷ h) m = step h m
+
+none_from : {A : Type 0} (x : ℕ) (e : A) (xs : List A) → 1 ≤ x → length xs ≡ 0 → length (cond (nat_le x 0) (e ∷ xs) xs) ≡ 0
+none_from x e xs l z = let no : nat_le x 0 ≡ false = grind (arith, nat_tests) in rw no z
+
+none_to_zero : (count : ℕ) (h : History) → TxnsExist count h → starts_to h 0 ≡ 0
+unfolding start_to starts_to
+none_to_zero count [] exist = refl
+none_to_zero count ((k, Start txn attempt class ts p2 uses) ∷ h) exist =
+    none_from txn.0 (k, Start txn attempt class ts p2 uses) (filter (λ e. start_to 0 e.1) h) (All-head (λ d. NamesOneOf count d.1) (k, Start txn attempt class ts p2 uses) h exist).0
+    (none_to_zero count h (All-tail (λ d. NamesOneOf count d.1) (k, Start txn attempt class ts p2 uses) h exist))
+none_to_zero count ((k, Submit txn) ∷ h) exist = none_to_zero count h (All-tail (λ d. NamesOneOf count d.1) (k, Submit txn) h exist)
+none_to_zero count ((k, Arrive txn attempt dm) ∷ h) exist = none_to_zero count h (All-tail (λ d. NamesOneOf count d.1) (k, Arrive txn attempt dm) h exist)
+none_to_zero count ((k, Wait txn attempt dm conds) ∷ h) exist = none_to_zero count h (All-tail (λ d. NamesOneOf count d.1) (k, Wait txn attempt dm conds) h exist)
+none_to_zero count ((k, Answer txn attempt dm) ∷ h) exist = none_to_zero count h (All-tail (λ d. NamesOneOf count d.1) (k, Answer txn attempt dm) h exist)
+none_to_zero count ((k, Reject txn attempt dm class ts) ∷ h) exist = none_to_zero count h (All-tail (λ d. NamesOneOf count d.1) (k, Reject txn attempt dm class ts) h exist)
+none_to_zero count ((k, Commit txn attempt reply changes values rows) ∷ h) exist = none_to_zero count h (All-tail (λ d. NamesOneOf count d.1) (k, Commit txn attempt reply changes values rows) h exist)
+none_to_zero count ((k, Apply txn class dm ts) ∷ h) exist = none_to_zero count h (All-tail (λ d. NamesOneOf count d.1) (k, Apply txn class dm ts) h exist)
+none_to_zero count ((k, Pass class dm time) ∷ h) exist = none_to_zero count h (All-tail (λ d. NamesOneOf count d.1) (k, Pass class dm time) h exist)
+none_to_zero count ((k, Nothing) ∷ h) exist = none_to_zero count h (All-tail (λ d. NamesOneOf count d.1) (k, Nothing) h exist)
+
+-- all attempts are of transactions up to the count
+
+all_from : {A : Type 0} (x count many : ℕ) (e : A) (xs : List A) → x ≤ count → many ≤ length xs → suc many ≤ length (cond (nat_le x count) (e ∷ xs) xs)
+all_from x count many e xs l m = let yes : nat_le x count ≡ true = le-leb x count l in rw yes (omega (arith, m))
+
+all_to_count : (count k : ℕ) (h : History) → TxnsExist count h → length (filter_map attempt_of (placed k h)) ≤ starts_to h count
+unfolding start_to starts_to
+all_to_count count k [] exist = omega arith
+all_to_count count k ((i, Start txn attempt class ts p2 uses) ∷ h) exist =
+    all_from txn.0 count (length (filter_map attempt_of (placed (suc k) h))) (i, Start txn attempt class ts p2 uses) (filter (λ e. start_to count e.1) h)
+    (All-head (λ d. NamesOneOf count d.1) (i, Start txn attempt class ts p2 uses) h exist).1
+    (all_to_count count (suc k) h (All-tail (λ d. NamesOneOf count d.1) (i, Start txn attempt class ts p2 uses) h exist))
+all_to_count count k ((i, Submit txn) ∷ h) exist = all_to_count count (suc k) h (All-tail (λ d. NamesOneOf count d.1) (i, Submit txn) h exist)
+all_to_count count k ((i, Arrive txn attempt dm) ∷ h) exist = all_to_count count (suc k) h (All-tail (λ d. NamesOneOf count d.1) (i, Arrive txn attempt dm) h exist)
+all_to_count count k ((i, Wait txn attempt dm conds) ∷ h) exist = all_to_count count (suc k) h (All-tail (λ d. NamesOneOf count d.1) (i, Wait txn attempt dm conds) h exist)
+all_to_count count k ((i, Answer txn attempt dm) ∷ h) exist = all_to_count count (suc k) h (All-tail (λ d. NamesOneOf count d.1) (i, Answer txn attempt dm) h exist)
+all_to_count count k ((i, Reject txn attempt dm class ts) ∷ h) exist = all_to_count count (suc k) h (All-tail (λ d. NamesOneOf count d.1) (i, Reject txn attempt dm class ts) h exist)
+all_to_count count k ((i, Commit txn attempt reply changes values rows) ∷ h) exist = all_to_count count (suc k) h (All-tail (λ d. NamesOneOf count d.1) (i, Commit txn attempt reply changes values rows) h exist)
+all_to_count count k ((i, Apply txn class dm ts) ∷ h) exist = all_to_count count (suc k) h (All-tail (λ d. NamesOneOf count d.1) (i, Apply txn class dm ts) h exist)
+all_to_count count k ((i, Pass class dm time) ∷ h) exist = all_to_count count (suc k) h (All-tail (λ d. NamesOneOf count d.1) (i, Pass class dm time) h exist)
+all_to_count count k ((i, Nothing) ∷ h) exist = all_to_count count (suc k) h (All-tail (λ d. NamesOneOf count d.1) (i, Nothing) h exist)
+
+module _ (count : ℕ) (h : History) (one : OneCommit h) (exist : TxnsExist count h) (few : AreFew h) where
+  up_to : (m : ℕ) → m ≤ count → starts_to h m ≤ m * count
+  up_to zero l = let z = none_to_zero count h exist in omega arith
+  up_to (suc m) l =
+      let before = up_to m (omega arith) in
+      let more = step h m in
+      let starts = few (suc m) in
+      let commits = commits_few (suc m) count h one exist (omega arith) l in
+      let product = suc-mul m count in
+      omega arith
+
+  pub attempts_square : length (attempts h) ≤ count * count
+  attempts_square =
+      let all = all_to_count count 0 h exist in
+      let square = up_to count (omega arith) in
+      omega arith

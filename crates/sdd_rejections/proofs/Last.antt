@@ -1,0 +1,82 @@
+-- The last record that passes a test; and that fewer pass a narrower one.
+use Rattle.std.proofs.Common.{ℕ, zero, suc, ◌<◌, ◌≤◌, ◌≡◌, Bool, true, false, cond, List, [], ◌∷◌, length, take, refl, ap, ◌∙◌, subst, sym, arith}
+use Rattle.std.specs.Prelude.{filter}
+use Rattle.std.proofs.lemmas.Bool.{false≢true}
+use Rattle.std.proofs.lemmas.Option.{same_Some}
+use Rattle.sdd_history.specs.declared.record.Rec.{Rec}
+use Rattle.sdd_history.specs.Records.{History}
+use Rattle.sdd_order.specs.Places.{Stands}
+
+abbrev pub passing : (Rec → Bool) → History → ℕ
+passing test h = length (filter (λ e. test e.1) h)
+
+pub record LastPassing (test : Rec → Bool) (h : History) (n : ℕ) : Type 0 where
+  pub place : ℕ
+  pub rec : Rec
+  pub stands : Stands h place rec
+  pub passes : test rec ≡ true
+  pub before : passing test (take place h) ≡ n
+
+pub last_passing : (test : Rec → Bool) (h : History) (n : ℕ) → passing test h ≡ suc n → LastPassing test h n
+last_passing test [] n e = absurd (omega arith)
+last_passing test (x ∷ h) n e =
+    elim (test x.1) as (λ b. test x.1 ≡ b → length (cond b (x ∷ filter (λ d. test d.1) h) (filter (λ d. test d.1) h)) ≡ suc n → LastPassing test (x ∷ h) n) [
+      | true ↦ λ t l. elim n as (λ m. n ≡ m → LastPassing test (x ∷ h) m) [
+        | zero ↦ λ z. record { place = 0; rec = x.1; stands = refl; passes = t; before = refl }
+        | suc m ↦ λ z.
+            let r = last_passing test h m (omega arith) in
+            record {
+              place = suc r.place;
+              rec = r.rec;
+              stands = r.stands;
+              passes = r.passes;
+              before = ap (λ b. length (cond b (x ∷ filter (λ d. test d.1) (take r.place h)) (filter (λ d. test d.1) (take r.place h)))) t ∙ ap suc r.before;
+            }
+      ] refl
+      | false ↦ λ t l.
+          let r = last_passing test h n l in
+          record {
+            place = suc r.place;
+            rec = r.rec;
+            stands = r.stands;
+            passes = r.passes;
+            before = ap (λ b. length (cond b (x ∷ filter (λ d. test d.1) (take r.place h)) (filter (λ d. test d.1) (take r.place h)))) t ∙ r.before;
+          }
+    ] refl e
+
+-- one record counts no more under a narrower test
+abbrev counted : {A : Type 0} → Bool → A → List A → ℕ
+counted b x xs = length (cond b (x ∷ xs) xs)
+
+counted_fewer : {A : Type 0} (b c : Bool) (x : A) (xs ys : List A) → (b ≡ true → c ≡ true) → length xs ≤ length ys
+    → counted b x xs ≤ counted c x ys
+counted_fewer true true x xs ys f l = omega (arith, l)
+counted_fewer true false x xs ys f l = absurd (false≢true (f refl))
+counted_fewer false true x xs ys f l = omega (arith, l)
+counted_fewer false false x xs ys f l = l
+
+counted_less : {A : Type 0} (b c : Bool) (x : A) (xs ys : List A) → (b ≡ true → c ≡ true) → length xs < length ys
+    → counted b x xs < counted c x ys
+counted_less true true x xs ys f l = omega (arith, l)
+counted_less true false x xs ys f l = absurd (false≢true (f refl))
+counted_less false true x xs ys f l = omega (arith, l)
+counted_less false false x xs ys f l = l
+
+module _ (narrow test : Rec → Bool) (within : (r : Rec) → narrow r ≡ true → test r ≡ true) where
+  pub fewer : (h : History) → passing narrow h ≤ passing test h
+  fewer [] = omega arith
+  fewer (e ∷ h) = counted_fewer (narrow e.1) (test e.1) e (filter (λ d. narrow d.1) h) (filter (λ d. test d.1) h) (within e.1) (fewer h)
+
+  -- and less where one passes the wider test alone
+  pub less : (h : History) (k : ℕ) (r : Rec) → Stands h k r → test r ≡ true → narrow r ≡ false
+      → passing narrow h < passing test h
+  less [] k r s t n = absurd (cc)
+  less (e ∷ h) zero r s t n =
+      let same = same_Some e.1 r s in
+      let few = fewer h in
+      let a : narrow e.1 ≡ false = ap narrow same ∙ n in
+      let b : test e.1 ≡ true = ap test same ∙ t in
+      subst (λ z. counted z e (filter (λ d. narrow d.1) h) < passing test (e ∷ h)) (sym a)
+      (subst (λ z. counted false e (filter (λ d. narrow d.1) h) < counted z e (filter (λ d. test d.1) h)) (sym b) (omega (arith, few)))
+  less (e ∷ h) (suc k) r s t n =
+      counted_less (narrow e.1) (test e.1) e (filter (λ d. narrow d.1) h) (filter (λ d. test d.1) h) (within e.1) (less h k r s t n)

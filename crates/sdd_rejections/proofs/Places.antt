@@ -1,0 +1,66 @@
+-- Different places at which records pass a test are at most as many as records that pass it.
+use Rattle.std.proofs.Common.{ℕ, zero, suc, ◌+◌, ◌≤◌, ◌≡◌, eqb, Bool, true, false, cond, ◌||◌, List, [], ◌∷◌, length, refl, ap, ◌∙◌, subst, inl, inr, arith}
+use Rattle.std.specs.Prelude.{filter}
+use Rattle.std.specs.List.{IsDistinct, AllByRecursion, list_any}
+use Rattle.std.specs.Cmp.{nat_eq_equiv}
+use Rattle.std.proofs.lemmas.Bool.{cases_Bool, eqb-true, eq-eqb}
+use Rattle.std.proofs.lemmas.Map.Made.{length-le_from_is_member}
+use Rattle.std.proofs.lemmas.Option.{same_Some}
+use Rattle.sdd_history.specs.declared.record.Rec.{Rec}
+use Rattle.sdd_history.specs.Records.{History}
+use Rattle.sdd_order.specs.Places.{Stands}
+
+-- all such places, the first counted as k
+places : (Rec → Bool) → ℕ → History → List ℕ
+places test k [] = []
+places test k (e ∷ h) = cond (test e.1) (k ∷ places test (suc k) h) (places test (suc k) h)
+
+as_many : (test : Rec → Bool) (k : ℕ) (h : History) → length (places test k h) ≡ length (filter (λ e. test e.1) h)
+unfolding places
+as_many test k [] = refl
+as_many test k (e ∷ h) =
+    elim (test e.1) as (λ b. length (cond b (k ∷ places test (suc k) h) (places test (suc k) h)) ≡ length (cond b (e ∷ filter (λ d. test d.1) h) (filter (λ d. test d.1) h))) [
+      | true ↦ ap suc (as_many test (suc k) h)
+      | false ↦ as_many test (suc k) h
+    ]
+
+there : (test : Rec → Bool) (k : ℕ) (h : History) (j : ℕ) (r : Rec) → Stands h j r → test r ≡ true
+    → list_any (eqb (k + j)) (places test k h) ≡ true
+unfolding places
+there test k [] j r s t = absurd (cc)
+there test k (e ∷ h) zero r s t =
+    let same : k + 0 ≡ k = omega arith in
+    ap (λ b. list_any (eqb (k + 0)) (cond b (k ∷ places test (suc k) h) (places test (suc k) h))) (ap test (same_Some e.1 r s) ∙ t)
+    ∙ ap (λ b. b || list_any (eqb (k + 0)) (places test (suc k) h)) (eq-eqb (k + 0) k same)
+there test k (e ∷ h) (suc j) r s t =
+    let same : suc k + j ≡ k + suc j = omega arith in
+    let rest : list_any (eqb (k + suc j)) (places test (suc k) h) ≡ true =
+    subst (λ m. list_any (eqb m) (places test (suc k) h) ≡ true) same (there test (suc k) h j r s t) in
+    elim (test e.1) as (λ b. list_any (eqb (k + suc j)) (cond b (k ∷ places test (suc k) h) (places test (suc k) h)) ≡ true) [
+      | true ↦ elim (eqb (k + suc j) k) as (λ b. (b || list_any (eqb (k + suc j)) (places test (suc k) h)) ≡ true) [ true ↦ refl | false ↦ rest ]
+      | false ↦ rest
+    ]
+
+-- a record that passes stands at the place
+pub record Passes (test : Rec → Bool) (h : History) (place : ℕ) : Type 0 where
+  pub rec : Rec
+  pub stands : Stands h place rec
+  pub passes : test rec ≡ true
+
+each_there : (test : Rec → Bool) (h : History) (ks : List ℕ) → AllByRecursion (Passes test h) ks → (q : ℕ)
+    → list_any (eqb q) ks ≡ true → list_any (eqb q) (places test 0 h) ≡ true
+each_there test h [] all q e = absurd (cc)
+each_there test h (k ∷ ks) all q e =
+    elim (cases_Bool (eqb q k)) [
+      | inl same ↦
+          let p = all.0 in
+          let z : 0 + k ≡ q = omega (arith, eqb-true q k same) in
+          subst (λ m. list_any (eqb m) (places test 0 h) ≡ true) z (there test 0 h k p.rec p.stands p.passes)
+      | inr other ↦ each_there test h ks all.1 q (rw other at e)
+    ]
+
+pub few_places : (test : Rec → Bool) (h : History) (ks : List ℕ) → IsDistinct eqb ks → AllByRecursion (Passes test h) ks
+    → length ks ≤ length (filter (λ e. test e.1) h)
+few_places test h ks differ all =
+    let few = length-le_from_is_member nat_eq_equiv ks (places test 0 h) differ (each_there test h ks all) in
+    omega (arith, few, as_many test 0 h)

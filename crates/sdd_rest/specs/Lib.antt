@@ -1,0 +1,9 @@
+pub mod Asked
+pub mod Committed
+pub mod Examples
+pub mod Finished
+pub mod Going
+pub mod Premises
+pub mod Quiet
+pub mod Settled
+pub mod Waiting

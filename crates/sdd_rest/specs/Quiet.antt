@@ -1,0 +1,29 @@
+-- A log at which nothing goes on: nothing is under way on a link, nothing is due at a site, and every data module takes
+-- part.
+use Rattle.std.specs.Prelude.{ℕ, ◌≡◌, false, true, None}
+use Rattle.sdd_base.specs.Numbers.{dm_no}
+use Rattle.sdd_base.specs.declared.site.Site.TheVariants.{D}
+use Rattle.sdd_net.specs.Links.{quiet}
+use Rattle.sdd_module.specs.SiteLog as site
+use Rattle.sdd_order.specs.Numbers.{IsModule}
+use Rattle.sdd_log.specs.Due.{hand_due, site_due}
+use Rattle.sdd_log.specs.Entries.{Given, Log}
+use Rattle.sdd_log.specs.Locals.{local_of}
+use Rattle.sdd_log.specs.Permitted.{IsPermitted}
+use Rattle.sdd_log.specs.Traffic.{all_links, calls_of, is_down}
+use Rattle.sdd_invariants.specs.Steps.{home}
+
+-- nothing is in flight and nothing unacknowledged; no module is down; and neither an act nor a hand is due
+pub record IsQuiet (g : Given) (log : Log) : Type 0 where
+  pub permitted : IsPermitted g log
+  pub links : quiet (all_links g) (calls_of log) ≡ true
+  pub up : (d : ℕ) → IsModule g.catalogue d → is_down d log ≡ false
+  pub no_act : site_due g log ≡ None
+  pub no_hand : hand_due g log ≡ None
+
+-- the log of data module d, and that of the site that runs class c
+abbrev pub at_module : Given → ℕ → Log → site.Log
+at_module g d log = local_of g (D (dm_no d)) log
+
+abbrev pub at_home : Given → ℕ → Log → site.Log
+at_home g c log = local_of g (home g.catalogue c) log

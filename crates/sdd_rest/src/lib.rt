@@ -1,0 +1,18 @@
+//! Quiet means finished: what holds of a log at which nothing goes on.
+//!
+//! The one contract to the layer above: where nothing is in flight or unacknowledged, nothing is due
+//! at a site and no data module is down, every message is handed over and processed, no attempt is
+//! under way, no transaction waits in a queue, and every transaction that was submitted is committed
+//! (`law_finished`, `law_committed`); then each copy is what a serial run leaves (`law_copies`). Where
+//! no module is down, such is every log between events at which the links are quiet (`law_resting`),
+//! and every complete one behind a settle (`law_settled`). It is said of one list of classes: of logs
+//! in which no further one is put in force.
+#![tactic(auto)]
+
+mod law;
+mod parts;
+mod worked;
+
+pub use law::{law_committed, law_copies, law_finished, law_none_left, law_resting, law_settled};
+pub use parts::{law_class_zero, law_exchanges, law_handed, law_none_waits, law_unanswered};
+pub use worked::{law_all_lost, law_late_query};

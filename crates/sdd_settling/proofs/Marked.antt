@@ -1,0 +1,89 @@
+-- Marks, rounds and lists of classes come of the events that are left, and of nothing else.
+use Rattle.std.proofs.Common.{ℕ, Bool, true, false, List, [], ◌∷◌, ◌≡◌, refl, sym, ap, ◌∙◌, Option, Some, None}
+use Rattle.std.specs.Bool.{if◌then◌else◌}
+use Rattle.std.proofs.lemmas.Bool.{false≢true}
+use Rattle.std.proofs.lemmas.Option.{same_Some}
+use Rattle.sdd_base.specs.Words.{first_some, or_else}
+use Rattle.sdd_base.specs.Sites.{sites}
+use Rattle.sdd_base.specs.declared.event.Event.{Event}
+use Rattle.sdd_base.specs.declared.event.Event.TheVariants.{Submit, Deliver, Lose, Repeat, Resend, Tick, Settle, Redeclare, Down, Up}
+use Rattle.sdd_base.specs.declared.site.Site.{Site}
+use Rattle.sdd_wire.specs.declared.msg.Msg.{Msg}
+use Rattle.sdd_module.specs.SiteLog.{Act}
+use Rattle.sdd_net.specs.Links.{delivered}
+use Rattle.sdd_log.specs.Due.{does_at, due_by, hand_due, hand_number, hand_on, hand_with, mark_due, next, next_at, next_number, note_if, site_due}
+use Rattle.sdd_log.specs.Entries.{Does, Entry, Given, Hand, Log, Mark, Notes, Redeclares, Round, Submitted}
+use Rattle.sdd_log.specs.Marks.{next_mark}
+use Rattle.sdd_log.specs.Traffic.{all_links, handed, link_of, message_at, takes_part}
+
+abbrev pub is_of_events : Entry → Bool
+is_of_events (Mark e) = true
+is_of_events (Round events) = true
+is_of_events (Redeclares t) = true
+is_of_events _ = false
+
+abbrev IsOther : Option Entry → Type 0
+IsOther None = Unit {0}
+IsOther (Some e) = is_of_events e ≡ false
+
+other_first : (o rest : Option Entry) (e : Entry) → IsOther o → is_of_events e ≡ true → or_else o rest ≡ Some e → rest ≡ Some e
+other_first None rest e h p q = q
+other_first (Some x) rest e h p q = absurd (false≢true (sym h ∙ ap is_of_events (same_Some x e q) ∙ p))
+
+or_other : (a b : Option Entry) → IsOther a → IsOther b → IsOther (or_else a b)
+or_other None b h k = k
+or_other (Some x) b h k = h
+
+first_other : {A : Type 0} (f : A → Option Entry) (xs : List A) → ((x : A) → IsOther (f x)) → IsOther (first_some f xs)
+first_other f [] h = tt
+first_other f (x ∷ xs) h = or_other (f x) (first_some f xs) (h x) (first_other f xs h)
+
+note_other : (b : Bool) → IsOther (note_if b)
+note_other true = refl
+note_other false = tt
+
+due_other : (g : Given) (e : Event) (log : Log) → IsOther (due_by g e log)
+due_other g (Submit n) log = refl
+due_other g (Deliver a b k) log = note_other _
+due_other g (Lose a b k) log = note_other _
+due_other g (Repeat a b k) log = note_other _
+due_other g (Resend a b) log = note_other _
+due_other g (Down d) log = note_other _
+due_other g (Up d) log = note_other _
+due_other g (Tick t n) log = tt
+due_other g Settle log = tt
+due_other g Redeclare log = tt
+
+mark_other : (g : Given) (log : Log) → IsOther (mark_due g log)
+mark_other g [] = tt
+mark_other g (Mark e ∷ log) = due_other g e log
+mark_other g (Round events ∷ log) = tt
+mark_other g (Redeclares t ∷ log) = tt
+mark_other g (Hand a b n m ∷ log) = tt
+mark_other g (Submitted at n ∷ log) = tt
+mark_other g (Notes ∷ log) = tt
+mark_other g (Does at act ∷ log) = tt
+
+does_other : (at : Site) (o : Option Act) → IsOther (does_at at o)
+does_other at None = tt
+does_other at (Some act) = refl
+
+message_other : (l : Site × Site) (n : ℕ) (o : Option Msg) → IsOther (hand_with l n o)
+message_other l n None = tt
+message_other l n (Some m) = refl
+
+number_other : (log : Log) (l : Site × Site) (o : Option ℕ) → IsOther (hand_number log l o)
+number_other log l None = tt
+number_other log l (Some n) = message_other l n (message_at l.0 l.1 n log)
+
+hand_other : (log : Log) (l : Site × Site) (b : Bool) (o : Option ℕ) → IsOther (if b then hand_number log l o else None)
+hand_other log l true o = number_other log l o
+hand_other log l false o = tt
+
+pub next_is_of_events : (g : Given) (log : Log) (e : Entry) → is_of_events e ≡ true → next g log ≡ Some e → next_mark g log ≡ Some e
+next_is_of_events g log e p q =
+    let site = first_other (λ at. does_at at (next_at g log at)) (sites g.catalogue.tms g.catalogue.dms) (λ at. does_other at (next_at g log at)) in
+    let hand = first_other (hand_on log) (all_links g) (λ l. hand_other log l (takes_part l.1 log) (next_number (handed l.0 l.1 log) (delivered (link_of l.0 l.1 log).there))) in
+    let a : or_else (site_due g log) (or_else (hand_due g log) (next_mark g log)) ≡ Some e = other_first (mark_due g log) _ e (mark_other g log) p q in
+    let b : or_else (hand_due g log) (next_mark g log) ≡ Some e = other_first (site_due g log) _ e site p a in
+    other_first (hand_due g log) (next_mark g log) e hand p b

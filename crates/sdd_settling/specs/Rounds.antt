@@ -1,0 +1,17 @@
+-- Rounds: how many a log has, and what their events are.
+use Rattle.std.specs.Prelude.{ℕ, suc, ◌≡◌, true, [], ◌∷◌}
+use Rattle.sdd_base.specs.declared.event.Event.{Event}
+use Rattle.sdd_base.specs.declared.event.Event.TheVariants.{Deliver, Resend}
+use Rattle.sdd_net.specs.Nets.{is_link}
+use Rattle.sdd_log.specs.Entries.{Log, Round}
+
+abbrev pub rounds : Log → ℕ
+rounds [] = 0
+rounds (Round events ∷ log) = suc (rounds log)
+rounds (_ ∷ log) = rounds log
+
+-- an event of a round: on a link of the network it resends, or delivers the first packet
+abbrev pub IsOfRound : ℕ → ℕ → Event → Type 0
+IsOfRound tms dms (Resend a b) = is_link tms dms a b ≡ true
+IsOfRound tms dms (Deliver a b place) = (is_link tms dms a b ≡ true) × (place ≡ 1)
+IsOfRound tms dms _ = ⊥

@@ -1,0 +1,78 @@
+-- The laws of answers and of free classes, of lawful logs at whose end an event is over.
+use Rattle.std.specs.List.{list_all}
+use Rattle.std.proofs.Common.{ℕ, ◌++◌, ◌∷◌, ◌≡◌, ◌≤◌, ◌⊎◌, List, None, Some, [], arith, false, length, true}
+use Rattle.sdd_base.specs.declared.change.Change.{Change}
+use Rattle.sdd_base.specs.declared.condition.Cond.{Cond}
+use Rattle.sdd_base.specs.declared.number.ClassNo.{ClassNo}
+use Rattle.sdd_base.specs.declared.number.DmNo.{DmNo}
+use Rattle.sdd_base.specs.declared.number.Ts.{Ts}
+use Rattle.sdd_base.specs.declared.number.TxnNo.{TxnNo}
+use Rattle.sdd_base.specs.declared.site.Site.{Site}
+use Rattle.sdd_base.specs.declared.site.Site.TheVariants.{D}
+use Rattle.sdd_base.specs.declared.usage.Use.{Use}
+use Rattle.sdd_graph.specs.Edges.{IsClassOf}
+use Rattle.sdd_wire.specs.declared.msg.Msg.TheVariants.{Read, Write}
+use Rattle.sdd_attempt.specs.Attempts.{active}
+use Rattle.sdd_attempt.specs.Queues.{queue}
+use Rattle.sdd_pipe.specs.Pipe.{head}
+use Rattle.sdd_dm.specs.Due.{is_met}
+use Rattle.sdd_dm.specs.Pipes.{waits}
+use Rattle.sdd_dm.specs.Views.{view_of}
+use Rattle.sdd_tm.specs.Views as tm
+use Rattle.sdd_log.specs.Entries.{Given, Hand, Log}
+use Rattle.sdd_log.specs.Locals.{local_of, setting_of}
+use Rattle.sdd_log.proofs.NewMarks.{lawful_permitted}
+use Rattle.sdd_log.specs.Permitted.{IsPermitted}
+use Rattle.sdd_invariants.specs.ReadSteps.{IsClassHere, spoiler}
+use Rattle.sdd_invariants.specs.Seen.{pipe_at}
+use Rattle.sdd_invariants.specs.Steps.{home}
+use Rattle.sdd_waiting.proofs.Answered as ready
+use Rattle.sdd_waiting.proofs.ClassSites.{small_homes}
+use Rattle.sdd_waiting.proofs.EventOver.{none_due}
+use Rattle.sdd_waiting.proofs.FreeClasses as free
+use Rattle.sdd_waiting.proofs.IdleStarts as starts
+use Rattle.sdd_waiting.proofs.Judged as judged
+use Rattle.sdd_waiting.specs.Answers.{EndsAnEvent, IsAnsweredIn, IsAppliedIn, IsRejectedAfter}
+use Rattle.sdd_waiting.specs.Free.{IsFreeClass}
+
+permitted_to : (g : Given) (log : Log) → EndsAnEvent g log → IsPermitted g log
+permitted_to g log h = lawful_permitted g log h.once h.lawful
+
+class_here : (g : Given) (c : ℕ) (d : DmNo) → c ≤ length g.catalogue.classes → IsClassHere (setting_of g (D d)) c
+class_here g c d l = omega arith
+
+pub answered : (g : Given) (d : DmNo) (c : ℕ) (later log : Log) (ts : Ts) (of : ClassNo) (txn : TxnNo) (attempt : ℕ) (conds : List Cond) (uses : List Use)
+    → EndsAnEvent g (later ++ log) → c ≤ length g.catalogue.classes → 1 ≤ d.0 → d.0 ≤ g.catalogue.dms
+    → waits c (local_of g (D d) log) ≡ true → head (pipe_at g c d log) ≡ Some (Read ts of txn attempt conds uses)
+    → list_all (is_met (view_of (setting_of g (D d)) (local_of g (D d) log))) conds ≡ true → IsAnsweredIn d c txn attempt later
+answered g d c later log ts of txn attempt conds uses h l lo hi w e met =
+    ready.answered g d c later log ts of txn attempt conds uses (permitted_to g (later ++ log) h) (small_homes g h.sound) (class_here g c d l) lo hi w e met (none_due g (later ++ log) h.over)
+
+pub answered_or_rejected : (g : Given) (d : DmNo) (c : ℕ) (later log : Log) (ts : Ts) (of : ClassNo) (txn : TxnNo) (attempt : ℕ) (conds : List Cond) (uses : List Use)
+    → EndsAnEvent g (later ++ log) → c ≤ length g.catalogue.classes → 1 ≤ d.0 → d.0 ≤ g.catalogue.dms
+    → waits c (local_of g (D d) log) ≡ false → head (pipe_at g c d log) ≡ Some (Read ts of txn attempt conds uses)
+    → list_all (is_met (view_of (setting_of g (D d)) (local_of g (D d) log))) conds ≡ true
+    → spoiler (view_of (setting_of g (D d)) (local_of g (D d) log)) conds ≡ None
+    → IsAnsweredIn d c txn attempt later ⊎ IsRejectedAfter g log d c txn attempt conds later
+answered_or_rejected g d c later log ts of txn attempt conds uses h l lo hi w e met clean =
+    judged.answered_or_rejected g d c later log ts of txn attempt conds uses (permitted_to g (later ++ log) h) (small_homes g h.sound) (class_here g c d l) lo hi w e met clean (none_due g (later ++ log) h.over)
+
+pub answered_by_end : (g : Given) (i : ℕ) (d : DmNo) (from : Site) (n : ℕ) (later log : Log) (ts : Ts) (of : ClassNo) (txn : TxnNo) (attempt : ℕ) (conds : List Cond) (uses : List Use)
+    → IsFreeClass g i → 1 ≤ d.0 → d.0 ≤ g.catalogue.dms → of.0 ≡ i
+    → EndsAnEvent g (later ++ Hand from (D d) n (Read ts of txn attempt conds uses) ∷ log) → IsAnsweredIn d i txn attempt later
+answered_by_end g i d from n later log ts of txn attempt conds uses f lo hi class h =
+    let whole : Log = later ++ Hand from (D d) n (Read ts of txn attempt conds uses) ∷ log in
+    free.answered_by_end g i d from n later log ts of txn attempt conds uses f h.sound lo hi class (permitted_to g whole h) (none_due g whole h.over)
+
+pub applied_by_end : (g : Given) (i : ℕ) (d : DmNo) (from : Site) (n : ℕ) (later log : Log) (ts : Ts) (of : ClassNo) (txn : TxnNo) (changes : List Change)
+    → IsFreeClass g i → 1 ≤ d.0 → d.0 ≤ g.catalogue.dms → of.0 ≡ i
+    → EndsAnEvent g (later ++ Hand from (D d) n (Write ts of txn changes) ∷ log) → IsAppliedIn d i txn ts later
+applied_by_end g i d from n later log ts of txn changes f lo hi class h =
+    let whole : Log = later ++ Hand from (D d) n (Write ts of txn changes) ∷ log in
+    free.applied_by_end g i d from n later log ts of txn changes f h.sound lo hi class (permitted_to g whole h) (none_due g whole h.over)
+
+pub idle_starts : (g : Given) (i : ℕ) (log : Log) → EndsAnEvent g log → IsClassOf g.catalogue i
+    → tm.on_hold (tm.view_of (setting_of g (home g.catalogue i)) (local_of g (home g.catalogue i) log)) ≡ false
+    → active (setting_of g (home g.catalogue i)) i (local_of g (home g.catalogue i) log) ≡ None
+    → queue (setting_of g (home g.catalogue i)) i (local_of g (home g.catalogue i) log) ≡ []
+idle_starts g i log h c off idle = starts.idle_starts g i log h.sound c (none_due g log h.over) off idle

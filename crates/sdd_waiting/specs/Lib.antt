@@ -1,0 +1,6 @@
+pub mod Answers
+pub mod Conditions
+pub mod Free
+pub mod Heads
+pub mod Rejections
+pub mod Waited

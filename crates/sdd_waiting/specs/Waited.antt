@@ -1,0 +1,47 @@
+-- How a READ began to wait: the Wait that its data module made, and what is as it was then.
+use Rattle.std.specs.Prelude.{ℕ, ◌++◌, ◌∷◌, ◌≡◌, List, None, Some, filter, false, map, not}
+use Rattle.sdd_base.specs.declared.condition.Cond.{Cond}
+use Rattle.sdd_base.specs.declared.number.ClassNo.{ClassNo}
+use Rattle.sdd_base.specs.declared.number.Ts.{Ts}
+use Rattle.sdd_base.specs.declared.number.TxnNo.{TxnNo}
+use Rattle.sdd_base.specs.declared.usage.Use.{Use}
+use Rattle.sdd_history.specs.declared.record.Rec.TheVariants.{Wait}
+use Rattle.sdd_wire.specs.declared.msg.Msg.TheVariants.{Read}
+use Rattle.sdd_module.specs.SiteLog.{Act, Did, Log, Records, Setting}
+use Rattle.sdd_pipe.specs.Pipe.{head}
+use Rattle.sdd_dm.specs.Due.{ask_for, is_met}
+use Rattle.sdd_dm.specs.Pipes.{pipe, waits}
+use Rattle.sdd_dm.specs.Views.{View, home_of, view_of}
+use Rattle.sdd_invariants.specs.ReadSteps.{IsClassHere, spoiler}
+
+-- the conditions that aren't met
+abbrev pub lacking : View → List Cond → List Cond
+lacking v conds = filter (λ d. not (is_met v d)) conds
+
+-- the Wait of the READ at the head of class c's pipe, which doesn't wait yet and which nothing spoils; with it goes an
+-- ASK for each condition that isn't met
+pub record IsWaitOf (s : Setting) (log : Log) (c : ℕ) (act : Act) : Type 0 where
+  pub ts : Ts
+  pub of : ClassNo
+  pub txn : TxnNo
+  pub attempt : ℕ
+  pub conds : List Cond
+  pub uses : List Use
+  pub here : IsClassHere s c
+  pub head_is : head (pipe c log) ≡ Some (Read ts of txn attempt conds uses)
+  pub waits_not : waits c log ≡ false
+  pub unspoilt : spoiler (view_of s log) conds ≡ None
+  pub first : Cond
+  pub more : List Cond
+  pub lacks : lacking (view_of s log) conds ≡ first ∷ more
+  pub act_is : act ≡ Records c (Wait txn attempt (home_of s).dm (first ∷ more)) (map (ask_for (home_of s)) (first ∷ more))
+
+-- since a Wait nothing of the pipe was processed
+pub record WaitsSince (s : Setting) (c : ℕ) (log : Log) : Type 0 where
+  pub later : Log
+  pub act : Act
+  pub before : Log
+  pub is : log ≡ later ++ Did act ∷ before
+  pub wait : IsWaitOf s before c act
+  pub same_processed : (pipe c log).processed ≡ (pipe c before).processed
+  pub same_head : head (pipe c log) ≡ head (pipe c before)

@@ -1,0 +1,78 @@
+ghost use Rattle.std.specs.Prelude.{◌≡◌, ◌≤◌, ◌↔◌, ◌++◌, ◌∷◌, ℕ, List, None, [], false, true};
+ghost use Rattle.sdd_base.specs.declared.change.Change.{Change};
+ghost use Rattle.sdd_base.specs.declared.condition.Cond.{Cond};
+ghost use Rattle.sdd_base.specs.declared.number.ClassNo.{ClassNo};
+ghost use Rattle.sdd_base.specs.declared.number.DmNo.{DmNo};
+ghost use Rattle.sdd_base.specs.declared.number.Ts.{Ts};
+ghost use Rattle.sdd_base.specs.declared.number.TxnNo.{TxnNo};
+ghost use Rattle.sdd_base.specs.declared.site.Site.{Site};
+ghost use Rattle.sdd_base.specs.declared.site.Site.TheVariants.{D};
+ghost use Rattle.sdd_base.specs.declared.usage.Use.{Use};
+ghost use Rattle.sdd_catalog.specs.Catalogue.{Catalogue};
+ghost use Rattle.sdd_graph.specs.Edges.{IsClassOf};
+ghost use Rattle.sdd_protocol.specs.Protocols.{IsTable};
+ghost use Rattle.sdd_protocol.specs.declared.entry.Entry as line;
+ghost use Rattle.sdd_history.specs.declared.record.Rec.{Rec};
+ghost use Rattle.sdd_history.specs.declared.record.Rec.TheVariants.{Reject as Rejected};
+ghost use Rattle.sdd_wire.specs.declared.msg.Msg.{Msg};
+ghost use Rattle.sdd_wire.specs.declared.msg.Msg.TheVariants.{Read, Write};
+ghost use Rattle.sdd_module.specs.SiteLog.{Records};
+ghost use Rattle.sdd_attempt.specs.Attempts.{active};
+ghost use Rattle.sdd_attempt.specs.Queues.{queue};
+ghost use Rattle.sdd_dm.specs.Pipes.{is_wait};
+ghost use Rattle.sdd_tm.specs.Views.{on_hold, view_of};
+ghost use Rattle.sdd_log.specs.Entries.{Does, Given, Hand, Log};
+ghost use Rattle.sdd_log.specs.Locals.{local_of, setting_of};
+ghost use Rattle.sdd_log.specs.Permitted.{IsPermitted};
+ghost use Rattle.sdd_invariants.specs.Steps.{home};
+ghost use Rattle.sdd_waiting.specs.Answers.{EndsAnEvent, IsAnsweredIn, IsAppliedIn};
+ghost use Rattle.sdd_waiting.specs.Free.{IsFree, IsFreeClass, IsInNoBlock};
+
+/// A class is free exactly where each edge at its nodes has block 0 in the protocol table.
+pub fn law_free_by_blocks()
+    ensures { (cat : Catalogue) (table : List line.Entry) (class : ℕ) → IsTable cat table
+        → IsFree cat class ↔ IsInNoBlock table class }
+{}
+
+/// No attempt of a free class has a Wait or a Reject.
+pub fn law_free_undisturbed()
+    ensures waits_never { (given : Given) (log : Log) (class : ℕ) (d : DmNo) (rec : Rec)
+        (sends : List (Site × Msg)) → IsFreeClass given class
+        → IsPermitted given (Does (D d) (Records class rec sends) ∷ log)
+        → is_wait rec ≡ true → ⊥ }
+    ensures rejected_never { (given : Given) (log : Log) (class : ℕ) (d : DmNo) (txn : TxnNo)
+        (attempt : ℕ) (dm : DmNo) (by : ClassNo) (write : Ts) (sends : List (Site × Msg))
+        → IsFreeClass given class
+        → IsPermitted given
+        (Does (D d) (Records class (Rejected txn attempt dm by write) sends) ∷ log) → ⊥ }
+{}
+
+/// A READ of a free class is answered, and a WRITE of one applied, before the event is over in
+/// which it is handed over.
+pub fn law_free_processed()
+    ensures answered { (given : Given) (class : ℕ) (d : DmNo) (from : Site) (number : ℕ)
+        (later log : Log) (ts : Ts) (of : ClassNo) (txn : TxnNo) (attempt : ℕ)
+        (conds : List Cond) (uses : List Use)
+        → IsFreeClass given class → 1 ≤ d.0 → d.0 ≤ given.catalogue.dms → of.0 ≡ class
+        → EndsAnEvent given
+        (later ++ Hand from (D d) number (Read ts of txn attempt conds uses) ∷ log)
+        → IsAnsweredIn d class txn attempt later }
+    ensures applied { (given : Given) (class : ℕ) (d : DmNo) (from : Site) (number : ℕ)
+        (later log : Log) (ts : Ts) (of : ClassNo) (txn : TxnNo) (changes : List Change)
+        → IsFreeClass given class → 1 ≤ d.0 → d.0 ≤ given.catalogue.dms → of.0 ≡ class
+        → EndsAnEvent given (later ++ Hand from (D d) number (Write ts of txn changes) ∷ log)
+        → IsAppliedIn d class txn ts later }
+{}
+
+/// Where an event is over, a class whose site isn't on hold has nothing in its queue while it is
+/// idle: the head of its queue starts at once.
+pub fn law_idle_starts()
+    ensures { (given : Given) (class : ℕ) (log : Log) → EndsAnEvent given log
+        → IsClassOf given.catalogue class
+        → on_hold (view_of (setting_of given (home given.catalogue class))
+        (local_of given (home given.catalogue class) log)) ≡ false
+        → active (setting_of given (home given.catalogue class)) class
+        (local_of given (home given.catalogue class) log) ≡ None
+        → queue (setting_of given (home given.catalogue class)) class
+        (local_of given (home given.catalogue class) log) ≡ [] }
+{}

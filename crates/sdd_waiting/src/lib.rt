@@ -1,0 +1,13 @@
+//! When a READ waits at a data module, is answered, is rejected; and what is known of free classes.
+//!
+//! The one contract to the layer above: each promise is the conclusion of a law function. First what
+//! stands at the heads of pipes, how a READ began to wait, and where its conditions come from
+//! (`pipes_laws`); then why a READ is rejected (`rejections_laws`), that one whose conditions are
+//! met is answered before the event is over (`answers_laws`), and that classes on no simple cycle
+//! neither wait nor are rejected (`free_laws`).
+#![tactic(auto)]
+
+pub mod answers_laws;
+pub mod free_laws;
+pub mod pipes_laws;
+pub mod rejections_laws;
