@@ -1,12 +1,13 @@
 -- What a call comes to, from what was read of its files; that it comes to one status.
 use Rattle.std.proofs.Common.{◌≡◌, ℕ, List, [], ◌∷◌, Bool, true, false, cond, Option, Some, None, Result, Ok, Err, refl, ap, sym, ◌∙◌, subst, ◌⊎◌, inl, inr}
-use Rattle.std.specs.Prelude.{IsSome, MatchOption, MatchResult, OnOk}
+use Rattle.std.specs.Prelude.{IsSome, MatchBool, MatchOption, MatchResult, OnOk}
 use Rattle.std.specs.Option.{option_map}
 use Rattle.sdd_base.specs.declared.files.ShelfFile.{ShelfFile}
 use Rattle.sdd_base.specs.Outside.{KeepsOpen, find_file}
 use Rattle.sdd_catalog.specs.Catalogue.{Catalogue}
 use Rattle.sdd_catalog.specs.declared.fault.CatFault.{CatFault}
 use Rattle.sdd_catread.specs.Reading.{catalogue_in}
+use Rattle.sdd_script.specs.Redeclaring.{has_lists}
 use Rattle.sdd_script.specs.Walk.{workload}
 use Rattle.sdd_script.specs.declared.fault.WorkFault.{WorkFault}
 use Rattle.sdd_script.specs.declared.workload.Workload.{Workload}
@@ -166,8 +167,26 @@ one_of_run S cat work apart (FaultyCatalogue f) w p q = absurd p
 one_of_run S cat work apart (FaultyWorkload f) w p q = absurd p
 one_of_run S cat work apart NotBuilt w p q = absurd p
 
+-- a workload with lists of classes, or without
+
+abbrev Unless : Bool → Catalogue → Workload → Verdict → Type 0
+Unless lists cat work verdict = MatchBool lists (verdict ≡ NotBuilt) (TellsOfRun (IsReportOn cat work) cat work verdict)
+
+one_unless : (lists : Bool) (cat : Catalogue) (work : Workload) (v w : Verdict) → Unless lists cat work v → Unless lists cat work w → status_of v ≡ status_of w
+one_unless true cat work v w p q = ap status_of (p ∙ sym q)
+one_unless false cat work v w p q = one_of_run (IsReportOn cat work) cat work (report_or_limit cat work) v w p q
+
 one_report : (cat : Catalogue) (work : Workload) (v w : Verdict) → ComesToReport cat work v → ComesToReport cat work w → status_of v ≡ status_of w
-one_report cat work v w p q = one_of_run (IsReportOn cat work) cat work (report_or_limit cat work) v w p q
+one_report cat work v w p q = one_unless (has_lists work) cat work v w p q
+
+pub is_not_built : (cat : Catalogue) (work : Workload) → has_lists work ≡ true → ComesToReport cat work NotBuilt
+is_not_built cat work lists = subst (λ b. Unless b cat work NotBuilt) (sym lists) refl
+
+pub answers_if_built : {T : Type 0} (r : Result T Status) (text : T → List ℕ) (cat : Catalogue) (work : Workload) → has_lists work ≡ false
+    → Answers r text (TellsOfRun (IsReportOn cat work) cat work) → Answers r text (ComesToReport cat work)
+answers_if_built (Ok x) text cat work none p = subst (λ b. Unless b cat work (Prints (text x))) (sym none) p
+answers_if_built (Err s) text cat work none p =
+    explains_more s (TellsOfRun (IsReportOn cat work) cat work) (ComesToReport cat work) (λ v q. subst (λ b. Unless b cat work v) (sym none) q) p
 
 one_summary : (cat : Catalogue) (work : Workload) (v w : Verdict) → ComesToSummary cat work v → ComesToSummary cat work w → status_of v ≡ status_of w
 one_summary cat work v w p q = one_of_run (IsSummaryOn cat work) cat work (summary_or_limit cat work) v w p q

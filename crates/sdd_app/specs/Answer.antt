@@ -1,5 +1,5 @@
 -- What a call comes to, by its words and the files that they name.
-use Rattle.std.specs.Prelude.{◌≡◌, ℕ, List, Option, Some, Result, Ok, Err, IsSome, MatchOption, MatchResult}
+use Rattle.std.specs.Prelude.{◌≡◌, ℕ, List, Option, Some, Result, Ok, Err, IsSome, MatchBool, MatchOption, MatchResult}
 use Rattle.std.specs.Option.{option_map}
 use Rattle.sdd_base.specs.declared.files.ShelfFile.{ShelfFile}
 use Rattle.sdd_base.specs.Outside.{find_file}
@@ -9,6 +9,7 @@ use Rattle.sdd_catread.specs.Reading.{catalogue_in}
 use Rattle.sdd_control.specs.Report.{report}
 use Rattle.sdd_control.specs.Walk.{control_script}
 use Rattle.sdd_control.specs.declared.script.ControlScript.{ControlScript}
+use Rattle.sdd_script.specs.Redeclaring.{has_lists}
 use Rattle.sdd_script.specs.Walk.{workload}
 use Rattle.sdd_script.specs.declared.fault.WorkFault.{WorkFault}
 use Rattle.sdd_script.specs.declared.workload.Workload.{Workload}
@@ -22,7 +23,7 @@ use Rattle.sdd_app.specs.Command.{Form, Check, Graph, Table, Run, Plain, Control
 use Rattle.sdd_app.specs.Judging.{verdict_line}
 use Rattle.sdd_app.specs.Listing.{Tells}
 use Rattle.sdd_app.specs.Serially.{serial_text}
-use Rattle.sdd_app.specs.Verdict.{Verdict, NoForm, Prints, FaultyCatalogue, FaultyWorkload, PastLimit}
+use Rattle.sdd_app.specs.Verdict.{Verdict, NoForm, Prints, FaultyCatalogue, FaultyWorkload, PastLimit, NotBuilt}
 
 -- the catalogue that the file of this name gives, or its first fault
 abbrev pub catalogue_named : List ShelfFile → List ℕ → Option (Result Catalogue CatFault)
@@ -65,9 +66,9 @@ TellsOfRun IsSuch cat work (Prints text) = IsSuch text
 TellsOfRun IsSuch cat work PastLimit = EndsAtLimit cat work
 TellsOfRun IsSuch cat work verdict = ⊥
 
--- the run of a workload is reported
+-- the run of a workload is reported; that of one with lists of classes isn't built
 abbrev pub ComesToReport : Catalogue → Workload → Verdict → Type 0
-ComesToReport cat work verdict = TellsOfRun (IsReportOn cat work) cat work verdict
+ComesToReport cat work verdict = MatchBool (has_lists work) (verdict ≡ NotBuilt) (TellsOfRun (IsReportOn cat work) cat work verdict)
 
 -- or it is summed up
 abbrev pub ComesToSummary : Catalogue → Workload → Verdict → Type 0

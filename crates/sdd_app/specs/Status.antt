@@ -77,6 +77,7 @@ work_rule_word work_rules.KeyChanged = codes "KeyChanged"
 work_rule_word work_rules.BadNumber = codes "BadNumber"
 work_rule_word work_rules.BadEvent = codes "BadEvent"
 work_rule_word work_rules.NoEnd = codes "NoEnd"
+work_rule_word work_rules.BadClass = codes "BadClass"
 
 -- what there were too many of, behind a space
 abbrev pub many_word : Counts → List ℕ
@@ -87,6 +88,9 @@ many_word counts.Part = codes " part"
 many_word counts.Cond = codes " cond"
 many_word counts.Column = codes " column"
 many_word counts.Event = codes " event"
+many_word counts.Class = codes " class"
+many_word counts.Read = codes " read"
+many_word counts.List = codes " list"
 
 abbrev pub many_words : WorkRule → List ℕ
 many_words (work_rules.TooMany what) = many_word what

@@ -126,6 +126,7 @@ fn word_for_work_rule(rule: WorkRule) -> &'static [u8]
         WorkRule::BadNumber => b"BadNumber",
         WorkRule::BadEvent => b"BadEvent",
         WorkRule::NoEnd => b"NoEnd",
+        WorkRule::BadClass => b"BadClass",
     }
 }
 
@@ -140,6 +141,9 @@ fn word_for_many(many: Counts) -> &'static [u8]
         Counts::Cond => b" cond",
         Counts::Column => b" column",
         Counts::Event => b" event",
+        Counts::Class => b" class",
+        Counts::Read => b" read",
+        Counts::List => b" list",
     }
 }
 

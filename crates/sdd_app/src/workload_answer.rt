@@ -1,9 +1,11 @@
 //! The commands that run a workload.
-ghost use Rattle.std.specs.Prelude.{◌≡◌, ◌+◌, ◌∷◌, [], ℕ, List, OnOk, IfErr, Some};
+ghost use Rattle.std.specs.Prelude.{◌≡◌, ◌+◌, ◌∷◌, [], ℕ, List, false, OnOk, IfErr, Some};
 ghost use Rattle.sdd_base.specs.declared.files.ShelfFile.{ShelfFile};
 ghost use Rattle.sdd_base.specs.Outside.{Rose};
+ghost use Rattle.sdd_script.specs.Redeclaring.{has_lists};
 ghost use Rattle.sdd_script.specs.Valid.{IsValid};
-ghost use Rattle.sdd_app.specs.Answer.{ComesToPlain, ComesToReport, ComesToRun, HasFiles, OverCatalogue};
+ghost use Rattle.sdd_run.specs.Runs.{IsReportOn};
+ghost use Rattle.sdd_app.specs.Answer.{ComesToPlain, ComesToReport, ComesToRun, HasFiles, OverCatalogue, TellsOfRun};
 ghost use Rattle.sdd_app.specs.Endings.{FilesRead, ToItsEnd};
 ghost use Rattle.sdd_app.specs.Verdict.{Answers, ComesOfFiles};
 
@@ -17,14 +19,32 @@ use sdd_run::run_report;
 use sdd_script::Workload;
 use std::alloc::Global;
 
-/// The report on the run of the workload.
+/// The report on the run of the workload, which has no lists of classes.
 fn reported(alloc: Global, catalogue: &Catalogue, work: Workload) -> Result<Vec<u8>, Status>
+    requires valid { IsValid catalogue.now work }
+    requires no_lists { has_lists work ≡ false }
+    ensures told { Answers result (λ v. v.items) (TellsOfRun (IsReportOn catalogue.now work) catalogue.now work) }
+    ensures errors { IfErr result ComesOfFiles }
+    ensures read { IfErr result (λ s. s ≡ Status.ReadFault → ⊥) }
+{
+    Ok(run_report(alloc, catalogue, work)?)
+}
+
+/// The report on the run of the workload. Lists of classes aren't put in force yet.
+fn reported_if_built(
+    alloc: Global,
+    catalogue: &Catalogue,
+    work: Workload,
+) -> Result<Vec<u8>, Status>
     requires { IsValid catalogue.now work }
     ensures told { Answers result (λ v. v.items) (ComesToReport catalogue.now work) }
     ensures errors { IfErr result ComesOfFiles }
     ensures read { IfErr result (λ s. s ≡ Status.ReadFault → ⊥) }
 {
-    Ok(run_report(alloc, catalogue, work)?)
+    if work.has_lists() {
+        return Err(Status::Unbuilt);
+    }
+    reported(alloc, catalogue, work)
 }
 
 /// What `plain` answers over the catalogue in the first file and the workload in the second.
@@ -66,6 +86,6 @@ pub fn run_answer<S: Shelf>(
 {
     let catalogue = accepted_catalogue(alloc, shelf, catalogue)?;
     let work = accepted_workload(alloc, shelf, workload, &catalogue)?;
-    let text = reported(alloc, &catalogue, work)?;
+    let text = reported_if_built(alloc, &catalogue, work)?;
     Ok(text)
 }

@@ -10,6 +10,7 @@ use Rattle.sdd_base.specs.declared.event.Event.{Event}
 use Rattle.sdd_base.specs.declared.event.Event.TheVariants.{Submit}
 use Rattle.sdd_base.specs.declared.site.Site.TheVariants.{T, D}
 use Rattle.sdd_script.specs.Valid.{IsValidTxn, IsValidEvent, rows_put_by, submitted_by, AreDistinct}
+use Rattle.sdd_script.proofs.NoLists.{IsNoRedeclare}
 use Rattle.sdd_make.specs.Bank.{bank}
 use Rattle.sdd_make.specs.Draws.{next, shown, draw}
 use Rattle.sdd_make.specs.Turns.{arrival, delivery, deliveries, drawn_txn, drawn_events, turn, turns, txns_of, events_of}
@@ -53,6 +54,19 @@ deliveries_submit_none : (count x : ℕ) → filter_map submitted_by (deliveries
 deliveries_submit_none zero x = refl
 deliveries_submit_none (suc count) x = rw (delivery_submits_none (draw 18 x).0) (deliveries_submit_none count (draw 18 x).1)
 
+-- none is a `redeclare`
+
+delivery_no_redeclare : (k : ℕ) → IsNoRedeclare (delivery k)
+delivery_no_redeclare k =
+    let t : ℕ = (k % 9) / 3 + 1 in
+    let d : ℕ = k % 3 + 1 in
+    choose IsNoRedeclare (nat_lt k 9) (arrival (T (tm_no t)) (D (dm_no d))) (arrival (D (dm_no d)) (T (tm_no t))) refl refl
+
+deliveries_no_redeclare : (count x : ℕ) → All IsNoRedeclare (deliveries count x).0
+deliveries_no_redeclare zero x = All-nil IsNoRedeclare
+deliveries_no_redeclare (suc count) x =
+    All-cons IsNoRedeclare (delivery (draw 18 x).0) (deliveries count (draw 18 x).1).0 (delivery_no_redeclare (draw 18 x).0) (deliveries_no_redeclare count (draw 18 x).1)
+
 -- turns
 
 txn_drawn : (i x : ℕ) → i < 2 ^ 32 → IsValidTxn bank (drawn_txn i x).0
@@ -91,6 +105,17 @@ events_valid n (suc count) i x l u =
     let y : ℕ = (drawn_txn i x).1 in
     All-append (IsValidEvent bank n) (drawn_events i y).0 (events_of (turns count (i + 1) (turn i x).1).0)
     (events_drawn n i y l (omega arith)) (events_valid n count (i + 1) (turn i x).1 (omega arith) (omega arith))
+
+drawn_no_redeclare : (i x : ℕ) → All IsNoRedeclare (drawn_events i x).0
+drawn_no_redeclare i x =
+    let y : ℕ = next x in
+    All-cons IsNoRedeclare (Submit (txn_no i)) (deliveries (shown 4 y) y).0 refl (deliveries_no_redeclare (shown 4 y) y)
+
+pub no_redeclare : (count i x : ℕ) → All IsNoRedeclare (events_of (turns count i x).0)
+no_redeclare zero i x = All-nil IsNoRedeclare
+no_redeclare (suc count) i x =
+    let y : ℕ = (drawn_txn i x).1 in
+    All-append IsNoRedeclare (drawn_events i y).0 (events_of (turns count (i + 1) (turn i x).1).0) (drawn_no_redeclare i y) (no_redeclare count (i + 1) (turn i x).1)
 
 few_drawn : (i x : ℕ) → length (drawn_events i x).0 ≤ 4
 few_drawn i x = let e = deliveries_count (shown 4 (next x)) (next x) in omega (arith, e)

@@ -1,15 +1,16 @@
 -- The made workload is one that the bank allows.
-use Rattle.std.proofs.Common.{◌≡◌, ℕ, ◌≤◌, [], ◌∷◌, ◌++◌, arith, sym, ◌∙◌, subst, append-nil, length-append}
+use Rattle.std.proofs.Common.{◌≡◌, ℕ, ◌≤◌, [], ◌∷◌, ◌++◌, arith, refl, sym, ◌∙◌, subst, append-nil, length-append}
 use Rattle.std.specs.Prelude.{filter_map}
 use Rattle.std.specs.List.{All, range_with_len}
 use Rattle.std.proofs.lemmas.List.Elements.{All-nil, All-cons, All-append, filter_map-append}
 use Rattle.sdd_base.specs.declared.limits.TheConstants.{MAX_TXNS}
 use Rattle.sdd_base.specs.declared.event.Event.TheVariants.{Settle}
-use Rattle.sdd_script.specs.Valid.{IsValid, IsValidEvent, AreDistinct, submitted_by}
+use Rattle.sdd_script.specs.Valid.{IsValid, IsValidClass, IsValidEvent, AreDistinct, AreTimely, AreValidLists, submitted_by}
+use Rattle.sdd_script.proofs.NoLists.{IsNoRedeclare, timely_without}
 use Rattle.sdd_make.specs.Bank.{bank}
 use Rattle.sdd_make.specs.Turns.{turns_of, events_of, workload_of}
 use Rattle.sdd_make.proofs.ValidTxns.{accounts_valid}
-use Rattle.sdd_make.proofs.ValidEvents.{txns_valid, txns_count, no_puts, events_valid, few_events, submitted, numbers_differ}
+use Rattle.sdd_make.proofs.ValidEvents.{txns_valid, txns_count, no_puts, events_valid, no_redeclare, few_events, submitted, numbers_differ}
 use Rattle.sdd_make.proofs.ValidNames.{no_name_repeats}
 
 -- each event names one of n transactions
@@ -20,6 +21,15 @@ events_of_n seed n =
 
 numbers : (seed n : ℕ) → filter_map submitted_by (events_of (turns_of seed n) ++ Settle ∷ []) ≡ range_with_len 1 n
 numbers seed n = filter_map-append submitted_by (events_of (turns_of seed n)) (Settle ∷ []) ∙ append-nil (filter_map submitted_by (events_of (turns_of seed n))) ∙ submitted n 1 seed
+
+-- there are no lists, and no `redeclare`
+
+no_lists : AreValidLists bank []
+no_lists = record { classes = All-nil (IsValidClass bank); names = refl; few_classes = omega arith; few_lists = omega arith }
+
+timely : (seed n : ℕ) → AreTimely bank.dms 0 (events_of (turns_of seed n) ++ Settle ∷ [])
+timely seed n = timely_without bank.dms 0 (events_of (turns_of seed n) ++ Settle ∷ [])
+    (All-append IsNoRedeclare (events_of (turns_of seed n)) (Settle ∷ []) (no_redeclare n 1 seed) (All-cons IsNoRedeclare Settle [] refl (All-nil IsNoRedeclare)))
 
 pub workload_valid : (seed n : ℕ) → n ≤ MAX_TXNS → IsValid bank (workload_of seed n)
 workload_valid seed n few =
@@ -32,8 +42,10 @@ workload_valid seed n few =
       rows = accounts_valid;
       txns = txns_valid n 1 seed (omega arith);
       names = no_name_repeats n 1 seed (omega arith);
+      lists = no_lists;
       events = subst (λ k. All (IsValidEvent bank k) (events_of (turns_of seed n) ++ Settle ∷ [])) (sym count) (events_of_n seed n);
       submitted = subst AreDistinct (sym (numbers seed n)) (numbers_differ 1 n);
+      timely = timely seed n;
       few_rows = omega (arith, puts);
       few_txns = omega (arith, count, small);
       few_events = omega (arith, events, settled, small);

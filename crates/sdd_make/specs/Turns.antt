@@ -94,5 +94,6 @@ workload_of seed n =
     record {
       rows = accounts;
       txns = txns_of (turns_of seed n);
+      lists = [];
       events = events_of (turns_of seed n) ++ Settle ∷ [];
     }

@@ -9,7 +9,7 @@ use crate::random::Random;
 use crate::statements::txn_of;
 use sdd_base::{DmNo, Event, Events, Listed, NoMemory, RelNo, Row, Site, TmNo, TxnNo, Value};
 use sdd_lang::Txn;
-use sdd_script::{StartRows, Txns, Workload};
+use sdd_script::{ClassLists, StartRows, Txns, Workload};
 use std::alloc::Global;
 
 /// An account with its owner and its balance.
@@ -140,6 +140,7 @@ pub fn workload(alloc: Global, seed: u32, n: u32) -> Result<Workload, NoMemory>
     Ok(Workload {
         rows,
         txns: Txns::from_vec(txns),
+        lists: ClassLists::from_vec(Vec::new(alloc)),
         events: Events::from_vec(events),
     })
 }

@@ -83,7 +83,7 @@ module _ (cat : Catalogue) (table : List Entry) (work : Workload) (sound : IsSou
   one_force es zero = refl
   one_force es (suc k) = refl
 
-  fits_given : (es : List Event) → FitsGiven (record (begun cat table work) { events = es })
+  pub fits_given : (es : List Event) → FitsGiven (record (begun cat table work) { events = es })
   fits_given es = record {
     sound = sound;
     txns = λ n txn e.

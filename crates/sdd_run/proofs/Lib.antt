@@ -17,3 +17,5 @@ pub mod Once
 pub mod Ordered
 pub mod Reported
 pub mod Retold
+pub mod NonePending
+pub mod Settled

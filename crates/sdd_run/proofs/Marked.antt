@@ -31,7 +31,7 @@ named_by : (cat : Catalogue) (count n m : ℕ) (rest : ℕ) (b : Bool) → (m ==
 named_by cat count n m rest true e v later h = subst (IsFrom1To count) (eqb-true m n e) v
 named_by cat count n m rest false e v later h = later (omega (arith, h))
 
-named : (cat : Catalogue) (count n : ℕ) (es : List Event) → All (IsValidEvent cat count) es → 1 ≤ submits_in n es → IsFrom1To count n
+pub named : (cat : Catalogue) (count n : ℕ) (es : List Event) → All (IsValidEvent cat count) es → 1 ≤ submits_in n es → IsFrom1To count n
 named cat count n [] v h = absurd (omega (arith, h))
 named cat count n (Submit m ∷ es) v h =
     named_by cat count n m.0 (submits_in n es) (m.0 == n) refl (All-head (IsValidEvent cat count) (Submit m) es v)

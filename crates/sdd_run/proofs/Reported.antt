@@ -34,6 +34,7 @@ use Rattle.sdd_run.proofs.InTurn.{in_turn}
 use Rattle.sdd_run.proofs.Once.{each_once}
 use Rattle.sdd_run.proofs.Ordered.{left, orderable, replayed, serial, starts}
 use Rattle.sdd_run.proofs.Retold.{retold}
+use Rattle.sdd_run.proofs.Settled.{settled}
 use Rattle.sdd_upheld.specs.Given.{one_era}
 
 pub if_ok : {A E : Type 0} (res : Result A E) (P Q : A → Type 0) → ((x : A) → P x → Q x) → IfOk res P → IfOk res Q
@@ -89,6 +90,7 @@ reported cat table work log sound valid tabled the_log none text is =
       replies = given;
       told = is ∙ retold (report_of (given_of cat table work) log) _ fine.one_commit given;
       copies = left cat table work sound valid tabled log the_log none;
+      settled = settled cat table work sound valid tabled log the_log none fine along;
     }
 
 -- the summary of the run: of counts that were made of its records

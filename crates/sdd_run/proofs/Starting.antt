@@ -1,5 +1,5 @@
 -- A new world of a workload stands for the empty log of what is given before its first event.
-use Rattle.std.proofs.Common.{ℕ, ◌≡◌, ◌≤◌, List, [], refl, sym, subst}
+use Rattle.std.proofs.Common.{ℕ, ◌≡◌, ◌≤◌, List, [], false, refl, sym, subst}
 use Rattle.sdd_base.specs.declared.event.Event.{Event}
 use Rattle.sdd_base.specs.declared.limits.TheConstants.{MAX_TMS, MAX_DMS}
 use Rattle.sdd_base.specs.declared.number.RelNo.{RelNo}
@@ -12,7 +12,9 @@ use Rattle.sdd_module.specs.SiteLog.{Setting}
 use Rattle.sdd_module.specs.SiteLog as site
 use Rattle.sdd_net.specs.Links.{Call}
 use Rattle.sdd_protocol.specs.declared.entry.Entry.{Entry}
+use Rattle.sdd_script.specs.Redeclaring.{has_lists}
 use Rattle.sdd_script.specs.Valid.{IsValid}
+use Rattle.sdd_script.proofs.NoLists.{no_redeclare}
 use Rattle.sdd_script.specs.declared.workload.Workload.{Workload}
 use Rattle.sdd_wire.specs.declared.msg.Msg.{Msg}
 use Rattle.sdd_log.specs.Entries.{Given}
@@ -31,11 +33,11 @@ use Rattle.sdd_run.proofs.Beginning.{begins_sound, rows_given}
 use Rattle.sdd_run.proofs.Goods.{good_along, good_begun}
 
 module _ (cat : Catalogue) (table : List Entry) (work : Workload) (sound : IsSound cat) (valid : IsValid cat work) where
-  -- the events of a valid workload are allowed
-  pub all_allowed : (events : List Event) → events ≡ work.events → AreAllowed IsGood (begun cat table work) events
-  all_allowed events e =
+  -- the events of a valid workload without lists of classes are allowed
+  pub all_allowed : has_lists work ≡ false → (events : List Event) → events ≡ work.events → AreAllowed IsGood (begun cat table work) events
+  all_allowed none events e =
       subst (AreAllowed IsGood (begun cat table work)) (sym e)
-      (allowed IsGood (begun cat table work) work.events work.events refl valid.events (good_along cat table work sound valid))
+      (allowed IsGood (begun cat table work) work.events work.events refl valid.events (no_redeclare cat work valid none) (good_along cat table work sound valid))
 
   made_of : (rows : List (RelNo × Row)) → rows ≡ work.rows → IsMadeOf (begun cat table work) cat table rows
   made_of rows e = subst (IsMadeOf (begun cat table work) cat table) (sym e) (record { catalogue_is = refl; force_is = refl; rows_are = rows_given cat table work })

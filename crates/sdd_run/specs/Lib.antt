@@ -4,3 +4,4 @@ pub mod Reports
 pub mod Runs
 pub mod Standing
 pub mod Worlds
+pub mod Settled

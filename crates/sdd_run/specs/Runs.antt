@@ -18,6 +18,7 @@ use Rattle.sdd_report.specs.Report.{after_replies, report_text}
 use Rattle.sdd_report.specs.Trace.{trace}
 use Rattle.sdd_report.specs.declared.copies.CopyTable.{CopyTable}
 use Rattle.sdd_run.specs.Copies.{rows_left, tables_of}
+use Rattle.sdd_run.specs.Settled.{EndsWithSettle, NoneIsDown, TellsAllCommitted}
 use Rattle.sdd_run.specs.Standing.{IsSubmittedBefore, StandsBefore, times_in}
 use Rattle.sdd_run.specs.Reports.{report_of}
 
@@ -62,6 +63,9 @@ pub record IsReportOn (cat : Catalogue) (work : Workload) (text : List ℕ) : Ty
   pub copies : (copy : CopyTable) → Contains (tables_of (given_of cat table work) log) copy
       → AreAllApplied (history log) copy.frag.0 copy.dm.0 (length (history log))
       → copy.rows ≡ rows_left cat (run cat work.rows work.txns (serial_order cat (history log))).1 copy.frag.0
+  -- Where a settle is the last event and no data module is down at the end, each transaction that was submitted is
+  -- committed, so it stands in the order, and none is pending.
+  pub settled : EndsWithSettle work.events → NoneIsDown cat log → TellsAllCommitted (report_of (given_of cat table work) log)
 
 -- A text is the summary of the run: it tells how many transactions there are, how many Commits, Rejects and Waits the
 -- one log of what is given has, and how many events.

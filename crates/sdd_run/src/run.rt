@@ -1,5 +1,6 @@
 //! The run of a workload, and what is told of it.
-ghost use Rattle.std.specs.Prelude.{IfOk, IsErrOf};
+ghost use Rattle.std.specs.Prelude.{◌≡◌, false, IfOk, IsErrOf};
+ghost use Rattle.sdd_script.specs.Redeclaring.{has_lists};
 ghost use Rattle.sdd_script.specs.Valid.{IsValid};
 ghost use Rattle.sdd_run.specs.Runs.{EndsAtLimit, IsReportOn, IsSummaryOn};
 
@@ -12,7 +13,7 @@ use sdd_script::Workload;
 use sdd_world::WorldEnd;
 use std::alloc::Global;
 
-/// The text of the report on the run of a workload.
+/// The text of the report on the run of a workload without lists of classes.
 ///
 /// Costs what its events cost, the serial order, the copies and the text.
 ///
@@ -20,7 +21,8 @@ use std::alloc::Global;
 ///
 /// At the first number that is missing, of events or of a link's messages, and for want of memory.
 pub fn run_report(alloc: Global, catalogue: &Catalogue, work: Workload) -> Result<Vec<u8>, WorldEnd>
-    requires { IsValid catalogue.now work }
+    requires valid { IsValid catalogue.now work }
+    requires no_lists { has_lists work ≡ false }
     ensures report { IfOk result (λ text. IsReportOn catalogue.now work text.items) }
     ensures limit { IsErrOf result WorldEnd.Limit → EndsAtLimit catalogue.now work }
 {
@@ -30,7 +32,8 @@ pub fn run_report(alloc: Global, catalogue: &Catalogue, work: Workload) -> Resul
     Ok(report_on(alloc, catalogue, &world)?)
 }
 
-/// The text of the summary of the run of a workload. Costs what its events cost.
+/// The text of the summary of the run of a workload without lists of classes. Costs what its events
+/// cost.
 ///
 /// # Errors
 ///
@@ -40,7 +43,8 @@ pub fn run_summary(
     catalogue: &Catalogue,
     work: Workload,
 ) -> Result<Vec<u8>, WorldEnd>
-    requires { IsValid catalogue.now work }
+    requires valid { IsValid catalogue.now work }
+    requires no_lists { has_lists work ≡ false }
     ensures summary { IfOk result (λ text. IsSummaryOn catalogue.now work text.items) }
     ensures limit { IsErrOf result WorldEnd.Limit → EndsAtLimit catalogue.now work }
 {

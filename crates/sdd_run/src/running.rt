@@ -1,6 +1,7 @@
 //! The world of a workload, with all its events carried out.
-ghost use Rattle.std.specs.Prelude.{IfOk, IsErrOf};
+ghost use Rattle.std.specs.Prelude.{◌≡◌, false, IfOk, IsErrOf};
 ghost use Rattle.sdd_protocol.specs.Protocols.{IsTable};
+ghost use Rattle.sdd_script.specs.Redeclaring.{has_lists};
 ghost use Rattle.sdd_script.specs.Valid.{IsValid};
 ghost use Rattle.sdd_run.specs.Runs.{EndsAtLimit};
 ghost use Rattle.sdd_run.specs.Worlds.{IsRunOf};
@@ -15,8 +16,8 @@ use sdd_system::Members;
 use sdd_world::{World, WorldEnd};
 use std::alloc::Global;
 
-/// The world of the real modules, begun with the rows of a workload, that has carried out its events
-/// in order. Costs what the events cost.
+/// The world of the real modules, begun with the rows of a workload without lists of classes, that has
+/// carried out its events in order. Costs what the events cost.
 ///
 /// # Errors
 ///
@@ -29,11 +30,17 @@ pub fn finished<'a>(
 ) -> Result<World<Home<'a>, Members<'a>, Mail>, WorldEnd>
     requires tabled { IsTable catalogue.now table.now }
     requires valid { IsValid catalogue.now work }
+    requires no_lists { has_lists work ≡ false }
     ensures run { IfOk result (λ world. IsRunOf catalogue.now table.now work world) }
     ensures limit { IsErrOf result WorldEnd.Limit → EndsAtLimit catalogue.now work }
 {
     catalogue.known();
-    let Workload { rows, txns, events } = work;
+    let Workload {
+        rows,
+        txns,
+        events,
+        ..
+    } = work;
     let members = Members::new(alloc, catalogue, table, rows.as_slice())?;
     let mail = Mail::new(alloc, catalogue.tms(), catalogue.dms())?;
     let home = Home::new(alloc, catalogue);

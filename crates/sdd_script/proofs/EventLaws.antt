@@ -11,7 +11,7 @@ use Rattle.sdd_base.specs.Numbers.{tm_no}
 use Rattle.sdd_base.specs.declared.limits.TheConstants.{MAX_PLACE, MAX_TICKS}
 use Rattle.sdd_base.specs.Sites.{are_linked}
 use Rattle.sdd_base.specs.declared.event.Event.{Event}
-use Rattle.sdd_base.specs.declared.event.Event.TheVariants.{Resend, Tick, Settle, Down, Up}
+use Rattle.sdd_base.specs.declared.event.Event.TheVariants.{Resend, Tick, Settle, Redeclare, Down, Up}
 use Rattle.sdd_base.specs.declared.number.DmNo.{DmNo}
 use Rattle.sdd_base.specs.declared.number.TmNo.{TmNo}
 use Rattle.sdd_base.specs.declared.site.Site.{Site}
@@ -26,7 +26,7 @@ use Rattle.sdd_words.specs.Words.{HasNoSpace, IsPlain}
 use Rattle.sdd_words.specs.declared.word.Word.{Word}
 use Rattle.sdd_words.specs.declared.word.Word.TheVariants.{Plain, Quoted}
 use Rattle.sdd_words.proofs.Numbers.{number_takes, number_again}
-use Rattle.sdd_script.specs.Occurrences.{from_one, numbered, site_in, site_of, module_of, tm_of, link_of, count_of, flight_place, resend_of, tick_of, settle_of, data_module_of, dm_of, down_of, up_of}
+use Rattle.sdd_script.specs.Occurrences.{from_one, numbered, site_in, site_of, module_of, tm_of, link_of, count_of, flight_place, resend_of, tick_of, settle_of, redeclare_of, data_module_of, dm_of, down_of, up_of}
 use Rattle.sdd_script.specs.Spelling.{site_word, count_word}
 use Rattle.sdd_script.specs.Valid.{IsSite, IsLink}
 use Rattle.sdd_script.specs.declared.fault.WorkRule.{WorkRule}
@@ -298,6 +298,10 @@ tick_again cat k tm n h m =
 pub settle_takes : (words : List Word) (e : Event) → settle_of words ≡ Ok e → (words ≡ []) × (Settle ≡ e)
 settle_takes [] e h = (refl, ok_is Settle e h)
 settle_takes (w ∷ words) e h = absurd cc
+
+pub redeclare_takes : (words : List Word) (e : Event) → redeclare_of words ≡ Ok e → (words ≡ []) × (Redeclare ≡ e)
+redeclare_takes [] e h = (refl, ok_is Redeclare e h)
+redeclare_takes (w ∷ words) e h = absurd cc
 
 -- a data module goes down or comes up
 pub record IsTurn (turn : DmNo → Event) (cat : Catalogue) (words : List Word) (e : Event) : Type 0 where

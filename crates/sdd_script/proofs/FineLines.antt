@@ -7,6 +7,8 @@ use Rattle.std.proofs.lemmas.Bool.{ltb-true, eq-eqb}
 use Rattle.std.proofs.lemmas.Str.{IsUtf8-from_ascii}
 use Rattle.std.proofs.lemmas.Str.Ascii.{IsAscii-cons, IsAscii-nil}
 use Rattle.std.proofs.lemmas.List.Elements.{recursion_from_All}
+use Rattle.sdd_base.specs.Name.{IsName}
+use Rattle.sdd_base.specs.Numbers.{dm_no, tm_no}
 use Rattle.sdd_base.specs.declared.event.Event.{Event}
 use Rattle.sdd_base.specs.declared.event.Event.TheVariants.{Submit, Deliver, Lose, Repeat, Resend, Tick, Settle, Redeclare, Down, Up}
 use Rattle.sdd_base.specs.declared.number.RelNo.{RelNo}
@@ -15,7 +17,9 @@ use Rattle.sdd_base.specs.declared.restriction.Op.TheVariants as ops
 use Rattle.sdd_base.specs.declared.site.Site.TheVariants.{T, D}
 use Rattle.sdd_base.specs.declared.value.Value.{Value}
 use Rattle.sdd_catalog.specs.Catalogue.{Catalogue}
-use Rattle.sdd_lang.specs.Fits.{IsRelation, FitsRef, FitsCondition, FitsAssign, FitsStatement}
+use Rattle.sdd_catalog.specs.declared.parts.ClassPart.{ClassPart}
+use Rattle.sdd_catalog.specs.declared.parts.ReadPart.{ReadPart}
+use Rattle.sdd_lang.specs.Fits.{IsFrom1To, IsRelation, FitsRef, FitsCondition, FitsAssign, FitsStatement}
 use Rattle.sdd_lang.specs.declared.assign.Assign.{Assign}
 use Rattle.sdd_lang.specs.declared.assign.Assign.TheVariants.{To, Add}
 use Rattle.sdd_lang.specs.declared.condition.Ref.{Ref}
@@ -30,8 +34,8 @@ use Rattle.sdd_words.specs.Words.{HasNoSpace}
 use Rattle.sdd_words.specs.declared.word.Word.{Word}
 use Rattle.sdd_words.specs.declared.word.Word.TheVariants.{Plain}
 use Rattle.sdd_script.specs.Naming.{name_of_relation}
-use Rattle.sdd_script.specs.Spelling.{relation_word, column_word, own_column, start_words, header_words, conditions_words, where_words, sets_words, statement_words, event_words, name_of_txn}
-use Rattle.sdd_script.specs.Valid.{IsValue, HoldsValue, AssignsValue, HoldsValues, IsValidRow, IsValidTxn, IsValidEvent}
+use Rattle.sdd_script.specs.Spelling.{relation_word, column_word, own_column, start_words, header_words, class_words, reads_words, writes_words, conditions_words, where_words, sets_words, statement_words, event_words, name_of_txn}
+use Rattle.sdd_script.specs.Valid.{IsValue, HoldsValue, AssignsValue, HoldsValues, IsValidRow, IsValidTxn, IsFragment, IsValidRead, IsValidEvent}
 use Rattle.sdd_script.specs.declared.keyword.Keyword.{Keyword}
 use Rattle.sdd_script.specs.declared.keyword.Keyword.TheVariants as keys
 use Rattle.sdd_script.proofs.StepLaws.{both_hold}
@@ -44,6 +48,7 @@ use Rattle.sdd_script.proofs.UpdateLaws.{update_fits, one_part}
 use Rattle.sdd_script.proofs.EventLaws.{site_fine, place_fine}
 use Rattle.sdd_script.proofs.LineLaws.{keyword_bytes}
 use Rattle.sdd_script.specs.declared.keyword.StatementKey.TheVariants as skeys
+use Rattle.sdd_script.specs.declared.keyword.ClassKey.TheVariants as class_keys
 use Rattle.sdd_script.specs.declared.keyword.EventKey.TheVariants as ekeys
 
 abbrev pub AreFine : List Word → Type 0
@@ -103,6 +108,10 @@ keyword_simple (keys.Statement skeys.Query) = refl
 keyword_simple (keys.Statement skeys.Update) = refl
 keyword_simple (keys.Statement skeys.Delete) = refl
 keyword_simple keys.Done = refl
+keyword_simple (keys.Class class_keys.List) = refl
+keyword_simple (keys.Class class_keys.Class) = refl
+keyword_simple (keys.Class class_keys.Reads) = refl
+keyword_simple (keys.Class class_keys.Writes) = refl
 keyword_simple (keys.Event ekeys.Submit) = refl
 keyword_simple (keys.Event ekeys.Deliver) = refl
 keyword_simple (keys.Event ekeys.Lose) = refl
@@ -110,6 +119,7 @@ keyword_simple (keys.Event ekeys.Repeat) = refl
 keyword_simple (keys.Event ekeys.Resend) = refl
 keyword_simple (keys.Event ekeys.Tick) = refl
 keyword_simple (keys.Event ekeys.Settle) = refl
+keyword_simple (keys.Event ekeys.Redeclare) = refl
 keyword_simple (keys.Event ekeys.Down) = refl
 keyword_simple (keys.Event ekeys.Up) = refl
 keyword_simple keys.End = refl
@@ -201,6 +211,17 @@ event_fine cat k txns (Repeat from to place) h n = (keyword_fine (keys.Event eke
 event_fine cat k txns (Resend from to) h n = (keyword_fine (keys.Event ekeys.Resend), (site_fine cat k from h.0, (site_fine cat k to h.1, tt)))
 event_fine cat k txns (Tick tm n) h m = (keyword_fine (keys.Event ekeys.Tick), (site_fine cat k (T tm) h.0, (place_fine n h.1, tt)))
 event_fine cat k txns Settle h n = (keyword_fine (keys.Event ekeys.Settle), tt)
-event_fine cat k txns Redeclare h n = absurd h
+event_fine cat k txns Redeclare h n = (keyword_fine (keys.Event ekeys.Redeclare), tt)
 event_fine cat k txns (Down dm) h n = (keyword_fine (keys.Event ekeys.Down), (site_fine cat k (D dm) h, tt))
 event_fine cat k txns (Up dm) h n = (keyword_fine (keys.Event ekeys.Up), (site_fine cat k (D dm) h, tt))
+
+-- ---- lists of classes
+
+pub class_fine : (cat : Catalogue) → IsKnown cat → (c : ClassPart) → IsName c.name → IsFrom1To cat.tms c.tm → AreFine (class_words c)
+class_fine cat k c named there = (keyword_fine (keys.Class class_keys.Class), (name_fine c.name named, (site_fine cat k (T (tm_no c.tm)) there, tt)))
+
+pub reads_fine : (cat : Catalogue) → IsKnown cat → (r : ReadPart) → IsValidRead cat r → AreFine (reads_words r)
+reads_fine cat k r h = (keyword_fine (keys.Class class_keys.Reads), (name_fine r.fragment h.fragment.0, (site_fine cat k (D (dm_no r.at)) h.module_is_there, tt)))
+
+pub writes_fine : (cat : Catalogue) (f : List ℕ) → IsFragment cat f → AreFine (writes_words f)
+writes_fine cat f h = (keyword_fine (keys.Class class_keys.Writes), (name_fine f h.0, tt))

@@ -151,5 +151,5 @@ known cat s w n = record {
 pub reads_again : (cat : Catalogue) → IsSound cat → IsWhole cat → AreNamed cat → ReadsAgain cat
 reads_again cat s w n = read_again cat (known cat s w n)
 
-pub reads_spelling : (cat : Catalogue) → ReadsSpelling cat
-reads_spelling cat = reading.reads_spelling cat
+pub reads_spelling : (cat : Catalogue) → IsSound cat → IsWhole cat → ReadsSpelling cat
+reads_spelling cat s w = reading.reads_spelling cat s w

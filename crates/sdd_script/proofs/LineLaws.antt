@@ -16,11 +16,13 @@ use Rattle.sdd_words.specs.declared.word.Word.{Word}
 use Rattle.sdd_words.specs.declared.word.Word.TheVariants.{Plain, Quoted}
 use Rattle.sdd_words.proofs.Splits.{scan_spelled, scan_again}
 use Rattle.sdd_script.specs.LineRules.{keyword_rules, words_rules, line_rules}
-use Rattle.sdd_script.specs.FirstWords.{statement_key_in, event_key_in, inner_keyword, keyword_in, keyword_of}
+use Rattle.sdd_script.specs.FirstWords.{statement_key_in, class_key_in, event_key_in, outer_keyword, inner_keyword, keyword_in, keyword_of}
 use Rattle.sdd_script.specs.declared.keyword.StatementKey.{StatementKey}
 use Rattle.sdd_script.specs.declared.keyword.StatementKey.TheVariants.{Put, Query, Update, Delete}
 use Rattle.sdd_script.specs.declared.keyword.EventKey.{EventKey}
-use Rattle.sdd_script.specs.declared.keyword.EventKey.TheVariants.{Submit, Deliver, Lose, Repeat, Resend, Tick, Settle, Down, Up}
+use Rattle.sdd_script.specs.declared.keyword.EventKey.TheVariants.{Submit, Deliver, Lose, Repeat, Resend, Tick, Settle, Redeclare, Down, Up}
+use Rattle.sdd_script.specs.declared.keyword.ClassKey.{ClassKey}
+use Rattle.sdd_script.specs.declared.keyword.ClassKey.TheVariants as class_keys
 use Rattle.sdd_script.specs.declared.fault.WorkRule.TheVariants.{NotUtf8, BadLine}
 use Rattle.sdd_script.specs.declared.keyword.Keyword.{Keyword}
 use Rattle.sdd_script.specs.declared.keyword.Keyword.TheVariants as keys
@@ -86,6 +88,12 @@ statement_key_bytes Query = codes "query"
 statement_key_bytes Update = codes "update"
 statement_key_bytes Delete = codes "delete"
 
+abbrev pub class_key_bytes : ClassKey → List ℕ
+class_key_bytes class_keys.List = codes "list"
+class_key_bytes class_keys.Class = codes "class"
+class_key_bytes class_keys.Reads = codes "reads"
+class_key_bytes class_keys.Writes = codes "writes"
+
 abbrev pub event_key_bytes : EventKey → List ℕ
 event_key_bytes Submit = codes "submit"
 event_key_bytes Deliver = codes "deliver"
@@ -94,6 +102,7 @@ event_key_bytes Repeat = codes "repeat"
 event_key_bytes Resend = codes "resend"
 event_key_bytes Tick = codes "tick"
 event_key_bytes Settle = codes "settle"
+event_key_bytes Redeclare = codes "redeclare"
 event_key_bytes Down = codes "down"
 event_key_bytes Up = codes "up"
 
@@ -102,6 +111,7 @@ keyword_bytes keys.Row = codes "row"
 keyword_bytes keys.Txn = codes "txn"
 keyword_bytes (keys.Statement key) = statement_key_bytes key
 keyword_bytes keys.Done = codes "done"
+keyword_bytes (keys.Class key) = class_key_bytes key
 keyword_bytes (keys.Event key) = event_key_bytes key
 keyword_bytes keys.End = codes "end"
 
@@ -116,6 +126,13 @@ statement_key_is bytes key e =
     choice statement_key_bytes bytes Update key _ (bytes_eq bytes (codes "update")) refl e (λ e.
     choice statement_key_bytes bytes Delete key None (bytes_eq bytes (codes "delete")) refl e (λ e. absurd cc))))
 
+class_key_is : (bytes : List ℕ) (key : ClassKey) → class_key_in bytes ≡ Some key → bytes ≡ class_key_bytes key
+class_key_is bytes key e =
+    choice class_key_bytes bytes class_keys.List key _ (bytes_eq bytes (codes "list")) refl e (λ e.
+    choice class_key_bytes bytes class_keys.Class key _ (bytes_eq bytes (codes "class")) refl e (λ e.
+    choice class_key_bytes bytes class_keys.Reads key _ (bytes_eq bytes (codes "reads")) refl e (λ e.
+    choice class_key_bytes bytes class_keys.Writes key None (bytes_eq bytes (codes "writes")) refl e (λ e. absurd cc))))
+
 event_key_is : (bytes : List ℕ) (key : EventKey) → event_key_in bytes ≡ Some key → bytes ≡ event_key_bytes key
 event_key_is bytes key e =
     choice event_key_bytes bytes Submit key _ (bytes_eq bytes (codes "submit")) refl e (λ e.
@@ -125,20 +142,28 @@ event_key_is bytes key e =
     choice event_key_bytes bytes Resend key _ (bytes_eq bytes (codes "resend")) refl e (λ e.
     choice event_key_bytes bytes Tick key _ (bytes_eq bytes (codes "tick")) refl e (λ e.
     choice event_key_bytes bytes Settle key _ (bytes_eq bytes (codes "settle")) refl e (λ e.
+    choice event_key_bytes bytes Redeclare key _ (bytes_eq bytes (codes "redeclare")) refl e (λ e.
     choice event_key_bytes bytes Down key _ (bytes_eq bytes (codes "down")) refl e (λ e.
-    choice event_key_bytes bytes Up key None (bytes_eq bytes (codes "up")) refl e (λ e. absurd cc)))))))))
+    choice event_key_bytes bytes Up key None (bytes_eq bytes (codes "up")) refl e (λ e. absurd cc))))))))))
 
-inner_is : (bytes : List ℕ) (key : Keyword) (o : Option StatementKey) (p : Option EventKey) → statement_key_in bytes ≡ o → event_key_in bytes ≡ p → inner_keyword o p ≡ Some key → bytes ≡ keyword_bytes key
-inner_is bytes key (Some s) p a b e = statement_key_is bytes s a ∙ ap keyword_bytes (some_is (keys.Statement s) key e)
-inner_is bytes key None (Some v) a b e = event_key_is bytes v b ∙ ap keyword_bytes (some_is (keys.Event v) key e)
-inner_is bytes key None None a b e = absurd cc
+outer_is : (bytes : List ℕ) (key : Keyword) (o : Option ClassKey) (p : Option EventKey) → class_key_in bytes ≡ o → event_key_in bytes ≡ p → outer_keyword o p ≡ Some key → bytes ≡ keyword_bytes key
+outer_is bytes key (Some k) p a b e = class_key_is bytes k a ∙ ap keyword_bytes (some_is (keys.Class k) key e)
+outer_is bytes key None (Some v) a b e = event_key_is bytes v b ∙ ap keyword_bytes (some_is (keys.Event v) key e)
+outer_is bytes key None None a b e = absurd cc
+
+abbrev outer_of : List ℕ → Option Keyword
+outer_of bytes = outer_keyword (class_key_in bytes) (event_key_in bytes)
+
+inner_is : (bytes : List ℕ) (key : Keyword) (o : Option StatementKey) → statement_key_in bytes ≡ o → inner_keyword o (outer_of bytes) ≡ Some key → bytes ≡ keyword_bytes key
+inner_is bytes key (Some s) a e = statement_key_is bytes s a ∙ ap keyword_bytes (some_is (keys.Statement s) key e)
+inner_is bytes key None a e = outer_is bytes key (class_key_in bytes) (event_key_in bytes) refl refl e
 
 keyword_bytes_are : (bytes : List ℕ) (key : Keyword) → keyword_in bytes ≡ Some key → bytes ≡ keyword_bytes key
 keyword_bytes_are bytes key e =
     choice keyword_bytes bytes keys.Row key _ (bytes_eq bytes (codes "row")) refl e (λ e.
     choice keyword_bytes bytes keys.Txn key _ (bytes_eq bytes (codes "txn")) refl e (λ e.
     choice keyword_bytes bytes keys.Done key _ (bytes_eq bytes (codes "done")) refl e (λ e.
-    choice keyword_bytes bytes keys.End key (inner_keyword (statement_key_in bytes) (event_key_in bytes)) (bytes_eq bytes (codes "end")) refl e (λ e. inner_is bytes key (statement_key_in bytes) (event_key_in bytes) refl refl e))))
+    choice keyword_bytes bytes keys.End key (inner_keyword (statement_key_in bytes) (outer_of bytes)) (bytes_eq bytes (codes "end")) refl e (λ e. inner_is bytes key (statement_key_in bytes) refl e))))
 
 pub keyword_takes : (w : Word) (key : Keyword) → keyword_of w ≡ Some key → w ≡ Plain (keyword_bytes key)
 keyword_takes (Plain bytes) key e = ap (λ (l : List ℕ). Plain l) (keyword_bytes_are bytes key e)
@@ -152,6 +177,10 @@ keyword_again (keys.Statement Query) = refl
 keyword_again (keys.Statement Update) = refl
 keyword_again (keys.Statement Delete) = refl
 keyword_again keys.Done = refl
+keyword_again (keys.Class class_keys.List) = refl
+keyword_again (keys.Class class_keys.Class) = refl
+keyword_again (keys.Class class_keys.Reads) = refl
+keyword_again (keys.Class class_keys.Writes) = refl
 keyword_again (keys.Event Submit) = refl
 keyword_again (keys.Event Deliver) = refl
 keyword_again (keys.Event Lose) = refl
@@ -159,6 +188,7 @@ keyword_again (keys.Event Repeat) = refl
 keyword_again (keys.Event Resend) = refl
 keyword_again (keys.Event Tick) = refl
 keyword_again (keys.Event Settle) = refl
+keyword_again (keys.Event Redeclare) = refl
 keyword_again (keys.Event Down) = refl
 keyword_again (keys.Event Up) = refl
 keyword_again keys.End = refl

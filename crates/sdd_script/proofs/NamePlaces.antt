@@ -10,7 +10,7 @@ use Rattle.sdd_catalog.specs.Rules.{repeats, has_name}
 use Rattle.sdd_script.specs.Valid.{AreDistinct}
 use Rattle.sdd_script.proofs.WordCuts.{NonePasses, position_again, no_position}
 
-or_false : (a b : Bool) → (a || b) ≡ false → (a ≡ false) × (b ≡ false)
+pub or_false : (a b : Bool) → (a || b) ≡ false → (a ≡ false) × (b ≡ false)
 or_false true b e = absurd cc
 or_false false b e = (refl, e)
 

@@ -75,19 +75,44 @@ txn_pieces out h f xs d =
     ∙ ap (λ (l : List ℕ). out ++ (ended h ++ (flat_map ended (map f xs) ++ l))) (sym (append-nil (ended d)))
     ∙ ap (λ (l : List ℕ). out ++ (ended h ++ l)) (sym (flat_map-append ended (map f xs) (d ∷ [])))
 
+-- the lines of a class
+pub class_pieces : {A B : Type 0} (out : List ℕ) (h : List Word) (f : A → List Word) (xs : List A) (g : B → List Word) (ys : List B)
+    → ((out ++ ended h) ++ flat_map (λ x. ended (f x)) xs) ++ flat_map (λ y. ended (g y)) ys ≡ out ++ flat_map ended (h ∷ (map f xs ++ map g ys))
+class_pieces out h f xs g ys =
+    append_assoc (out ++ ended h) (flat_map (λ x. ended (f x)) xs) (flat_map (λ y. ended (g y)) ys)
+    ∙ append_assoc out (ended h) (flat_map (λ x. ended (f x)) xs ++ flat_map (λ y. ended (g y)) ys)
+    ∙ ap (λ (l : List ℕ). out ++ (ended h ++ (l ++ flat_map (λ y. ended (g y)) ys))) (sym (flat_map-map ended f xs))
+    ∙ ap (λ (l : List ℕ). out ++ (ended h ++ (flat_map ended (map f xs) ++ l))) (sym (flat_map-map ended g ys))
+    ∙ ap (λ (l : List ℕ). out ++ (ended h ++ l)) (sym (flat_map-append ended (map f xs) (map g ys)))
+
+-- the lines of a list of classes
+pub list_pieces : {A : Type 0} (out : List ℕ) (h : List Word) (f : A → List (List Word)) (xs : List A) (d : List Word)
+    → ((out ++ ended h) ++ flat_map (λ x. flat_map ended (f x)) xs) ++ ended d ≡ out ++ flat_map ended (h ∷ (flat_map f xs ++ d ∷ []))
+list_pieces out h f xs d =
+    append_assoc (out ++ ended h) (flat_map (λ x. flat_map ended (f x)) xs) (ended d)
+    ∙ append_assoc out (ended h) (flat_map (λ x. flat_map ended (f x)) xs ++ ended d)
+    ∙ ap (λ (l : List ℕ). out ++ (ended h ++ (l ++ ended d))) (sym (flat_map-flat_map ended f xs))
+    ∙ ap (λ (l : List ℕ). out ++ (ended h ++ (flat_map ended (flat_map f xs) ++ l))) (sym (append-nil (ended d)))
+    ∙ ap (λ (l : List ℕ). out ++ (ended h ++ l)) (sym (flat_map-append ended (flat_map f xs) (d ∷ [])))
+
 -- the lines of a workload
-pub work_pieces : {A B C : Type 0} (f : A → List Word) (xs : List A) (g : B → List (List Word)) (ys : List B) (h : C → List Word) (zs : List C) (e : List Word)
-    → ((flat_map (λ x. ended (f x)) xs ++ flat_map (λ y. flat_map ended (g y)) ys) ++ flat_map (λ z. ended (h z)) zs) ++ ended e
-    ≡ flat_map ended (((map f xs ++ flat_map g ys) ++ map h zs) ++ e ∷ [])
-work_pieces f xs g ys h zs e =
-    let a : flat_map (λ x. ended (f x)) xs ++ flat_map (λ y. flat_map ended (g y)) ys ≡ flat_map ended (map f xs ++ flat_map g ys) =
+pub work_pieces : {A B C D : Type 0} (f : A → List Word) (xs : List A) (g : B → List (List Word)) (ys : List B) (k : C → List (List Word)) (ls : List C) (h : D → List Word) (zs : List D) (e : List Word)
+    → (((flat_map (λ x. ended (f x)) xs ++ flat_map (λ y. flat_map ended (g y)) ys) ++ flat_map (λ l. flat_map ended (k l)) ls) ++ flat_map (λ z. ended (h z)) zs) ++ ended e
+    ≡ flat_map ended ((((map f xs ++ flat_map g ys) ++ flat_map k ls) ++ map h zs) ++ e ∷ [])
+work_pieces f xs g ys k ls h zs e =
+    let front : List (List Word) = map f xs ++ flat_map g ys in
+    let a : flat_map (λ x. ended (f x)) xs ++ flat_map (λ y. flat_map ended (g y)) ys ≡ flat_map ended front =
     ap (λ (l : List ℕ). l ++ flat_map (λ y. flat_map ended (g y)) ys) (sym (flat_map-map ended f xs))
     ∙ ap (λ (l : List ℕ). flat_map ended (map f xs) ++ l) (sym (flat_map-flat_map ended g ys))
     ∙ sym (flat_map-append ended (map f xs) (flat_map g ys)) in
-    let b : (flat_map (λ x. ended (f x)) xs ++ flat_map (λ y. flat_map ended (g y)) ys) ++ flat_map (λ z. ended (h z)) zs ≡ flat_map ended ((map f xs ++ flat_map g ys) ++ map h zs) =
-    ap (λ (l : List ℕ). l ++ flat_map (λ z. ended (h z)) zs) a
-    ∙ ap (λ (l : List ℕ). flat_map ended (map f xs ++ flat_map g ys) ++ l) (sym (flat_map-map ended h zs))
-    ∙ sym (flat_map-append ended (map f xs ++ flat_map g ys) (map h zs)) in
-    ap (λ (l : List ℕ). l ++ ended e) b
-    ∙ ap (λ (l : List ℕ). flat_map ended ((map f xs ++ flat_map g ys) ++ map h zs) ++ l) (sym (append-nil (ended e)))
-    ∙ sym (flat_map-append ended ((map f xs ++ flat_map g ys) ++ map h zs) (e ∷ []))
+    let b : (flat_map (λ x. ended (f x)) xs ++ flat_map (λ y. flat_map ended (g y)) ys) ++ flat_map (λ l. flat_map ended (k l)) ls ≡ flat_map ended (front ++ flat_map k ls) =
+    ap (λ (l : List ℕ). l ++ flat_map (λ l. flat_map ended (k l)) ls) a
+    ∙ ap (λ (l : List ℕ). flat_map ended front ++ l) (sym (flat_map-flat_map ended k ls))
+    ∙ sym (flat_map-append ended front (flat_map k ls)) in
+    let d : ((flat_map (λ x. ended (f x)) xs ++ flat_map (λ y. flat_map ended (g y)) ys) ++ flat_map (λ l. flat_map ended (k l)) ls) ++ flat_map (λ z. ended (h z)) zs ≡ flat_map ended ((front ++ flat_map k ls) ++ map h zs) =
+    ap (λ (l : List ℕ). l ++ flat_map (λ z. ended (h z)) zs) b
+    ∙ ap (λ (l : List ℕ). flat_map ended (front ++ flat_map k ls) ++ l) (sym (flat_map-map ended h zs))
+    ∙ sym (flat_map-append ended (front ++ flat_map k ls) (map h zs)) in
+    ap (λ (l : List ℕ). l ++ ended e) d
+    ∙ ap (λ (l : List ℕ). flat_map ended ((front ++ flat_map k ls) ++ map h zs) ++ l) (sym (append-nil (ended e)))
+    ∙ sym (flat_map-append ended ((front ++ flat_map k ls) ++ map h zs) (e ∷ []))

@@ -3,7 +3,7 @@ use Rattle.std.proofs.Common.{◌≡◌, ℕ, ◌+◌, ◌-◌, ◌<◌, List, [
 use Rattle.std.specs.Prelude.{codes, nat_lt, slice_get, unwrap_or}
 use Rattle.std.specs.Option.{option_map, option_map_or}
 use Rattle.std.specs.Str.{bytes_eq, is_utf8}
-use Rattle.std.specs.List.{position}
+use Rattle.std.specs.List.{All, position}
 use Rattle.std.proofs.lemmas.Bool.{ltb-false}
 use Rattle.std.proofs.lemmas.List.{length-map}
 use Rattle.std.proofs.lemmas.List.Elements.{All-from_recursion}
@@ -16,7 +16,9 @@ use Rattle.sdd_base.specs.declared.event.Event.{Event}
 use Rattle.sdd_base.specs.declared.event.Event.TheVariants.{Submit, Deliver, Lose, Repeat}
 use Rattle.sdd_base.specs.declared.number.TxnNo.{TxnNo}
 use Rattle.sdd_catalog.specs.Catalogue.{Catalogue}
-use Rattle.sdd_catalog.specs.Rules.{repeats}
+use Rattle.sdd_catalog.specs.Numbers.{IsWhole}
+use Rattle.sdd_catalog.specs.Rules.{IsSound, repeats}
+use Rattle.sdd_catalog.specs.declared.parts.ClassPart.{ClassPart}
 use Rattle.sdd_lang.specs.Fits.{FitsStatement}
 use Rattle.sdd_lang.specs.declared.transaction.Txn.{Txn}
 use Rattle.sdd_words.specs.Keywords.{is_free}
@@ -29,11 +31,14 @@ use Rattle.sdd_words.specs.declared.word.Word.TheVariants.{Plain, Quoted}
 use Rattle.sdd_words.proofs.Spelled.{cut_takes}
 use Rattle.sdd_base.specs.declared.site.Site.{Site}
 use Rattle.sdd_script.specs.LineRules.{keyword_rules, line_rules}
-use Rattle.sdd_script.specs.Occurrences.{number_named, txn_named, submit_of, flight_place, deliver_of, lose_of, repeat_of, resend_of, tick_of, settle_of, down_of, up_of}
-use Rattle.sdd_script.specs.Places.{takes_events, is_ended}
+use Rattle.sdd_script.specs.Occurrences.{number_named, txn_named, submit_of, flight_place, deliver_of, lose_of, repeat_of, resend_of, tick_of, settle_of, redeclare_of, down_of, up_of}
+use Rattle.sdd_script.specs.ClassLists.{joined, all_classes, part_names}
+use Rattle.sdd_script.specs.Naming.{class_names}
+use Rattle.sdd_script.specs.OpenLists.{classes_in}
+use Rattle.sdd_script.specs.Places.{takes_events, is_ended, open_list}
 use Rattle.sdd_script.specs.Spelling.{name_of_txn, lines_of, spelling, ended}
 use Rattle.sdd_script.specs.Statements.{put_of, query_of, update_of, delete_of}
-use Rattle.sdd_script.specs.Valid.{HoldsValues, IsValidEvent, IsValid, Accepts}
+use Rattle.sdd_script.specs.Valid.{HoldsValues, IsValidClass, IsValidEvent, IsValid, Accepts}
 use Rattle.sdd_script.specs.Walk.{at_line, one_line, tail_rules, walk, walk_bytes, nothing_read, finished, workload}
 use Rattle.sdd_script.specs.declared.fault.WorkFault.{WorkFault}
 use Rattle.sdd_script.specs.declared.fault.WorkRule.{WorkRule}
@@ -41,6 +46,7 @@ use Rattle.sdd_script.specs.declared.fault.WorkRule.TheVariants.{BadLine, Unknow
 use Rattle.sdd_script.specs.declared.keyword.Keyword.{Keyword}
 use Rattle.sdd_script.specs.declared.keyword.Keyword.TheVariants as keys
 use Rattle.sdd_script.specs.declared.keyword.StatementKey.TheVariants as skeys
+use Rattle.sdd_script.specs.declared.keyword.ClassKey.TheVariants as class_keys
 use Rattle.sdd_script.specs.declared.keyword.EventKey.TheVariants as ekeys
 use Rattle.sdd_script.specs.declared.place.Place.{Place}
 use Rattle.sdd_script.specs.declared.place.Place.TheVariants as places
@@ -50,11 +56,14 @@ use Rattle.sdd_base.proofs.ReadingLaws.{bind_ok, ok_is}
 use Rattle.sdd_script.proofs.StepLaws.{must_then, known_then, some_is}
 use Rattle.sdd_script.proofs.QueryLaws.{put_takes, query_takes}
 use Rattle.sdd_script.proofs.UpdateLaws.{update_takes, delete_takes}
-use Rattle.sdd_script.proofs.EventLaws.{place_takes, resend_takes, tick_takes, settle_takes, down_takes, up_takes}
+use Rattle.sdd_script.proofs.EventLaws.{place_takes, resend_takes, tick_takes, settle_takes, redeclare_takes, down_takes, up_takes}
 use Rattle.sdd_script.proofs.LineLaws.{line_takes, words_take, keyword_bytes}
 use Rattle.sdd_script.proofs.SoFar.{lines_at, so_far, lines_at_end}
 use Rattle.sdd_script.proofs.SoundEvents.{IsEvent, no_open, event_leads, end_leads}
-use Rattle.sdd_script.proofs.SoundStates.{Sound, Leads, names_of, open_name, named_takes, row_leads, txn_leads, statement_leads, done_leads}
+use Rattle.sdd_script.proofs.SoundStates.{Sound, Leads, names_of, open_name, named_takes, row_leads, txn_leads, statement_leads}
+use Rattle.sdd_script.proofs.SoundLists.{list_leads, class_leads, reads_leads, writes_leads, done_leads}
+use Rattle.sdd_script.proofs.ClassNames.{class_names_differ}
+use Rattle.sdd_script.proofs.RedeclareLaws.{none_timely}
 
 -- ---- events
 
@@ -135,6 +144,9 @@ tick_is cat st words e h = let r = tick_takes cat words e h in subst (λ (x : Ev
 settle_is : (cat : Catalogue) (st : State) (words : List Word) (e : Event) → settle_of words ≡ Ok e → IsEvent cat st (codes "settle") words e
 settle_is cat st words e h = let r = settle_takes words e h in subst (λ (x : Event). IsEvent cat st (codes "settle") words x) r.1 (record { spelled = ap (λ (l : List Word). Plain (codes "settle") ∷ l) r.0; valid = tt })
 
+redeclare_is : (cat : Catalogue) (st : State) (words : List Word) (e : Event) → redeclare_of words ≡ Ok e → IsEvent cat st (codes "redeclare") words e
+redeclare_is cat st words e h = let r = redeclare_takes words e h in subst (λ (x : Event). IsEvent cat st (codes "redeclare") words x) r.1 (record { spelled = ap (λ (l : List Word). Plain (codes "redeclare") ∷ l) r.0; valid = tt })
+
 down_is : (cat : Catalogue) (st : State) (words : List Word) (e : Event) → down_of cat words ≡ Ok e → IsEvent cat st (codes "down") words e
 down_is cat st words e h = let r = down_takes cat words e h in subst (λ (x : Event). IsEvent cat st (codes "down") words x) r.is (record { spelled = ap (λ (l : List Word). Plain (codes "down") ∷ l) r.spelled; valid = r.there })
 
@@ -151,6 +163,10 @@ keyword_leads cat st to (keys.Statement skeys.Query) words s e = statement_leads
 keyword_leads cat st to (keys.Statement skeys.Update) words s e = statement_leads cat st to (codes "update") words (update_of cat words) s (λ q h. update_takes cat words q h) e
 keyword_leads cat st to (keys.Statement skeys.Delete) words s e = statement_leads cat st to (codes "delete") words (delete_of cat words) s (λ q h. delete_takes cat words q h) e
 keyword_leads cat st to keys.Done words s e = done_leads cat st to words s e
+keyword_leads cat st to (keys.Class class_keys.List) words s e = list_leads cat st to words s e
+keyword_leads cat st to (keys.Class class_keys.Class) words s e = class_leads cat st to words s e
+keyword_leads cat st to (keys.Class class_keys.Reads) words s e = reads_leads cat st to words s e
+keyword_leads cat st to (keys.Class class_keys.Writes) words s e = writes_leads cat st to words s e
 keyword_leads cat st to (keys.Event ekeys.Submit) words s e = event_leads cat st to (codes "submit") words (submit_of st.names words) s (λ t x h. submit_is cat st words x s t h) e
 keyword_leads cat st to (keys.Event ekeys.Deliver) words s e = event_leads cat st to (codes "deliver") words (deliver_of cat words) s (λ t x h. deliver_is cat st words x h) e
 keyword_leads cat st to (keys.Event ekeys.Lose) words s e = event_leads cat st to (codes "lose") words (lose_of cat words) s (λ t x h. lose_is cat st words x h) e
@@ -158,6 +174,7 @@ keyword_leads cat st to (keys.Event ekeys.Repeat) words s e = event_leads cat st
 keyword_leads cat st to (keys.Event ekeys.Resend) words s e = event_leads cat st to (codes "resend") words (resend_of cat words) s (λ t x h. resend_is cat st words x h) e
 keyword_leads cat st to (keys.Event ekeys.Tick) words s e = event_leads cat st to (codes "tick") words (tick_of cat words) s (λ t x h. tick_is cat st words x h) e
 keyword_leads cat st to (keys.Event ekeys.Settle) words s e = event_leads cat st to (codes "settle") words (settle_of words) s (λ t x h. settle_is cat st words x h) e
+keyword_leads cat st to (keys.Event ekeys.Redeclare) words s e = event_leads cat st to (codes "redeclare") words (redeclare_of words) s (λ t x h. redeclare_is cat st words x h) e
 keyword_leads cat st to (keys.Event ekeys.Down) words s e = event_leads cat st to (codes "down") words (down_of cat words) s (λ t x h. down_is cat st words x h) e
 keyword_leads cat st to (keys.Event ekeys.Up) words s e = event_leads cat st to (codes "up") words (up_of cat words) s (λ t x h. up_is cat st words x h) e
 keyword_leads cat st to keys.End words s e = end_leads cat st to words s e
@@ -238,8 +255,8 @@ walk_takes cat n st to (line ∷ lines) tail s e =
       ended = more.ended;
     }
 
-nothing_sound : (cat : Catalogue) → Sound cat nothing_read
-nothing_sound cat = record {
+nothing_sound : (cat : Catalogue) → IsSound cat → IsWhole cat → Sound cat (nothing_read cat)
+nothing_sound cat sound whole = record {
   rows = All-from_recursion _ [] tt;
   txns = All-from_recursion _ [] tt;
   statements = All-from_recursion (FitsStatement cat) [] tt;
@@ -248,6 +265,14 @@ nothing_sound cat = record {
   header = tt;
   names = refl;
   differ = refl;
+  declares = record {
+    valid = All-from_recursion (IsValidClass cat) [] tt;
+    names = subst (λ (l : List (List ℕ)). repeats l ≡ false) (sym (append-nil (class_names cat))) (class_names_differ cat sound);
+    counted = omega arith;
+    few = whole.few_classes;
+  };
+  few_lists = omega arith;
+  timely = none_timely cat.dms 0;
   events = All-from_recursion (IsValidEvent cat 0) [] tt;
   submitted = refl;
   once = λ i k less within d e. omega arith;
@@ -255,31 +280,41 @@ nothing_sound cat = record {
   few_rows = omega arith;
   few_txns = omega arith;
   few_events = omega arith;
-  order = (refl, refl, refl);
+  order = (refl, refl, refl, refl);
 }
 
 -- ---- the workload
 
 abbrev made : State → Workload
-made st = record { rows = st.rows; txns = st.txns; events = st.events }
+made st = record { rows = st.rows; txns = st.txns; lists = st.lists; events = st.events }
 
 ended_place : (place : Place) → is_ended place ≡ true → place ≡ places.Ended
 ended_place places.Ended e = refl
 ended_place places.Rows e = absurd cc
 ended_place (places.Inside h) e = absurd cc
 ended_place places.Between e = absurd cc
+ended_place (places.Listing list) e = absurd cc
+ended_place places.Declared e = absurd cc
 ended_place places.Events e = absurd cc
 
 sound_valid : (cat : Catalogue) (st : State) → Sound cat st → st.place ≡ places.Ended → IsValid cat (made st)
 sound_valid cat st s p =
     let names : st.names ≡ names_of st.txns = s.names ∙ ap (λ (x : Place). names_of st.txns ++ open_name x) p ∙ append-nil (names_of st.txns) in
     let len : length st.names ≡ length st.txns = ap (λ (l : List (List ℕ)). length l) names ∙ length-map st.txns (λ (t : Txn). t.name) in
+    let all : all_classes st ≡ joined st.lists = ap (λ (x : Place). joined st.lists ++ classes_in (open_list x)) p ∙ append-nil (joined st.lists) in
     record {
       rows = s.rows;
       txns = s.txns;
       names = subst (λ (l : List (List ℕ)). repeats l ≡ false) names s.differ;
+      lists = record {
+        classes = subst (All (IsValidClass cat)) all s.declares.valid;
+        names = subst (λ (cs : List ClassPart). repeats (class_names cat ++ part_names cs) ≡ false) all s.declares.names;
+        few_classes = omega (arith, s.declares.counted, s.declares.few, ap (λ (l : List ClassPart). length l) all);
+        few_lists = omega (arith, s.few_lists);
+      };
       events = s.events;
       submitted = s.once;
+      timely = s.timely;
       few_rows = omega (arith, s.written, s.few_rows);
       few_txns = omega (arith, len, s.few_txns);
       few_events = s.few_events;
@@ -296,7 +331,7 @@ finished_ok (Ok st) w e = (st, refl, workload_is (made st) w e)
 finished_ok (Err fault) w e = absurd cc
 
 state_spelled : (cat : Catalogue) (st : State) → st.place ≡ places.Ended → so_far cat st ≡ lines_of cat (made st)
-state_spelled cat st p = ap (λ (x : Place). lines_at cat st.rows st.txns x st.statements st.events) p ∙ lines_at_end cat (made st) st.statements
+state_spelled cat st p = ap (λ (x : Place). lines_at cat st.rows st.txns st.lists x st.statements st.events) p ∙ lines_at_end cat (made st) st.statements
 
 small_if : (bytes : List ℕ) (w : Workload) (fault : WorkFault) (r : Result Workload WorkFault) (b : Bool) → cond b (Err fault) r ≡ Ok w → (b ≡ false) × (r ≡ Ok w)
 small_if bytes w fault r true e = absurd cc
@@ -308,12 +343,12 @@ lines_spelled [] = refl
 lines_spelled (l ∷ lines) = ap (λ (t : List ℕ). line_bytes l ++ 10 ∷ t) (lines_spelled lines) ∙ sym (append_assoc (line_bytes l) (10 ∷ []) (flat_map ended lines))
 
 -- a file that gives a workload spells it
-pub reads_spelling : (cat : Catalogue) (bytes : List ℕ) (w : Workload) → workload cat bytes ≡ Ok w → Accepts cat bytes w
-reads_spelling cat bytes w e =
-    let a = small_if bytes w _ (finished (walk_bytes cat 1 nothing_read bytes)) (nat_lt MAX_WORKLOAD_BYTES (length bytes)) e in
-    let b = finished_ok (walk_bytes cat 1 nothing_read bytes) w a.1 in
+pub reads_spelling : (cat : Catalogue) → IsSound cat → IsWhole cat → (bytes : List ℕ) (w : Workload) → workload cat bytes ≡ Ok w → Accepts cat bytes w
+reads_spelling cat sound whole bytes w e =
+    let a = small_if bytes w _ (finished (walk_bytes cat 1 (nothing_read cat) bytes)) (nat_lt MAX_WORKLOAD_BYTES (length bytes)) e in
+    let b = finished_ok (walk_bytes cat 1 (nothing_read cat) bytes) w a.1 in
     let st : State = b.0 in
-    let f = walk_takes cat 1 nothing_read st (cut_lines bytes).0 (cut_lines bytes).1 (nothing_sound cat) b.1 in
+    let f = walk_takes cat 1 (nothing_read cat) st (cut_lines bytes).0 (cut_lines bytes).1 (nothing_sound cat sound whole) b.1 in
     let place = ended_place st.place f.ended in
     let words : f.words ≡ lines_of cat (made st) = sym f.so ∙ state_spelled cat st place in
     let spelled : bytes ≡ spelling cat (made st) =

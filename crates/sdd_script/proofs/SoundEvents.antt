@@ -1,5 +1,5 @@
 -- An event, and the end, keep what holds in every state, and add themselves to the lines before.
-use Rattle.std.proofs.Common.{◌≡◌, ℕ, ◌<◌, List, [], ◌∷◌, ◌++◌, length, map, true, false, Result, Ok, refl, sym, ap, subst, ◌∙◌, arith, append-nil}
+use Rattle.std.proofs.Common.{◌≡◌, ℕ, ◌<◌, List, [], ◌∷◌, ◌++◌, length, map, Bool, true, false, Result, Ok, refl, sym, ap, subst, ◌∙◌, arith, append-nil}
 use Rattle.std.specs.Prelude.{codes, not, nat_lt, ◌==◌}
 use Rattle.std.specs.List.{filter_map}
 use Rattle.std.proofs.lemmas.Bool.{ltb-true}
@@ -11,18 +11,23 @@ use Rattle.sdd_base.specs.declared.event.Event.TheVariants.{Submit, Deliver, Los
 use Rattle.sdd_base.specs.declared.number.TxnNo.{TxnNo}
 use Rattle.sdd_catalog.specs.Catalogue.{Catalogue}
 use Rattle.sdd_catalog.proofs.NameLemmas.{list_any-map}
+use Rattle.sdd_catalog.specs.declared.parts.ClassPart.{ClassPart}
 use Rattle.sdd_lang.specs.declared.statement.Stmt.{Stmt}
 use Rattle.sdd_lang.specs.declared.transaction.Txn.{Txn}
 use Rattle.sdd_base.specs.Readings.{◌>>=◌, must}
 use Rattle.sdd_words.specs.declared.word.Word.{Word}
 use Rattle.sdd_words.specs.declared.word.Word.TheVariants.{Plain}
+use Rattle.sdd_script.specs.ClassLists.{joined}
 use Rattle.sdd_script.specs.LineRules.{is_submitted, with_submitted, with_event, event_rules, end_rules}
-use Rattle.sdd_script.specs.Places.{takes_events}
+use Rattle.sdd_script.specs.OpenLists.{classes_in, no_classes}
+use Rattle.sdd_script.specs.Places.{takes_events, open_list}
+use Rattle.sdd_script.specs.Redeclaring.{may_follow}
 use Rattle.sdd_script.specs.Spelling.{event_words, end_words}
 use Rattle.sdd_script.specs.Valid.{IsValidEvent, submitted_by, AreDistinct}
 use Rattle.sdd_script.specs.declared.fault.Counts.TheVariants as counts
 use Rattle.sdd_script.specs.declared.fault.WorkRule.{WorkRule}
-use Rattle.sdd_script.specs.declared.fault.WorkRule.TheVariants.{BadLine, SubmittedTwice, TooMany}
+use Rattle.sdd_script.specs.declared.fault.WorkRule.TheVariants.{BadEvent, BadLine, SubmittedTwice, TooMany}
+use Rattle.sdd_script.specs.declared.open_list.OpenList.{OpenList}
 use Rattle.sdd_script.specs.declared.place.Place.{Place}
 use Rattle.sdd_script.specs.declared.place.Place.TheVariants as places
 use Rattle.sdd_script.specs.declared.state.State.{State}
@@ -30,8 +35,9 @@ use Rattle.sdd_base.proofs.ReadingLaws.{bind_ok, ok_is}
 use Rattle.sdd_script.proofs.StepLaws.{must_then, not_true}
 use Rattle.sdd_script.proofs.WordCuts.{NonePasses}
 use Rattle.sdd_script.proofs.NamePlaces.{none_any, distinct_more}
+use Rattle.sdd_script.proofs.RedeclareLaws.{timely_more}
 use Rattle.sdd_script.proofs.SoFar.{so_far, InOrder, event_more, end_more}
-use Rattle.sdd_script.proofs.SoundStates.{Sound, Leads, names_of, open_name, all_more, one_longer}
+use Rattle.sdd_script.proofs.SoundStates.{Sound, Declares, Leads, names_of, open_name, all_more, one_longer}
 
 -- ---- an event
 
@@ -45,16 +51,30 @@ with_occurrence st e = record st { place = places.Events; events = st.events ++ 
 pub no_open : (place : Place) → takes_events place ≡ true → open_name place ≡ []
 no_open places.Rows t = refl
 no_open places.Between t = refl
+no_open places.Declared t = refl
 no_open places.Events t = refl
 no_open (places.Inside h) t = absurd cc
+no_open (places.Listing list) t = absurd cc
 no_open places.Ended t = absurd cc
 
-pub no_statements : (place : Place) (txns : List Txn) (ss : List Stmt) (events : List Event) → takes_events place ≡ true → InOrder place txns ss events → ss ≡ []
-no_statements places.Rows txns ss events t o = o.1
-no_statements places.Between txns ss events t o = o.0
-no_statements places.Events txns ss events t o = o
-no_statements (places.Inside h) txns ss events t o = absurd cc
-no_statements places.Ended txns ss events t o = absurd cc
+pub no_statements : (place : Place) (txns : List Txn) (lists : List (List ClassPart)) (ss : List Stmt) (events : List Event) → takes_events place ≡ true → InOrder place txns lists ss events → ss ≡ []
+no_statements places.Rows txns lists ss events t o = o.2
+no_statements places.Between txns lists ss events t o = o.1
+no_statements places.Declared txns lists ss events t o = o.0
+no_statements places.Events txns lists ss events t o = o
+no_statements (places.Inside h) txns lists ss events t o = absurd cc
+no_statements (places.Listing list) txns lists ss events t o = absurd cc
+no_statements places.Ended txns lists ss events t o = absurd cc
+
+-- no list is open there
+none_open : (place : Place) → takes_events place ≡ true → open_list place ≡ no_classes
+none_open places.Rows t = refl
+none_open places.Between t = refl
+none_open places.Declared t = refl
+none_open places.Events t = refl
+none_open (places.Inside h) t = absurd cc
+none_open (places.Listing list) t = absurd cc
+none_open places.Ended t = absurd cc
 
 abbrev numbers : List TxnNo → List ℕ
 numbers txns = map (λ (t : TxnNo). t.0) txns
@@ -88,8 +108,8 @@ once_more submitted events Redeclare h d other = same_distinct (filter_map submi
 once_more submitted events (Down dm) h d other = same_distinct (filter_map submitted_by events) (filter_map submitted_by (events ++ Down dm ∷ [])) d (sym (append-nil (filter_map submitted_by events)) ∙ sym (filter_map-append submitted_by events (Down dm ∷ [])))
 once_more submitted events (Up dm) h d other = same_distinct (filter_map submitted_by events) (filter_map submitted_by (events ++ Up dm ∷ [])) d (sym (append-nil (filter_map submitted_by events)) ∙ sym (filter_map-append submitted_by events (Up dm ∷ [])))
 
-event_sound : (cat : Catalogue) (st : State) (e : Event) → Sound cat st → takes_events st.place ≡ true → IsValidEvent cat (length st.txns) e → is_submitted st.submitted e ≡ false → length st.events < MAX_EVENTS → Sound cat (with_occurrence st e)
-event_sound cat st e s t valid other room = record {
+event_sound : (cat : Catalogue) (st : State) (e : Event) → Sound cat st → takes_events st.place ≡ true → IsValidEvent cat (length st.txns) e → is_submitted st.submitted e ≡ false → may_follow cat.dms (length st.lists) st.events e ≡ true → length st.events < MAX_EVENTS → Sound cat (with_occurrence st e)
+event_sound cat st e s t valid other may room = record {
   rows = s.rows;
   txns = s.txns;
   statements = s.statements;
@@ -98,6 +118,9 @@ event_sound cat st e s t valid other room = record {
   header = tt;
   names = s.names ∙ ap (λ (l : List (List ℕ)). names_of st.txns ++ l) (no_open st.place t);
   differ = s.differ;
+  declares = subst (λ (l : OpenList). Declares cat (joined st.lists ++ classes_in l) st.classes) (none_open st.place t) s.declares;
+  few_lists = omega (arith, s.few_lists);
+  timely = timely_more cat.dms (length st.lists) st.events e s.timely may;
   events = all_more (IsValidEvent cat (length st.txns)) st.events e s.events valid;
   submitted = submitted_more st.submitted st.events e s.submitted;
   once = once_more st.submitted st.events e s.submitted s.once other;
@@ -105,20 +128,22 @@ event_sound cat st e s t valid other room = record {
   few_rows = s.few_rows;
   few_txns = s.few_txns;
   few_events = omega (arith, room, one_longer st.events e);
-  order = no_statements st.place st.txns st.statements st.events t s.order;
+  order = no_statements st.place st.txns st.lists st.statements st.events t s.order;
 }
 
-pub event_leads : (cat : Catalogue) (st to : State) (key : List ℕ) (words : List Word) (reading : Result Event WorkRule) → Sound cat st → (takes_events st.place ≡ true → (e : Event) → reading ≡ Ok e → IsEvent cat st key words e) → event_rules st reading ≡ Ok to → Leads cat st to (Plain key ∷ words)
+pub event_leads : (cat : Catalogue) (st to : State) (key : List ℕ) (words : List Word) (reading : Result Event WorkRule) → Sound cat st → (takes_events st.place ≡ true → (e : Event) → reading ≡ Ok e → IsEvent cat st key words e) → event_rules cat st reading ≡ Ok to → Leads cat st to (Plain key ∷ words)
 event_leads cat st to key words reading s read h =
-    let a = must_then BadLine (takes_events st.place) (λ _. reading >>= λ event. with_event st event) to h in
-    let b = bind_ok reading (λ event. with_event st event) to a.1 in
+    let a = must_then BadLine (takes_events st.place) (λ _. reading >>= λ event. with_event cat st event) to h in
+    let b = bind_ok reading (λ event. with_event cat st event) to a.1 in
     let e : Event = b.0 in
-    let c = must_then SubmittedTwice (not (is_submitted st.submitted e)) (λ _. must (TooMany counts.Event) (nat_lt (length st.events) MAX_EVENTS) >>= λ _. Ok (with_occurrence st e)) to b.2 in
-    let d = must_then (TooMany counts.Event) (nat_lt (length st.events) MAX_EVENTS) (λ _. Ok (with_occurrence st e)) to c.1 in
+    let may : Bool = may_follow cat.dms (length st.lists) st.events e in
+    let c = must_then SubmittedTwice (not (is_submitted st.submitted e)) (λ _. must BadEvent may >>= λ _. must (TooMany counts.Event) (nat_lt (length st.events) MAX_EVENTS) >>= λ _. Ok (with_occurrence st e)) to b.2 in
+    let m = must_then BadEvent may (λ _. must (TooMany counts.Event) (nat_lt (length st.events) MAX_EVENTS) >>= λ _. Ok (with_occurrence st e)) to c.1 in
+    let d = must_then (TooMany counts.Event) (nat_lt (length st.events) MAX_EVENTS) (λ _. Ok (with_occurrence st e)) to m.1 in
     let r = read a.0 e b.1 in
     subst (λ (x : State). Leads cat st x (Plain key ∷ words)) (ok_is (with_occurrence st e) to d.1) (record {
-      sound = event_sound cat st e s a.0 r.valid (not_true (is_submitted st.submitted e) c.0) (ltb-true (length st.events) MAX_EVENTS d.0);
-      lines = event_more cat st.rows st.txns st.place st.statements st.events e a.0 ∙ ap (λ (l : List Word). so_far cat st ++ l ∷ []) (sym r.spelled);
+      sound = event_sound cat st e s a.0 r.valid (not_true (is_submitted st.submitted e) c.0) m.0 (ltb-true (length st.events) MAX_EVENTS d.0);
+      lines = event_more cat st.rows st.txns st.lists st.place st.statements st.events e a.0 ∙ ap (λ (l : List Word). so_far cat st ++ l ∷ []) (sym r.spelled);
     })
 
 -- ---- the end
@@ -136,6 +161,9 @@ end_sound cat st s t = record {
   header = tt;
   names = s.names ∙ ap (λ (l : List (List ℕ)). names_of st.txns ++ l) (no_open st.place t);
   differ = s.differ;
+  declares = subst (λ (l : OpenList). Declares cat (joined st.lists ++ classes_in l) st.classes) (none_open st.place t) s.declares;
+  few_lists = omega (arith, s.few_lists);
+  timely = s.timely;
   events = s.events;
   submitted = s.submitted;
   once = s.once;
@@ -143,7 +171,7 @@ end_sound cat st s t = record {
   few_rows = s.few_rows;
   few_txns = s.few_txns;
   few_events = s.few_events;
-  order = no_statements st.place st.txns st.statements st.events t s.order;
+  order = no_statements st.place st.txns st.lists st.statements st.events t s.order;
 }
 
 pub end_leads : (cat : Catalogue) (st to : State) (words : List Word) → Sound cat st → end_rules st words ≡ Ok to → Leads cat st to (Plain (codes "end") ∷ words)
@@ -151,6 +179,6 @@ end_leads cat st to [] s e =
     let a = must_then BadLine (takes_events st.place) (λ _. Ok (with_end st)) to e in
     subst (λ (x : State). Leads cat st x end_words) (ok_is (with_end st) to a.1) (record {
       sound = end_sound cat st s a.0;
-      lines = end_more cat st.rows st.txns st.place st.statements st.events a.0;
+      lines = end_more cat st.rows st.txns st.lists st.place st.statements st.events a.0;
     })
 end_leads cat st to (w ∷ words) s e = absurd cc

@@ -1,4 +1,4 @@
--- What holds in every state, and that each line keeps it and adds itself to the lines before.
+-- What holds in every state, and that each line of rows and transactions keeps it and adds itself to the lines before.
 use Rattle.std.proofs.Common.{◌≡◌, ℕ, ◌+◌, ◌<◌, ◌≤◌, List, [], ◌∷◌, ◌++◌, length, map, Bool, true, false, cond, ◌&&◌, Option, Some, None, Result, Ok, refl, sym, ap, subst, ◌∙◌, arith, append-nil}
 use Rattle.std.specs.Prelude.{codes, not, nat_lt, is_some, sum_by}
 use Rattle.std.specs.Str.{bytes_eq}
@@ -7,7 +7,7 @@ use Rattle.std.proofs.lemmas.Bool.{ltb-true}
 use Rattle.std.proofs.lemmas.List.{map-append, length-append}
 use Rattle.std.proofs.lemmas.List.Elements.{All-append, All-from_recursion}
 use Rattle.std.proofs.lemmas.List.Sums.{sum_by-append}
-use Rattle.sdd_base.specs.declared.limits.TheConstants.{MAX_ROWS, MAX_TXNS, MAX_EVENTS}
+use Rattle.sdd_base.specs.declared.limits.TheConstants.{MAX_CLASSES, MAX_ROWS, MAX_TXNS, MAX_EVENTS}
 use Rattle.sdd_base.specs.Name.{IsName, is_name}
 use Rattle.sdd_base.specs.declared.event.Event.{Event}
 use Rattle.sdd_base.specs.declared.number.RelNo.{RelNo}
@@ -17,6 +17,7 @@ use Rattle.sdd_base.specs.declared.site.Site.TheVariants.{T}
 use Rattle.sdd_base.specs.declared.value.Value.{Value}
 use Rattle.sdd_catalog.specs.Catalogue.{Catalogue}
 use Rattle.sdd_catalog.specs.Rules.{repeats}
+use Rattle.sdd_catalog.specs.declared.parts.ClassPart.{ClassPart}
 use Rattle.sdd_lang.specs.Fits.{IsFrom1To, FitsStatement}
 use Rattle.sdd_lang.specs.declared.statement.Stmt.{Stmt}
 use Rattle.sdd_lang.specs.declared.statement.Stmt.TheVariants as statements
@@ -27,15 +28,20 @@ use Rattle.sdd_words.specs.Names.{name_in}
 use Rattle.sdd_base.specs.Readings.{◌>>=◌, must, known}
 use Rattle.sdd_words.specs.declared.word.Word.{Word}
 use Rattle.sdd_words.specs.declared.word.Word.TheVariants.{Plain, Quoted}
-use Rattle.sdd_script.specs.LineRules.{row_rules, name_of, opened, txn_rules, statement_limits, one_more_row, written_with, with_statement, statement_rules, closed, done_rules}
+use Rattle.sdd_script.specs.ClassLists.{joined, all_classes, part_names}
+use Rattle.sdd_script.specs.LineRules.{row_rules, opened, txn_rules, statement_limits, one_more_row, written_with, with_statement, statement_rules, closed}
+use Rattle.sdd_script.specs.Naming.{name_of, class_names}
 use Rattle.sdd_script.specs.Occurrences.{tm_of}
-use Rattle.sdd_script.specs.Places.{takes_rows, takes_txns, takes_statements}
+use Rattle.sdd_script.specs.OpenLists.{classes_in, no_classes}
+use Rattle.sdd_script.specs.Places.{takes_rows, takes_txns, takes_statements, open_list}
 use Rattle.sdd_script.specs.Spelling.{start_words, header_words, done_words, site_word}
-use Rattle.sdd_script.specs.Valid.{IsValue, HoldsValues, IsValidRow, IsValidTxn, IsValidEvent, is_put, rows_put_by, submitted_by, AreDistinct}
+use Rattle.sdd_script.specs.Valid.{IsValue, HoldsValues, IsValidRow, IsValidTxn, IsValidEvent, IsValidClass, AreTimely, is_put, rows_put_by, submitted_by, AreDistinct}
 use Rattle.sdd_script.specs.Values.{row_of}
 use Rattle.sdd_script.specs.declared.fault.Counts.TheVariants as counts
 use Rattle.sdd_script.specs.declared.fault.WorkRule.{WorkRule}
 use Rattle.sdd_script.specs.declared.fault.WorkRule.TheVariants.{BadLine, UnknownName, DuplicateTxn, TooMany}
+use Rattle.sdd_script.specs.declared.limits.TheConstants.{MAX_LISTS}
+use Rattle.sdd_script.specs.declared.open_list.OpenList.{OpenList}
 use Rattle.sdd_script.specs.declared.place.Header.{Header}
 use Rattle.sdd_script.specs.declared.place.Place.{Place}
 use Rattle.sdd_script.specs.declared.place.Place.TheVariants as places
@@ -64,6 +70,18 @@ abbrev pub HeaderFits : Catalogue → Place → Type 0
 HeaderFits cat (places.Inside header) = IsName header.name × IsFrom1To cat.tms header.tm.0
 HeaderFits cat _ = Unit {0}
 
+-- so many classes with those of the catalogue: they are valid, and their names differ
+pub record Declares (cat : Catalogue) (classes : List ClassPart) (count : ℕ) : Type 0 where
+  pub valid : All (IsValidClass cat) classes
+  pub names : repeats (class_names cat ++ part_names classes) ≡ false
+  pub counted : count ≡ length cat.classes + length classes
+  pub few : count ≤ MAX_CLASSES
+
+-- how many lists are open
+abbrev pub lists_open : Place → ℕ
+lists_open (places.Listing list) = 1
+lists_open _ = 0
+
 pub record Sound (cat : Catalogue) (st : State) : Type 0 where
   pub rows : All (IsValidRow cat) st.rows
   pub txns : All (IsValidTxn cat) st.txns
@@ -73,6 +91,9 @@ pub record Sound (cat : Catalogue) (st : State) : Type 0 where
   pub header : HeaderFits cat st.place
   pub names : st.names ≡ names_of st.txns ++ open_name st.place
   pub differ : repeats st.names ≡ false
+  pub declares : Declares cat (all_classes st) st.classes
+  pub few_lists : length st.lists + lists_open st.place ≤ MAX_LISTS
+  pub timely : AreTimely cat.dms (length st.lists) st.events
   pub events : All (IsValidEvent cat (length st.txns)) st.events
   pub submitted : map (λ (t : TxnNo). t.0) st.submitted ≡ filter_map submitted_by st.events
   pub once : AreDistinct (filter_map submitted_by st.events)
@@ -80,7 +101,7 @@ pub record Sound (cat : Catalogue) (st : State) : Type 0 where
   pub few_rows : st.written ≤ MAX_ROWS
   pub few_txns : length st.names ≤ MAX_TXNS
   pub few_events : length st.events ≤ MAX_EVENTS
-  pub order : InOrder st.place st.txns st.statements st.events
+  pub order : InOrder st.place st.txns st.lists st.statements st.events
 
 -- a line leads from one state to the next
 pub record Leads (cat : Catalogue) (st to : State) (words : List Word) : Type 0 where
@@ -118,6 +139,9 @@ row_sound cat st r s v room = record {
   header = s.header;
   names = s.names;
   differ = s.differ;
+  declares = s.declares;
+  few_lists = s.few_lists;
+  timely = s.timely;
   events = s.events;
   submitted = s.submitted;
   once = s.once;
@@ -141,7 +165,7 @@ row_leads cat st to (name ∷ words) s e =
     let spelled : Plain (codes "row") ∷ name ∷ words ≡ start_words cat b.0 = ap (λ (l : List Word). Plain (codes "row") ∷ l) r.spelled in
     subst (λ (x : State). Leads cat st x (Plain (codes "row") ∷ name ∷ words)) (ap (with_row_at st b.0) n.0 ∙ ok_is (with_row_at st b.0 c.0) to c.2) (record {
       sound = row_sound cat st b.0 s valid n.1;
-      lines = row_more cat st.rows b.0 st.txns st.place st.statements st.events place s.order ∙ ap (λ (l : List Word). so_far cat st ++ l ∷ []) (sym spelled);
+      lines = row_more cat st.rows b.0 st.txns st.lists st.place st.statements st.events place s.order ∙ ap (λ (l : List Word). so_far cat st ++ l ∷ []) (sym spelled);
     })
 
 -- ---- a transaction opens
@@ -153,15 +177,30 @@ closed_name : (place : Place) → takes_txns place ≡ true → open_name place 
 closed_name places.Rows t = refl
 closed_name places.Between t = refl
 closed_name (places.Inside h) t = absurd cc
+closed_name (places.Listing list) t = absurd cc
+closed_name places.Declared t = absurd cc
 closed_name places.Events t = absurd cc
 closed_name places.Ended t = absurd cc
 
-no_events : (place : Place) (txns : List Txn) (ss : List Stmt) (events : List Event) → takes_txns place ≡ true → InOrder place txns ss events → events ≡ []
-no_events places.Rows txns ss events t o = o.2
-no_events places.Between txns ss events t o = o.1
-no_events (places.Inside h) txns ss events t o = absurd cc
-no_events places.Events txns ss events t o = absurd cc
-no_events places.Ended txns ss events t o = absurd cc
+no_more : (place : Place) (txns : List Txn) (lists : List (List ClassPart)) (ss : List Stmt) (events : List Event) → takes_txns place ≡ true → InOrder place txns lists ss events → (lists ≡ []) × (events ≡ [])
+no_more places.Rows txns lists ss events t o = (o.1, o.3)
+no_more places.Between txns lists ss events t o = (o.0, o.2)
+no_more (places.Inside h) txns lists ss events t o = absurd cc
+no_more (places.Listing list) txns lists ss events t o = absurd cc
+no_more places.Declared txns lists ss events t o = absurd cc
+no_more places.Events txns lists ss events t o = absurd cc
+no_more places.Ended txns lists ss events t o = absurd cc
+
+-- outside of lists none is open
+
+pub none_open : (place : Place) → takes_txns place ≡ true → open_list place ≡ no_classes
+none_open places.Rows t = refl
+none_open places.Between t = refl
+none_open (places.Inside h) t = refl
+none_open (places.Listing list) t = absurd cc
+none_open places.Declared t = refl
+none_open places.Events t = refl
+none_open places.Ended t = refl
 
 header_sound : (cat : Catalogue) (st : State) (h : Header) → Sound cat st → takes_txns st.place ≡ true → IsName h.name → IsFrom1To cat.tms h.tm.0 → NonePasses (bytes_eq h.name) st.names → length st.names < MAX_TXNS → Sound cat (with_header st h)
 header_sound cat st h s t named tm other room = record {
@@ -173,6 +212,9 @@ header_sound cat st h s t named tm other room = record {
   header = (named, tm);
   names = ap (λ (l : List (List ℕ)). l ++ h.name ∷ []) (s.names ∙ ap (λ (l : List (List ℕ)). names_of st.txns ++ l) (closed_name st.place t) ∙ append-nil (names_of st.txns));
   differ = repeats_not st.names h.name s.differ other;
+  declares = subst (λ (l : OpenList). Declares cat (joined st.lists ++ classes_in l) st.classes) (none_open st.place t) s.declares;
+  few_lists = omega (arith, s.few_lists);
+  timely = s.timely;
   events = s.events;
   submitted = s.submitted;
   once = s.once;
@@ -180,7 +222,7 @@ header_sound cat st h s t named tm other room = record {
   few_rows = s.few_rows;
   few_txns = omega (arith, room, one_longer st.names h.name);
   few_events = s.few_events;
-  order = no_events st.place st.txns st.statements st.events t s.order;
+  order = no_more st.place st.txns st.lists st.statements st.events t s.order;
 }
 
 abbrev some_name : List ℕ → Option (List ℕ)
@@ -193,11 +235,11 @@ name_if bytes name false e = absurd cc
 pub named_takes : (bytes name : List ℕ) → name_in bytes ≡ Some name → (is_name name ≡ true) × (bytes ≡ name)
 named_takes bytes name e = let h = name_if bytes name (is_name bytes) e in (subst (λ (l : List ℕ). is_name l ≡ true) h.1 h.0, h.1)
 
-name_of_takes : (w : Word) (name : List ℕ) → name_of w ≡ Ok name → (w ≡ Plain name) × (is_name name ≡ true)
+pub name_of_takes : (w : Word) (name : List ℕ) → name_of w ≡ Ok name → (w ≡ Plain name) × (is_name name ≡ true)
 name_of_takes (Plain bytes) name e = let h = named_takes bytes name (known_ok UnknownName (name_in bytes) name e) in (ap (λ (l : List ℕ). Plain l) h.1, h.0)
 name_of_takes (Quoted text) name e = absurd cc
 
-two_words : (k a b c d : Word) → a ≡ b → c ≡ d → k ∷ a ∷ c ∷ [] ≡ k ∷ b ∷ d ∷ []
+pub two_words : (k a b c d : Word) → a ≡ b → c ≡ d → k ∷ a ∷ c ∷ [] ≡ k ∷ b ∷ d ∷ []
 two_words k a b c d p q = cc
 
 abbrev header_of : List ℕ → TmNo → Header
@@ -220,7 +262,7 @@ txn_leads cat st to (word ∷ tm ∷ []) s e =
     let spelled : Plain (codes "txn") ∷ word ∷ tm ∷ [] ≡ header_words h.name h.tm = two_words (Plain (codes "txn")) word (Plain b.0) tm (site_word (T c.0)) n.0 t.0 in
     subst (λ (x : State). Leads cat st x (Plain (codes "txn") ∷ word ∷ tm ∷ [])) (ok_is (with_header st h) to f.1) (record {
       sound = header_sound cat st h s place n.1 t.1 other (ltb-true (length st.names) MAX_TXNS f.0);
-      lines = header_more cat st.rows st.txns st.place st.statements st.events h place s.order ∙ ap (λ (l : List Word). so_far cat st ++ l ∷ []) (sym spelled);
+      lines = header_more cat st.rows st.txns st.lists st.place st.statements st.events h place s.order ∙ ap (λ (l : List Word). so_far cat st ++ l ∷ []) (sym spelled);
     })
 txn_leads cat st to (a ∷ b ∷ c ∷ rest) s e = absurd cc
 
@@ -238,12 +280,14 @@ written_is written n (statements.Query out rels conds) few e = let h = some_is w
 written_is written n (statements.Update rel sets conds) few e = let h = some_is written n e in (omega (arith, h), omega (arith, few))
 written_is written n (statements.Delete rel conds) few e = let h = some_is written n e in (omega (arith, h), omega (arith, few))
 
-statement_order : (place : Place) (txns : List Txn) (ss other : List Stmt) (events : List Event) → takes_statements place ≡ true → InOrder place txns ss events → InOrder place txns other events
-statement_order (places.Inside h) txns ss other events t o = o
-statement_order places.Rows txns ss other events t o = absurd cc
-statement_order places.Between txns ss other events t o = absurd cc
-statement_order places.Events txns ss other events t o = absurd cc
-statement_order places.Ended txns ss other events t o = absurd cc
+statement_order : (place : Place) (txns : List Txn) (lists : List (List ClassPart)) (ss other : List Stmt) (events : List Event) → takes_statements place ≡ true → InOrder place txns lists ss events → InOrder place txns lists other events
+statement_order (places.Inside h) txns lists ss other events t o = o
+statement_order places.Rows txns lists ss other events t o = absurd cc
+statement_order places.Between txns lists ss other events t o = absurd cc
+statement_order (places.Listing list) txns lists ss other events t o = absurd cc
+statement_order places.Declared txns lists ss other events t o = absurd cc
+statement_order places.Events txns lists ss other events t o = absurd cc
+statement_order places.Ended txns lists ss other events t o = absurd cc
 
 sum_more : (w r t q x all : ℕ) → w ≡ r + t + q → all ≡ q + (0 + x) → w + x ≡ r + t + all
 sum_more w r t q x all e f = omega (arith, e, f)
@@ -258,6 +302,9 @@ statement_sound cat st q s t fits hold few room = record {
   header = s.header;
   names = s.names;
   differ = s.differ;
+  declares = s.declares;
+  few_lists = s.few_lists;
+  timely = s.timely;
   events = s.events;
   submitted = s.submitted;
   once = s.once;
@@ -265,7 +312,7 @@ statement_sound cat st q s t fits hold few room = record {
   few_rows = room;
   few_txns = s.few_txns;
   few_events = s.few_events;
-  order = statement_order st.place st.txns st.statements (st.statements ++ q ∷ []) st.events t s.order;
+  order = statement_order st.place st.txns st.lists st.statements (st.statements ++ q ∷ []) st.events t s.order;
 }
 
 pub statement_leads : (cat : Catalogue) (st to : State) (key : List ℕ) (words : List Word) (reading : Result Stmt WorkRule) → Sound cat st → ((q : Stmt) → reading ≡ Ok q → IsStatement cat key words q) → statement_rules st reading ≡ Ok to → Leads cat st to (Plain key ∷ words)
@@ -279,7 +326,7 @@ statement_leads cat st to key words reading s read e =
     let r = read q b.1 in
     subst (λ (x : State). Leads cat st x (Plain key ∷ words)) (ap (with_one_at st q) n.0 ∙ ok_is (with_one_at st q c.0) to d.2) (record {
       sound = statement_sound cat st q s a.0 (r.fits (length st.statements) d.0 d.1) r.values (limits_before (length st.statements) q d.0 d.1) n.1;
-      lines = statement_more cat st.rows st.txns st.place st.statements q st.events a.0 s.order ∙ ap (λ (l : List Word). so_far cat st ++ l ∷ []) (sym r.spelled);
+      lines = statement_more cat st.rows st.txns st.lists st.place st.statements q st.events a.0 s.order ∙ ap (λ (l : List Word). so_far cat st ++ l ∷ []) (sym r.spelled);
     })
 
 -- ---- a transaction ends
@@ -287,7 +334,7 @@ statement_leads cat st to key words reading s read e =
 abbrev with_done : State → Header → State
 with_done st h = record st { place = places.Between; txns = st.txns ++ txn_with h st.statements ∷ []; statements = [] }
 
-abbrev at_place : State → Place → State
+abbrev pub at_place : State → Place → State
 at_place st p = record st { place = p }
 
 sum_closed : (w r t q all : ℕ) → w ≡ r + t + q → all ≡ t + (0 + q) → w ≡ r + all + 0
@@ -303,27 +350,22 @@ done_sound cat st h s = record {
   header = tt;
   names = s.names ∙ sym (map-append (λ (t : Txn). t.name) st.txns (txn_with h st.statements ∷ [])) ∙ sym (append-nil (names_of (st.txns ++ txn_with h st.statements ∷ [])));
   differ = s.differ;
-  events = subst (λ (es : List Event). All (IsValidEvent cat (length (st.txns ++ txn_with h st.statements ∷ []))) es) (sym s.order) (All-from_recursion (IsValidEvent cat (length (st.txns ++ txn_with h st.statements ∷ []))) [] tt);
+  declares = s.declares;
+  few_lists = s.few_lists;
+  timely = s.timely;
+  events = subst (λ (es : List Event). All (IsValidEvent cat (length (st.txns ++ txn_with h st.statements ∷ []))) es) (sym s.order.1) (All-from_recursion (IsValidEvent cat (length (st.txns ++ txn_with h st.statements ∷ []))) [] tt);
   submitted = s.submitted;
   once = s.once;
   written = sum_closed st.written (length st.rows) (sum_by rows_put_by st.txns) (sum_by rows_put st.statements) (sum_by rows_put_by (st.txns ++ txn_with h st.statements ∷ [])) s.written (sum_by-append rows_put_by st.txns (txn_with h st.statements ∷ []));
   few_rows = s.few_rows;
   few_txns = s.few_txns;
   few_events = s.few_events;
-  order = (refl, s.order);
+  order = (s.order.0, refl, s.order.1);
 }
 
-closed_leads : (cat : Catalogue) (st to : State) (p : Place) → Sound cat (at_place st p) → closed p st ≡ Ok to → Leads cat (at_place st p) to done_words
-closed_leads cat st to (places.Inside h) s e =
+pub txn_closed : (cat : Catalogue) (st to : State) (h : Header) → Sound cat (at_place st (places.Inside h)) → closed (places.Inside h) st ≡ Ok to → Leads cat (at_place st (places.Inside h)) to done_words
+txn_closed cat st to h s e =
     subst (λ (x : State). Leads cat (at_place st (places.Inside h)) x done_words) (ok_is (with_done st h) to e) (record {
       sound = done_sound cat st h s;
-      lines = done_more cat st.rows st.txns h st.statements st.events s.order;
+      lines = done_more cat st.rows st.txns st.lists h st.statements st.events s.order;
     })
-closed_leads cat st to places.Rows s e = absurd cc
-closed_leads cat st to places.Between s e = absurd cc
-closed_leads cat st to places.Events s e = absurd cc
-closed_leads cat st to places.Ended s e = absurd cc
-
-pub done_leads : (cat : Catalogue) (st to : State) (words : List Word) → Sound cat st → done_rules st words ≡ Ok to → Leads cat st to (Plain (codes "done") ∷ words)
-done_leads cat st to [] s e = closed_leads cat st to st.place s e
-done_leads cat st to (w ∷ words) s e = absurd cc

@@ -18,6 +18,7 @@ use Rattle.sdd_base.specs.declared.site.Site.TheVariants.{T, D}
 use Rattle.sdd_base.specs.declared.value.Value.{Value}
 use Rattle.sdd_catalog.specs.Catalogue.{Catalogue}
 use Rattle.sdd_catalog.specs.Rules.{repeats}
+use Rattle.sdd_catalog.specs.declared.parts.ClassPart.{ClassPart}
 use Rattle.sdd_catalog.proofs.NameLemmas.{list_any-map}
 use Rattle.sdd_lang.specs.Fits.{IsFrom1To}
 use Rattle.sdd_lang.specs.declared.transaction.Txn.{Txn}
@@ -30,14 +31,15 @@ use Rattle.sdd_words.specs.declared.word.Word.TheVariants.{Plain}
 use Rattle.sdd_words.proofs.Spelled.{cut_again}
 use Rattle.sdd_base.specs.declared.site.Site.{Site}
 use Rattle.sdd_script.specs.LineRules.{is_submitted, with_submitted, with_event, event_rules}
-use Rattle.sdd_script.specs.Occurrences.{number_named, txn_named, submit_of, deliver_of, lose_of, repeat_of, resend_of, tick_of, settle_of, down_of, up_of}
-use Rattle.sdd_script.specs.Places.{takes_txns, takes_events, is_ended}
-use Rattle.sdd_script.specs.Spelling.{start_words, event_words, end_words, name_of_txn, txn_lines, site_word, count_word, lines_of, spelling}
-use Rattle.sdd_script.specs.Valid.{IsValidRow, IsValidTxn, IsValidEvent, IsValid, rows_put_by, submitted_by, AreDistinct}
+use Rattle.sdd_script.specs.Occurrences.{number_named, txn_named, submit_of, deliver_of, lose_of, repeat_of, resend_of, tick_of, settle_of, redeclare_of, down_of, up_of}
+use Rattle.sdd_script.specs.Places.{takes_txns, takes_lists, takes_events, is_ended}
+use Rattle.sdd_script.specs.Redeclaring.{may_follow}
+use Rattle.sdd_script.specs.Spelling.{start_words, event_words, end_words, name_of_txn, txn_lines, list_lines, site_word, count_word, lines_of, spelling}
+use Rattle.sdd_script.specs.Valid.{IsValidRow, IsValidTxn, IsValidEvent, IsValid, AreTimely, rows_put_by, submitted_by, AreDistinct}
 use Rattle.sdd_script.specs.Walk.{walk, walk_bytes, nothing_read, finished, workload}
 use Rattle.sdd_script.specs.declared.fault.Counts.TheVariants as counts
 use Rattle.sdd_script.specs.declared.fault.WorkRule.{WorkRule}
-use Rattle.sdd_script.specs.declared.fault.WorkRule.TheVariants.{BadLine, UnknownName, SubmittedTwice, TooMany, TooLong}
+use Rattle.sdd_script.specs.declared.fault.WorkRule.TheVariants.{BadEvent, BadLine, UnknownName, SubmittedTwice, TooMany, TooLong}
 use Rattle.sdd_script.specs.declared.keyword.Keyword.TheVariants as keys
 use Rattle.sdd_script.specs.declared.keyword.EventKey.TheVariants as ekeys
 use Rattle.sdd_script.specs.declared.place.Place.{Place}
@@ -51,13 +53,15 @@ use Rattle.sdd_script.proofs.NamePlaces.{any_none, place_of_name, apart_from}
 use Rattle.sdd_script.proofs.SoundStates.{names_of}
 use Rattle.sdd_script.proofs.ReadingLaws.{name_at_number, lines_spelled}
 use Rattle.sdd_script.proofs.SpellingLaws.{IsStep, Chain, chain-append, chain_lines, chain_walk, line_step, state_of, of_rows, rows_chain, txns_chain}
+use Rattle.sdd_script.proofs.ListChains.{lists_read}
+use Rattle.sdd_script.proofs.RedeclareLaws.{timely_may}
 use Rattle.sdd_script.proofs.FineLines.{keyword_fine, NamesOne, event_fine}
 
 abbrev numbers : List TxnNo → List ℕ
 numbers submitted = map (λ (t : TxnNo). t.0) submitted
 
-abbrev scheduled : Place → List (RelNo × List Value) → ℕ → List Txn → List TxnNo → List Event → State
-scheduled place rows written txns submitted events = state_of place rows written (names_of txns) txns [] submitted events
+abbrev scheduled : Place → List (RelNo × List Value) → ℕ → List Txn → List (List ClassPart) → ℕ → List TxnNo → List Event → State
+scheduled place rows written txns lists classes submitted events = state_of place rows written (names_of txns) txns [] lists classes submitted events
 
 -- ---- the transaction that an event submits
 
@@ -128,143 +132,168 @@ fresh submitted (Up dm) es d = record { new = refl; distinct = d }
 still : (place : Place) → takes_events place ≡ true → is_ended place ≡ false
 still places.Rows t = refl
 still places.Between t = refl
+still places.Declared t = refl
 still places.Events t = refl
 still (places.Inside h) t = absurd cc
+still (places.Listing list) t = absurd cc
 still places.Ended t = absurd cc
 
-event_rules_again : (place : Place) (rows : List (RelNo × List Value)) (written : ℕ) (txns : List Txn) (submitted : List TxnNo) (events : List Event) (e : Event) (reading : Result Event WorkRule)
-    → reading ≡ Ok e → takes_events place ≡ true → is_submitted submitted e ≡ false → length events < MAX_EVENTS
-    → event_rules (scheduled place rows written txns submitted events) reading ≡ Ok (scheduled places.Events rows written txns (with_submitted submitted e) (events ++ e ∷ []))
-event_rules_again place rows written txns submitted events e reading r t new room =
-    let st : State = scheduled place rows written txns submitted events in
-    let to : State = scheduled places.Events rows written txns (with_submitted submitted e) (events ++ e ∷ []) in
-    let c : ltb (length events) MAX_EVENTS ≡ true = lt-ltb (length events) MAX_EVENTS room in
-    ap (λ (b : Bool). must BadLine b >>= λ _. reading >>= λ event. with_event st event) t
-    ∙ ap (λ (q : Result Event WorkRule). q >>= λ event. with_event st event) r
-    ∙ ap (λ (b : Bool). must SubmittedTwice (not b) >>= λ _. must (TooMany counts.Event) (nat_lt (length events) MAX_EVENTS) >>= λ _. Ok to) new
-    ∙ ap (λ (b : Bool). must (TooMany counts.Event) b >>= λ _. Ok to) c
-
-record CanStand (place : Place) (submitted : List TxnNo) (events : List Event) (e : Event) : Type 0 where
+record CanStand (cat : Catalogue) (place : Place) (lists : List (List ClassPart)) (submitted : List TxnNo) (events : List Event) (e : Event) : Type 0 where
   takes : takes_events place ≡ true
   new : is_submitted submitted e ≡ false
+  may : may_follow cat.dms (length lists) events e ≡ true
   room : length events < MAX_EVENTS
 
-event_step : (cat : Catalogue) → IsKnown cat → (place : Place) (rows : List (RelNo × List Value)) (written : ℕ) (txns : List Txn) (submitted : List TxnNo) (events : List Event) (e : Event)
-    → All (IsValidTxn cat) txns → repeats (names_of txns) ≡ false → IsValidEvent cat (length txns) e → CanStand place submitted events e
-    → IsStep cat (scheduled place rows written txns submitted events) (scheduled places.Events rows written txns (with_submitted submitted e) (events ++ e ∷ [])) (line_bytes (event_words txns e))
-event_step cat k place rows written txns submitted events (Submit txn) valid differ h c =
+event_rules_again : (cat : Catalogue) (place : Place) (rows : List (RelNo × List Value)) (written : ℕ) (txns : List Txn) (lists : List (List ClassPart)) (classes : ℕ) (submitted : List TxnNo) (events : List Event) (e : Event) (reading : Result Event WorkRule)
+    → reading ≡ Ok e → CanStand cat place lists submitted events e
+    → event_rules cat (scheduled place rows written txns lists classes submitted events) reading ≡ Ok (scheduled places.Events rows written txns lists classes (with_submitted submitted e) (events ++ e ∷ []))
+event_rules_again cat place rows written txns lists classes submitted events e reading r h =
+    let st : State = scheduled place rows written txns lists classes submitted events in
+    let to : State = scheduled places.Events rows written txns lists classes (with_submitted submitted e) (events ++ e ∷ []) in
+    let c : ltb (length events) MAX_EVENTS ≡ true = lt-ltb (length events) MAX_EVENTS h.room in
+    ap (λ (b : Bool). must BadLine b >>= λ _. reading >>= λ event. with_event cat st event) h.takes
+    ∙ ap (λ (q : Result Event WorkRule). q >>= λ event. with_event cat st event) r
+    ∙ ap (λ (b : Bool). must SubmittedTwice (not b) >>= λ _. must BadEvent (may_follow cat.dms (length lists) events e) >>= λ _. must (TooMany counts.Event) (nat_lt (length events) MAX_EVENTS) >>= λ _. Ok to) h.new
+    ∙ ap (λ (b : Bool). must BadEvent b >>= λ _. must (TooMany counts.Event) (nat_lt (length events) MAX_EVENTS) >>= λ _. Ok to) h.may
+    ∙ ap (λ (b : Bool). must (TooMany counts.Event) b >>= λ _. Ok to) c
+
+event_step : (cat : Catalogue) → IsKnown cat → (place : Place) (rows : List (RelNo × List Value)) (written : ℕ) (txns : List Txn) (lists : List (List ClassPart)) (classes : ℕ) (submitted : List TxnNo) (events : List Event) (e : Event)
+    → All (IsValidTxn cat) txns → repeats (names_of txns) ≡ false → IsValidEvent cat (length txns) e → CanStand cat place lists submitted events e
+    → IsStep cat (scheduled place rows written txns lists classes submitted events) (scheduled places.Events rows written txns lists classes (with_submitted submitted e) (events ++ e ∷ [])) (line_bytes (event_words txns e))
+event_step cat k place rows written txns lists classes submitted events (Submit txn) valid differ h c =
     let e : Event = Submit txn in
-    line_step cat (scheduled place rows written txns submitted events) (scheduled places.Events rows written txns (with_submitted submitted e) (events ++ e ∷ [])) (keys.Event ekeys.Submit) (Plain (name_of_txn txns txn.0) ∷ []) (still place c.takes) (event_fine cat k txns e h (names_one cat txns e valid h))
-    (event_rules_again place rows written txns submitted events e (submit_of (names_of txns) (Plain (name_of_txn txns txn.0) ∷ [])) (submit_again cat txns txn valid differ h) c.takes c.new c.room)
-event_step cat k place rows written txns submitted events (Deliver from to n) valid differ h c =
+    line_step cat (scheduled place rows written txns lists classes submitted events) (scheduled places.Events rows written txns lists classes (with_submitted submitted e) (events ++ e ∷ [])) (keys.Event ekeys.Submit) (Plain (name_of_txn txns txn.0) ∷ []) (still place c.takes) (event_fine cat k txns e h (names_one cat txns e valid h))
+    (event_rules_again cat place rows written txns lists classes submitted events e (submit_of (names_of txns) (Plain (name_of_txn txns txn.0) ∷ [])) (submit_again cat txns txn valid differ h) c)
+event_step cat k place rows written txns lists classes submitted events (Deliver from to n) valid differ h c =
     let e : Event = Deliver from to n in
     let ws : List Word = site_word from ∷ site_word to ∷ count_word n ∷ [] in
-    line_step cat (scheduled place rows written txns submitted events) (scheduled places.Events rows written txns (with_submitted submitted e) (events ++ e ∷ [])) (keys.Event ekeys.Deliver) ws (still place c.takes) (event_fine cat k txns e h tt)
-    (event_rules_again place rows written txns submitted events e (deliver_of cat ws) (ap (λ (r : Result (Site × Site × ℕ) WorkRule). r >>= λ (p : Site × Site × ℕ). Ok (Deliver p.0 p.1 p.2)) (place_again cat k from to n h.0 h.1)) c.takes c.new c.room)
-event_step cat k place rows written txns submitted events (Lose from to n) valid differ h c =
+    line_step cat (scheduled place rows written txns lists classes submitted events) (scheduled places.Events rows written txns lists classes (with_submitted submitted e) (events ++ e ∷ [])) (keys.Event ekeys.Deliver) ws (still place c.takes) (event_fine cat k txns e h tt)
+    (event_rules_again cat place rows written txns lists classes submitted events e (deliver_of cat ws) (ap (λ (r : Result (Site × Site × ℕ) WorkRule). r >>= λ (p : Site × Site × ℕ). Ok (Deliver p.0 p.1 p.2)) (place_again cat k from to n h.0 h.1)) c)
+event_step cat k place rows written txns lists classes submitted events (Lose from to n) valid differ h c =
     let e : Event = Lose from to n in
     let ws : List Word = site_word from ∷ site_word to ∷ count_word n ∷ [] in
-    line_step cat (scheduled place rows written txns submitted events) (scheduled places.Events rows written txns (with_submitted submitted e) (events ++ e ∷ [])) (keys.Event ekeys.Lose) ws (still place c.takes) (event_fine cat k txns e h tt)
-    (event_rules_again place rows written txns submitted events e (lose_of cat ws) (ap (λ (r : Result (Site × Site × ℕ) WorkRule). r >>= λ (p : Site × Site × ℕ). Ok (Lose p.0 p.1 p.2)) (place_again cat k from to n h.0 h.1)) c.takes c.new c.room)
-event_step cat k place rows written txns submitted events (Repeat from to n) valid differ h c =
+    line_step cat (scheduled place rows written txns lists classes submitted events) (scheduled places.Events rows written txns lists classes (with_submitted submitted e) (events ++ e ∷ [])) (keys.Event ekeys.Lose) ws (still place c.takes) (event_fine cat k txns e h tt)
+    (event_rules_again cat place rows written txns lists classes submitted events e (lose_of cat ws) (ap (λ (r : Result (Site × Site × ℕ) WorkRule). r >>= λ (p : Site × Site × ℕ). Ok (Lose p.0 p.1 p.2)) (place_again cat k from to n h.0 h.1)) c)
+event_step cat k place rows written txns lists classes submitted events (Repeat from to n) valid differ h c =
     let e : Event = Repeat from to n in
     let ws : List Word = site_word from ∷ site_word to ∷ count_word n ∷ [] in
-    line_step cat (scheduled place rows written txns submitted events) (scheduled places.Events rows written txns (with_submitted submitted e) (events ++ e ∷ [])) (keys.Event ekeys.Repeat) ws (still place c.takes) (event_fine cat k txns e h tt)
-    (event_rules_again place rows written txns submitted events e (repeat_of cat ws) (ap (λ (r : Result (Site × Site × ℕ) WorkRule). r >>= λ (p : Site × Site × ℕ). Ok (Repeat p.0 p.1 p.2)) (place_again cat k from to n h.0 h.1)) c.takes c.new c.room)
-event_step cat k place rows written txns submitted events (Resend from to) valid differ h c =
+    line_step cat (scheduled place rows written txns lists classes submitted events) (scheduled places.Events rows written txns lists classes (with_submitted submitted e) (events ++ e ∷ [])) (keys.Event ekeys.Repeat) ws (still place c.takes) (event_fine cat k txns e h tt)
+    (event_rules_again cat place rows written txns lists classes submitted events e (repeat_of cat ws) (ap (λ (r : Result (Site × Site × ℕ) WorkRule). r >>= λ (p : Site × Site × ℕ). Ok (Repeat p.0 p.1 p.2)) (place_again cat k from to n h.0 h.1)) c)
+event_step cat k place rows written txns lists classes submitted events (Resend from to) valid differ h c =
     let e : Event = Resend from to in
     let ws : List Word = site_word from ∷ site_word to ∷ [] in
-    line_step cat (scheduled place rows written txns submitted events) (scheduled places.Events rows written txns (with_submitted submitted e) (events ++ e ∷ [])) (keys.Event ekeys.Resend) ws (still place c.takes) (event_fine cat k txns e h tt)
-    (event_rules_again place rows written txns submitted events e (resend_of cat ws) (resend_again cat k from to h) c.takes c.new c.room)
-event_step cat k place rows written txns submitted events (Tick tm n) valid differ h c =
+    line_step cat (scheduled place rows written txns lists classes submitted events) (scheduled places.Events rows written txns lists classes (with_submitted submitted e) (events ++ e ∷ [])) (keys.Event ekeys.Resend) ws (still place c.takes) (event_fine cat k txns e h tt)
+    (event_rules_again cat place rows written txns lists classes submitted events e (resend_of cat ws) (resend_again cat k from to h) c)
+event_step cat k place rows written txns lists classes submitted events (Tick tm n) valid differ h c =
     let e : Event = Tick tm n in
     let ws : List Word = site_word (T tm) ∷ count_word n ∷ [] in
-    line_step cat (scheduled place rows written txns submitted events) (scheduled places.Events rows written txns (with_submitted submitted e) (events ++ e ∷ [])) (keys.Event ekeys.Tick) ws (still place c.takes) (event_fine cat k txns e h tt)
-    (event_rules_again place rows written txns submitted events e (tick_of cat ws) (tick_again cat k tm n h.0 h.1) c.takes c.new c.room)
-event_step cat k place rows written txns submitted events Settle valid differ h c =
-    line_step cat (scheduled place rows written txns submitted events) (scheduled places.Events rows written txns submitted (events ++ Settle ∷ [])) (keys.Event ekeys.Settle) [] (still place c.takes) (event_fine cat k txns Settle h tt)
-    (event_rules_again place rows written txns submitted events Settle (settle_of []) refl c.takes c.new c.room)
-event_step cat k place rows written txns submitted events Redeclare valid differ h c = absurd h
-event_step cat k place rows written txns submitted events (Down dm) valid differ h c =
+    line_step cat (scheduled place rows written txns lists classes submitted events) (scheduled places.Events rows written txns lists classes (with_submitted submitted e) (events ++ e ∷ [])) (keys.Event ekeys.Tick) ws (still place c.takes) (event_fine cat k txns e h tt)
+    (event_rules_again cat place rows written txns lists classes submitted events e (tick_of cat ws) (tick_again cat k tm n h.0 h.1) c)
+event_step cat k place rows written txns lists classes submitted events Settle valid differ h c =
+    line_step cat (scheduled place rows written txns lists classes submitted events) (scheduled places.Events rows written txns lists classes submitted (events ++ Settle ∷ [])) (keys.Event ekeys.Settle) [] (still place c.takes) (event_fine cat k txns Settle h tt)
+    (event_rules_again cat place rows written txns lists classes submitted events Settle (settle_of []) refl c)
+event_step cat k place rows written txns lists classes submitted events Redeclare valid differ h c =
+    line_step cat (scheduled place rows written txns lists classes submitted events) (scheduled places.Events rows written txns lists classes submitted (events ++ Redeclare ∷ [])) (keys.Event ekeys.Redeclare) [] (still place c.takes) (event_fine cat k txns Redeclare h tt)
+    (event_rules_again cat place rows written txns lists classes submitted events Redeclare (redeclare_of []) refl c)
+event_step cat k place rows written txns lists classes submitted events (Down dm) valid differ h c =
     let e : Event = Down dm in
     let ws : List Word = site_word (D dm) ∷ [] in
-    line_step cat (scheduled place rows written txns submitted events) (scheduled places.Events rows written txns (with_submitted submitted e) (events ++ e ∷ [])) (keys.Event ekeys.Down) ws (still place c.takes) (event_fine cat k txns e h tt)
-    (event_rules_again place rows written txns submitted events e (down_of cat ws) (down_again cat k dm h) c.takes c.new c.room)
-event_step cat k place rows written txns submitted events (Up dm) valid differ h c =
+    line_step cat (scheduled place rows written txns lists classes submitted events) (scheduled places.Events rows written txns lists classes (with_submitted submitted e) (events ++ e ∷ [])) (keys.Event ekeys.Down) ws (still place c.takes) (event_fine cat k txns e h tt)
+    (event_rules_again cat place rows written txns lists classes submitted events e (down_of cat ws) (down_again cat k dm h) c)
+event_step cat k place rows written txns lists classes submitted events (Up dm) valid differ h c =
     let e : Event = Up dm in
     let ws : List Word = site_word (D dm) ∷ [] in
-    line_step cat (scheduled place rows written txns submitted events) (scheduled places.Events rows written txns (with_submitted submitted e) (events ++ e ∷ [])) (keys.Event ekeys.Up) ws (still place c.takes) (event_fine cat k txns e h tt)
-    (event_rules_again place rows written txns submitted events e (up_of cat ws) (up_again cat k dm h) c.takes c.new c.room)
+    line_step cat (scheduled place rows written txns lists classes submitted events) (scheduled places.Events rows written txns lists classes (with_submitted submitted e) (events ++ e ∷ [])) (keys.Event ekeys.Up) ws (still place c.takes) (event_fine cat k txns e h tt)
+    (event_rules_again cat place rows written txns lists classes submitted events e (up_of cat ws) (up_again cat k dm h) c)
 
-record AreEvents (cat : Catalogue) (st : State) (lines : List (List ℕ)) (rows : List (RelNo × List Value)) (written : ℕ) (txns : List Txn) (events : List Event) : Type 0 where
+record AreEvents (cat : Catalogue) (st : State) (lines : List (List ℕ)) (rows : List (RelNo × List Value)) (written : ℕ) (txns : List Txn) (lists : List (List ClassPart)) (classes : ℕ) (events : List Event) : Type 0 where
   place : Place
   submitted : List TxnNo
   takes : takes_events place ≡ true
-  chain : Chain cat st lines (scheduled place rows written txns submitted events)
+  chain : Chain cat st lines (scheduled place rows written txns lists classes submitted events)
 
-events_chain : (cat : Catalogue) → IsKnown cat → (rows : List (RelNo × List Value)) (written : ℕ) (txns : List Txn) → All (IsValidTxn cat) txns → repeats (names_of txns) ≡ false
-    → (es : List Event) (place : Place) (submitted : List TxnNo) (events : List Event) → takes_events place ≡ true → AllByRecursion (IsValidEvent cat (length txns)) es → AreDistinct (numbers submitted ++ filter_map submitted_by es) → length events + length es ≤ MAX_EVENTS
-    → AreEvents cat (scheduled place rows written txns submitted events) (map line_bytes (map (event_words txns) es)) rows written txns (events ++ es)
-events_chain cat k rows written txns valid differ [] place submitted events t h d few = record { place = place; submitted = submitted; takes = t; chain = ap (scheduled place rows written txns submitted) (sym (append-nil events)) }
-events_chain cat k rows written txns valid differ (e ∷ es) place submitted events t h d few =
+events_chain : (cat : Catalogue) → IsKnown cat → (rows : List (RelNo × List Value)) (written : ℕ) (txns : List Txn) (lists : List (List ClassPart)) (classes : ℕ) → All (IsValidTxn cat) txns → repeats (names_of txns) ≡ false
+    → (es : List Event) (place : Place) (submitted : List TxnNo) (events : List Event) → takes_events place ≡ true → AllByRecursion (IsValidEvent cat (length txns)) es → AreDistinct (numbers submitted ++ filter_map submitted_by es) → length events + length es ≤ MAX_EVENTS → AreTimely cat.dms (length lists) (events ++ es)
+    → AreEvents cat (scheduled place rows written txns lists classes submitted events) (map line_bytes (map (event_words txns) es)) rows written txns lists classes (events ++ es)
+events_chain cat k rows written txns lists classes valid differ [] place submitted events t h d few y = record { place = place; submitted = submitted; takes = t; chain = ap (scheduled place rows written txns lists classes submitted) (sym (append-nil events)) }
+events_chain cat k rows written txns lists classes valid differ (e ∷ es) place submitted events t h d few y =
     let f = fresh submitted e es d in
     let len : length (events ++ e ∷ []) ≡ length events + 1 = length-append events (e ∷ []) in
-    let one = event_step cat k place rows written txns submitted events e valid differ h.0 (record { takes = t; new = f.new; room = omega (arith, few) }) in
-    let more = events_chain cat k rows written txns valid differ es places.Events (with_submitted submitted e) (events ++ e ∷ []) refl h.1 f.distinct (omega (arith, few, len)) in
-    let mid : State = scheduled places.Events rows written txns (with_submitted submitted e) (events ++ e ∷ []) in
+    let one = event_step cat k place rows written txns lists classes submitted events e valid differ h.0 (record { takes = t; new = f.new; may = timely_may cat.dms (length lists) events e es y; room = omega (arith, few) }) in
+    let joined_on : (events ++ e ∷ []) ++ es ≡ events ++ e ∷ es = append_assoc events (e ∷ []) es in
+    let more = events_chain cat k rows written txns lists classes valid differ es places.Events (with_submitted submitted e) (events ++ e ∷ []) refl h.1 f.distinct (omega (arith, few, len)) (subst (AreTimely cat.dms (length lists)) (sym joined_on) y) in
+    let mid : State = scheduled places.Events rows written txns lists classes (with_submitted submitted e) (events ++ e ∷ []) in
     record {
       place = more.place;
       submitted = more.submitted;
       takes = more.takes;
-      chain = (mid, one, subst (λ (l : List Event). Chain cat mid (map line_bytes (map (event_words txns) es)) (scheduled more.place rows written txns more.submitted l)) (append_assoc events (e ∷ []) es) more.chain);
+      chain = (mid, one, subst (λ (l : List Event). Chain cat mid (map line_bytes (map (event_words txns) es)) (scheduled more.place rows written txns lists classes more.submitted l)) joined_on more.chain);
     }
 
 -- ---- the whole
 
-events_from : (place : Place) → takes_txns place ≡ true → takes_events place ≡ true
+lists_from : (place : Place) → takes_txns place ≡ true → takes_lists place ≡ true
+lists_from places.Rows t = refl
+lists_from places.Between t = refl
+lists_from (places.Inside h) t = absurd cc
+lists_from (places.Listing list) t = absurd cc
+lists_from places.Declared t = absurd cc
+lists_from places.Events t = absurd cc
+lists_from places.Ended t = absurd cc
+
+events_from : (place : Place) → takes_lists place ≡ true → takes_events place ≡ true
 events_from places.Rows t = refl
 events_from places.Between t = refl
+events_from places.Declared t = refl
 events_from (places.Inside h) t = absurd cc
+events_from (places.Listing list) t = absurd cc
 events_from places.Events t = absurd cc
 events_from places.Ended t = absurd cc
 
-end_step : (cat : Catalogue) (place : Place) (rows : List (RelNo × List Value)) (written : ℕ) (txns : List Txn) (submitted : List TxnNo) (events : List Event) → takes_events place ≡ true
-    → IsStep cat (scheduled place rows written txns submitted events) (scheduled places.Ended rows written txns submitted events) (line_bytes end_words)
-end_step cat place rows written txns submitted events t =
-    line_step cat (scheduled place rows written txns submitted events) (scheduled places.Ended rows written txns submitted events) keys.End [] (still place t) (keyword_fine keys.End, tt)
-    (ap (λ (b : Bool). must BadLine b >>= λ _. Ok (scheduled places.Ended rows written txns submitted events)) t)
+end_step : (cat : Catalogue) (place : Place) (rows : List (RelNo × List Value)) (written : ℕ) (txns : List Txn) (lists : List (List ClassPart)) (classes : ℕ) (submitted : List TxnNo) (events : List Event) → takes_events place ≡ true
+    → IsStep cat (scheduled place rows written txns lists classes submitted events) (scheduled places.Ended rows written txns lists classes submitted events) (line_bytes end_words)
+end_step cat place rows written txns lists classes submitted events t =
+    line_step cat (scheduled place rows written txns lists classes submitted events) (scheduled places.Ended rows written txns lists classes submitted events) keys.End [] (still place t) (keyword_fine keys.End, tt)
+    (ap (λ (b : Bool). must BadLine b >>= λ _. Ok (scheduled places.Ended rows written txns lists classes submitted events)) t)
 
 record IsWhole (cat : Catalogue) (w : Workload) : Type 0 where
   written : ℕ
+  classes : ℕ
   submitted : List TxnNo
-  chain : Chain cat nothing_read (map line_bytes (lines_of cat w)) (scheduled places.Ended w.rows written w.txns submitted w.events)
+  chain : Chain cat (nothing_read cat) (map line_bytes (lines_of cat w)) (scheduled places.Ended w.rows written w.txns w.lists classes submitted w.events)
 
-four_mapped : {A B : Type 0} (f : A → B) (a b c d : List A) → map f (a ++ b ++ c ++ d) ≡ map f a ++ map f b ++ map f c ++ map f d
-four_mapped f a b c d = map-append f (a ++ b ++ c) d ∙ ap (λ l. l ++ map f d) (map-append f (a ++ b) c ∙ ap (λ l. l ++ map f c) (map-append f a b))
+five_mapped : {A B : Type 0} (f : A → B) (a b c d e : List A) → map f (a ++ b ++ c ++ d ++ e) ≡ map f a ++ map f b ++ map f c ++ map f d ++ map f e
+five_mapped f a b c d e = map-append f (a ++ b ++ c ++ d) e ∙ ap (λ l. l ++ map f e) (map-append f (a ++ b ++ c) d ∙ ap (λ l. l ++ map f d) (map-append f (a ++ b) c ∙ ap (λ l. l ++ map f c) (map-append f a b)))
 
 whole_chain : (cat : Catalogue) → IsKnown cat → (w : Workload) → IsValid cat w → IsWhole cat w
 whole_chain cat k w v =
     let rs : List (List ℕ) = map line_bytes (map (start_words cat) w.rows) in
     let ts : List (List ℕ) = map line_bytes (flat_map (txn_lines cat) w.txns) in
+    let ls : List (List ℕ) = map line_bytes (flat_map list_lines w.lists) in
     let es : List (List ℕ) = map line_bytes (map (event_words w.txns) w.events) in
     let written : ℕ = length w.rows + sum_by rows_put_by w.txns in
     let zero_more : 0 + length w.rows ≡ length w.rows = omega arith in
     let rows = rows_chain cat k w.rows [] 0 (recursion_from_All (IsValidRow cat) w.rows v.rows) (omega (arith, v.few_rows, zero_more)) in
-    let rows_are : Chain cat nothing_read rs (of_rows w.rows (length w.rows)) = subst (λ (n : ℕ). Chain cat nothing_read rs (of_rows w.rows n)) zero_more rows in
+    let rows_are : Chain cat (nothing_read cat) rs (of_rows cat w.rows (length w.rows)) = subst (λ (n : ℕ). Chain cat (nothing_read cat) rs (of_rows cat w.rows n)) zero_more rows in
     let txns = txns_chain cat k w.rows w.txns places.Rows (length w.rows) [] [] refl (recursion_from_All (IsValidTxn cat) w.txns v.txns) v.names (omega (arith, v.few_txns)) v.few_rows in
-    let events = events_chain cat k w.rows written w.txns v.txns v.names w.events txns.place [] [] (events_from txns.place txns.goes_on) (recursion_from_All (IsValidEvent cat (length w.txns)) w.events v.events) v.submitted (omega (arith, v.few_events)) in
-    let after_rows : State = of_rows w.rows (length w.rows) in
-    let after_txns : State = scheduled txns.place w.rows written w.txns [] [] in
-    let after_events : State = scheduled events.place w.rows written w.txns events.submitted w.events in
-    let last : State = scheduled places.Ended w.rows written w.txns events.submitted w.events in
-    let ended : Chain cat after_events (line_bytes end_words ∷ []) last = (last, end_step cat events.place w.rows written w.txns events.submitted w.events events.takes, refl) in
-    let two : Chain cat nothing_read (rs ++ ts) after_txns = chain-append cat nothing_read after_rows after_txns rs ts rows_are txns.chain in
-    let three : Chain cat nothing_read (rs ++ ts ++ es) after_events = chain-append cat nothing_read after_txns after_events (rs ++ ts) es two events.chain in
-    let four : Chain cat nothing_read (rs ++ ts ++ es ++ line_bytes end_words ∷ []) last = chain-append cat nothing_read after_events last (rs ++ ts ++ es) (line_bytes end_words ∷ []) three ended in
+    let after_rows : State = of_rows cat w.rows (length w.rows) in
+    let after_txns : State = scheduled txns.place w.rows written w.txns [] (length cat.classes) [] [] in
+    let lists = lists_read cat k after_txns w.lists (lists_from txns.place txns.goes_on) v.lists in
+    let n : ℕ = lists.classes in
+    let after_lists : State = scheduled lists.place w.rows written w.txns w.lists n [] [] in
+    let events = events_chain cat k w.rows written w.txns w.lists n v.txns v.names w.events lists.place [] [] (events_from lists.place lists.goes_on) (recursion_from_All (IsValidEvent cat (length w.txns)) w.events v.events) v.submitted (omega (arith, v.few_events)) v.timely in
+    let after_events : State = scheduled events.place w.rows written w.txns w.lists n events.submitted w.events in
+    let last : State = scheduled places.Ended w.rows written w.txns w.lists n events.submitted w.events in
+    let ended : Chain cat after_events (line_bytes end_words ∷ []) last = (last, end_step cat events.place w.rows written w.txns w.lists n events.submitted w.events events.takes, refl) in
+    let two : Chain cat (nothing_read cat) (rs ++ ts) after_txns = chain-append cat (nothing_read cat) after_rows after_txns rs ts rows_are txns.chain in
+    let three : Chain cat (nothing_read cat) (rs ++ ts ++ ls) after_lists = chain-append cat (nothing_read cat) after_txns after_lists (rs ++ ts) ls two lists.chain in
+    let four : Chain cat (nothing_read cat) (rs ++ ts ++ ls ++ es) after_events = chain-append cat (nothing_read cat) after_lists after_events (rs ++ ts ++ ls) es three events.chain in
+    let five : Chain cat (nothing_read cat) (rs ++ ts ++ ls ++ es ++ line_bytes end_words ∷ []) last = chain-append cat (nothing_read cat) after_events last (rs ++ ts ++ ls ++ es) (line_bytes end_words ∷ []) four ended in
     record {
       written = written;
+      classes = n;
       submitted = events.submitted;
-      chain = subst (λ (l : List (List ℕ)). Chain cat nothing_read l last) (sym (four_mapped line_bytes (map (start_words cat) w.rows) (flat_map (txn_lines cat) w.txns) (map (event_words w.txns) w.events) (end_words ∷ []))) four;
+      chain = subst (λ (l : List (List ℕ)). Chain cat (nothing_read cat) l last) (sym (five_mapped line_bytes (map (start_words cat) w.rows) (flat_map (txn_lines cat) w.txns) (flat_map list_lines w.lists) (map (event_words w.txns) w.events) (end_words ∷ []))) five;
     }
 
 -- the spelling of a workload that is allowed is read as the workload
@@ -272,10 +301,10 @@ pub read_again : (cat : Catalogue) → IsKnown cat → (w : Workload) → IsVali
 read_again cat k w v small =
     let c = whole_chain cat k w v in
     let lines : List (List ℕ) = map line_bytes (lines_of cat w) in
-    let last : State = scheduled places.Ended w.rows c.written w.txns c.submitted w.events in
+    let last : State = scheduled places.Ended w.rows c.written w.txns w.lists c.classes c.submitted w.events in
     let a : nat_lt MAX_WORKLOAD_BYTES (length (spelling cat w)) ≡ false = le-ltb MAX_WORKLOAD_BYTES (length (spelling cat w)) small in
-    let b : cut_lines (spelling cat w) ≡ (lines, []) = ap cut_lines (sym (lines_spelled (lines_of cat w))) ∙ cut_again lines (chain_lines cat nothing_read last lines c.chain) in
-    let d : walk cat 1 nothing_read lines [] ≡ Ok last = chain_walk cat 1 nothing_read last lines c.chain refl in
-    ap (λ (t : Bool). cond t (Err (record { line = 0; rule = TooLong })) (finished (walk_bytes cat 1 nothing_read (spelling cat w)))) a
-    ∙ ap (λ (cut : List (List ℕ) × List ℕ). finished (walk cat 1 nothing_read cut.0 cut.1)) b
+    let b : cut_lines (spelling cat w) ≡ (lines, []) = ap cut_lines (sym (lines_spelled (lines_of cat w))) ∙ cut_again lines (chain_lines cat (nothing_read cat) last lines c.chain) in
+    let d : walk cat 1 (nothing_read cat) lines [] ≡ Ok last = chain_walk cat 1 (nothing_read cat) last lines c.chain refl in
+    ap (λ (t : Bool). cond t (Err (record { line = 0; rule = TooLong })) (finished (walk_bytes cat 1 (nothing_read cat) (spelling cat w)))) a
+    ∙ ap (λ (cut : List (List ℕ) × List ℕ). finished (walk cat 1 (nothing_read cat) cut.0 cut.1)) b
     ∙ ap finished d

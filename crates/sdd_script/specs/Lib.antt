@@ -1,3 +1,4 @@
+pub mod ClassLists
 pub mod Columns
 pub mod Examples
 pub mod FirstWords
@@ -5,7 +6,9 @@ pub mod Laws
 pub mod LineRules
 pub mod Naming
 pub mod Occurrences
+pub mod OpenLists
 pub mod Places
+pub mod Redeclaring
 pub mod Rules
 pub mod Spelling
 pub mod Statements

@@ -14,20 +14,22 @@ use Rattle.sdd_lang.specs.declared.statement.Stmt.{Stmt}
 use Rattle.sdd_lang.specs.declared.statement.Stmt.TheVariants as statements
 use Rattle.sdd_words.specs.Keywords.{is_free}
 use Rattle.sdd_words.specs.Forms.{are_free}
-use Rattle.sdd_words.specs.Names.{name_in}
 use Rattle.sdd_words.specs.Scan.{words_of}
 use Rattle.sdd_base.specs.Readings.{◌>>=◌, known, must}
 use Rattle.sdd_words.specs.Texts.{is_sound}
 use Rattle.sdd_words.specs.declared.word.Word.{Word}
-use Rattle.sdd_words.specs.declared.word.Word.TheVariants.{Plain, Quoted}
 use Rattle.sdd_script.specs.Values.{row_of}
+use Rattle.sdd_script.specs.ClassLists.{class_line_rules}
 use Rattle.sdd_script.specs.FirstWords.{keyword_of}
+use Rattle.sdd_script.specs.Naming.{name_of}
+use Rattle.sdd_script.specs.OpenLists.{classes_in}
+use Rattle.sdd_script.specs.Redeclaring.{may_follow}
 use Rattle.sdd_script.specs.Statements.{statement_of}
 use Rattle.sdd_script.specs.Occurrences.{tm_of, event_of}
 use Rattle.sdd_script.specs.Places.{takes_rows, takes_txns, takes_statements, takes_events}
 use Rattle.sdd_script.specs.declared.fault.Counts.TheVariants as counts
 use Rattle.sdd_script.specs.declared.fault.WorkRule.{WorkRule}
-use Rattle.sdd_script.specs.declared.fault.WorkRule.TheVariants.{NotUtf8, BadLine, UnknownName, DuplicateTxn, SubmittedTwice, TooMany}
+use Rattle.sdd_script.specs.declared.fault.WorkRule.TheVariants.{NotUtf8, BadLine, BadEvent, DuplicateTxn, SubmittedTwice, TooMany}
 use Rattle.sdd_script.specs.declared.keyword.Keyword.{Keyword}
 use Rattle.sdd_script.specs.declared.keyword.Keyword.TheVariants as keys
 use Rattle.sdd_script.specs.declared.place.Place.{Place}
@@ -49,10 +51,6 @@ row_rules cat st (name ∷ words) = do
   Ok (record st { rows = st.rows ++ r ∷ []; written = written })
 
 -- transactions
-
-abbrev pub name_of : Word → Result (List ℕ) WorkRule
-name_of (Plain bytes) = known UnknownName (name_in bytes)
-name_of (Quoted text) = Err UnknownName
 
 abbrev pub opened : State → List ℕ → TmNo → Result State WorkRule
 opened st name tm = do
@@ -103,9 +101,11 @@ statement_rules st reading = do
   statement ← reading
   with_statement st statement
 
+-- a transaction ends, or a list of classes
 abbrev pub closed : Place → State → Result State WorkRule
 closed (places.Inside header) st =
     Ok (record st { place = places.Between; txns = st.txns ++ record { name = header.name; tm = header.tm; statements = st.statements } ∷ []; statements = [] })
+closed (places.Listing list) st = Ok (record st { place = places.Declared; lists = st.lists ++ classes_in list ∷ [] })
 closed place st = Err BadLine
 
 abbrev pub done_rules : State → List Word → Result State WorkRule
@@ -122,18 +122,19 @@ abbrev pub with_submitted : List TxnNo → Event → List TxnNo
 with_submitted submitted (Submit txn) = submitted ++ txn ∷ []
 with_submitted submitted event = submitted
 
-abbrev pub with_event : State → Event → Result State WorkRule
-with_event st event = do
+abbrev pub with_event : Catalogue → State → Event → Result State WorkRule
+with_event cat st event = do
   _ ← must SubmittedTwice (not (is_submitted st.submitted event))
+  _ ← must BadEvent (may_follow cat.dms (length st.lists) st.events event)
   _ ← must (TooMany counts.Event) (nat_lt (length st.events) MAX_EVENTS)
   Ok (record st { place = places.Events; events = st.events ++ event ∷ []; submitted = with_submitted st.submitted event })
 
 -- an event, by its reading
-abbrev pub event_rules : State → Result Event WorkRule → Result State WorkRule
-event_rules st reading = do
+abbrev pub event_rules : Catalogue → State → Result Event WorkRule → Result State WorkRule
+event_rules cat st reading = do
   _ ← must BadLine (takes_events st.place)
   event ← reading
-  with_event st event
+  with_event cat st event
 
 abbrev pub end_rules : State → List Word → Result State WorkRule
 end_rules st [] = do
@@ -147,7 +148,8 @@ keyword_rules keys.Row cat st words = row_rules cat st words
 keyword_rules keys.Txn cat st words = txn_rules cat st words
 keyword_rules (keys.Statement key) cat st words = statement_rules st (statement_of key cat words)
 keyword_rules keys.Done cat st words = done_rules st words
-keyword_rules (keys.Event key) cat st words = event_rules st (event_of key cat st.names words)
+keyword_rules (keys.Class key) cat st words = class_line_rules key cat st words
+keyword_rules (keys.Event key) cat st words = event_rules cat st (event_of key cat st.names words)
 keyword_rules keys.End cat st words = end_rules st words
 
 abbrev pub words_rules : Catalogue → State → List Word → Result State WorkRule

@@ -1,14 +1,19 @@
--- Relations and columns by their names. Relations are numbered from 1; columns are placed from 0 here.
-use Rattle.std.specs.Prelude.{ℕ, ◌-◌, List, [], length, find, slice_get, Option, None}
+-- Relations, columns, fragments and classes by their names. Columns are placed from 0 here, all others numbered from 1.
+use Rattle.std.specs.Prelude.{ℕ, ◌-◌, List, [], length, map, find, slice_get, Option, None, Result, Err}
 use Rattle.std.specs.Option.{option_map, option_map_or}
 use Rattle.std.specs.List.{position}
 use Rattle.std.specs.Str.{bytes_eq}
-use Rattle.sdd_catalog.specs.Catalogue.{Catalogue, numbers_to}
+use Rattle.sdd_base.specs.Readings.{known}
+use Rattle.sdd_catalog.specs.Catalogue.{Catalogue, numbers_to, fragment_at, class_at}
 use Rattle.sdd_catalog.specs.declared.parts.Kind.{Kind}
+use Rattle.sdd_catalog.specs.declared.resolved.Class.{Class}
 use Rattle.sdd_catalog.specs.declared.resolved.Column.{Column}
 use Rattle.sdd_catalog.specs.declared.resolved.Relation.{Relation}
+use Rattle.sdd_words.specs.Names.{name_in}
 use Rattle.sdd_words.specs.declared.word.Word.{Word}
 use Rattle.sdd_words.specs.declared.word.Word.TheVariants.{Plain, Quoted}
+use Rattle.sdd_script.specs.declared.fault.WorkRule.{WorkRule}
+use Rattle.sdd_script.specs.declared.fault.WorkRule.TheVariants.{UnknownName}
 
 -- the relation with a number, if it is there
 abbrev pub relation_if : Catalogue → ℕ → Option Relation
@@ -40,3 +45,22 @@ column_named columns name = position (λ (c : Column). bytes_eq c.name name) col
 -- the kind of the column at a place, none past the last
 abbrev pub kind_of_place : List Column → ℕ → Option Kind
 kind_of_place columns place = option_map (λ (c : Column). c.kind) (slice_get columns place)
+
+-- a new name; a text is none
+abbrev pub name_of : Word → Result (List ℕ) WorkRule
+name_of (Plain bytes) = known UnknownName (name_in bytes)
+name_of (Quoted text) = Err UnknownName
+
+abbrev pub name_of_fragment : Catalogue → ℕ → List ℕ
+name_of_fragment cat frag = (fragment_at cat frag).name
+
+-- the number of the first fragment with a name
+abbrev pub fragment_named : Catalogue → List ℕ → Option ℕ
+fragment_named cat name = find (λ frag. bytes_eq (name_of_fragment cat frag) name) (numbers_to (length cat.fragments))
+
+abbrev pub name_of_class : Catalogue → ℕ → List ℕ
+name_of_class cat class = (class_at cat class).name
+
+-- the names of the catalogue's classes
+abbrev pub class_names : Catalogue → List (List ℕ)
+class_names cat = map (λ (c : Class). c.name) cat.classes

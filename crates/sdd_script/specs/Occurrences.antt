@@ -6,7 +6,7 @@ use Rattle.std.specs.Str.{bytes_eq}
 use Rattle.sdd_base.specs.Numbers.{tm_no, txn_no}
 use Rattle.sdd_base.specs.Sites.{are_linked}
 use Rattle.sdd_base.specs.declared.event.Event.{Event}
-use Rattle.sdd_base.specs.declared.event.Event.TheVariants.{Submit, Deliver, Lose, Repeat, Resend, Tick, Settle, Down, Up}
+use Rattle.sdd_base.specs.declared.event.Event.TheVariants.{Submit, Deliver, Lose, Repeat, Resend, Tick, Settle, Redeclare, Down, Up}
 use Rattle.sdd_base.specs.declared.limits.TheConstants.{MAX_PLACE, MAX_TICKS}
 use Rattle.sdd_base.specs.declared.number.DmNo.{DmNo}
 use Rattle.sdd_base.specs.declared.number.TmNo.{TmNo}
@@ -139,6 +139,10 @@ abbrev pub settle_of : List Word → Result Event WorkRule
 settle_of [] = Ok Settle
 settle_of _ = Err BadLine
 
+abbrev pub redeclare_of : List Word → Result Event WorkRule
+redeclare_of [] = Ok Redeclare
+redeclare_of _ = Err BadLine
+
 abbrev pub down_of : Catalogue → List Word → Result Event WorkRule
 down_of cat (dm ∷ []) = do
   _ ← must BadLine (is_free dm)
@@ -162,5 +166,6 @@ event_of keys.Repeat cat names words = repeat_of cat words
 event_of keys.Resend cat names words = resend_of cat words
 event_of keys.Tick cat names words = tick_of cat words
 event_of keys.Settle cat names words = settle_of words
+event_of keys.Redeclare cat names words = redeclare_of words
 event_of keys.Down cat names words = down_of cat words
 event_of keys.Up cat names words = up_of cat words

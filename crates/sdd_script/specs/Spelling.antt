@@ -2,6 +2,7 @@
 use Rattle.std.specs.Prelude.{ℕ, ◌-◌, List, [], ◌∷◌, ◌++◌, map, flat_map, codes, slice_get}
 use Rattle.std.specs.Option.{option_map_or}
 use Rattle.std.specs.Fmt.{decimal, signed_decimal}
+use Rattle.sdd_base.specs.Numbers.{tm_no, dm_no}
 use Rattle.sdd_base.specs.declared.event.Event.{Event}
 use Rattle.sdd_base.specs.declared.event.Event.TheVariants.{Submit, Deliver, Lose, Repeat, Resend, Tick, Settle, Redeclare, Down, Up}
 use Rattle.sdd_base.specs.declared.number.RelNo.{RelNo}
@@ -11,6 +12,8 @@ use Rattle.sdd_base.specs.declared.site.Site.{Site}
 use Rattle.sdd_base.specs.declared.site.Site.TheVariants.{U, T, D}
 use Rattle.sdd_base.specs.declared.value.Value.{Value}
 use Rattle.sdd_catalog.specs.Catalogue.{Catalogue}
+use Rattle.sdd_catalog.specs.declared.parts.ClassPart.{ClassPart}
+use Rattle.sdd_catalog.specs.declared.parts.ReadPart.{ReadPart}
 use Rattle.sdd_catalog.specs.declared.resolved.Column.{Column}
 use Rattle.sdd_lang.specs.Fits.{rel_of}
 use Rattle.sdd_lang.specs.declared.assign.Assign.{Assign}
@@ -123,9 +126,30 @@ end_words = Plain (codes "end") ∷ []
 abbrev pub txn_lines : Catalogue → Txn → List (List Word)
 txn_lines cat t = header_words t.name t.tm ∷ (map (statement_words cat) t.statements ++ done_words ∷ [])
 
--- rows, transactions, events, `end`
+abbrev pub list_words : List Word
+list_words = Plain (codes "list") ∷ []
+
+abbrev pub class_words : ClassPart → List Word
+class_words c = Plain (codes "class") ∷ Plain c.name ∷ site_word (T (tm_no c.tm)) ∷ []
+
+abbrev pub reads_words : ReadPart → List Word
+reads_words r = Plain (codes "reads") ∷ Plain r.fragment ∷ site_word (D (dm_no r.at)) ∷ []
+
+abbrev pub writes_words : List ℕ → List Word
+writes_words fragment = Plain (codes "writes") ∷ Plain fragment ∷ []
+
+-- the lines of a class: what it reads, then what it writes
+abbrev pub class_lines : ClassPart → List (List Word)
+class_lines c = class_words c ∷ (map reads_words c.reads ++ map writes_words c.writes)
+
+-- the lines of a list of classes
+abbrev pub list_lines : List ClassPart → List (List Word)
+list_lines classes = list_words ∷ (flat_map class_lines classes ++ done_words ∷ [])
+
+-- rows, transactions, lists of classes, events, `end`
 abbrev pub lines_of : Catalogue → Workload → List (List Word)
-lines_of cat w = map (start_words cat) w.rows ++ flat_map (txn_lines cat) w.txns ++ map (event_words w.txns) w.events ++ end_words ∷ []
+lines_of cat w =
+    map (start_words cat) w.rows ++ flat_map (txn_lines cat) w.txns ++ flat_map list_lines w.lists ++ map (event_words w.txns) w.events ++ end_words ∷ []
 
 -- a line and its newline
 abbrev pub ended : List Word → List ℕ
@@ -133,6 +157,12 @@ ended words = line_bytes words ++ 10 ∷ []
 
 abbrev pub txn_bytes : Catalogue → Txn → List ℕ
 txn_bytes cat t = flat_map ended (txn_lines cat t)
+
+abbrev pub class_bytes : ClassPart → List ℕ
+class_bytes c = flat_map ended (class_lines c)
+
+abbrev pub list_bytes : List ClassPart → List ℕ
+list_bytes classes = flat_map ended (list_lines classes)
 
 abbrev pub spelling : Catalogue → Workload → List ℕ
 spelling cat w = flat_map ended (lines_of cat w)

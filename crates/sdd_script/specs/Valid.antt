@@ -1,8 +1,9 @@
 -- Workloads that a catalogue allows, and the files that spell them.
-use Rattle.std.specs.Prelude.{ℕ, ◌+◌, ◌^◌, ◌≡◌, ◌≤◌, ◌<◌, IsTrue, Bool, true, false, List, map, sum_by, count_by, slice_index_or, length, Option, Some, None}
+use Rattle.std.specs.Prelude.{ℕ, ◌+◌, ◌^◌, ◌≡◌, ◌≤◌, ◌<◌, IsTrue, Bool, true, false, List, ◌++◌, map, take, sum_by, count_by, slice_get, slice_index_or, length, Option, Some, None, is_some}
+use Rattle.std.specs.Option.{option_map_or}
 use Rattle.std.specs.Int.Signed.{mag}
 use Rattle.std.specs.List.{All, filter_map}
-use Rattle.sdd_base.specs.declared.limits.TheConstants.{MAX_ROWS, MAX_TXNS, MAX_EVENTS, MAX_PLACE, MAX_TICKS, MAX_WORKLOAD_BYTES}
+use Rattle.sdd_base.specs.declared.limits.TheConstants.{MAX_CLASSES, MAX_READS, MAX_ROWS, MAX_TXNS, MAX_EVENTS, MAX_PLACE, MAX_TICKS, MAX_WORKLOAD_BYTES}
 use Rattle.sdd_base.specs.Name.{IsName}
 use Rattle.sdd_base.specs.Sites.{are_linked}
 use Rattle.sdd_base.specs.declared.event.Event.{Event}
@@ -12,8 +13,10 @@ use Rattle.sdd_base.specs.declared.site.Site.{Site}
 use Rattle.sdd_base.specs.declared.site.Site.TheVariants.{U, T, D}
 use Rattle.sdd_base.specs.declared.value.Value.{Value}
 use Rattle.sdd_base.specs.declared.value.Value.TheVariants as values
-use Rattle.sdd_catalog.specs.Catalogue.{Catalogue}
+use Rattle.sdd_catalog.specs.Catalogue.{Catalogue, has_copy}
 use Rattle.sdd_catalog.specs.Rules.{repeats}
+use Rattle.sdd_catalog.specs.declared.parts.ClassPart.{ClassPart}
+use Rattle.sdd_catalog.specs.declared.parts.ReadPart.{ReadPart}
 use Rattle.sdd_lang.specs.Fits.{Fits, FitsStart, IsFrom1To}
 use Rattle.sdd_lang.specs.declared.assign.Assign.{Assign}
 use Rattle.sdd_lang.specs.declared.assign.Assign.TheVariants.{To, Add}
@@ -23,7 +26,11 @@ use Rattle.sdd_lang.specs.declared.statement.Stmt.{Stmt}
 use Rattle.sdd_lang.specs.declared.statement.Stmt.TheVariants as statements
 use Rattle.sdd_lang.specs.declared.transaction.Txn.{Txn}
 use Rattle.sdd_words.specs.Texts.{is_text}
+use Rattle.sdd_script.specs.ClassLists.{joined, part_names}
+use Rattle.sdd_script.specs.Naming.{class_names, fragment_named}
+use Rattle.sdd_script.specs.Redeclaring.{is_redeclare, is_down}
 use Rattle.sdd_script.specs.Spelling.{spelling}
+use Rattle.sdd_script.specs.declared.limits.TheConstants.{MAX_LISTS}
 use Rattle.sdd_script.specs.declared.workload.Workload.{Workload}
 
 -- a number of 64 bits, or a text
@@ -75,10 +82,54 @@ IsValidEvent cat txns (Repeat from to place) = IsLink cat from to × IsFrom1To M
 IsValidEvent cat txns (Resend from to) = IsLink cat from to
 IsValidEvent cat txns (Tick tm n) = IsFrom1To cat.tms tm.0 × IsFrom1To MAX_TICKS n
 IsValidEvent cat txns Settle = Unit {0}
+IsValidEvent cat txns Redeclare = Unit {0}
 IsValidEvent cat txns (Down dm) = IsFrom1To cat.dms dm.0
 IsValidEvent cat txns (Up dm) = IsFrom1To cat.dms dm.0
--- no line is read as one
-IsValidEvent cat txns Redeclare = ⊥
+
+-- a fragment that is there, by its name
+abbrev pub IsFragment : Catalogue → List ℕ → Type 0
+IsFragment cat name = IsName name × IsTrue (is_some (fragment_named cat name))
+
+-- whether the module has a copy of the fragment with the name
+abbrev pub is_kept_at : Catalogue → ℕ → List ℕ → Bool
+is_kept_at cat dm name = option_map_or (has_copy cat dm) (fragment_named cat name) false
+
+-- a fragment that is there, read where it has a copy
+pub record IsValidRead (cat : Catalogue) (r : ReadPart) : Type 0 where
+  pub fragment : IsFragment cat r.fragment
+  pub module_is_there : IsFrom1To cat.dms r.at
+  pub copy : IsTrue (is_kept_at cat r.at r.fragment)
+
+abbrev pub read_names : List ReadPart → List (List ℕ)
+read_names reads = map (λ (r : ReadPart). r.fragment) reads
+
+-- a class of a list that the catalogue allows
+pub record IsValidClass (cat : Catalogue) (c : ClassPart) : Type 0 where
+  pub named : IsName c.name
+  pub module_is_there : IsFrom1To cat.tms c.tm
+  pub reads : All (IsValidRead cat) c.reads
+  -- no fragment is read twice, and none is written twice
+  pub reads_once : repeats (read_names c.reads) ≡ false
+  pub few_reads : length c.reads ≤ MAX_READS
+  pub writes : All (IsFragment cat) c.writes
+  pub writes_once : repeats c.writes ≡ false
+
+-- lists of classes that the catalogue allows
+pub record AreValidLists (cat : Catalogue) (lists : List (List ClassPart)) : Type 0 where
+  pub classes : All (IsValidClass cat) (joined lists)
+  -- no two classes have one name, those of the catalogue counted
+  pub names : repeats (class_names cat ++ part_names (joined lists)) ≡ false
+  pub few_classes : length cat.classes + length (joined lists) ≤ MAX_CLASSES
+  pub few_lists : length lists ≤ MAX_LISTS
+
+-- behind these events, of so many data modules and lists: a list is left, and no module is down
+pub record MayRedeclare (dms lists : ℕ) (events : List Event) : Type 0 where
+  pub left : count_by is_redeclare events < lists
+  pub up : (dm : ℕ) → IsFrom1To dms dm → is_down dm events ≡ false
+
+-- each `redeclare` stands where it may
+abbrev pub AreTimely : ℕ → ℕ → List Event → Type 0
+AreTimely dms lists events = (i : ℕ) → slice_get events i ≡ Some Redeclare → MayRedeclare dms lists (take i events)
 
 abbrev pub is_put : Stmt → Bool
 is_put (statements.Put rel row) = true
@@ -102,9 +153,11 @@ pub record IsValid (cat : Catalogue) (w : Workload) : Type 0 where
   pub txns : All (IsValidTxn cat) w.txns
   -- no two transactions have one name
   pub names : repeats (map (λ (t : Txn). t.name) w.txns) ≡ false
+  pub lists : AreValidLists cat w.lists
   pub events : All (IsValidEvent cat (length w.txns)) w.events
   -- a transaction is submitted at most once
   pub submitted : AreDistinct (filter_map submitted_by w.events)
+  pub timely : AreTimely cat.dms (length w.lists) w.events
   pub few_rows : length w.rows + sum_by rows_put_by w.txns ≤ MAX_ROWS
   pub few_txns : length w.txns ≤ MAX_TXNS
   pub few_events : length w.events ≤ MAX_EVENTS

@@ -36,11 +36,11 @@ abbrev pub walk_bytes : Catalogue → ℕ → State → List ℕ → Result Stat
 walk_bytes cat line st bytes = walk cat line st (cut_lines bytes).0 (cut_lines bytes).1
 
 -- before the first line
-abbrev pub nothing_read : State
-nothing_read = record { place = Rows; rows = []; written = 0; names = []; txns = []; statements = []; submitted = []; events = [] }
+abbrev pub nothing_read : Catalogue → State
+nothing_read cat = record { place = Rows; rows = []; written = 0; names = []; txns = []; statements = []; lists = []; classes = length cat.classes; submitted = []; events = [] }
 
 abbrev pub finished : Result State WorkFault → Result Workload WorkFault
-finished (Ok st) = Ok (record { rows = st.rows; txns = st.txns; events = st.events })
+finished (Ok st) = Ok (record { rows = st.rows; txns = st.txns; lists = st.lists; events = st.events })
 finished (Err fault) = Err fault
 
 -- the workload that a file gives, or its first fault
@@ -48,4 +48,4 @@ abbrev pub workload : Catalogue → List ℕ → Result Workload WorkFault
 workload cat bytes =
     if nat_lt MAX_WORKLOAD_BYTES (length bytes)
     then Err (record { line = 0; rule = TooLong })
-    else finished (walk_bytes cat 1 nothing_read bytes)
+    else finished (walk_bytes cat 1 (nothing_read cat) bytes)

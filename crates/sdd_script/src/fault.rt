@@ -40,10 +40,12 @@ pub enum WorkRule {
     KeyChanged,
     /// A number is misspelled or out of its range.
     BadNumber,
-    /// The site isn't there, or there is no link.
+    /// The site isn't there, there is no link, or no class list may be put in force there.
     BadEvent,
     /// The file ends before its end.
     NoEnd,
+    /// The class's name is taken, or it reads or writes the fragment before, or reads it where no copy is.
+    BadClass,
 }
 
 /// What there are too many of.
@@ -61,6 +63,12 @@ pub enum Counts {
     /// Columns that a query lists, or assignments of an update.
     Column,
     Event,
+    /// Classes, those of the catalogue and of all lists, together.
+    Class,
+    /// Fragments that a class reads.
+    Read,
+    /// Lists of classes.
+    List,
 }
 
 /// Why there is no workload.

@@ -1,5 +1,5 @@
 ghost use Rattle.std.specs.Prelude.{◌≡◌};
-ghost use Rattle.sdd_script.specs.FirstWords.{statement_key_in, event_key_in, inner_keyword, keyword_in, keyword_of};
+ghost use Rattle.sdd_script.specs.FirstWords.{statement_key_in, class_key_in, event_key_in, outer_keyword, inner_keyword, keyword_in, keyword_of};
 
 use sdd_words::Word;
 
@@ -10,6 +10,7 @@ pub enum Keyword {
     Txn,
     Statement(StatementKey),
     Done,
+    Class(ClassKey),
     Event(EventKey),
     End,
 }
@@ -23,6 +24,15 @@ pub enum StatementKey {
     Delete,
 }
 
+/// The first word of a line of a list of classes.
+#[derive(Clone, Copy, Debug, PartialEq, Eq)]
+pub enum ClassKey {
+    List,
+    Class,
+    Reads,
+    Writes,
+}
+
 /// The first word of an event's line.
 #[derive(Clone, Copy, Debug, PartialEq, Eq)]
 pub enum EventKey {
@@ -33,6 +43,7 @@ pub enum EventKey {
     Resend,
     Tick,
     Settle,
+    Redeclare,
     Down,
     Up,
 }
@@ -48,6 +59,22 @@ fn statement_key_in(bytes: &[u8]) -> Option<StatementKey>
         Some(StatementKey::Update)
     } else if bytes == b"delete".as_slice() {
         Some(StatementKey::Delete)
+    } else {
+        None
+    }
+}
+
+fn class_key_in(bytes: &[u8]) -> Option<ClassKey>
+    ensures { result ≡ class_key_in bytes.now }
+{
+    if bytes == b"list".as_slice() {
+        Some(ClassKey::List)
+    } else if bytes == b"class".as_slice() {
+        Some(ClassKey::Class)
+    } else if bytes == b"reads".as_slice() {
+        Some(ClassKey::Reads)
+    } else if bytes == b"writes".as_slice() {
+        Some(ClassKey::Writes)
     } else {
         None
     }
@@ -70,6 +97,8 @@ fn event_key_in(bytes: &[u8]) -> Option<EventKey>
         Some(EventKey::Tick)
     } else if bytes == b"settle".as_slice() {
         Some(EventKey::Settle)
+    } else if bytes == b"redeclare".as_slice() {
+        Some(EventKey::Redeclare)
     } else if bytes == b"down".as_slice() {
         Some(EventKey::Down)
     } else if bytes == b"up".as_slice() {
@@ -79,15 +108,24 @@ fn event_key_in(bytes: &[u8]) -> Option<EventKey>
     }
 }
 
-fn inner_keyword(statement: Option<StatementKey>, event: Option<EventKey>) -> Option<Keyword>
-    ensures { result ≡ inner_keyword statement event }
+fn outer_keyword(class: Option<ClassKey>, event: Option<EventKey>) -> Option<Keyword>
+    ensures { result ≡ outer_keyword class event }
 {
-    match statement {
-        Some(key) => Some(Keyword::Statement(key)),
+    match class {
+        Some(key) => Some(Keyword::Class(key)),
         None => match event {
             Some(key) => Some(Keyword::Event(key)),
             None => None,
         },
+    }
+}
+
+fn inner_keyword(statement: Option<StatementKey>, outer: Option<Keyword>) -> Option<Keyword>
+    ensures { result ≡ inner_keyword statement outer }
+{
+    match statement {
+        Some(key) => Some(Keyword::Statement(key)),
+        None => outer,
     }
 }
 
@@ -103,7 +141,10 @@ fn keyword_in(bytes: &[u8]) -> Option<Keyword>
     } else if bytes == b"end".as_slice() {
         Some(Keyword::End)
     } else {
-        inner_keyword(statement_key_in(bytes), event_key_in(bytes))
+        inner_keyword(
+            statement_key_in(bytes),
+            outer_keyword(class_key_in(bytes), event_key_in(bytes)),
+        )
     }
 }
 

@@ -3,10 +3,12 @@
 //! What the layer above gets: `read_workload` gives exactly what `workload` of `specs/Walk.antt` makes
 //! of the bytes, that is the workload or its first fault, and `write_workload` gives `spelling` of
 //! `specs/Spelling.antt`, the one spelling of a workload. `specs/LineRules.antt` has the rules of a
-//! line in the order in which they are judged, and `specs/Valid.antt` says which workloads a catalogue
-//! allows.
+//! line in the order in which they are judged, `specs/ClassLists.antt` those of lists of classes,
+//! `specs/Redeclaring.antt` where a list may be put in force, and `specs/Valid.antt` says which
+//! workloads a catalogue allows.
 #![tactic(auto)]
 
+mod class_lists;
 mod columns;
 mod deletes;
 mod fault;
@@ -18,9 +20,11 @@ mod limits;
 mod names;
 mod naming;
 mod occurrences;
+mod open_list;
 mod place;
 mod queries;
 mod reader;
+mod redeclaring;
 mod state;
 mod statements;
 mod updates;
@@ -28,10 +32,12 @@ mod values;
 mod walk;
 mod workload;
 mod write_lines;
+mod write_lists;
 mod write_words;
 
 pub use fault::{Counts, WorkError, WorkFault, WorkRule};
 pub use laws::law_round_trip;
+pub use limits::MAX_LISTS;
 pub use walk::read_workload;
-pub use workload::{StartRows, Txns, Workload};
+pub use workload::{ClassLists, StartRows, Txns, Workload};
 pub use write_lines::write_workload;

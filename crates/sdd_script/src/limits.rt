@@ -4,13 +4,18 @@ ghost use Rattle.sdd_base.specs.Readings.{must};
 ghost use Rattle.sdd_script.specs.declared.fault.WorkRule.TheVariants.{TooMany};
 ghost use Rattle.sdd_base.specs.Readings.{Gives};
 ghost use Rattle.sdd_script.specs.Rules.{rule_in};
+ghost use Rattle.sdd_script.specs.ClassLists.{one_more_class};
 ghost use Rattle.sdd_script.specs.LineRules.{one_more_row, written_with, statement_limits};
 
 use crate::fault::{Counts, LineError, WorkRule, must};
 use sdd_base::{
-    MAX_ASSIGNMENTS, MAX_CONDITIONS, MAX_OUTPUT_COLUMNS, MAX_ROWS, MAX_STATEMENTS, MAX_USES,
+    MAX_ASSIGNMENTS, MAX_CLASSES, MAX_CONDITIONS, MAX_OUTPUT_COLUMNS, MAX_ROWS, MAX_STATEMENTS,
+    MAX_USES,
 };
 use sdd_lang::Stmt;
+
+/// The most lists of classes of a workload.
+pub const MAX_LISTS: usize = 8;
 
 /// How many rows there are with one more, or None exactly where there is no room for it.
 pub fn one_more_row(written: u32) -> Option<u32>
@@ -18,6 +23,17 @@ pub fn one_more_row(written: u32) -> Option<u32>
 {
     if (written as usize) < MAX_ROWS {
         Some(written + 1)
+    } else {
+        None
+    }
+}
+
+/// How many classes there are with one more, or None exactly where there is no room for it.
+pub fn one_more_class(classes: u32) -> Option<u32>
+    ensures { result ≡ one_more_class classes }
+{
+    if (classes as usize) < MAX_CLASSES {
+        Some(classes + 1)
     } else {
         None
     }

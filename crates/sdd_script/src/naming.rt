@@ -1,11 +1,18 @@
-//! Relations and columns by their names.
-ghost use Rattle.std.specs.Prelude.{◌≡◌, ◌<◌, ◌^◌, length, slice_get, option_map, MatchOption, Some, None};
+//! Relations, columns, fragments and classes by their names.
+ghost use Rattle.std.specs.Prelude.{◌≡◌, ◌≤◌, ◌<◌, ◌^◌, length, slice_get, option_map, MatchOption, Some, None};
+ghost use Rattle.std.specs.List.{list_any};
 ghost use Rattle.std.specs.Str.{bytes_eq};
-ghost use Rattle.sdd_script.specs.Naming.{relation_if, columns_of, key_of, name_of_relation, relation_named, relation_of, column_named, kind_of_place};
+ghost use Rattle.sdd_base.specs.Readings.{Gives};
+ghost use Rattle.sdd_script.specs.Rules.{rule_in};
+ghost use Rattle.sdd_script.specs.Naming.{name_of, relation_if, columns_of, key_of, name_of_relation, relation_named, relation_of, column_named, kind_of_place, name_of_fragment, fragment_named, name_of_class, class_names};
+ghost use Rattle.sdd_catalog.specs.Catalogue.{has_copy, numbers_to};
+ghost use Rattle.sdd_catalog.specs.Rules.{has_name};
 
-use sdd_base::RelNo;
+use crate::fault::{LineError, WorkRule, broken, known};
+use sdd_base::{ClassNo, DmNo, FragNo, Name, RelNo};
 use sdd_catalog::{Catalogue, Column, Kind, Relation};
-use sdd_words::Word;
+use sdd_words::{Word, read_name};
+use std::alloc::Global;
 
 /// The relation at the place below a number, or None past the last.
 fn relation_if(cat: &Catalogue, rel: u32) -> Option<&Relation>
@@ -89,4 +96,81 @@ pub fn kind_of_place(columns: &[Column], place: usize) -> Option<Kind>
     ensures { result ≡ kind_of_place columns.now place }
 {
     columns.get(place).map(|column| column.kind)
+}
+
+/// The name of a fragment, empty past the last.
+fn name_of_fragment(cat: &Catalogue, frag: u32) -> &[u8]
+    ensures { result.now ≡ name_of_fragment cat.now frag }
+{
+    let place = frag.saturating_sub(1);
+    if place < cat.fragments() {
+        cat.fragment(FragNo(place + 1)).name.as_str().as_bytes()
+    } else {
+        &[]
+    }
+}
+
+fn is_fragment_name(cat: &Catalogue, frag: u32, name: &[u8]) -> bool
+    ensures { result ≡ bytes_eq (name_of_fragment cat.now frag) name.now }
+{
+    name_of_fragment(cat, frag) == name
+}
+
+/// The number of the fragment with the name, or None exactly where there is none. Costs time in the
+/// number of fragments.
+pub fn fragment_named(cat: &Catalogue, name: &[u8]) -> Option<u32>
+    ensures { result ≡ fragment_named cat.now name.now }
+{
+    cat.known();
+    (1..cat.fragments() + 1).find(|frag| is_fragment_name(cat, *frag, name))
+}
+
+/// Whether the module has a copy of the fragment, which none has past the last.
+pub fn has_copy(cat: &Catalogue, dm: DmNo, frag: u32) -> bool
+    ensures { result ≡ has_copy cat.now dm.0 frag }
+{
+    let place = frag.saturating_sub(1);
+    place < cat.fragments() && cat.has_copy(dm, FragNo(place + 1))
+}
+
+/// The name of a class, empty past the last.
+fn name_of_class(cat: &Catalogue, class: u32) -> &[u8]
+    ensures { result.now ≡ name_of_class cat.now class }
+{
+    let place = class.saturating_sub(1);
+    if place < cat.classes() {
+        cat.class(ClassNo(place + 1)).name.as_str().as_bytes()
+    } else {
+        &[]
+    }
+}
+
+fn is_class_name(cat: &Catalogue, class: u32, name: &[u8]) -> bool
+    ensures { result ≡ bytes_eq name.now (name_of_class cat.now class) }
+{
+    name == name_of_class(cat, class)
+}
+
+fn has_numbered_class(cat: &Catalogue, name: &[u8]) -> bool
+    ensures { result ≡ list_any (λ class. bytes_eq name.now (name_of_class cat.now class)) (numbers_to (length cat.now.classes)) }
+{
+    cat.known();
+    (1..cat.classes() + 1).any(|class| is_class_name(cat, class, name))
+}
+
+/// Whether a class of the catalogue has the name. Costs time in the number of classes.
+pub fn has_class(cat: &Catalogue, name: &[u8]) -> bool
+    ensures { result ≡ has_name (class_names cat.now) name.now }
+{
+    has_numbered_class(cat, name)
+}
+
+/// The name that a word is.
+pub fn name_in_word(alloc: Global, word: &Word) -> Result<Name, LineError>
+    ensures { Gives rule_in (λ n. n) result (name_of word.now) }
+{
+    match word {
+        Word::Plain(bytes) => known(WorkRule::UnknownName, read_name(alloc, bytes.as_slice())?),
+        Word::Quoted(_) => broken(WorkRule::UnknownName),
+    }
 }

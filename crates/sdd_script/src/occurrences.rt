@@ -3,7 +3,7 @@ ghost use Rattle.std.specs.Prelude.{◌≡◌, ◌≤◌};
 ghost use Rattle.sdd_base.specs.Sites.{are_linked};
 ghost use Rattle.sdd_base.specs.Readings.{Gives};
 ghost use Rattle.sdd_script.specs.Rules.{rule_in};
-ghost use Rattle.sdd_script.specs.Occurrences.{numbered, site_in, site_of, module_of, tm_of, link_of, count_of, flight_place, deliver_of, lose_of, repeat_of, txn_named, submit_of, resend_of, tick_of, settle_of, data_module_of, dm_of, down_of, up_of, event_of};
+ghost use Rattle.sdd_script.specs.Occurrences.{numbered, site_in, site_of, module_of, tm_of, link_of, count_of, flight_place, deliver_of, lose_of, repeat_of, txn_named, submit_of, resend_of, tick_of, settle_of, redeclare_of, data_module_of, dm_of, down_of, up_of, event_of};
 ghost use Rattle.sdd_words.specs.declared.word.Word.TheVariants.{Plain};
 
 use crate::fault::{LineError, WorkRule, broken, known, must};
@@ -92,7 +92,7 @@ fn data_module_of(site: Site) -> Result<DmNo, LineError>
 }
 
 /// The data module that a word names.
-fn read_dm(cat: &Catalogue, word: &Word) -> Result<DmNo, LineError>
+pub fn read_dm(cat: &Catalogue, word: &Word) -> Result<DmNo, LineError>
     ensures { Gives rule_in (λ d. d) result (dm_of cat.now word.now) }
 {
     data_module_of(read_site(cat, word)?)
@@ -239,6 +239,15 @@ fn read_settle(words: &[Word]) -> Result<Event, LineError>
     }
 }
 
+fn read_redeclare(words: &[Word]) -> Result<Event, LineError>
+    ensures { Gives rule_in (λ e. e) result (redeclare_of words.now) }
+{
+    match words {
+        [] => Ok(Event::Redeclare),
+        _ => broken(WorkRule::BadLine),
+    }
+}
+
 fn read_down(cat: &Catalogue, words: &[Word]) -> Result<Event, LineError>
     ensures { Gives rule_in (λ e. e) result (down_of cat.now words.now) }
 {
@@ -283,6 +292,7 @@ pub fn read_event(
         EventKey::Resend => read_resend(cat, words),
         EventKey::Tick => read_tick(cat, words),
         EventKey::Settle => read_settle(words),
+        EventKey::Redeclare => read_redeclare(words),
         EventKey::Down => read_down(cat, words),
         EventKey::Up => read_up(cat, words),
     }

@@ -4,23 +4,27 @@ ghost use Rattle.std.specs.List.{list_any};
 ghost use Rattle.sdd_base.specs.declared.number.TxnNo.{TxnNo};
 ghost use Rattle.sdd_base.specs.Readings.{Gives};
 ghost use Rattle.sdd_script.specs.Rules.{rule_in};
-ghost use Rattle.sdd_script.specs.LineRules.{row_rules, name_of, opened, txn_rules, with_statement, statement_rules, closed, done_rules, is_submitted, with_submitted, with_event, event_rules, end_rules, keyword_rules, words_rules, sound_rules, line_rules};
+ghost use Rattle.sdd_script.specs.LineRules.{row_rules, opened, txn_rules, with_statement, statement_rules, closed, done_rules, is_submitted, with_submitted, with_event, event_rules, end_rules, keyword_rules, words_rules, sound_rules, line_rules};
 ghost use Rattle.sdd_script.specs.Occurrences.{event_of};
 ghost use Rattle.sdd_script.specs.Statements.{statement_of};
 
+use crate::class_lists::read_class_line;
 use crate::fault::{Counts, LineError, WorkRule, broken, known, must};
 use crate::grown::Grown;
 use crate::keyword::{EventKey, Keyword, StatementKey, keyword_of};
 use crate::limits::{check_limits, one_more_row, written_with};
+use crate::naming::name_in_word;
 use crate::occurrences::{read_event, read_tm};
+use crate::open_list::classes_in;
 use crate::place::{Header, Place};
+use crate::redeclaring::may_follow;
 use crate::state::State;
 use crate::statements::read_statement;
 use crate::values::read_row;
 use sdd_base::{Event, MAX_EVENTS, MAX_TXNS, Name, NoMemory, TmNo, TxnNo};
 use sdd_catalog::Catalogue;
 use sdd_lang::{Stmt, Txn};
-use sdd_words::{Word, are_free, are_sound, read_name, split_line, stands_free, text_of};
+use sdd_words::{Word, are_free, are_sound, split_line, stands_free, text_of};
 use std::alloc::Global;
 use std::mem;
 
@@ -44,15 +48,6 @@ fn row_line(
             state.rows.push(row)?;
             Ok(())
         }
-    }
-}
-
-fn name_in_word(alloc: Global, word: &Word) -> Result<Name, LineError>
-    ensures { Gives rule_in (λ n. n) result (name_of word.now) }
-{
-    match word {
-        Word::Plain(bytes) => known(WorkRule::UnknownName, read_name(alloc, bytes.as_slice())?),
-        Word::Quoted(_) => broken(WorkRule::UnknownName),
     }
 }
 
@@ -115,7 +110,8 @@ fn statement_line(
     add_statement(state, read_statement(alloc, cat, key, words)?)
 }
 
-fn close_txn(alloc: Global, state: &mut State) -> Result<(), LineError>
+/// Ends the transaction or the list of classes that is open.
+fn close(alloc: Global, state: &mut State) -> Result<(), LineError>
     ensures { Gives rule_in (λ _. state.new) result (closed state.old.place state.old) }
 {
     match mem::replace(&mut state.place, Place::Between) {
@@ -128,6 +124,12 @@ fn close_txn(alloc: Global, state: &mut State) -> Result<(), LineError>
             })?;
             Ok(())
         }
+        Place::Listing(list) => {
+            let classes = classes_in(list)?;
+            state.place = Place::Declared;
+            state.lists.push(classes.into_listed())?;
+            Ok(())
+        }
         _ => broken(WorkRule::BadLine),
     }
 }
@@ -136,7 +138,7 @@ fn done_line(alloc: Global, state: &mut State, words: &[Word]) -> Result<(), Lin
     ensures { Gives rule_in (λ _. state.new) result (done_rules state.old words.now) }
 {
     match words {
-        [] => close_txn(alloc, state),
+        [] => close(alloc, state),
         _ => broken(WorkRule::BadLine),
     }
 }
@@ -165,12 +167,16 @@ fn note_submitted(submitted: &mut Grown<TxnNo>, event: Event) -> Result<(), NoMe
     }
 }
 
-fn add_event(state: &mut State, event: Event) -> Result<(), LineError>
-    ensures { Gives rule_in (λ _. state.new) result (with_event state.old event) }
+fn add_event(cat: &Catalogue, state: &mut State, event: Event) -> Result<(), LineError>
+    ensures { Gives rule_in (λ _. state.new) result (with_event cat.now state.old event) }
 {
     must(
         WorkRule::SubmittedTwice,
         !is_submitted(state.submitted.as_slice(), event),
+    )?;
+    must(
+        WorkRule::BadEvent,
+        may_follow(cat, state.lists.len(), state.events.as_slice(), event),
     )?;
     must(
         WorkRule::TooMany(Counts::Event),
@@ -190,11 +196,11 @@ fn event_line(
     words: &[Word],
 ) -> Result<(), LineError>
     ensures { Gives rule_in (λ _. state.new) result
-        (event_rules state.old (event_of key cat.now state.old.names words.now)) }
+        (event_rules cat.now state.old (event_of key cat.now state.old.names words.now)) }
 {
     must(WorkRule::BadLine, state.place.takes_events())?;
     let event = read_event(alloc, cat, &state.names, key, words)?;
-    add_event(state, event)
+    add_event(cat, state, event)
 }
 
 fn end_line(state: &mut State, words: &[Word]) -> Result<(), LineError>
@@ -224,6 +230,7 @@ fn read_keyword_line(
         Keyword::Txn => txn_line(alloc, cat, state, words),
         Keyword::Statement(key) => statement_line(alloc, cat, state, key, words),
         Keyword::Done => done_line(alloc, state, words),
+        Keyword::Class(key) => read_class_line(alloc, cat, state, key, words),
         Keyword::Event(key) => event_line(alloc, cat, state, key, words),
         Keyword::End => end_line(state, words),
     }

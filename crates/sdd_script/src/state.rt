@@ -2,6 +2,7 @@ use crate::grown::Grown;
 use crate::names::Names;
 use crate::place::Place;
 use sdd_base::{Event, RelNo, Row, TxnNo};
+use sdd_catalog::ClassParts;
 use sdd_lang::{Stmt, Txn};
 
 /// What the lines so far have said.
@@ -16,6 +17,10 @@ pub struct State {
     pub txns: Grown<Txn>,
     /// The statements of the transaction that is open.
     pub statements: Grown<Stmt>,
+    /// The lists of classes that are ended.
+    pub lists: Grown<ClassParts>,
+    /// How many classes there are, those of the catalogue, of the lists and of the open one.
+    pub classes: u32,
     /// The transactions that were submitted.
     pub submitted: Grown<TxnNo>,
     pub events: Grown<Event>,

@@ -39,8 +39,8 @@ fn check_tail(state: &State, tail: &[u8]) -> Result<(), LineError>
     }
 }
 
-fn nothing_read(alloc: Global) -> State
-    ensures { result ≡ nothing_read }
+fn nothing_read(alloc: Global, cat: &Catalogue) -> State
+    ensures { result ≡ nothing_read cat.now }
 {
     State {
         place: Place::Rows,
@@ -49,6 +49,8 @@ fn nothing_read(alloc: Global) -> State
         names: Names::new(alloc),
         txns: Grown::new(alloc),
         statements: Grown::new(alloc),
+        lists: Grown::new(alloc),
+        classes: cat.classes(),
         submitted: Grown::new(alloc),
         events: Grown::new(alloc),
     }
@@ -86,6 +88,7 @@ pub fn read_workload(alloc: Global, bytes: &[u8], cat: &Catalogue) -> Result<Wor
     ensures exact { Tells result (workload cat.now bytes.now) }
     ensures accepted { IfOk result (λ work. Accepts cat.now bytes.now work) }
 {
+    cat.known();
     read_bytes(alloc, bytes, cat)
 }
 
@@ -98,10 +101,11 @@ fn read_bytes(alloc: Global, bytes: &[u8], cat: &Catalogue) -> Result<Workload, 
             rule: WorkRule::TooLong,
         }));
     }
-    let state = read_lines(alloc, cat, nothing_read(alloc), bytes)?;
+    let state = read_lines(alloc, cat, nothing_read(alloc, cat), bytes)?;
     Ok(Workload {
         rows: state.rows.into_listed(),
         txns: state.txns.into_listed(),
+        lists: state.lists.into_listed(),
         events: state.events.into_listed(),
     })
 }

@@ -1,4 +1,7 @@
+ghost use Rattle.std.specs.Prelude.{◌≡◌};
+
 use sdd_base::{Events, Listed, RelNo, Row};
+use sdd_catalog::ClassParts;
 use sdd_lang::Txn;
 
 /// The initial rows, each with its relation. Of two with one key the later one stands.
@@ -7,10 +10,25 @@ pub type StartRows = Listed<(RelNo, Row)>;
 /// Transactions, which are numbered from 1.
 pub type Txns = Listed<Txn>;
 
+/// Lists of classes, of which each `redeclare` puts the next one in force.
+pub type ClassLists = Listed<ClassParts>;
+
 /// What a run works on.
 #[derive(Drop, Debug, PartialEq, Eq)]
 pub struct Workload {
     pub rows: StartRows,
     pub txns: Txns,
+    pub lists: ClassLists,
     pub events: Events,
+}
+
+impl Workload {
+    ghost use Rattle.sdd_script.specs.Redeclaring.{has_lists};
+
+    /// Whether it declares lists of classes. Without them no event is a `redeclare`. Takes no memory.
+    pub fn has_lists(&self) -> bool
+        ensures { result ≡ has_lists self.now }
+    {
+        !self.lists.as_slice().is_empty()
+    }
 }

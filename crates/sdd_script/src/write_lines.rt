@@ -10,6 +10,7 @@ ghost use Rattle.sdd_words.specs.declared.word.Word.TheVariants.{Plain};
 ghost use Rattle.sdd_script.specs.Spelling.{ended, start_words, row_words, query_words, update_words, delete_words, site_word, count_word, statement_words, header_words, done_words, end_words, txn_lines, txn_bytes, name_of_txn, event_words, spelling};
 
 use crate::workload::Workload;
+use crate::write_lists::put_lists;
 use crate::write_words::{
     put_assigns, put_columns, put_conditions, put_count_word, put_plain, put_relation,
     put_relations, put_row, put_site,
@@ -305,7 +306,7 @@ fn put_events(out: &mut Vec<u8>, txns: &[Txn], events: &[Event]) -> Result<(), N
     Ok(())
 }
 
-/// The one spelling of a workload: its rows, transactions and events, each on its lines, and `end`.
+/// The one spelling of a workload: its rows, transactions, lists of classes and events, each on its lines, and `end`.
 /// What its numbers don't name in the catalogue has an empty name.
 ///
 /// Costs time and memory linear in the spelling.
@@ -315,6 +316,7 @@ pub fn write_workload(alloc: Global, cat: &Catalogue, work: &Workload) -> Result
     let mut out = Vec::new(alloc);
     put_starts(&mut out, cat, work.rows.as_slice())?;
     put_txns(&mut out, cat, work.txns.as_slice())?;
+    put_lists(&mut out, work.lists.as_slice())?;
     put_events(&mut out, work.txns.as_slice(), work.events.as_slice())?;
     put(&mut out, b"end\n")?;
     Ok(out)

@@ -8,11 +8,10 @@ use Rattle.sdd_base.specs.Words.{first_some, is_empty, or_else}
 use Rattle.sdd_base.specs.declared.event.Event.{Event}
 use Rattle.sdd_base.specs.declared.event.Event.TheVariants.{Submit, Deliver, Lose, Repeat, Resend, Tick, Settle, Redeclare, Down, Up}
 use Rattle.sdd_base.specs.declared.site.Site.{Site}
-use Rattle.sdd_catalog.specs.Catalogue.{Catalogue}
 use Rattle.sdd_module.specs.SiteLog.{Act}
 use Rattle.sdd_net.specs.Links.{delivered, packet_at, quiet, round, unacked}
 use Rattle.sdd_wire.specs.declared.msg.Msg.{Msg}
-use Rattle.sdd_script.specs.Valid.{IsValidEvent}
+use Rattle.sdd_script.proofs.NoLists.{IsNoRedeclare}
 use Rattle.sdd_log.specs.Due.{does_at, due_by, hand_due, hand_number, hand_on, hand_with, mark_due, next, next_at, next_number, note_if, site_due}
 use Rattle.sdd_log.specs.Entries.{Given, Log, Entry, Mark, Round, Redeclares, Hand, Submitted, Notes, Does}
 use Rattle.sdd_log.specs.Lawful.{IsLawful}
@@ -143,20 +142,20 @@ one_list g (Submitted a k ∷ log) none h = one_list g log none h.1
 one_list g (Notes ∷ log) none h = one_list g log none h.1
 one_list g (Does a act ∷ log) none h = one_list g log none h.1
 
--- the schedules of valid workloads are such
+-- events of which none is a `redeclare` are such
 
-no_lists_by : (cat : Catalogue) (count : ℕ) (e : Event) (events : List Event) → IsValidEvent cat count e → NoLists events → NoLists (e ∷ events)
-no_lists_by cat count (Submit n) events v h = h
-no_lists_by cat count (Deliver a b k) events v h = h
-no_lists_by cat count (Lose a b k) events v h = h
-no_lists_by cat count (Repeat a b k) events v h = h
-no_lists_by cat count (Resend a b) events v h = h
-no_lists_by cat count (Tick t k) events v h = h
-no_lists_by cat count Settle events v h = h
-no_lists_by cat count Redeclare events v h = v
-no_lists_by cat count (Down d) events v h = h
-no_lists_by cat count (Up d) events v h = h
+no_lists_by : (e : Event) (events : List Event) → IsNoRedeclare e → NoLists events → NoLists (e ∷ events)
+no_lists_by (Submit n) events v h = h
+no_lists_by (Deliver a b k) events v h = h
+no_lists_by (Lose a b k) events v h = h
+no_lists_by (Repeat a b k) events v h = h
+no_lists_by (Resend a b) events v h = h
+no_lists_by (Tick t k) events v h = h
+no_lists_by Settle events v h = h
+no_lists_by Redeclare events v h = absurd cc
+no_lists_by (Down d) events v h = h
+no_lists_by (Up d) events v h = h
 
-pub no_lists : (cat : Catalogue) (count : ℕ) (events : List Event) → All (IsValidEvent cat count) events → NoLists events
-no_lists cat count [] v = tt
-no_lists cat count (e ∷ events) v = no_lists_by cat count e events (All-head (IsValidEvent cat count) e events v) (no_lists cat count events (All-tail (IsValidEvent cat count) e events v))
+pub no_lists : (events : List Event) → All IsNoRedeclare events → NoLists events
+no_lists [] v = tt
+no_lists (e ∷ events) v = no_lists_by e events (All-head IsNoRedeclare e events v) (no_lists events (All-tail IsNoRedeclare e events v))

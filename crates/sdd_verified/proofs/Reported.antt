@@ -47,6 +47,8 @@ use Rattle.sdd_verify.specs.declared.limits.TheConstants.{MAX_REPORT_BYTES}
 use Rattle.sdd_verified.proofs.FirstLines.{FirstLine, first_line, whole_end}
 use Rattle.sdd_verified.proofs.Moved.{IsSubmittedOne, StandInTurn, moved, moved_line, moved_texts, moved_there, moved_turn}
 use Rattle.sdd_verified.proofs.Numbered.{one_place, separates}
+use Rattle.sdd_script.specs.Redeclaring.{has_lists}
+use Rattle.sdd_script.proofs.NoLists.{no_redeclare}
 use Rattle.sdd_verified.proofs.OneList.{no_lists, one_list}
 use Rattle.sdd_verified.proofs.Positions.{AreDifferent, all_members, different, member, not_before}
 use Rattle.sdd_verified.proofs.ReportLines.{lines_in, rest_begins, trace_is, trace_lines, trace_others}
@@ -84,7 +86,7 @@ names_of_txns : (cat : Catalogue) (txns : List Txn) → All (IsValidTxn cat) txn
 names_of_txns cat [] valid = All-nil (λ (t : Txn). IsName t.name)
 names_of_txns cat (t ∷ txns) valid = All-cons (λ (u : Txn). IsName u.name) t txns (All-head (IsValidTxn cat) t txns valid).named (names_of_txns cat txns (All-tail (IsValidTxn cat) t txns valid))
 
-module _ (cat : Catalogue) (work : Workload) (text : List ℕ) (sound : IsSound cat) (named : AreNamed cat) (valid : IsValid cat work) (r : IsReportOn cat work text) where
+module _ (cat : Catalogue) (work : Workload) (text : List ℕ) (sound : IsSound cat) (named : AreNamed cat) (valid : IsValid cat work) (lists : has_lists work ≡ false) (r : IsReportOn cat work text) where
   abbrev Happened : History
   Happened = history r.log
 
@@ -92,7 +94,7 @@ module _ (cat : Catalogue) (work : Workload) (text : List ℕ) (sound : IsSound 
   order = serial_order cat (history r.log)
 
   none : redeclares r.log ≡ 0
-  none = one_list (given_of cat r.table work) r.log (no_lists cat (length work.txns) work.events valid.events) r.log_is.lawful
+  none = one_list (given_of cat r.table work) r.log (no_lists work.events (no_redeclare cat work valid lists)) r.log_is.lawful
 
   keeps : KeepsStarts cat (one_era cat) work.txns (history r.log)
   keeps = starts cat r.table work sound valid r.table_is r.log r.log_is none

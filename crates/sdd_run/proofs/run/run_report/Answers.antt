@@ -9,7 +9,7 @@ report_on-requires c =
     let r = c.in_ok-world.ensures.run in (
       given_of cat c.in_ok-table.table c.args.work,
       r.log,
-      orderable cat c.in_ok-table.table c.args.work c.known.ensures.sound c.requires c.in_ok-table.ensures r.log r.log_is r.one_era,
+      orderable cat c.in_ok-table.table c.args.work c.known.ensures.sound c.requires.valid c.in_ok-table.ensures r.log r.log_is r.one_era,
       r.stands,
     )
 
@@ -18,5 +18,5 @@ returns-clause-report c =
     let cat = c.args.catalogue.now in
     let table = c.in_ok-table.table in
     let r = c.in_ok-world.ensures.run in
-    reported cat table c.args.work r.log c.known.ensures.sound c.requires c.in_ok-table.ensures r.log_is r.one_era c.in_ok-report_on.field-0.items
+    reported cat table c.args.work r.log c.known.ensures.sound c.requires.valid c.in_ok-table.ensures r.log_is r.one_era c.in_ok-report_on.field-0.items
     (c.in_ok-report_on.ensures (given_of cat table c.args.work) r.log r.stands)

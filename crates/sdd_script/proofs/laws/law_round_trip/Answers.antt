@@ -5,4 +5,4 @@ pub returns-clause-again : goal.returns-clause-again
 returns-clause-again c = reads_again c.args.cat.now c.known.ensures.sound c.known.ensures.whole c.known.ensures.named
 
 pub returns-clause-spelled : goal.returns-clause-spelled
-returns-clause-spelled c = reads_spelling c.args.cat.now
+returns-clause-spelled c = reads_spelling c.args.cat.now c.known.ensures.sound c.known.ensures.whole

@@ -1,0 +1,25 @@
+-- Where every transaction that was submitted is committed, none is pending.
+use Rattle.std.proofs.Common.{ℕ, ◌≡◌, None, [], refl}
+use Rattle.sdd_history.specs.Records.{History}
+use Rattle.sdd_history.specs.declared.record.Rec.{Rec}
+use Rattle.sdd_history.specs.declared.record.Rec.TheVariants.{Answer, Apply, Arrive, Commit, Nothing, Pass, Reject, Start, Submit, Wait}
+use Rattle.sdd_invariants.proofs.Bools.{same_number}
+use Rattle.sdd_log.specs.Entries.{Given, Log, history}
+use Rattle.sdd_rest.proofs.Committed.{any_commit, none_left}
+use Rattle.sdd_rest.specs.Committed.{AllCommitted, IsNotLeft}
+use Rattle.sdd_run.specs.Pending.{Telling, commits, pending_by, pending_of}
+
+not_pending : (tell : Telling) (g : Given) (log : Log) (all : History) (x : ℕ × Rec) → IsNotLeft all x → pending_by tell g log all x ≡ None
+not_pending tell g log all (event, Submit n) h = rw (any_commit all (commits n.0) n.0 (λ e attempt reply changes values rows. same_number n.0) h) refl
+not_pending tell g log all (event, Start txn attempt class ts p2 uses) h = refl
+not_pending tell g log all (event, Arrive txn attempt dm) h = refl
+not_pending tell g log all (event, Wait txn attempt dm conds) h = refl
+not_pending tell g log all (event, Answer txn attempt dm) h = refl
+not_pending tell g log all (event, Reject txn attempt dm class ts) h = refl
+not_pending tell g log all (event, Commit txn attempt reply changes values rows) h = refl
+not_pending tell g log all (event, Apply txn class dm ts) h = refl
+not_pending tell g log all (event, Pass class dm time) h = refl
+not_pending tell g log all (event, Nothing) h = refl
+
+pub none_pending : (tell : Telling) (g : Given) (log : Log) → AllCommitted (history log) → pending_of tell g log ≡ []
+none_pending tell g log all = none_left (history log) (pending_by tell g log (history log)) all (not_pending tell g log (history log))

@@ -1,0 +1,32 @@
+-- A run that a settle ends, and that leaves nothing undone.
+use Rattle.std.specs.Prelude.{ℕ, ◌≡◌, false, List, [], ◌∷◌, ◌++◌, refl}
+use Rattle.sdd_base.specs.Numbers.{txn_no}
+use Rattle.sdd_base.specs.declared.event.Event.{Event}
+use Rattle.sdd_base.specs.declared.event.Event.TheVariants.{Settle, Submit}
+use Rattle.sdd_catalog.specs.Catalogue.{Catalogue}
+use Rattle.sdd_laws.specs.Deeds.{IsSubmitted}
+use Rattle.sdd_log.specs.Entries.{Log}
+use Rattle.sdd_log.specs.Traffic.{is_down}
+use Rattle.sdd_order.specs.Numbers.{IsModule}
+use Rattle.sdd_report.specs.Report.{Report}
+use Rattle.sdd_rest.specs.Committed.{AllCommitted}
+use Rattle.sdd_run.specs.Standing.{times_in}
+
+-- a settle is the last of the events
+pub record EndsWithSettle (events : List Event) : Type 0 where
+  pub before : List Event
+  pub is : events ≡ before ++ Settle ∷ []
+
+-- at the end of the log no data module is down
+abbrev pub NoneIsDown : Catalogue → Log → Type 0
+NoneIsDown cat log = (d : ℕ) → IsModule cat d → is_down d log ≡ false
+
+-- a report by which each transaction that was submitted is committed and stands in the order once, and none is pending
+pub record TellsAllCommitted (r : Report) : Type 0 where
+  pub committed : AllCommitted r.history
+  pub in_order : (n place : ℕ) → IsSubmitted r.history n place → times_in n r.order ≡ 1
+  pub none_pending : r.pending ≡ []
+
+-- worked: a submit and a settle
+pub ends_with_settle : EndsWithSettle (Submit (txn_no 1) ∷ Settle ∷ [])
+ends_with_settle = record { before = Submit (txn_no 1) ∷ []; is = refl }

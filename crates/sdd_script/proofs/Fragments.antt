@@ -1,0 +1,64 @@
+-- Fragments by their names: what is read is there, and what is there is read.
+use Rattle.std.proofs.Common.{◌≡◌, ℕ, List, Bool, true, false, cond, Option, Some, None, Result, Ok, refl, ap, subst, ◌∙◌}
+use Rattle.std.specs.Prelude.{is_some}
+use Rattle.std.specs.Option.{option_map_or}
+use Rattle.sdd_base.specs.Readings.{◌>>=◌, known}
+use Rattle.sdd_catalog.specs.Catalogue.{Catalogue, has_copy}
+use Rattle.sdd_words.specs.Names.{name_in}
+use Rattle.sdd_words.specs.declared.word.Word.{Word}
+use Rattle.sdd_words.specs.declared.word.Word.TheVariants.{Plain, Quoted}
+use Rattle.sdd_script.specs.ClassLists.{fragment_of}
+use Rattle.sdd_script.specs.Naming.{fragment_named}
+use Rattle.sdd_script.specs.Valid.{IsFragment, is_kept_at}
+use Rattle.sdd_script.specs.declared.fault.WorkRule.{WorkRule}
+use Rattle.sdd_script.specs.declared.fault.WorkRule.TheVariants.{UnknownName}
+use Rattle.sdd_base.proofs.ReadingLaws.{ok_is}
+use Rattle.sdd_script.proofs.StepLaws.{known_then}
+use Rattle.sdd_script.proofs.SoundStates.{named_takes}
+
+abbrev named : List ℕ → ℕ → List ℕ × ℕ
+named name frag = (name, frag)
+
+pub record IsFragmentWord (cat : Catalogue) (w : Word) (f : List ℕ × ℕ) : Type 0 where
+  pub spelled : w ≡ Plain f.0
+  pub there : IsFragment cat f.0
+  pub number : fragment_named cat f.0 ≡ Some f.1
+
+there_if : {A : Type 0} (o : Option A) (x : A) → o ≡ Some x → is_some o ≡ true
+there_if o x e = ap is_some e
+
+pub fragment_takes : (cat : Catalogue) (w : Word) (f : List ℕ × ℕ) → fragment_of cat w ≡ Ok f → IsFragmentWord cat w f
+fragment_takes cat (Quoted text) f e = absurd cc
+fragment_takes cat (Plain bytes) f e =
+    let a = known_then UnknownName (name_in bytes) (λ name. known UnknownName (fragment_named cat name) >>= λ frag. Ok (named name frag)) f e in
+    let b = known_then UnknownName (fragment_named cat a.0) (λ frag. Ok (named a.0 frag)) f a.2 in
+    let n = named_takes bytes a.0 a.1 in
+    subst (λ (x : List ℕ × ℕ). IsFragmentWord cat (Plain bytes) x) (ok_is (named a.0 b.0) f b.2) (record {
+      spelled = ap (λ (l : List ℕ). Plain l) n.1;
+      there = (n.0, there_if (fragment_named cat a.0) b.0 b.1);
+      number = b.1;
+    })
+
+pub some_there : {A : Type 0} (o : Option A) → is_some o ≡ true → (x : A) × (o ≡ Some x)
+some_there None e = absurd cc
+some_there (Some x) e = (x, refl)
+
+pub record IsReadFragment (cat : Catalogue) (name : List ℕ) : Type 0 where
+  pub number : ℕ
+  pub named : fragment_named cat name ≡ Some number
+  pub read : fragment_of cat (Plain name) ≡ Ok (name, number)
+
+pub fragment_again : (cat : Catalogue) (name : List ℕ) → IsFragment cat name → IsReadFragment cat name
+fragment_again cat name h =
+    let s = some_there (fragment_named cat name) h.1 in
+    let a : name_in name ≡ Some name = ap (λ (b : Bool). cond b (Some name) None) h.0 in
+    let frag : Option (List ℕ) → Result (List ℕ × ℕ) WorkRule = λ (o : Option (List ℕ)). known UnknownName o >>= λ n. known UnknownName (fragment_named cat n) >>= λ f. Ok (named n f) in
+    record {
+      number = s.0;
+      named = s.1;
+      read = ap frag a ∙ ap (λ (o : Option ℕ). known UnknownName o >>= λ f. Ok (named name f)) s.1;
+    }
+
+-- a copy of the fragment with the name is one of the fragment with its number
+pub kept_at : (cat : Catalogue) (dm : ℕ) (name : List ℕ) (frag : ℕ) → fragment_named cat name ≡ Some frag → is_kept_at cat dm name ≡ has_copy cat dm frag
+kept_at cat dm name frag e = ap (λ (o : Option ℕ). option_map_or (has_copy cat dm) o false) e

@@ -1,0 +1,94 @@
+-- Where a `redeclare` may stand: the test of a line, and what holds of all events.
+use Rattle.std.proofs.Common.{◌≡◌, ℕ, zero, suc, ◌+◌, ◌<◌, ◌≤◌, List, [], ◌∷◌, ◌++◌, length, take, Bool, true, false, Some, refl, sym, ap, subst, ◌∙◌, inl, inr, arith, lt-ltb}
+use Rattle.std.specs.Prelude.{not, nat_lt, slice_get, count_by}
+use Rattle.std.specs.List.{list_any, range_with_len}
+use Rattle.std.proofs.lemmas.Bool.{ltb-true, cases_lt}
+use Rattle.std.proofs.lemmas.List.{take-append-le}
+use Rattle.std.proofs.Math.Seq.{take-append_seam}
+use Rattle.sdd_base.specs.declared.event.Event.{Event}
+use Rattle.sdd_base.specs.declared.event.Event.TheVariants.{Submit, Deliver, Lose, Repeat, Resend, Tick, Settle, Redeclare, Down, Up}
+use Rattle.sdd_script.specs.Redeclaring.{is_redeclare, is_down, some_down, may_redeclare, may_follow}
+use Rattle.sdd_script.specs.Valid.{MayRedeclare, AreTimely}
+use Rattle.sdd_script.proofs.StepLaws.{both_hold, both_are, not_true, some_is}
+use Rattle.sdd_script.proofs.NamePlaces.{or_false}
+
+-- ---- no number of a range passes a test
+
+none_passes : (p : ℕ → Bool) (a n : ℕ) → list_any p (range_with_len a n) ≡ false → (k : ℕ) → a ≤ k → k < a + n → p k ≡ false
+none_passes p a zero e k lo hi = absurd (omega arith)
+none_passes p a (suc n) e k lo hi =
+    let h = or_false (p a) (list_any p (range_with_len (a + 1) n)) e in
+    elim (cases_lt a k) as (λ o. p k ≡ false) [
+      | inl lt ↦ none_passes p (a + 1) n h.1 k (omega arith) (omega arith)
+      | inr le ↦ let same : a ≡ k = omega arith in subst (λ (x : ℕ). p x ≡ false) same h.0
+    ]
+
+passes_none : (p : ℕ → Bool) (a n : ℕ) → ((k : ℕ) → a ≤ k → k < a + n → p k ≡ false) → list_any p (range_with_len a n) ≡ false
+passes_none p a zero h = refl
+passes_none p a (suc n) h =
+    let here : p a ≡ false = h a (omega arith) (omega arith) in
+    let later : list_any p (range_with_len (a + 1) n) ≡ false = passes_none p (a + 1) n (λ k lo hi. h k (omega (arith, lo)) (omega (arith, hi))) in
+    rw (here, later) refl
+
+-- ---- a line
+
+pub may_redeclare_takes : (dms lists : ℕ) (events : List Event) → may_redeclare dms lists events ≡ true → MayRedeclare dms lists events
+may_redeclare_takes dms lists events e =
+    let h = both_hold (nat_lt (count_by is_redeclare events) lists) (not (some_down dms events)) e in
+    record {
+      left = ltb-true (count_by is_redeclare events) lists h.0;
+      up = λ dm within. none_passes (λ d. is_down d events) 1 dms (not_true (some_down dms events) h.1) dm within.0 (omega (arith, within.1));
+    }
+
+pub may_redeclare_again : (dms lists : ℕ) (events : List Event) → MayRedeclare dms lists events → may_redeclare dms lists events ≡ true
+may_redeclare_again dms lists events h =
+    let up : some_down dms events ≡ false = passes_none (λ d. is_down d events) 1 dms (λ k lo hi. h.up k (lo, omega (arith, hi))) in
+    both_are (nat_lt (count_by is_redeclare events) lists) (not (some_down dms events)) (lt-ltb (count_by is_redeclare events) lists h.left) (ap not up)
+
+-- ---- the events so far
+
+-- at the end of a list stands the last item
+at_end : {A : Type 0} (xs : List A) (x : A) (i : ℕ) (y : A) → slice_get (xs ++ x ∷ []) i ≡ Some y → length xs ≤ i → (i ≡ length xs) × (x ≡ y)
+at_end [] x zero y e le = (refl, some_is x y e)
+at_end [] x (suc i) y e le = absurd cc
+at_end (z ∷ xs) x zero y e le = absurd (omega arith)
+at_end (z ∷ xs) x (suc i) y e le = let h = at_end xs x i y e (omega arith) in (ap suc h.0, h.1)
+
+before_end : {A : Type 0} (xs : List A) (x : A) (i : ℕ) → i < length xs → slice_get (xs ++ x ∷ []) i ≡ slice_get xs i
+before_end [] x i lt = absurd (omega arith)
+before_end (z ∷ xs) x zero lt = refl
+before_end (z ∷ xs) x (suc i) lt = before_end xs x i (omega arith)
+
+pub item_at : {A : Type 0} (xs : List A) (x : A) (rest : List A) → slice_get (xs ++ x ∷ rest) (length xs) ≡ Some x
+item_at [] x rest = refl
+item_at (z ∷ xs) x rest = item_at xs x rest
+
+redeclare_may : (dms lists : ℕ) (events : List Event) (e : Event) → may_follow dms lists events e ≡ true → e ≡ Redeclare → MayRedeclare dms lists events
+redeclare_may dms lists events e m is = may_redeclare_takes dms lists events (subst (λ (x : Event). may_follow dms lists events x ≡ true) is m)
+
+-- an event that may follow keeps all of them timely
+pub timely_more : (dms lists : ℕ) (events : List Event) (e : Event) → AreTimely dms lists events → may_follow dms lists events e ≡ true → AreTimely dms lists (events ++ e ∷ [])
+timely_more dms lists events e h may i is =
+    elim (cases_lt i (length events)) as (λ o. MayRedeclare dms lists (take i (events ++ e ∷ []))) [
+      | inl lt ↦ subst (MayRedeclare dms lists) (sym (take-append-le i events (e ∷ []) (omega arith))) (h i (sym (before_end events e i lt) ∙ is))
+      | inr le ↦
+          let at = at_end events e i Redeclare is le in
+          let front : take i (events ++ e ∷ []) ≡ events = ap (λ (n : ℕ). take n (events ++ e ∷ [])) at.0 ∙ take-append_seam events (e ∷ []) in
+          subst (MayRedeclare dms lists) (sym front) (redeclare_may dms lists events e may at.1)
+    ]
+
+-- and where all are timely, each may follow those before it
+pub timely_may : (dms lists : ℕ) (events : List Event) (e : Event) (es : List Event) → AreTimely dms lists (events ++ e ∷ es) → may_follow dms lists events e ≡ true
+timely_may dms lists events Redeclare es h = may_redeclare_again dms lists events (subst (MayRedeclare dms lists) (take-append_seam events (Redeclare ∷ es)) (h (length events) (item_at events Redeclare es)))
+timely_may dms lists events (Submit txn) es h = refl
+timely_may dms lists events (Deliver from to place) es h = refl
+timely_may dms lists events (Lose from to place) es h = refl
+timely_may dms lists events (Repeat from to place) es h = refl
+timely_may dms lists events (Resend from to) es h = refl
+timely_may dms lists events (Tick tm n) es h = refl
+timely_may dms lists events Settle es h = refl
+timely_may dms lists events (Down dm) es h = refl
+timely_may dms lists events (Up dm) es h = refl
+
+pub none_timely : (dms lists : ℕ) → AreTimely dms lists []
+none_timely dms lists i e = absurd cc

@@ -1,0 +1,280 @@
+-- The lines of lists of classes keep what holds in every state, and add themselves to the lines before.
+use Rattle.std.proofs.Common.{◌≡◌, ℕ, ◌+◌, ◌<◌, ◌≤◌, List, [], ◌∷◌, ◌++◌, length, Bool, true, false, cond, ◌&&◌, Some, None, Ok, refl, sym, ap, subst, ◌∙◌, arith, append-nil}
+use Rattle.std.specs.Prelude.{codes, not, nat_lt}
+use Rattle.std.proofs.lemmas.Bool.{ltb-true}
+use Rattle.sdd_base.specs.declared.event.Event.{Event}
+use Rattle.sdd_base.specs.declared.limits.TheConstants.{MAX_CLASSES, MAX_READS}
+use Rattle.sdd_base.specs.declared.number.DmNo.{DmNo}
+use Rattle.sdd_base.specs.declared.number.TmNo.{TmNo}
+use Rattle.sdd_base.specs.declared.site.Site.TheVariants.{T, D}
+use Rattle.sdd_base.specs.Readings.{◌>>=◌, known, must}
+use Rattle.sdd_catalog.specs.Catalogue.{Catalogue, has_copy}
+use Rattle.sdd_catalog.specs.Rules.{has_name}
+use Rattle.sdd_catalog.specs.declared.parts.ClassPart.{ClassPart}
+use Rattle.sdd_catalog.specs.declared.parts.ReadPart.{ReadPart}
+use Rattle.sdd_lang.specs.declared.statement.Stmt.{Stmt}
+use Rattle.sdd_lang.specs.declared.transaction.Txn.{Txn}
+use Rattle.sdd_words.specs.Keywords.{is_free}
+use Rattle.sdd_words.specs.declared.word.Word.{Word}
+use Rattle.sdd_words.specs.declared.word.Word.TheVariants.{Plain}
+use Rattle.sdd_script.specs.ClassLists.{joined, is_taken, one_more_class, with_class_of, with_read_of, with_write_of, fragment_of, list_rules, class_rules, reads_rules, writes_rules}
+use Rattle.sdd_script.specs.LineRules.{closed, done_rules}
+use Rattle.sdd_script.specs.Naming.{name_of}
+use Rattle.sdd_script.specs.Occurrences.{dm_of, tm_of}
+use Rattle.sdd_script.specs.OpenLists.{class_so_far, classes_in, no_classes, with_class, with_read, with_write, takes_reads as takes_reads_in, takes_writes as takes_writes_in}
+use Rattle.sdd_script.specs.Places.{takes_lists, takes_classes, takes_reads, takes_writes, open_list, reads_at, writes_at}
+use Rattle.sdd_script.specs.Spelling.{list_words, class_words, reads_words, writes_words, done_words, site_word}
+use Rattle.sdd_script.specs.Valid.{AreTimely, IsValidRead, read_names}
+use Rattle.sdd_script.specs.declared.fault.Counts.TheVariants as counts
+use Rattle.sdd_script.specs.declared.fault.WorkRule.TheVariants.{BadClass, BadLine, TooMany}
+use Rattle.sdd_script.specs.declared.limits.TheConstants.{MAX_LISTS}
+use Rattle.sdd_script.specs.declared.open_list.OpenList.{OpenList}
+use Rattle.sdd_script.specs.declared.place.Place.{Place}
+use Rattle.sdd_script.specs.declared.place.Place.TheVariants as places
+use Rattle.sdd_script.specs.declared.state.State.{State}
+use Rattle.sdd_base.proofs.ReadingLaws.{bind_ok, ok_is}
+use Rattle.sdd_script.proofs.StepLaws.{must_then, known_then, both_hold, not_true, some_is}
+use Rattle.sdd_script.proofs.EventLaws.{dm_takes, tm_takes}
+use Rattle.sdd_script.proofs.Fragments.{fragment_takes, kept_at}
+use Rattle.sdd_script.proofs.Declaring.{class_declared, read_declared, write_declared, joined_more}
+use Rattle.sdd_script.proofs.ListLines.{AddsLine, list_more, listing_more, class_more, read_more, write_more, listed_more}
+use Rattle.sdd_script.proofs.RedeclareLaws.{none_timely}
+use Rattle.sdd_script.proofs.SoFar.{lines_at, InOrder}
+use Rattle.sdd_script.proofs.SoundStates.{Sound, Declares, Leads, HeaderFits, names_of, open_name, lists_open, name_of_takes, one_longer, at_place, txn_closed, two_words}
+
+-- ---- only the place, the lists and the count of classes change
+
+abbrev with_lists : State → Place → List (List ClassPart) → ℕ → State
+with_lists st p lists n = record st { place = p; lists = lists; classes = n }
+
+record IsMoved (cat : Catalogue) (st : State) (p : Place) (lists : List (List ClassPart)) (n : ℕ) : Type 0 where
+  header : HeaderFits cat p
+  unnamed : open_name p ≡ []
+  declares : Declares cat (joined lists ++ classes_in (open_list p)) n
+  few_lists : length lists + lists_open p ≤ MAX_LISTS
+  order : InOrder p st.txns lists st.statements st.events
+
+moved : (cat : Catalogue) (st : State) (p : Place) (lists : List (List ClassPart)) (n : ℕ) → Sound cat st → open_name st.place ≡ [] → st.events ≡ [] → IsMoved cat st p lists n → Sound cat (with_lists st p lists n)
+moved cat st p lists n s unnamed none o = record {
+  rows = s.rows;
+  txns = s.txns;
+  statements = s.statements;
+  values = s.values;
+  few_statements = s.few_statements;
+  header = o.header;
+  names = s.names ∙ ap (λ (l : List (List ℕ)). names_of st.txns ++ l) (unnamed ∙ sym o.unnamed);
+  differ = s.differ;
+  declares = o.declares;
+  few_lists = o.few_lists;
+  timely = subst (AreTimely cat.dms (length lists)) (sym none) (none_timely cat.dms (length lists));
+  events = s.events;
+  submitted = s.submitted;
+  once = s.once;
+  written = s.written;
+  few_rows = s.few_rows;
+  few_txns = s.few_txns;
+  few_events = s.few_events;
+  order = o.order;
+}
+
+-- ---- a list begins
+
+record IsOutside (place : Place) (ss : List Stmt) (events : List Event) : Type 0 where
+  unnamed : open_name place ≡ []
+  none : open_list place ≡ no_classes
+  no_statements : ss ≡ []
+  no_events : events ≡ []
+
+outside : (place : Place) (txns : List Txn) (lists : List (List ClassPart)) (ss : List Stmt) (events : List Event) → takes_lists place ≡ true → InOrder place txns lists ss events → IsOutside place ss events
+outside places.Rows txns lists ss events t o = record { unnamed = refl; none = refl; no_statements = o.2; no_events = o.3 }
+outside places.Between txns lists ss events t o = record { unnamed = refl; none = refl; no_statements = o.1; no_events = o.2 }
+outside places.Declared txns lists ss events t o = record { unnamed = refl; none = refl; no_statements = o.0; no_events = o.1 }
+outside (places.Inside header) txns lists ss events t o = absurd cc
+outside (places.Listing list) txns lists ss events t o = absurd cc
+outside places.Events txns lists ss events t o = absurd cc
+outside places.Ended txns lists ss events t o = absurd cc
+
+abbrev begun : State → State
+begun st = record st { place = places.Listing no_classes }
+
+pub list_leads : (cat : Catalogue) (st to : State) (words : List Word) → Sound cat st → list_rules st words ≡ Ok to → Leads cat st to (Plain (codes "list") ∷ words)
+list_leads cat st to [] s e =
+    let a = must_then BadLine (takes_lists st.place) (λ _. must (TooMany counts.List) (nat_lt (length st.lists) MAX_LISTS) >>= λ _. Ok (begun st)) to e in
+    let b = must_then (TooMany counts.List) (nat_lt (length st.lists) MAX_LISTS) (λ _. Ok (begun st)) to a.1 in
+    let o = outside st.place st.txns st.lists st.statements st.events a.0 s.order in
+    let room : length st.lists < MAX_LISTS = ltb-true (length st.lists) MAX_LISTS b.0 in
+    subst (λ (x : State). Leads cat st x list_words) (ok_is (begun st) to b.1) (record {
+      sound = moved cat st (places.Listing no_classes) st.lists st.classes s o.unnamed o.no_events (record {
+        header = tt;
+        unnamed = refl;
+        declares = subst (λ (l : OpenList). Declares cat (joined st.lists ++ classes_in l) st.classes) o.none s.declares;
+        few_lists = omega (arith, room);
+        order = (o.no_statements, o.no_events);
+      });
+      lines = list_more cat st.rows st.txns st.lists st.place st.statements st.events a.0 s.order;
+    })
+list_leads cat st to (w ∷ words) s e = absurd cc
+
+-- ---- a line inside a list
+
+abbrev Within : Place → Type 0
+Within place = place ≡ places.Listing (open_list place)
+
+inside_leads : (cat : Catalogue) (st : State) (new : OpenList) (n : ℕ) (w : List Word) → Sound cat st → Within st.place → Declares cat (joined st.lists ++ classes_in new) n → AddsLine (open_list st.place) new w
+    → Leads cat st (with_lists st (places.Listing new) st.lists n) w
+inside_leads cat st new n w s within d adds =
+    let o : (st.statements ≡ []) × (st.events ≡ []) = subst (λ (p : Place). InOrder p st.txns st.lists st.statements st.events) within s.order in
+    let few : length st.lists + 1 ≤ MAX_LISTS = subst (λ (p : Place). length st.lists + lists_open p ≤ MAX_LISTS) within s.few_lists in
+    record {
+      sound = moved cat st (places.Listing new) st.lists n s (ap open_name within) o.1 (record { header = tt; unnamed = refl; declares = d; few_lists = few; order = o });
+      lines =
+          listing_more cat st.rows st.txns st.lists (open_list st.place) new w st.statements st.events adds o.1
+          ∙ ap (λ (p : Place). lines_at cat st.rows st.txns st.lists p st.statements st.events ++ w ∷ []) (sym within);
+    }
+
+-- a class
+
+in_list : (place : Place) → takes_classes place ≡ true → Within place
+in_list (places.Listing list) t = refl
+in_list places.Rows t = absurd cc
+in_list (places.Inside header) t = absurd cc
+in_list places.Between t = absurd cc
+in_list places.Declared t = absurd cc
+in_list places.Events t = absurd cc
+in_list places.Ended t = absurd cc
+
+abbrev classed : State → List ℕ → TmNo → ℕ → State
+classed st name tm n = record st { place = places.Listing (with_class (open_list st.place) name tm); classes = n }
+
+one_more_is : (classes n : ℕ) (b : Bool) → nat_lt classes MAX_CLASSES ≡ b → cond b (Some (classes + 1)) None ≡ Some n → (classes + 1 ≡ n) × (classes < MAX_CLASSES)
+one_more_is classes n true t e = (some_is (classes + 1) n e, ltb-true classes MAX_CLASSES t)
+one_more_is classes n false t e = absurd cc
+
+pub class_leads : (cat : Catalogue) (st to : State) (words : List Word) → Sound cat st → class_rules cat st words ≡ Ok to → Leads cat st to (Plain (codes "class") ∷ words)
+class_leads cat st to [] s e = absurd cc
+class_leads cat st to (w ∷ []) s e = absurd cc
+class_leads cat st to (word ∷ tm ∷ []) s e =
+    let a = must_then BadLine (takes_classes st.place && (is_free word && is_free tm)) (λ _. name_of word >>= λ name. tm_of cat tm >>= λ t. with_class_of cat st name t) to e in
+    let b = bind_ok (name_of word) (λ name. tm_of cat tm >>= λ t. with_class_of cat st name t) to a.1 in
+    let c = bind_ok (tm_of cat tm) (λ t. with_class_of cat st b.0 t) to b.2 in
+    let d = must_then BadClass (not (is_taken cat st b.0)) (λ _. known (TooMany counts.Class) (one_more_class st.classes) >>= λ n. Ok (classed st b.0 c.0 n)) to c.2 in
+    let f = known_then (TooMany counts.Class) (one_more_class st.classes) (λ n. Ok (classed st b.0 c.0 n)) to d.1 in
+    let place = (both_hold (takes_classes st.place) (is_free word && is_free tm) a.0).0 in
+    let n = one_more_is st.classes f.0 (nat_lt st.classes MAX_CLASSES) refl f.1 in
+    let w = name_of_takes word b.0 b.1 in
+    let t = tm_takes cat tm c.0 c.1 in
+    let l : OpenList = open_list st.place in
+    let spelled : Plain (codes "class") ∷ word ∷ tm ∷ [] ≡ class_words (class_so_far (record { name = b.0; tm = c.0; reads = []; writes = [] })) = two_words (Plain (codes "class")) word (Plain b.0) tm (site_word (T c.0)) w.0 t.0 in
+    let leads = inside_leads cat st (with_class l b.0 c.0) (st.classes + 1) (class_words (class_so_far (record { name = b.0; tm = c.0; reads = []; writes = [] }))) s (in_list st.place place)
+    (class_declared cat st.lists l st.classes b.0 c.0 s.declares w.1 t.1 (not_true (is_taken cat st b.0) d.0) n.1) (class_more l b.0 c.0) in
+    subst (λ (x : State). Leads cat st x (Plain (codes "class") ∷ word ∷ tm ∷ [])) (ap (classed st b.0 c.0) n.0 ∙ ok_is (classed st b.0 c.0 f.0) to f.2)
+    (subst (λ (ws : List Word). Leads cat st (classed st b.0 c.0 (st.classes + 1)) ws) (sym spelled) leads)
+class_leads cat st to (a ∷ b ∷ c ∷ rest) s e = absurd cc
+
+-- a read
+
+reads_within : (place : Place) → takes_reads place ≡ true → Within place × (takes_reads_in (open_list place) ≡ true)
+reads_within (places.Listing list) t = (refl, t)
+reads_within places.Rows t = absurd cc
+reads_within (places.Inside header) t = absurd cc
+reads_within places.Between t = absurd cc
+reads_within places.Declared t = absurd cc
+reads_within places.Events t = absurd cc
+reads_within places.Ended t = absurd cc
+
+abbrev read_at : List ℕ → DmNo → ReadPart
+read_at name dm = record { fragment = name; at = dm.0 }
+
+abbrev reading : State → List ℕ → DmNo → State
+reading st name dm = record st { place = places.Listing (with_read (open_list st.place) (read_at name dm)) }
+
+abbrev may_read : Catalogue → State → List ℕ × ℕ → DmNo → Bool
+may_read cat st f dm = not (has_name (read_names (reads_at st.place)) f.0) && has_copy cat dm.0 f.1
+
+pub reads_leads : (cat : Catalogue) (st to : State) (words : List Word) → Sound cat st → reads_rules cat st words ≡ Ok to → Leads cat st to (Plain (codes "reads") ∷ words)
+reads_leads cat st to [] s e = absurd cc
+reads_leads cat st to (w ∷ []) s e = absurd cc
+reads_leads cat st to (word ∷ dm ∷ []) s e =
+    let a = must_then BadLine (takes_reads st.place && (is_free word && is_free dm)) (λ _. fragment_of cat word >>= λ (f : List ℕ × ℕ). dm_of cat dm >>= λ d. with_read_of cat st f d) to e in
+    let b = bind_ok (fragment_of cat word) (λ (f : List ℕ × ℕ). dm_of cat dm >>= λ d. with_read_of cat st f d) to a.1 in
+    let c = bind_ok (dm_of cat dm) (λ d. with_read_of cat st b.0 d) to b.2 in
+    let d = must_then BadClass (may_read cat st b.0 c.0) (λ _. must (TooMany counts.Read) (nat_lt (length (reads_at st.place)) MAX_READS) >>= λ _. Ok (reading st b.0.0 c.0)) to c.2 in
+    let f = must_then (TooMany counts.Read) (nat_lt (length (reads_at st.place)) MAX_READS) (λ _. Ok (reading st b.0.0 c.0)) to d.1 in
+    let place = reads_within st.place (both_hold (takes_reads st.place) (is_free word && is_free dm) a.0).0 in
+    let may = both_hold (not (has_name (read_names (reads_at st.place)) b.0.0)) (has_copy cat c.0.0 b.0.1) d.0 in
+    let w = fragment_takes cat word b.0 b.1 in
+    let t = dm_takes cat dm c.0 c.1 in
+    let l : OpenList = open_list st.place in
+    let r : ReadPart = read_at b.0.0 c.0 in
+    let valid : IsValidRead cat r = record { fragment = w.there; module_is_there = t.1; copy = kept_at cat c.0.0 b.0.0 b.0.1 w.number ∙ may.1 } in
+    let spelled : Plain (codes "reads") ∷ word ∷ dm ∷ [] ≡ reads_words r = two_words (Plain (codes "reads")) word (Plain b.0.0) dm (site_word (D c.0)) w.spelled t.0 in
+    let leads = inside_leads cat st (with_read l r) st.classes (reads_words r) s place.0
+    (read_declared cat (joined st.lists) l st.classes r s.declares valid (not_true (has_name (read_names (reads_at st.place)) b.0.0) may.0) (ltb-true (length (reads_at st.place)) MAX_READS f.0)) (read_more l r place.1) in
+    subst (λ (x : State). Leads cat st x (Plain (codes "reads") ∷ word ∷ dm ∷ [])) (ok_is (reading st b.0.0 c.0) to f.1)
+    (subst (λ (ws : List Word). Leads cat st (reading st b.0.0 c.0) ws) (sym spelled) leads)
+reads_leads cat st to (a ∷ b ∷ c ∷ rest) s e = absurd cc
+
+-- a write
+
+writes_within : (place : Place) → takes_writes place ≡ true → Within place × (takes_writes_in (open_list place) ≡ true)
+writes_within (places.Listing list) t = (refl, t)
+writes_within places.Rows t = absurd cc
+writes_within (places.Inside header) t = absurd cc
+writes_within places.Between t = absurd cc
+writes_within places.Declared t = absurd cc
+writes_within places.Events t = absurd cc
+writes_within places.Ended t = absurd cc
+
+abbrev writing : State → List ℕ → State
+writing st name = record st { place = places.Listing (with_write (open_list st.place) name) }
+
+one_word : (k a b : Word) → a ≡ b → k ∷ a ∷ [] ≡ k ∷ b ∷ []
+one_word k a b e = ap (λ (w : Word). k ∷ w ∷ []) e
+
+pub writes_leads : (cat : Catalogue) (st to : State) (words : List Word) → Sound cat st → writes_rules cat st words ≡ Ok to → Leads cat st to (Plain (codes "writes") ∷ words)
+writes_leads cat st to [] s e = absurd cc
+writes_leads cat st to (word ∷ []) s e =
+    let a = must_then BadLine (takes_writes st.place && is_free word) (λ _. fragment_of cat word >>= λ (f : List ℕ × ℕ). with_write_of st f.0) to e in
+    let b = bind_ok (fragment_of cat word) (λ (f : List ℕ × ℕ). with_write_of st f.0) to a.1 in
+    let d = must_then BadClass (not (has_name (writes_at st.place) b.0.0)) (λ _. Ok (writing st b.0.0)) to b.2 in
+    let place = writes_within st.place (both_hold (takes_writes st.place) (is_free word) a.0).0 in
+    let w = fragment_takes cat word b.0 b.1 in
+    let l : OpenList = open_list st.place in
+    let spelled : Plain (codes "writes") ∷ word ∷ [] ≡ writes_words b.0.0 = one_word (Plain (codes "writes")) word (Plain b.0.0) w.spelled in
+    let leads = inside_leads cat st (with_write l b.0.0) st.classes (writes_words b.0.0) s place.0
+    (write_declared cat (joined st.lists) l st.classes b.0.0 s.declares w.there (not_true (has_name (writes_at st.place) b.0.0) d.0)) (write_more l b.0.0 place.1) in
+    subst (λ (x : State). Leads cat st x (Plain (codes "writes") ∷ word ∷ [])) (ok_is (writing st b.0.0) to d.1)
+    (subst (λ (ws : List Word). Leads cat st (writing st b.0.0) ws) (sym spelled) leads)
+writes_leads cat st to (a ∷ b ∷ rest) s e = absurd cc
+
+-- ---- a list ends, or a transaction
+
+abbrev listed : State → OpenList → State
+listed st l = record st { place = places.Declared; lists = st.lists ++ classes_in l ∷ [] }
+
+list_closed : (cat : Catalogue) (st to : State) (l : OpenList) → Sound cat (at_place st (places.Listing l)) → closed (places.Listing l) st ≡ Ok to → Leads cat (at_place st (places.Listing l)) to done_words
+list_closed cat st to l s e =
+    let joins : joined (st.lists ++ classes_in l ∷ []) ++ [] ≡ joined st.lists ++ classes_in l = append-nil (joined (st.lists ++ classes_in l ∷ [])) ∙ joined_more st.lists (classes_in l) in
+    subst (λ (x : State). Leads cat (at_place st (places.Listing l)) x done_words) (ok_is (listed st l) to e) (record {
+      sound = moved cat (at_place st (places.Listing l)) places.Declared (st.lists ++ classes_in l ∷ []) st.classes s refl s.order.1 (record {
+        header = tt;
+        unnamed = refl;
+        declares = subst (λ (cs : List ClassPart). Declares cat cs st.classes) (sym joins) s.declares;
+        few_lists = omega (arith, s.few_lists, one_longer st.lists (classes_in l));
+        order = s.order;
+      });
+      lines = listed_more cat st.rows st.txns st.lists l st.statements st.events s.order.1;
+    })
+
+closed_leads : (cat : Catalogue) (st to : State) (p : Place) → Sound cat (at_place st p) → closed p st ≡ Ok to → Leads cat (at_place st p) to done_words
+closed_leads cat st to (places.Inside h) s e = txn_closed cat st to h s e
+closed_leads cat st to (places.Listing l) s e = list_closed cat st to l s e
+closed_leads cat st to places.Rows s e = absurd cc
+closed_leads cat st to places.Between s e = absurd cc
+closed_leads cat st to places.Declared s e = absurd cc
+closed_leads cat st to places.Events s e = absurd cc
+closed_leads cat st to places.Ended s e = absurd cc
+
+pub done_leads : (cat : Catalogue) (st to : State) (words : List Word) → Sound cat st → done_rules st words ≡ Ok to → Leads cat st to (Plain (codes "done") ∷ words)
+done_leads cat st to [] s e = closed_leads cat st to st.place s e
+done_leads cat st to (w ∷ words) s e = absurd cc

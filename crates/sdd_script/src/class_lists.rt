@@ -1,0 +1,292 @@
+//! The lines of lists of classes, by their words.
+ghost use Rattle.std.specs.Prelude.{◌≡◌, ◌&&◌, List, map, not};
+ghost use Rattle.std.specs.List.{list_any};
+ghost use Rattle.std.specs.Str.{bytes_eq};
+ghost use Rattle.sdd_base.specs.Readings.{Gives};
+ghost use Rattle.sdd_catalog.specs.Catalogue.{has_copy};
+ghost use Rattle.sdd_catalog.specs.Rules.{has_name};
+ghost use Rattle.sdd_catalog.specs.declared.parts.ClassPart.{ClassPart};
+ghost use Rattle.sdd_catalog.specs.declared.parts.ReadPart.{ReadPart};
+ghost use Rattle.sdd_words.specs.declared.word.Word.TheVariants.{Plain};
+ghost use Rattle.sdd_script.specs.ClassLists.{all_classes, fragment_of, is_taken, with_class_of, with_read_of, with_write_of, list_rules, class_rules, reads_rules, writes_rules, class_line_rules};
+ghost use Rattle.sdd_script.specs.OpenLists.{classes_in, last_class};
+ghost use Rattle.sdd_script.specs.Places.{open_list, reads_at};
+ghost use Rattle.sdd_script.specs.Rules.{rule_in};
+
+use crate::fault::{Counts, LineError, WorkRule, broken, known, must};
+use crate::keyword::ClassKey;
+use crate::limits::{MAX_LISTS, one_more_class};
+use crate::naming::{fragment_named, has_class, has_copy, name_in_word};
+use crate::occurrences::{read_dm, read_tm};
+use crate::open_list::{OpenClass, OpenList, no_classes, with_class, with_read, with_write};
+use crate::place::Place;
+use crate::state::State;
+use sdd_base::{DmNo, MAX_READS, Name, TmNo};
+use sdd_catalog::{Catalogue, ClassPart, ClassParts, ReadPart};
+use sdd_words::{Word, read_name, stands_free};
+use std::alloc::Global;
+use std::mem;
+
+fn list_line(alloc: Global, state: &mut State, words: &[Word]) -> Result<(), LineError>
+    ensures { Gives rule_in (λ _. state.new) result (list_rules state.old words.now) }
+{
+    match words {
+        [] => {
+            must(WorkRule::BadLine, state.place.takes_lists())?;
+            must(
+                WorkRule::TooMany(Counts::List),
+                state.lists.len() < MAX_LISTS,
+            )?;
+            state.place = Place::Listing(no_classes(alloc));
+            Ok(())
+        }
+        _ => broken(WorkRule::BadLine),
+    }
+}
+
+fn is_among(classes: &[ClassPart], name: &[u8]) -> bool
+    ensures { result ≡ list_any (λ (c : ClassPart). bytes_eq name.now c.name) classes.now }
+{
+    classes
+        .iter()
+        .any(|class| name == class.name.as_str().as_bytes())
+}
+
+fn is_among_lists(lists: &[ClassParts], name: &[u8]) -> bool
+    ensures { result ≡ list_any (λ (l : List ClassPart). list_any (λ (c : ClassPart). bytes_eq name.now c.name) l) lists.now }
+{
+    lists.iter().any(|list| is_among(list.as_slice(), name))
+}
+
+fn is_last(last: &Option<OpenClass>, name: &[u8]) -> bool
+    ensures { result ≡ list_any (λ (c : ClassPart). bytes_eq name.now c.name) (last_class last.now) }
+{
+    match last {
+        None => false,
+        Some(class) => name == class.name.as_str().as_bytes(),
+    }
+}
+
+#[tactic(auto, using(crate::proofs::ClassNames::classes_or_last))]
+fn is_in_list(list: &OpenList, name: &[u8]) -> bool
+    ensures { result ≡ list_any (λ (c : ClassPart). bytes_eq name.now c.name) (classes_in list.now) }
+{
+    is_among(list.classes.as_slice(), name) || is_last(&list.last, name)
+}
+
+fn is_in_open_list(place: &Place, name: &[u8]) -> bool
+    ensures { result ≡ list_any (λ (c : ClassPart). bytes_eq name.now c.name) (classes_in (open_list place.now)) }
+{
+    match place {
+        Place::Listing(list) => is_in_list(list, name),
+        _ => false,
+    }
+}
+
+fn is_declared(state: &State, name: &[u8]) -> bool
+    ensures { result ≡ list_any (λ (c : ClassPart). bytes_eq name.now c.name) (all_classes state.now) }
+{
+    is_among_lists(state.lists.as_slice(), name) || is_in_open_list(&state.place, name)
+}
+
+/// Whether a class of the catalogue, or one of the lists so far, has the name.
+#[tactic(auto, using(crate::proofs::ClassNames::catalogue_or_lists))]
+fn is_taken(cat: &Catalogue, state: &State, name: &[u8]) -> bool
+    ensures { result ≡ is_taken cat.now state.now name.now }
+{
+    has_class(cat, name) || is_declared(state, name)
+}
+
+fn add_class(
+    alloc: Global,
+    cat: &Catalogue,
+    state: &mut State,
+    name: Name,
+    tm: TmNo,
+) -> Result<(), LineError>
+    ensures { Gives rule_in (λ _. state.new) result (with_class_of cat.now state.old name tm) }
+{
+    must(
+        WorkRule::BadClass,
+        !is_taken(cat, state, name.as_str().as_bytes()),
+    )?;
+    state.classes = known(
+        WorkRule::TooMany(Counts::Class),
+        one_more_class(state.classes),
+    )?;
+    let list = mem::replace(&mut state.place, Place::Declared).into_list(alloc);
+    state.place = Place::Listing(with_class(alloc, list, name, tm)?);
+    Ok(())
+}
+
+fn class_line(
+    alloc: Global,
+    cat: &Catalogue,
+    state: &mut State,
+    words: &[Word],
+) -> Result<(), LineError>
+    ensures { Gives rule_in (λ _. state.new) result (class_rules cat.now state.old words.now) }
+{
+    match words {
+        [word, tm] => {
+            must(
+                WorkRule::BadLine,
+                state.place.takes_classes() && (stands_free(word) && stands_free(tm)),
+            )?;
+            let name = name_in_word(alloc, word)?;
+            let tm = read_tm(cat, tm)?;
+            add_class(alloc, cat, state, name, tm)
+        }
+        _ => broken(WorkRule::BadLine),
+    }
+}
+
+fn fragment_in(alloc: Global, cat: &Catalogue, bytes: &[u8]) -> Result<(Name, u32), LineError>
+    ensures { Gives rule_in (λ f. f) result (fragment_of cat.now (Plain bytes.now)) }
+{
+    let name = known(WorkRule::UnknownName, read_name(alloc, bytes)?)?;
+    let number = known(
+        WorkRule::UnknownName,
+        fragment_named(cat, name.as_str().as_bytes()),
+    )?;
+    Ok((name, number))
+}
+
+/// A fragment's name and its number.
+fn read_fragment(alloc: Global, cat: &Catalogue, word: &Word) -> Result<(Name, u32), LineError>
+    ensures { Gives rule_in (λ f. f) result (fragment_of cat.now word.now) }
+{
+    match word {
+        Word::Plain(bytes) => fragment_in(alloc, cat, bytes.as_slice()),
+        Word::Quoted(_) => broken(WorkRule::UnknownName),
+    }
+}
+
+fn names_fragment(reads: &[ReadPart], name: &[u8]) -> bool
+    ensures { result ≡ list_any (λ (r : ReadPart). bytes_eq name.now r.fragment) reads.now }
+{
+    reads
+        .iter()
+        .any(|read| name == read.fragment.as_str().as_bytes())
+}
+
+fn is_read(reads: &[ReadPart], name: &[u8]) -> bool
+    ensures { result ≡ has_name (map (λ (r : ReadPart). r.fragment) reads.now) name.now }
+{
+    names_fragment(reads, name)
+}
+
+fn is_written(writes: &[Name], name: &[u8]) -> bool
+    ensures { result ≡ has_name writes.now name.now }
+{
+    writes
+        .iter()
+        .any(|written| name == written.as_str().as_bytes())
+}
+
+/// Whether the class that is open may read the fragment at the module.
+fn may_read(cat: &Catalogue, place: &Place, fragment: &[u8], number: u32, dm: DmNo) -> bool
+    ensures { result ≡ (not (has_name (map (λ (r : ReadPart). r.fragment) (reads_at place.now)) fragment.now) && has_copy cat.now dm.0 number) }
+{
+    !is_read(place.reads(), fragment) && has_copy(cat, dm, number)
+}
+
+fn add_read(
+    alloc: Global,
+    cat: &Catalogue,
+    state: &mut State,
+    fragment: Name,
+    number: u32,
+    dm: DmNo,
+) -> Result<(), LineError>
+    ensures { Gives rule_in (λ _. state.new) result (with_read_of cat.now state.old (fragment, number) dm) }
+{
+    must(
+        WorkRule::BadClass,
+        may_read(cat, &state.place, fragment.as_str().as_bytes(), number, dm),
+    )?;
+    must(
+        WorkRule::TooMany(Counts::Read),
+        state.place.reads().len() < MAX_READS,
+    )?;
+    let read = ReadPart {
+        fragment,
+        at: u32::from(dm.0),
+    };
+    let list = mem::replace(&mut state.place, Place::Declared).into_list(alloc);
+    state.place = Place::Listing(with_read(list, read)?);
+    Ok(())
+}
+
+fn reads_line(
+    alloc: Global,
+    cat: &Catalogue,
+    state: &mut State,
+    words: &[Word],
+) -> Result<(), LineError>
+    ensures { Gives rule_in (λ _. state.new) result (reads_rules cat.now state.old words.now) }
+{
+    match words {
+        [word, dm] => {
+            must(
+                WorkRule::BadLine,
+                state.place.takes_reads() && (stands_free(word) && stands_free(dm)),
+            )?;
+            let (fragment, number) = read_fragment(alloc, cat, word)?;
+            let dm = read_dm(cat, dm)?;
+            add_read(alloc, cat, state, fragment, number, dm)
+        }
+        _ => broken(WorkRule::BadLine),
+    }
+}
+
+fn add_write(alloc: Global, state: &mut State, name: Name) -> Result<(), LineError>
+    ensures { Gives rule_in (λ _. state.new) result (with_write_of state.old name) }
+{
+    must(
+        WorkRule::BadClass,
+        !is_written(state.place.writes(), name.as_str().as_bytes()),
+    )?;
+    let list = mem::replace(&mut state.place, Place::Declared).into_list(alloc);
+    state.place = Place::Listing(with_write(list, name)?);
+    Ok(())
+}
+
+fn writes_line(
+    alloc: Global,
+    cat: &Catalogue,
+    state: &mut State,
+    words: &[Word],
+) -> Result<(), LineError>
+    ensures { Gives rule_in (λ _. state.new) result (writes_rules cat.now state.old words.now) }
+{
+    match words {
+        [word] => {
+            must(
+                WorkRule::BadLine,
+                state.place.takes_writes() && stands_free(word),
+            )?;
+            let (fragment, _) = read_fragment(alloc, cat, word)?;
+            add_write(alloc, state, fragment)
+        }
+        _ => broken(WorkRule::BadLine),
+    }
+}
+
+/// What the lines have said with one line more of a list of classes, but for the line that ends it.
+pub fn read_class_line(
+    alloc: Global,
+    cat: &Catalogue,
+    state: &mut State,
+    key: ClassKey,
+    words: &[Word],
+) -> Result<(), LineError>
+    ensures { Gives rule_in (λ _. state.new) result (class_line_rules key cat.now state.old words.now) }
+{
+    match key {
+        ClassKey::List => list_line(alloc, state, words),
+        ClassKey::Class => class_line(alloc, cat, state, words),
+        ClassKey::Reads => reads_line(alloc, cat, state, words),
+        ClassKey::Writes => writes_line(alloc, cat, state, words),
+    }
+}
