@@ -28,7 +28,7 @@ abbrev r : Txn
 r = record { name = codes "r"; tm = tm_no 1; statements = [] }
 
 abbrev put_and_query : Workload
-put_and_query = record { rows = []; txns = p ∷ q ∷ r ∷ []; events = Submit (txn_no 1) ∷ Submit (txn_no 2) ∷ Settle ∷ [] }
+put_and_query = record { rows = []; txns = p ∷ q ∷ r ∷ []; lists = []; events = Submit (txn_no 1) ∷ Submit (txn_no 2) ∷ Settle ∷ [] }
 
 -- the verdict on a report of one record, with these lines from the order line on
 abbrev told : List ℕ → Verdict
