@@ -20,7 +20,7 @@ use Rattle.sdd_run.proofs.Apart.{report_or_limit, summary_or_limit}
 use Rattle.sdd_control.specs.Report.{report}
 use Rattle.sdd_control.specs.Walk.{control_script}
 use Rattle.sdd_control.specs.declared.script.ControlScript.{ControlScript}
-use Rattle.sdd_app.specs.Answer.{script_named, control_verdict, ComesToControl, BlamesScript, catalogue_named, workload_named, OverCatalogue, ComesToListing, plain_verdict, ComesToPlain, ComesToReport, ComesToRun, ComesToSummary, ComesToVerdict, ComesToVerify, TellsOfRun, judged_as, FormComesTo, ComesTo, FilesOf, FilesAreThere, BlamesCatalogue, BlamesWorkload}
+use Rattle.sdd_app.specs.Answer.{script_named, control_verdict, ComesToControl, BlamesScript, catalogue_named, workload_named, OverCatalogue, ComesToListing, plain_verdict, ComesToPlain, ComesToReport, ComesToRun, ComesToSummary, ComesToJudgement, ComesToVerdict, ComesToVerify, TellsOfRun, judged_as, FormComesTo, ComesTo, FilesOf, FilesAreThere, BlamesCatalogue, BlamesWorkload}
 use Rattle.sdd_app.specs.Command.{Form, Check, Graph, Table, Run, Plain, Control, Make, Verify, Advise, form_in}
 use Rattle.sdd_app.specs.Endings.{FilesRead, IsRead, ToItsEnd, ToItsLimit}
 use Rattle.sdd_app.specs.Serially.{serial_text}
@@ -89,7 +89,7 @@ blamed_run fs work cat v e = blamed_work (workload_named fs cat work) (ComesToRe
 
 pub blamed_verify : (fs : List ShelfFile) (work report : List ℕ) (cat : Catalogue) (v : Verdict) → BlamesWorkload (workload_named fs cat work) v
     → ComesToVerify fs work report cat v
-blamed_verify fs work report cat v e = blamed_work (workload_named fs cat work) (ComesToVerdict fs report cat) v e
+blamed_verify fs work report cat v e = blamed_work (workload_named fs cat work) (ComesToJudgement fs report cat) v e
 
 -- over a workload that was read
 pub replies_plain : (fs : List ShelfFile) (work : List ℕ) (cat : Catalogue) (w : Workload) (text : List ℕ) → workload_named fs cat work ≡ Some (Ok w) → text ≡ serial_text cat w
@@ -101,8 +101,8 @@ pub reports_run : (fs : List ShelfFile) (work : List ℕ) (cat : Catalogue) (w :
 reports_run fs work cat w v e p = subst (λ r. OverWork r (ComesToReport cat) v) (sym e) p
 
 pub judges_report : (fs : List ShelfFile) (work report : List ℕ) (cat : Catalogue) (w : Workload) (v : Verdict) → workload_named fs cat work ≡ Some (Ok w)
-    → ComesToVerdict fs report cat w v → ComesToVerify fs work report cat v
-judges_report fs work report cat w v e p = subst (λ r. OverWork r (ComesToVerdict fs report cat) v) (sym e) p
+    → ComesToJudgement fs report cat w v → ComesToVerify fs work report cat v
+judges_report fs work report cat w v e p = subst (λ r. OverWork r (ComesToJudgement fs report cat) v) (sym e) p
 
 -- a faulty script is what `control` comes to, and so is what a sound one gives
 pub blamed_control : (fs : List ShelfFile) (name : List ℕ) (v : Verdict) → BlamesScript (script_named fs name) v → ComesToControl fs name v
@@ -200,11 +200,29 @@ one_over_work (Some (Err f)) G v w one p q = ap status_of (p ∙ sym q)
 one_run : (fs : List ShelfFile) (work : List ℕ) (cat : Catalogue) (v w : Verdict) → ComesToRun fs work cat v → ComesToRun fs work cat w → status_of v ≡ status_of w
 one_run fs work cat v w p q = one_over_work (workload_named fs cat work) (ComesToReport cat) v w (λ k a b. one_report cat k v w a b) p q
 
+-- the report on a workload with lists of classes, or without
+
+abbrev JudgedUnless : Bool → List ShelfFile → List ℕ → Catalogue → Workload → Verdict → Type 0
+JudgedUnless lists fs report cat work verdict = MatchBool lists (verdict ≡ NotBuilt) (ComesToVerdict fs report cat work verdict)
+
+one_judgement : (lists : Bool) (fs : List ShelfFile) (report : List ℕ) (cat : Catalogue) (work : Workload) (v w : Verdict) → JudgedUnless lists fs report cat work v
+    → JudgedUnless lists fs report cat work w → status_of v ≡ status_of w
+one_judgement true fs report cat work v w p q = ap status_of (p ∙ sym q)
+one_judgement false fs report cat work v w p q = ap status_of (one_verdict (option_map (judged_as cat work) (find_file fs report)) v w p q)
+
+pub is_not_judged : (fs : List ShelfFile) (report : List ℕ) (cat : Catalogue) (work : Workload) → has_lists work ≡ true → ComesToJudgement fs report cat work NotBuilt
+is_not_judged fs report cat work lists = subst (λ b. JudgedUnless b fs report cat work NotBuilt) (sym lists) refl
+
+pub judged_if_built : {T : Type 0} (r : Result T Status) (text : T → List ℕ) (fs : List ShelfFile) (report : List ℕ) (cat : Catalogue) (work : Workload) → has_lists work ≡ false
+    → Answers r text (ComesToVerdict fs report cat work) → Answers r text (ComesToJudgement fs report cat work)
+judged_if_built (Ok x) text fs report cat work none p = subst (λ b. JudgedUnless b fs report cat work (Prints (text x))) (sym none) p
+judged_if_built (Err s) text fs report cat work none p =
+    explains_more s (ComesToVerdict fs report cat work) (ComesToJudgement fs report cat work) (λ v q. subst (λ b. JudgedUnless b fs report cat work v) (sym none) q) p
+
 one_judged : (fs : List ShelfFile) (work report : List ℕ) (cat : Catalogue) (v w : Verdict) → ComesToVerify fs work report cat v → ComesToVerify fs work report cat w
     → status_of v ≡ status_of w
 one_judged fs work report cat v w p q =
-    one_over_work (workload_named fs cat work) (ComesToVerdict fs report cat) v w
-    (λ k a b. ap status_of (one_verdict (option_map (judged_as cat k) (find_file fs report)) v w a b)) p q
+    one_over_work (workload_named fs cat work) (ComesToJudgement fs report cat) v w (λ k a b. one_judgement (has_lists k) fs report cat k v w a b) p q
 
 one_over : (reading : Option (Result Catalogue CatFault)) (G : Catalogue → Verdict → Type 0) (v w : Verdict) → ((cat : Catalogue) → G cat v → G cat w → status_of v ≡ status_of w)
     → Over reading G v → Over reading G w → status_of v ≡ status_of w
@@ -284,7 +302,7 @@ over_work_at reading G work v over e = subst (λ r. OverWork r G v) e over
 
 verify_there : (fs : List ShelfFile) (work report : List ℕ) (cat : Catalogue) (v : Verdict) → ComesToVerify fs work report cat v → IsSome (find_file fs work)
 verify_there fs work report cat v p =
-    file_there (workload cat) (λ r. MatchResult r (λ w. ComesToVerdict fs report cat w v) (λ fault. v ≡ FaultyWorkload fault)) (find_file fs work) p
+    file_there (workload cat) (λ r. MatchResult r (λ w. ComesToJudgement fs report cat w v) (λ fault. v ≡ FaultyWorkload fault)) (find_file fs work) p
 
 -- a status in place of a report
 pub explains_end : (end : WorldEnd) (P : Verdict → Type 0) → (end ≡ ends.Limit → P PastLimit) → Explains (status_of_end end) P
@@ -310,9 +328,10 @@ form_there fs (Verify cat work report) v p = (
     over_there fs cat (ComesToVerify fs work report) v p,
     λ says e first. verify_there fs work report says v (over_at (catalogue_named fs cat) (ComesToVerify fs work report) says v p e),
   ),
-  λ says asks e f.
+  λ says asks e f none.
       some_there (judged_as says asks) v (find_file fs report)
-      (over_work_at (workload_named fs says work) (ComesToVerdict fs report says) asks v (over_at (catalogue_named fs cat) (ComesToVerify fs work report) says v p e) f),
+      (subst (λ b. JudgedUnless b fs report says asks v) none
+      (over_work_at (workload_named fs says work) (ComesToJudgement fs report says) asks v (over_at (catalogue_named fs cat) (ComesToVerify fs work report) says v p e) f)),
 )
 form_there fs (Advise cat) v p = over_there fs cat (ComesToListing listings.Advice) v p
 

@@ -1,5 +1,5 @@
 -- What a call comes to, by its words and the files that they name.
-use Rattle.std.specs.Prelude.{◌≡◌, ℕ, List, Option, Some, Result, Ok, Err, IsSome, MatchBool, MatchOption, MatchResult}
+use Rattle.std.specs.Prelude.{◌≡◌, ℕ, false, List, Option, Some, Result, Ok, Err, IsSome, MatchBool, MatchOption, MatchResult}
 use Rattle.std.specs.Option.{option_map}
 use Rattle.sdd_base.specs.declared.files.ShelfFile.{ShelfFile}
 use Rattle.sdd_base.specs.Outside.{find_file}
@@ -84,8 +84,12 @@ judged_as cat work report = Prints (verdict_line (judging.verdict cat work repor
 abbrev pub ComesToVerdict : List ShelfFile → List ℕ → Catalogue → Workload → Verdict → Type 0
 ComesToVerdict files report cat work verdict = option_map (judged_as cat work) (find_file files report) ≡ Some verdict
 
+-- where the workload has lists of classes, that isn't built
+abbrev pub ComesToJudgement : List ShelfFile → List ℕ → Catalogue → Workload → Verdict → Type 0
+ComesToJudgement files report cat work verdict = MatchBool (has_lists work) (verdict ≡ NotBuilt) (ComesToVerdict files report cat work verdict)
+
 abbrev pub ComesToVerify : List ShelfFile → List ℕ → List ℕ → Catalogue → Verdict → Type 0
-ComesToVerify files work report cat verdict = OverWorkload files cat work (ComesToVerdict files report cat) verdict
+ComesToVerify files work report cat verdict = OverWorkload files cat work (ComesToJudgement files report cat) verdict
 
 -- the script of transaction control that the file of this name gives, or its first fault
 abbrev pub script_named : List ShelfFile → List ℕ → Option (Result ControlScript WorkFault)
@@ -122,11 +126,11 @@ HasFiles files cat work GoesOn =
     IsSome (find_file files cat)
     × ((says : Catalogue) → catalogue_named files cat ≡ Some (Ok says) → GoesOn says → IsSome (find_file files work))
 
--- where it goes on over both, that of a report
+-- where it goes on over both and the workload has no lists of classes, that of a report
 abbrev pub HasReport : List ShelfFile → List ℕ → List ℕ → List ℕ → Type 0
 HasReport files cat work report =
     (says : Catalogue) (asks : Workload) → catalogue_named files cat ≡ Some (Ok says) → workload_named files says work ≡ Some (Ok asks)
-    → IsSome (find_file files report)
+    → has_lists asks ≡ false → IsSome (find_file files report)
 
 -- the files that a command of this form reads are there
 abbrev pub FilesOf : List ShelfFile → Form → Type 0
