@@ -9,7 +9,7 @@ reference the same is measured, and each figure is told as a ratio: how many tim
 takes. Where both print a text for a call, it is also told whether it is the same.
 
 The workloads are those of tools/make_workload.py and crates/sdd1/data: `small` is bank.work under
-`run`; bank, flood, scatter, resends and classes are run; scans and replies are run, and given to `plain` too.
+`run`; bank, flood, scatter, resends, classes and readers are run; scans and replies are run, and given to `plain` too.
 --part N takes an Nth of each. Time is that of the processor in this and all that it starts, memory the
 most that was in use at once. An event is one of the run: those of a settle are counted, by an event
 behind it that finds nothing. A call that takes longer than --seconds (600) is ended and told.

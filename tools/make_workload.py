@@ -14,13 +14,14 @@ resends    N times all unacknowledged messages of a link of 1,024, and a settle 
 scans      N queries over 65,536 rows, each of which answers few
 replies    N queries that answer 4,096 rows each
 classes    N transactions in the queues of 64 classes, with one fragment for each two of them
+readers    as `classes`, where each reads all fragments at 16 data modules, and asks its writers there
 """
 import argparse
 import os
 import sys
 
-MOST = {"bank": 2048, "flood": 120000, "scatter": 120000, "resends": 4000, "scans": 2048, "replies": 2048, "classes": 2048}
-USUAL = {"bank": 2048, "flood": 100000, "scatter": 100000, "resends": 200, "scans": 100, "replies": 200, "classes": 2048}
+MOST = {"bank": 2048, "flood": 120000, "scatter": 120000, "resends": 4000, "scans": 2048, "replies": 2048, "classes": 2048, "readers": 2048}
+USUAL = {"bank": 2048, "flood": 100000, "scatter": 100000, "resends": 200, "scans": 100, "replies": 200, "classes": 2048, "readers": 2048}
 BANK = os.path.join(os.path.dirname(os.path.abspath(__file__)), "..", "crates", "sdd1", "data", "bank.toml")
 
 
@@ -106,12 +107,18 @@ def replies(n, _):
     return one_class(False), lines + ["submit q%d" % k for k in range(n)] + ["settle"]
 
 
-def classes(n, _):
-    """Each class reads the fragment of the next one and writes its own, so that all stand on one cycle."""
+def sixteen_by_sixteen():
+    """The catalogue of one relation in 32 fragments at 16 modules, with no class."""
     catalogue = ["tms = 16", "dms = 16"] + relation("item", ["id", "val"])
     for f in range(32):
         bounds = (["from = %d" % (f * 10)] if f else []) + (["to = %d" % (f * 10 + 9)] if f < 31 else [])
         catalogue += ["[[fragment]]", 'name = "f%d"' % f, 'relation = "item"'] + bounds + ["copies = [%d]" % (f % 16 + 1)]
+    return catalogue
+
+
+def classes(n, _):
+    """Each class reads the fragment of the next one and writes its own, so that all stand on one cycle."""
+    catalogue = sixteen_by_sixteen()
     for c in range(64):
         f, after = c % 32, (c + 1) % 32
         catalogue += ["[[class]]", 'name = "c%d"' % c, "tm = %d" % (c // 4 + 1),
@@ -124,7 +131,19 @@ def classes(n, _):
     return catalogue, lines + ["submit t%d" % k for k in range(n)] + ["settle"]
 
 
-KINDS = {"bank": bank, "flood": flood, "scatter": scatter, "resends": resends, "scans": scans, "replies": replies, "classes": classes}
+def readers(n, _):
+    """Each class reads all fragments and writes one."""
+    catalogue = sixteen_by_sixteen()
+    reads = ", ".join('{fragment = "f%d", at = %d}' % (f, f % 16 + 1) for f in range(32))
+    for c in range(64):
+        catalogue += ["[[class]]", 'name = "c%d"' % c, "tm = %d" % (c // 4 + 1), "reads = [%s]" % reads, 'writes = ["f%d"]' % (c % 32)]
+    lines = []
+    for k in range(n):
+        lines += ["txn t%d T%d" % (k, k % 64 // 4 + 1), "query 1.val from item where 1.val = -1", "put item %d %d" % (k % 32 * 10, k), "done"]
+    return catalogue, lines + ["submit t%d" % k for k in range(n)] + ["settle"]
+
+
+KINDS = {"bank": bank, "flood": flood, "scatter": scatter, "resends": resends, "scans": scans, "replies": replies, "classes": classes, "readers": readers}
 
 
 def write_workload(folder, kind, n=None, seed=1):
