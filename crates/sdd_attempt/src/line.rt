@@ -182,13 +182,20 @@ impl<'a> Line<'a> {
         ensures catalogue { self.new.catalogue ≡ self.old.catalogue }
         ensures class { self.new.class ≡ self.old.class }
     {
-        match self.running.take() {
+        let class = self.class;
+        match &mut self.running {
             None => Ok(()),
-            Some(running) => {
-                let next = running.handed(self.class, from, msg)?;
-                self.running = next;
-                Ok(())
-            }
+            Some(running) => match running.handed(class, from, msg) {
+                Ok(true) => Ok(()),
+                Ok(false) => {
+                    self.running = None;
+                    Ok(())
+                }
+                Err(error) => {
+                    self.running = None;
+                    Err(error)
+                }
+            },
         }
     }
 
@@ -199,13 +206,9 @@ impl<'a> Line<'a> {
         ensures catalogue { self.new.catalogue ≡ self.old.catalogue }
         ensures class { self.new.class ≡ self.old.class }
     {
-        match self.running.take() {
+        match &mut self.running {
             None => Ok(()),
-            Some(mut running) => {
-                running.send(draft)?;
-                self.running = Some(running);
-                Ok(())
-            }
+            Some(running) => running.send(draft),
         }
     }
 

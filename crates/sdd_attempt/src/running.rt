@@ -1,4 +1,4 @@
-ghost use Rattle.std.specs.Prelude.{◌≡◌, IfOk, OnOk};
+ghost use Rattle.std.specs.Prelude.{◌≡◌, cond, IfOk, OnOk, None, Some};
 ghost use Rattle.sdd_module.specs.Notes.{noted};
 ghost use Rattle.sdd_attempt.specs.Attempts.{rejects};
 ghost use Rattle.sdd_attempt.specs.Exchange.{after_send, send_due};
@@ -57,8 +57,7 @@ impl Running {
 
     /// Sends the next message.
     pub(crate) fn send(&mut self, draft: &mut Draft) -> Result<(), NoMemory>
-        ensures exchange { OnOk result (
-            self.new ≡ record self.old { exchange = after_send self.old.exchange }) }
+        ensures exchange { self.new ≡ record self.old { exchange = after_send self.old.exchange } }
         ensures draft { OnOk result (
             draft.new ≡ noted (send_due self.old.exchange) draft.old) }
     {
@@ -68,28 +67,25 @@ impl Running {
         }
     }
 
-    /// Takes a message of the attempt's class: it goes on, unless that is a REJECT of it.
-    pub(crate) fn handed(
-        mut self,
-        class: ClassNo,
-        from: Site,
-        msg: Msg,
-    ) -> Result<Option<Running>, NoMemory>
-        requires room { HasRoom self.exchange }
-        requires awaited { AreAwaitedFrom class.0 from msg self }
-        ensures running { IfOk result (λ running. running ≡ handed_by class.0 from msg self) }
+    /// Takes a message of the attempt's class, and answers whether the attempt goes on: it ends by a
+    /// REJECT of it. Moves nothing but the message.
+    pub(crate) fn handed(&mut self, class: ClassNo, from: Site, msg: Msg) -> Result<bool, NoMemory>
+        requires room { HasRoom self.old.exchange }
+        requires awaited { AreAwaitedFrom class.0 from msg self.old }
+        ensures running { IfOk result (λ goes_on.
+            cond goes_on (Some self.new) None ≡ handed_by class.0 from msg self.old) }
         ensures few { CarriesFew msg }
     {
         carries_few(&msg);
         match from {
             Site::D(dm) => {
                 if is_rejected(&msg, self.ts, class) {
-                    return Ok(None);
+                    return Ok(false);
                 }
                 self.exchange.hand(self.ts, class, dm, msg)?;
-                Ok(Some(self))
+                Ok(true)
             }
-            _ => Ok(Some(self)),
+            _ => Ok(true),
         }
     }
 }

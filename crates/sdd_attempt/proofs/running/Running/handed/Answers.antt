@@ -6,7 +6,7 @@ use Rattle.sdd_attempt.proofs.running.Running.handed.Goals as goal
 
 pub hand-requires-clause-values : goal.hand-requires-clause-values
 hand-requires-clause-values c =
-    let r = c.args.self in
+    let r = c.args.self.now in
     let k = c.args.class.0 in
     let d = c.in-D.dm.0 in
     let m = c.args.msg in
