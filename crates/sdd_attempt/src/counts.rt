@@ -59,7 +59,7 @@ impl Counts {
         requires { query.now.before + query.now.uses ≤ 192 }
         ensures { IfOk result (λ rows. rows.items ≡ counts_for self.now query.now) }
     {
-        let mut all = Vec::new(alloc);
+        let mut all = Vec::with_capacity(alloc, query.uses as usize)?;
         for part in 1..query.uses + 1 {
             all.push(rows_of(&self.items, query.before + part))?;
         }

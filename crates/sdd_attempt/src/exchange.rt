@@ -1,4 +1,4 @@
-ghost use Rattle.std.specs.Prelude.{◌≡◌, ◌<◌, ◌^◌, ◌==◌, ◌&&◌, length, IfOk, OnOk, option_map, not};
+ghost use Rattle.std.specs.Prelude.{◌≡◌, ◌<◌, ◌^◌, ◌==◌, ◌&&◌, ◌++◌, length, IfOk, OnOk, option_map, not};
 ghost use Rattle.sdd_base.specs.Order.{with_values};
 ghost use Rattle.sdd_base.specs.Words.{head_of, is_empty};
 ghost use Rattle.sdd_attempt.specs.Exchange.{after_hand, after_send, answered, begins, fetches, goes_on, is_over, phase_ends, reduces, ships};
@@ -207,8 +207,7 @@ impl Exchange {
                 if !is_own(t, k, ts, class) {
                     return Ok(());
                 }
-                let mut rows = rows.into_vec();
-                self.found.append(&mut rows)?;
+                put_behind(&mut self.found, rows.into_vec())?;
                 self.rows = self.found.len() as u128;
                 self.answer(ts, class, dm)
             }
@@ -321,6 +320,18 @@ fn is_own(t: Ts, k: ClassNo, ts: Ts, class: ClassNo) -> bool
     t == ts && k == class
 }
 
+/// Puts rows behind those that came before. The first ones are taken as they are.
+fn put_behind(found: &mut Vec<(u32, Row)>, mut rows: Vec<(u32, Row)>) -> Result<(), NoMemory>
+    ensures { OnOk result (found.new.items ≡ found.old.items ++ rows.items) }
+{
+    if found.is_empty() {
+        *found = rows;
+        return Ok(());
+    }
+    found.append(&mut rows)?;
+    Ok(())
+}
+
 /// Puts values into the union.
 fn unite(union: &mut BTreeSet<Value>, values: ValueList) -> Result<(), NoMemory>
     ensures { OnOk result (union.new.keys ≡ with_values union.old.keys values) }
@@ -335,7 +346,7 @@ fn unite(union: &mut BTreeSet<Value>, values: ValueList) -> Result<(), NoMemory>
 fn listed(alloc: Global, values: &BTreeSet<Value>) -> Result<ValueList, NoMemory>
     ensures { IfOk result (λ list. list ≡ values.now.keys) }
 {
-    let mut list = Vec::new(alloc);
+    let mut list = Vec::with_capacity(alloc, values.len())?;
     for value in values {
         list.push(value.copy()?)?;
     }

@@ -167,7 +167,7 @@ fn reading(part: &(DmNo, UseNos), use_no: u32) -> Option<DmNo>
 fn modules_of(alloc: Global, reads: &[(Site, Msg)]) -> Result<Vec<(DmNo, UseNos)>, NoMemory>
     ensures { IfOk result (λ modules. modules.items ≡ filter_map module_of reads.now) }
 {
-    let mut modules = Vec::new(alloc);
+    let mut modules = Vec::with_capacity(alloc, reads.len())?;
     for read in reads {
         add_module(alloc, &mut modules, read)?;
     }

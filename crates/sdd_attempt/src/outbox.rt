@@ -112,7 +112,7 @@ fn fetch_messages(
     ensures { IfOk result (λ messages.
         messages.items ≡ addressed (msgs.Fetch ts class source.part source.column) dms.now) }
 {
-    let mut messages = VecDeque::new(alloc);
+    let mut messages = VecDeque::with_capacity(alloc, dms.len())?;
     for dm in dms {
         messages.push_back((
             *dm,
@@ -139,7 +139,7 @@ fn reduce_messages(
         messages.items
         ≡ addressed (msgs.Reduce ts class target.part target.column values.now) dms.now) }
 {
-    let mut messages = VecDeque::new(alloc);
+    let mut messages = VecDeque::with_capacity(alloc, dms.len())?;
     for dm in dms {
         let values = values.copy()?;
         messages.push_back((
@@ -164,7 +164,7 @@ fn ship_messages(
 ) -> Result<VecDeque<(DmNo, Msg)>, NoMemory>
     ensures { IfOk result (λ messages. messages.items ≡ addressed (msgs.Ship ts class) dms.now) }
 {
-    let mut messages = VecDeque::new(alloc);
+    let mut messages = VecDeque::with_capacity(alloc, dms.len())?;
     for dm in dms {
         messages.push_back((*dm, Msg::Ship { ts, class }))?;
     }

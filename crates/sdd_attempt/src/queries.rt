@@ -32,13 +32,29 @@ pub(crate) fn askings(alloc: Global, text: &Txn) -> Result<VecDeque<Asking>, NoM
     requires { IsSmallText text.now }
     ensures { IfOk result (λ queries. queries.items ≡ askings 0 text.now.statements) }
 {
-    let mut queries = VecDeque::new(alloc);
+    let statements = text.statements.as_slice();
+    let mut queries = VecDeque::with_capacity(alloc, count_of(statements))?;
     let mut before = 0;
-    for statement in text.statements.as_slice() {
+    for statement in statements {
         add_query(&mut queries, before, statement)?;
         before += uses_in(statement);
     }
     Ok(queries)
+}
+
+/// How many queries there are, for which room is made at once.
+fn count_of(statements: &[Stmt]) -> usize {
+    statements
+        .iter()
+        .filter(|statement| is_query(statement))
+        .count()
+}
+
+fn is_query(statement: &Stmt) -> bool {
+    match statement {
+        Stmt::Query { .. } => true,
+        _ => false,
+    }
 }
 
 /// Adds the query that a statement is, where so many uses stand before it.

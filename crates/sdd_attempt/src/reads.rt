@@ -191,7 +191,7 @@ fn reads_to(beginning: &Beginning, dms: &[DmNo]) -> Result<Vec<(Site, Msg)>, NoM
         beginning.now.queued beginning.now.uses beginning.now.own beginning.now.p2)
         (map (λ n. n.0) dms.now)) }
 {
-    let mut reads = Vec::new(beginning.alloc);
+    let mut reads = Vec::with_capacity(beginning.alloc, dms.len())?;
     for dm in dms {
         reads.push(beginning.read_to(*dm)?)?;
     }
@@ -203,7 +203,7 @@ fn all_modules(alloc: Global, cat: &Catalogue) -> Result<Vec<DmNo>, NoMemory>
     ensures { IfOk result (λ dms. map (λ n. n.0) dms.items ≡ numbers_to cat.now.dms) }
 {
     cat.known();
-    let mut dms = Vec::new(alloc);
+    let mut dms = Vec::with_capacity(alloc, cat.dms() as usize)?;
     for number in 1..cat.dms() + 1 {
         dms.push(DmNo(number as u8))?;
     }
@@ -271,7 +271,7 @@ fn uses_at(
     ensures { IfOk result (λ found.
         found.items ≡ filter_map (use_there cat.now class.0 dm.0) uses.now) }
 {
-    let mut found = Vec::new(alloc);
+    let mut found = Vec::with_capacity(alloc, uses.len())?;
     for one in uses {
         add_use(alloc, cat, class, dm, one, &mut found)?;
     }

@@ -84,11 +84,19 @@ fn changes_at(
 ) -> Result<Vec<Change>, NoMemory>
     ensures { IfOk result (λ here. here.items ≡ changes_at cat.now dm.0 changes.now) }
 {
-    let mut here = Vec::new(alloc);
+    let mut here = Vec::with_capacity(alloc, count_at(cat, dm, changes))?;
     for change in changes {
         add_change(cat, dm, change, &mut here)?;
     }
     Ok(here)
+}
+
+/// How many they are, for which room is made at once.
+fn count_at(cat: &Catalogue, dm: DmNo, changes: &[Change]) -> usize {
+    changes
+        .iter()
+        .filter(|change| has_copy(cat, dm, change.frag))
+        .count()
 }
 
 /// Adds the change, where its fragment has a copy at the module.
