@@ -8,6 +8,7 @@ pub mod Lists
 pub mod Noting
 pub mod Phases
 pub mod Places
+pub mod Putting
 pub mod Queueing
 pub mod Reading
 pub mod Room

@@ -23,7 +23,7 @@ later_by : (t : Bool) (i : ℕ) (o p : Option ℕ) → o ≡ option_map suc p �
 later_by true i o p e = refl
 later_by false i o p e = e
 
-later : {A : Type 0} (p : A → Bool) (i : ℕ) (xs : List A) → position_from p (suc i) xs ≡ option_map suc (position_from p i xs)
+pub later : {A : Type 0} (p : A → Bool) (i : ℕ) (xs : List A) → position_from p (suc i) xs ≡ option_map suc (position_from p i xs)
 later p i [] = refl
 later p i (x ∷ xs) =
     let e : suc i + 1 ≡ suc (i + 1) = omega arith in

@@ -1,4 +1,4 @@
-ghost use Rattle.std.specs.Prelude.{◌≡◌, ◌<◌, ◌≤◌, ◌^◌, ◌++◌, ◌∷◌, [], suc, All, option_to_list, filter, filter_map, fold, length, map, option_map, unwrap_or, IfOk, OnOk};
+ghost use Rattle.std.specs.Prelude.{◌≡◌, ◌<◌, ◌≤◌, ◌^◌, ◌++◌, ◌∷◌, [], nat_lt, not, suc, All, option_to_list, filter, filter_map, fold, length, map, option_map, position, unwrap_or, IfOk, OnOk};
 ghost use Rattle.std.specs.Ordering.{nat_cmp};
 ghost use Rattle.std.specs.BTreeSet.{insert_key};
 ghost use Rattle.sdd_base.specs.Numbers.{class_no, time_at, txn_no};
@@ -20,7 +20,6 @@ use sdd_lang::{read_set, uses};
 use sdd_protocol::{Table, undeclared};
 use sdd_wire::Msg;
 use std::alloc::Global;
-use std::collections::BTreeSet;
 use std::marker::Model;
 
 /// An attempt that begins: what its READs have in common.
@@ -223,38 +222,49 @@ fn modules_read(
         map (λ n. n.0) dms.items
         ≡ ascending (filter_map (reads_at cat.now class.0) (map (λ f. f.0) frags.now))) }
 {
-    let mut numbers = BTreeSet::new(alloc);
+    let mut dms = Vec::with_capacity(alloc, frags.len().min(cat.dms() as usize))?;
     for frag in frags {
-        add_module(&mut numbers, cat.reads_at(class, *frag))?;
+        add_module(&mut dms, cat.reads_at(class, *frag))?;
     }
-    numbered(alloc, &numbers)
+    Ok(dms)
 }
 
-/// Adds a module, where there is one.
-fn add_module(numbers: &mut BTreeSet<u8>, dm: Option<DmNo>) -> Result<(), NoMemory>
+/// Adds a module, where there is one, to modules that ascend.
+fn add_module(dms: &mut Vec<DmNo>, dm: Option<DmNo>) -> Result<(), NoMemory>
     ensures { OnOk result (
-        numbers.new.keys
-        ≡ fold (λ ks k. insert_key nat_cmp ks k) numbers.old.keys
+        map (λ n. n.0) dms.new.items
+        ≡ fold (λ ks k. insert_key nat_cmp ks k) (map (λ n. n.0) dms.old.items)
         (option_to_list (option_map (λ n. n.0) dm))) }
 {
     match dm {
         None => Ok(()),
-        Some(dm) => {
-            numbers.insert(dm.0)?;
-            Ok(())
-        }
+        Some(dm) => put_module(dms, dm),
     }
 }
 
-/// The modules with these numbers.
-fn numbered(alloc: Global, numbers: &BTreeSet<u8>) -> Result<Vec<DmNo>, NoMemory>
-    ensures { IfOk result (λ dms. map (λ n. n.0) dms.items ≡ numbers.now.keys) }
+/// Puts a module at its place among modules that ascend, unless it is there. They are so few that
+/// each is looked at.
+fn put_module(dms: &mut Vec<DmNo>, dm: DmNo) -> Result<(), NoMemory>
+    ensures { OnOk result (
+        map (λ n. n.0) dms.new.items
+        ≡ insert_key nat_cmp (map (λ n. n.0) dms.old.items) dm.0) }
 {
-    let mut dms = Vec::new(alloc);
-    for number in numbers {
-        dms.push(DmNo(*number))?;
+    match place_of(dms, dm) {
+        None => dms.push(dm)?,
+        Some(place) => {
+            if dms[place].0 != dm.0 {
+                dms.insert(place, dm)?;
+            }
+        }
     }
-    Ok(dms)
+    Ok(())
+}
+
+/// The first place at which no lower module stands.
+fn place_of(dms: &[DmNo], dm: DmNo) -> Option<usize>
+    ensures { result ≡ position (λ n. not (nat_lt n.0 dm.0)) dms.now }
+{
+    dms.iter().position(|other| other.0 >= dm.0)
 }
 
 /// Of the uses those with a fragment that the class reads at the module, each with these
