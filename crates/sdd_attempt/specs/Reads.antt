@@ -40,5 +40,9 @@ pub record IsBeginning (cat : Catalogue) (table : Option (List line.Entry)) (c c
   pub frags_are : map (λ f. f.0) frags ≡ ascending (fragments_in uses)
   pub frags_there : AreThere cat frags
 
+-- those to these modules
+abbrev pub reads_to : Beginning → List ℕ → List (Site × Msg)
+reads_to b ds = map (read_to b.catalogue b.table b.class b.queued b.uses b.own b.p2) ds
+
 abbrev pub reads_of : Beginning → List (Site × Msg)
-reads_of b = map (read_to b.catalogue b.table b.class b.queued b.uses b.own b.p2) (modules_of b.catalogue b.class (ascending (fragments_in b.uses)))
+reads_of b = reads_to b (modules_of b.catalogue b.class (ascending (fragments_in b.uses)))

@@ -11,7 +11,6 @@ use crate::exchange::Exchange;
 use crate::queued::Queued;
 use crate::reads::Beginning;
 use crate::running::Running;
-use crate::sending::send_all;
 use sdd_base::{ClassNo, Clock, NoMemory};
 use sdd_catalog::Catalogue;
 use sdd_module::Draft;
@@ -48,9 +47,8 @@ pub(crate) fn begun(
     let p2 = clock.bound();
     let own = clock.start();
     let beginning = Beginning::of(alloc, cat, table, class, queued, own, p2)?;
-    let reads = beginning.reads()?;
-    let exchange = Exchange::begin(alloc, &queued.text, &reads)?;
+    let modules = beginning.send_reads(draft)?;
+    let exchange = Exchange::begin(alloc, &queued.text, modules)?;
     draft.record(beginning.into_record())?;
-    send_all(draft, reads)?;
     Ok(Running { ts: own, exchange })
 }

@@ -11,8 +11,7 @@ ghost use Rattle.sdd_attempt.specs.Lines.{attempt_of};
 
 use crate::queued::Queued;
 use crate::running::Running;
-use crate::sending::send_all;
-use crate::writes::{Committing, writes};
+use crate::writes::{Committing, send_writes};
 use sdd_base::{ClassNo, NoMemory, Row};
 use sdd_catalog::Catalogue;
 use sdd_exec::{Snapshot, effect};
@@ -45,7 +44,7 @@ pub(crate) fn committed(
         txn: queued.number,
         ts,
     };
-    let writes = writes(alloc, cat, attempt, effect.changes.as_slice())?;
+    send_writes(alloc, cat, attempt, effect.changes.as_slice(), draft)?;
     draft.record(Rec::Commit {
         txn: queued.number,
         attempt: queued.tries,
@@ -54,7 +53,6 @@ pub(crate) fn committed(
         values,
         rows,
     })?;
-    send_all(draft, writes)?;
     Ok(())
 }
 

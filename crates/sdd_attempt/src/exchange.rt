@@ -1,18 +1,20 @@
-ghost use Rattle.std.specs.Prelude.{◌≡◌, ◌<◌, ◌^◌, ◌==◌, ◌&&◌, ◌++◌, length, IfOk, OnOk, option_map, not};
+ghost use Rattle.std.specs.Prelude.{◌≡◌, ◌<◌, ◌^◌, ◌==◌, ◌&&◌, ◌++◌, List, filter_map, length, IfOk, OnOk, option_map, not};
 ghost use Rattle.sdd_base.specs.Order.{with_values};
 ghost use Rattle.sdd_base.specs.Words.{head_of, is_empty};
-ghost use Rattle.sdd_attempt.specs.Exchange.{after_hand, after_send, answered, begins, fetches, goes_on, is_over, phase_ends, reduces, ships};
+ghost use Rattle.sdd_attempt.specs.Exchange.{after_hand, after_send, answered, begins, fetches, goes_on, is_over, module_read, phase_ends, reduces, ships};
 ghost use Rattle.sdd_attempt.specs.Outbox.{numbered};
 ghost use Rattle.sdd_attempt.specs.Phases.{move_of};
 ghost use Rattle.sdd_attempt.specs.Room.{AreSmall, IsSmallText};
 ghost use Rattle.sdd_attempt.specs.Standings.{lowest};
+ghost use Rattle.sdd_base.specs.declared.site.Site.{Site};
+ghost use Rattle.sdd_wire.specs.declared.msg.Msg.{Msg};
 
 use crate::counts::Counts;
 use crate::modules::{DmNos, Modules};
 use crate::outbox::Outbox;
 use crate::phase::{Phase, Reduction, next_reduction};
 use crate::queries::{Asking, askings};
-use sdd_base::{ClassNo, DmNo, NoMemory, Parcel, Row, Site, Ts, Value};
+use sdd_base::{ClassNo, DmNo, NoMemory, Parcel, Row, Ts, Value};
 use sdd_lang::Txn;
 use sdd_semijoin::Step;
 use sdd_wire::{Msg, ValueList};
@@ -60,16 +62,13 @@ impl Model for Exchange {
 }
 
 impl Exchange {
-    /// The exchange of an attempt of this transaction whose Start sends these READs.
-    pub(crate) fn begin(
-        alloc: Global,
-        text: &Txn,
-        reads: &[(Site, Msg)],
-    ) -> Result<Exchange, NoMemory>
+    /// The exchange of an attempt of this transaction whose Start sends READs to these modules.
+    pub(crate) fn begin(alloc: Global, text: &Txn, modules: Modules) -> Result<Exchange, NoMemory>
         requires { IsSmallText text.now }
-        ensures { IfOk result (λ x. x ≡ begins text.now reads.now) }
+        ensures { IfOk result (λ x.
+            (reads : List (Site × Msg)) → modules ≡ filter_map module_read reads
+            → x ≡ begins text.now reads) }
     {
-        let modules = Modules::of(alloc, reads)?;
         let lacks = modules.all(alloc)?;
         let phase = if modules.is_empty() {
             Phase::Over

@@ -17,7 +17,6 @@ mod queries;
 mod queued;
 mod reads;
 mod running;
-mod sending;
 mod standing;
 mod step;
 mod writes;

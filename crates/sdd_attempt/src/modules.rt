@@ -102,14 +102,21 @@ impl Model for Modules {
 }
 
 impl Modules {
-    /// The modules to which these READs go.
-    #[tactic(auto, using(crate::proofs::Reading::modules_read))]
-    pub(crate) fn of(alloc: Global, reads: &[(Site, Msg)]) -> Result<Modules, NoMemory>
-        ensures { IfOk result (λ modules. modules ≡ filter_map module_read reads.now) }
+    /// No module, with room for so many.
+    pub(crate) fn with_room(alloc: Global, modules: usize) -> Result<Modules, NoMemory>
+        ensures { IfOk result (λ modules. modules ≡ []) }
     {
         Ok(Modules {
-            items: modules_of(alloc, reads)?,
+            items: Vec::with_capacity(alloc, modules)?,
         })
+    }
+
+    /// Adds the module of a message, where that is a READ.
+    pub(crate) fn add(&mut self, alloc: Global, read: &(Site, Msg)) -> Result<(), NoMemory>
+        ensures { OnOk result (
+            self.new ≡ self.old ++ filter_map module_read (read.now ∷ [])) }
+    {
+        add_module(alloc, &mut self.items, read)
     }
 
     pub(crate) fn is_empty(&self) -> bool
@@ -164,17 +171,6 @@ fn reading(part: &(DmNo, UseNos), use_no: u32) -> Option<DmNo>
     }
 }
 
-fn modules_of(alloc: Global, reads: &[(Site, Msg)]) -> Result<Vec<(DmNo, UseNos)>, NoMemory>
-    ensures { IfOk result (λ modules. modules.items ≡ filter_map module_of reads.now) }
-{
-    let mut modules = Vec::with_capacity(alloc, reads.len())?;
-    for read in reads {
-        add_module(alloc, &mut modules, read)?;
-    }
-    Ok(modules)
-}
-
-/// Adds the module of a message, where that is a READ.
 fn add_module(
     alloc: Global,
     modules: &mut Vec<(DmNo, UseNos)>,

@@ -9,14 +9,17 @@ ghost use Rattle.sdd_lang.specs.Fits.{Fits};
 ghost use Rattle.sdd_lang.specs.Uses.{uses_of};
 ghost use Rattle.sdd_protocol.specs.Conditions.{is_read_at};
 ghost use Rattle.sdd_attempt.specs.Acts.{conditions_at, modules_of, p2_of, read_to, use_there};
-ghost use Rattle.sdd_attempt.specs.Reads.{AreThere, IsDeclared, reads_of};
+ghost use Rattle.sdd_attempt.specs.Exchange.{module_read};
+ghost use Rattle.sdd_attempt.specs.Reads.{AreThere, IsDeclared, reads_of, reads_to};
 ghost use Rattle.sdd_history.specs.declared.record.Rec.TheVariants as recs;
 
+use crate::modules::Modules;
 use crate::queued::Queued;
 use sdd_base::{ClassNo, Conds, DmNo, FragNo, Frags, NoMemory, Parcel, Site, Ts, Use, Uses};
 use sdd_catalog::Catalogue;
 use sdd_history::Rec;
 use sdd_lang::{read_set, uses};
+use sdd_module::Draft;
 use sdd_protocol::{Table, undeclared};
 use sdd_wire::Msg;
 use std::alloc::Global;
@@ -99,13 +102,16 @@ impl<'a> Beginning<'a> {
         })
     }
 
-    /// The READs, ascending by module. Costs time and memory in the modules times what the
-    /// conditions and the uses cost.
-    pub(crate) fn reads(&self) -> Result<Vec<(Site, Msg)>, NoMemory>
-        ensures { IfOk result (λ reads. reads.items ≡ reads_of self.now) }
+    /// Sends the READs, ascending by module, and gives the modules with what they read. Costs time
+    /// and memory in the modules times what the conditions and the uses cost.
+    pub(crate) fn send_reads(&self, draft: &mut Draft) -> Result<Modules, NoMemory>
+        ensures draft { OnOk result (
+            draft.new ≡ record draft.old { out = draft.old.out ++ reads_of self.now }) }
+        ensures modules { IfOk result (λ modules.
+            modules ≡ filter_map module_read (reads_of self.now)) }
     {
         let dms = self.modules()?;
-        reads_to(self, &dms)
+        send_reads_to(self, &dms, draft)
     }
 
     /// The record of its Start.
@@ -183,18 +189,26 @@ impl<'a> Beginning<'a> {
     }
 }
 
-fn reads_to(beginning: &Beginning, dms: &[DmNo]) -> Result<Vec<(Site, Msg)>, NoMemory>
-    ensures { IfOk result (λ reads.
-        reads.items
-        ≡ map (read_to beginning.now.catalogue beginning.now.table beginning.now.class
-        beginning.now.queued beginning.now.uses beginning.now.own beginning.now.p2)
-        (map (λ n. n.0) dms.now)) }
+fn send_reads_to(
+    beginning: &Beginning,
+    dms: &[DmNo],
+    draft: &mut Draft,
+) -> Result<Modules, NoMemory>
+    ensures draft { OnOk result (
+        draft.new
+        ≡ record draft.old {
+          out = draft.old.out ++ reads_to beginning.now (map (λ n. n.0) dms.now);
+        }) }
+    ensures modules { IfOk result (λ modules.
+        modules ≡ filter_map module_read (reads_to beginning.now (map (λ n. n.0) dms.now))) }
 {
-    let mut reads = Vec::with_capacity(beginning.alloc, dms.len())?;
+    let mut modules = Modules::with_room(beginning.alloc, dms.len())?;
     for dm in dms {
-        reads.push(beginning.read_to(*dm)?)?;
+        let read = beginning.read_to(*dm)?;
+        modules.add(beginning.alloc, &read)?;
+        draft.send(read.0, read.1)?;
     }
-    Ok(reads)
+    Ok(modules)
 }
 
 /// All data modules.

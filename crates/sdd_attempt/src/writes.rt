@@ -4,6 +4,7 @@ ghost use Rattle.sdd_attempt.specs.Writes.{changes_at, write_of};
 
 use sdd_base::{Change, Changes, ClassNo, DmNo, FragNo, NoMemory, Parcel, Site, Ts, TxnNo};
 use sdd_catalog::Catalogue;
+use sdd_module::Draft;
 use sdd_wire::Msg;
 use std::alloc::Global;
 
@@ -15,55 +16,53 @@ pub(crate) struct Committing {
     pub(crate) ts: Ts,
 }
 
-/// Its WRITEs, ascending by module: to each module that has a copy of a changed fragment, and of
-/// an undeclared transaction to every one. Costs time in the modules times the changes and their
+/// Sends its WRITEs, ascending by module: to each module that has a copy of a changed fragment, and
+/// of an undeclared transaction to every one. Costs time in the modules times the changes and their
 /// copies.
-pub(crate) fn writes(
+pub(crate) fn send_writes(
     alloc: Global,
     cat: &Catalogue,
     attempt: Committing,
     changes: &[Change],
-) -> Result<Vec<(Site, Msg)>, NoMemory>
-    ensures { IfOk result (λ writes.
-        writes.items
-        ≡ filter_map (write_of cat.now attempt.class.0 attempt.ts.0 attempt.txn.0 changes.now)
-        (numbers_to cat.now.dms)) }
+    draft: &mut Draft,
+) -> Result<(), NoMemory>
+    ensures { OnOk result (
+        draft.new
+        ≡ record draft.old {
+          out = draft.old.out
+              ++ filter_map (write_of cat.now attempt.class.0 attempt.ts.0 attempt.txn.0 changes.now)
+              (numbers_to cat.now.dms);
+        }) }
 {
     cat.known();
-    let mut writes = Vec::new(alloc);
     for number in 1..cat.dms() + 1 {
-        add_write(
-            alloc,
-            cat,
-            attempt,
-            changes,
-            DmNo(number as u8),
-            &mut writes,
-        )?;
+        send_write(alloc, cat, attempt, changes, DmNo(number as u8), draft)?;
     }
-    Ok(writes)
+    Ok(())
 }
 
-/// Adds the WRITE to a module, where one goes there.
-fn add_write(
+/// Sends the WRITE to a module, where one goes there.
+fn send_write(
     alloc: Global,
     cat: &Catalogue,
     attempt: Committing,
     changes: &[Change],
     dm: DmNo,
-    writes: &mut Vec<(Site, Msg)>,
+    draft: &mut Draft,
 ) -> Result<(), NoMemory>
     ensures { OnOk result (
-        writes.new.items
-        ≡ writes.old.items
-        ++ filter_map (write_of cat.now attempt.class.0 attempt.ts.0 attempt.txn.0 changes.now)
-        (dm.0 ∷ [])) }
+        draft.new
+        ≡ record draft.old {
+          out = draft.old.out
+              ++ filter_map (write_of cat.now attempt.class.0 attempt.ts.0 attempt.txn.0 changes.now)
+              (dm.0 ∷ []);
+        }) }
 {
     let here = changes_at(alloc, cat, dm, changes)?;
     if here.is_empty() && attempt.class.0 != 0 {
         return Ok(());
     }
-    writes.push((
+    draft.send(
         Site::D(dm),
         Msg::Write {
             ts: attempt.ts,
@@ -71,8 +70,7 @@ fn add_write(
             txn: attempt.txn,
             changes: Changes::from_vec(here),
         },
-    ))?;
-    Ok(())
+    )
 }
 
 /// Of the changes those of fragments that have a copy at the module.

@@ -1,4 +1,4 @@
-use Rattle.std.proofs.Common.{ap, sym, subst, ◌∙◌}
+use Rattle.std.proofs.Common.{ap, refl, sym, subst, ◌∙◌, ◌++◌}
 use Rattle.std.specs.Prelude.{filter_map}
 use Rattle.sdd_catalog.specs.Catalogue.{numbers_to}
 use Rattle.sdd_exec.specs.Serves.{Serves}
@@ -17,8 +17,10 @@ returns c = λ bases sound serves.
     let found = c.into_found.ensures ∙ ap (λ x. x.exchange.found) c.running.view_is in
     let here = subst (λ t. Serves cat t c.into_found.result.items (bases r.ts)) (sym text) (subst (λ rows. Serves cat q.text rows (bases r.ts)) (sym found) serves) in
     let made = c.in_ok-effect.ensures (bases r.ts) (sound r.ts) here ∙ ap (effect cat (bases r.ts)) text in
-    committed_noted cat bases c.args.class.0 q r c.queued.inside.number c.queued.inside.tries c.values-values.result c.rows-rows.result c.running.inside.ts.0 c.in_ok-effect.effect c.in_ok-writes.writes.items
-    c.args.draft.now c.record.new.self c.send_all.new.draft
+    let notes = c.args.draft.now in
+    let writes = filter_map (write_of cat c.args.class.0 c.running.inside.ts.0 c.queued.inside.number.0 c.in_ok-effect.effect.changes) (numbers_to cat.dms) in
+    let sent = c.in_ok-send_writes.ensures ∙ ap (λ xs. record notes { out = notes.out ++ filter_map (write_of cat c.args.class.0 c.running.inside.ts.0 c.queued.inside.number.0 xs) (numbers_to cat.dms) }) c.as_slice.ensures in
+    committed_noted cat bases c.args.class.0 q r c.queued.inside.number c.queued.inside.tries c.values-values.result c.rows-rows.result c.running.inside.ts.0 c.in_ok-effect.effect writes
+    notes c.send_writes.new.draft c.record.new.self
     (ap (λ x. txn_no x.number) c.queued.view_is) (ap (λ x. x.tries) c.queued.view_is) (c.values-values.ensures ∙ ap (λ x. x.exchange.values) c.running.view_is) (c.rows-rows.ensures ∙ ap (λ x. x.exchange.rows) c.running.view_is)
-    (ap (λ x. x.ts) c.running.view_is) made
-    (c.in_ok-writes.ensures ∙ ap (λ xs. filter_map (write_of cat c.args.class.0 c.running.inside.ts.0 c.queued.inside.number.0 xs) (numbers_to cat.dms)) c.as_slice.ensures) c.in_ok-record.ensures c.in_ok-send_all.ensures
+    (ap (λ x. x.ts) c.running.view_is) made refl sent c.in_ok-record.ensures
