@@ -1,5 +1,6 @@
 pub mod EffectChanges
 pub mod Firsts
+pub mod FragSets
 pub mod KeyKinds
 pub mod KeyRanges
 pub mod Numbering
@@ -11,5 +12,6 @@ pub mod SoFar
 pub mod SortedEntries
 pub mod Sources
 pub mod Standing
+pub mod StatementSets
 pub mod StaysDatabase
 pub mod UseLists

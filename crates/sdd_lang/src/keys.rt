@@ -1,9 +1,11 @@
 //! The keys that restrictions allow.
-ghost use Rattle.std.specs.Prelude.{◌≡◌, ◌==◌, true, false, if◌then◌else◌, FitsSigned, MatchOption};
+ghost use Rattle.std.specs.Prelude.{◌≡◌, ◌==◌, true, false, if◌then◌else◌, [], ◌∷◌, FitsSigned, MatchOption};
 ghost use Rattle.std.specs.Int.{w64};
 ghost use Rattle.sdd_base.specs.Order.{number_in};
-ghost use Rattle.sdd_lang.specs.Uses.{larger, smaller, common, holds_some, all_keys, keys_for, allowed_keys};
+ghost use Rattle.sdd_lang.specs.Uses.{larger, smaller, common, holds_some, all_keys, keys_for, allowed_keys, restrictions_of};
+ghost use Rattle.sdd_lang.specs.Narrowing.{keys_left};
 
+use crate::condition::Condition;
 use sdd_base::{Op, Restriction, Value};
 use std::marker::Model;
 
@@ -132,17 +134,51 @@ pub fn allowed_keys(key: u32, restrictions: &[Restriction]) -> Keys
 {
     let mut keys = Keys::all();
     for restriction in restrictions {
-        keys = narrowed(key, keys, restriction);
+        keys = narrowed(
+            key,
+            keys,
+            restriction.column,
+            restriction.op,
+            &restriction.value,
+        );
     }
     keys
 }
 
-/// The keys that one more restriction leaves.
-fn narrowed(key: u32, keys: Keys, restriction: &Restriction) -> Keys
-    ensures { result ≡ (if restriction.now.column == key then common keys (keys_for restriction.now.op (number_in restriction.now.value)) else keys) }
+/// The keys that the restrictions allow which the conditions are for a part. Costs time in the
+/// number of the conditions. Takes no memory.
+pub(crate) fn keys_of(key: u32, part: u32, conds: &[Condition]) -> Keys
+    ensures { result ≡ allowed_keys key (restrictions_of part conds.now) }
 {
-    if restriction.column == key {
-        keys.within(&Keys::compared(restriction.op, &restriction.value))
+    let mut keys = Keys::all();
+    for cond in conds {
+        keys = narrowed_by(key, part, keys, cond);
+    }
+    keys
+}
+
+/// The keys that one more condition leaves.
+fn narrowed_by(key: u32, part: u32, keys: Keys, cond: &Condition) -> Keys
+    ensures { result ≡ keys_left key keys (restrictions_of part (cond.now ∷ [])) }
+{
+    match cond {
+        Condition::Const { left, op, value } => {
+            if left.part == part {
+                narrowed(key, keys, left.column, *op, value)
+            } else {
+                keys
+            }
+        }
+        Condition::Same { left: _, right: _ } => keys,
+    }
+}
+
+/// The keys that one more restriction leaves.
+fn narrowed(key: u32, keys: Keys, column: u32, op: Op, value: &Value) -> Keys
+    ensures { result ≡ (if column == key then common keys (keys_for op (number_in value.now)) else keys) }
+{
+    if column == key {
+        keys.within(&Keys::compared(op, value))
     } else {
         keys
     }

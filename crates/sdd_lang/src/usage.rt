@@ -98,7 +98,7 @@ fn use_of(
 }
 
 /// The fragments of the relation that hold a key which the restrictions allow, ascending.
-pub fn fragments_for(
+fn fragments_for(
     alloc: Global,
     cat: &Catalogue,
     rel: RelNo,
@@ -119,7 +119,7 @@ pub fn fragments_for(
 }
 
 /// Whether the fragment is of the relation and holds one of the keys.
-fn meets_keys(cat: &Catalogue, rel: RelNo, keys: &Keys, frag: FragNo) -> bool
+pub(crate) fn meets_keys(cat: &Catalogue, rel: RelNo, keys: &Keys, frag: FragNo) -> bool
     requires from { 1 ≤ frag.0 }
     requires to { frag.0 ≤ length cat.now.fragments }
     ensures { result ≡ meets_keys cat.now rel.0 keys.now frag.0 }

@@ -1,6 +1,10 @@
-use Rattle.std.proofs.Common.{◌≡◌, map}
+use Rattle.std.proofs.Common.{◌≡◌, ◌-◌, map}
+use Rattle.std.specs.List.{filter}
+use Rattle.sdd_base.specs.Numbers.{frag_no}
+use Rattle.sdd_catalog.specs.Catalogue.{numbers_to}
+use Rattle.sdd_lang.specs.FragSets.{has}
 use Rattle.sdd_lang.proofs.classes.listed.Given as goal
 
--- the fragments of the numbers so far
+-- the members among the numbers so far
 abbrev pub invariant-loop-number : goal.invariant-loop-number
-invariant-loop-number l = map (λ f. f.0) l.frags.items ≡ map (λ n. n.now) l.yielded
+invariant-loop-number l = l.frags.items ≡ map frag_no (filter (has l.set) (numbers_to (l.number - 1)))

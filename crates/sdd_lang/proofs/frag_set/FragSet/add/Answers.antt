@@ -1,0 +1,13 @@
+use Rattle.std.proofs.Common.{◌∙◌, ap, arith}
+use Rattle.std.specs.Ordering.{nat_cmp}
+use Rattle.std.specs.BTreeSet.{insert_key}
+use Rattle.sdd_lang.specs.FragSets.{members}
+use Rattle.sdd_lang.proofs.FragSets.{one_more_member}
+use Rattle.sdd_lang.proofs.frag_set.FragSet.add.Goals as goal
+
+pub returns : goal.returns
+returns c =
+    let few = c.known.ensures.whole.few_fragments in
+    let long = c.self.invariant in
+    one_more_member c.args.cat.now c.self.inside.flags c.args.frag.0 (omega arith) c.requires.from c.requires.to
+    ∙ ap (λ flags. insert_key nat_cmp (members c.args.cat.now flags) c.args.frag.0) c.self.view_is

@@ -1,0 +1,7 @@
+use Rattle.std.proofs.Common.{◌≡◌, take}
+use Rattle.sdd_lang.specs.Uses.{allowed_keys, restrictions_of}
+use Rattle.sdd_lang.proofs.keys.keys_of.Given as goal
+
+-- the keys that the conditions so far allow
+abbrev pub invariant-loop-cond : goal.invariant-loop-cond
+invariant-loop-cond l = l.keys ≡ allowed_keys l.key (restrictions_of l.part (take l.cond-index l.conds))

@@ -1,0 +1,8 @@
+use Rattle.std.proofs.Common.{◌≡◌, length, ap, arith}
+use Rattle.sdd_lang.proofs.StatementSets.{all_read}
+use Rattle.sdd_lang.proofs.touched.Touched.of.Goals as goal
+
+pub returns-clause-reads : goal.returns-clause-reads
+returns-clause-reads c =
+    let same : length c.as_slice-statement-items.result.now ≡ length c.args.txn.now.statements = ap length c.as_slice-statement-items.ensures in
+    all_read c.args.cat.now c.args.txn.now c.loop-statement.statement-index _ (omega arith) c.loop-statement.invariant.reads

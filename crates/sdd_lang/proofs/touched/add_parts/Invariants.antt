@@ -1,0 +1,13 @@
+use Rattle.std.proofs.Common.{◌≡◌, ◌+◌, drop}
+use Rattle.sdd_lang.specs.Classes.{fragments_in}
+use Rattle.sdd_lang.specs.FragSets.{members, put_all}
+use Rattle.sdd_lang.specs.Uses.{part_uses}
+use Rattle.sdd_lang.proofs.touched.add_parts.Given as goal
+
+-- with the fragments of the parts that are left these are all
+abbrev pub invariant-loop-rel : goal.invariant-loop-rel
+invariant-loop-rel l = record {
+  counted : l.part ≡ l.rel-index + 1;
+  told : put_all (members l.cat l.set) (fragments_in (part_uses l.cat 0 l.conds l.part (drop l.rel-index l.rels)))
+      ≡ put_all (members l.cat l.fn.set) (fragments_in (part_uses l.cat 0 l.conds 1 l.rels));
+}

@@ -1,0 +1,122 @@
+//! The fragments that a transaction touches.
+ghost use Rattle.std.specs.Prelude.{◌≡◌, ◌≤◌, [], ◌∷◌, All, length, filter};
+ghost use Rattle.sdd_catalog.specs.Catalogue.{fragment_of, key_column, numbers_to};
+ghost use Rattle.sdd_lang.specs.Classes.{fragments_in, read_set, write_set, written_by};
+ghost use Rattle.sdd_lang.specs.Database.{key_in};
+ghost use Rattle.sdd_lang.specs.Fits.{Fits, FitsStatement, IsRelation};
+ghost use Rattle.sdd_lang.specs.FragSets.{members, put_all};
+ghost use Rattle.sdd_lang.specs.Uses.{allowed_keys, meets_keys, restrictions_of, part_uses, statement_uses};
+
+use crate::condition::Condition;
+use crate::frag_set::FragSet;
+use crate::keys::{Keys, keys_of};
+use crate::statement::Stmt;
+use crate::transaction::Txn;
+use crate::tuple::key_of;
+use crate::usage::meets_keys;
+use sdd_base::{FragNo, RelNo, Row};
+use sdd_catalog::Catalogue;
+
+/// The fragments that a transaction reads, and those that it may change.
+#[derive(Drop)]
+pub(crate) struct Touched {
+    pub(crate) reads: FragSet,
+    pub(crate) writes: FragSet,
+}
+
+impl Touched {
+    /// Those of a transaction.
+    ///
+    /// Costs, for each use, time in the conditions of its statement and the fragments of the
+    /// catalogue. Takes no memory.
+    pub(crate) fn of(cat: &Catalogue, txn: &Txn) -> Touched
+        requires { Fits cat.now txn.now }
+        ensures reads { members cat.now result.reads ≡ read_set cat.now txn.now }
+        ensures writes { members cat.now result.writes ≡ write_set cat.now txn.now }
+    {
+        let mut touched = Touched {
+            reads: FragSet::new(),
+            writes: FragSet::new(),
+        };
+        for statement in txn.statements.as_slice() {
+            touched.add(cat, statement);
+        }
+        touched
+    }
+
+    /// Adds those of one more statement.
+    fn add(&mut self, cat: &Catalogue, statement: &Stmt)
+        requires { FitsStatement cat.now statement.now }
+        ensures reads { members cat.now self.new.reads
+            ≡ put_all (members cat.now self.old.reads) (fragments_in (statement_uses cat.now 0 statement.now)) }
+        ensures writes { members cat.now self.new.writes
+            ≡ put_all (members cat.now self.old.writes) (written_by cat.now statement.now) }
+    {
+        match statement {
+            Stmt::Put { rel, row } => add_put(cat, *rel, row, &mut self.writes),
+            Stmt::Query {
+                out: _,
+                rels,
+                conds,
+            } => { add_parts(cat, rels.as_slice(), conds.as_slice(), &mut self.reads) }
+            Stmt::Update {
+                rel,
+                sets: _,
+                conds,
+            } => { self.add_change(cat, *rel, conds.as_slice()) }
+            Stmt::Delete { rel, conds } => self.add_change(cat, *rel, conds.as_slice()),
+        }
+    }
+
+    /// Adds those of the use of an update or a delete.
+    fn add_change(&mut self, cat: &Catalogue, rel: RelNo, conds: &[Condition])
+        requires { IsRelation cat.now rel.0 }
+        ensures reads { members cat.now self.new.reads
+            ≡ put_all (members cat.now self.old.reads) (fragments_in (part_uses cat.now 0 conds.now 1 (rel ∷ []))) }
+        ensures writes { members cat.now self.new.writes
+            ≡ put_all (members cat.now self.old.writes) (fragments_in (part_uses cat.now 0 conds.now 1 (rel ∷ []))) }
+    {
+        let keys = keys_of(cat.relation(rel).key, 1, conds);
+        add_use(cat, rel, &keys, &mut self.reads);
+        add_use(cat, rel, &keys, &mut self.writes);
+    }
+}
+
+/// Adds the fragment that holds the row's key.
+fn add_put(cat: &Catalogue, rel: RelNo, row: &Row, set: &mut FragSet)
+    requires { IsRelation cat.now rel.0 }
+    ensures { members cat.now set.new
+        ≡ put_all (members cat.now set.old) (fragment_of cat.now rel.0 (key_in cat.now rel.0 row.now) ∷ []) }
+{
+    let key = key_of(cat, rel, row);
+    set.add(cat, cat.fragment_of(rel, key));
+}
+
+/// Adds the fragments of each part of a statement.
+fn add_parts(cat: &Catalogue, rels: &[RelNo], conds: &[Condition], set: &mut FragSet)
+    requires there { All (λ rel. IsRelation cat.now rel.0) rels.now }
+    requires parts { length rels.now ≤ 6 }
+    ensures { members cat.now set.new
+        ≡ put_all (members cat.now set.old) (fragments_in (part_uses cat.now 0 conds.now 1 rels.now)) }
+{
+    let mut part = 1;
+    for rel in rels {
+        let keys = keys_of(cat.relation(*rel).key, part, conds);
+        add_use(cat, *rel, &keys, set);
+        part += 1;
+    }
+}
+
+/// Adds the fragments of the relation that hold one of the keys.
+fn add_use(cat: &Catalogue, rel: RelNo, keys: &Keys, set: &mut FragSet)
+    requires { IsRelation cat.now rel.0 }
+    ensures { members cat.now set.new
+        ≡ put_all (members cat.now set.old) (filter (meets_keys cat.now rel.0 keys.now) (numbers_to (length cat.now.fragments))) }
+{
+    cat.known();
+    for number in 1..cat.fragments() + 1 {
+        if meets_keys(cat, rel, keys, FragNo(number)) {
+            set.add(cat, FragNo(number));
+        }
+    }
+}
