@@ -21,7 +21,8 @@ pub fn read_set(alloc: Global, cat: &Catalogue, txn: &Txn) -> Result<Vec<FragNo>
     requires { Fits cat.now txn.now }
     ensures { IfOk result (λ frags. map (λ f. f.0) frags.items ≡ read_set cat.now txn.now) }
 {
-    let touched = Touched::of(cat, txn);
+    let mut touched = Touched::none();
+    touched.add_all(cat, txn);
     listed(alloc, cat, &touched.reads)
 }
 
@@ -34,7 +35,8 @@ pub fn write_set(alloc: Global, cat: &Catalogue, txn: &Txn) -> Result<Vec<FragNo
     requires { Fits cat.now txn.now }
     ensures { IfOk result (λ frags. map (λ f. f.0) frags.items ≡ write_set cat.now txn.now) }
 {
-    let touched = Touched::of(cat, txn);
+    let mut touched = Touched::none();
+    touched.add_all(cat, txn);
     listed(alloc, cat, &touched.writes)
 }
 
@@ -47,7 +49,8 @@ pub fn class_for(_alloc: Global, cat: &Catalogue, txn: &Txn) -> Result<ClassNo, 
     requires { Fits cat.now txn.now }
     ensures { IfOk result (λ class. class.0 ≡ class_for cat.now txn.now) }
 {
-    let touched = Touched::of(cat, txn);
+    let mut touched = Touched::none();
+    touched.add_all(cat, txn);
     Ok(first_covering(cat, txn, &touched))
 }
 

@@ -1,5 +1,5 @@
 //! The keys that restrictions allow.
-ghost use Rattle.std.specs.Prelude.{◌≡◌, ◌==◌, true, false, if◌then◌else◌, [], ◌∷◌, FitsSigned, MatchOption};
+ghost use Rattle.std.specs.Prelude.{◌≡◌, ◌==◌, true, false, if◌then◌else◌, [], ◌∷◌, int_le, FitsSigned, MatchOption};
 ghost use Rattle.std.specs.Int.{w64};
 ghost use Rattle.sdd_base.specs.Order.{number_in};
 ghost use Rattle.sdd_lang.specs.Uses.{larger, smaller, common, holds_some, all_keys, keys_for, allowed_keys, restrictions_of};
@@ -76,6 +76,24 @@ impl Keys {
         }
     }
 
+    /// Whether the first of these keys isn't behind the last of the others.
+    fn begin_before(&self, others: &Keys) -> bool
+        ensures { result ≡ int_le self.now.0 others.now.1 }
+    {
+        self.from <= others.to
+    }
+
+    /// Whether one of these keys is among the others.
+    #[tactic(auto, using(crate::proofs::KeyRanges::some_in_common))]
+    fn share_one(&self, others: &Keys) -> bool
+        ensures { result ≡ holds_some (common self.now others.now) }
+    {
+        self.begin_before(others)
+            && others.begin_before(self)
+            && self.begin_before(self)
+            && others.begin_before(others)
+    }
+
     /// Whether one of these keys is from `least` to `greatest`.
     pub fn meets(&self, least: &i64, greatest: &i64) -> bool
         ensures { result ≡ holds_some (common self.now (least.now, greatest.now)) }
@@ -84,8 +102,7 @@ impl Keys {
             from: *least as i128,
             to: *greatest as i128,
         };
-        let both = self.within(&range);
-        both.from <= both.to
+        self.share_one(&range)
     }
 
     /// The least and the greatest of these keys that are whole numbers of 64 bits, or None where

@@ -1,11 +1,13 @@
 //! The fragments that a transaction touches.
 ghost use Rattle.std.specs.Prelude.{◌≡◌, ◌≤◌, [], ◌∷◌, All, length, filter};
-ghost use Rattle.sdd_catalog.specs.Catalogue.{fragment_of, key_column, numbers_to};
+ghost use Rattle.std.specs.Ordering.{nat_cmp};
+ghost use Rattle.std.specs.BTreeSet.{insert_key};
+ghost use Rattle.sdd_catalog.specs.Catalogue.{Catalogue as OfCatalogue, fragment_of, numbers_to};
 ghost use Rattle.sdd_lang.specs.Classes.{fragments_in, read_set, write_set, written_by};
 ghost use Rattle.sdd_lang.specs.Database.{key_in};
 ghost use Rattle.sdd_lang.specs.Fits.{Fits, FitsStatement, IsRelation};
 ghost use Rattle.sdd_lang.specs.FragSets.{members, put_all};
-ghost use Rattle.sdd_lang.specs.Uses.{allowed_keys, meets_keys, restrictions_of, part_uses, statement_uses};
+ghost use Rattle.sdd_lang.specs.Uses.{meets_keys, part_uses, statement_uses};
 
 use crate::condition::Condition;
 use crate::frag_set::FragSet;
@@ -25,23 +27,30 @@ pub(crate) struct Touched {
 }
 
 impl Touched {
-    /// Those of a transaction.
+    pub(crate) fn none() -> Self
+        ensures reads { (cat : OfCatalogue) → members cat result.reads ≡ [] }
+        ensures writes { (cat : OfCatalogue) → members cat result.writes ≡ [] }
+    {
+        Touched {
+            reads: FragSet::new(),
+            writes: FragSet::new(),
+        }
+    }
+
+    /// Adds those of a transaction, where none are there yet.
     ///
     /// Costs, for each use, time in the conditions of its statement and the fragments of the
     /// catalogue. Takes no memory.
-    pub(crate) fn of(cat: &Catalogue, txn: &Txn) -> Touched
-        requires { Fits cat.now txn.now }
-        ensures reads { members cat.now result.reads ≡ read_set cat.now txn.now }
-        ensures writes { members cat.now result.writes ≡ write_set cat.now txn.now }
+    pub(crate) fn add_all(&mut self, cat: &Catalogue, txn: &Txn)
+        requires fits { Fits cat.now txn.now }
+        requires no_reads { members cat.now self.old.reads ≡ [] }
+        requires no_writes { members cat.now self.old.writes ≡ [] }
+        ensures reads { members cat.now self.new.reads ≡ read_set cat.now txn.now }
+        ensures writes { members cat.now self.new.writes ≡ write_set cat.now txn.now }
     {
-        let mut touched = Touched {
-            reads: FragSet::new(),
-            writes: FragSet::new(),
-        };
         for statement in txn.statements.as_slice() {
-            touched.add(cat, statement);
+            self.add(cat, statement);
         }
-        touched
     }
 
     /// Adds those of one more statement.
@@ -77,8 +86,33 @@ impl Touched {
             ≡ put_all (members cat.now self.old.writes) (fragments_in (part_uses cat.now 0 conds.now 1 (rel ∷ []))) }
     {
         let keys = keys_of(cat.relation(rel).key, 1, conds);
-        add_use(cat, rel, &keys, &mut self.reads);
-        add_use(cat, rel, &keys, &mut self.writes);
+        self.add_changed(cat, rel, &keys);
+    }
+
+    /// Adds the fragments of the relation that hold one of the keys, to both.
+    fn add_changed(&mut self, cat: &Catalogue, rel: RelNo, keys: &Keys)
+        requires { IsRelation cat.now rel.0 }
+        ensures reads { members cat.now self.new.reads
+            ≡ put_all (members cat.now self.old.reads) (filter (meets_keys cat.now rel.0 keys.now) (numbers_to (length cat.now.fragments))) }
+        ensures writes { members cat.now self.new.writes
+            ≡ put_all (members cat.now self.old.writes) (filter (meets_keys cat.now rel.0 keys.now) (numbers_to (length cat.now.fragments))) }
+    {
+        cat.known();
+        for number in 1..cat.fragments() + 1 {
+            if meets_keys(cat, rel, keys, FragNo(number)) {
+                self.add_both(cat, FragNo(number));
+            }
+        }
+    }
+
+    fn add_both(&mut self, cat: &Catalogue, frag: FragNo)
+        requires from { 1 ≤ frag.0 }
+        requires to { frag.0 ≤ length cat.now.fragments }
+        ensures reads { members cat.now self.new.reads ≡ insert_key nat_cmp (members cat.now self.old.reads) frag.0 }
+        ensures writes { members cat.now self.new.writes ≡ insert_key nat_cmp (members cat.now self.old.writes) frag.0 }
+    {
+        self.reads.add(cat, frag);
+        self.writes.add(cat, frag);
     }
 }
 

@@ -1,6 +1,6 @@
 use Rattle.std.proofs.Common.{◌≡◌, length, ap, arith}
 use Rattle.sdd_lang.proofs.StatementSets.{all_read}
-use Rattle.sdd_lang.proofs.touched.Touched.of.Goals as goal
+use Rattle.sdd_lang.proofs.touched.Touched.add_all.Goals as goal
 
 pub returns-clause-reads : goal.returns-clause-reads
 returns-clause-reads c =

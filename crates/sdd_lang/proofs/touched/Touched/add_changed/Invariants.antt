@@ -1,0 +1,13 @@
+use Rattle.std.proofs.Common.{◌≡◌, ◌-◌}
+use Rattle.std.specs.List.{filter}
+use Rattle.sdd_catalog.specs.Catalogue.{numbers_to}
+use Rattle.sdd_lang.specs.FragSets.{members, put_all}
+use Rattle.sdd_lang.specs.Uses.{meets_keys}
+use Rattle.sdd_lang.proofs.touched.Touched.add_changed.Given as goal
+
+-- those of the numbers so far that hold such a key are added
+abbrev pub invariant-loop-number : goal.invariant-loop-number
+invariant-loop-number l = record {
+  reads : members l.cat l.self.reads ≡ put_all (members l.cat l.fn.self.reads) (filter (meets_keys l.cat l.rel.0 l.keys) (numbers_to (l.number - 1)));
+  writes : members l.cat l.self.writes ≡ put_all (members l.cat l.fn.self.writes) (filter (meets_keys l.cat l.rel.0 l.keys) (numbers_to (l.number - 1)));
+}
