@@ -1,7 +1,8 @@
 -- Lists of uses, statement by statement.
-use Rattle.std.proofs.Common.{ℕ, suc, ◌≡◌, ◌+◌, ◌*◌, ◌≤◌, ◌<◌, List, [], ◌∷◌, ◌++◌, length, get_or, drop, refl, ap, sym, ◌∙◌, subst, arith, append_assoc, length-append}
-use Rattle.std.specs.List.{All}
-use Rattle.std.proofs.lemmas.List.{at_drop_more}
+use Rattle.std.proofs.Common.{ℕ, suc, ◌≡◌, ◌+◌, ◌*◌, ◌≤◌, ◌<◌, true, false, is_some, Option, Some, None, List, [], ◌∷◌, ◌++◌, length, get_or, take, drop, refl, ap, sym, ◌∙◌, subst, arith, append_assoc, length-append}
+use Rattle.std.specs.List.{All, cons_option}
+use Rattle.std.proofs.lemmas.List.{at_drop_more, take_more}
+use Rattle.std.proofs.lemmas.List.Elements.{filter_map-append}
 use Rattle.sdd_base.specs.declared.number.RelNo.{RelNo}
 use Rattle.sdd_base.specs.declared.usage.Use.{Use}
 use Rattle.sdd_catalog.specs.Catalogue.{Catalogue}
@@ -9,7 +10,7 @@ use Rattle.sdd_lang.specs.declared.condition.Condition.{Condition}
 use Rattle.sdd_lang.specs.declared.statement.Stmt.{Stmt}
 use Rattle.sdd_lang.specs.declared.statement.Stmt.TheVariants.{Put, Query, Update, Delete}
 use Rattle.sdd_lang.specs.Fits.{FitsStatement}
-use Rattle.sdd_lang.specs.Uses.{part_uses, statement_uses, uses_from}
+use Rattle.sdd_lang.specs.Uses.{restriction_of, restrictions_of, part_uses, statement_uses, uses_from}
 
 pub length-part_uses : (cat : Catalogue) (before : ℕ) (conds : List Condition) (part : ℕ) (rels : List RelNo) → length (part_uses cat before conds part rels) ≡ length rels
 length-part_uses cat before conds part [] = refl
@@ -46,3 +47,29 @@ uses_more cat statements i s xs ys fits within is so more =
           ∙ append_assoc xs (statement_uses cat (length xs) s) (uses_from cat (length xs + length (statement_uses cat (length xs) s)) (drop (i + 1) statements))
           ∙ ap (λ zs. xs ++ zs) (sym rest) ∙ so.told;
     }
+
+restrictions_more : (part : ℕ) (conds : List Condition) (i : ℕ) (c : Condition) → i < length conds → c ≡ get_or conds i c
+    → length (restrictions_of part (take (i + 1) conds)) ≡ length (restrictions_of part (take i conds)) + length (cons_option (restriction_of part c) [])
+restrictions_more part conds i c within is =
+    ap (λ cs. length (restrictions_of part cs)) (take_more conds i c within ∙ ap (λ z. take i conds ++ z ∷ []) (sym is))
+    ∙ ap length (filter_map-append (restriction_of part) (take i conds) (c ∷ []))
+    ∙ length-append (restrictions_of part (take i conds)) (restrictions_of part (c ∷ []))
+
+one_some : {A : Type 0} (o : Option A) → true ≡ is_some o → length (cons_option o []) ≡ 1
+one_some None e = cc
+one_some (Some x) e = refl
+
+none_some : {A : Type 0} (o : Option A) → false ≡ is_some o → length (cons_option o []) ≡ 0
+none_some None e = refl
+none_some (Some x) e = cc
+
+-- a condition that is a restriction is one more, and another one isn't
+pub one_counted : (part : ℕ) (conds : List Condition) (i : ℕ) (c : Condition) (n : ℕ) → i < length conds → c ≡ get_or conds i c → true ≡ is_some (restriction_of part c)
+    → n ≡ length (restrictions_of part (take i conds)) → n + 1 ≡ length (restrictions_of part (take (i + 1) conds))
+one_counted part conds i c n within is some so =
+    omega (arith, restrictions_more part conds i c within is, one_some (restriction_of part c) some)
+
+pub none_counted : (part : ℕ) (conds : List Condition) (i : ℕ) (c : Condition) (n : ℕ) → i < length conds → c ≡ get_or conds i c → false ≡ is_some (restriction_of part c)
+    → n ≡ length (restrictions_of part (take i conds)) → n ≡ length (restrictions_of part (take (i + 1) conds))
+none_counted part conds i c n within is none so =
+    omega (arith, restrictions_more part conds i c within is, none_some (restriction_of part c) none)

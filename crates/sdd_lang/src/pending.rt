@@ -100,7 +100,7 @@ impl Pending {
     pub(crate) fn into_changes(self, alloc: Global) -> Result<Changes, NoMemory>
         ensures { IfOk result (λ changes. changes ≡ map change_of self) }
     {
-        let mut changes = Vec::new(alloc);
+        let mut changes = Vec::with_capacity(alloc, self.rows.len())?;
         'changes: for (at, row) in self.rows {
             changes.push(Change {
                 frag: FragNo(at.0),

@@ -114,7 +114,7 @@ pub fn copied(value: Option<&Value>) -> Result<Value, NoMemory>
 pub fn project(alloc: Global, out: &[Ref], tuple: &[&Row]) -> Result<Row, NoMemory>
     ensures { IfOk result (λ row. row ≡ map (value_at (rows_lent tuple.now)) out.now) }
 {
-    let mut values = Vec::new(alloc);
+    let mut values = Vec::with_capacity(alloc, out.len())?;
     'columns: for at in out {
         values.push(copied(value_at(tuple, *at))?)?;
     }

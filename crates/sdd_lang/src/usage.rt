@@ -1,5 +1,5 @@
 //! The uses of a transaction.
-ghost use Rattle.std.specs.Prelude.{◌≡◌, ◌≤◌, ◌++◌, IfOk, OnOk, All, length};
+ghost use Rattle.std.specs.Prelude.{◌≡◌, ◌≤◌, ◌++◌, IfOk, OnOk, All, length, is_some};
 ghost use Rattle.sdd_lang.specs.Fits.{Fits, FitsStatement, IsRelation};
 ghost use Rattle.sdd_lang.specs.Uses.{restriction_of, restrictions_of, meets_keys, fragments_for, use_of, part_uses, statement_uses, uses_of};
 
@@ -19,7 +19,8 @@ pub fn uses(alloc: Global, cat: &Catalogue, txn: &Txn) -> Result<Vec<Use>, NoMem
     requires { Fits cat.now txn.now }
     ensures { IfOk result (λ uses. uses.items ≡ uses_of cat.now txn.now) }
 {
-    let mut uses = Vec::new(alloc);
+    // Most statements have one use.
+    let mut uses = Vec::with_capacity(alloc, txn.statements.as_slice().len())?;
     for statement in txn.statements.as_slice() {
         add_uses(alloc, cat, statement, &mut uses)?;
     }
@@ -129,6 +130,8 @@ pub(crate) fn meets_keys(cat: &Catalogue, rel: RelNo, keys: &Keys, frag: FragNo)
 }
 
 /// The conditions that compare a column of the part with a constant, as restrictions of the part.
+///
+/// Costs time in the conditions; takes memory once for the list, and once for each text.
 pub fn restrictions_of(
     alloc: Global,
     part: usize,
@@ -136,7 +139,7 @@ pub fn restrictions_of(
 ) -> Result<Restrictions, NoMemory>
     ensures { IfOk result (λ found. found ≡ restrictions_of part conds.now) }
 {
-    let mut found = Vec::new(alloc);
+    let mut found = Vec::with_capacity(alloc, count_for(part, conds))?;
     for cond in conds {
         match restriction_of(part, cond)? {
             Some(restriction) => found.push(restriction)?,
@@ -144,6 +147,33 @@ pub fn restrictions_of(
         }
     }
     Ok(Restrictions::from_vec(found))
+}
+
+/// How many of the conditions are restrictions of the part.
+fn count_for(part: usize, conds: &[Condition]) -> usize
+    ensures { result ≡ length (restrictions_of part conds.now) }
+{
+    let mut count = 0;
+    for cond in conds {
+        if is_for(part, cond) {
+            count += 1;
+        }
+    }
+    count
+}
+
+/// Whether the condition is a restriction of the part.
+fn is_for(part: usize, cond: &Condition) -> bool
+    ensures { result ≡ is_some (restriction_of part cond.now) }
+{
+    match cond {
+        Condition::Const {
+            left,
+            op: _,
+            value: _,
+        } => left.part as usize == part,
+        Condition::Same { left: _, right: _ } => false,
+    }
 }
 
 /// The condition as a restriction of the part, where it is one.

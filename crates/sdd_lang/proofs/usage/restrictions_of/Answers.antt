@@ -6,7 +6,7 @@ use Rattle.sdd_lang.proofs.usage.restrictions_of.Goals.{in-Some+in_ok-push-in-So
 
 pub loop-cond-preserved : goal.loop-cond-preserved
 loop-cond-preserved c =
-    elim c.match-branch-2.branch [
+    elim c.match-branch-3.branch [
       | in-Some+in_ok-push-in-Some w ↦ grind (arith, common_steps, filter_map-append)
       | in-None w ↦ grind (arith, common_steps, filter_map-append)
     ]
