@@ -33,9 +33,10 @@ impl Space {
     /// The rows of these uses for the attempt with timestamp `ts`: of each fragment of a use the
     /// rows of its copy that meet the use's restrictions; of a fragment without a copy none.
     ///
-    /// O(m + k log k) for each use, where m items are looked at and k rows are held, of which each
-    /// is copied once. Restrictions on the key column leave the items to look at whose keys they
-    /// allow, found in O(log n) for n items of a copy.
+    /// O(m + k) for each use, where m items are looked at and k rows are held, of which each is
+    /// copied once; O(m + k log k) where the keys of one fragment don't follow those of the one
+    /// before. Restrictions on the key column leave the items to look at whose keys they allow,
+    /// found in O(log n) for n items of a copy.
     pub fn freeze(alloc: Global, ts: Ts, uses: &[Use], copies: &Copies) -> Result<Space, NoMemory>
         requires { IsTrue copies.now.live }
         ensures rows { IfOk result (λ space.
@@ -44,7 +45,7 @@ impl Space {
             → All (AreHere copies.now.value) uses.now
             → space ≡ frozen_for (λ f. contents f xs) ts.0 uses.now) }
     {
-        let mut frozen = Vec::new(alloc);
+        let mut frozen = Vec::with_capacity(alloc, uses.len())?;
         for one in uses {
             frozen.push((one.number, rows_for(alloc, one, copies)?))?;
         }
@@ -85,7 +86,7 @@ impl Space {
     pub fn counts(&self) -> Result<Listed<(u32, u64)>, NoMemory>
         ensures { IfOk result (λ counts. counts ≡ counts_of self.now) }
     {
-        let mut counts = Vec::new(self.alloc);
+        let mut counts = Vec::with_capacity(self.alloc, self.uses.len())?;
         for (number, rows) in &self.uses {
             counts.push((*number, rows.as_slice().len() as u64))?;
         }
@@ -121,7 +122,7 @@ impl Space {
         ensures { IfOk result (λ rows. rows ≡ all_rows self) }
     {
         let Space { ts: _, uses, alloc } = self;
-        let mut all = Vec::new(alloc);
+        let mut all = Vec::with_capacity(alloc, count_all(uses.as_slice()))?;
         for (number, rows) in uses {
             for row in rows.into_vec() {
                 all.push((number, row))?;
@@ -131,11 +132,20 @@ impl Space {
     }
 }
 
+/// How many rows all uses have, so that room is made for them at once.
+fn count_all(uses: &[(u32, RowList)]) -> usize {
+    let mut count: usize = 0;
+    for (_, rows) in uses {
+        count = count.saturating_add(rows.as_slice().len());
+    }
+    count
+}
+
 /// The values of a set, ascending.
 fn listed(alloc: Global, known: BTreeSet<Value>) -> Result<Listed<Value>, NoMemory>
     ensures { IfOk result (λ values. values ≡ known.keys) }
 {
-    let mut values = Vec::new(alloc);
+    let mut values = Vec::with_capacity(alloc, known.len())?;
     for value in known {
         values.push(value)?;
     }
