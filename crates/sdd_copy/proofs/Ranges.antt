@@ -197,3 +197,17 @@ near_each restrictions keys (e ∷ items) near =
 pub near_rows : (restrictions : List Restriction) (keys : Interval) (items : Items) → All (IsNear restrictions keys) items
     → rows_meeting restrictions (near_to keys items) ≡ rows_meeting restrictions items
 near_rows restrictions keys items near = near_each restrictions keys items (recursion_from_All (IsNear restrictions keys) items near)
+
+pub near_rows_there : (restrictions : List Restriction) (keys : Interval) (items : Items) (rows : List (ℤ × List Value))
+    → rows ≡ rows_meeting restrictions (near_to keys items) → All (IsNear restrictions keys) items
+    → rows ≡ rows_meeting restrictions items
+near_rows_there restrictions keys items rows there near = there ∙ near_rows restrictions keys items near
+
+-- so also where there is but one
+pub near_row_there : (restrictions : List Restriction) (keys : Interval) (items : Items) (rows : List (ℤ × List Value)) (key : ℤ)
+    → common keys all_keys ≡ (key, key) → rows ≡ rows_meeting restrictions (filter (λ e. is_within (key, key) e.0) items)
+    → All (IsNear restrictions keys) items → rows ≡ rows_meeting restrictions items
+near_row_there restrictions keys items rows key one there near =
+    there
+    ∙ ap (λ (k : Interval). rows_meeting restrictions (filter (λ e. is_within k e.0) items)) (sym one)
+    ∙ near_rows restrictions keys items near

@@ -1,5 +1,5 @@
 -- Items whose rows have their keys in one column, and the rows among them that meet restrictions.
-use Rattle.std.specs.Prelude.{ℕ, ◌≡◌, ℤ, int_le, Bool, ◌&&◌, true, List, filter, Option, IfSome, FitsSigned}
+use Rattle.std.specs.Prelude.{ℕ, ◌≡◌, ℤ, int_le, Bool, ◌&&◌, true, List, [], ◌∷◌, filter, Option, Some, None, IfSome, FitsSigned}
 use Rattle.std.specs.Int.{w64}
 use Rattle.std.specs.List.{All, list_all}
 use Rattle.sdd_base.specs.Order.{column, meets}
@@ -30,6 +30,11 @@ rows_meeting restrictions items = filter (λ e. list_all (meets e.1) restriction
 
 abbrev pub is_within : Interval → ℤ → Bool
 is_within keys key = int_le keys.0 key && int_le key keys.1
+
+-- the item with a key, where there is one
+abbrev pub one_at : ℤ → Option (ℕ × Option (List Value)) → Items
+one_at key None = []
+one_at key (Some item) = (key, item) ∷ []
 
 -- where an item's row meets the restrictions, its key is among those of the keys that have 64 bits
 abbrev pub IsNear : List Restriction → Interval → ℤ × (ℕ × Option (List Value)) → Type 0

@@ -42,7 +42,7 @@ impl Copies {
         ensures here { IfOk result (λ copies. (f : ℕ) →
             is_here copies.value f ≡ is_some (slice_index_or keys.now f None)) }
     {
-        let mut copies = Vec::new(alloc);
+        let mut copies = Vec::with_capacity(alloc, keys.len())?;
         for key in keys {
             copies.push(empty_copy(alloc, key)?)?;
         }

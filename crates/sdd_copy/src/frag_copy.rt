@@ -1,12 +1,14 @@
-ghost use Rattle.std.specs.Prelude.{◌≡◌, [], ◌∷◌, ◌++◌, OnOk, OnErr, IfOk, IsTrue, map, fold, true, false};
+ghost use Rattle.std.specs.Prelude.{◌≡◌, [], ◌∷◌, ◌++◌, OnOk, OnErr, IfOk, IfSome, IsTrue, map, filter, fold, true, false};
 ghost use Rattle.sdd_base.specs.declared.number.FragNo.{FragNo};
+ghost use Rattle.sdd_lang.specs.Uses.{common, all_keys};
 ghost use Rattle.sdd_copy.specs.Contents.{Dated, rows_left};
 ghost use Rattle.sdd_copy.specs.Items.{written, items_of, dated, initial, rows_in};
-ghost use Rattle.sdd_copy.specs.Keyed.{rows_meeting};
+ghost use Rattle.sdd_copy.specs.Keyed.{is_within, rows_meeting};
 
 use crate::kept_items::KeptItems;
 use crate::near::meets_all;
 use sdd_base::{Change, NoMemory, Parcel, Restriction, Row, Ts};
+use sdd_lang::Keys;
 use std::alloc::Global;
 use std::marker::Model;
 
@@ -110,7 +112,7 @@ impl FragCopy {
     ///
     /// Looks at the items whose keys the restrictions on the key column allow, so at one where they
     /// name one key, found in O(log n) for n items; at all where they allow all. Copies the rows
-    /// that it gives.
+    /// that it gives, and makes room at once for as many as it looks at.
     pub fn meeting(&self, restrictions: &[Restriction]) -> Result<Vec<(i64, Row)>, NoMemory>
         requires { IsTrue self.now.live }
         ensures { IfOk result (λ rows. rows.items ≡ rows_meeting restrictions.now self.now.value) }
@@ -122,7 +124,7 @@ impl FragCopy {
 fn kept_rows(alloc: Global, items: &KeptItems) -> Result<Vec<Row>, NoMemory>
     ensures { IfOk result (λ rows. rows.items ≡ rows_in items.now) }
 {
-    let mut rows = Vec::new(alloc);
+    let mut rows = Vec::with_capacity(alloc, items.entries().len())?;
     for (_, item) in items.entries().iter() {
         if let Some(row) = &item.1 {
             rows.push(row.copy()?)?;
@@ -138,8 +140,69 @@ fn met_rows(
 ) -> Result<Vec<(i64, Row)>, NoMemory>
     ensures { IfOk result (λ rows. rows.items ≡ rows_meeting restrictions.now items.now) }
 {
-    let mut rows = Vec::new(alloc);
-    for (key, item) in items.near(restrictions) {
+    let keys = items.keys_near(restrictions);
+    match only_key(&keys) {
+        Some(key) => met_at(alloc, items, restrictions, &key),
+        None => met_within(alloc, items, restrictions, &keys),
+    }
+}
+
+/// The key, where there is but one.
+fn only_key(keys: &Keys) -> Option<i64>
+    ensures { IfSome result (λ key. common keys.now all_keys ≡ (key, key)) }
+{
+    match keys.ends() {
+        Some((from, to)) => {
+            if from != to {
+                return None;
+            }
+            Some(from)
+        }
+        None => None,
+    }
+}
+
+/// The row with this key, where it meets the restrictions.
+fn met_at(
+    alloc: Global,
+    items: &KeptItems,
+    restrictions: &[Restriction],
+    key: &i64,
+) -> Result<Vec<(i64, Row)>, NoMemory>
+    ensures { IfOk result (λ rows. rows.items
+        ≡ rows_meeting restrictions.now (filter (λ e. is_within (key.now, key.now) e.0) items.now)) }
+{
+    match items.at(key) {
+        None => Ok(Vec::new(alloc)),
+        Some(item) => met_one(alloc, restrictions, key, item),
+    }
+}
+
+fn met_one(
+    alloc: Global,
+    restrictions: &[Restriction],
+    key: &i64,
+    item: &(u64, Option<Row>),
+) -> Result<Vec<(i64, Row)>, NoMemory>
+    ensures { IfOk result (λ rows. rows.items ≡ rows_meeting restrictions.now ((key.now, item.now) ∷ [])) }
+{
+    let mut rows = Vec::with_capacity(alloc, 1)?;
+    add_met(&mut rows, restrictions, key, item)?;
+    Ok(rows)
+}
+
+/// The rows with these keys that meet the restrictions.
+fn met_within(
+    alloc: Global,
+    items: &KeptItems,
+    restrictions: &[Restriction],
+    keys: &Keys,
+) -> Result<Vec<(i64, Row)>, NoMemory>
+    ensures { IfOk result (λ rows. rows.items ≡ rows_meeting restrictions.now
+        (filter (λ e. is_within (common keys.now all_keys) e.0) items.now)) }
+{
+    let mut rows = Vec::with_capacity(alloc, items.room(keys))?;
+    for (key, item) in items.within(keys) {
         add_met(&mut rows, restrictions, key, item)?;
     }
     Ok(rows)

@@ -8,7 +8,7 @@ ghost use Rattle.sdd_base.specs.declared.number.FragNo.{FragNo};
 ghost use Rattle.sdd_base.specs.declared.value.Value.TheVariants.{Int};
 ghost use Rattle.sdd_lang.specs.Uses.{common, all_keys};
 ghost use Rattle.sdd_copy.specs.Items.{written, initial, is_newer};
-ghost use Rattle.sdd_copy.specs.Keyed.{HasKey, IsNear, is_within, rows_meeting};
+ghost use Rattle.sdd_copy.specs.Keyed.{HasKey, IsNear, is_within, one_at};
 
 use crate::near::are_of_keys;
 use sdd_base::{Change, NoMemory, Parcel, Restriction, Row, Ts, Value};
@@ -92,7 +92,7 @@ impl KeptItems {
     }
 
     /// The items with these keys, ascending by key.
-    fn within(&self, keys: &Keys) -> Range<'_, i64, (u64, Option<Row>)>
+    pub(crate) fn within(&self, keys: &Keys) -> Range<'_, i64, (u64, Option<Row>)>
         ensures { result ≡ filter (λ e. is_within (common keys.now all_keys) e.0) self.now }
     {
         match keys.ends() {
@@ -101,8 +101,31 @@ impl KeptItems {
         }
     }
 
-    /// Keys among which is that of each row that meets the restrictions.
-    fn keys_near(&self, restrictions: &[Restriction]) -> Keys
+    /// The item with this key. Costs O(log n).
+    pub(crate) fn at(&self, key: &i64) -> Option<&(u64, Option<Row>)>
+        ensures { one_at key.now (option_copied result)
+            ≡ filter (λ e. is_within (key.now, key.now) e.0) self.now }
+    {
+        if self.items.len() == 0 {
+            return None;
+        }
+        self.items.get(key)
+    }
+
+    /// How many items have these keys at most.
+    pub(crate) fn room(&self, keys: &Keys) -> usize {
+        match keys.ends() {
+            Some((from, to)) => {
+                let steps = to.abs_diff(from) as usize;
+                self.items.len().min(steps.saturating_add(1))
+            }
+            None => 0,
+        }
+    }
+
+    /// Keys among which is that of each row that meets the restrictions. Where these are on the key,
+    /// they are those that they allow. Takes no memory.
+    pub(crate) fn keys_near(&self, restrictions: &[Restriction]) -> Keys
         ensures { All (IsNear restrictions.now result) self.now }
     {
         if !self.keyed {
@@ -112,14 +135,6 @@ impl KeptItems {
             return Keys::all();
         }
         allowed_keys(self.key, restrictions)
-    }
-
-    /// Items, ascending by key, among them all whose rows meet the restrictions. Where these are on
-    /// the key, they are the items whose keys are allowed. Takes no memory.
-    pub(crate) fn near(&self, restrictions: &[Restriction]) -> Range<'_, i64, (u64, Option<Row>)>
-        ensures { rows_meeting restrictions.now result ≡ rows_meeting restrictions.now self.now }
-    {
-        self.within(&self.keys_near(restrictions))
     }
 }
 

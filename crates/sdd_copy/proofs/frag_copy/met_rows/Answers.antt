@@ -1,19 +1,28 @@
-use Rattle.std.proofs.Common.{◌∙◌, ap}
-use Rattle.std.specs.Map.Iter.{deref_pair}
-use Rattle.std.proofs.lemmas.Map.Iter.{iter_end}
-use Rattle.sdd_copy.specs.Keyed.{rows_meeting}
-use Rattle.sdd_copy.proofs.Ranges.{met_end}
+use Rattle.std.proofs.Common.{◌≡◌, rules, w64, to_z-of_z}
+use Rattle.std.specs.Prelude.{filter, FitsSigned}
+use Rattle.std.proofs.lemmas.Result.{IfOk-weaker}
+use Rattle.sdd_copy.specs.Keyed.{is_within, rows_meeting}
+use Rattle.sdd_copy.proofs.Ranges.{near_to, near_row_there, near_rows_there}
 use Rattle.sdd_copy.proofs.frag_copy.met_rows.Goals as goal
 
-pub loop-key-preserved : goal.loop-key-preserved
-loop-key-preserved c =
-    met_end deref_pair c.args.restrictions.now c.loop-key.rows.items c.add_met.new.rows.items c.loop-key.yielded
-    (c.in-Some.key, c.in-Some.item) c.loop-key.invariant c.in_ok-add_met.ensures
+pub returns-in-Some : goal.returns-in-Some
+returns-in-Some c =
+    let restrictions = c.args.restrictions.now in
+    let items = c.args.items.now in
+    let keys = c.keys_near-keys.result in
+    let key = c.in-Some.key in
+    let fits : FitsSigned w64 key = search rules in
+    IfOk-weaker c.met_at.result (λ rows. rows.items ≡ rows_meeting restrictions (filter (λ e. is_within (key, key) e.0) items))
+    (λ rows. rows.items ≡ rows_meeting restrictions items)
+    (λ rows there. near_row_there restrictions keys items rows.items key c.in-Some.ensures there c.keys_near-keys.ensures)
+    (rw (to_z-of_z fits) at c.met_at.ensures)
 
-pub returns : goal.returns
-returns c =
-    let gives = c.into_iter-key-iterator.ensures.into_iter_gives in
-    let all = (iter_end deref_pair _ c.loop-key.yielded _ _ _ _ gives c.loop-key.yielded_by c.in-None.is c.next.ensures.steps).0 in
-    c.loop-key.invariant
-    ∙ ap (rows_meeting c.args.restrictions.now) all
-    ∙ c.near-key-items.ensures
+pub returns-in-None : goal.returns-in-None
+returns-in-None c =
+    let restrictions = c.args.restrictions.now in
+    let items = c.args.items.now in
+    let keys = c.keys_near-keys.result in
+    IfOk-weaker c.met_within.result (λ rows. rows.items ≡ rows_meeting restrictions (near_to keys items))
+    (λ rows. rows.items ≡ rows_meeting restrictions items)
+    (λ rows there. near_rows_there restrictions keys items rows.items there c.keys_near-keys.ensures)
+    c.met_within.ensures

@@ -1,7 +1,7 @@
 use Rattle.std.proofs.Common.{◌≡◌, map}
 use Rattle.std.specs.Map.Iter.{deref_pair}
 use Rattle.sdd_copy.specs.Keyed.{rows_meeting}
-use Rattle.sdd_copy.proofs.frag_copy.met_rows.Given as goal
+use Rattle.sdd_copy.proofs.frag_copy.met_within.Given as goal
 
 -- the rows so far are those of the items so far
 abbrev pub invariant-loop-key : goal.invariant-loop-key

@@ -1,0 +1,53 @@
+-- Where one key is asked for, its item is the one that the map finds there.
+use Rattle.std.proofs.Common.{ℤ, ◌<ℤ◌, Bool, true, false, cond, List, [], ◌∷◌, ◌≡◌, refl, ap, sym, subst, Option, Some, ℕ, arith}
+use Rattle.std.specs.List.{AllByRecursion, filter}
+use Rattle.std.specs.List.Sorted.{IsStrictlySortedBy}
+use Rattle.std.specs.declared.cmp.Ordering.TheVariants.{Less, Equal, Greater}
+use Rattle.std.specs.Ordering.{int_cmp, is_eq}
+use Rattle.std.specs.Cmp.{int_ranked}
+use Rattle.std.specs.Map.{keys_of, lookup}
+use Rattle.std.specs.BTreeMap.{is_at}
+use Rattle.std.proofs.lemmas.Int.{ints}
+use Rattle.std.proofs.lemmas.Map.Keys.{sorted_head, sorted_tail}
+use Rattle.sdd_base.specs.declared.value.Value.{Value}
+use Rattle.sdd_copy.specs.Items.{Items}
+use Rattle.sdd_copy.specs.Keyed.{is_within, one_at}
+
+abbrev Item : Type 0
+Item = ℤ × (ℕ × Option (List Value))
+
+-- whether a key is this one
+abbrev is_key : ℤ → ℤ → Bool
+is_key key k = is_within (key, key) k
+
+own_key : (key k : ℤ) → key ≡ k → is_key key k ≡ true
+own_key key k e = grind (arith, ints)
+
+key_before : (key k : ℤ) → key <ℤ k → is_key key k ≡ false
+key_before key k h = grind (arith, ints)
+
+key_after : (key k : ℤ) → k <ℤ key → is_key key k ≡ false
+key_after key k h = grind (arith, ints)
+
+none_behind : (key : ℤ) (items : Items) → AllByRecursion (λ k. int_cmp key k ≡ Less) (keys_of items)
+    → filter (λ (e : Item). is_key key e.0) items ≡ []
+none_behind key [] all = refl
+none_behind key (e ∷ items) all = rw (key_before key e.0 (int_ranked key e.0 Less (sym all.0))) (none_behind key items all.1)
+
+abbrev Finds : ℤ → Items → Type 0
+Finds key items = one_at key (lookup (is_at (int_cmp key)) items) ≡ filter (λ (e : Item). is_key key e.0) items
+
+pub item_at_key : (key : ℤ) (items : Items) → IsStrictlySortedBy int_cmp (keys_of items) → Finds key items
+item_at_key key [] sorted = refl
+item_at_key key (e ∷ items) sorted =
+    let later : Finds key items = item_at_key key items (sorted_tail int_cmp e.0 (keys_of items) sorted) in
+    elim (int_cmp key e.0) as (λ o. int_cmp key e.0 ≡ o → one_at key (cond (is_eq o) (Some e.1) (lookup (is_at (int_cmp key)) items))
+    ≡ cond (is_key key e.0) (e ∷ filter (λ (e : Item). is_key key e.0) items) (filter (λ (e : Item). is_key key e.0) items)) [
+      | Less ↦ λ h. rw (key_before key e.0 (int_ranked key e.0 Less (sym h))) later
+      | Equal ↦ λ h.
+          let same : key ≡ e.0 = int_ranked key e.0 Equal (sym h) in
+          let behind : AllByRecursion (λ k. int_cmp key k ≡ Less) (keys_of items) =
+          subst (λ j. AllByRecursion (λ k. int_cmp j k ≡ Less) (keys_of items)) (sym same) (sorted_head int_cmp e.0 (keys_of items) sorted) in
+          rw (own_key key e.0 same, none_behind key items behind) (ap (λ k. (k, e.1) ∷ []) same)
+      | Greater ↦ λ h. rw (key_after key e.0 (int_ranked key e.0 Greater (sym h))) later
+    ] refl

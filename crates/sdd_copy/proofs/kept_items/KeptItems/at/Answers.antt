@@ -1,0 +1,12 @@
+use Rattle.std.proofs.Common.{◌∙◌, ap}
+use Rattle.std.specs.Prelude.{filter}
+use Rattle.sdd_copy.specs.Keyed.{is_within, one_at}
+use Rattle.sdd_copy.proofs.OneKey.{item_at_key}
+use Rattle.sdd_copy.proofs.kept_items.KeptItems.at.Goals as goal
+
+pub returns : goal.returns
+returns c =
+    let key = c.args.key.now in
+    ap (one_at key) c.get.ensures.value
+    ∙ item_at_key key c.self.inside.items.entries c.len.ensures.ordered
+    ∙ ap (filter (λ e. is_within (key, key) e.0)) c.self.view_is
