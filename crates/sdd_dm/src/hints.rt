@@ -12,7 +12,7 @@ pub struct Hints {
 impl Hints {
     /// No hints, for so many classes.
     pub fn new(alloc: Global, classes: u32) -> Result<Hints, NoMemory> {
-        let mut hints = Vec::new(alloc);
+        let mut hints = Vec::with_capacity(alloc, classes as usize)?;
         for _ in 0..classes {
             hints.push(0)?;
         }

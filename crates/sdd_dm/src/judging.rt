@@ -47,7 +47,6 @@ fn step_of(
 ) -> Result<Option<Step>, NoMemory>
     ensures { IfOk result (λ step. step ≡ step_at pipes.now.value waits.now class.0) }
 {
-    let waiting = waits_at(waits, class);
     match pipes.head(class) {
         None => Ok(None),
         Some(Msg::Null { .. }) => Ok(Some(Step::Processes)),
@@ -58,7 +57,7 @@ fn step_of(
             Ok(Some(Step::Processes))
         }
         Some(Msg::Read { conds, .. }) => {
-            if !waiting {
+            if !waits_at(waits, class) {
                 return Ok(Some(judge(alloc, pipes, conds.as_slice())?));
             }
             if may_answer(pipes, hints, class, conds.as_slice()) {

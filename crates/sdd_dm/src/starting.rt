@@ -22,7 +22,7 @@ use std::collections::BTreeMap;
 pub fn sources(alloc: Global, cat: &Catalogue) -> Result<Vec<Site>, NoMemory>
     ensures { IfOk result (λ sites. sites.items ≡ U ∷ map (λ class. T class.tm) cat.now.classes) }
 {
-    let mut sites = Vec::new(alloc);
+    let mut sites = Vec::with_capacity(alloc, cat.classes() as usize + 1)?;
     sites.push(Site::U)?;
     for place in 0..cat.classes() {
         sites.push(Site::T(cat.class(ClassNo(place + 1)).tm))?;
@@ -34,7 +34,7 @@ pub fn sources(alloc: Global, cat: &Catalogue) -> Result<Vec<Site>, NoMemory>
 pub fn no_waits(alloc: Global, classes: u32) -> Result<Vec<bool>, NoMemory>
     ensures { IfOk result (λ waits. waits.items ≡ replicate classes false) }
 {
-    let mut waits = Vec::new(alloc);
+    let mut waits = Vec::with_capacity(alloc, classes as usize)?;
     for _ in 0..classes {
         waits.push(false)?;
     }
@@ -45,7 +45,7 @@ pub fn no_waits(alloc: Global, classes: u32) -> Result<Vec<bool>, NoMemory>
 pub fn no_spaces(alloc: Global, classes: u32) -> Result<Vec<Option<Space>>, NoMemory>
     ensures { IfOk result (λ spaces. spaces.items ≡ replicate classes None) }
 {
-    let mut spaces = Vec::new(alloc);
+    let mut spaces = Vec::with_capacity(alloc, classes as usize)?;
     for _ in 0..classes {
         spaces.push(None)?;
     }
@@ -83,7 +83,7 @@ fn key_columns(alloc: Global, cat: &Catalogue, dm: DmNo) -> Result<Vec<Option<u3
         → is_some (slice_index_or keys.items f None) ≡ true) }
 {
     cat.known();
-    let mut keys = Vec::new(alloc);
+    let mut keys = Vec::with_capacity(alloc, cat.fragments() as usize + 1)?;
     for number in 0..cat.fragments() + 1 {
         keys.push(key_column(cat, dm, number))?;
     }
