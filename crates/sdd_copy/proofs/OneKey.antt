@@ -29,25 +29,32 @@ key_before key k h = grind (arith, ints)
 key_after : (key k : ℤ) → k <ℤ key → is_key key k ≡ false
 key_after key k h = grind (arith, ints)
 
-none_behind : (key : ℤ) (items : Items) → AllByRecursion (λ k. int_cmp key k ≡ Less) (keys_of items)
-    → filter (λ (e : Item). is_key key e.0) items ≡ []
+abbrev of_key : ℤ → Items → Items
+of_key key items = filter (λ (e : Item). is_key key e.0) items
+
+none_behind : (key : ℤ) (items : Items) → AllByRecursion (λ k. int_cmp key k ≡ Less) (keys_of items) → of_key key items ≡ []
 none_behind key [] all = refl
-none_behind key (e ∷ items) all = rw (key_before key e.0 (int_ranked key e.0 Less (sym all.0))) (none_behind key items all.1)
+none_behind key (e ∷ items) all =
+    rw (key_before key e.0 (int_ranked key e.0 Less (sym all.0))) (none_behind key items all.1)
 
-abbrev Finds : ℤ → Items → Type 0
-Finds key items = one_at key (lookup (is_at (int_cmp key)) items) ≡ filter (λ (e : Item). is_key key e.0) items
+abbrev found : ℤ → Items → Option (ℕ × Option (List Value))
+found key items = lookup (is_at (int_cmp key)) items
 
-pub item_at_key : (key : ℤ) (items : Items) → IsStrictlySortedBy int_cmp (keys_of items) → Finds key items
+pub item_at_key : (key : ℤ) (items : Items) → IsStrictlySortedBy int_cmp (keys_of items)
+    → one_at key (found key items) ≡ of_key key items
 item_at_key key [] sorted = refl
 item_at_key key (e ∷ items) sorted =
-    let later : Finds key items = item_at_key key items (sorted_tail int_cmp e.0 (keys_of items) sorted) in
-    elim (int_cmp key e.0) as (λ o. int_cmp key e.0 ≡ o → one_at key (cond (is_eq o) (Some e.1) (lookup (is_at (int_cmp key)) items))
-    ≡ cond (is_key key e.0) (e ∷ filter (λ (e : Item). is_key key e.0) items) (filter (λ (e : Item). is_key key e.0) items)) [
+    let later : one_at key (found key items) ≡ of_key key items =
+    item_at_key key items (sorted_tail int_cmp e.0 (keys_of items) sorted) in
+    elim (int_cmp key e.0) as (λ o. int_cmp key e.0 ≡ o
+    → one_at key (cond (is_eq o) (Some e.1) (found key items))
+    ≡ cond (is_key key e.0) (e ∷ of_key key items) (of_key key items)) [
       | Less ↦ λ h. rw (key_before key e.0 (int_ranked key e.0 Less (sym h))) later
       | Equal ↦ λ h.
           let same : key ≡ e.0 = int_ranked key e.0 Equal (sym h) in
           let behind : AllByRecursion (λ k. int_cmp key k ≡ Less) (keys_of items) =
-          subst (λ j. AllByRecursion (λ k. int_cmp j k ≡ Less) (keys_of items)) (sym same) (sorted_head int_cmp e.0 (keys_of items) sorted) in
+          subst (λ j. AllByRecursion (λ k. int_cmp j k ≡ Less) (keys_of items)) (sym same)
+          (sorted_head int_cmp e.0 (keys_of items) sorted) in
           rw (own_key key e.0 same, none_behind key items behind) (ap (λ k. (k, e.1) ∷ []) same)
       | Greater ↦ λ h. rw (key_after key e.0 (int_ranked key e.0 Greater (sym h))) later
     ] refl

@@ -106,6 +106,7 @@ impl KeptItems {
         ensures { one_at key.now (option_copied result)
             ≡ filter (λ e. is_within (key.now, key.now) e.0) self.now }
     {
+        // The length tells that the keys ascend, and saves the search where there are none.
         if self.items.len() == 0 {
             return None;
         }

@@ -12,9 +12,11 @@ returns-in-Some c =
     let keys = c.keys_near-keys.result in
     let key = c.in-Some.key in
     let fits : FitsSigned w64 key = search rules in
-    IfOk-weaker c.met_at.result (λ rows. rows.items ≡ rows_meeting restrictions (filter (λ e. is_within (key, key) e.0) items))
+    IfOk-weaker c.met_at.result
+    (λ rows. rows.items ≡ rows_meeting restrictions (filter (λ e. is_within (key, key) e.0) items))
     (λ rows. rows.items ≡ rows_meeting restrictions items)
-    (λ rows there. near_row_there restrictions keys items rows.items key c.in-Some.ensures there c.keys_near-keys.ensures)
+    (λ rows there.
+    near_row_there restrictions keys items rows.items key c.in-Some.ensures there c.keys_near-keys.ensures)
     (rw (to_z-of_z fits) at c.met_at.ensures)
 
 pub returns-in-None : goal.returns-in-None
