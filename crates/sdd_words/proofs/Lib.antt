@@ -5,6 +5,7 @@ pub mod Joining
 pub mod NameTexts
 pub mod Numbers
 pub mod Points
+pub mod Runs
 pub mod Scans
 pub mod Spelled
 pub mod Splits

@@ -1,12 +1,37 @@
--- What was written, one item more.
-use Rattle.std.proofs.Common.{◌≡◌, ℕ, ◌+◌, ◌<◌, ◌≤◌, List, ◌++◌, length, get_or, drop, refl, sym, ap, ◌∙◌, append_assoc, append-nil, drop-cons, add-one}
-use Rattle.std.proofs.lemmas.List.{drop_all}
-use Rattle.sdd_words.specs.Words.{escaped, escaped_byte}
+-- What was written, one run more.
+use Rattle.std.proofs.Common.{◌≡◌, ℕ, suc, ◌+◌, ◌-◌, not, List, [], ◌∷◌, ◌++◌, length, take, drop, length-drop, inl, inr, refl, sym, ap, ◌∙◌, append_assoc, arith}
+use Rattle.std.specs.List.{position_or_len}
+use Rattle.std.proofs.lemmas.Bool.{cases_Bool, cond-false, cond-true}
+use Rattle.std.proofs.lemmas.List.{take_all}
+use Rattle.sdd_words.specs.Words.{is_special, escaped, escaped_byte}
 
-pub one_more : (text out total : List ℕ) (i : ℕ) → i < length text → out ++ escaped (drop i text) ≡ total → (out ++ escaped_byte (get_or text i 0)) ++ escaped (drop (i + 1) text) ≡ total
-one_more text out total i lt e =
-    let d : escaped (drop i text) ≡ escaped_byte (get_or text i 0) ++ escaped (drop (i + 1) text) = rw (drop-cons text i 0, add-one) refl in
-    append_assoc out (escaped_byte (get_or text i 0)) (escaped (drop (i + 1) text)) ∙ ap (λ (l : List ℕ). out ++ l) (sym d) ∙ e
+-- how many bytes stand before the first quote or backslash
+abbrev run_of : List ℕ → ℕ
+run_of text = position_or_len is_special text
 
-pub all_written : (text out total : List ℕ) (i : ℕ) → length text ≤ i → out ++ escaped (drop i text) ≡ total → out ≡ total
-all_written text out total i past e = sym (append-nil out) ∙ ap (λ (l : List ℕ). out ++ escaped l) (sym (drop_all i text past)) ∙ e
+-- a run is spelled as it is
+run_escaped : (text : List ℕ) → escaped text ≡ take (run_of text) text ++ escaped (drop (run_of text) text)
+run_escaped [] = refl
+run_escaped (c ∷ cs) =
+    let parted = λ (n : ℕ). take n (c ∷ cs) ++ escaped (drop n (c ∷ cs)) in
+    let more = 1 + run_of cs in
+    elim (cases_Bool (is_special c)) [
+      | inl special ↦
+          let none : run_of (c ∷ cs) ≡ 0 = cond-false (not (is_special c)) more 0 (ap not special) in
+          sym (ap parted none)
+      | inr plain ↦
+          let one : run_of (c ∷ cs) ≡ suc (run_of cs) =
+          cond-true (not (is_special c)) more 0 (ap not plain) ∙ omega arith in
+          let itself : escaped_byte c ≡ c ∷ [] = cond-false (is_special c) (92 ∷ c ∷ []) (c ∷ []) plain in
+          let rest : c ∷ escaped cs ≡ parted (suc (run_of cs)) = ap (λ (l : List ℕ). c ∷ l) (run_escaped cs) in
+          ap (λ (l : List ℕ). l ++ escaped cs) itself ∙ rest ∙ sym (ap parted one)
+    ]
+
+-- a run was written, and the rest of the text is left
+pub run_written : (out text : List ℕ) (n : ℕ) → n ≡ position_or_len is_special text
+    → (out ++ take n text) ++ escaped (take (length text - n) (drop n text)) ≡ out ++ escaped text
+run_written out text n run =
+    let rest : take (length text - n) (drop n text) ≡ drop n text =
+    take_all _ _ (omega (arith, length-drop n text)) in
+    let parted : take n text ++ escaped (drop n text) ≡ escaped text = rw run (sym (run_escaped text)) in
+    rw rest (append_assoc out (take n text) (escaped (drop n text)) ∙ ap (λ (l : List ℕ). out ++ l) parted)

@@ -12,6 +12,7 @@ mod keyword;
 mod line;
 mod naming;
 mod number;
+mod run;
 mod split;
 mod text;
 mod whole;

@@ -1,6 +1,9 @@
-use Rattle.std.proofs.Common.{◌≡◌, ◌++◌, drop}
+use Rattle.std.proofs.Common.{◌≡◌, ◌++◌, length}
 use Rattle.sdd_words.specs.Words.{escaped}
 use Rattle.sdd_words.proofs.write.put_escaped.Given as goal
 
-abbrev pub invariant-bytes : goal.invariant-bytes
-invariant-bytes l = l.out.items ++ escaped (drop l.byte-index l.text) ≡ l.fn.out.items ++ escaped l.text
+abbrev pub invariant-fronts : goal.invariant-fronts
+invariant-fronts l = l.out.items ++ escaped l.rest ≡ l.fn.out.items ++ escaped l.fn.text
+
+abbrev pub decreases-fronts : goal.decreases-fronts
+decreases-fronts l = length l.rest
