@@ -7,6 +7,10 @@ use Rattle.std.proofs.lemmas.Simd.{none_from_empty_mask}
 use Rattle.std.proofs.lemmas.List.Sums.{prefix_len_is}
 use Rattle.sdd_words.specs.Words.{is_special}
 
+-- how many bytes stand before the first quote or backslash
+abbrev pub run_of : List ℕ → ℕ
+run_of text = position_or_len is_special text
+
 -- that no byte of a block of 16 is this one
 abbrev IsAbsent : ℕ → List ℕ → ℕ → Type 0
 IsAbsent byte text at = mask_l (map (λ x. eqb x byte) (chunk at 16 text)) ≡ 0

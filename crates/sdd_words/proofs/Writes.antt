@@ -3,11 +3,8 @@ use Rattle.std.proofs.Common.{◌≡◌, ℕ, suc, ◌+◌, ◌-◌, not, List, 
 use Rattle.std.specs.List.{position_or_len}
 use Rattle.std.proofs.lemmas.Bool.{cases_Bool, cond-false, cond-true}
 use Rattle.std.proofs.lemmas.List.{take_all}
+use Rattle.sdd_words.proofs.Runs.{run_of}
 use Rattle.sdd_words.specs.Words.{is_special, escaped, escaped_byte}
-
--- how many bytes stand before the first quote or backslash
-abbrev run_of : List ℕ → ℕ
-run_of text = position_or_len is_special text
 
 -- a run is spelled as it is
 run_escaped : (text : List ℕ) → escaped text ≡ take (run_of text) text ++ escaped (drop (run_of text) text)

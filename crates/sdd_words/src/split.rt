@@ -1,10 +1,11 @@
-//! The words of a line, byte by byte.
-ghost use Rattle.std.specs.Prelude.{◌≡◌, ◌++◌, List, IfOk, IfSome, IfNone, MatchOption, None, Some, []};
+//! The words of a line, byte by byte, and within a text by runs.
+ghost use Rattle.std.specs.Prelude.{◌≡◌, ◌≤◌, ◌++◌, List, length, IfOk, IfSome, IfNone, MatchOption, None, Some, []};
 ghost use Rattle.sdd_words.specs.Words.{AreWords, line_bytes};
 ghost use Rattle.sdd_words.specs.Scan.{scan, words_of, move_of, word_of, last_word};
 ghost use Rattle.sdd_words.specs.declared.split.Mode.TheVariants.{Start};
 ghost use Rattle.sdd_words.specs.declared.word.Word.{Word};
 
+use crate::run::run_length;
 use crate::word::Word;
 use sdd_base::{Bytes, NoMemory};
 use std::alloc::Global;
@@ -78,13 +79,31 @@ fn last(mode: Mode, text: Vec<u8>) -> Option<Word>
     }
 }
 
+/// Takes the bytes of a text up to the next quote or backslash into it, and gives what is left of the
+/// line. Outside of a text it takes none.
+#[tactic(auto, using(crate::proofs::Scans::run_taken))]
+fn take_run<'a>(text: &mut Vec<u8>, mode: Mode, line: &'a [u8]) -> Result<&'a [u8], NoMemory>
+    ensures read_on { IfOk result (λ rest. scan mode text.new.items rest.now ≡ scan mode text.old.items line.now) }
+    ensures no_longer { IfOk result (λ rest. length rest.now ≤ length line.now) }
+{
+    match mode {
+        Mode::InText => {
+            let length = run_length(line);
+            text.extend_from_slice(&line[..length])?;
+            Ok(&line[length..])
+        }
+        _ => Ok(line),
+    }
+}
+
 fn scan_line(alloc: Global, line: &[u8]) -> Result<Option<Vec<Word>>, NoMemory>
     ensures { IfOk result (λ o. MatchOption o (scan Start [] line.now ≡ None) (λ v. scan Start [] line.now ≡ Some v.items)) }
 {
     let mut words = Vec::new(alloc);
     let mut text = Vec::new(alloc);
     let mut mode = Mode::Start;
-    'bytes: for byte in line {
+    let mut rest = line;
+    'bytes: while let [byte, more @ ..] = rest {
         match next_move(mode, *byte) {
             Move::Goes(to) => mode = to,
             Move::Adds(to) => {
@@ -98,6 +117,7 @@ fn scan_line(alloc: Global, line: &[u8]) -> Result<Option<Vec<Word>>, NoMemory>
             }
             Move::Refuses => return Ok(None),
         }
+        rest = take_run(&mut text, mode, more)?;
     }
     match last(mode, text) {
         Some(word) => {
