@@ -12,7 +12,8 @@ use std::marker::Model;
 ///
 /// A place in it counts from 1. Contracts see whether it is live, and the list of its packets. These
 /// are kept in pieces of 512 packets that were sent one after the other, less those that were taken;
-/// a piece goes, and gives its room back, with the last of its packets.
+/// a piece goes, and gives its room back, with the last of its packets, unless it is the last piece:
+/// that one keeps its room, so that a flight which empties often takes no memory anew.
 #[derive(Drop, Debug)]
 pub struct Flight<M> {
     packets: Pieces<Packet<M>>,

@@ -14,7 +14,8 @@ const PIECE_LEN: usize = 512;
 /// A list that is kept in pieces of at most `PIECE_LEN` items, which contracts see as the list.
 ///
 /// An item is found by the lengths of the pieces before its own, and taken out within its piece, so
-/// that a long list isn't moved. A piece goes once it is empty; pieces aren't joined.
+/// that a long list isn't moved. A piece that is empty goes, but for the last one, which stays for
+/// what is put next; pieces aren't joined.
 #[derive(Drop, Debug)]
 pub struct Pieces<T> {
     pieces: Vec<VecDeque<T>>,
@@ -172,11 +173,14 @@ fn take_at<T: Drop>(pieces: &mut Vec<VecDeque<T>>, at: usize, within: usize) -> 
     piece.remove(within)
 }
 
-/// Drops a piece that is empty.
+/// Drops a piece that is empty, where it isn't the last.
 fn drop_empty<T: Drop>(pieces: &mut Vec<VecDeque<T>>, at: usize)
     requires { at < length pieces.old.items }
     ensures { flat_map (λ q. q.items) pieces.new.items ≡ flat_map (λ q. q.items) pieces.old.items }
 {
+    if at + 1 == pieces.len() {
+        return;
+    }
     if pieces[at].is_empty() {
         pieces.remove(at);
     }
