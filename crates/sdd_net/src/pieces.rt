@@ -1,5 +1,5 @@
-ghost use Rattle.std.specs.Prelude.{◌≡◌, ◌+◌, ◌<◌, ◌≤◌, [], ◌∷◌, ◌++◌, length, take, slice_get, None, Some, IfOk, IfSome, IfNone, IsSome, OnOk, OnErr, OnSome};
-ghost use Rattle.std.specs.List.{flat_map};
+ghost use Rattle.std.specs.Prelude.{◌≡◌, ◌↔◌, ◌+◌, ◌<◌, ◌≤◌, [], ◌∷◌, ◌++◌, length, take, slice_get, slice_index_or, None, Some, IfOk, IfSome, IfNone, IsSome, OnOk, OnErr, OnSome};
+ghost use Rattle.std.specs.List.{flat_map, remove};
 ghost use Rattle.sdd_base.specs.Words.{is_empty};
 ghost use Rattle.sdd_net.specs.Links.{without_at};
 
@@ -170,6 +170,18 @@ fn take_at<T: Drop>(pieces: &mut Vec<VecDeque<T>>, at: usize, within: usize) -> 
     ensures count { length pieces.new.items ≡ length pieces.old.items }
 {
     let piece = &mut pieces[at];
+    take_within(piece, within)
+}
+
+/// Takes the item at a place of one piece out. The first costs constant time.
+fn take_within<T: Drop>(piece: &mut VecDeque<T>, within: usize) -> Option<T>
+    ensures value { IfSome result (λ item. item ≡ slice_index_or piece.old.items within item) }
+    ensures items { OnSome result (piece.new.items ≡ remove piece.old.items within) }
+    ensures some { IsSome result ↔ (within < length piece.old.items) }
+{
+    if within == 0 {
+        return piece.pop_front();
+    }
     piece.remove(within)
 }
 
