@@ -194,3 +194,11 @@ pub old_arrival : {M : Type 0} (n : ℕ) (m : M) (r : Kept (Receiving M)) → Is
 old_arrival n m r live old =
     let test : nat_le n r.value.count ≡ true = le-leb n r.value.count old in
     (rw test (ap (λ b. record { live = b; value = r.value }) live), rw test refl)
+
+-- the next message is handed on at once where none waits
+pub next_arrival : {M : Type 0} (n : ℕ) (m : M) (r : Receiving M) → (r.early ≡ []) × (n ≡ r.count + 1)
+    → (m ∷ [] ≡ handed_on n m r) × (record r { count = r.count + 1 } ≡ received n m r)
+next_arrival n m r e =
+    let new : nat_le (r.count + 1) r.count ≡ false = lt-leb (r.count + 1) r.count (omega arith) in
+    let turn : (r.count + 1 == r.count + 1) ≡ true = eq-eqb (r.count + 1) (r.count + 1) refl in
+    rw (e.1, e.0, new, turn) (refl, refl)

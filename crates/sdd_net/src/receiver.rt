@@ -57,7 +57,8 @@ impl<M: Parcel> Receiver<M> {
 
     /// Takes message `no` and gives the messages that have just come to belong to 1 to k, in order.
     ///
-    /// Costs O(log w) for w messages that wait, and as much for each message that it gives.
+    /// Costs O(log w) for w messages that wait, and as much for each message that it gives. Where none
+    /// waits, the next message is handed on as it comes, in constant time.
     #[tactic(auto, using(crate::proofs::Turns::turns))]
     pub fn arrive(&mut self, no: u32, msg: M) -> Result<Parcels<M>, NoMemory>
         requires live { IsTrue self.old.live }
@@ -74,6 +75,9 @@ impl<M: Parcel> Receiver<M> {
             → HasReceived self.new.value (no ∷ arrived) sent
             × (handed ≡ drop (top arrived) (take (top (no ∷ arrived)) sent))) }
     {
+        if self.is_next(no) {
+            return self.hand_on(msg);
+        }
         let mut handed = Vec::new(self.alloc);
         if no <= self.count {
             return Ok(Listed::from_vec(handed));
@@ -84,6 +88,34 @@ impl<M: Parcel> Receiver<M> {
             handed.push(next)?;
             self.count += 1;
         }
+        self.live = true;
+        Ok(Listed::from_vec(handed))
+    }
+
+    /// Whether nothing waits, and this number is the next.
+    fn is_next(&self, no: u32) -> bool
+        requires { 1 ≤ no }
+        ensures { IsTrue result → (self.now.value.early ≡ []) × (no ≡ self.now.value.count + 1) }
+    {
+        self.early.is_empty() && no - 1 == self.count
+    }
+
+    /// Hands the next message on, which never waited.
+    fn hand_on(&mut self, msg: M) -> Result<Parcels<M>, NoMemory>
+        requires { self.old.value.count + 1 < 2 ^ 32 }
+        ensures handed { IfOk result (λ handed. handed ≡ msg ∷ []) }
+        ensures ok { OnOk result (
+            self.new
+            ≡ record {
+              live = true;
+              value = record self.old.value { count = self.old.value.count + 1 };
+            }) }
+        ensures err { OnErr result (self.new.live ≡ false) }
+    {
+        self.live = false;
+        let mut handed = Vec::with_capacity(self.alloc, 1)?;
+        handed.push(msg)?;
+        self.count += 1;
         self.live = true;
         Ok(Listed::from_vec(handed))
     }

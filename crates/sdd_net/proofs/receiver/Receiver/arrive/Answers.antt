@@ -1,7 +1,8 @@
 use Rattle.std.proofs.Common.{◌≤◌, ap, ◌∙◌, arith, true}
 use Rattle.sdd_net.specs.Parts.{handed_on}
 use Rattle.sdd_net.proofs.Turns.{received_is}
-use Rattle.sdd_net.proofs.Receives.{arrival_stands, old_arrival}
+use Rattle.sdd_net.proofs.Matching.{if_both}
+use Rattle.sdd_net.proofs.Receives.{arrival_stands, old_arrival, next_arrival}
 use Rattle.sdd_net.proofs.receiver.Receiver.arrive.Goals as goal
 
 pub returns-clause-ok : goal.returns-clause-ok
@@ -24,3 +25,10 @@ returns-then-no-self-clause-law g c =
     let old : c.args.no ≤ c.args.self.now.value.count = omega (arith, count, c.if-no-self.true) in
     let same = old_arrival c.args.no c.args.msg c.args.self.now c.requires.live old in
     arrival_stands c.args.no c.args.msg c.args.self.now.value c.args.self.now c.from_vec.result c.requires.number same.0 (c.from_vec.ensures ∙ c.new-handed.ensures.items ∙ same.1)
+
+pub returns-then-is_next-clause-law : goal.returns-then-is_next-clause-law
+returns-then-is_next-clause-law g c =
+    let next = next_arrival c.args.no c.args.msg c.args.self.now.value (c.is_next.ensures c.if-is_next.true) in
+    if_both c.hand_on.result _ _ _ c.hand_on.ensures.handed c.hand_on.ensures.ok (λ handed h new.
+    arrival_stands c.args.no c.args.msg c.args.self.now.value c.hand_on.new.self handed c.requires.number
+    (new ∙ ap (λ v. record { live = true; value = v }) next.1) (h ∙ next.0))
