@@ -6,6 +6,7 @@ use Rattle.sdd_base.specs.Kept.{Kept}
 use Rattle.sdd_base.specs.declared.site.Site.{Site}
 use Rattle.sdd_net.specs.declared.packet.Packet.{Packet}
 use Rattle.sdd_net.specs.declared.channel.Channel.{Channel}
+use Rattle.sdd_net.specs.declared.placed_link.PlacedLink.{PlacedLink}
 use Rattle.sdd_net.specs.Links.{Call, Delivers, Loses, Repeats, Way, Link, link, unused, after_call, on_link, deliver, lose, repeat, packet_at, with_packet, without_at, with_flight}
 use Rattle.sdd_net.specs.Sound.{IsSound}
 use Rattle.sdd_net.specs.Nets.{Directions, is_link, site_count, index_of, unused_channel, Matches, Fits, Stands, StandsFor, Changes, ArePair, ChangesPair, IsNet, Does, HasLink}
@@ -52,7 +53,7 @@ module _ {M : Type 0} where
   }
 
   -- the fields still make a network
-  pub still : (tms dms : ℕ) (all : List (Site × Site)) (live after : Bool) (old new : List (Channel M)) (call : Call M)
+  pub still : (tms dms : ℕ) (all : List PlacedLink) (live after : Bool) (old new : List (Channel M)) (call : Call M)
       → IsNet tms dms all live old → live ≡ true
       → ((calls : List (Call M)) → Stands tms dms old calls → Stands tms dms new (call ∷ calls)) → IsNet tms dms all after new
   still tms dms all live after old new call n l h = record {

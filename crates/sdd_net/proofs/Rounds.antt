@@ -1,10 +1,11 @@
 -- What the network tells of all its links is what the definitions say of them.
-use Rattle.std.proofs.Common.{ℕ, suc, zero, ◌+◌, ◌-◌, ◌<◌, ◌≤◌, Bool, true, false, cond, List, [], ◌∷◌, ◌++◌, length, take, get_or, map, ◌≡◌, refl, ap, ◌∙◌, arith, sym, subst, append-nil}
+use Rattle.std.proofs.Common.{ℕ, suc, zero, ◌+◌, ◌-◌, ◌<◌, ◌≤◌, Bool, true, false, cond, List, [], ◌∷◌, ◌++◌, length, take, get_or, map, ◌≡◌, refl, ap, ◌∙◌, arith, sym, subst}
 use Rattle.std.specs.Prelude.{◌&&◌, nat_le, nat_lt, IsTrue, replicate, slice_get, Option, Some, None, All}
 use Rattle.std.specs.List.{list_all, range_with_len, filter_map, flat_map, cons_option}
 use Rattle.std.proofs.lemmas.Bool.{le-leb, lt-leb}
 use Rattle.std.proofs.lemmas.List.{take_all, take_more}
 use Rattle.std.proofs.lemmas.List.Folds.{list_all_at}
+use Rattle.std.proofs.lemmas.Grind.{flat_map-append}
 use Rattle.std.proofs.lemmas.List.Elements.{filter_map-append, All-nil, All-cons, All-head, All-tail, All-same, All-append, All-map, All-weaker}
 use Rattle.sdd_base.specs.Kept.{Kept}
 use Rattle.sdd_base.specs.Words.{is_empty}
@@ -14,11 +15,13 @@ use Rattle.sdd_base.specs.declared.site.Site.TheVariants.{U, T, D}
 use Rattle.sdd_base.specs.declared.event.Event.{Event}
 use Rattle.sdd_base.specs.declared.event.Event.TheVariants.{Deliver, Resend}
 use Rattle.sdd_net.specs.declared.channel.Channel.{Channel}
+use Rattle.sdd_net.specs.declared.placed_link.PlacedLink.{PlacedLink}
 use Rattle.sdd_net.specs.Links.{Call, Way, link, is_quiet_link, quiet, resends_now, in_flight, round}
-use Rattle.sdd_net.specs.Nets.{Directions, is_site, is_link, index_of, Fits, Stands, StandsFor, HasLink, channel_on, quiet_at, resends_at, in_flight_at, resends_on, in_flight_on}
+use Rattle.sdd_net.specs.Nets.{Directions, is_site, is_link, index_of, placed, Fits, Stands, StandsFor, IsNet, IsLiveAt, channel_on, quiet_at, resends_at, in_flight_at, quiet_on, resend_on, deliveries_on}
 use Rattle.sdd_net.proofs.Matching.{flight_is, unacked_count, not_empty}
 use Rattle.sdd_net.proofs.Directions.{link_back, back_is}
-use Rattle.sdd_net.proofs.Calls.{net_of}
+use Rattle.sdd_net.proofs.Deliveries.{fits_live}
+use Rattle.sdd_net.proofs.Calls.{net_of, live_is}
 
 range_within : (P : ℕ → Type 0) (a n : ℕ) → ((k : ℕ) → a ≤ k → k < a + n → P k)
     → All P (range_with_len a n)
@@ -75,28 +78,32 @@ links_of tms dms (a ∷ froms) ss h all =
 pub links_exist : (tms dms : ℕ) → AllExist tms dms (links tms dms)
 links_exist tms dms = links_of tms dms (sites tms dms) (sites tms dms) (sites_exist tms dms) (sites_exist tms dms)
 
--- what is told link by link
-list_all_same : {A : Type 0} (p q : A → Bool) (xs : List A) → All (λ x. p x ≡ q x) xs
-    → list_all p xs ≡ list_all q xs
-list_all_same p q [] h = refl
-list_all_same p q (x ∷ xs) h =
-    rw (All-head (λ x. p x ≡ q x) x xs h, list_all_same p q xs (All-tail (λ x. p x ≡ q x) x xs h)) refl
+-- what is told link by link, of the links and of what is kept of each
+list_all_mapped : {A B : Type 0} (p : B → Bool) (q : A → Bool) (g : A → B) (xs : List A)
+    → All (λ x. p (g x) ≡ q x) xs → list_all p (map g xs) ≡ list_all q xs
+list_all_mapped p q g [] h = refl
+list_all_mapped p q g (x ∷ xs) h =
+    rw (All-head (λ x. p (g x) ≡ q x) x xs h, list_all_mapped p q g xs (All-tail (λ x. p (g x) ≡ q x) x xs h)) refl
 
-filter_map_same : {A B : Type 0} (f g : A → Option B) (xs : List A) → All (λ x. f x ≡ g x) xs
-    → filter_map f xs ≡ filter_map g xs
-filter_map_same f g [] h = refl
-filter_map_same f g (x ∷ xs) h =
-    rw (All-head (λ x. f x ≡ g x) x xs h, filter_map_same f g xs (All-tail (λ x. f x ≡ g x) x xs h)) refl
+filter_map_mapped : {A B C : Type 0} (f : B → Option C) (h : A → Option C) (g : A → B) (xs : List A)
+    → All (λ x. f (g x) ≡ h x) xs → filter_map f (map g xs) ≡ filter_map h xs
+filter_map_mapped f h g [] e = refl
+filter_map_mapped f h g (x ∷ xs) e =
+    rw (All-head (λ x. f (g x) ≡ h x) x xs e, filter_map_mapped f h g xs (All-tail (λ x. f (g x) ≡ h x) x xs e)) refl
 
-flat_map_same : {A B : Type 0} (f g : A → List B) (xs : List A) → All (λ x. f x ≡ g x) xs
-    → flat_map f xs ≡ flat_map g xs
-flat_map_same f g [] h = refl
-flat_map_same f g (x ∷ xs) h =
-    rw (All-head (λ x. f x ≡ g x) x xs h, flat_map_same f g xs (All-tail (λ x. f x ≡ g x) x xs h)) refl
+flat_map_mapped : {A B C : Type 0} (f : B → List C) (h : A → List C) (g : A → B) (xs : List A)
+    → All (λ x. f (g x) ≡ h x) xs → flat_map f (map g xs) ≡ flat_map h xs
+flat_map_mapped f h g [] e = refl
+flat_map_mapped f h g (x ∷ xs) e =
+    rw (All-head (λ x. f (g x) ≡ h x) x xs e, flat_map_mapped f h g xs (All-tail (λ x. f (g x) ≡ h x) x xs e)) refl
 
 is_empty-count : {A : Type 0} (xs : List A) (a n : ℕ) → length xs ≡ n - a → is_empty xs ≡ nat_le n a
 is_empty-count [] a n e = sym (le-leb n a (omega (arith, e)))
 is_empty-count (x ∷ xs) a n e = sym (lt-leb n a (omega (arith, e)))
+
+-- what stands for a link at a place past the end
+abbrev pub no_link : PlacedLink
+no_link = record { from = U; to = U; there = 0; back = 0 }
 
 module _ {M : Type 0} where
   quiet_fits : (o : Option (Channel M)) (w : Way M) → Fits o w
@@ -122,69 +129,83 @@ module _ {M : Type 0} where
   fits_back tms dms channels calls a b s h = subst (λ w. Fits (slice_get channels (index_of tms dms b a)) w) (back_is tms dms a b calls h) (s b a (link_back tms dms a b h))
 
   quiet_is : (d : Directions M) (calls : List (Call M)) → Stands d.tms d.dms d.channels calls
-      → list_all (λ x. quiet_at (channel_on d x.0 x.1)) (links d.tms d.dms) ≡ quiet (links d.tms d.dms) calls
+      → list_all (quiet_on d.channels) (map (placed d.tms d.dms) (links d.tms d.dms)) ≡ quiet (links d.tms d.dms) calls
   quiet_is d calls s =
-      list_all_same (λ x. quiet_at (channel_on d x.0 x.1)) (λ x. is_quiet_link (link x.0 x.1 calls)) (links d.tms d.dms)
-      (All-weaker (Exists d.tms d.dms) (λ x. quiet_at (channel_on d x.0 x.1) ≡ is_quiet_link (link x.0 x.1 calls))
+      list_all_mapped (quiet_on d.channels) (λ x. is_quiet_link (link x.0 x.1 calls)) (placed d.tms d.dms) (links d.tms d.dms)
+      (All-weaker (Exists d.tms d.dms) (λ x. quiet_on d.channels (placed d.tms d.dms x) ≡ is_quiet_link (link x.0 x.1 calls))
       (λ x h. quiet_fits (channel_on d x.0 x.1) (link x.0 x.1 calls).there (s x.0 x.1 h)) (links d.tms d.dms) (links_exist d.tms d.dms))
 
-  round_is : (d : Directions M) (calls : List (Call M)) → Stands d.tms d.dms d.channels calls
-      → filter_map (λ x. cond (resends_on d x.0 x.1) (Some (Resend x.0 x.1)) None) (links d.tms d.dms) ++ flat_map (λ x. replicate (in_flight_on d x.0 x.1) (Deliver x.0 x.1 1)) (links d.tms d.dms)
-      ≡ round (links d.tms d.dms) calls
-  round_is d calls s =
-      let resends : filter_map (λ x. cond (resends_on d x.0 x.1) (Some (Resend x.0 x.1)) None) (links d.tms d.dms) ≡ filter_map (λ x. cond (resends_now (link x.0 x.1 calls)) (Some (Resend x.0 x.1)) None) (links d.tms d.dms) =
-      filter_map_same (λ x. cond (resends_on d x.0 x.1) (Some (Resend x.0 x.1)) None) (λ x. cond (resends_now (link x.0 x.1 calls)) (Some (Resend x.0 x.1)) None) (links d.tms d.dms)
-      (All-weaker (Exists d.tms d.dms) (λ x. cond (resends_on d x.0 x.1) (Some (Resend x.0 x.1)) None ≡ cond (resends_now (link x.0 x.1 calls)) (Some (Resend x.0 x.1)) None)
-      (λ x h. ap (λ c. cond c (Some (Resend x.0 x.1)) None) (resends_fits (channel_on d x.0 x.1) (channel_on d x.1 x.0) (link x.0 x.1 calls).there (link x.0 x.1 calls).back (s x.0 x.1 h) (fits_back d.tms d.dms d.channels calls x.0 x.1 s h))) (links d.tms d.dms) (links_exist d.tms d.dms)) in
-      let delivers : flat_map (λ x. replicate (in_flight_on d x.0 x.1) (Deliver x.0 x.1 1)) (links d.tms d.dms) ≡ flat_map (λ x. replicate (in_flight (link x.0 x.1 calls)) (Deliver x.0 x.1 1)) (links d.tms d.dms) =
-      flat_map_same (λ x. replicate (in_flight_on d x.0 x.1) (Deliver x.0 x.1 1)) (λ x. replicate (in_flight (link x.0 x.1 calls)) (Deliver x.0 x.1 1)) (links d.tms d.dms)
-      (All-weaker (Exists d.tms d.dms) (λ x. replicate (in_flight_on d x.0 x.1) (Deliver x.0 x.1 1) ≡ replicate (in_flight (link x.0 x.1 calls)) (Deliver x.0 x.1 1))
-      (λ x h. ap (λ n. replicate n (Deliver x.0 x.1 1)) (in_flight_fits (channel_on d x.0 x.1) (channel_on d x.1 x.0) (link x.0 x.1 calls).there (link x.0 x.1 calls).back (s x.0 x.1 h) (fits_back d.tms d.dms d.channels calls x.0 x.1 s h))) (links d.tms d.dms) (links_exist d.tms d.dms)) in
-      rw (resends, delivers) refl
+  resends_are : (d : Directions M) (calls : List (Call M)) → Stands d.tms d.dms d.channels calls
+      → filter_map (resend_on d.channels) (map (placed d.tms d.dms) (links d.tms d.dms))
+      ≡ filter_map (λ x. cond (resends_now (link x.0 x.1 calls)) (Some (Resend x.0 x.1)) None) (links d.tms d.dms)
+  resends_are d calls s =
+      filter_map_mapped (resend_on d.channels) (λ x. cond (resends_now (link x.0 x.1 calls)) (Some (Resend x.0 x.1)) None) (placed d.tms d.dms) (links d.tms d.dms)
+      (All-weaker (Exists d.tms d.dms) (λ x. resend_on d.channels (placed d.tms d.dms x) ≡ cond (resends_now (link x.0 x.1 calls)) (Some (Resend x.0 x.1)) None)
+      (λ x h. ap (λ c. cond c (Some (Resend x.0 x.1)) None) (resends_fits (channel_on d x.0 x.1) (channel_on d x.1 x.0) (link x.0 x.1 calls).there (link x.0 x.1 calls).back (s x.0 x.1 h) (fits_back d.tms d.dms d.channels calls x.0 x.1 s h))) (links d.tms d.dms) (links_exist d.tms d.dms))
+
+  deliveries_are : (d : Directions M) (calls : List (Call M)) → Stands d.tms d.dms d.channels calls
+      → flat_map (deliveries_on d.channels) (map (placed d.tms d.dms) (links d.tms d.dms))
+      ≡ flat_map (λ x. replicate (in_flight (link x.0 x.1 calls)) (Deliver x.0 x.1 1)) (links d.tms d.dms)
+  deliveries_are d calls s =
+      flat_map_mapped (deliveries_on d.channels) (λ x. replicate (in_flight (link x.0 x.1 calls)) (Deliver x.0 x.1 1)) (placed d.tms d.dms) (links d.tms d.dms)
+      (All-weaker (Exists d.tms d.dms) (λ x. deliveries_on d.channels (placed d.tms d.dms x) ≡ replicate (in_flight (link x.0 x.1 calls)) (Deliver x.0 x.1 1))
+      (λ x h. ap (λ n. replicate n (Deliver x.0 x.1 1)) (in_flight_fits (channel_on d x.0 x.1) (channel_on d x.1 x.0) (link x.0 x.1 calls).there (link x.0 x.1 calls).back (s x.0 x.1 h) (fits_back d.tms d.dms d.channels calls x.0 x.1 s h))) (links d.tms d.dms) (links_exist d.tms d.dms))
+
+  -- a link whose two channels are there
+  abbrev pub IsLiveLink : List (Channel M) → PlacedLink → Type 0
+  IsLiveLink channels l = IsLiveAt (slice_get channels l.there) × IsLiveAt (slice_get channels l.back)
+
+  links_live : (tms dms : ℕ) (channels : List (Channel M)) (calls : List (Call M)) → Stands tms dms channels calls
+      → All (IsLiveLink channels) (map (placed tms dms) (links tms dms))
+  links_live tms dms channels calls s =
+      All-map (IsLiveLink channels) (placed tms dms) (links tms dms)
+      (All-weaker (Exists tms dms) (λ x. IsLiveLink channels (placed tms dms x))
+      (λ x h. (fits_live (slice_get channels (index_of tms dms x.0 x.1)) (link x.0 x.1 calls).there (s x.0 x.1 h), fits_live (slice_get channels (index_of tms dms x.1 x.0)) (link x.0 x.1 calls).back (fits_back tms dms channels calls x.0 x.1 s h)))
+      (links tms dms) (links_exist tms dms))
 
   -- the list of links that the network keeps
-  pub all_is : (net : Kept (Directions M)) (live : Bool) (tms dms : ℕ) (channels : List (Channel M)) (items all : List (Site × Site))
-      → net_of live tms dms channels ≡ net → items ≡ all → all ≡ links tms dms
-      → items ≡ links net.value.tms net.value.dms
-  all_is net live tms dms channels items all e f g = subst (λ n. items ≡ links n.value.tms n.value.dms) e (f ∙ g)
+  pub all_is : (net : Kept (Directions M)) (live : Bool) (tms dms : ℕ) (channels : List (Channel M)) (items all : List PlacedLink)
+      → net_of live tms dms channels ≡ net → items ≡ all → all ≡ map (placed tms dms) (links tms dms)
+      → items ≡ map (placed net.value.tms net.value.dms) (links net.value.tms net.value.dms)
+  all_is net live tms dms channels items all e f g =
+      subst (λ n. items ≡ map (placed n.value.tms n.value.dms) (links n.value.tms n.value.dms)) e (f ∙ g)
 
-  pub exists_at : (net : Kept (Directions M)) (items : List (Site × Site)) (k : ℕ) (d : Site × Site)
-      → items ≡ links net.value.tms net.value.dms → k < length items
-      → HasLink net (get_or items k d).0 (get_or items k d).1
-  exists_at net items k d e l =
-      All-same (Exists net.value.tms net.value.dms) items (links net.value.tms net.value.dms) e
-      (links_exist net.value.tms net.value.dms) k d l
+  pub live_at : (net : Kept (Directions M)) (live : Bool) (tms dms : ℕ) (channels : List (Channel M)) (items all : List PlacedLink) (k : ℕ) (d : PlacedLink)
+      → net_of live tms dms channels ≡ net → IsNet tms dms all live channels → IsTrue net.live → items ≡ all → k < length items
+      → IsLiveLink net.value.channels (get_or items k d)
+  live_at net live tms dms channels items all k d e n h f l =
+      let before = n.stands (live_is net live tms dms channels e h) in
+      subst (λ n. IsLiveLink n.value.channels (get_or items k d)) e
+      (All-same (IsLiveLink channels) items (map (placed tms dms) (links tms dms)) (f ∙ n.all_links) (links_live tms dms channels before.0 before.1) k d l)
 
-  pub quiet_all : (net : Kept (Directions M)) (items : List (Site × Site)) (k : ℕ) (calls : List (Call M))
-      → items ≡ links net.value.tms net.value.dms → length items ≤ k
-      → list_all (λ x. quiet_at (channel_on net.value x.0 x.1)) (take k items) ≡ true → StandsFor net calls → true ≡ quiet (links net.value.tms net.value.dms) calls
+  pub quiet_all : (net : Kept (Directions M)) (items : List PlacedLink) (k : ℕ) (calls : List (Call M))
+      → items ≡ map (placed net.value.tms net.value.dms) (links net.value.tms net.value.dms) → length items ≤ k
+      → list_all (quiet_on net.value.channels) (take k items) ≡ true → StandsFor net calls → true ≡ quiet (links net.value.tms net.value.dms) calls
   quiet_all net items k calls e l h s =
-      sym (rw (take_all k items l) at h) ∙ ap (λ xs. list_all (λ x. quiet_at (channel_on net.value x.0 x.1)) xs) e ∙ quiet_is net.value calls s
+      sym (rw (take_all k items l) at h) ∙ ap (list_all (quiet_on net.value.channels)) e ∙ quiet_is net.value calls s
 
-  pub quiet_not : (net : Kept (Directions M)) (items : List (Site × Site)) (k : ℕ) (d : Site × Site) (calls : List (Call M))
-      → items ≡ links net.value.tms net.value.dms → k < length items
-      → quiet_at (channel_on net.value (get_or items k d).0 (get_or items k d).1) ≡ false → StandsFor net calls → false ≡ quiet (links net.value.tms net.value.dms) calls
+  pub quiet_not : (net : Kept (Directions M)) (items : List PlacedLink) (k : ℕ) (d : PlacedLink) (calls : List (Call M))
+      → items ≡ map (placed net.value.tms net.value.dms) (links net.value.tms net.value.dms) → k < length items
+      → quiet_on net.value.channels (get_or items k d) ≡ false → StandsFor net calls → false ≡ quiet (links net.value.tms net.value.dms) calls
   quiet_not net items k d calls e l h s =
-      sym (list_all_at (λ x. quiet_at (channel_on net.value x.0 x.1)) items k d l h) ∙ ap (λ xs. list_all (λ x. quiet_at (channel_on net.value x.0 x.1)) xs) e ∙ quiet_is net.value calls s
+      sym (list_all_at (quiet_on net.value.channels) items k d l h) ∙ ap (list_all (quiet_on net.value.channels)) e ∙ quiet_is net.value calls s
 
-  pub round_all : (net : Kept (Directions M)) (items again : List (Site × Site)) (j k : ℕ) (first events : List Event) (calls : List (Call M))
-      → items ≡ links net.value.tms net.value.dms → again ≡ items → length items ≤ j
-      → length again ≤ k
-      → first ≡ filter_map (λ x. cond (resends_on net.value x.0 x.1) (Some (Resend x.0 x.1)) None) (take j items)
-      → events ≡ first ++ flat_map (λ x. replicate (in_flight_on net.value x.0 x.1) (Deliver x.0 x.1 1)) (take k again)
+  pub round_all : (net : Kept (Directions M)) (items : List PlacedLink) (k : ℕ) (resends deliveries events : List Event) (calls : List (Call M))
+      → items ≡ map (placed net.value.tms net.value.dms) (links net.value.tms net.value.dms) → length items ≤ k
+      → resends ≡ filter_map (resend_on net.value.channels) (take k items)
+      → deliveries ≡ flat_map (deliveries_on net.value.channels) (take k items)
+      → events ≡ resends ++ deliveries
       → StandsFor net calls → events ≡ round (links net.value.tms net.value.dms) calls
-  round_all net items again j k first events calls e same l m f g s =
-      rw (g, f, take_all j items l, take_all k again m, same, e) (round_is net.value calls s)
+  round_all net items k resends deliveries events calls e l f g h s =
+      rw (h, f, g, take_all k items l, e, resends_are net.value calls s, deliveries_are net.value calls s) refl
 
--- one link more on which a round resends, or does not
-pub resends_more : {A B : Type 0} (p : A → Bool) (f : A → B) (xs : List A) (k : ℕ) (d : A) (old : List B)
-    → k < length xs → old ≡ filter_map (λ x. cond (p x) (Some (f x)) None) (take k xs)
-    → p (get_or xs k d) ≡ true
-    → old ++ f (get_or xs k d) ∷ [] ≡ filter_map (λ x. cond (p x) (Some (f x)) None) (take (k + 1) xs)
-resends_more p f xs k d old l e here = rw (e, take_more xs k d l, filter_map-append, here) refl
+-- what one link more adds
+pub resends_more : {A B : Type 0} (f : A → Option B) (xs : List A) (k : ℕ) (d : A) (old new : List B)
+    → k < length xs → old ≡ filter_map f (take k xs) → new ≡ old ++ filter_map f (get_or xs k d ∷ [])
+    → new ≡ filter_map f (take (k + 1) xs)
+resends_more f xs k d old new l e more = rw (more, e, take_more xs k d l, filter_map-append) refl
 
-pub resends_less : {A B : Type 0} (p : A → Bool) (f : A → B) (xs : List A) (k : ℕ) (d : A) (old : List B)
-    → k < length xs → old ≡ filter_map (λ x. cond (p x) (Some (f x)) None) (take k xs)
-    → p (get_or xs k d) ≡ false
-    → old ≡ filter_map (λ x. cond (p x) (Some (f x)) None) (take (k + 1) xs)
-resends_less p f xs k d old l e here = rw (take_more xs k d l, filter_map-append, here) (e ∙ sym (append-nil (filter_map (λ x. cond (p x) (Some (f x)) None) (take k xs))))
+pub deliveries_more : {A B : Type 0} (f : A → List B) (xs : List A) (k : ℕ) (d : A) (old new : List B)
+    → k < length xs → old ≡ flat_map f (take k xs) → new ≡ old ++ flat_map f (get_or xs k d ∷ [])
+    → new ≡ flat_map f (take (k + 1) xs)
+deliveries_more f xs k d old new l e more = rw (more, e, take_more xs k d l, flat_map-append) refl

@@ -4,10 +4,13 @@ use Rattle.sdd_base.specs.Words.{is_empty}
 use Rattle.sdd_base.specs.declared.limits.TheConstants.{MAX_TMS, MAX_DMS}
 use Rattle.sdd_base.specs.Numbers.{tm_no, dm_no}
 use Rattle.sdd_base.specs.Sites.{are_linked, links}
-use Rattle.std.specs.Prelude.{ℕ, ◌+◌, ◌*◌, ◌≤◌, nat_le, cond, not, Bool, true, false, ◌&&◌, IsTrue, List, [], ◌∷◌, length, drop, slice_get, map, ◌≡◌, ◌≢◌, refl, Option, Some, None}
+use Rattle.std.specs.Prelude.{ℕ, ◌+◌, ◌*◌, ◌≤◌, nat_le, cond, not, Bool, true, false, ◌&&◌, IsTrue, List, [], ◌∷◌, length, drop, replicate, slice_get, map, ◌≡◌, ◌≢◌, refl, Option, Some, None}
 use Rattle.sdd_base.specs.declared.site.Site.{Site}
 use Rattle.sdd_base.specs.declared.site.Site.TheVariants.{U, T, D}
+use Rattle.sdd_base.specs.declared.event.Event.{Event}
+use Rattle.sdd_base.specs.declared.event.Event.TheVariants.{Deliver, Resend}
 use Rattle.sdd_net.specs.declared.channel.Channel.{Channel}
+use Rattle.sdd_net.specs.declared.placed_link.PlacedLink.{PlacedLink}
 use Rattle.sdd_net.specs.Parts.{nothing_sent, nothing_received, last_number, HasReceived}
 use Rattle.sdd_net.specs.Links.{Call, Way, Link, link}
 
@@ -39,6 +42,11 @@ site_count tms dms = 1 + tms + dms
 -- the place of the direction from a to b among all pairs of sites
 abbrev pub index_of : ℕ → ℕ → Site → Site → ℕ
 index_of tms dms a b = place_of tms a * site_count tms dms + place_of tms b
+
+-- a link with the places of its two directions
+abbrev pub placed : ℕ → ℕ → Site × Site → PlacedLink
+placed tms dms l =
+    record { from = l.0; to = l.1; there = index_of tms dms l.0 l.1; back = index_of tms dms l.1 l.0 }
 
 -- a network: its sites, and the two ends and the flight of each direction, by `index_of`
 pub record Directions (M : Type 0) : Type 0 where
@@ -129,17 +137,23 @@ in_flight_at (Some c) o =
     length c.flight.value + cond (resends_at (Some c) o) (length c.sender.value.unacked) 0
 in_flight_at None o = 0
 
-abbrev pub resends_on : {M : Type 0} → Directions M → Site → Site → Bool
-resends_on d a b = resends_at (channel_on d a b) (channel_on d b a)
+abbrev pub quiet_on : {M : Type 0} → List (Channel M) → PlacedLink → Bool
+quiet_on channels l = quiet_at (slice_get channels l.there)
 
-abbrev pub in_flight_on : {M : Type 0} → Directions M → Site → Site → ℕ
-in_flight_on d a b = in_flight_at (channel_on d a b) (channel_on d b a)
+-- what a round does on a link: a resend, if any, and so many deliveries
+abbrev pub resend_on : {M : Type 0} → List (Channel M) → PlacedLink → Option Event
+resend_on channels l =
+    cond (resends_at (slice_get channels l.there) (slice_get channels l.back)) (Some (Resend l.from l.to)) None
+
+abbrev pub deliveries_on : {M : Type 0} → List (Channel M) → PlacedLink → List Event
+deliveries_on channels l =
+    replicate (in_flight_at (slice_get channels l.there) (slice_get channels l.back)) (Deliver l.from l.to 1)
 
 -- what holds of a network's fields: it stands for some calls while it is live
-pub record IsNet {M : Type 0} (tms dms : ℕ) (all : List (Site × Site)) (live : Bool) (channels : List (Channel M)) : Type 0 where
+pub record IsNet {M : Type 0} (tms dms : ℕ) (all : List PlacedLink) (live : Bool) (channels : List (Channel M)) : Type 0 where
   pub few_tms : tms ≤ MAX_TMS
   pub few_dms : dms ≤ MAX_DMS
-  pub all_links : all ≡ links tms dms
+  pub all_links : all ≡ map (placed tms dms) (links tms dms)
   pub stands : live ≡ true → (calls : List (Call M)) × Stands tms dms channels calls
 
 -- a call was made: the network is live, has the sites that it had, and stands for the calls with it

@@ -1,6 +1,7 @@
-ghost use Rattle.std.specs.Prelude.{◌≡◌, ◌+◌, ◌-◌, ◌^◌, ◌≤◌, ◌<◌, [], ◌∷◌, ◌++◌, true, not, IsTrue, IfOk, OnOk};
+ghost use Rattle.std.specs.Prelude.{◌≡◌, ◌+◌, ◌-◌, ◌^◌, ◌≤◌, ◌<◌, [], ◌∷◌, ◌++◌, true, not, IsTrue, IfOk, OnOk, Some};
 ghost use Rattle.sdd_base.specs.Words.{is_empty};
 ghost use Rattle.sdd_net.specs.Links.{numbered};
+ghost use Rattle.sdd_net.specs.Nets.{quiet_at, resends_at};
 ghost use Rattle.sdd_net.specs.Parts.{nothing_sent, nothing_received, last_number, handed_on, received};
 
 use crate::flight::Flight;
@@ -76,6 +77,20 @@ impl<M: Parcel> Channel<M> {
             self.flight.send(packet)?;
         }
         Ok(self.sender.unacked() > 0)
+    }
+
+    /// Whether nothing is in flight or unacknowledged. Takes constant time.
+    pub fn is_quiet(&self) -> bool
+        ensures { result ≡ quiet_at (Some self.now) }
+    {
+        self.flight.is_empty() && self.sender.is_done()
+    }
+
+    /// Whether a round resends here, where this is the channel back. Takes constant time.
+    pub fn resends_now(&self, back: &Channel<M>) -> bool
+        ensures { result ≡ resends_at (Some self.now) (Some back.now) }
+    {
+        !self.sender.is_done() && self.flight.is_empty() && back.flight.is_empty()
     }
 
     /// Takes a message in, and gives what it hands on and the number to acknowledge.

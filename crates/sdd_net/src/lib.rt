@@ -10,6 +10,7 @@ mod law;
 mod net;
 mod packet;
 mod pieces;
+mod placed_link;
 mod receiver;
 mod sender;
 mod sites;

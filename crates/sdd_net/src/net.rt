@@ -1,15 +1,20 @@
 ghost use Rattle.std.specs.Prelude.{◌≡◌, ◌↔◌, ◌+◌, ◌-◌, ◌^◌, ◌≤◌, ◌<◌, [], ◌∷◌, ◌++◌, List, nat_lt, length, is_some, replicate, true, false, IsTrue, IfOk, OnOk, OnErr, slice_get, Some};
+ghost use Rattle.std.specs.List.{filter_map, flat_map};
 ghost use Rattle.sdd_base.specs.Sites.{links};
 ghost use Rattle.sdd_net.specs.Links.{Call, Puts, Delivers, Loses, Repeats, Resends, link, packet_at, delivery, quiet, round};
-ghost use Rattle.sdd_net.specs.Nets.{StandsFor, HasLink, Does, sent_on, unused_channel, channel_on, quiet_at, resends_on, in_flight_on};
+ghost use Rattle.sdd_net.specs.Nets.{StandsFor, HasLink, Does, IsLiveAt, sent_on, unused_channel, quiet_at, resend_on, deliveries_on};
 
 use crate::channel::Channel;
 use crate::channels::{deliver_at, put_at, repeat_at, resend_at, take_at};
 use crate::delivered::Delivered;
+use crate::placed_link::{PlacedLink, place_all};
 use crate::sites::{all_links, index_of, is_link, pair_count};
 use sdd_base::{Event, MAX_DMS, MAX_LINK_MESSAGES, MAX_TMS, NoMemory, Parcel, Site};
 use std::alloc::Global;
 use std::marker::Model;
+
+/// For how many deliveries a round takes memory at first.
+const ROUND_LEN: usize = 64;
 
 /// The links between the sites of a network.
 ///
@@ -18,13 +23,13 @@ use std::marker::Model;
 /// What a list of calls makes of a link is defined on all that was ever sent and arrived, while the
 /// net keeps only what is unacknowledged, in flight or early. Places in a flight count from 1.
 ///
-/// To find a link takes constant time. The links that are unused take memory too, some hundred
-/// bytes for each pair of sites.
+/// To find a link takes constant time; what goes over all links finds each by a place that is kept.
+/// The links that are unused take memory too, some hundred bytes for each pair of sites.
 #[derive(Drop, Debug)]
 pub struct Net<M> {
     tms: u32,
     dms: u32,
-    links: Vec<(Site, Site)>,
+    links: Vec<PlacedLink>,
     channels: Vec<Channel<M>>,
     live: bool,
     alloc: Global,
@@ -51,7 +56,8 @@ impl<M: Parcel> Net<M> {
         ensures dms { IfOk result (λ net. net.value.dms ≡ dms) }
         ensures unused { IfOk result (λ net. StandsFor net []) }
     {
-        let links = all_links(alloc, tms, dms)?;
+        let pairs = all_links(alloc, tms, dms)?;
+        let links = place_all(alloc, tms, dms, &pairs)?;
         let channels = unused_channels(alloc, pair_count(tms, dms))?;
         Ok(Net {
             tms,
@@ -195,8 +201,8 @@ impl<M: Parcel> Net<M> {
         ensures { (calls : List (Call M)) → StandsFor self.now calls
             → result ≡ quiet (links self.now.value.tms self.now.value.dms) calls }
     {
-        for (from, to) in &self.links {
-            if !self.is_quiet_link(*from, *to) {
+        for link in &self.links {
+            if !self.is_quiet_at(link.there) {
                 return false;
             }
         }
@@ -208,68 +214,75 @@ impl<M: Parcel> Net<M> {
     /// `Deliver` at place 1 as its flight holds after those resends. Both go by the site that a link
     /// comes from and then the site that it goes to, in the order of sites.
     ///
-    /// Costs constant time for each link and for each event.
+    /// Costs one look at each link, and constant time for each event.
     pub fn round(&self) -> Result<Vec<Event>, NoMemory>
         requires { IsTrue self.now.live }
         ensures { IfOk result (λ events.
             (calls : List (Call M)) → StandsFor self.now calls
             → events.items ≡ round (links self.now.value.tms self.now.value.dms) calls) }
     {
-        let mut events = Vec::new(self.alloc);
-        for (from, to) in &self.links {
-            if self.resends_now(*from, *to) {
-                events.push(Event::Resend {
-                    from: *from,
-                    to: *to,
-                })?;
-            }
+        let mut resends = Vec::new(self.alloc);
+        let mut deliveries = Vec::with_capacity(self.alloc, ROUND_LEN)?;
+        for link in &self.links {
+            self.add_events(link, &mut resends, &mut deliveries)?;
         }
-        for (from, to) in &self.links {
-            add_deliveries(&mut events, *from, *to, self.in_flight(*from, *to))?;
+        joined(resends, deliveries)
+    }
+
+    /// Adds what a round does on a link.
+    fn add_events(
+        &self,
+        link: &PlacedLink,
+        resends: &mut Vec<Event>,
+        deliveries: &mut Vec<Event>,
+    ) -> Result<(), NoMemory>
+        requires there { IsLiveAt (slice_get self.now.value.channels link.now.there) }
+        requires back { IsLiveAt (slice_get self.now.value.channels link.now.back) }
+        ensures resends { OnOk result (
+            resends.new.items
+            ≡ resends.old.items ++ filter_map (resend_on self.now.value.channels) (link.now ∷ [])) }
+        ensures deliveries { OnOk result (
+            deliveries.new.items
+            ≡ deliveries.old.items ++ flat_map (deliveries_on self.now.value.channels) (link.now ∷ [])) }
+    {
+        let there = self.channel(link.there);
+        if there.is_quiet() {
+            return Ok(());
         }
-        Ok(events)
-    }
-
-    fn channel(&self, from: Site, to: Site) -> &Channel<M>
-        requires live { IsTrue self.now.live }
-        requires exists { HasLink self.now from to }
-        ensures { channel_on self.now.value from to ≡ Some result.now }
-    {
-        &self.channels[index_of(self.tms, self.dms, from, to)]
-    }
-
-    fn is_quiet_link(&self, from: Site, to: Site) -> bool
-        requires live { IsTrue self.now.live }
-        requires exists { HasLink self.now from to }
-        ensures { result ≡ quiet_at (channel_on self.now.value from to) }
-    {
-        let channel = self.channel(from, to);
-        channel.flight.is_empty() && channel.sender.is_done()
-    }
-
-    fn resends_now(&self, from: Site, to: Site) -> bool
-        requires live { IsTrue self.now.live }
-        requires exists { HasLink self.now from to }
-        ensures { result ≡ resends_on self.now.value from to }
-    {
-        let there = self.channel(from, to);
-        let back = self.channel(to, from);
-        !there.sender.is_done() && there.flight.is_empty() && back.flight.is_empty()
-    }
-
-    /// How many packets are in flight once the resends of a round are done.
-    fn in_flight(&self, from: Site, to: Site) -> usize
-        requires live { IsTrue self.now.live }
-        requires exists { HasLink self.now from to }
-        ensures { result ≡ in_flight_on self.now.value from to }
-    {
-        let there = self.channel(from, to);
-        if self.resends_now(from, to) {
-            there.sender.unacked() as usize
-        } else {
-            there.flight.len()
+        let back = self.channel(link.back);
+        let (from, to) = (link.from, link.to);
+        if !there.resends_now(back) {
+            return add_deliveries(deliveries, from, to, there.flight.len());
         }
+        resends.push(Event::Resend { from, to })?;
+        add_deliveries(deliveries, from, to, there.sender.unacked() as usize)
     }
+
+    fn channel(&self, at: usize) -> &Channel<M>
+        requires { IsLiveAt (slice_get self.now.value.channels at) }
+        ensures { slice_get self.now.value.channels at ≡ Some result.now }
+    {
+        &self.channels[at]
+    }
+
+    fn is_quiet_at(&self, at: usize) -> bool
+        requires { IsLiveAt (slice_get self.now.value.channels at) }
+        ensures { result ≡ quiet_at (slice_get self.now.value.channels at) }
+    {
+        self.channel(at).is_quiet()
+    }
+}
+
+/// The events of both lists.
+fn joined(first: Vec<Event>, second: Vec<Event>) -> Result<Vec<Event>, NoMemory>
+    ensures { IfOk result (λ all. all.items ≡ first.items ++ second.items) }
+{
+    if first.is_empty() {
+        return Ok(second);
+    }
+    let mut all = first;
+    all.extend_from_slice(&second)?;
+    Ok(all)
 }
 
 /// Adds so many deliveries of the first packet.

@@ -1,6 +1,6 @@
 use Rattle.std.proofs.Common.{[], ap, ◌∙◌}
-use Rattle.std.specs.Prelude.{replicate}
-use Rattle.sdd_net.specs.Nets.{unused_channel}
+use Rattle.std.specs.Prelude.{map, replicate}
+use Rattle.sdd_net.specs.Nets.{placed, unused_channel}
 use Rattle.sdd_net.proofs.Calls.{unused_stands}
 use Rattle.sdd_net.proofs.net.Net.new.Goals as goal
 
@@ -8,7 +8,7 @@ pub invariant_of-result : goal.invariant_of-result
 invariant_of-result g c = record {
   few_tms = c.requires.tms;
   few_dms = c.requires.dms;
-  all_links = c.in_ok-links.ensures;
+  all_links = c.in_ok-links.ensures ∙ ap (map (placed c.args.tms c.args.dms)) (c.deref.ensures.value ∙ c.in_ok-pairs.ensures);
   stands = λ _. ([], unused_stands _ c.args.tms c.args.dms c.in_ok-channels.channels.items (c.in_ok-channels.ensures ∙ ap (λ n. replicate n unused_channel) c.pair_count.ensures));
 }
 
