@@ -78,24 +78,32 @@ links_of tms dms (a ∷ froms) ss h all =
 pub links_exist : (tms dms : ℕ) → AllExist tms dms (links tms dms)
 links_exist tms dms = links_of tms dms (sites tms dms) (sites tms dms) (sites_exist tms dms) (sites_exist tms dms)
 
+-- what is proved of each link that exists
+on_links : (tms dms : ℕ) (P : Site × Site → Type 0) → ((l : Site × Site) → Exists tms dms l → P l)
+    → All P (links tms dms)
+on_links tms dms P f = All-weaker (Exists tms dms) P f (links tms dms) (links_exist tms dms)
+
 -- what is told link by link, of the links and of what is kept of each
 list_all_mapped : {A B : Type 0} (p : B → Bool) (q : A → Bool) (g : A → B) (xs : List A)
     → All (λ x. p (g x) ≡ q x) xs → list_all p (map g xs) ≡ list_all q xs
 list_all_mapped p q g [] h = refl
 list_all_mapped p q g (x ∷ xs) h =
-    rw (All-head (λ x. p (g x) ≡ q x) x xs h, list_all_mapped p q g xs (All-tail (λ x. p (g x) ≡ q x) x xs h)) refl
+    let rest = list_all_mapped p q g xs (All-tail (λ x. p (g x) ≡ q x) x xs h) in
+    rw (All-head (λ x. p (g x) ≡ q x) x xs h, rest) refl
 
 filter_map_mapped : {A B C : Type 0} (f : B → Option C) (h : A → Option C) (g : A → B) (xs : List A)
     → All (λ x. f (g x) ≡ h x) xs → filter_map f (map g xs) ≡ filter_map h xs
 filter_map_mapped f h g [] e = refl
 filter_map_mapped f h g (x ∷ xs) e =
-    rw (All-head (λ x. f (g x) ≡ h x) x xs e, filter_map_mapped f h g xs (All-tail (λ x. f (g x) ≡ h x) x xs e)) refl
+    let rest = filter_map_mapped f h g xs (All-tail (λ x. f (g x) ≡ h x) x xs e) in
+    rw (All-head (λ x. f (g x) ≡ h x) x xs e, rest) refl
 
 flat_map_mapped : {A B C : Type 0} (f : B → List C) (h : A → List C) (g : A → B) (xs : List A)
     → All (λ x. f (g x) ≡ h x) xs → flat_map f (map g xs) ≡ flat_map h xs
 flat_map_mapped f h g [] e = refl
 flat_map_mapped f h g (x ∷ xs) e =
-    rw (All-head (λ x. f (g x) ≡ h x) x xs e, flat_map_mapped f h g xs (All-tail (λ x. f (g x) ≡ h x) x xs e)) refl
+    let rest = flat_map_mapped f h g xs (All-tail (λ x. f (g x) ≡ h x) x xs e) in
+    rw (All-head (λ x. f (g x) ≡ h x) x xs e, rest) refl
 
 is_empty-count : {A : Type 0} (xs : List A) (a n : ℕ) → length xs ≡ n - a → is_empty xs ≡ nat_le n a
 is_empty-count [] a n e = sym (le-leb n a (omega (arith, e)))
@@ -128,74 +136,103 @@ module _ {M : Type 0} where
       → Fits (slice_get channels (index_of tms dms b a)) (link a b calls).back
   fits_back tms dms channels calls a b s h = subst (λ w. Fits (slice_get channels (index_of tms dms b a)) w) (back_is tms dms a b calls h) (s b a (link_back tms dms a b h))
 
-  quiet_is : (d : Directions M) (calls : List (Call M)) → Stands d.tms d.dms d.channels calls
-      → list_all (quiet_on d.channels) (map (placed d.tms d.dms) (links d.tms d.dms)) ≡ quiet (links d.tms d.dms) calls
-  quiet_is d calls s =
-      list_all_mapped (quiet_on d.channels) (λ x. is_quiet_link (link x.0 x.1 calls)) (placed d.tms d.dms) (links d.tms d.dms)
-      (All-weaker (Exists d.tms d.dms) (λ x. quiet_on d.channels (placed d.tms d.dms x) ≡ is_quiet_link (link x.0 x.1 calls))
-      (λ x h. quiet_fits (channel_on d x.0 x.1) (link x.0 x.1 calls).there (s x.0 x.1 h)) (links d.tms d.dms) (links_exist d.tms d.dms))
+  -- the links of a network, with their places
+  abbrev pub all_placed : Directions M → List PlacedLink
+  all_placed d = map (placed d.tms d.dms) (links d.tms d.dms)
 
-  resends_are : (d : Directions M) (calls : List (Call M)) → Stands d.tms d.dms d.channels calls
-      → filter_map (resend_on d.channels) (map (placed d.tms d.dms) (links d.tms d.dms))
-      ≡ filter_map (λ x. cond (resends_now (link x.0 x.1 calls)) (Some (Resend x.0 x.1)) None) (links d.tms d.dms)
-  resends_are d calls s =
-      filter_map_mapped (resend_on d.channels) (λ x. cond (resends_now (link x.0 x.1 calls)) (Some (Resend x.0 x.1)) None) (placed d.tms d.dms) (links d.tms d.dms)
-      (All-weaker (Exists d.tms d.dms) (λ x. resend_on d.channels (placed d.tms d.dms x) ≡ cond (resends_now (link x.0 x.1 calls)) (Some (Resend x.0 x.1)) None)
-      (λ x h. ap (λ c. cond c (Some (Resend x.0 x.1)) None) (resends_fits (channel_on d x.0 x.1) (channel_on d x.1 x.0) (link x.0 x.1 calls).there (link x.0 x.1 calls).back (s x.0 x.1 h) (fits_back d.tms d.dms d.channels calls x.0 x.1 s h))) (links d.tms d.dms) (links_exist d.tms d.dms))
+  abbrev resend_due : List (Call M) → Site × Site → Option Event
+  resend_due calls l = cond (resends_now (link l.0 l.1 calls)) (Some (Resend l.0 l.1)) None
 
-  deliveries_are : (d : Directions M) (calls : List (Call M)) → Stands d.tms d.dms d.channels calls
-      → flat_map (deliveries_on d.channels) (map (placed d.tms d.dms) (links d.tms d.dms))
-      ≡ flat_map (λ x. replicate (in_flight (link x.0 x.1 calls)) (Deliver x.0 x.1 1)) (links d.tms d.dms)
-  deliveries_are d calls s =
-      flat_map_mapped (deliveries_on d.channels) (λ x. replicate (in_flight (link x.0 x.1 calls)) (Deliver x.0 x.1 1)) (placed d.tms d.dms) (links d.tms d.dms)
-      (All-weaker (Exists d.tms d.dms) (λ x. deliveries_on d.channels (placed d.tms d.dms x) ≡ replicate (in_flight (link x.0 x.1 calls)) (Deliver x.0 x.1 1))
-      (λ x h. ap (λ n. replicate n (Deliver x.0 x.1 1)) (in_flight_fits (channel_on d x.0 x.1) (channel_on d x.1 x.0) (link x.0 x.1 calls).there (link x.0 x.1 calls).back (s x.0 x.1 h) (fits_back d.tms d.dms d.channels calls x.0 x.1 s h))) (links d.tms d.dms) (links_exist d.tms d.dms))
+  abbrev deliveries_due : List (Call M) → Site × Site → List Event
+  deliveries_due calls l = replicate (in_flight (link l.0 l.1 calls)) (Deliver l.0 l.1 1)
+
+  module _ (d : Directions M) (calls : List (Call M)) (s : Stands d.tms d.dms d.channels calls) where
+    quiet_is : list_all (quiet_on d.channels) (all_placed d) ≡ quiet (links d.tms d.dms) calls
+    quiet_is =
+        list_all_mapped (quiet_on d.channels) (λ l. is_quiet_link (link l.0 l.1 calls)) (placed d.tms d.dms)
+        (links d.tms d.dms)
+        (on_links d.tms d.dms
+        (λ l. quiet_on d.channels (placed d.tms d.dms l) ≡ is_quiet_link (link l.0 l.1 calls))
+        (λ l h. quiet_fits (channel_on d l.0 l.1) (link l.0 l.1 calls).there (s l.0 l.1 h)))
+
+    back_fits : (a b : Site) → IsTrue (is_link d.tms d.dms a b)
+        → Fits (channel_on d b a) (link a b calls).back
+    back_fits a b h = fits_back d.tms d.dms d.channels calls a b s h
+
+    resends_are : filter_map (resend_on d.channels) (all_placed d)
+        ≡ filter_map (resend_due calls) (links d.tms d.dms)
+    resends_are =
+        filter_map_mapped (resend_on d.channels) (resend_due calls) (placed d.tms d.dms) (links d.tms d.dms)
+        (on_links d.tms d.dms (λ l. resend_on d.channels (placed d.tms d.dms l) ≡ resend_due calls l)
+        (λ l h. ap (λ c. cond c (Some (Resend l.0 l.1)) None)
+        (resends_fits (channel_on d l.0 l.1) (channel_on d l.1 l.0) (link l.0 l.1 calls).there
+        (link l.0 l.1 calls).back (s l.0 l.1 h) (back_fits l.0 l.1 h))))
+
+    deliveries_are : flat_map (deliveries_on d.channels) (all_placed d)
+        ≡ flat_map (deliveries_due calls) (links d.tms d.dms)
+    deliveries_are =
+        flat_map_mapped (deliveries_on d.channels) (deliveries_due calls) (placed d.tms d.dms)
+        (links d.tms d.dms)
+        (on_links d.tms d.dms (λ l. deliveries_on d.channels (placed d.tms d.dms l) ≡ deliveries_due calls l)
+        (λ l h. ap (λ n. replicate n (Deliver l.0 l.1 1))
+        (in_flight_fits (channel_on d l.0 l.1) (channel_on d l.1 l.0) (link l.0 l.1 calls).there
+        (link l.0 l.1 calls).back (s l.0 l.1 h) (back_fits l.0 l.1 h))))
 
   -- a link whose two channels are there
   abbrev pub IsLiveLink : List (Channel M) → PlacedLink → Type 0
   IsLiveLink channels l = IsLiveAt (slice_get channels l.there) × IsLiveAt (slice_get channels l.back)
 
-  links_live : (tms dms : ℕ) (channels : List (Channel M)) (calls : List (Call M)) → Stands tms dms channels calls
-      → All (IsLiveLink channels) (map (placed tms dms) (links tms dms))
-  links_live tms dms channels calls s =
-      All-map (IsLiveLink channels) (placed tms dms) (links tms dms)
-      (All-weaker (Exists tms dms) (λ x. IsLiveLink channels (placed tms dms x))
-      (λ x h. (fits_live (slice_get channels (index_of tms dms x.0 x.1)) (link x.0 x.1 calls).there (s x.0 x.1 h), fits_live (slice_get channels (index_of tms dms x.1 x.0)) (link x.0 x.1 calls).back (fits_back tms dms channels calls x.0 x.1 s h)))
-      (links tms dms) (links_exist tms dms))
+  links_live : (d : Directions M) (calls : List (Call M)) → Stands d.tms d.dms d.channels calls
+      → All (IsLiveLink d.channels) (all_placed d)
+  links_live d calls s =
+      All-map (IsLiveLink d.channels) (placed d.tms d.dms) (links d.tms d.dms)
+      (on_links d.tms d.dms (λ l. IsLiveLink d.channels (placed d.tms d.dms l)) (λ l h. (
+        fits_live (channel_on d l.0 l.1) (link l.0 l.1 calls).there (s l.0 l.1 h),
+        fits_live (channel_on d l.1 l.0) (link l.0 l.1 calls).back (back_fits d calls s l.0 l.1 h),
+      )))
 
   -- the list of links that the network keeps
-  pub all_is : (net : Kept (Directions M)) (live : Bool) (tms dms : ℕ) (channels : List (Channel M)) (items all : List PlacedLink)
+  pub all_is : (net : Kept (Directions M)) (live : Bool) (tms dms : ℕ) (channels : List (Channel M))
+      (items all : List PlacedLink)
       → net_of live tms dms channels ≡ net → items ≡ all → all ≡ map (placed tms dms) (links tms dms)
-      → items ≡ map (placed net.value.tms net.value.dms) (links net.value.tms net.value.dms)
-  all_is net live tms dms channels items all e f g =
-      subst (λ n. items ≡ map (placed n.value.tms n.value.dms) (links n.value.tms n.value.dms)) e (f ∙ g)
+      → items ≡ all_placed net.value
+  all_is net live tms dms channels items all e f g = subst (λ n. items ≡ all_placed n.value) e (f ∙ g)
 
-  pub live_at : (net : Kept (Directions M)) (live : Bool) (tms dms : ℕ) (channels : List (Channel M)) (items all : List PlacedLink) (k : ℕ) (d : PlacedLink)
-      → net_of live tms dms channels ≡ net → IsNet tms dms all live channels → IsTrue net.live → items ≡ all → k < length items
-      → IsLiveLink net.value.channels (get_or items k d)
-  live_at net live tms dms channels items all k d e n h f l =
+  pub live_at : (net : Kept (Directions M)) (live : Bool) (tms dms : ℕ) (channels : List (Channel M))
+      (items all : List PlacedLink) (k : ℕ) (l : PlacedLink)
+      → net_of live tms dms channels ≡ net → IsNet tms dms all live channels → IsTrue net.live
+      → items ≡ all → k < length items → IsLiveLink net.value.channels (get_or items k l)
+  live_at net live tms dms channels items all k l e n h f within =
       let before = n.stands (live_is net live tms dms channels e h) in
-      subst (λ n. IsLiveLink n.value.channels (get_or items k d)) e
-      (All-same (IsLiveLink channels) items (map (placed tms dms) (links tms dms)) (f ∙ n.all_links) (links_live tms dms channels before.0 before.1) k d l)
+      let d = (net_of live tms dms channels).value in
+      subst (λ n. IsLiveLink n.value.channels (get_or items k l)) e
+      (All-same (IsLiveLink channels) items (all_placed d) (f ∙ n.all_links)
+      (links_live d before.0 before.1) k l within)
 
   pub quiet_all : (net : Kept (Directions M)) (items : List PlacedLink) (k : ℕ) (calls : List (Call M))
-      → items ≡ map (placed net.value.tms net.value.dms) (links net.value.tms net.value.dms) → length items ≤ k
-      → list_all (quiet_on net.value.channels) (take k items) ≡ true → StandsFor net calls → true ≡ quiet (links net.value.tms net.value.dms) calls
+      → items ≡ all_placed net.value → length items ≤ k
+      → list_all (quiet_on net.value.channels) (take k items) ≡ true → StandsFor net calls
+      → true ≡ quiet (links net.value.tms net.value.dms) calls
   quiet_all net items k calls e l h s =
-      sym (rw (take_all k items l) at h) ∙ ap (list_all (quiet_on net.value.channels)) e ∙ quiet_is net.value calls s
+      sym (rw (take_all k items l) at h) ∙ ap (list_all (quiet_on net.value.channels)) e
+      ∙ quiet_is net.value calls s
 
-  pub quiet_not : (net : Kept (Directions M)) (items : List PlacedLink) (k : ℕ) (d : PlacedLink) (calls : List (Call M))
-      → items ≡ map (placed net.value.tms net.value.dms) (links net.value.tms net.value.dms) → k < length items
-      → quiet_on net.value.channels (get_or items k d) ≡ false → StandsFor net calls → false ≡ quiet (links net.value.tms net.value.dms) calls
+  pub quiet_not : (net : Kept (Directions M)) (items : List PlacedLink) (k : ℕ) (d : PlacedLink)
+      (calls : List (Call M))
+      → items ≡ all_placed net.value → k < length items
+      → quiet_on net.value.channels (get_or items k d) ≡ false → StandsFor net calls
+      → false ≡ quiet (links net.value.tms net.value.dms) calls
   quiet_not net items k d calls e l h s =
-      sym (list_all_at (quiet_on net.value.channels) items k d l h) ∙ ap (list_all (quiet_on net.value.channels)) e ∙ quiet_is net.value calls s
+      sym (list_all_at (quiet_on net.value.channels) items k d l h)
+      ∙ ap (list_all (quiet_on net.value.channels)) e ∙ quiet_is net.value calls s
 
-  pub round_all : (net : Kept (Directions M)) (items : List PlacedLink) (k : ℕ) (resends deliveries events : List Event) (calls : List (Call M))
-      → items ≡ map (placed net.value.tms net.value.dms) (links net.value.tms net.value.dms) → length items ≤ k
+  pub round_all : (net : Kept (Directions M)) (items : List PlacedLink) (k : ℕ)
+      (resends deliveries events : List Event) (calls : List (Call M))
+      → items ≡ all_placed net.value → length items ≤ k
       → resends ≡ filter_map (resend_on net.value.channels) (take k items)
       → deliveries ≡ flat_map (deliveries_on net.value.channels) (take k items)
-      → events ≡ resends ++ deliveries
-      → StandsFor net calls → events ≡ round (links net.value.tms net.value.dms) calls
+      → events ≡ resends ++ deliveries → StandsFor net calls
+      → events ≡ round (links net.value.tms net.value.dms) calls
   round_all net items k resends deliveries events calls e l f g h s =
       rw (h, f, g, take_all k items l, e, resends_are net.value calls s, deliveries_are net.value calls s) refl
 
