@@ -1,17 +1,21 @@
 -- The tuples of a product are the rows of the choices that are there; so a join finds the answer.
-use Rattle.std.specs.Prelude.{ℕ, ◌<◌, ◌≤◌, ◌≡◌, nat_lt, Bool, true, false, cond, List, [], ◌∷◌, length, Some, None, map, filter_map, drop, slice_index, slice_index_or, refl}
-use Rattle.std.proofs.Common.{◌∙◌, inl, ⊎_elim}
-use Rattle.std.proofs.lemmas.Bool.{ltb-true, lt-ltb, le-ltb}
+use Rattle.std.specs.Prelude.{ℕ, ◌<◌, ◌≤◌, ◌≡◌, nat_lt, Bool, true, false, cond, List, [], ◌∷◌, length, Option, Some, None, map, filter_map, take, drop, slice_index, slice_index_or, refl}
+use Rattle.std.specs.Borrow.{Bor}
+use Rattle.std.proofs.Common.{ap, ◌∙◌, inl, ⊎_elim}
+use Rattle.std.proofs.lemmas.Bool.{cases_Bool, ltb-true, lt-ltb, le-ltb}
+use Rattle.std.proofs.lemmas.List.{take_all}
 use Rattle.sdd_lang.specs.declared.condition.Ref.{Ref}
 use Rattle.sdd_lang.specs.declared.condition.Condition.{Condition}
 use Rattle.sdd_lang.specs.Database.{Row}
 use Rattle.sdd_lang.specs.Condition.{Tuple, value_at, meets_all}
 use Rattle.sdd_lang.specs.Query.{product, selection, projection, distinct}
 use Rattle.sdd_lang.specs.Source.{within}
-use Rattle.sdd_exec.specs.Choices.{Choice, picked, is_there, row_from, Has, HasAll}
+use Rattle.sdd_lang.specs.Tuples.{rows_lent}
+use Rattle.sdd_exec.specs.Choices.{Choice, picked, is_there, row_of_tuple, row_from, Has, HasAll}
 use Rattle.sdd_exec.proofs.Members.{Has-map, Has-map_from, Has-filter, Has-filter_from, Has-flat_map, Has-flat_map_from, Has-filter_map, Has-filter_map_from, Has-get_or, place_of}
 use Rattle.sdd_exec.proofs.Complete.{both}
 use Rattle.sdd_exec.proofs.Distinct.{distinct_same}
+use Rattle.sdd_exec.proofs.Steps.{part_is_fewer}
 
 pub picked_in_product : (parts : List (List Row)) (t : Choice) → is_there parts t ≡ true → Has (product parts) (picked parts t)
 picked_in_product [] t h = inl refl
@@ -59,9 +63,43 @@ join_is_answer parts out conds kept all =
     let row : row_from parts out conds c.0 ≡ Some x = rw (c.2, same, two.1, one.2) in
     Has-filter_map (row_from parts out conds) kept c.0 x c.1 row)
 
--- an answer for which there is no room, or is
-pub many_rows : (room : ℕ) (rows answer : List Row) → rows ≡ answer → room < length rows → None ≡ within room answer
-many_rows room rows answer e h = let many : room < length answer = rw e at h in let yes = lt-ltb _ _ many in rw yes
+-- where the first so many give too much already, there is no room
+pub no_room : {X : Type 0} (f : X → Option Row) (kept : List X) (i room : ℕ)
+    → room < length (distinct (filter_map f (take i kept))) → None ≡ within room (distinct (filter_map f kept))
+no_room f kept i room h = let yes = lt-ltb _ _ (part_is_fewer f kept i room h) in rw yes
 
-pub few_rows : (room : ℕ) (rows answer list : List Row) → rows ≡ answer → (list ≡ rows) × (length rows ≤ room) → Some list ≡ within room answer
-few_rows room rows answer list e h = let few : length answer ≤ room = rw e at h.1 in let no = le-ltb _ _ few in rw (no, h.0, e)
+pub all_found : {X : Type 0} (f : X → Option Row) (kept : List X) (i room : ℕ) (rows : List Row)
+    → length kept ≤ i → rows ≡ distinct (filter_map f (take i kept)) → length rows ≤ room
+    → Some rows ≡ within room (distinct (filter_map f kept))
+all_found f kept i room rows h e few =
+    let all : rows ≡ distinct (filter_map f kept) = e ∙ ap (λ xs. distinct (filter_map f xs)) (take_all i kept h) in
+    let no : nat_lt room (length rows) ≡ false = le-ltb _ _ few in
+    rw (← all, no)
+
+-- the tuples of one part are its rows, one by one
+abbrev pub row_of_lent : List Ref → List Condition → Bor Row → Option Row
+row_of_lent out conds row = row_of_tuple out conds (row.now ∷ [])
+
+pub one_part : (out : List Ref) (conds : List Condition) (lent : List (Bor Row))
+    → filter_map (row_of_lent out conds) lent ≡ projection out (selection conds (product (rows_lent lent ∷ [])))
+one_part out conds [] = refl
+one_part out conds (r ∷ lent) =
+    let rest = one_part out conds lent in
+    ⊎_elim
+    (λ (yes : meets_all conds (r.now ∷ []) ≡ true). rw (yes, rest))
+    (λ (no : meets_all conds (r.now ∷ []) ≡ false). rw (no, rest))
+    (cases_Bool (meets_all conds (r.now ∷ [])))
+
+pub no_room_of_one : (out : List Ref) (conds : List Condition) (lent : List (Bor Row)) (i room : ℕ)
+    → room < length (distinct (filter_map (row_of_lent out conds) (take i lent)))
+    → None ≡ within room (distinct (projection out (selection conds (product (rows_lent lent ∷ [])))))
+no_room_of_one out conds lent i room h =
+    no_room (row_of_lent out conds) lent i room h
+    ∙ ap (λ (rows : List Row). within room (distinct rows)) (one_part out conds lent)
+
+pub all_of_one : (out : List Ref) (conds : List Condition) (lent : List (Bor Row)) (i room : ℕ) (rows : List Row)
+    → length lent ≤ i → rows ≡ distinct (filter_map (row_of_lent out conds) (take i lent)) → length rows ≤ room
+    → Some rows ≡ within room (distinct (projection out (selection conds (product (rows_lent lent ∷ [])))))
+all_of_one out conds lent i room rows h e few =
+    all_found (row_of_lent out conds) lent i room rows h e few
+    ∙ ap (λ (rows : List Row). within room (distinct rows)) (one_part out conds lent)

@@ -44,7 +44,8 @@ pub ruleset key_steps = (keyed_more)
 pub places_more : (pairs : List (Row × ℕ)) (q : Row) (i : ℕ) (d : Row × ℕ) → i < length pairs → places (take (i + 1) pairs) q ≡ places (take i pairs) q ++ places (get_or pairs i d ∷ []) q
 places_more pairs q i d h = rw (take_more pairs i d h, filter-append, map-append)
 
-pub with_found_more : (f : List ℕ → Option Row) (kept : List (List ℕ)) (i : ℕ) (d : List ℕ) → i < length kept → distinct (filter_map f (take (i + 1) kept)) ≡ with_found (f (get_or kept i d)) (distinct (filter_map f (take i kept)))
+pub with_found_more : {X : Type 0} (f : X → Option Row) (kept : List X) (i : ℕ) (d : X) → i < length kept
+    → distinct (filter_map f (take (i + 1) kept)) ≡ with_found (f (get_or kept i d)) (distinct (filter_map f (take i kept)))
 with_found_more f kept i d h =
     rw (take_more kept i d h, filter_map-append, fold-append)
     (elim (f (get_or kept i d)) as (λ o. fold (λ kept row. insert_key row_cmp kept row) (distinct (filter_map f (take i kept))) (cons_option o []) ≡ with_found o (distinct (filter_map f (take i kept)))) [ None ↦ refl | Some row ↦ refl ])
@@ -63,7 +64,8 @@ fold_longer [] kept = omega arith
 fold_longer (r ∷ rows) kept = let one = insert_longer kept r in let rest = fold_longer rows (insert_key row_cmp kept r) in omega arith
 
 -- what a part of the choices adds is no more than what all add
-pub part_is_fewer : (f : List ℕ → Option Row) (kept : List (List ℕ)) (i room : ℕ) → room < length (distinct (filter_map f (take i kept))) → room < length (distinct (filter_map f kept))
+pub part_is_fewer : {X : Type 0} (f : X → Option Row) (kept : List X) (i room : ℕ)
+    → room < length (distinct (filter_map f (take i kept))) → room < length (distinct (filter_map f kept))
 part_is_fewer f kept i room h =
     let whole : take i kept ++ drop i kept ≡ kept = take-append-drop i kept in
     let split : distinct (filter_map f (take i kept ++ drop i kept)) ≡ insert_all (distinct (filter_map f (take i kept))) (filter_map f (drop i kept)) = rw (filter_map-append, fold-append) in
@@ -108,7 +110,7 @@ flat_map_next f xs i x before after piece h e p g b =
     let one : flat_map f (get_or xs i x ∷ []) ≡ piece = rw append-nil last in
     rw (g, b, take_more xs i x h, flat_map-append, one)
 
-pub found_next : (f : List ℕ → Option Row) (kept : List (List ℕ)) (i : ℕ) (choice : List ℕ) (before after : List Row)
+pub found_next : {X : Type 0} (f : X → Option Row) (kept : List X) (i : ℕ) (choice : X) (before after : List Row)
     → i < length kept → choice ≡ get_or kept i choice → after ≡ with_found (f choice) before → before ≡ distinct (filter_map f (take i kept)) → after ≡ distinct (filter_map f (take (i + 1) kept))
 found_next f kept i choice before after h e g b =
     let step : distinct (filter_map f (take (i + 1) kept)) ≡ with_found (f choice) (distinct (filter_map f (take i kept))) = rw (← e) at (with_found_more f kept i choice h) in

@@ -9,13 +9,13 @@ ghost use Rattle.sdd_lang.specs.Tuples.{rows_lent};
 ghost use Rattle.sdd_exec.specs.Choices as joins;
 
 use crate::choice::{Choice, placed, tuple_of};
+use crate::found::Found;
 use crate::index::{Index, index, places_of};
 use crate::parts::Parts;
 use crate::tie::{Tie, key_for, ties};
 use sdd_base::{NoMemory, Row, RowList};
 use sdd_lang::{Condition, Ref, meets_all, project};
 use std::alloc::Global;
-use std::collections::BTreeSet;
 
 /// The first part that wasn't taken; 0 where none is left.
 fn first_left(parts: usize, taken: &[usize]) -> usize
@@ -175,30 +175,29 @@ fn choices(alloc: Global, parts: &Parts, conds: &[Condition]) -> Result<Vec<Choi
 /// Adds the listed columns of a tuple, where it meets the conditions.
 fn add_tuple(
     alloc: Global,
-    rows: &mut BTreeSet<Row>,
+    rows: &mut Found,
     conds: &[Condition],
     out: &[Ref],
     tuple: &[&Row],
 ) -> Result<(), NoMemory>
-    ensures { IfOk result (λ _. rows.new.keys ≡ joins.with_found (joins.row_of_tuple out.now conds.now (rows_lent tuple.now)) rows.old.keys) }
+    ensures { IfOk result (λ _. rows.new ≡ joins.with_found (joins.row_of_tuple out.now conds.now (rows_lent tuple.now)) rows.old) }
 {
     if !meets_all(conds, tuple) {
         return Ok(());
     }
-    rows.insert(project(alloc, out, tuple)?)?;
-    Ok(())
+    rows.add(alloc, project(alloc, out, tuple)?)
 }
 
 /// Adds the listed columns of a choice, where its rows are there and meet the conditions.
 fn add_answer(
     alloc: Global,
-    rows: &mut BTreeSet<Row>,
+    rows: &mut Found,
     parts: &Parts,
     conds: &[Condition],
     out: &[Ref],
     choice: &[usize],
 ) -> Result<(), NoMemory>
-    ensures { IfOk result (λ _. rows.new.keys ≡ joins.with_found (joins.row_from parts.now out.now conds.now choice.now) rows.old.keys) }
+    ensures { IfOk result (λ _. rows.new ≡ joins.with_found (joins.row_from parts.now out.now conds.now choice.now) rows.old) }
 {
     match tuple_of(alloc, parts, choice)? {
         Some(tuple) => add_tuple(alloc, rows, conds, out, &tuple),
@@ -216,10 +215,10 @@ fn answers(
     out: &[Ref],
     kept: &[Choice],
     room: usize,
-) -> Result<Option<BTreeSet<Row>>, NoMemory>
-    ensures { let rows = distinct (filter_map (joins.row_from parts.now out.now conds.now) kept.now) in IfOk result (λ found. MatchOption found (room < length rows) (λ s. (s.keys ≡ rows) × (length rows ≤ room))) }
+) -> Result<Option<Found>, NoMemory>
+    ensures { IfOk result (λ found. found ≡ within room (distinct (filter_map (joins.row_from parts.now out.now conds.now) kept.now))) }
 {
-    let mut rows = BTreeSet::new(alloc);
+    let mut rows = Found::new(alloc);
     for choice in kept {
         add_answer(alloc, &mut rows, parts, conds, out, choice.as_slice())?;
         if rows.len() > room {
@@ -229,19 +228,50 @@ fn answers(
     Ok(Some(rows))
 }
 
-/// The rows of a set, in their order.
-fn listed(alloc: Global, rows: BTreeSet<Row>) -> Result<RowList, NoMemory>
-    ensures { IfOk result (λ list. list ≡ rows.keys) }
+/// The answer over the rows of one part.
+fn answers_of_one(
+    alloc: Global,
+    rows: &[&Row],
+    conds: &[Condition],
+    out: &[Ref],
+    room: usize,
+) -> Result<Option<Found>, NoMemory>
+    ensures { IfOk result (λ found. found ≡ within room (distinct (projection out.now (selection conds.now (product (rows_lent rows.now ∷ [])))))) }
 {
-    Ok(RowList::from_vec(rows.into_iter().collect(alloc)?))
+    let mut found = Found::new(alloc);
+    for row in rows {
+        add_tuple(alloc, &mut found, conds, out, &[row])?;
+        if found.len() > room {
+            return Ok(None);
+        }
+    }
+    Ok(Some(found))
+}
+
+/// The answer over the rows of the parts.
+fn answers_of_all(
+    alloc: Global,
+    parts: &Parts,
+    conds: &[Condition],
+    out: &[Ref],
+    room: usize,
+) -> Result<Option<Found>, NoMemory>
+    ensures { IfOk result (λ found. found ≡ within room (distinct (projection out.now (selection conds.now (product parts.now))))) }
+{
+    if parts.count() == 1 {
+        return answers_of_one(alloc, parts.rows(0), conds, out, room);
+    }
+    let kept = choices(alloc, parts, conds)?;
+    answers(alloc, parts, conds, out, &kept, room)
 }
 
 /// The answer of a query over these rows of its parts, or None where it has more than `room` rows.
 ///
-/// Parts are taken one after the other, at each step one that an equality ties to those that were
-/// taken, where there is one; its rows are found by a hash of the tied columns. So it costs time
-/// with the rows, the tuples that meet the equalities of the parts taken so far, and a logarithmic
-/// step for each row of the answer.
+/// Where there is one part, its rows are gone through once, and none but those of the answer takes
+/// memory. Of several parts one is taken after the other, at each step one that an equality ties to
+/// those that were taken, where there is one; its rows are found by a hash of the tied columns. So
+/// it costs time with the rows, the tuples that meet the equalities of the parts taken so far, and
+/// for each row that is found one comparison; a logarithmic step each, where these don't ascend.
 pub fn join(
     alloc: Global,
     parts: &Parts,
@@ -251,9 +281,8 @@ pub fn join(
 ) -> Result<Option<RowList>, NoMemory>
     ensures { IfOk result (λ rows. rows ≡ within room (distinct (projection out.now (selection conds.now (product parts.now))))) }
 {
-    let kept = choices(alloc, parts, conds)?;
-    match answers(alloc, parts, conds, out, &kept, room)? {
+    match answers_of_all(alloc, parts, conds, out, room)? {
         None => Ok(None),
-        Some(rows) => Ok(Some(listed(alloc, rows)?)),
+        Some(found) => Ok(Some(found.into_list(alloc)?)),
     }
 }

@@ -7,6 +7,7 @@
 #![tactic(auto)]
 
 mod choice;
+mod found;
 mod from_rows;
 mod index;
 mod joins;

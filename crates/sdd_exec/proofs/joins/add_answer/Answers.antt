@@ -1,4 +1,3 @@
-use Rattle.std.proofs.Common.{◌∙◌}
 use Rattle.sdd_exec.proofs.Picked.{row_of_choice}
 use Rattle.sdd_exec.proofs.joins.add_answer.Goals as goal
 
