@@ -103,6 +103,25 @@ keyed_next part conds ties i rows row before after all h e f g =
     rw (← e) at (keyed_more part conds ties i rows row before h) in
     rw f (step ∙ g)
 
+pub places-append : (xs ys : List (Row × ℕ)) (q : Row) → places (xs ++ ys) q ≡ places xs q ++ places ys q
+places-append xs ys q = rw (filter-append, map-append)
+
+-- the places of an untied part's rows: those so far, with those that are left, are all
+pub untied_next : (part : ℕ) (conds : List Condition) (i : ℕ) (rows : List Row) (row : Row) (before after all : List ℕ)
+    → i < length rows → row ≡ get_or rows i row → after ≡ before ++ places (keyed part conds [] i (row ∷ [])) []
+    → before ++ places (keyed part conds [] i (drop i rows)) [] ≡ all
+    → after ++ places (keyed part conds [] (i + 1) (drop (i + 1) rows)) [] ≡ all
+untied_next part conds i rows row before after all h e f g =
+    let first : List (Row × ℕ) = keyed part conds [] i (row ∷ []) in
+    let rest : List (Row × ℕ) = keyed part conds [] (i + 1) (drop (i + 1) rows) in
+    let step : first ++ rest ≡ keyed part conds [] i (drop i rows) = rw (← e) at (keyed_more part conds [] i rows row [] h) in
+    let split : places (keyed part conds [] i (drop i rows)) [] ≡ places first [] ++ places rest [] =
+    ap (λ (pairs : List (Row × ℕ)). places pairs []) (sym step) ∙ places-append first rest [] in
+    ap (λ (xs : List ℕ). xs ++ places rest []) f
+    ∙ append_assoc before (places first []) (places rest [])
+    ∙ ap (λ (xs : List ℕ). before ++ xs) (sym split)
+    ∙ g
+
 pub flat_map_next : {X Y : Type 0} (f : X → List Y) (xs : List X) (i : ℕ) (x : X) (before after piece : List Y)
     → i < length xs → x ≡ get_or xs i x → piece ≡ f x → after ≡ before ++ piece → before ≡ flat_map f (take i xs) → after ≡ flat_map f (take (i + 1) xs)
 flat_map_next f xs i x before after piece h e p g b =

@@ -79,6 +79,40 @@ fn keyed(
     Ok(keyed)
 }
 
+/// Adds the place of a row, where it meets the conditions that name no other part.
+fn add_untied(
+    places: &mut Vec<usize>,
+    part: usize,
+    conds: &[Condition],
+    place: usize,
+    row: &Row,
+) -> Result<(), NoMemory>
+    ensures { IfOk result (λ _. places.new.items ≡ places.old.items ++ joins.places (joins.keyed part conds.now [] place (row.now ∷ [])) []) }
+{
+    if !passes(part, row, conds) {
+        return Ok(());
+    }
+    places.push(place)?;
+    Ok(())
+}
+
+/// The places of a part's rows where nothing ties it: of those that meet the conditions which name
+/// no other part.
+pub fn untied(
+    alloc: Global,
+    rows: &[&Row],
+    part: usize,
+    conds: &[Condition],
+) -> Result<Vec<usize>, NoMemory>
+    ensures { IfOk result (λ places. places.items ≡ joins.places (joins.keyed part conds.now [] 0 (rows_lent rows.now)) []) }
+{
+    let mut places = Vec::new(alloc);
+    for (place, row) in rows.iter().enumerate() {
+        add_untied(&mut places, part, conds, place, row)?;
+    }
+    Ok(places)
+}
+
 /// Takes out the places with the key.
 fn take_places(alloc: Global, index: &mut Index, key: &Row) -> Vec<usize>
     ensures places { result.items ≡ option_map_or (λ v. v.items) (hash.get joins.same_row index.old key.now) [] }

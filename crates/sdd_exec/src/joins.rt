@@ -10,7 +10,7 @@ ghost use Rattle.sdd_exec.specs.Choices as joins;
 
 use crate::choice::{Choice, placed, tuple_of};
 use crate::found::Found;
-use crate::index::{Index, index, places_of};
+use crate::index::{Index, index, places_of, untied};
 use crate::parts::Parts;
 use crate::tie::{Tie, key_for, ties};
 use sdd_base::{NoMemory, Row, RowList};
@@ -60,6 +60,7 @@ fn extend(
 ) -> Result<(), NoMemory>
     ensures { IfOk result (λ _. kept.new.items ≡ kept.old.items ++ map (joins.placed parts choice.now part) places.now) }
 {
+    kept.reserve(places.len())?;
     for place in places {
         kept.push(placed(alloc, parts, choice, part, *place)?)?;
     }
@@ -94,6 +95,38 @@ fn extend_all(
     Ok(made)
 }
 
+/// The choices with each of these places of a part.
+fn extend_each(
+    alloc: Global,
+    parts: usize,
+    kept: &[Choice],
+    part: usize,
+    places: &[usize],
+) -> Result<Vec<Choice>, NoMemory>
+    ensures { IfOk result (λ extended. extended.items ≡ flat_map (λ (choice : List ℕ). map (joins.placed parts choice part) places.now) kept.now) }
+{
+    let mut made = Vec::new(alloc);
+    for choice in kept {
+        extend(alloc, &mut made, parts, choice.as_slice(), part, places)?;
+    }
+    Ok(made)
+}
+
+/// The choices with the rows of one more part, which nothing ties.
+fn take_untied(
+    alloc: Global,
+    parts: &Parts,
+    conds: &[Condition],
+    kept: &[Choice],
+    part: usize,
+) -> Result<Vec<Choice>, NoMemory>
+    requires { part < length parts.now }
+    ensures { IfOk result (λ extended. extended.items ≡ flat_map (joins.extended parts.now part [] (joins.keyed part conds.now [] 0 (slice_index_or parts.now part []))) kept.now) }
+{
+    let places = untied(alloc, parts.rows(part), part, conds)?;
+    extend_each(alloc, parts.count(), kept, part, &places)
+}
+
 /// The choices with the rows of one more part.
 fn take_part(
     alloc: Global,
@@ -107,6 +140,9 @@ fn take_part(
     ensures { IfOk result (λ extended. extended.items ≡ flat_map (joins.extensions parts.now conds.now taken.now part) kept.now) }
 {
     let ties = ties(alloc, taken, part, conds)?;
+    if ties.is_empty() {
+        return take_untied(alloc, parts, conds, kept, part);
+    }
     let index = index(alloc, parts.rows(part), part, conds, &ties)?;
     extend_all(alloc, parts, kept, part, &ties, &index)
 }
