@@ -1,5 +1,5 @@
 //! Choices: of each part one row, by its place.
-ghost use Rattle.std.specs.Prelude.{◌≡◌, ◌==◌, cond, true, false, IfOk, MatchOption, slice_index};
+ghost use Rattle.std.specs.Prelude.{◌≡◌, ◌==◌, cond, IfOk, IsTrue, slice_index};
 ghost use Rattle.sdd_lang.specs.Condition as of_tuples;
 ghost use Rattle.sdd_lang.specs.Tuples.{held, rows_lent};
 ghost use Rattle.sdd_exec.specs.Choices as joins;
@@ -31,24 +31,24 @@ pub fn value_at<'a>(parts: &Parts<'a>, choice: &[usize], at: Ref) -> Option<&'a 
     }
 }
 
-/// The tuple of a choice's rows, or None where a place isn't one of its part.
-pub fn tuple_of<'a>(
-    alloc: Global,
+/// Makes the tuple that of a choice's rows, in the memory that it has; false where a place isn't one
+/// of its part.
+pub fn fill<'a>(
+    tuple: &mut Vec<&'a Row>,
     parts: &Parts<'a>,
     choice: &[usize],
-) -> Result<Option<Vec<&'a Row>>, NoMemory>
-    ensures { let there = joins.is_there parts.now choice.now in
-        IfOk result (λ found. MatchOption found (there ≡ false)
-        (λ rows. (there ≡ true) × (rows_lent rows.items ≡ joins.picked parts.now choice.now))) }
+) -> Result<bool, NoMemory>
+    ensures there { IfOk result (λ whole. whole ≡ joins.is_there parts.now choice.now) }
+    ensures rows { IfOk result (λ whole. IsTrue whole → rows_lent tuple.new.items ≡ joins.picked parts.now choice.now) }
 {
-    let mut tuple = Vec::with_capacity(alloc, parts.count())?;
+    tuple.clear();
     for part in 0..parts.count() {
         match parts.row(part, place_at(choice, part)) {
             Some(row) => tuple.push(row)?,
-            None => return Ok(None),
+            None => return Ok(false),
         }
     }
-    Ok(Some(tuple))
+    Ok(true)
 }
 
 /// The place of a part in the choice that has another place at one part.

@@ -8,7 +8,7 @@ ghost use Rattle.sdd_lang.specs.Source.{within};
 ghost use Rattle.sdd_lang.specs.Tuples.{rows_lent};
 ghost use Rattle.sdd_exec.specs.Choices as joins;
 
-use crate::choice::{Choice, placed, tuple_of};
+use crate::choice::{Choice, fill, placed};
 use crate::found::Found;
 use crate::index::{Index, index, places_of, untied};
 use crate::parts::Parts;
@@ -224,21 +224,23 @@ fn add_tuple(
     rows.add(alloc, project(alloc, out, tuple)?)
 }
 
-/// Adds the listed columns of a choice, where its rows are there and meet the conditions.
-fn add_answer(
+/// Adds the listed columns of a choice, where its rows are there and meet the conditions. The tuple
+/// is memory for these rows.
+fn add_answer<'a>(
     alloc: Global,
     rows: &mut Found,
-    parts: &Parts,
+    tuple: &mut Vec<&'a Row>,
+    parts: &Parts<'a>,
     conds: &[Condition],
     out: &[Ref],
     choice: &[usize],
 ) -> Result<(), NoMemory>
     ensures { IfOk result (λ _. rows.new ≡ joins.with_found (joins.row_from parts.now out.now conds.now choice.now) rows.old) }
 {
-    match tuple_of(alloc, parts, choice)? {
-        Some(tuple) => add_tuple(alloc, rows, conds, out, &tuple),
-        None => Ok(()),
+    if !fill(tuple, parts, choice)? {
+        return Ok(());
     }
+    add_tuple(alloc, rows, conds, out, tuple.as_slice())
 }
 
 /// The listed columns of the choices that meet the conditions, ascending, each once; None where
@@ -255,8 +257,10 @@ fn answers(
     ensures { IfOk result (λ found. found ≡ within room (distinct (filter_map (joins.row_from parts.now out.now conds.now) kept.now))) }
 {
     let mut rows = Found::new(alloc);
+    let mut tuple = Vec::with_capacity(alloc, parts.count())?;
     for choice in kept {
-        add_answer(alloc, &mut rows, parts, conds, out, choice.as_slice())?;
+        let choice = choice.as_slice();
+        add_answer(alloc, &mut rows, &mut tuple, parts, conds, out, choice)?;
         if rows.len() > room {
             return Ok(None);
         }

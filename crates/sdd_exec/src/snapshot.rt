@@ -74,12 +74,20 @@ fn add_row<'a>(
     Ok(())
 }
 
+/// How many rows of the use there are, for which room is made at once.
+fn count_of(shipped: &[(u32, Row)], use_no: u64) -> usize {
+    shipped
+        .iter()
+        .filter(|one| u64::from(one.0) == use_no)
+        .count()
+}
+
 /// The rows of a use.
 #[tactic(auto, using(crate::proofs::Shipping::rows_for_more))]
 fn rows_of(alloc: Global, shipped: &[(u32, Row)], use_no: u64) -> Result<Vec<&Row>, NoMemory>
     ensures { IfOk result (λ rows. rows_lent rows.items ≡ rows_for shipped.now use_no) }
 {
-    let mut rows = Vec::new(alloc);
+    let mut rows = Vec::with_capacity(alloc, count_of(shipped, use_no))?;
     for one in shipped {
         add_row(&mut rows, one, use_no)?;
     }

@@ -1,8 +1,12 @@
+use Rattle.std.proofs.Common.{◌≡◌, ◌∙◌, sym, true}
+use Rattle.sdd_exec.specs.Choices.{is_there}
 use Rattle.sdd_exec.proofs.Picked.{row_of_choice}
 use Rattle.sdd_exec.proofs.joins.add_answer.Goals as goal
 
-pub returns-in-Some : goal.returns-in-Some
-returns-in-Some c =
-    let found = rw c.in-Some.is at c.in_ok-tuple.ensures in
-    let same = row_of_choice c.args.parts.now c.args.out.now c.args.conds.now c.args.choice.now _ found.0 found.1 in
-    rw (c.deref.ensures.value, same) at c.add_tuple.ensures
+pub returns : goal.returns
+returns c =
+    let whole : c.in_ok-fill.field-0 ≡ true = c.if-not-branch.false in
+    let there : is_there c.args.parts.now c.args.choice.now ≡ true = sym c.in_ok-fill.ensures.there ∙ whole in
+    let rows = c.in_ok-fill.ensures.rows whole in
+    let same = row_of_choice c.args.parts.now c.args.out.now c.args.conds.now c.args.choice.now _ there rows in
+    rw (c.as_slice.ensures.value, same) at c.add_tuple.ensures

@@ -10,7 +10,7 @@ returns-then-len-room c =
     let f = row_from c.args.parts.now c.args.out.now c.args.conds.now in
     let next : c.add_answer.new.rows ≡ distinct (filter_map f (take (c.loop-choice.choice-index + 1) c.args.kept.now)) =
     found_next f c.args.kept.now c.loop-choice.choice-index c.choice-item.result c.loop-choice.rows c.add_answer.new.rows
-    c.loop-choice-test.true c.choice-item.is (rw c.as_slice.ensures at c.in_ok-add_answer.ensures) c.loop-choice.invariant.rows in
+    c.loop-choice-test.true c.choice-item.is (rw c.as_slice-choice.ensures at c.in_ok-add_answer.ensures) c.loop-choice.invariant.rows in
     let many : c.args.room < length c.add_answer.new.rows = omega (arith, c.len.ensures) in
     no_room f c.args.kept.now (c.loop-choice.choice-index + 1) c.args.room (rw next at many)
 
@@ -19,7 +19,7 @@ loop-choice-preserved c =
     record {
       rows =
           found_next (row_from c.args.parts.now c.args.out.now c.args.conds.now) c.args.kept.now c.loop-choice.choice-index c.choice-item.result
-          c.loop-choice.rows c.add_answer.new.rows c.loop-choice-test.true c.choice-item.is (rw c.as_slice.ensures at c.in_ok-add_answer.ensures) c.loop-choice.invariant.rows;
+          c.loop-choice.rows c.add_answer.new.rows c.loop-choice-test.true c.choice-item.is (rw c.as_slice-choice.ensures at c.in_ok-add_answer.ensures) c.loop-choice.invariant.rows;
       few = omega (arith, c.len.ensures);
     }
 
