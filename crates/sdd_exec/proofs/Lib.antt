@@ -4,5 +4,6 @@ pub mod Members
 pub mod Distinct
 pub mod Complete
 pub mod Product
+pub mod Keyed
 pub mod Shipping
 pub mod Serving

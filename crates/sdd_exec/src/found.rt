@@ -2,7 +2,7 @@ ghost use Rattle.std.specs.Prelude.{◌≡◌, [], length, IfOk, OnOk};
 ghost use Rattle.std.specs.BTreeSet.{insert_key};
 ghost use Rattle.sdd_base.specs.Order.{row_cmp};
 ghost use Rattle.sdd_lang.specs.Query.{distinct};
-ghost use Rattle.sdd_exec.specs.Choices.{to_last};
+ghost use Rattle.sdd_exec.specs.Rising.{to_last};
 
 use sdd_base::{NoMemory, Row, RowList};
 use std::alloc::Global;

@@ -11,6 +11,7 @@ mod found;
 mod from_rows;
 mod index;
 mod joins;
+mod matched;
 mod parts;
 mod snapshot;
 mod source;

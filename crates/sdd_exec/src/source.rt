@@ -1,20 +1,18 @@
 //! What statements find in the rows of a snapshot.
-ghost use Rattle.std.specs.Prelude.{◌≡◌, ◌+◌, ◌∷◌, [], ℕ, length, List, fold, IfOk};
+ghost use Rattle.std.specs.Prelude.{◌≡◌, ◌+◌, [], length, fold, IfOk};
 ghost use Rattle.sdd_catalog.specs.Catalogue.{key_column};
-ghost use Rattle.sdd_lang.specs.Condition as of_tuples;
 ghost use Rattle.sdd_lang.specs.Database.{key_in};
-ghost use Rattle.sdd_lang.specs.Source.{entries_of};
 ghost use Rattle.sdd_lang.specs.Tuples.{rows_lent};
 ghost use Rattle.sdd_exec.specs.Snapshots.{parts_for, found_for, chosen_for, with_chosen, of_relation};
 
 use crate::joins::join;
+use crate::matched::Matched;
 use crate::parts::Parts;
 use crate::snapshot::Snapshot;
 use sdd_base::{NoMemory, Parcel, RelNo, Row, RowList, Value};
 use sdd_catalog::Catalogue;
 use sdd_lang::{Condition, Entries, Entry, Ref, Source, meets_all, value_in};
 use std::alloc::Global;
-use std::collections::BTreeMap;
 
 /// What a transaction's statements find in the rows that were shipped for its uses.
 #[derive(Clone, Copy)]
@@ -44,22 +42,32 @@ fn key_of(cat: &Catalogue, rel: RelNo, row: &Row) -> i64
     }
 }
 
+/// A copy of a relation's row with its key.
+fn keyed(cat: &Catalogue, rel: RelNo, row: &Row) -> Result<Entry, NoMemory>
+    ensures { IfOk result (λ entry. entry ≡ record { key = key_in cat.now rel.0 row.now; row = row.now }) }
+{
+    Ok(Entry {
+        key: key_of(cat, rel, row),
+        row: row.copy()?,
+    })
+}
+
 /// Adds a row by its key, where it meets the conditions.
 #[tactic(auto, using(crate::proofs::Shipping::entry_steps))]
 fn add_entry(
-    entries: &mut BTreeMap<i64, Row>,
+    alloc: Global,
+    entries: &mut Matched,
     cat: &Catalogue,
     rel: RelNo,
     conds: &[Condition],
     row: &Row,
 ) -> Result<(), NoMemory>
-    ensures { IfOk result (λ _. of_relation rel.0 entries.new.entries ≡ with_chosen cat.now rel.0 conds.now (of_relation rel.0 entries.old.entries) row.now) }
+    ensures { IfOk result (λ _. of_relation rel.0 entries.new ≡ with_chosen cat.now rel.0 conds.now (of_relation rel.0 entries.old) row.now) }
 {
     if !meets_all(conds, &[row]) {
         return Ok(());
     }
-    entries.insert(key_of(cat, rel, row), row.copy()?)?;
-    Ok(())
+    entries.put(alloc, keyed(cat, rel, row)?)
 }
 
 /// The rows that meet the conditions, by their keys.
@@ -70,25 +78,14 @@ fn entries_by_key(
     rel: RelNo,
     conds: &[Condition],
     rows: &[&Row],
-) -> Result<BTreeMap<i64, Row>, NoMemory>
-    ensures { IfOk result (λ entries. of_relation rel.0 entries.entries ≡ fold (with_chosen cat.now rel.0 conds.now) [] (rows_lent rows.now)) }
+) -> Result<Matched, NoMemory>
+    ensures { IfOk result (λ entries. of_relation rel.0 entries ≡ fold (with_chosen cat.now rel.0 conds.now) [] (rows_lent rows.now)) }
 {
-    let mut entries = BTreeMap::new(alloc);
+    let mut entries = Matched::new(alloc);
     for row in rows {
-        add_entry(&mut entries, cat, rel, conds, row)?;
+        add_entry(alloc, &mut entries, cat, rel, conds, row)?;
     }
     Ok(entries)
-}
-
-/// The rows of a map, with their keys.
-fn listed(alloc: Global, entries: BTreeMap<i64, Row>) -> Result<Entries, NoMemory>
-    ensures { IfOk result (λ list. (rel : ℕ) → entries_of rel list ≡ of_relation rel entries.entries) }
-{
-    let mut list = Vec::new(alloc);
-    for (key, row) in entries {
-        list.push(Entry { key, row })?;
-    }
-    Ok(Entries::from_vec(list))
 }
 
 /// The rows of the uses of a query.
@@ -134,6 +131,6 @@ impl Source for Shipped<'_> {
     ) -> Result<Entries, NoMemory> {
         let rows = self.snap.rows_for(alloc, u64::from(before) + 1)?;
         let entries = entries_by_key(alloc, self.cat, rel, conds, rows.as_slice())?;
-        Ok(listed(alloc, entries)?)
+        Ok(entries.into_entries(alloc)?)
     }
 }
