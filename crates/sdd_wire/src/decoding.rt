@@ -26,8 +26,8 @@ fn whole_message(alloc: Global, bytes: &[u8]) -> Result<Msg, WireFault>
 
 /// The message of which the bytes are the whole spelling, or else the place where they break it.
 ///
-/// Costs time and memory linear in the bytes, whatever counts and lengths they tell: no memory is
-/// taken for what isn't there.
+/// Costs time and memory linear in the bytes, whatever counts and lengths they tell: for what isn't
+/// there no memory is taken but room for the first few items of a list.
 pub fn decode(alloc: Global, bytes: &[u8]) -> Result<Msg, WireFault>
     // What is read is spelled so.
     ensures spelled { IfOk result (λ msg. Fits msg × (bytes.now ≡ spelled msg)) }

@@ -58,6 +58,9 @@ impl<A: Spelled> Spelled for Option<A> {
     }
 }
 
+/// A list has room for so many items of its count before the first one is read.
+const FEW: u64 = 32;
+
 fn put_items<T: Spelled>(out: &mut Vec<u8>, items: &[T]) -> Result<(), NoMemory>
     ensures spelling { OnOk result (out.new.items ≡ out.old.items ++ flat_map T.spelling items.now) }
     ensures fits { OnOk result (AllByRecursion T.fits items.now) }
@@ -76,7 +79,7 @@ fn read_items<T: Spelled>(
 ) -> Result<Vec<T>, WireFault>
     ensures { Gives fault_in (λ v. (v.items, source.new)) result (items_at T.reading count source.old) }
 {
-    let mut items = Vec::new(alloc);
+    let mut items = Vec::with_capacity(alloc, count.min(FEW) as usize)?;
     'items: for _ in 0..count {
         items.push(T::read(alloc, source)?)?;
     }
@@ -96,7 +99,8 @@ impl<T: Spelled> Spelled for Listed<T> {
         put_items(out, items)
     }
 
-    /// Takes memory for an item only once it has been read, whatever the count says.
+    /// Takes room for the first few items at once, and for one behind them only once those before
+    /// it have been read, whatever the count says.
     fn read(alloc: Global, source: &mut Source<'_>) -> Result<Self, WireFault> {
         let count = u64::read(alloc, source)?;
         Ok(Listed::from_vec(read_items(alloc, count, source)?))
