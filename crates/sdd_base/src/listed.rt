@@ -109,10 +109,7 @@ impl<T: Exact> Exact for Listed<T> {
 
 impl<T: Parcel> Parcel for Listed<T> {
     fn copy(&self) -> Result<Self, NoMemory> {
-        let mut items = Vec::new(*self.items.allocator());
-        for item in self.as_slice() {
-            items.push(item.copy()?)?;
-        }
+        let items = T::copy_all(*self.items.allocator(), self.as_slice())?;
         Ok(Listed { items })
     }
 }
