@@ -29,7 +29,7 @@ fn open_all(alloc: Global, spellings: Parcels<Spelling>) -> Result<Parcels<Msg>,
     ensures spelled { IfOk result (λ messages. spellings ≡ map spelled messages) }
     ensures fit { IfOk result (λ messages. AllByRecursion Fits messages) }
 {
-    let mut messages = Vec::new(alloc);
+    let mut messages = Vec::with_capacity(alloc, spellings.as_slice().len())?;
     'spellings: for spelling in spellings.as_slice() {
         messages.push(open_one(alloc, spelling)?)?;
     }
