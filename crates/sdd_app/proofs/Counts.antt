@@ -34,4 +34,5 @@ found_if bytes bound m n false y p q e = absurd cc
 pub spelled : (bound : ℕ) (bytes : List ℕ) (n : ℕ) → count_in bound bytes ≡ Some n → (bytes ≡ decimal n) × (n < bound)
 spelled bound bytes n e =
     let m : ℕ = digits_value 10 bytes in
-    found_if bytes bound m n (bytes_eq bytes (decimal m)) (nat_lt m bound) refl refl (sym (by_tests bound bytes m (bytes_eq bytes (decimal m)) (nat_lt m bound) refl refl refl) ∙ e)
+    found_if bytes bound m n (bytes_eq bytes (decimal m)) (nat_lt m bound) refl refl
+    (sym (by_tests bound bytes m (bytes_eq bytes (decimal m)) (nat_lt m bound) refl refl refl) ∙ e)

@@ -43,13 +43,16 @@ accepted_small bytes cat ok =
 
 -- what all files past a limit give alike, and what was read of one up to a byte past it
 
-named_past : {A : Type 0} (limit : ℕ) (give : List ℕ → A) (alike : (a b : List ℕ) → limit < length a → limit < length b → give a ≡ give b) (file : Option (List ℕ)) (read : List ℕ)
-    → IsSome file → IfSome file (λ bytes. (read ≡ take (limit + 1) bytes) × (limit < length bytes)) → limit < length read → option_map give file ≡ Some (give read)
+named_past : {A : Type 0} (limit : ℕ) (give : List ℕ → A) (alike : (a b : List ℕ) → limit < length a
+    → limit < length b → give a ≡ give b) (file : Option (List ℕ)) (read : List ℕ)
+    → IsSome file → IfSome file (λ bytes. (read ≡ take (limit + 1) bytes) × (limit < length bytes))
+    → limit < length read → option_map give file ≡ Some (give read)
 named_past limit give alike None read some p past = absurd cc
 named_past limit give alike (Some bytes) read some p past = ap (λ r. Some r) (alike bytes read p.1 past)
 
 -- what was read of a file gives what the file gives
-pub read_gives : {A : Type 0} (limit : ℕ) (give : List ℕ → A) → ((a b : List ℕ) → limit < length a → limit < length b → give a ≡ give b) → (file : Option (List ℕ)) (read : List ℕ)
+pub read_gives : {A : Type 0} (limit : ℕ) (give : List ℕ → A) → ((a b : List ℕ) → limit < length a
+    → limit < length b → give a ≡ give b) → (file : Option (List ℕ)) (read : List ℕ)
     → ReadsTo limit file read → option_map give file ≡ Some (give read)
 read_gives limit give alike file read r =
     elim (cases_lt limit (length read)) [
@@ -61,7 +64,8 @@ read_gives limit give alike file read r =
 pub long_catalogues : (a b : List ℕ) → MAX_CATALOGUE_BYTES < length a → MAX_CATALOGUE_BYTES < length b → catalogue_in a ≡ catalogue_in b
 long_catalogues a b la lb = too_long a la ∙ sym (too_long b lb)
 
-long_workload : (cat : Catalogue) (bytes : List ℕ) → MAX_WORKLOAD_BYTES < length bytes → workload cat bytes ≡ Err (record { line = 0; rule = work_rules.TooLong })
+long_workload : (cat : Catalogue) (bytes : List ℕ) → MAX_WORKLOAD_BYTES < length bytes
+    → workload cat bytes ≡ Err (record { line = 0; rule = work_rules.TooLong })
 long_workload cat bytes long = let yes : nat_lt MAX_WORKLOAD_BYTES (length bytes) ≡ true = lt-ltb MAX_WORKLOAD_BYTES (length bytes) long in rw yes refl
 
 pub long_workloads : (cat : Catalogue) (a b : List ℕ) → MAX_WORKLOAD_BYTES < length a → MAX_WORKLOAD_BYTES < length b → workload cat a ≡ workload cat b
@@ -80,14 +84,18 @@ accepted_short cat bytes w ok =
 pub catalogue_gives : (result : Result Catalogue Status) (fs : List ShelfFile) (name bytes : List ℕ) → ReadsTo MAX_CATALOGUE_BYTES (find_file fs name) bytes
     → MatchResult result (λ cat. catalogue_in bytes ≡ Ok cat) (λ s. Explains s (BlamesCatalogue (Some (catalogue_in bytes))))
     → MatchResult result (λ cat. catalogue_named fs name ≡ Some (Ok cat)) (λ s. Explains s (BlamesCatalogue (catalogue_named fs name)))
-catalogue_gives (Ok cat) fs name bytes reads e = read_gives MAX_CATALOGUE_BYTES catalogue_in long_catalogues (find_file fs name) bytes reads ∙ ap (λ r. Some r) e
+catalogue_gives (Ok cat) fs name bytes reads e = read_gives MAX_CATALOGUE_BYTES catalogue_in long_catalogues
+    (find_file fs name) bytes reads ∙ ap (λ r. Some r) e
 catalogue_gives (Err s) fs name bytes reads e =
     subst (λ r. Explains s (BlamesCatalogue r)) (sym (read_gives MAX_CATALOGUE_BYTES catalogue_in long_catalogues (find_file fs name) bytes reads)) e
 
-pub workload_gives : (result : Result Workload Status) (fs : List ShelfFile) (cat : Catalogue) (name bytes : List ℕ) → ReadsTo MAX_WORKLOAD_BYTES (find_file fs name) bytes
+pub workload_gives : (result : Result Workload Status) (fs : List ShelfFile) (cat : Catalogue)
+    (name bytes : List ℕ) → ReadsTo MAX_WORKLOAD_BYTES (find_file fs name) bytes
     → MatchResult result (λ w. workload cat bytes ≡ Ok w) (λ s. Explains s (BlamesWorkload (Some (workload cat bytes))))
     → MatchResult result (λ w. workload_named fs cat name ≡ Some (Ok w)) (λ s. Explains s (BlamesWorkload (workload_named fs cat name)))
-workload_gives (Ok w) fs cat name bytes reads e = read_gives MAX_WORKLOAD_BYTES (workload cat) (long_workloads cat) (find_file fs name) bytes reads ∙ ap (λ r. Some r) e
+workload_gives (Ok w) fs cat name bytes reads e =
+    read_gives MAX_WORKLOAD_BYTES (workload cat) (long_workloads cat) (find_file fs name) bytes reads
+    ∙ ap (λ r. Some r) e
 workload_gives (Err s) fs cat name bytes reads e =
     subst (λ r. Explains s (BlamesWorkload r)) (sym (read_gives MAX_WORKLOAD_BYTES (workload cat) (long_workloads cat) (find_file fs name) bytes reads)) e
 
@@ -120,7 +128,8 @@ long_report cat work bytes long =
     let no : nat_le (length bytes) MAX_REPORT_BYTES ≡ false = lt-leb (length bytes) MAX_REPORT_BYTES long in
     rw no refl
 
-pub long_reports : (cat : Catalogue) (work : Workload) (a b : List ℕ) → MAX_REPORT_BYTES < length a → MAX_REPORT_BYTES < length b → judged_as cat work a ≡ judged_as cat work b
+pub long_reports : (cat : Catalogue) (work : Workload) (a b : List ℕ) → MAX_REPORT_BYTES < length a
+    → MAX_REPORT_BYTES < length b → judged_as cat work a ≡ judged_as cat work b
 long_reports cat work a b la lb = long_report cat work a la ∙ sym (long_report cat work b lb)
 
 -- a file that was read to its end, or one byte past the limit, has its end where the limit says so

@@ -36,33 +36,48 @@ named word name e = (bytes_eq-Decides word name).0 e
 has_so : (ws : List (List ℕ)) (x form : Form) → IsForm x → ws ≡ words_of x → Some x ≡ Some form → Has ws form
 has_so ws x form is words e = subst (λ f. Has ws f) (one_form x form e) (record { is = is; words = words })
 
-made_so : (first second : List ℕ) (seed count : Option ℕ) (form : Form) → count_in (2 ^ 31) first ≡ seed → count_in 2049 second ≡ count → made seed count ≡ Some form
+made_so : (first second : List ℕ) (seed count : Option ℕ) (form : Form) → count_in (2 ^ 31) first ≡ seed
+    → count_in 2049 second ≡ count → made seed count ≡ Some form
     → Has (codes "make" ∷ first ∷ second ∷ []) form
 made_so first second (Some s) (Some n) form p q e =
     let seed = spelled (2 ^ 31) first s p in
     let count = spelled 2049 second n q in
-    has_so (codes "make" ∷ first ∷ second ∷ []) (Make s n) form (seed.1, omega (arith, count.1)) (ap (λ w. codes "make" ∷ w ∷ second ∷ []) seed.0 ∙ ap (λ w. codes "make" ∷ decimal s ∷ w ∷ []) count.0) e
+    has_so (codes "make" ∷ first ∷ second ∷ []) (Make s n) form (seed.1, omega (arith, count.1))
+    (ap (λ w. codes "make" ∷ w ∷ second ∷ []) seed.0
+    ∙ ap (λ w. codes "make" ∷ decimal s ∷ w ∷ []) count.0) e
 made_so first second (Some s) None form p q e = absurd cc
 made_so first second None count form p q e = absurd cc
 
-two_so : (name cat : List ℕ) (form : Form) (x y z u v : Bool) → bytes_eq name (codes "check") ≡ x → bytes_eq name (codes "graph") ≡ y → bytes_eq name (codes "table") ≡ z
+two_so : (name cat : List ℕ) (form : Form) (x y z u v : Bool) → bytes_eq name (codes "check") ≡ x
+    → bytes_eq name (codes "graph") ≡ y → bytes_eq name (codes "table") ≡ z
     → bytes_eq name (codes "control") ≡ u → bytes_eq name (codes "advise") ≡ v
-    → cond x (Some (Check cat)) (cond y (Some (Graph cat)) (cond z (Some (Table cat)) (cond u (Some (Control cat)) (cond v (Some (Advise cat)) None)))) ≡ Some form
+    → cond x (Some (Check cat)) (cond y (Some (Graph cat))
+    (cond z (Some (Table cat)) (cond u (Some (Control cat)) (cond v (Some (Advise cat)) None)))) ≡ Some
+    form
     → Has (name ∷ cat ∷ []) form
 two_so name cat form true y z u v p q r t s e = has_so (name ∷ cat ∷ []) (Check cat) form tt (ap (λ w. w ∷ cat ∷ []) (named name (codes "check") p)) e
 two_so name cat form false true z u v p q r t s e = has_so (name ∷ cat ∷ []) (Graph cat) form tt (ap (λ w. w ∷ cat ∷ []) (named name (codes "graph") q)) e
 two_so name cat form false false true u v p q r t s e = has_so (name ∷ cat ∷ []) (Table cat) form tt (ap (λ w. w ∷ cat ∷ []) (named name (codes "table") r)) e
-two_so name cat form false false false true v p q r t s e = has_so (name ∷ cat ∷ []) (Control cat) form tt (ap (λ w. w ∷ cat ∷ []) (named name (codes "control") t)) e
-two_so name cat form false false false false true p q r t s e = has_so (name ∷ cat ∷ []) (Advise cat) form tt (ap (λ w. w ∷ cat ∷ []) (named name (codes "advise") s)) e
+two_so name cat form false false false true v p q r t s e =
+    has_so (name ∷ cat ∷ []) (Control cat) form tt (ap (λ w. w ∷ cat ∷ []) (named name (codes "control") t))
+    e
+two_so name cat form false false false false true p q r t s e =
+    has_so (name ∷ cat ∷ []) (Advise cat) form tt (ap (λ w. w ∷ cat ∷ []) (named name (codes "advise") s)) e
 two_so name cat form false false false false false p q r t s e = absurd cc
 
-three_so : (name first second : List ℕ) (form : Form) (x y z : Bool) → bytes_eq name (codes "run") ≡ x → bytes_eq name (codes "plain") ≡ y → bytes_eq name (codes "make") ≡ z
+three_so : (name first second : List ℕ) (form : Form) (x y z : Bool) → bytes_eq name (codes "run") ≡ x
+    → bytes_eq name (codes "plain") ≡ y → bytes_eq name (codes "make") ≡ z
     → cond x (Some (Run first second)) (cond y (Some (Plain first second)) (cond z (made (count_in (2 ^ 31) first) (count_in 2049 second)) None)) ≡ Some form
     → Has (name ∷ first ∷ second ∷ []) form
-three_so name first second form true y z p q r e = has_so (name ∷ first ∷ second ∷ []) (Run first second) form tt (ap (λ w. w ∷ first ∷ second ∷ []) (named name (codes "run") p)) e
-three_so name first second form false true z p q r e = has_so (name ∷ first ∷ second ∷ []) (Plain first second) form tt (ap (λ w. w ∷ first ∷ second ∷ []) (named name (codes "plain") q)) e
+three_so name first second form true y z p q r e =
+    has_so (name ∷ first ∷ second ∷ []) (Run first second) form tt (ap (λ w. w ∷ first ∷ second ∷ [])
+    (named name (codes "run") p)) e
+three_so name first second form false true z p q r e =
+    has_so (name ∷ first ∷ second ∷ []) (Plain first second) form tt (ap (λ w. w ∷ first ∷ second ∷ [])
+    (named name (codes "plain") q)) e
 three_so name first second form false false true p q r e =
-    subst (λ w. Has (w ∷ first ∷ second ∷ []) form) (sym (named name (codes "make") r)) (made_so first second (count_in (2 ^ 31) first) (count_in 2049 second) form refl refl e)
+    subst (λ w. Has (w ∷ first ∷ second ∷ []) form) (sym (named name (codes "make") r))
+    (made_so first second (count_in (2 ^ 31) first) (count_in 2049 second) form refl refl e)
 three_so name first second form false false false p q r e = absurd cc
 
 four_so : (name cat work report : List ℕ) (form : Form) (x : Bool) → bytes_eq name (codes "verify") ≡ x
@@ -75,8 +90,12 @@ form_has : (ws : List (List ℕ)) (form : Form) → form_in ws ≡ Some form →
 unfolding form_in
 form_has [] form e = absurd cc
 form_has (name ∷ []) form e = absurd cc
-form_has (name ∷ cat ∷ []) form e = two_so name cat form (bytes_eq name (codes "check")) (bytes_eq name (codes "graph")) (bytes_eq name (codes "table")) (bytes_eq name (codes "control")) (bytes_eq name (codes "advise")) refl refl refl refl refl e
-form_has (name ∷ first ∷ second ∷ []) form e = three_so name first second form (bytes_eq name (codes "run")) (bytes_eq name (codes "plain")) (bytes_eq name (codes "make")) refl refl refl e
+form_has (name ∷ cat ∷ []) form e =
+    two_so name cat form (bytes_eq name (codes "check")) (bytes_eq name (codes "graph"))
+    (bytes_eq name (codes "table")) (bytes_eq name (codes "control")) (bytes_eq name (codes "advise")) refl
+    refl refl refl refl e
+form_has (name ∷ first ∷ second ∷ []) form e = three_so name first second form (bytes_eq name (codes "run"))
+    (bytes_eq name (codes "plain")) (bytes_eq name (codes "make")) refl refl refl e
 form_has (name ∷ cat ∷ work ∷ report ∷ []) form e = four_so name cat work report form (bytes_eq name (codes "verify")) refl e
 form_has (name ∷ first ∷ second ∷ third ∷ fourth ∷ rest) form e = absurd cc
 

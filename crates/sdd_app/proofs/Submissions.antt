@@ -16,7 +16,8 @@ use Rattle.std.proofs.lemmas.List.Elements.{filter_map-append, All-nil, All-cons
 
 -- an event adds what it gives
 pub submitted_more : (txns : List Txn) (events : List Event) (i : ℕ) (d : Event) → i < length events
-    → filter_map (submitted_by txns) (take (i + 1) events) ≡ filter_map (submitted_by txns) (take i events) ++ filter_map (submitted_by txns) (get_or events i d ∷ [])
+    → filter_map (submitted_by txns) (take (i + 1) events) ≡ filter_map (submitted_by txns)
+    (take i events) ++ filter_map (submitted_by txns) (get_or events i d ∷ [])
 submitted_more txns events i d within = rw (take_more events i d within, filter_map-append) refl
 
 some_is : {A : Type 0} (x y : A) → Some x ≡ Some y → x ≡ y
@@ -40,7 +41,8 @@ event_fits cat txns Redeclare t all is = absurd cc
 event_fits cat txns (Down dm) t all is = absurd cc
 event_fits cat txns (Up dm) t all is = absurd cc
 
-fits_given : (cat : Catalogue) (txns : List Txn) (e : Event) (events : List Event) (given : Option Txn) → All (IsValidTxn cat) txns → submitted_by txns e ≡ given
+fits_given : (cat : Catalogue) (txns : List Txn) (e : Event) (events : List Event) (given : Option Txn)
+    → All (IsValidTxn cat) txns → submitted_by txns e ≡ given
     → All (Fits cat) (filter_map (submitted_by txns) events) → All (Fits cat) (filter_map (submitted_by txns) (e ∷ events))
 fits_given cat txns e events None all is rest = rw is rest
 fits_given cat txns e events (Some t) all is rest = rw is (All-cons (Fits cat) t (filter_map (submitted_by txns) events) (event_fits cat txns e t all is) rest)
@@ -56,12 +58,14 @@ lent_fit cat (t ∷ txns) all =
     All-cons (λ (u : Bor Txn). Fits cat u.now) t txns (All-head (Fits cat) t.now given all) (lent_fit cat txns (All-tail (Fits cat) t.now given all))
 
 -- the transactions that a valid workload submits fit its catalogue
-pub submitted_fit : (cat : Catalogue) (w : Workload) (txns : List (Bor Txn)) → IsValid cat w → map (λ t. t.now) txns ≡ submitted w → All (λ (t : Bor Txn). Fits cat t.now) txns
+pub submitted_fit : (cat : Catalogue) (w : Workload) (txns : List (Bor Txn)) → IsValid cat w
+    → map (λ t. t.now) txns ≡ submitted w → All (λ (t : Bor Txn). Fits cat t.now) txns
 submitted_fit cat w txns valid is = lent_fit cat txns (rw is (all_fit cat w.txns w.events valid.txns))
 
 start_fits : (cat : Catalogue) (rows : List (RelNo × List Value)) → All (IsValidRow cat) rows → All (FitsStart cat) rows
 start_fits cat [] all = All-nil (FitsStart cat)
-start_fits cat (r ∷ rows) all = All-cons (FitsStart cat) r rows (All-head (IsValidRow cat) r rows all).fits (start_fits cat rows (All-tail (IsValidRow cat) r rows all))
+start_fits cat (r ∷ rows) all = All-cons (FitsStart cat) r rows (All-head (IsValidRow cat) r rows all).fits
+    (start_fits cat rows (All-tail (IsValidRow cat) r rows all))
 
 -- and so do its rows
 pub rows_fit : (cat : Catalogue) (w : Workload) → IsValid cat w → All (FitsStart cat) w.rows

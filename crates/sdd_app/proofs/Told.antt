@@ -20,7 +20,17 @@ end_more (Some xs) a b = ap (λ (l : List ℕ). Some l) (append_assoc xs a b)
 -- all of it was taken
 pub took_all : (sure : ℕ → Type 0) (before now : Option (List ℕ)) (f g : ℕ) (text : List ℕ) → now ≡ with_end before text → f ≤ g
     → ((room : ℕ) → sure room → length text ≤ room → g ≡ f) → TakesOrFaults sure before now f g text
-took_all sure before now f g text done later still = record { later = later; still = still; front = (length text, rw (take_all (length text) text (omega arith)) done, λ lt. absurd (omega arith)) }
+took_all sure before now f g text done later still = record {
+  later = later;
+  still =
+      still;
+  front = (
+    length text,
+    rw (take_all (length text) text (omega arith)) done,
+    λ lt. absurd
+        (omega arith),
+  );
+}
 
 rose_since : (f g h : ℕ) → f ≤ g → Rose g h → Rose f h
 rose_since f g h a b = omega arith
@@ -42,13 +52,23 @@ piece_fits text front piece rest e =
     omega (arith, whole, parts, first)
 
 -- a front of it was taken, up to a part of a piece at which the sink failed
-pub took_front : (sure : ℕ → Type 0) (before middle now : Option (List ℕ)) (f g h : ℕ) (text front piece rest : List ℕ) (n : ℕ) → text ≡ (front ++ piece) ++ rest
+pub took_front : (sure : ℕ → Type 0) (before middle now : Option (List ℕ)) (f g h : ℕ)
+    (text front piece rest : List ℕ) (n : ℕ) → text ≡ (front ++ piece) ++ rest
     → middle ≡ with_end before front → f ≤ g → now ≡ with_end middle (take n piece) → g ≤ h → Rose g h
     → ((room : ℕ) → sure room → length text ≤ room → length front + length piece ≤ room → ⊥) → TakesOrFaults sure before now f h text
 took_front sure before middle now f g h text front piece rest n e taken later more last rose unsure = record {
   still = λ room s fits. absurd (unsure room s fits (omega (arith, fits, piece_fits text front piece rest e)));
   later = omega arith;
-  front = (length (front ++ take n piece), rw (seam text front piece rest n e, sym (end_more before front (take n piece))) (more ∙ ap (λ (t : Option (List ℕ)). with_end t (take n piece)) taken), λ lt. rose_since f g h later rose);
+  front = (
+    length (front ++ take n piece),
+    rw (
+      seam text front piece rest n e,
+      sym (end_more before front
+          (take n piece)),
+    ) (more ∙ ap (λ (t : Option (List ℕ)). with_end t (take n piece)) taken),
+    λ lt.
+        rose_since f g h later rose,
+  );
 }
 
 -- what stands for the items is that for those before one, for it, and for the rest
@@ -73,7 +93,9 @@ one_told x y e = cc
 pub reads_back : (limit : ℕ) (file : Option (List ℕ)) (read bytes : List ℕ) → ReadsTo limit file read → file ≡ Some bytes → length bytes ≤ limit → read ≡ bytes
 reads_back limit file read bytes r e fits =
     elim (cases_lt limit (length read)) [
-      | inl past ↦ let p : IfSome (Some bytes) (λ bs. (read ≡ take (limit + 1) bs) × (limit < length bs)) = subst (λ (o : Option (List ℕ)). IfSome o (λ bs. (read ≡ take (limit + 1) bs) × (limit < length bs))) e (r.past past) in absurd (omega (arith, p.1))
+      | inl past ↦ let p : IfSome (Some bytes) (λ bs. (read ≡ take (limit + 1) bs) × (limit < length bs)) =
+          subst (λ (o : Option (List ℕ)). IfSome o (λ bs. (read ≡ take (limit + 1) bs) × (limit < length bs)))
+          e (r.past past) in absurd (omega (arith, p.1))
       | inr within ↦ one_told read bytes (sym (r.whole within) ∙ e)
     ]
 
@@ -84,14 +106,16 @@ flat_next f xs i d lt =
     ap (λ ys. flat_map f ys) (take_more xs i d lt) ∙ flat_map-append f (take i xs) (slice_index_or xs i d ∷ [])
     ∙ ap (λ l. flat_map f (take i xs) ++ l) (append-nil (f (slice_index_or xs i d)))
 
-pub more_taken : (before middle now : Option (List ℕ)) (front piece next : List ℕ) → middle ≡ with_end before front → now ≡ with_end middle piece → next ≡ front ++ piece
+pub more_taken : (before middle now : Option (List ℕ)) (front piece next : List ℕ)
+    → middle ≡ with_end before front → now ≡ with_end middle piece → next ≡ front ++ piece
     → now ≡ with_end before next
 more_taken before middle now front piece next taken more e =
     more ∙ ap (λ (t : Option (List ℕ)). with_end t piece) taken ∙ end_more before front piece ∙ ap (λ (l : List ℕ). with_end before l) (sym e)
 
 -- a sink that was sure to take all is sure to take what is left
 pub piece_more : (sure_middle sure_now : ℕ → Type 0) (before middle now room : ℕ) (text front piece next rest : List ℕ)
-    → ((left : ℕ) → length piece ≤ left → sure_middle left → sure_now (left - length piece)) → ((left : ℕ) → length piece ≤ left → sure_middle left → now ≡ middle)
+    → ((left : ℕ) → length piece ≤ left → sure_middle left → sure_now (left - length piece))
+    → ((left : ℕ) → length piece ≤ left → sure_middle left → now ≡ middle)
     → next ≡ front ++ piece → text ≡ (front ++ piece) ++ rest → length text ≤ room
     → sure_middle (room - length front) × (middle ≡ before) → sure_now (room - length next) × (now ≡ before)
 piece_more sure_middle sure_now before middle now room text front piece next rest goes stands e whole fits was =

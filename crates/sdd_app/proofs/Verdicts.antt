@@ -55,17 +55,21 @@ blamed_at reading G (FaultyWorkload f) e = absurd e
 blamed_at reading G PastLimit e = absurd e
 blamed_at reading G NotBuilt e = absurd e
 
-pub blamed : (fs : List ShelfFile) (name : List ℕ) (G : Catalogue → Verdict → Type 0) (v : Verdict) → BlamesCatalogue (catalogue_named fs name) v → OverCatalogue fs name G v
+pub blamed : (fs : List ShelfFile) (name : List ℕ) (G : Catalogue → Verdict → Type 0) (v : Verdict)
+    → BlamesCatalogue (catalogue_named fs name) v → OverCatalogue fs name G v
 blamed fs name G v e = blamed_at (catalogue_named fs name) G v e
 
-pub goes_on : (fs : List ShelfFile) (name : List ℕ) (G : Catalogue → Verdict → Type 0) (cat : Catalogue) (v : Verdict) → catalogue_named fs name ≡ Some (Ok cat) → G cat v → OverCatalogue fs name G v
+pub goes_on : (fs : List ShelfFile) (name : List ℕ) (G : Catalogue → Verdict → Type 0) (cat : Catalogue)
+    (v : Verdict) → catalogue_named fs name ≡ Some (Ok cat) → G cat v → OverCatalogue fs name G v
 goes_on fs name G cat v e g = subst (λ r. Over r G v) (sym e) g
 
-over_at : (reading : Option (Result Catalogue CatFault)) (G : Catalogue → Verdict → Type 0) (cat : Catalogue) (v : Verdict) → Over reading G v → reading ≡ Some (Ok cat) → G cat v
+over_at : (reading : Option (Result Catalogue CatFault)) (G : Catalogue → Verdict → Type 0)
+    (cat : Catalogue) (v : Verdict) → Over reading G v → reading ≡ Some (Ok cat) → G cat v
 over_at reading G cat v over e = subst (λ r. Over r G v) e over
 
 -- a faulty workload is what `plain` comes to, and `run`
-pub blamed_plain : (fs : List ShelfFile) (work : List ℕ) (cat : Catalogue) (v : Verdict) → BlamesWorkload (workload_named fs cat work) v → ComesToPlain fs work cat v
+pub blamed_plain : (fs : List ShelfFile) (work : List ℕ) (cat : Catalogue) (v : Verdict)
+    → BlamesWorkload (workload_named fs cat work) v → ComesToPlain fs work cat v
 blamed_plain fs work cat (FaultyWorkload f) e = ap (λ r. option_map (plain_verdict cat) r) e
 blamed_plain fs work cat NoForm e = absurd e
 blamed_plain fs work cat (Prints text) e = absurd e
@@ -84,7 +88,8 @@ blamed_work reading G (FaultyCatalogue f) e = absurd e
 blamed_work reading G PastLimit e = absurd e
 blamed_work reading G NotBuilt e = absurd e
 
-pub blamed_run : (fs : List ShelfFile) (work : List ℕ) (cat : Catalogue) (v : Verdict) → BlamesWorkload (workload_named fs cat work) v → ComesToRun fs work cat v
+pub blamed_run : (fs : List ShelfFile) (work : List ℕ) (cat : Catalogue) (v : Verdict)
+    → BlamesWorkload (workload_named fs cat work) v → ComesToRun fs work cat v
 blamed_run fs work cat v e = blamed_work (workload_named fs cat work) (ComesToReport cat) v e
 
 pub blamed_verify : (fs : List ShelfFile) (work report : List ℕ) (cat : Catalogue) (v : Verdict) → BlamesWorkload (workload_named fs cat work) v
@@ -92,11 +97,13 @@ pub blamed_verify : (fs : List ShelfFile) (work report : List ℕ) (cat : Catalo
 blamed_verify fs work report cat v e = blamed_work (workload_named fs cat work) (ComesToJudgement fs report cat) v e
 
 -- over a workload that was read
-pub replies_plain : (fs : List ShelfFile) (work : List ℕ) (cat : Catalogue) (w : Workload) (text : List ℕ) → workload_named fs cat work ≡ Some (Ok w) → text ≡ serial_text cat w
+pub replies_plain : (fs : List ShelfFile) (work : List ℕ) (cat : Catalogue) (w : Workload) (text : List ℕ)
+    → workload_named fs cat work ≡ Some (Ok w) → text ≡ serial_text cat w
     → ComesToPlain fs work cat (Prints text)
 replies_plain fs work cat w text e is = ap (λ r. option_map (plain_verdict cat) r) e ∙ ap (λ t. Some (Prints t)) (sym is)
 
-pub reports_run : (fs : List ShelfFile) (work : List ℕ) (cat : Catalogue) (w : Workload) (v : Verdict) → workload_named fs cat work ≡ Some (Ok w) → ComesToReport cat w v
+pub reports_run : (fs : List ShelfFile) (work : List ℕ) (cat : Catalogue) (w : Workload) (v : Verdict)
+    → workload_named fs cat work ≡ Some (Ok w) → ComesToReport cat w v
     → ComesToRun fs work cat v
 reports_run fs work cat w v e p = subst (λ r. OverWork r (ComesToReport cat) v) (sym e) p
 
@@ -113,7 +120,8 @@ blamed_control fs name (FaultyCatalogue f) e = absurd e
 blamed_control fs name PastLimit e = absurd e
 blamed_control fs name NotBuilt e = absurd e
 
-pub reports_control : (fs : List ShelfFile) (name : List ℕ) (script : ControlScript) (text : List ℕ) → script_named fs name ≡ Some (Ok script) → text ≡ report script
+pub reports_control : (fs : List ShelfFile) (name : List ℕ) (script : ControlScript) (text : List ℕ)
+    → script_named fs name ≡ Some (Ok script) → text ≡ report script
     → ComesToControl fs name (Prints text)
 reports_control fs name script text e is = ap (λ r. option_map control_verdict r) e ∙ ap (λ t. Some (Prints t)) (sym is)
 
@@ -144,7 +152,8 @@ one_listing listing cat (FaultyWorkload f) w p q = absurd p
 one_listing listing cat PastLimit w p q = absurd p
 one_listing listing cat NotBuilt w p q = absurd p
 
-one_plain : (fs : List ShelfFile) (work : List ℕ) (cat : Catalogue) (v w : Verdict) → ComesToPlain fs work cat v → ComesToPlain fs work cat w → status_of v ≡ status_of w
+one_plain : (fs : List ShelfFile) (work : List ℕ) (cat : Catalogue) (v w : Verdict)
+    → ComesToPlain fs work cat v → ComesToPlain fs work cat w → status_of v ≡ status_of w
 one_plain fs work cat v w p q = ap status_of (one_verdict (option_map (plain_verdict cat) (workload_named fs cat work)) v w p q)
 
 -- no run that is told of is ended by the limit
@@ -191,13 +200,15 @@ answers_if_built (Err s) text cat work none p =
 one_summary : (cat : Catalogue) (work : Workload) (v w : Verdict) → ComesToSummary cat work v → ComesToSummary cat work w → status_of v ≡ status_of w
 one_summary cat work v w p q = one_of_run (IsSummaryOn cat work) cat work (summary_or_limit cat work) v w p q
 
-one_over_work : (reading : Option (Result Workload WorkFault)) (G : Workload → Verdict → Type 0) (v w : Verdict) → ((work : Workload) → G work v → G work w → status_of v ≡ status_of w)
+one_over_work : (reading : Option (Result Workload WorkFault)) (G : Workload → Verdict → Type 0)
+    (v w : Verdict) → ((work : Workload) → G work v → G work w → status_of v ≡ status_of w)
     → OverWork reading G v → OverWork reading G w → status_of v ≡ status_of w
 one_over_work None G v w one p q = absurd p
 one_over_work (Some (Ok work)) G v w one p q = one work p q
 one_over_work (Some (Err f)) G v w one p q = ap status_of (p ∙ sym q)
 
-one_run : (fs : List ShelfFile) (work : List ℕ) (cat : Catalogue) (v w : Verdict) → ComesToRun fs work cat v → ComesToRun fs work cat w → status_of v ≡ status_of w
+one_run : (fs : List ShelfFile) (work : List ℕ) (cat : Catalogue) (v w : Verdict) → ComesToRun fs work cat v
+    → ComesToRun fs work cat w → status_of v ≡ status_of w
 one_run fs work cat v w p q = one_over_work (workload_named fs cat work) (ComesToReport cat) v w (λ k a b. one_report cat k v w a b) p q
 
 -- the report on a workload with lists of classes, or without
@@ -205,26 +216,32 @@ one_run fs work cat v w p q = one_over_work (workload_named fs cat work) (ComesT
 abbrev JudgedUnless : Bool → List ShelfFile → List ℕ → Catalogue → Workload → Verdict → Type 0
 JudgedUnless lists fs report cat work verdict = MatchBool lists (verdict ≡ NotBuilt) (ComesToVerdict fs report cat work verdict)
 
-one_judgement : (lists : Bool) (fs : List ShelfFile) (report : List ℕ) (cat : Catalogue) (work : Workload) (v w : Verdict) → JudgedUnless lists fs report cat work v
+one_judgement : (lists : Bool) (fs : List ShelfFile) (report : List ℕ) (cat : Catalogue) (work : Workload)
+    (v w : Verdict) → JudgedUnless lists fs report cat work v
     → JudgedUnless lists fs report cat work w → status_of v ≡ status_of w
 one_judgement true fs report cat work v w p q = ap status_of (p ∙ sym q)
 one_judgement false fs report cat work v w p q = ap status_of (one_verdict (option_map (judged_as cat work) (find_file fs report)) v w p q)
 
-pub is_not_judged : (fs : List ShelfFile) (report : List ℕ) (cat : Catalogue) (work : Workload) → has_lists work ≡ true → ComesToJudgement fs report cat work NotBuilt
+pub is_not_judged : (fs : List ShelfFile) (report : List ℕ) (cat : Catalogue) (work : Workload)
+    → has_lists work ≡ true → ComesToJudgement fs report cat work NotBuilt
 is_not_judged fs report cat work lists = subst (λ b. JudgedUnless b fs report cat work NotBuilt) (sym lists) refl
 
-pub judged_if_built : {T : Type 0} (r : Result T Status) (text : T → List ℕ) (fs : List ShelfFile) (report : List ℕ) (cat : Catalogue) (work : Workload) → has_lists work ≡ false
+pub judged_if_built : {T : Type 0} (r : Result T Status) (text : T → List ℕ) (fs : List ShelfFile)
+    (report : List ℕ) (cat : Catalogue) (work : Workload) → has_lists work ≡ false
     → Answers r text (ComesToVerdict fs report cat work) → Answers r text (ComesToJudgement fs report cat work)
 judged_if_built (Ok x) text fs report cat work none p = subst (λ b. JudgedUnless b fs report cat work (Prints (text x))) (sym none) p
 judged_if_built (Err s) text fs report cat work none p =
-    explains_more s (ComesToVerdict fs report cat work) (ComesToJudgement fs report cat work) (λ v q. subst (λ b. JudgedUnless b fs report cat work v) (sym none) q) p
+    explains_more s (ComesToVerdict fs report cat work) (ComesToJudgement fs report cat work)
+    (λ v q. subst (λ b. JudgedUnless b fs report cat work v) (sym none) q) p
 
-one_judged : (fs : List ShelfFile) (work report : List ℕ) (cat : Catalogue) (v w : Verdict) → ComesToVerify fs work report cat v → ComesToVerify fs work report cat w
+one_judged : (fs : List ShelfFile) (work report : List ℕ) (cat : Catalogue) (v w : Verdict)
+    → ComesToVerify fs work report cat v → ComesToVerify fs work report cat w
     → status_of v ≡ status_of w
 one_judged fs work report cat v w p q =
     one_over_work (workload_named fs cat work) (ComesToJudgement fs report cat) v w (λ k a b. one_judgement (has_lists k) fs report cat k v w a b) p q
 
-one_over : (reading : Option (Result Catalogue CatFault)) (G : Catalogue → Verdict → Type 0) (v w : Verdict) → ((cat : Catalogue) → G cat v → G cat w → status_of v ≡ status_of w)
+one_over : (reading : Option (Result Catalogue CatFault)) (G : Catalogue → Verdict → Type 0) (v w : Verdict)
+    → ((cat : Catalogue) → G cat v → G cat w → status_of v ≡ status_of w)
     → Over reading G v → Over reading G w → status_of v ≡ status_of w
 one_over None G v w one p q = absurd p
 one_over (Some (Ok cat)) G v w one p q = one cat p q
@@ -238,10 +255,14 @@ one_of_form fs (Run cat work) v w p q = one_over (catalogue_named fs cat) (Comes
 one_of_form fs (Plain cat work) v w p q = one_over (catalogue_named fs cat) (ComesToPlain fs work) v w (λ c a b. one_plain fs work c v w a b) p q
 one_of_form fs (Control file) v w p q = ap status_of (one_verdict (option_map control_verdict (script_named fs file)) v w p q)
 one_of_form fs (Make seed count) v w p q = one_summary bank (workload_of seed count) v w p q
-one_of_form fs (Verify cat work report) v w p q = one_over (catalogue_named fs cat) (ComesToVerify fs work report) v w (λ c a b. one_judged fs work report c v w a b) p q
-one_of_form fs (Advise cat) v w p q = one_over (catalogue_named fs cat) (ComesToListing listings.Advice) v w (λ c a b. one_listing listings.Advice c v w a b) p q
+one_of_form fs (Verify cat work report) v w p q =
+    one_over (catalogue_named fs cat) (ComesToVerify fs work report) v w
+    (λ c a b. one_judged fs work report c v w a b) p q
+one_of_form fs (Advise cat) v w p q = one_over (catalogue_named fs cat) (ComesToListing listings.Advice) v w
+    (λ c a b. one_listing listings.Advice c v w a b) p q
 
-one_of_words : (fs : List ShelfFile) (form : Option Form) (v w : Verdict) → MatchOption form (v ≡ NoForm) (λ f. FormComesTo fs f v) → MatchOption form (w ≡ NoForm) (λ f. FormComesTo fs f w)
+one_of_words : (fs : List ShelfFile) (form : Option Form) (v w : Verdict) → MatchOption form (v ≡ NoForm)
+    (λ f. FormComesTo fs f v) → MatchOption form (w ≡ NoForm) (λ f. FormComesTo fs f w)
     → status_of v ≡ status_of w
 one_of_words fs None v w p q = ap status_of (p ∙ sym q)
 one_of_words fs (Some form) v w p q = one_of_form fs form v w p q
@@ -250,7 +271,9 @@ pub one_status : (fs : List ShelfFile) (ws : List (List ℕ)) (v w : Verdict) �
 one_status fs ws v w p q = one_of_words fs (form_in ws) v w p q
 
 -- a call that printed no text told what it comes to, unless the shelf failed or memory ran out
-by_status : (s : Status) (P : Verdict → Type 0) (v : Verdict) → ((w : Verdict) → P w → status_of w ≡ status_of v) → Explains s P → (s ≡ ReadFault → ⊥) → (s ≡ status_of v) ⊎ (s ≡ NoMemory)
+by_status : (s : Status) (P : Verdict → Type 0) (v : Verdict)
+    → ((w : Verdict) → P w → status_of w ≡ status_of v) → Explains s P → (s ≡ ReadFault → ⊥)
+    → (s ≡ status_of v) ⊎ (s ≡ NoMemory)
 by_status Done P v one e read = absurd e
 by_status Usage P v one e read = inl (one NoForm e)
 by_status (BadCatalogue f) P v one e read = inl (one (FaultyCatalogue f) e)
@@ -261,7 +284,8 @@ by_status NoMemory P v one e read = inr refl
 by_status Limit P v one e read = inl (one PastLimit e)
 by_status Unbuilt P v one e read = inl (one NotBuilt e)
 
-pub told_status : (s : Status) (fs : List ShelfFile) (ws : List (List ℕ)) (v : Verdict) → ComesTo fs ws v → Explains s (ComesTo fs ws) → (s ≡ ReadFault → ⊥) → (s ≡ status_of v) ⊎ (s ≡ NoMemory)
+pub told_status : (s : Status) (fs : List ShelfFile) (ws : List (List ℕ)) (v : Verdict) → ComesTo fs ws v
+    → Explains s (ComesTo fs ws) → (s ≡ ReadFault → ⊥) → (s ≡ status_of v) ⊎ (s ≡ NoMemory)
 told_status s fs ws v comes e read = by_status s (ComesTo fs ws) v (λ w p. one_status fs ws w v p comes) e read
 
 done_refuses : (v : Verdict) → IsRefusal v → Done ≡ status_of v → ⊥
@@ -273,7 +297,8 @@ done_refuses PastLimit r e = absurd cc
 done_refuses NotBuilt r e = absurd cc
 
 -- a call that prints isn't refused
-pub prints_or_refuses : (fs : List ShelfFile) (ws : List (List ℕ)) (text : List ℕ) (v : Verdict) → ComesTo fs ws (Prints text) → ComesTo fs ws v → IsRefusal v → ⊥
+pub prints_or_refuses : (fs : List ShelfFile) (ws : List (List ℕ)) (text : List ℕ) (v : Verdict)
+    → ComesTo fs ws (Prints text) → ComesTo fs ws v → IsRefusal v → ⊥
 prints_or_refuses fs ws text v p q r = done_refuses v r (one_status fs ws (Prints text) v p q)
 
 -- the files of a call that comes to something are there
@@ -285,12 +310,14 @@ file_there give G (Some bytes) p = refl
 over_there : (fs : List ShelfFile) (name : List ℕ) (G : Catalogue → Verdict → Type 0) (v : Verdict) → OverCatalogue fs name G v → IsSome (find_file fs name)
 over_there fs name G v p = file_there catalogue_in (λ r. MatchResult r (λ cat. G cat v) (λ fault. v ≡ FaultyCatalogue fault)) (find_file fs name) p
 
-work_there : {A : Type 0} (give : List ℕ → A) (verdict : A → Verdict) (v : Verdict) (file : Option (List ℕ)) → option_map verdict (option_map give file) ≡ Some v → IsSome file
+work_there : {A : Type 0} (give : List ℕ → A) (verdict : A → Verdict) (v : Verdict) (file : Option (List ℕ))
+    → option_map verdict (option_map give file) ≡ Some v → IsSome file
 work_there give verdict v None e = absurd cc
 work_there give verdict v (Some bytes) e = refl
 
 run_there : (fs : List ShelfFile) (work : List ℕ) (cat : Catalogue) (v : Verdict) → ComesToRun fs work cat v → IsSome (find_file fs work)
-run_there fs work cat v p = file_there (workload cat) (λ r. MatchResult r (λ w. ComesToReport cat w v) (λ fault. v ≡ FaultyWorkload fault)) (find_file fs work) p
+run_there fs work cat v p = file_there (workload cat) (λ r. MatchResult r (λ w. ComesToReport cat w v)
+    (λ fault. v ≡ FaultyWorkload fault)) (find_file fs work) p
 
 some_there : {A : Type 0} (give : List ℕ → A) (v : A) (file : Option (List ℕ)) → option_map give file ≡ Some v → IsSome file
 some_there give v None e = absurd cc
@@ -331,11 +358,13 @@ form_there fs (Verify cat work report) v p = (
   λ says asks e f none.
       some_there (judged_as says asks) v (find_file fs report)
       (subst (λ b. JudgedUnless b fs report says asks v) none
-      (over_work_at (workload_named fs says work) (ComesToJudgement fs report says) asks v (over_at (catalogue_named fs cat) (ComesToVerify fs work report) says v p e) f)),
+      (over_work_at (workload_named fs says work) (ComesToJudgement fs report says) asks v
+      (over_at (catalogue_named fs cat) (ComesToVerify fs work report) says v p e) f)),
 )
 form_there fs (Advise cat) v p = over_there fs cat (ComesToListing listings.Advice) v p
 
-words_there : (fs : List ShelfFile) (form : Option Form) (v : Verdict) → MatchOption form (v ≡ NoForm) (λ f. FormComesTo fs f v) → MatchOption form (Unit {0}) (FilesOf fs)
+words_there : (fs : List ShelfFile) (form : Option Form) (v : Verdict) → MatchOption form (v ≡ NoForm)
+    (λ f. FormComesTo fs f v) → MatchOption form (Unit {0}) (FilesOf fs)
 words_there fs None v p = tt
 words_there fs (Some form) v p = form_there fs form v p
 
@@ -359,7 +388,8 @@ two_ended files files2 was between now unread_between unread_now was_unread f g 
     }
 
 -- and a third
-pub three_ended : (files files2 files3 : Option (List ShelfFile)) (was second third now : ℕ → Type 0) (was_unread unread2 unread3 unread : ℕ → Option (List ℕ)) (limit : ℕ)
+pub three_ended : (files files2 files3 : Option (List ShelfFile)) (was second third now : ℕ → Type 0)
+    (was_unread unread2 unread3 unread : ℕ → Option (List ℕ)) (limit : ℕ)
     (name : List ℕ) (f g h : ℕ) → files3 ≡ files
     → IsRead files was second unread2 ToItsEnd f → KeepsOpen (λ _. Unit {0}) was second was_unread unread2
     → IsRead files2 second third unread3 ToItsEnd g → KeepsOpen (λ _. Unit {0}) second third unread2 unread3
@@ -392,6 +422,7 @@ pub one_ended : (files : Option (List ShelfFile)) (was now : ℕ → Type 0) (un
 one_ended files was now unread f first = record { files = f ∷ []; read = (first, tt, tt) }
 
 -- of a command that reads no file
-pub none_read : {T : Type 0} (r : Result T Status) (files : Option (List ShelfFile)) (was now : ℕ → Type 0) (unread : ℕ → Option (List ℕ)) → OnOk r (FilesRead files was now unread [])
+pub none_read : {T : Type 0} (r : Result T Status) (files : Option (List ShelfFile)) (was now : ℕ → Type 0)
+    (unread : ℕ → Option (List ℕ)) → OnOk r (FilesRead files was now unread [])
 none_read (Ok v) files was now unread = record { files = []; read = tt }
 none_read (Err s) files was now unread = tt

@@ -21,7 +21,13 @@ abbrev pub submitted : Workload → List Txn
 submitted w = filter_map (submitted_by w.txns) w.events
 
 -- worked: the second is submitted before the first, and the third isn't
-pub second_first : (a b c : Txn) → submitted (record { rows = []; txns = a ∷ b ∷ c ∷ []; lists = []; events = Submit (record { 0 = 2 }) ∷ Settle ∷ Submit (record { 0 = 1 }) ∷ [] }) ≡ b ∷ a ∷ []
+pub second_first : (a b c : Txn) → submitted (record {
+  rows = [];
+  txns = a ∷ b ∷ c ∷ [];
+  lists =
+      [];
+  events = Submit (record { 0 = 2 }) ∷ Settle ∷ Submit (record { 0 = 1 }) ∷ [];
+}) ≡ b ∷ a ∷ []
 second_first a b c = refl
 
 abbrev pub names_of : List Txn → List (List ℕ)

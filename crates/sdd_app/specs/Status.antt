@@ -62,7 +62,8 @@ counted_words (rules_of.TooFew what) = counted_word what
 counted_words rule = []
 
 abbrev pub fault_line : CatFault → List ℕ
-fault_line fault = codes "catalogue: " ++ (part_word fault.part ++ (number_word fault.part fault.number ++ (codes ": " ++ (rule_word fault.rule ++ (counted_words fault.rule ++ codes "\n")))))
+fault_line fault = codes "catalogue: " ++ (part_word fault.part ++ (number_word fault.part
+    fault.number ++ (codes ": " ++ (rule_word fault.rule ++ (counted_words fault.rule ++ codes "\n")))))
 
 abbrev pub work_rule_word : WorkRule → List ℕ
 work_rule_word work_rules.NotUtf8 = codes "NotUtf8"
@@ -124,11 +125,22 @@ number_of_status NoMemory = 8
 number_of_status Unbuilt = 9
 
 -- worked: a gap before the second fragment, and too many classes
-pub gap_line : line_of (BadCatalogue (record { rule = rules_of.RangeGap; part = parts.Fragment; number = 2 })) ≡ codes "catalogue: fragment " ++ (decimal 2 ++ codes ": RangeGap\n")
+pub gap_line : line_of (BadCatalogue (record {
+  rule = rules_of.RangeGap;
+  part = parts.Fragment;
+  number =
+      2;
+})) ≡ codes "catalogue: fragment " ++ (decimal 2 ++ codes ": RangeGap\n")
 gap_line = refl
 
-pub many_line : line_of (BadCatalogue (record { rule = rules_of.TooMany counted.Class; part = parts.Top; number = 0 })) ≡ codes "catalogue: top: TooMany class\n"
+pub many_line : line_of (BadCatalogue (record {
+  rule = rules_of.TooMany counted.Class;
+  part =
+      parts.Top;
+  number = 0;
+})) ≡ codes "catalogue: top: TooMany class\n"
 many_line = refl
 
-pub twice_line : line_of (BadWorkload (record { line = 5; rule = work_rules.SubmittedTwice })) ≡ codes "workload: line " ++ (decimal 5 ++ codes ": SubmittedTwice\n")
+pub twice_line : line_of (BadWorkload (record { line = 5; rule = work_rules.SubmittedTwice })) ≡ codes
+    "workload: line " ++ (decimal 5 ++ codes ": SubmittedTwice\n")
 twice_line = refl

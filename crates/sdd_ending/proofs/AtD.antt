@@ -88,7 +88,8 @@ module _ (s : Setting) (log : Log) where
 
   -- what a head does
 
-  judged_falls : (h : Home) (v : View) (c n : ℕ) (ts : Ts) (class : ClassNo) (txn : TxnNo) (attempt : ℕ) (conds : List Cond) (uses : List Use) (step : Step) (act : Act)
+  judged_falls : (h : Home) (v : View) (c n : ℕ) (ts : Ts) (class : ClassNo) (txn : TxnNo) (attempt : ℕ)
+      (conds : List Cond) (uses : List Use) (step : Step) (act : Act)
       → slice_get (classes_of s) n ≡ Some c → head (pipe c log) ≡ Some (Read ts class txn attempt conds uses) → waits c log ≡ false
       → act_by h v c (Read ts class txn attempt conds uses) step ≡ act → d_work s (Did act ∷ log) < d_work s log
   judged_falls h v c n ts class txn attempt conds uses Processes act at top idle e =
@@ -113,7 +114,8 @@ module _ (s : Setting) (log : Log) where
       subst (λ x. d_work s (Did x ∷ log) < d_work s log) (same_Some (act_by h v c m Processes) act e)
       (processing c n (Apply txn class h.dm ts) (sends_of_act (act_by h v c m Processes)) m at top refl refl)
 
-  answered_falls : (h : Home) (v : View) (c n : ℕ) (ts : Ts) (class : ClassNo) (txn : TxnNo) (attempt : ℕ) (conds : List Cond) (uses : List Use) (b : Bool) (act : Act)
+  answered_falls : (h : Home) (v : View) (c n : ℕ) (ts : Ts) (class : ClassNo) (txn : TxnNo) (attempt : ℕ)
+      (conds : List Cond) (uses : List Use) (b : Bool) (act : Act)
       → slice_get (classes_of s) n ≡ Some c → head (pipe c log) ≡ Some (Read ts class txn attempt conds uses)
       → act_where h v c (Some (Read ts class txn attempt conds uses)) (if b then Some Processes else None) ≡ Some act → d_work s (Did act ∷ log) < d_work s log
   answered_falls h v c n ts class txn attempt conds uses false act at top e = absurd (cc)
@@ -122,14 +124,16 @@ module _ (s : Setting) (log : Log) where
       subst (λ x. d_work s (Did x ∷ log) < d_work s log) (same_Some (act_by h v c m Processes) act e)
       (processing c n (Answer txn attempt h.dm) (sends_of_act (act_by h v c m Processes)) m at top refl refl)
 
-  read_falls : (h : Home) (v : View) (c n : ℕ) (ts : Ts) (class : ClassNo) (txn : TxnNo) (attempt : ℕ) (conds : List Cond) (uses : List Use) (w : Bool) (act : Act)
+  read_falls : (h : Home) (v : View) (c n : ℕ) (ts : Ts) (class : ClassNo) (txn : TxnNo) (attempt : ℕ)
+      (conds : List Cond) (uses : List Use) (w : Bool) (act : Act)
       → slice_get (classes_of s) n ≡ Some c → head (pipe c log) ≡ Some (Read ts class txn attempt conds uses) → waits c log ≡ w
       → act_where h v c (Some (Read ts class txn attempt conds uses)) (step_on v c w (Some (Read ts class txn attempt conds uses))) ≡ Some act
       → d_work s (Did act ∷ log) < d_work s log
   read_falls h v c n ts class txn attempt conds uses true act at top is e =
       answered_falls h v c n ts class txn attempt conds uses (list_all (is_met v) conds) act at top e
   read_falls h v c n ts class txn attempt conds uses false act at top is e =
-      judged_falls h v c n ts class txn attempt conds uses (judge v conds) act at top is (same_Some (act_by h v c (Read ts class txn attempt conds uses) (judge v conds)) act e)
+      judged_falls h v c n ts class txn attempt conds uses (judge v conds) act at top is
+      (same_Some (act_by h v c (Read ts class txn attempt conds uses) (judge v conds)) act e)
 
   head_falls : (h : Home) (v : View) (c n : ℕ) (w : Bool) (o : Option Msg) (act : Act) → slice_get (classes_of s) n ≡ Some c → head (pipe c log) ≡ o
       → waits c log ≡ w → act_where h v c o (step_on v c w o) ≡ Some act → d_work s (Did act ∷ log) < d_work s log
@@ -164,15 +168,23 @@ module _ (s : Setting) (log : Log) where
       subst (λ x. d_work s (Did x ∷ log) < d_work s log) (same_Some (Sends to m (Some o.hand)) act e) (omega (arith, short))
 
   still : (c k : ℕ) (txn : TxnNo) (attempt : ℕ) (dm : DmNo) → pipe_work (Did (Records c (Arrive txn attempt dm) []) ∷ log) k ≡ pipe_work log k
-  still c k txn attempt dm = elim (c == k) as (λ b. steps_left (if b && false then head_processed (pipe k log) else pipe k log).unprocessed (if b then (if false then false else false || waits k log) else waits k log) ≡ pipe_work log k) [ true ↦ refl | false ↦ refl ]
+  still c k txn attempt dm = elim (c ==
+      k) as (λ b. steps_left (if b && false then head_processed (pipe k log) else pipe k log).unprocessed
+      (if b then (if false then false else false || waits k log) else waits k log) ≡ pipe_work log k) [
+        | true ↦
+            refl
+        | false ↦ refl
+      ]
 
   arrives : (o : Open) (k c : ℕ) (ts : Ts) (class : ClassNo) (txn : TxnNo) (attempt : ℕ) (dm : DmNo) (conds : List Cond) (uses : List Use)
       → slice_get (opens log) k ≡ Some o → o.msg ≡ Read ts class txn attempt conds uses
       → d_work s (Did (Records c (Arrive txn attempt dm) []) ∷ log) < d_work s log
   arrives o k c ts class txn attempt dm conds uses at is =
-      let read : is_read_of txn.0 attempt o.msg ≡ true = ap (is_read_of txn.0 attempt) is ∙ both (txn.0 == txn.0) (attempt == attempt) (same_number txn.0) (same_number attempt) in
+      let read : is_read_of txn.0 attempt o.msg ≡ true = ap (is_read_of txn.0 attempt) is ∙ both (txn.0 ==
+      txn.0) (attempt == attempt) (same_number txn.0) (same_number attempt) in
       let short = filter_shorter (λ (x : Open). not (is_read_of txn.0 attempt x.msg)) (opens log) k o at (ap not read) in
-      let up = total_up (pipe_work (Did (Records c (Arrive txn attempt dm) []) ∷ log)) (pipe_work log) (classes_of s) (λ j. let e = still c j txn attempt dm in omega (arith, e)) in
+      let up = total_up (pipe_work (Did (Records c (Arrive txn attempt dm) []) ∷ log)) (pipe_work log)
+      (classes_of s) (λ j. let e = still c j txn attempt dm in omega (arith, e)) in
       omega (arith, short, up)
 
   open_falls : (h : Home) (k : ClassView) (o : Open) (n : ℕ) (m : Msg) (act : Act) → slice_get (opens log) n ≡ Some o → o.msg ≡ m
@@ -196,4 +208,5 @@ module _ (s : Setting) (log : Log) where
   d_falls act (by_open n k p e) = first_open (home_of s) k (head_of (filter (is_asked_of k.class) (opens log))) act refl e
   d_falls act (by_head n k p e) =
       let r = in_mapped (class_view s log) (classes_of s) n k p in
-      head_falls (home_of s) (view_of s log) r.0 n (waits r.0 log) (head (pipe r.0 log)) act r.1 refl refl (subst (λ x. head_due (home_of s) (view_of s log) x ≡ Some act) (sym r.2) e)
+      head_falls (home_of s) (view_of s log) r.0 n (waits r.0 log) (head (pipe r.0 log)) act r.1 refl refl
+      (subst (λ x. head_due (home_of s) (view_of s log) x ≡ Some act) (sym r.2) e)

@@ -40,7 +40,8 @@ helds_up to (Held time) hand h = held_up h
 helds_up to m hand h = omega arith
 
 send_less : (s : Setting) (log : Log) (to : Site) (m : Msg) (hand : Option ℕ)
-    → total (class_work s (Did (Sends to m hand) ∷ log)) (runs s) + length (asks (Did (Sends to m hand) ∷ log)) < total (class_work s log) (runs s) + length (asks log)
+    → total (class_work s (Did (Sends to m hand) ∷ log)) (runs s) + length
+    (asks (Did (Sends to m hand) ∷ log)) < total (class_work s log) (runs s) + length (asks log)
     → t_work s (Did (Sends to m hand) ∷ log) < t_work s log
 send_less s log to m hand l = let h = helds_up to m hand (holds log) in omega (arith, l, h)
 
@@ -86,7 +87,8 @@ module _ (s : Setting) (bases : Bases) (log : Log) (fair : Each (IsFair s) log) 
   null_falls m q (Some t) act at e =
       let null : Msg = Null (class_no q.class) (time_at t) in
       subst (λ x. t_work s (Did x ∷ log) < t_work s log) (same_Some (Sends q.from null (Some q.hand)) act e)
-      (let up = total_up (class_work s (Did (Sends q.from null (Some q.hand)) ∷ log)) (class_work s log) (runs s) (λ k. send_up s k log q.from null (Some q.hand)) in
+      (let up = total_up (class_work s (Did (Sends q.from null (Some q.hand)) ∷ log)) (class_work s log)
+      (runs s) (λ k. send_up s k log q.from null (Some q.hand)) in
       let out : not (answers_hand (Some q.hand) q.hand) ≡ false = ap not (same_number q.hand) in
       let short = filter_shorter (λ (x : Question). not (answers_hand (Some q.hand) x.hand)) (asks log) m q at out in
       send_less s log q.from null (Some q.hand) (omega (arith, up, short)))
@@ -105,7 +107,8 @@ module _ (s : Setting) (bases : Bases) (log : Log) (fair : Each (IsFair s) log) 
   held_falls true t act more e =
       let hand : Option ℕ = Some (holds log).last in
       subst (λ x. t_work s (Did x ∷ log) < t_work s log) (same_Some (Sends U (Held (time_at t)) hand) act e)
-      (let up = total_up (class_work s (Did (Sends U (Held (time_at t)) hand) ∷ log)) (class_work s log) (runs s) (λ k. send_up s k log U (Held (time_at t)) hand) in
+      (let up = total_up (class_work s (Did (Sends U (Held (time_at t)) hand) ∷ log)) (class_work s log)
+      (runs s) (λ k. send_up s k log U (Held (time_at t)) hand) in
       let short = filter_short (λ (x : Question). not (answers_hand hand x.hand)) (asks log) in
       let l = more refl in
       omega (arith, up, short, l))
@@ -143,4 +146,5 @@ module _ (s : Setting) (bases : Bases) (log : Log) (fair : Each (IsFair s) log) 
   t_falls act (by_hold e) = held_falls _ _ act (λ b. more_holds _ _ _ _ b) e
   t_falls act (by_start n k p e) =
       let r = in_mapped (class_view s log) (runs s) n k p in
-      start_if_falls n r.0 (not (on_hold (view_of s log))) (active s r.0 log) act r.1 refl (subst (λ v. start_due s.catalogue (view_of s log) v ≡ Some act) (sym r.2) e)
+      start_if_falls n r.0 (not (on_hold (view_of s log))) (active s r.0 log) act r.1 refl
+      (subst (λ v. start_due s.catalogue (view_of s log) v ≡ Some act) (sym r.2) e)

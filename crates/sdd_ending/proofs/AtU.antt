@@ -72,7 +72,8 @@ module _ (log : Log) (n t : ℕ) (g : TmCounts → TmCounts) (less : signs_left 
   told_up u = elim (same_or_not t (counts u log).tm) [
     | inl e ↦
         let same : t ≡ u = e ∙ counts_tm u log in
-        let m : signs_left n (g (counts u log)) < signs_left n (counts u log) = subst (λ z. signs_left n (g (counts z log)) < signs_left n (counts z log)) same less in
+        let m : signs_left n (g (counts u log)) < signs_left n (counts u log) =
+        subst (λ z. signs_left n (g (counts z log)) < signs_left n (counts z log)) same less in
         let test : (t == (counts u log).tm) ≡ true = eq-eqb t (counts u log).tm e in
         rw test (omega (arith, m))
     | inr e ↦ rw e (omega arith)
@@ -110,7 +111,8 @@ module _ (s : Setting) (bases : Bases) (log : Log) (fair : Each (IsFair s) log) 
       (let own = commit_falls s bases 0 log a is served in
       let short = committed_short a (queue s 0 log) (subst (λ o. IsServed o (queue s 0 log)) is served) in
       let fewer : txns_in s (Did (commit_act s.catalogue bases 0 a) ∷ log) ≤ txns_in s log = omega (arith, short) in
-      let up = total_up (λ t. signs_left (txns_in s (Did (commit_act s.catalogue bases 0 a) ∷ log)) (counts t log)) (λ t. signs_left (txns_in s log) (counts t log)) (numbers_to s.catalogue.tms)
+      let up = total_up (λ t. signs_left (txns_in s (Did (commit_act s.catalogue bases 0 a) ∷ log))
+      (counts t log)) (λ t. signs_left (txns_in s log) (counts t log)) (numbers_to s.catalogue.tms)
       (λ t. signs_fewer _ _ (counts t log) fewer) in
       omega (arith, own, up))
 
@@ -139,7 +141,8 @@ module _ (s : Setting) (bases : Bases) (log : Log) (fair : Each (IsFair s) log) 
       (let own = start_falls s [] (clock s.site log) 0 log q (idle_of (active s 0 log) (queue s 0 log) q served head z) head in
       let long = tried_long q.number (queue s 0 log) in
       let fewer : txns_in s (Did start ∷ log) ≤ txns_in s log = omega (arith, long) in
-      let up = total_up (λ t. signs_left (txns_in s (Did start ∷ log)) (counts t log)) (λ t. signs_left (txns_in s log) (counts t log)) (numbers_to s.catalogue.tms)
+      let up = total_up (λ t. signs_left (txns_in s (Did start ∷ log)) (counts t log))
+      (λ t. signs_left (txns_in s log) (counts t log)) (numbers_to s.catalogue.tms)
       (λ t. signs_fewer _ _ (counts t log) fewer) in
       omega (arith, own, up))
 
@@ -185,7 +188,8 @@ module _ (s : Setting) (bases : Bases) (log : Log) (fair : Each (IsFair s) log) 
   release_falls k t act at e =
       let v = last_served s log in
       released_falls k t (nat_lt (counts t log).releases v.commits) (v.dones == s.catalogue.dms) (time_at v.ts) act at (λ b. ltb-true _ _ b)
-      (subst (λ u. (if nat_lt (counts t log).releases v.commits && (v.dones == s.catalogue.dms) then Some (Sends (T (tm_no u)) (Release (time_at v.ts)) None) else None) ≡ Some act) (counts_tm t log) e)
+      (subst (λ u. (if nat_lt (counts t log).releases v.commits && (v.dones == s.catalogue.dms) then Some
+      (Sends (T (tm_no u)) (Release (time_at v.ts)) None) else None) ≡ Some act) (counts_tm t log) e)
 
   pub u_falls : (act : Act) → IsDue s.catalogue bases (view_of s log) act → u_work s (Did act ∷ log) < u_work s log
   u_falls act (by_exchange e) = exchange_falls (active s 0 log) act refl e

@@ -133,7 +133,8 @@ pub falls : (g : Given) (log : Log) (e : Entry) → IsPermitted g log → next g
 falls g log e h is p =
     one_of (Falls g (e ∷ log) log) (mark_due g log) _ e (λ m. by_mark g log e m)
     (one_of (Falls g (e ∷ log) log) (site_due g log) _ e
-    (λ m. let r = found_at (λ at. does_at at (next_at g log at)) (sites g.catalogue.tms g.catalogue.dms) e m in by_act g log r.0 r.1 (next_at g log r.1) e h r.2 refl r.3)
+    (λ m. let r = found_at (λ at. does_at at (next_at g log at)) (sites g.catalogue.tms g.catalogue.dms) e
+    m in by_act g log r.0 r.1 (next_at g log r.1) e h r.2 refl r.3)
     (one_of (Falls g (e ∷ log) log) (hand_due g log) _ e
     (λ m. let r = found_at (hand_on log) (all_links g) e m in by_hand g log r.0 r.1 e r.2 r.3)
     (λ m. by_event g log e is (mark_of_events g log (left g.events log) e m) p))) is

@@ -62,7 +62,8 @@ start_falls s table clock c log q idle head =
     let act : Act = start_act s.catalogue table c clock q in
     let ts : ℕ = timestamp (ticked clock 1) in
     let less = started_less q.number ts (sends_of_act act) (queue s c log) q head in
-    rw (same_number c) (subst (λ o. work_of (started ts (sends_of_act act) (head_of (queue s c log))) (map (tried q.number) (queue s c log)) < work_of o (queue s c log)) (sym idle) less)
+    rw (same_number c) (subst (λ o. work_of (started ts (sends_of_act act) (head_of (queue s c log)))
+    (map (tried q.number) (queue s c log)) < work_of o (queue s c log)) (sym idle) less)
 
 pub start_other : (s : Setting) (table : List line.Entry) (clock : Ticking) (k c : ℕ) (log : Log) (q : Queued) → (k == c) ≡ false
     → class_work s (Did (start_act s.catalogue table k clock q) ∷ log) c ≡ class_work s log c

@@ -61,7 +61,9 @@ module _ (g : Given) (log : Log) (at : Site) (act : Act) (h : IsPermitted g log)
 
   none_rises : (x : Site) → work_at g (Does at act ∷ log) x ≤ work_at g log x
   none_rises x = elim (true_or_false (same_site x at)) [
-    | inl e ↦ let l : work_at g (Does at act ∷ log) x < work_at g log x = subst (λ y. work_at g (Does at act ∷ log) y < work_at g log y) (sym (same_is x at e)) own_falls in omega (arith, l)
+    | inl e ↦ let l : work_at g (Does at act ∷ log) x < work_at g log x =
+        subst (λ y. work_at g (Does at act ∷ log) y < work_at g log y)
+        (sym (same_is x at e)) own_falls in omega (arith, l)
     | inr e ↦ rw e (omega arith)
   ]
 
@@ -96,7 +98,9 @@ module _ (log : Log) (a b : Site) (n : ℕ) (m : Msg) (next : n ≡ suc (handed 
 
   none_more : (l : Site × Site) → hands_on (Hand a b n m ∷ log) l ≤ hands_on log l
   none_more (x, y) = elim (true_or_false (same_site x a && same_site y b)) [
-    | inl e ↦ let l : hands_on (Hand a b n m ∷ log) (x, y) < hands_on log (x, y) = subst (λ z. hands_on (Hand a b n m ∷ log) z < hands_on log z) (same_link x y e) one_less in omega (arith, l)
+    | inl e ↦ let l : hands_on (Hand a b n m ∷ log) (x, y) < hands_on log (x, y) =
+        subst (λ z. hands_on (Hand a b n m ∷ log) z < hands_on log z) (same_link x y e) one_less in omega
+        (arith, l)
     | inr e ↦ rw e (omega arith)
   ]
 

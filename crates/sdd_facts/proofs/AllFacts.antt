@@ -56,11 +56,21 @@ hand_fits g good log a (D d) n m l w e =
     let h = is_handed g log a (D d) n m (fit_of g good).small l w e in
     d_fits g log a d n m (base_of g (Hand a (D d) n m ∷ log)) (fit_of g good).small l e h (upheld_d g log a d n m (fit_of g good).whole good.given h.permitted)
 hand_fits g good log a (T t) n m l w e =
-    let h = is_handed g log a (T t) n m (fit_of g good).small l w e in
-    (site_fits g log (T t) (Hand a (T t) n m) good l w e, t_fits g log a t n m (base_of g (Hand a (T t) n m ∷ log)) (fit_of g good).small h (upheld_r g log a (T t) n m (base_of g (Hand a (T t) n m ∷ log)) (fit_of g good).whole h.permitted (served_here g log a (T t) n m (fit_of g good).whole good.given good.one_force h.permitted h.route)))
+    let h = is_handed g log a (T t) n m (fit_of g good).small l w e in (
+      site_fits g log (T t) (Hand a (T t) n m) good l w e,
+      t_fits g log a t n m
+          (base_of g (Hand a (T t) n m ∷ log)) (fit_of g good).small h
+          (upheld_r g log a (T t) n m (base_of g (Hand a (T t) n m ∷ log)) (fit_of g good).whole h.permitted
+          (served_here g log a (T t) n m (fit_of g good).whole good.given good.one_force h.permitted h.route)),
+    )
 hand_fits g good log a U n m l w e =
-    let h = is_handed g log a U n m (fit_of g good).small l w e in
-    (site_fits g log U (Hand a U n m) good l w e, u_fits g log a n m (base_of g (Hand a U n m ∷ log)) (fit_of g good).whole h (upheld_r g log a U n m (base_of g (Hand a U n m ∷ log)) (fit_of g good).whole h.permitted (served_here g log a U n m (fit_of g good).whole good.given good.one_force h.permitted h.route)))
+    let h = is_handed g log a U n m (fit_of g good).small l w e in (
+      site_fits g log U (Hand a U n m) good l w e,
+      u_fits g log a n m (base_of g (Hand a U n m ∷ log))
+          (fit_of g good).whole h (upheld_r g log a U n m (base_of g (Hand a U n m ∷ log))
+          (fit_of g good).whole h.permitted (served_here g log a U n m (fit_of g good).whole good.given
+          good.one_force h.permitted h.route)),
+    )
 
 not_d : {A : Type 0} (b : Bool) (k : TmNo) (d : DmNo) → D d ≡ (if b then U else T k) → A
 not_d true k d e = cc
@@ -69,12 +79,27 @@ not_d false k d e = cc
 submit_fits : (g : Given) → IsGood g → (log : Log) (at : Site) (n : ℕ) (txn : Txn) → IsLawful g log → IsWithin log → next g log ≡ Some (Submitted at n)
     → txn_at g n ≡ Some txn → fits_submit at (setting_of g at) (base_of g (Submitted at n ∷ log)) (local_of g at log) n txn
 submit_fits g good log U n txn l w e f =
-    record { site = site_fits g log U (Submitted U n) good l w e; fitting = (fit_of g good).txns_fit n txn f; fresh = is_new g log U n txn (fit_of g good).small l e f }
+    record {
+      site = site_fits g log U (Submitted U n) good l w e;
+      fitting = (fit_of g good).txns_fit n txn
+          f;
+      fresh = is_new g log U n txn (fit_of g good).small l e f;
+    }
 submit_fits g good log (T t) n txn l w e f =
     let r = declared_here g log t n txn (fit_of g good).small l e f in
-    record { site = site_fits g log (T t) (Submitted (T t) n) good l w e; fitting = (fit_of g good).txns_fit n txn f; here = r.0; declared = r.1; fresh = is_new g log (T t) n txn (fit_of g good).small l e f }
+    record {
+      site = site_fits g log (T t) (Submitted (T t) n) good l w e;
+      fitting =
+          (fit_of g good).txns_fit n txn f;
+      here = r.0;
+      declared = r.1;
+      fresh =
+          is_new g log (T t) n txn (fit_of g good).small l e f;
+    }
 submit_fits g good log (D d) n txn l w e f =
-    let h : D d ≡ home_of (force_at g (redeclares log)).catalogue (Some txn) = subst (λ o. D d ≡ home_of (force_at g (redeclares log)).catalogue o) f (at_home g log (D d) n (fit_of g good).small l e) in
+    let h : D d ≡ home_of (force_at g (redeclares log)).catalogue (Some txn) =
+    subst (λ o. D d ≡ home_of (force_at g (redeclares log)).catalogue o) f
+    (at_home g log (D d) n (fit_of g good).small l e) in
     not_d (class_for (force_at g (redeclares log)).catalogue txn == 0) txn.tm d h
 
 pub all_facts : Facts IsGood fits fits_submit fits_tick

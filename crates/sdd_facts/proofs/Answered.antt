@@ -137,7 +137,14 @@ rows_answered : (g : Given) (ts c d n : ℕ) (log : all.Log) (x : Msg) → IsPer
     → IsAnswerTo g ts c d log x
 rows_answered g ts c d n log x h i a e f =
     let by = answers_asked (turn_at ts c d (home_log g c log)) x (answer_in_turn g c log d n x ts i a e) in
-    record { uses = by.uses; question = by.question; replies = by.replies; active_now = asked_active g ts c d log by.uses by.question h i by.is (no_read_rows by.uses by.question x by.replies f) }
+    record {
+      uses = by.uses;
+      question = by.question;
+      replies = by.replies;
+      active_now =
+          asked_active g ts c d log by.uses by.question h i by.is
+          (no_read_rows by.uses by.question x by.replies f);
+    }
 
 pub own : (t : Ts) (k : ClassNo) → ((t.0 == t.0) && (k.0 == k.0)) ≡ true
 own t k = both (t.0 == t.0) (k.0 == k.0) (same_number t.0) (same_number k.0)
@@ -189,7 +196,16 @@ read_answered g ts c d n log x h i a e f =
     let r : is_a_read by.question ≡ true = rows_no_read by.uses by.question x by.replies f in
     let l = last_read (setting_of g (home g.catalogue c)) ts c d (home_log g c log) (home_fair g c log h) (home_first g c log h) i.timely_at in
     let now = subst (λ w. IsLastRead d w (reads_sent ts c d (home_log g c log)) (was_answered ts c d (home_log g c log))) by.is l r in
-    record { read = by.question; uses = by.uses; last = now.0; none_answered = now.1; uses_are = sym (numbers_are by.question by.uses r) ∙ now.2; replies = read_replies by.uses by.question x r by.replies }
+    record {
+      read = by.question;
+      uses = by.uses;
+      last = now.0;
+      none_answered = now.1;
+      uses_are =
+          sym (numbers_are by.question by.uses r) ∙ now.2;
+      replies =
+          read_replies by.uses by.question x r by.replies;
+    }
 
 answers_read_of : (ts c d : ℕ) (log : Log) (x : Msg) → IsReadAnswer ts c d log x → AnswersRead log (D (dm_no d)) ts c
 answers_read_of ts c d log x h = record { asked = was_sent ts c d log h.read h.last; first = h.none_answered }
@@ -201,27 +217,46 @@ awaited_by : (g : Given) (log : all.Log) (d n : ℕ) (m : Msg) → IsPermitted g
 awaited_by g log d n (Ready t k counts) h few a b home_is =
     subst (λ x. IsAwaited (setting_of g x) (local_of g x log) (D (dm_no d)) (Ready t k counts)) (home_is t.0 k.0 (own t k))
     (let r = read_answered g t.0 k.0 d n log (Ready t k counts) h (spoken g k.0 log h (few k.0)) (a t.0 k.0 (own t k)) (own t k) refl in
-    record { answers = answers_read_of t.0 k.0 d (home_log g k.0 log) (Ready t k counts) r; counts_are = r.replies ∙ sym r.uses_are ∙ sym (ap uses_read r.last) })
+    record {
+      answers = answers_read_of t.0 k.0 d (home_log g k.0 log) (Ready t k counts) r;
+      counts_are =
+          r.replies ∙ sym r.uses_are ∙ sym (ap uses_read r.last);
+    })
 awaited_by g log d n (Reject t k by write) h few a b home_is =
     subst (λ x. IsAwaited (setting_of g x) (local_of g x log) (D (dm_no d)) (Reject t k by write)) (home_is t.0 k.0 (own t k))
-    (answers_read_of t.0 k.0 d (home_log g k.0 log) (Reject t k by write) (read_answered g t.0 k.0 d n log (Reject t k by write) h (spoken g k.0 log h (few k.0)) (a t.0 k.0 (own t k)) (own t k) refl))
+    (answers_read_of t.0 k.0 d (home_log g k.0 log) (Reject t k by write) (read_answered g t.0 k.0 d n log
+    (Reject t k by write) h (spoken g k.0 log h (few k.0)) (a t.0 k.0 (own t k)) (own t k) refl))
 awaited_by g log d n (Values t k u vs) h few a b home_is =
     subst (λ x. IsAwaited (setting_of g x) (local_of g x log) (D (dm_no d)) (Values t k u vs)) (home_is t.0 k.0 (own t k))
     (let r = rows_answered g t.0 k.0 d n log (Values t k u vs) h (spoken g k.0 log h (few k.0)) (a t.0 k.0 (own t k)) (own t k) refl in
     let w = r.active_now in
-    subst (λ o. AwaitsAt (fetches_use u) o (D (dm_no d)) t.0) (sym w.active_is) (record { same = w.ts_is; phase = fetch_phase w.attempt.exchange.phase r.question u r.uses t k vs w.phase r.replies; lacks = w.lacks }))
+    subst (λ o. AwaitsAt (fetches_use u) o (D (dm_no d)) t.0) (sym w.active_is) (record {
+      same =
+          w.ts_is;
+      phase = fetch_phase w.attempt.exchange.phase r.question u r.uses t k vs w.phase r.replies;
+      lacks = w.lacks;
+    }))
 awaited_by g log d n (Reduced t k u x) h few a b home_is =
     subst (λ y. IsAwaited (setting_of g y) (local_of g y log) (D (dm_no d)) (Reduced t k u x)) (home_is t.0 k.0 (own t k))
     (let r = rows_answered g t.0 k.0 d n log (Reduced t k u x) h (spoken g k.0 log h (few k.0)) (a t.0 k.0 (own t k)) (own t k) refl in
     let w = r.active_now in
-    subst (λ o. AwaitsAt (reduces_use u) o (D (dm_no d)) t.0) (sym w.active_is) (record { same = w.ts_is; phase = reduce_phase w.attempt.exchange.phase r.question u x r.uses t k w.phase r.replies; lacks = w.lacks }))
+    subst (λ o. AwaitsAt (reduces_use u) o (D (dm_no d)) t.0) (sym w.active_is) (record {
+      same =
+          w.ts_is;
+      phase = reduce_phase w.attempt.exchange.phase r.question u x r.uses t k w.phase r.replies;
+      lacks = w.lacks;
+    }))
 awaited_by g log d n (Rows t k rows) h few a b home_is =
     subst (λ x. IsAwaited (setting_of g x) (local_of g x log) (D (dm_no d)) (Rows t k rows)) (home_is t.0 k.0 (own t k))
     (let r = rows_answered g t.0 k.0 d n log (Rows t k rows) h (spoken g k.0 log h (few k.0)) (a t.0 k.0 (own t k)) (own t k) refl in
     let w = r.active_now in
     let s = ship_phase w.attempt.exchange.phase r.question rows r.uses t k w.phase r.replies in
     subst (λ o. AwaitsRows o (D (dm_no d)) t.0 rows) (sym w.active_is)
-    (record { awaited = record { same = w.ts_is; phase = s.is; lacks = w.lacks }; named = subst (λ l. list_any (λ (y : ℕ × Row). not (contains l y.0)) rows ≡ false) (sym w.uses) s.named }))
+    (record {
+      awaited = record { same = w.ts_is; phase = s.is; lacks = w.lacks };
+      named =
+          subst (λ l. list_any (λ (y : ℕ × Row). not (contains l y.0)) rows ≡ false) (sym w.uses) s.named;
+    }))
 awaited_by g log d n m h few a b home_is = tt
 
 -- whose answer a message is
@@ -249,12 +284,15 @@ no_answer s log from (Reduced t k u n) e = cc
 no_answer s log from (Rows t k rows) e = cc
 no_answer s log from m e = tt
 
-awaited_from : (g : Given) (log : all.Log) (a b : Site) (d : DmNo) (n : ℕ) (m : Msg) → a ≡ D d → IsPermitted g log → ((c : ℕ) → number_of (home g.catalogue c) ≤ 63)
+awaited_from : (g : Given) (log : all.Log) (a b : Site) (d : DmNo) (n : ℕ) (m : Msg) → a ≡ D d
+    → IsPermitted g log → ((c : ℕ) → number_of (home g.catalogue c) ≤ 63)
     → IsAllowed g log (Hand a b n m) → IsAwaited (setting_of g b) (local_of g b log) a m
 awaited_from g log a b d n m e h few i =
-    let home_is : (ts c : ℕ) → is_answer ts c m ≡ true → home g.catalogue c ≡ b = λ ts c f. (answer_source g a b log (handed a b log) m ts c h (hand_was_put g log a b n m i).1 f).2 in
+    let home_is : (ts c : ℕ) → is_answer ts c m ≡ true → home g.catalogue c ≡ b =
+    λ ts c f. (answer_source g a b log (handed a b log) m ts c h (hand_was_put g log a b n m i).1 f).2 in
     subst (λ x. IsAwaited (setting_of g b) (local_of g b log) x m) (sym e)
-    (awaited_by g log d.0 n m h few (λ ts c f. subst (λ x. IsAllowed g log (Hand (D d) x n m)) (sym (home_is ts c f)) (subst (λ x. IsAllowed g log (Hand x b n m)) e i)) b home_is)
+    (awaited_by g log d.0 n m h few (λ ts c f. subst (λ x. IsAllowed g log (Hand (D d) x n m))
+    (sym (home_is ts c f)) (subst (λ x. IsAllowed g log (Hand x b n m)) e i)) b home_is)
 
 awaited_case : (g : Given) (log : all.Log) (a b : Site) (n : ℕ) (m : Msg) (o : Option (ℕ × ℕ)) → answer_of m ≡ o → IsPermitted g log
     → ((c : ℕ) → number_of (home g.catalogue c) ≤ 63) → IsAllowed g log (Hand a b n m) → IsAwaited (setting_of g b) (local_of g b log) a m

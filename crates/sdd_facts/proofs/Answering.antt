@@ -86,7 +86,9 @@ pub counted_hand : (a : Site) (f : Msg → Bool) (l : site.Log) → list_any (at
 counted_hand a f [] e = cc
 counted_hand a f (Handed from m ∷ l) e = elim (true_or_false (same_site from a && f m)) [
   | inl p ↦ push_one f (same_site a from) (f m) (hands_from a l) m refl (turned a from (f m) p)
-  | inr p ↦ (let i = counted_hand a f l (only_right (same_site from a && f m) (list_any (at_site a f) (all_handed l)) p e) in let u = push_more f (same_site a from) (hands_from a l) m in omega (arith, i, u))
+  | inr p ↦ (let i = counted_hand a f l (only_right (same_site from a && f m)
+      (list_any (at_site a f) (all_handed l)) p e) in let u =
+      push_more f (same_site a from) (hands_from a l) m in omega (arith, i, u))
 ]
 counted_hand a f (Ticked n ∷ l) e = counted_hand a f l e
 counted_hand a f (Submits n txn ∷ l) e = counted_hand a f l e
@@ -101,7 +103,9 @@ none_before g a b log f m h e p l = elim (true_or_false (list_any (at_site a f) 
   | inl q ↦ (let ps : List Msg = puts_to b (local_of g a log) in
       let i = counted_hand a f (local_of g b log) q in
       let z : tally f (hands_from a (local_of g b log)) ≡ tally f (take (handed a b log) ps) = ap (tally f) (in_order g log a b h) in
-      let more : tally f (take (suc (handed a b log)) ps) ≡ tally f (take (handed a b log) ps) + tally f (m ∷ []) = ap (tally f) (take_one_more (handed a b log) ps m e) ∙ tally_append f (take (handed a b log) ps) (m ∷ []) in
+      let more : tally f (take (suc (handed a b log)) ps) ≡ tally f (take (handed a b log) ps) + tally f
+      (m ∷ []) = ap (tally f) (take_one_more (handed a b log) ps m e)
+      ∙ tally_append f (take (handed a b log) ps) (m ∷ []) in
       let less = tally_take f (suc (handed a b log)) ps in
       let one : one_if (f m) ≡ 1 = ap one_if p in
       absurd (omega (arith, i, z, more, less, one, l)))
@@ -123,8 +127,11 @@ verdict_asked g d log k ts c m b h e f =
     let o = head_put g c d p.before w hb v.head_is in
     let at : Site = home g.catalogue c in
     let x = local_grows g at (p.later ++ Does (D d) p.act ∷ o.later) (Does at o.act ∷ o.before) in
-    let whole : log ≡ (p.later ++ Does (D d) p.act ∷ o.later) ++ Does at o.act ∷ o.before = p.is ∙ ap (λ l. p.later ++ Does (D d) p.act ∷ l) o.is ∙ sym (append_assoc p.later (Does (D d) p.act ∷ o.later) (Does at o.act ∷ o.before)) in
-    let here : local_of g at log ≡ x.0 ++ Did o.act ∷ local_of g at o.before = ap (local_of g at) whole ∙ x.1 ∙ ap (λ l. x.0 ++ l) (own_act g at o.act o.before) in
+    let whole : log ≡ (p.later ++ Does (D d) p.act ∷ o.later) ++ Does at o.act ∷ o.before =
+    p.is ∙ ap (λ l. p.later ++ Does (D d) p.act ∷ l) o.is
+    ∙ sym (append_assoc p.later (Does (D d) p.act ∷ o.later) (Does at o.act ∷ o.before)) in
+    let here : local_of g at log ≡ x.0 ++ Did o.act ∷ local_of g at o.before =
+    ap (local_of g at) whole ∙ x.1 ∙ ap (λ l. x.0 ++ l) (own_act g at o.act o.before) in
     subst (λ l. list_any (at_site (D d) (is_read ts c)) (sent l) ≡ true) (sym here)
     (sent_of_act (D d) (is_read ts c) x.0 o.act (local_of g at o.before) o.place w o.there (same_read ts c v.stamp.0 v.of.0 v.time_is v.class_is))
 
@@ -132,6 +139,7 @@ pub answers_read : (g : Given) (d : DmNo) (log : Log) (ts c : ℕ) (m : Msg) (b 
     → number_of (home g.catalogue c) ≤ 63 → slice_get (puts_to b (local_of g (D d) log)) (handed (D d) b log) ≡ Some m
     → is_verdict ts c m ≡ true → AnswersRead (local_of g b log) (D d) ts c
 answers_read g d log ts c m b h at small e f = record {
-  asked = subst (λ x. list_any (at_site (D d) (is_read ts c)) (sent (local_of g x log)) ≡ true) (sym at) (verdict_asked g d log (handed (D d) b log) ts c m b h e f);
+  asked = subst (λ x. list_any (at_site (D d) (is_read ts c)) (sent (local_of g x log)) ≡ true) (sym at)
+      (verdict_asked g d log (handed (D d) b log) ts c m b h e f);
   first = none_before g (D d) b log (is_verdict ts c) m h e f (one_verdict g c ts d b log small h);
 }

@@ -85,7 +85,9 @@ reject_low : (h : ℕ) (s : Setting) (log : Log) (b : Site) (act : Act) (ts : Ts
     → IsRejectBy s log b act ts k by write → IsLow h (Reject ts k by write)
 reject_low h s log b act ts k by write i r =
     let p = view_low h s log r.cond_by.class.0 i in
-    let l = greatest_le (top h) (filter_map (write_time r.cond_by.frags) (at_class (view_of s log) r.cond_by.class.0).pipe.processed) (write_times_le h r.cond_by.frags (at_class (view_of s log) r.cond_by.class.0).pipe.processed p.done) in
+    let l = greatest_le (top h) (filter_map (write_time r.cond_by.frags)
+    (at_class (view_of s log) r.cond_by.class.0).pipe.processed) (write_times_le h r.cond_by.frags
+    (at_class (view_of s log) r.cond_by.class.0).pipe.processed p.done) in
     (subst (λ t. t ≤ top h) (sym r.write_is) l, tt)
 
 ask_low : (h : ℕ) (s : Setting) (log : Log) (b : Site) (k : ClassNo) (time : Ts) → HandsLow h log → IsAskBy s log b k time

@@ -87,7 +87,8 @@ sent_at n d m rest ms p lacks v false r z (apart a i e g) =
 -- where no question is sent
 not_asked_turn : (c : ℕ) (to : Site) (m : Msg) (v : Turns) (ts d : ℕ) → asks_rows ts c m ≡ false → after_question c to m v ts d ≡ v ts d
 not_asked_turn c to m v ts d e =
-    ap (λ (b : Bool). if same_site (D (dm_no d)) to && b then asked m (v ts d) else v ts d) e ∙ ap (λ (b : Bool). if b then asked m (v ts d) else v ts d) (and_no (same_site (D (dm_no d)) to))
+    ap (λ (b : Bool). if same_site (D (dm_no d)) to && b then asked m (v ts d) else v ts d) e
+    ∙ ap (λ (b : Bool). if b then asked m (v ts d) else v ts d) (and_no (same_site (D (dm_no d)) to))
 
 asks_not : (b : Bool) → (b ≡ true → ⊥) → b ≡ false
 asks_not true f = absurd (f refl)
@@ -110,10 +111,15 @@ asked_own s c log to m hand a v ts d first e h q =
     let f = first a.ts c q in
     let same : f.attempt ≡ a = one_attempt s c log a f.attempt e f.active_is in
     let sends : a.exchange.to_send ≡ (f.module_no, m) ∷ f.rest = subst (λ (y : Attempt). y.exchange.to_send ≡ (f.module_no, m) ∷ f.rest) same f.first in
-    let at : IsAt d a.exchange.modules a.exchange.phase ((f.module_no, m) ∷ f.rest) a.exchange.lacks (v a.ts d) = subst (λ l. IsAt d a.exchange.modules a.exchange.phase l a.exchange.lacks (v a.ts d)) sends ((h a.ts d).0 refl) in
-    let now = sent_at f.module_no d m f.rest a.exchange.modules a.exchange.phase a.exchange.lacks (v a.ts d) (d == f.module_no) (asks_no_read a.ts c m q) refl at in
+    let at : IsAt d a.exchange.modules a.exchange.phase ((f.module_no, m) ∷ f.rest) a.exchange.lacks
+    (v a.ts d) = subst (λ l. IsAt d a.exchange.modules a.exchange.phase l a.exchange.lacks (v a.ts d))
+    sends ((h a.ts d).0 refl) in
+    let now = sent_at f.module_no d m f.rest a.exchange.modules a.exchange.phase a.exchange.lacks (v a.ts d)
+    (d == f.module_no) (asks_no_read a.ts c m q) refl at in
     let turn_is : (if d == f.module_no then asked m (v a.ts d) else v a.ts d) ≡ after_question c to m v a.ts d =
-    sym (ap (λ x. if same_site (D (dm_no d)) x && asks_rows a.ts c m then asked m (v a.ts d) else v a.ts d) f.to_is ∙ ap (λ (b : Bool). if (d == f.module_no) && b then asked m (v a.ts d) else v a.ts d) q ∙ and_true (d == f.module_no) (asked m (v a.ts d)) (v a.ts d)) in
+    sym (ap (λ x. if same_site (D (dm_no d)) x && asks_rows a.ts c m then asked m (v a.ts d) else v a.ts d)
+    f.to_is ∙ ap (λ (b : Bool). if (d == f.module_no) && b then asked m (v a.ts d) else v a.ts d) q
+    ∙ and_true (d == f.module_no) (asked m (v a.ts d)) (v a.ts d)) in
     subst (λ l. IsAt d a.exchange.modules a.exchange.phase l a.exchange.lacks (after_question c to m v a.ts d)) (sym (ap tail_of sends))
     (subst (λ w. IsAt d a.exchange.modules a.exchange.phase f.rest a.exchange.lacks w) turn_is now)
 
@@ -124,7 +130,9 @@ sent_turns s c log to m hand None v first i h = λ ts d.
     (let q : asks_rows ts c m ≡ false = asks_not (asks_rows ts c m) (λ e. let f = first ts c e in none_attempt s c log f.attempt i f.active_is) in
     subst (λ w. is_exchanging w ≡ false) (sym (not_asked_turn c to m v ts d q)) (h ts d))
 sent_turns s c log to m hand (Some a) v first i h =
-    elim (asks_rows a.ts c m) as (λ b. asks_rows a.ts c m ≡ b → AllAtTurn (if b then Some (record a { exchange = after_send a.exchange }) else Some a) (after_question c to m v)) [
+    elim (asks_rows a.ts c m) as (λ b. asks_rows a.ts c m ≡ b
+    → AllAtTurn (if b then Some (record a { exchange = after_send a.exchange }) else Some a)
+    (after_question c to m v)) [
       | true ↦ λ q ts d. (
         λ p. subst (λ t. StandsAt d (after_send a.exchange) (after_question c to m v t d)) p (asked_own s c log to m hand a v a.ts d first i h q),
         λ p. (let r : asks_rows ts c m ≡ false = asks_not (asks_rows ts c m) (λ e. differ a.ts ts p (asks_whose a.ts c ts c m q e).0) in
@@ -161,9 +169,12 @@ drawn_question s c log to m hand ts fair first l = asks_not (asks_rows ts c m) (
 in_turn_send : (s : Setting) (c : ℕ) (log : Log) (to : Site) (m : Msg) (hand : Option ℕ) → Each (IsFair s) log
     → IsFirstSend s log (Sends to m hand) → IsSend s log m → InTurn s c log → InTurn s c (Did (Sends to m hand) ∷ log)
 in_turn_send s c log to m hand fair first i h = record {
-  turns = turns_now (active_sent c m (active s c log)) (after_question c to m (λ ts d. turn_at ts c d log)) (λ ts d. turn_at ts c d (Did (Sends to m hand) ∷ log))
+  turns = turns_now (active_sent c m (active s c log)) (after_question c to m (λ ts d. turn_at ts c d log))
+      (λ ts d. turn_at ts c d (Did (Sends to m hand) ∷ log))
       (λ ts d. send_turn s c log to m hand ts d i) (sent_turns s c log to m hand (active s c log) (λ ts d. turn_at ts c d log) first refl h.turns);
-  fresh = λ ts d l. send_turn s c log to m hand ts d i ∙ not_asked_turn c to m (λ ts d. turn_at ts c d log) ts d (drawn_question s c log to m hand ts fair first (omega (arith, l))) ∙ h.fresh ts d (omega (arith, l));
+  fresh = λ ts d l. send_turn s c log to m hand ts d i
+      ∙ not_asked_turn c to m (λ ts d. turn_at ts c d log) ts d
+      (drawn_question s c log to m hand ts fair first (omega (arith, l))) ∙ h.fresh ts d (omega (arith, l));
   strict = sent_strict c m (active s c log) h.strict;
 }
 
@@ -215,7 +226,8 @@ start_stands s k log q d v e =
       | true ↦ λ b.
           let here : contains (firsts ms) d ≡ true = ap (λ l. contains l d) all ∙ b in
           awaited (f d) (start_numbers s k log q d) refl here (own ∙ ap (λ (x : Bool). if x then asked (f d) (v n d) else v n d) b)
-          (subst (λ p. awaits p (f d) ≡ true) (sym (first_reading ms d here)) refl) (read_uses f (start_numbers s k log q) ds d (λ x. refl) (strict_asked s k q) b) here
+          (subst (λ p. awaits p (f d) ≡ true) (sym (first_reading ms d here)) refl)
+          (read_uses f (start_numbers s k log q) ds d (λ x. refl) (strict_asked s k q) b) here
       | false ↦ λ b.
           let here : contains (firsts ms) d ≡ false = ap (λ l. contains l d) all ∙ b in
           apart refl here (own ∙ ap (λ (x : Bool). if x then asked (f d) (v n d) else v n d) b ∙ e) here
@@ -239,7 +251,8 @@ start_fresh : (s : Setting) (k : ℕ) (log : Log) (q : Queued) (c ts d : ℕ) �
     → turn_at ts c d (Did (start_at s k log q) ∷ log) ≡ Silent
 start_fresh s k log q c ts d h l =
     let r : ((next_stamp s log == ts) && (k == c)) ≡ false = ap (λ b. b && (k == c)) (not_below (next_stamp s log) ts l) in
-    start_turn s k log q c ts d ∙ not_started_turn s k log q c ts d (λ ts d. turn_at ts c d log) r ∙ h.fresh ts d (let b = stamp_below_next s log in omega (arith, l, b))
+    start_turn s k log q c ts d ∙ not_started_turn s k log q c ts d (λ ts d. turn_at ts c d log) r
+    ∙ h.fresh ts d (let b = stamp_below_next s log in omega (arith, l, b))
 
 active_started : (s : Setting) (k : ℕ) (log : Log) (q : Queued) → head_of (queue s k log) ≡ Some q
     → active s k (Did (start_at s k log q) ∷ log) ≡ started (next_stamp s log) (sends_of_act (start_at s k log q)) (Some q)
@@ -250,8 +263,12 @@ in_turn_start : (s : Setting) (k : ℕ) (log : Log) (q : Queued) → active s k 
     → InTurn s k log → InTurn s k (Did (start_at s k log q) ∷ log)
 in_turn_start s k log q f e h = record {
   turns = subst (λ o. AllAtTurn o (λ ts d. turn_at ts k d (Did (start_at s k log q) ∷ log))) (sym (active_started s k log q e))
-      (turns_now (started (next_stamp s log) (sends_of_act (start_at s k log q)) (Some q)) (after_start s k log q k (λ ts d. turn_at ts k d log)) (λ ts d. turn_at ts k d (Did (start_at s k log q) ∷ log))
-      (λ ts d. start_turn s k log q k ts d) (start_turns s k log q (λ ts d. turn_at ts k d log) (λ d. h.fresh (next_stamp s log) d (stamp_below_next s log)) (subst (λ o. AllAtTurn o (λ ts d. turn_at ts k d log)) f h.turns)));
+      (turns_now (started (next_stamp s log) (sends_of_act (start_at s k log q)) (Some q))
+      (after_start s k log q k (λ ts d. turn_at ts k d log))
+      (λ ts d. turn_at ts k d (Did (start_at s k log q) ∷ log))
+      (λ ts d. start_turn s k log q k ts d) (start_turns s k log q (λ ts d. turn_at ts k d log)
+      (λ d. h.fresh (next_stamp s log) d (stamp_below_next s log))
+      (subst (λ o. AllAtTurn o (λ ts d. turn_at ts k d log)) f h.turns)));
   fresh = λ ts d l. start_fresh s k log q k ts d h l;
   strict = subst IsStrictOf (sym (active_started s k log q e)) (start_strict s k log q);
 }
@@ -265,7 +282,9 @@ in_turn_other s k c log q p h =
     let r : (ts : ℕ) → ((next_stamp s log == ts) && (k == c)) ≡ false = λ ts. ap (λ b. (next_stamp s log == ts) && b) p ∙ and_no (next_stamp s log == ts) in
     record {
       turns = subst (λ o. AllAtTurn o (λ ts d. turn_at ts c d (Did (start_at s k log q) ∷ log))) (sym same)
-          (turns_now (active s c log) (λ ts d. turn_at ts c d log) (λ ts d. turn_at ts c d (Did (start_at s k log q) ∷ log)) (λ ts d. start_turn s k log q c ts d ∙ not_started_turn s k log q c ts d (λ ts d. turn_at ts c d log) (r ts)) h.turns);
+          (turns_now (active s c log) (λ ts d. turn_at ts c d log)
+          (λ ts d. turn_at ts c d (Did (start_at s k log q) ∷ log)) (λ ts d. start_turn s k log q c ts d
+          ∙ not_started_turn s k log q c ts d (λ ts d. turn_at ts c d log) (r ts)) h.turns);
       fresh = λ ts d l. start_fresh s k log q c ts d h l;
       strict = subst IsStrictOf (sym same) h.strict;
     }
@@ -284,7 +303,9 @@ commit_of : (s : Setting) (k c : ℕ) (bases : Bases) (a : Attempt) (log : Log) 
     → ((ts d : ℕ) → last_stamp s log < ts → turn_at ts c d log ≡ Silent) → InTurn s c (Did (commit_act s.catalogue bases k a) ∷ log)
 commit_of s k c bases a log o e h strict fresh = record {
   turns = subst (λ o. AllAtTurn o (λ ts d. turn_at ts c d (Did (commit_act s.catalogue bases k a) ∷ log))) (sym e)
-      (turns_now o (λ ts d. turn_at ts c d log) (λ ts d. turn_at ts c d (Did (commit_act s.catalogue bases k a) ∷ log)) (λ ts d. commit_turn s k bases a log ts c d) h);
+      (turns_now o (λ ts d. turn_at ts c d log)
+      (λ ts d. turn_at ts c d (Did (commit_act s.catalogue bases k a) ∷ log))
+      (λ ts d. commit_turn s k bases a log ts c d) h);
   fresh = λ ts d l. commit_turn s k bases a log ts c d ∙ fresh ts d (omega (arith, l));
   strict = subst IsStrictOf (sym e) strict;
 }
@@ -302,7 +323,9 @@ in_turn_act s c log act fair i first h = step_way_over s log act (λ x. IsFirstS
     (λ k bases a at f o. λ first. elim (same_or_not k c) [
       | inl p ↦ subst (λ j. InTurn s j (Did (commit_act s.catalogue bases k a) ∷ log)) p
           (let own : InTurn s k log = subst (λ j. InTurn s j log) (sym p) h in
-          commit_of s k k bases a log None (rw (same_number k) refl) (over_turns a (λ ts d. turn_at ts k d log) o (subst (λ o. AllAtTurn o (λ ts d. turn_at ts k d log)) f own.turns)) tt own.fresh)
+          commit_of s k k bases a log None (rw (same_number k) refl)
+          (over_turns a (λ ts d. turn_at ts k d log) o
+          (subst (λ o. AllAtTurn o (λ ts d. turn_at ts k d log)) f own.turns)) tt own.fresh)
       | inr p ↦ commit_of s k c bases a log (active s c log) (rw p refl) h.turns h.strict h.fresh
     ])
     (λ to m hand f. λ first. in_turn_send s c log to m hand fair first f h) i first
@@ -370,12 +393,18 @@ pub asks_in_turn : (s : Setting) (c : ℕ) (log : Log) (act : Act) (ts d : ℕ) 
     → IsInTurn (turn_at ts c d log) (questions ts c (to_site (D (dm_no d)) (sends_of_act act)))
 asks_in_turn s c log act ts d i first h =
     step_way_over s log act (λ x. IsFirstSend s log x → IsInTurn (turn_at ts c d log) (questions ts c (to_site (D (dm_no d)) (sends_of_act x))))
-    (λ k q at f e. λ first. one_in_turn (turn_at ts c d log) _ (contains (modules_asked s k q.text) d) ((next_stamp s log == ts) && (k == c)) (start_read s k log q d)
-    (ap (questions ts c) (sent_to_each (start_read s k log q) (modules_asked s k q.text) d (strict_asked s k q)) ∙ questions_one ts c (contains (modules_asked s k q.text) d) (start_read s k log q d))
-    (λ b x. may_start (turn_at ts c d log) s k log q d (h.fresh ts d (let n = eqb-true (next_stamp s log) ts (and_left (next_stamp s log == ts) (k == c) x) in let l = stamp_below_next s log in omega (arith, n, l)))))
+    (λ k q at f e. λ first. one_in_turn (turn_at ts c d log) _ (contains (modules_asked s k q.text) d)
+    ((next_stamp s log == ts) && (k == c)) (start_read s k log q d)
+    (ap (questions ts c) (sent_to_each (start_read s k log q) (modules_asked s k q.text) d
+    (strict_asked s k q)) ∙ questions_one ts c (contains (modules_asked s k q.text) d)
+    (start_read s k log q d))
+    (λ b x. may_start (turn_at ts c d log) s k log q d (h.fresh ts d (let n =
+    eqb-true (next_stamp s log) ts (and_left (next_stamp s log == ts) (k == c) x) in let l =
+    stamp_below_next s log in omega (arith, n, l)))))
     (λ k bases a at f o. λ first. elim (commit_puts s k bases (D (dm_no d)) a) [
       | inl e ↦ inl (ap (questions ts c) e)
       | inr p ↦ inl (ap (questions ts c) p.1)
     ])
-    (λ to m hand f. λ first. one_in_turn (turn_at ts c d log) _ (same_site (D (dm_no d)) to) (is_question ts c m) m (questions_one ts c (same_site (D (dm_no d)) to) m)
+    (λ to m hand f. λ first. one_in_turn (turn_at ts c d log) _ (same_site (D (dm_no d)) to)
+    (is_question ts c m) m (questions_one ts c (same_site (D (dm_no d)) to) m)
     (λ b x. may_sent s c log to m hand ts d first h b (sym (send_is_question s log ts c m f) ∙ x))) i first

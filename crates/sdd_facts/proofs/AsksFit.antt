@@ -63,8 +63,12 @@ pub runs_it : (g : Given) (t : TmNo) (c : ℕ) → 1 ≤ c → c ≤ length g.ca
     → contains (runs (setting_of g (T t))) c ≡ true
 runs_it g t c l m e =
     let n : 1 + (c - 1) ≡ c = omega (arith, l) in
-    let there : slice_get (numbers_to (length g.catalogue.classes)) (c - 1) ≡ Some c = subst (λ x. slice_get (range_with_len 1 (length g.catalogue.classes)) (c - 1) ≡ Some x) n (range_at 1 (length g.catalogue.classes) (c - 1) (omega (arith, l, m))) in
-    contains_kept (λ k. (class_at g.catalogue k).tm.0 == t.0) (numbers_to (length g.catalogue.classes)) (c - 1) c there (subst (λ x. ((class_at g.catalogue c).tm.0 == x) ≡ true) e (same_number (class_at g.catalogue c).tm.0))
+    let there : slice_get (numbers_to (length g.catalogue.classes)) (c - 1) ≡ Some c =
+    subst (λ x. slice_get (range_with_len 1 (length g.catalogue.classes)) (c - 1) ≡ Some x) n
+    (range_at 1 (length g.catalogue.classes) (c - 1) (omega (arith, l, m))) in
+    contains_kept (λ k. (class_at g.catalogue k).tm.0 == t.0) (numbers_to (length g.catalogue.classes))
+    (c - 1) c there (subst (λ x. ((class_at g.catalogue c).tm.0 == x) ≡ true) e
+    (same_number (class_at g.catalogue c).tm.0))
 
 pub asked_class : (g : Given) (d : DmNo) (t : TmNo) (log : Log) (n : ℕ) (k : ClassNo) (time : Ts) → IsPermitted g log
     → slice_get (puts_to (T t) (local_of g (D d) log)) n ≡ Some (Ask k time) → contains (runs (setting_of g (T t))) k.0 ≡ true
@@ -95,7 +99,8 @@ asks_not_u g d log n k time h e =
     let put = head_put g by.class d p.before m hb by.head_is in
     let s : Setting = setting_of g (home g.catalogue by.class) in
     let r : IsRead s (local_of g (home g.catalogue by.class) put.before) put.act by.of.0 by.ts.0 by.txn.0 by.attempt = put.by in
-    let w = act_within s (D d) (local_of g (home g.catalogue by.class) put.before) put.act put.place by.ts by.of by.txn by.attempt by.conds by.uses r put.there in
+    let w = act_within s (D d) (local_of g (home g.catalogue by.class) put.before) put.act put.place by.ts
+    by.of by.txn by.attempt by.conds by.uses r put.there in
     let i = one_within (length g.catalogue.classes) by.conds by.place by.cond_at w by.there in
     let z : by.cond_at.class.0 ≡ k.0 = ap (λ (c : ClassNo). c.0) (sym by.class_is) in
     not_u (setting_of g (D d)) k.0 (omega (arith, i.0, z)) (omega (arith, i.1, z)) by.to_is

@@ -113,9 +113,18 @@ to_next : (ts c d : ℕ) (x : Exchange) (qs : List Asking) (done : List Step) (v
     → IsIdle d x.modules v → StandsAt d (goes_on ts c x qs done) v
 to_next ts c d x [] done v h i = to_ship ts c d x v h i
 to_next ts c d x (q ∷ rest) done v h i =
-    elim (next_move q.conds (counts_for x.counts q) done) as (λ o. StandsAt d (elim o as (λ _. Exchange) [ None ↦ goes_on ts c x rest [] | Some m ↦ fetches ts c (move_at q.before m) (record x { left = q ∷ rest; done = done ++ m.step ∷ [] }) ]) v) [
+    elim (next_move q.conds (counts_for x.counts q) done) as (λ o. StandsAt d
+    (elim o as (λ _. Exchange) [
+      | None ↦ goes_on ts c x rest []
+      | Some m ↦ fetches ts c
+          (move_at q.before m) (record x { left = q ∷ rest; done = done ++ m.step ∷ [] })
+    ]) v) [
       | None ↦ to_next ts c d x rest [] v h i
-      | Some m ↦ to_fetch_from ts c d (move_at q.before m) (record x { left = q ∷ rest; done = done ++ m.step ∷ [] }) (with_use x (move_at q.before m).source.part) v refl h i
+      | Some m ↦ to_fetch_from ts c d (move_at q.before m) (record x {
+        left = q ∷ rest;
+        done =
+            done ++ m.step ∷ [];
+      }) (with_use x (move_at q.before m).source.part) v refl h i
     ]
 
 over_at : (d : ℕ) (ms : List (ℕ × List ℕ)) (sends : List (ℕ × Msg)) (lacks : List ℕ) (v : Turn) → lacks ≡ []
@@ -174,7 +183,9 @@ less_at n d ms p sends lacks v w (inl r) (awaited m ns a b e x f g) =
     let both : Asks ns m ≡ Asks r.1 r.2 = sym e ∙ r.3 in
     let same_uses : ns ≡ r.1 = cc in
     let same_question : m ≡ r.2 = cc in
-    answered_last r.2 r.1 a (subst (λ k. contains (without lacks n) k ≡ false) (sym r.0) (without_own lacks n)) r.4 (ship_is_last p r.2 (subst (λ y. awaits p y ≡ true) same_question x)) (f ∙ same_uses) g
+    answered_last r.2 r.1 a (subst (λ k. contains (without lacks n) k ≡ false) (sym r.0)
+    (without_own lacks n)) r.4 (ship_is_last p r.2 (subst (λ y. awaits p y ≡ true) same_question x))
+    (f ∙ same_uses) g
 less_at n d ms p sends lacks v w (inl r) (answered_last q ns a b e s f g) = told_not_asks v ns r.1 q r.2 e r.3
 less_at n d ms p sends lacks v w (inl r) (apart a b e g) = silent_not_asks v r.1 r.2 e r.3
 less_at n d ms p sends lacks v w (inr r) (unsent m q ns a b e s u x f g) =

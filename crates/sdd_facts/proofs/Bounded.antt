@@ -63,8 +63,10 @@ sum_up g e log = total_up (λ at. starts (local_of g at log)) (λ at. starts (lo
 sum_act : (g : Given) (at : Site) (act : Act) (log : Log) → IsThere (all_sites g) at
     → starts_by act + all_starts g log ≤ all_starts g (Does at act ∷ log)
 sum_act g at act log k =
-    let own : starts (local_of g at (Does at act ∷ log)) ≡ starts_by act + starts (local_of g at log) = ap starts (own_act g at act log) ∙ act_starts act (starts (local_of g at log)) in
-    total_raise (λ b. starts (local_of g b log)) (λ b. starts (local_of g b (Does at act ∷ log))) (starts_by act) (all_sites g) k.0 at k.1 (starts_up g (Does at act) log) (omega (arith, own))
+    let own : starts (local_of g at (Does at act ∷ log)) ≡ starts_by act + starts (local_of g at log) =
+    ap starts (own_act g at act log) ∙ act_starts act (starts (local_of g at log)) in
+    total_raise (λ b. starts (local_of g b log)) (λ b. starts (local_of g b (Does at act ∷ log)))
+    (starts_by act) (all_sites g) k.0 at k.1 (starts_up g (Does at act) log) (omega (arith, own))
 
 mark_sum : (t m k h s more : ℕ) → t ≤ k → h ≤ m * k + s → s ≤ more → t + h ≤ suc m * k + more
 mark_sum t m k h s more a b c = let e = suc-mul m k in omega (arith, a, b, c, e)
@@ -81,14 +83,18 @@ act_sum a m k h s more b c = omega (arith, b, c)
 height_le : (g : Given) (log : Log) → AllFewTicks g.events → IsLawful g log → height log ≤ marks log * MAX_TICKS + all_starts g log
 height_le g [] f l = omega arith
 height_le g (Mark e ∷ log) f l =
-    mark_sum (ticks_of e) (marks log) MAX_TICKS (height log) (all_starts g log) (all_starts g (Mark e ∷ log)) (of_next g log (Mark e) f l.1 l.0) (height_le g log f l.1) (sum_up g (Mark e) log)
+    mark_sum (ticks_of e) (marks log) MAX_TICKS (height log) (all_starts g log)
+    (all_starts g (Mark e ∷ log)) (of_next g log (Mark e) f l.1 l.0) (height_le g log f l.1)
+    (sum_up g (Mark e) log)
 height_le g (Round es ∷ log) f l = same_sum (marks log) MAX_TICKS (height log) (all_starts g log) _ (height_le g log f l.1) (sum_up g (Round es) log)
 height_le g (Redeclares t ∷ log) f l = later_sum (marks log) MAX_TICKS (height log) (all_starts g log) _ (height_le g log f l.1) (sum_up g (Redeclares t) log)
 height_le g (Hand a b n m ∷ log) f l = same_sum (marks log) MAX_TICKS (height log) (all_starts g log) _ (height_le g log f l.1) (sum_up g (Hand a b n m) log)
-height_le g (Submitted at n ∷ log) f l = same_sum (marks log) MAX_TICKS (height log) (all_starts g log) _ (height_le g log f l.1) (sum_up g (Submitted at n) log)
+height_le g (Submitted at n ∷ log) f l = same_sum (marks log) MAX_TICKS (height log) (all_starts g log) _
+    (height_le g log f l.1) (sum_up g (Submitted at n) log)
 height_le g (Notes ∷ log) f l = same_sum (marks log) MAX_TICKS (height log) (all_starts g log) _ (height_le g log f l.1) (sum_up g Notes log)
 height_le g (Does at act ∷ log) f l =
-    act_sum (starts_by act) (marks log) MAX_TICKS (height log) (all_starts g log) _ (height_le g log f l.1) (sum_act g at act log (of_next g log (Does at act) f l.1 l.0).0)
+    act_sum (starts_by act) (marks log) MAX_TICKS (height log) (all_starts g log) _ (height_le g log f l.1)
+    (sum_act g at act log (of_next g log (Does at act) f l.1 l.0).0)
 
 -- how many Starts a site has
 

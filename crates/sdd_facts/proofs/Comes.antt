@@ -74,9 +74,11 @@ for_held g log a d n m ts c h few i e =
     let no_read : is_a_read m ≡ false = asks_no_read ts c m e in
     let w = rows_turn (turn_with ts c (home g.catalogue c) (data_log g d.0 log)) m (question_in_turn g c log d.0 n m ts k j q) no_read in
     let f = first_in_flight g log (home g.catalogue c) (D d) n m j in
-    let goes = question_flies _ _ _ _ m (questions ts c f.0) (first_of_kind (is_question ts c) (flight g (home g.catalogue c) (D d) log) m f.0 f.1 q) (k.stages ts d.0) in
+    let goes = question_flies _ _ _ _ m (questions ts c f.0) (first_of_kind (is_question ts c)
+    (flight g (home g.catalogue c) (D d) log) m f.0 f.1 q) (k.stages ts d.0) in
     let s = home_turns g c log h k in
-    let x = active_of ts d.0 (active (setting_of g (home g.catalogue c)) c (home_log g c log)) (turn_at ts c d.0 (home_log g c log)) (s.turns ts d.0) (ap is_exchanging goes ∙ ap not no_read) in
+    let x = active_of ts d.0 (active (setting_of g (home g.catalogue c)) c (home_log g c log))
+    (turn_at ts c d.0 (home_log g c log)) (s.turns ts d.0) (ap is_exchanging goes ∙ ap not no_read) in
     let last : IsLast g ts c d.0 log = subst (λ t. IsLast g t c d.0 log) x.2 (active_last g c d.0 log x.0 h (few c) x.1) in
     let held = k.held ts d.0 last w.uses (ap uses_held w.is ∙ ap (λ (b : Bool). if b then None else Some w.uses) w.not_shipped) in
     record {
@@ -105,8 +107,11 @@ questions_are_servable g log a d n m h few = tt
 pub question_stands : (g : Given) (c : ℕ) (log : all.Log) (d : DmNo) (n : ℕ) (m : Msg) (ts : ℕ) → IsPermitted g log → number_of (home g.catalogue c) ≤ 63
     → IsAllowed g log (Hand (home g.catalogue c) (D d) n m) → is_question ts c m ≡ true → (ns : List ℕ) × (turn_at ts c d.0 (home_log g c log) ≡ Asks ns m)
 question_stands g c log d n m ts h few i q =
-    let f = first_in_flight g log (home g.catalogue c) (D d) n m i in
-    (_, question_flies _ _ _ _ m (questions ts c f.0) (first_of_kind (is_question ts c) (flight g (home g.catalogue c) (D d) log) m f.0 f.1 q) ((spoken g c log h few).stages ts d.0))
+    let f = first_in_flight g log (home g.catalogue c) (D d) n m i in (
+      _,
+      question_flies _ _ _ _ m (questions ts c f.0) (first_of_kind (is_question ts c)
+          (flight g (home g.catalogue c) (D d) log) m f.0 f.1 q) ((spoken g c log h few).stages ts d.0),
+    )
 
 -- an answer that is next to be handed over answers the question of its site's turn, and is the last of its module
 pub record IsStanding (g : Given) (c : ℕ) (log : all.Log) (d : DmNo) (x : Msg) (ts : ℕ) : Type 0 where

@@ -84,7 +84,9 @@ conditions_within cat table c frags own p2 d =
     let all : AllFrom1 n (classes_of cat) = range_le 1 n n (omega arith) (omega arith) in
     if_way (AllWithin n) (c == 0) _ _ (mapped_within n (λ j. cond_of j own (map frag_no (fragments_of cat))) (classes_of cat) (λ j l. l) all)
     (made_within n (condition_on (is_asked cat c d (map frag_no frags)) table c own p2) (classes_of cat)
-    (λ j l. either_within n (cond_for j own (asked_by P3 (is_asked cat c d (map frag_no frags)) table c j)) (cond_for j p2 (asked_by P2 (is_asked cat c d (map frag_no frags)) table c j)) (for_within n j own _ l) (for_within n j p2 _ l)) all)
+    (λ j l. either_within n (cond_for j own (asked_by P3 (is_asked cat c d (map frag_no frags)) table c j))
+    (cond_for j p2 (asked_by P2 (is_asked cat c d (map frag_no frags)) table c j))
+    (for_within n j own _ l) (for_within n j p2 _ l)) all)
 
 -- of a READ that was put
 
@@ -103,11 +105,14 @@ of_start s c log q b k m e = elim (start_puts s c b log q) [
   | inr p ↦ subst (ReadWithin (length s.catalogue.classes)) (in_one _ (start_read s c log q p.0) k m p.1 e) (start_within s c log q p.0)
 ]
 
-pub act_within : (s : Setting) (b : Site) (log : Log) (act : Act) (k : ℕ) (ts : Ts) (class : ClassNo) (txn : TxnNo) (attempt : ℕ) (conds : List Cond) (uses : List Use)
+pub act_within : (s : Setting) (b : Site) (log : Log) (act : Act) (k : ℕ) (ts : Ts) (class : ClassNo)
+    (txn : TxnNo) (attempt : ℕ) (conds : List Cond) (uses : List Use)
     → IsRead s log act class.0 ts.0 txn.0 attempt
     → slice_get (to_site b (sends_of_act act)) k ≡ Some (Read ts class txn attempt conds uses) → AllWithin (length s.catalogue.classes) conds
 act_within s b log act k ts class txn attempt conds uses by e =
-    of_start s class.0 log by.queued b k (Read ts class txn attempt conds uses) (subst (λ a. slice_get (to_site b (sends_of_act a)) k ≡ Some (Read ts class txn attempt conds uses)) by.act_is e)
+    of_start s class.0 log by.queued b k (Read ts class txn attempt conds uses)
+    (subst (λ a. slice_get (to_site b (sends_of_act a)) k ≡ Some (Read ts class txn attempt conds uses))
+    by.act_is e)
 
 pub read_within : (s : Setting) (b : Site) (log : Log) (k : ℕ) (ts : Ts) (class : ClassNo) (txn : TxnNo) (attempt : ℕ) (conds : List Cond) (uses : List Use)
     → Each (IsFair s) log → slice_get (puts_to b log) k ≡ Some (Read ts class txn attempt conds uses)

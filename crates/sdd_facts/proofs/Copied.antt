@@ -87,16 +87,23 @@ frag_there : (cat : Catalogue) (txn : Txn) (u : Use) (f : FragNo) → Has (uses_
 frag_there cat txn u f h k =
     each_of (λ (f : FragNo). (1 ≤ f.0) × (f.0 ≤ length cat.fragments)) u.frags f
     (recursion_from_All (λ (f : FragNo). (1 ≤ f.0) × (f.0 ≤ length cat.fragments)) u.frags
-    (each_of (λ (u : Use). AreThere cat u.frags) (uses_of cat txn) u (recursion_from_All (λ (u : Use). AreThere cat u.frags) (uses_of cat txn) (uses_there cat txn)) h)) k
+    (each_of (λ (u : Use). AreThere cat u.frags) (uses_of cat txn) u
+    (recursion_from_All (λ (u : Use). AreThere cat u.frags) (uses_of cat txn) (uses_there cat txn)) h)) k
 
-reads_somewhere : (cat : Catalogue) → IsSound cat → (c : ℕ) (txn : Txn) → Covers cat c txn → (u : Use) (f : FragNo) → Has (uses_of cat txn) u → Has u.frags f → (d : ℕ) × (reads_at cat c f.0 ≡ Some d)
+reads_somewhere : (cat : Catalogue) → IsSound cat → (c : ℕ) (txn : Txn) → Covers cat c txn
+    → (u : Use) (f : FragNo) → Has (uses_of cat txn) u → Has u.frags f → (d : ℕ)
+    × (reads_at cat c f.0 ≡ Some d)
 reads_somewhere cat sound c txn (inl z) u f h k =
     let there = frag_there cat txn u f h k in
     subst (λ j. (d : ℕ) × (reads_at cat j f.0 ≡ Some d)) (sym z) (some_copy cat sound f.0 there.0 there.1)
-reads_somewhere cat sound c txn (inr cov) u f h k = some_is (reads_at cat c f.0) (cov.reads f.0 (has_contains (fragments_in (uses_of cat txn)) f.0 (frag_among (uses_of cat txn) u f h k)))
+reads_somewhere cat sound c txn (inr cov) u f h k =
+    some_is (reads_at cat c f.0) (cov.reads f.0 (has_contains (fragments_in (uses_of cat txn)) f.0
+    (frag_among (uses_of cat txn) u f h k)))
 
 -- the module is there, and is asked
-pub module_there : (cat : Catalogue) → IsSound cat → (c : ℕ) (txn : Txn) → Covers cat c txn → (u : Use) (f : FragNo) (d : ℕ) → Has (uses_of cat txn) u → Has u.frags f → reads_at cat c f.0 ≡ Some d → (1 ≤ d) × (d ≤ cat.dms)
+pub module_there : (cat : Catalogue) → IsSound cat → (c : ℕ) (txn : Txn) → Covers cat c txn
+    → (u : Use) (f : FragNo) (d : ℕ) → Has (uses_of cat txn) u → Has u.frags f → reads_at cat c f.0 ≡ Some d
+    → (1 ≤ d) × (d ≤ cat.dms)
 module_there cat sound c txn cov u f d h k e =
     let there = frag_there cat txn u f h k in
     let s = served_read cat c f.0 d sound (class_within cat c txn cov) there.0 there.1 e in
@@ -107,13 +114,15 @@ module_in cat d within =
     let low = within.0 in let high = within.1 in
     to_has (numbers_to cat.dms) d (Contains-range 1 cat.dms d low (omega arith))
 
-module_asked : (cat : Catalogue) → IsSound cat → (c : ℕ) (txn : Txn) → Covers cat c txn → (u : Use) (f : FragNo) (d : ℕ) → Has (uses_of cat txn) u → Has u.frags f → reads_at cat c f.0 ≡ Some d
+module_asked : (cat : Catalogue) → IsSound cat → (c : ℕ) (txn : Txn) → Covers cat c txn
+    → (u : Use) (f : FragNo) (d : ℕ) → Has (uses_of cat txn) u → Has u.frags f → reads_at cat c f.0 ≡ Some d
     → Has (modules_of cat c (ascending (fragments_in (uses_of cat txn)))) d
 module_asked cat sound c txn cov u f d h k e =
     let frags : List ℕ = ascending (fragments_in (uses_of cat txn)) in
     elim (c == 0) as (λ b. Has (if b then numbers_to cat.dms else ascending (filter_map (reads_at cat c) frags)) d) [
       | true ↦ module_in cat d (module_there cat sound c txn cov u f d h k e)
-      | false ↦ in_order (filter_map (reads_at cat c) frags) d (Has-filter_map (reads_at cat c) frags f.0 d (in_order (fragments_in (uses_of cat txn)) f.0 (frag_among (uses_of cat txn) u f h k)) e)
+      | false ↦ in_order (filter_map (reads_at cat c) frags) d (Has-filter_map (reads_at cat c) frags f.0 d
+          (in_order (fragments_in (uses_of cat txn)) f.0 (frag_among (uses_of cat txn) u f h k)) e)
     ]
 
 -- what a READ asks
@@ -123,20 +132,26 @@ frags_are None = refl
 frags_are (Some (Read ts class txn attempt conds uses)) = refl
 frags_are (Some _) = refl
 
-use_part : (cat : Catalogue) (c d : ℕ) (u : Use) (f : FragNo) → Has u.frags f → is_read_at cat c d f.0 ≡ true → (v : Use) × (use_there cat c d u ≡ Some v) × Has v.frags f
+use_part : (cat : Catalogue) (c d : ℕ) (u : Use) (f : FragNo) → Has u.frags f
+    → is_read_at cat c d f.0 ≡ true → (v : Use) × (use_there cat c d u ≡ Some v) × Has v.frags f
 use_part cat c d u f h t = by (filter (λ f. is_read_at cat c d f.0) u.frags) (Has-filter (λ f. is_read_at cat c d f.0) u.frags f h t)
   where
     by : (fs : List FragNo) → Has fs f → (v : Use) × (with_frags u fs ≡ Some v) × Has v.frags f
     by [] h = absurd h
     by (g ∷ fs) h = (record u { frags = g ∷ fs }, refl, h)
 
-asked_frag : (cat : Catalogue) (c d : ℕ) (txn : Txn) (u : Use) (f : FragNo) → Has (uses_of cat txn) u → Has u.frags f → is_read_at cat c d f.0 ≡ true → Has (ascending (fragments_in (uses_at cat c txn d))) f.0
+asked_frag : (cat : Catalogue) (c d : ℕ) (txn : Txn) (u : Use) (f : FragNo) → Has (uses_of cat txn) u
+    → Has u.frags f → is_read_at cat c d f.0 ≡ true → Has (ascending (fragments_in (uses_at cat c txn d)))
+    f.0
 asked_frag cat c d txn u f h k t =
     let p = use_part cat c d u f k t in
-    in_order (fragments_in (uses_at cat c txn d)) f.0 (frag_among (uses_at cat c txn d) p.0 f (Has-filter_map (use_there cat c d) (uses_of cat txn) u p.0 h p.1) p.2)
+    in_order (fragments_in (uses_at cat c txn d)) f.0 (frag_among (uses_at cat c txn d) p.0 f
+    (Has-filter_map (use_there cat c d) (uses_of cat txn) u p.0 h p.1) p.2)
 
 -- and back
-frag_asked : (cat : Catalogue) (c d : ℕ) (txn : Txn) (f : ℕ) → Has (ascending (fragments_in (uses_at cat c txn d))) f → IsUsed cat txn f × (is_read_at cat c d f ≡ true)
+frag_asked : (cat : Catalogue) (c d : ℕ) (txn : Txn) (f : ℕ)
+    → Has (ascending (fragments_in (uses_at cat c txn d))) f → IsUsed cat txn f
+    × (is_read_at cat c d f ≡ true)
 frag_asked cat c d txn f h =
     let p = Has-flat_map_from (λ (u : Use). map (λ f. f.0) u.frags) (uses_at cat c txn d) f (from_order (fragments_in (uses_at cat c txn d)) f h) in
     let v : Use = p.0 in
@@ -192,9 +207,11 @@ module _ (g : Given) (good : FitsGiven g) (one : HasOneForce g) (c : ℕ) (log :
   placed : (d : ℕ) → ArePlaced cat (made_of d)
   placed d x there =
       let fit = each_before_answer (HandFits cat d) a.ts (own d) (hands_fit g (dm_no d) log h (acts_fit g good log h)) in
-      item_placed cat good.sound x.1 (each_has (λ (x : ℕ × Change). IsItemChange cat x.1) (made_of d) x (all_items (set d) good.sound (good.rows (dm_no d)) d (before_answer a.ts (own d)) fit) there)
+      item_placed cat good.sound x.1 (each_has (λ (x : ℕ × Change). IsItemChange cat x.1) (made_of d) x
+      (all_items (set d) good.sound (good.rows (dm_no d)) d (before_answer a.ts (own d)) fit) there)
 
-  place : (u : Use) (f : FragNo) → Has (uses_of cat a.text) u → Has u.frags f → (d : ℕ) × Has (modules_asked (setting_of g (home cat c)) c a.text) d × (is_read_at cat c d f.0 ≡ true)
+  place : (u : Use) (f : FragNo) → Has (uses_of cat a.text) u → Has u.frags f → (d : ℕ)
+      × Has (modules_asked (setting_of g (home cat c)) c a.text) d × (is_read_at cat c d f.0 ≡ true)
   place u f h k =
       let r = reads_somewhere cat good.sound c a.text cover u f h k in
       (r.0, module_asked cat good.sound c a.text cover u f r.0 h k r.1, is_read (reads_at cat c f.0) r.0 r.1)
@@ -205,23 +222,39 @@ module _ (g : Given) (good : FitsGiven g) (one : HasOneForce g) (c : ℕ) (log :
       let d : ℕ = p.module_no in
       let u : IsUsed cat a.text p.frag = p.used in
       let reads : reads_at cat c u.frag.0 ≡ Some d = ap (reads_at cat c) u.number ∙ read_is (reads_at cat c p.frag) d p.read in
-      let asked : contains (modules_asked (setting_of g (home cat c)) c a.text) d ≡ true = has_contains (modules_asked (setting_of g (home cat c)) c a.text) d (module_asked cat good.sound c a.text cover u.usage u.frag d u.there u.among reads) in
+      let asked : contains (modules_asked (setting_of g (home cat c)) c a.text) d ≡ true =
+      has_contains (modules_asked (setting_of g (home cat c)) c a.text) d
+      (module_asked cat good.sound c a.text cover u.usage u.frag d u.there u.among reads) in
       let x : IsAnswerAt a.ts (own d) = answer_at g log (dm_no d) c a (answered_all g c log a (dm_no d) h is over asked) in
       let s : IsSnapped (set d) a.ts (own d) = snapped (set d) a.ts (own d) x in
       let to = answer_to g good.sound c (class_within cat c a.text cover) log a (dm_no d) h is s.answer in
-      let frag : Has (ascending (fragments_in (uses_at cat c a.text d))) p.frag = subst (Has (ascending (fragments_in (uses_at cat c a.text d)))) u.number (asked_frag cat c d a.text u.usage u.frag u.there u.among (is_read (reads_at cat c u.frag.0) d reads)) in
-      let first : Has (frags_asked (head (pipe s.answer.class s.answer.before))) p.frag = subst (λ fs. Has fs p.frag) (ap (λ us. ascending (fragments_in us)) (sym to.uses_are) ∙ sym (frags_are (head (pipe s.answer.class s.answer.before)))) frag in
-      let there : Has (items_of cat (dated (set d) s.answer.before) p.frag) e = subst (λ l. Has (items_of cat (dated (set d) l) p.frag) e) s.before_is (to_has (items_of cat (made_of d) p.frag) e p.there) in
-      let read : Has (snapshots_at g log a.ts d) e = subst (λ es. Has es e) (sym s.is) (Has-flat_map (items_of cat (dated (set d) s.answer.before)) (frags_asked (head (pipe s.answer.class s.answer.before))) p.frag e first there) in
-      of_has pieces e (Has-flat_map (snapshots_at g log a.ts) (numbers_to cat.dms) d e (module_in cat d (module_there cat good.sound c a.text cover u.usage u.frag d u.there u.among reads)) read)
+      let frag : Has (ascending (fragments_in (uses_at cat c a.text d))) p.frag =
+      subst (Has (ascending (fragments_in (uses_at cat c a.text d)))) u.number
+      (asked_frag cat c d a.text u.usage u.frag u.there u.among
+      (is_read (reads_at cat c u.frag.0) d reads)) in
+      let first : Has (frags_asked (head (pipe s.answer.class s.answer.before))) p.frag =
+      subst (λ fs. Has fs p.frag) (ap (λ us. ascending (fragments_in us)) (sym to.uses_are)
+      ∙ sym (frags_are (head (pipe s.answer.class s.answer.before)))) frag in
+      let there : Has (items_of cat (dated (set d) s.answer.before) p.frag) e =
+      subst (λ l. Has (items_of cat (dated (set d) l) p.frag) e) s.before_is
+      (to_has (items_of cat (made_of d) p.frag) e p.there) in
+      let read : Has (snapshots_at g log a.ts d) e =
+      subst (λ es. Has es e) (sym s.is) (Has-flat_map (items_of cat (dated (set d) s.answer.before))
+      (frags_asked (head (pipe s.answer.class s.answer.before))) p.frag e first there) in
+      of_has pieces e (Has-flat_map (snapshots_at g log a.ts) (numbers_to cat.dms) d e
+      (module_in cat d (module_there cat good.sound c a.text cover u.usage u.frag d u.there u.among
+      reads)) read)
 
   -- and nothing else
   piece_by : (d : ℕ) (e : Item × Row) → MaySnap (set d) a.ts (own d) → Has (snapshots_at g log a.ts d) e → IsPiece cat c a.text made_of e
   piece_by d e (inl none) there = absurd (subst (λ es. Has es e) none there)
   piece_by d e (inr s) there =
       let to = answer_to g good.sound c (class_within cat c a.text cover) log a (dm_no d) h is s.answer in
-      let q = Has-flat_map_from (items_of cat (dated (set d) s.answer.before)) (frags_asked (head (pipe s.answer.class s.answer.before))) e (subst (λ es. Has es e) s.is there) in
-      let f = frag_asked cat c d a.text q.0 (subst (λ fs. Has fs q.0) (frags_are (head (pipe s.answer.class s.answer.before)) ∙ ap (λ us. ascending (fragments_in us)) to.uses_are) q.1) in
+      let q = Has-flat_map_from (items_of cat (dated (set d) s.answer.before))
+      (frags_asked (head (pipe s.answer.class s.answer.before))) e (subst (λ es. Has es e) s.is there) in
+      let f = frag_asked cat c d a.text q.0
+      (subst (λ fs. Has fs q.0) (frags_are (head (pipe s.answer.class s.answer.before))
+      ∙ ap (λ us. ascending (fragments_in us)) to.uses_are) q.1) in
       record {
         frag = q.0;
         module_no = d;

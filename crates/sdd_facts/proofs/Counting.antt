@@ -51,8 +51,12 @@ count_start : (s : Setting) (c : ℕ) (log : Log) (q : Queued) → active s c lo
     → IsCounted s c log → IsCounted s c (Did (start_at s c log q) ∷ log)
 count_start s c log q i e h =
     rw (same_number c)
-    (start_count (class_starts c log) (length (queue s c log)) (length (map (tried q.number) (queue s c log))) (length (submits log)) (hands log) (busy (active s c log)) (busy (started (next_stamp s log) (sends_of_act (start_at s c log q)) (head_of (queue s c log))))
-    (length-map (queue s c log) (tried q.number)) (ap busy i) (busy_started (next_stamp s log) (sends_of_act (start_at s c log q)) (head_of (queue s c log)) q e) h)
+    (start_count (class_starts c log) (length (queue s c log))
+    (length (map (tried q.number) (queue s c log))) (length (submits log)) (hands log)
+    (busy (active s c log)) (busy (started (next_stamp s log) (sends_of_act (start_at s c log q))
+    (head_of (queue s c log))))
+    (length-map (queue s c log) (tried q.number)) (ap busy i) (busy_started (next_stamp s log)
+    (sends_of_act (start_at s c log q)) (head_of (queue s c log)) q e) h)
 
 same_count : (cs qs all : ℕ) → cs + qs ≤ all → 0 + cs + qs ≤ all
 same_count cs qs all l = omega (arith, l)
@@ -81,7 +85,9 @@ count_commit : (s : Setting) (c : ℕ) (bases : Bases) (log : Log) (a : Attempt)
     → IsServed (active s c log) (queue s c log) → IsCounted s c log → IsCounted s c (Did (commit_act s.catalogue bases c a) ∷ log)
 count_commit s c bases log a e v h =
     rw (same_number c)
-    (commit_count (class_starts c log) (length (queue s c log)) (length (filter (λ q. not (q.number == a.txn)) (queue s c log))) (length (submits log)) (hands log) (busy (active s c log))
+    (commit_count (class_starts c log) (length (queue s c log))
+    (length (filter (λ q. not (q.number == a.txn)) (queue s c log))) (length (submits log)) (hands log)
+    (busy (active s c log))
     (head_taken a (queue s c log) (subst (λ o. IsServed o (queue s c log)) e v)) (busy_le (active s c log)) h)
 
 count_other_commit : (s : Setting) (k c : ℕ) (bases : Bases) (log : Log) (a : Attempt) → (k == c) ≡ false → IsCounted s c log
@@ -98,7 +104,8 @@ send_count cs qs all b d l h = omega (arith, l, h)
 count_send : (s : Setting) (c : ℕ) (log : Log) (to : Site) (m : Msg) (hand : Option ℕ) → IsCounted s c log
     → IsCounted s c (Did (Sends to m hand) ∷ log)
 count_send s c log to m hand h =
-    send_count (class_starts c log) (length (queue s c log)) (length (submits log) + hands log) (busy (active s c log)) (busy (active_sent c m (active s c log))) (sent_busy s c log m) h
+    send_count (class_starts c log) (length (queue s c log)) (length (submits log) + hands log)
+    (busy (active s c log)) (busy (active_sent c m (active s c log))) (sent_busy s c log m) h
 
 count_act : (s : Setting) (c : ℕ) (log : Log) (act : Act) → IsStep s log act → IsServed (active s c log) (queue s c log)
     → IsCounted s c log → IsCounted s c (Did act ∷ log)
@@ -126,11 +133,15 @@ hand_count cs qs subs hs b d l h = omega (arith, l, h)
 counted : (s : Setting) (c : ℕ) (log : Log) → Each (IsFair s) log → Each IsNew log → IsCounted s c log
 counted s c [] f n = omega arith
 counted s c (Handed from m ∷ log) f n =
-    hand_count (class_starts c log) (length (queue s c log)) (length (submits log)) (hands log) (busy (active s c log)) (busy (active_handed c from m (active s c log))) (busy_le (active s c log)) (counted s c log f.1 n.1)
+    hand_count (class_starts c log) (length (queue s c log)) (length (submits log)) (hands log)
+    (busy (active s c log)) (busy (active_handed c from m (active s c log))) (busy_le (active s c log))
+    (counted s c log f.1 n.1)
 counted s c (Ticked k ∷ log) f n = counted s c log f.1 n.1
 counted s c (Redeclared force t ∷ log) f n = counted s c log f.1 n.1
 counted s c (Submits k txn ∷ log) f n =
-    submit_count (class_starts c log) (length (queue s c log)) (length (submitted c (in_force s log).catalogue k txn (queue s c log))) (length (submits log)) (hands log) (busy (active s c log))
+    submit_count (class_starts c log) (length (queue s c log))
+    (length (submitted c (in_force s log).catalogue k txn (queue s c log))) (length (submits log))
+    (hands log) (busy (active s c log))
     (submit_longer (is_for c (in_force s log).catalogue txn) (record { number = k; text = txn; tries = 0 }) (queue s c log)) (counted s c log f.1 n.1)
 counted s c (Did act ∷ log) f n = count_act s c log act f.0 (queue_is s c log f.1 n.1).served (counted s c log f.1 n.1)
 
@@ -146,7 +157,9 @@ class_few s c log f n =
 no_class_past : (cat : Catalogue) (c t : ℕ) → (class_at cat c).tm.0 ≡ t → 1 ≤ t → (c == 0) ≡ false → c ≤ length cat.classes
 no_class_past cat c t e l z = elim (dec_le c (length cat.classes)) [
   | yes p ↦ p
-  | no p ↦ (let past : class_at cat c ≡ record { name = []; tm = tm_no 0; reads = []; writes = [] } = get_or_past cat.classes (c - 1) (record { name = []; tm = tm_no 0; reads = []; writes = [] }) (omega (arith, p)) in
+  | no p ↦ (let past : class_at cat c ≡ record { name = []; tm = tm_no 0; reads = []; writes = [] } =
+      get_or_past cat.classes (c - 1) (record { name = []; tm = tm_no 0; reads = []; writes = [] })
+      (omega (arith, p)) in
       let none : (class_at cat c).tm.0 ≡ 0 = ap (λ (k : Class). k.tm.0) past in absurd (omega (arith, none, e, l)))
 ]
 
@@ -165,7 +178,9 @@ class_more : (s : Setting) (k : ℕ) (log : Log) (act : Act) (n : ℕ) → k ≤
     → n + total (λ c. class_starts c log) (classes_of s) ≤ total (λ c. class_starts c (Did act ∷ log)) (classes_of s)
 class_more s k log act n l e =
     let z : 0 + k ≡ k = omega arith in
-    let there : slice_get (classes_of s) k ≡ Some k = subst (λ x. slice_get (classes_of s) k ≡ Some x) z (range_at 0 (suc (length s.catalogue.classes)) k (omega (arith, l))) in
+    let there : slice_get (classes_of s) k ≡ Some k =
+    subst (λ x. slice_get (classes_of s) k ≡ Some x) z (range_at 0 (suc (length s.catalogue.classes)) k
+    (omega (arith, l))) in
     total_raise (λ c. class_starts c log) (λ c. class_starts c (Did act ∷ log)) n (classes_of s) k k there
     (λ c. omega arith) (omega (arith, e))
 
@@ -175,8 +190,12 @@ start_total : (s : Setting) (log : Log) (act : Act) → IsNumbered s.site → Is
 start_total s log act l i h =
     step_way s log act (λ x. starts (Did x ∷ log) ≤ total (λ c. class_starts c (Did x ∷ log)) (classes_of s))
     (λ k q at f e. let m = class_more s k log (start_at s k log q) 1 (class_here s.catalogue k s.site l at) (rw (same_number k) refl) in omega (arith, m, h))
-    (λ k bases a at f. let m = total_up (λ c. class_starts c log) (λ c. class_starts c (Did (commit_act s.catalogue bases k a) ∷ log)) (classes_of s) (λ c. omega arith) in omega (arith, m, h))
-    (λ to m hand f. let n = total_up (λ c. class_starts c log) (λ c. class_starts c (Did (Sends to m hand) ∷ log)) (classes_of s) (λ c. omega arith) in omega (arith, n, h)) i
+    (λ k bases a at f. let m = total_up (λ c. class_starts c log)
+    (λ c. class_starts c (Did (commit_act s.catalogue bases k a) ∷ log)) (classes_of s)
+    (λ c. omega arith) in omega (arith, m, h))
+    (λ to m hand f. let n = total_up (λ c. class_starts c log)
+    (λ c. class_starts c (Did (Sends to m hand) ∷ log)) (classes_of s) (λ c. omega arith) in omega
+    (arith, n, h)) i
 
 by_classes : (s : Setting) (log : Log) → IsNumbered s.site → Each (IsFair s) log
     → starts log ≤ total (λ c. class_starts c log) (classes_of s)

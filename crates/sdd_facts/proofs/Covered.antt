@@ -60,16 +60,20 @@ covers_for cat c txn e = elim (same_or_not c 0) [
   | inr n ↦ inr (covered cat txn c (sym (eqb-true (class_for cat txn) c (only_right (c == 0) (class_for cat txn == c) n e))) (some_class c n))
 ]
 
-submitted_covered : (g : Given) → HasOneForce g → (at : Site) (c : ℕ) (log : whole.Log) → IsPermitted g log → Each (SubmitHas (Covers g.catalogue c) (setting_of g at) c) (local_of g at log)
+submitted_covered : (g : Given) → HasOneForce g → (at : Site) (c : ℕ) (log : whole.Log) → IsPermitted g log
+    → Each (SubmitHas (Covers g.catalogue c) (setting_of g at) c) (local_of g at log)
 submitted_covered g one at c = each_local g at (SubmitHas (Covers g.catalogue c) (setting_of g at) c) (record {
   handed = λ log p from n m a i. tt;
   ticked = λ log p n i. tt;
-  submits = λ log p n txn a e i own. covers_for g.catalogue c txn (subst (λ k. is_for c k txn ≡ true) (in_force_is (setting_of g at) (local_of g at log) (forces_are g one at log p)) own);
+  submits = λ log p n txn a e i own. covers_for g.catalogue c txn (subst (λ k. is_for c k txn ≡ true)
+      (in_force_is (setting_of g at) (local_of g at log) (forces_are g one at log p)) own);
   redeclared = λ l k t i. tt;
   did = λ log act p due i. tt;
 })
 
-pub attempt_covered : (g : Given) → HasOneForce g → (c : ℕ) (log : whole.Log) (a : Attempt) → IsPermitted g log → active (setting_of g (home g.catalogue c)) c (local_of g (home g.catalogue c) log) ≡ Some a → Covers g.catalogue c a.text
+pub attempt_covered : (g : Given) → HasOneForce g → (c : ℕ) (log : whole.Log) (a : Attempt)
+    → IsPermitted g log → active (setting_of g (home g.catalogue c)) c
+    (local_of g (home g.catalogue c) log) ≡ Some a → Covers g.catalogue c a.text
 attempt_covered g one c log a h e =
     let at : Site = home g.catalogue c in
     active_so (Covers g.catalogue c) (setting_of g at) c (local_of g at log) a (home_fair g c log h) (all_new g at log h) (submitted_covered g one at c log h) e

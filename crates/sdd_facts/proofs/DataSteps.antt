@@ -72,7 +72,8 @@ asked_step : (s : Setting) (log : Log) (c : ℕ) (x : Option Open) (a : Act) →
 asked_step s log c None a p e = cc
 asked_step s log c (Some o) a p e = open_step s log c o o.msg a p refl e
 
-judged_step : (s : Setting) (log : Log) (c : ℕ) (ts : Ts) (k : ClassNo) (txn : TxnNo) (attempt : ℕ) (conds : List Cond) (uses : List Use) (lacking : List Cond) (by : Option Cond) (a : Act)
+judged_step : (s : Setting) (log : Log) (c : ℕ) (ts : Ts) (k : ClassNo) (txn : TxnNo) (attempt : ℕ)
+    (conds : List Cond) (uses : List Use) (lacking : List Cond) (by : Option Cond) (a : Act)
     → IsClassHere s c → head (pipe c log) ≡ Some (Read ts k txn attempt conds uses)
     → Some (act_by (home_of s) (view_of s log) c (Read ts k txn attempt conds uses) (judged (view_of s log) lacking by)) ≡ Some a
     → IsDataStep s log a
@@ -129,11 +130,19 @@ data_step s log a (by_head n k p e) =
 -- what holds of each kind of step holds of an act that is one
 pub data_step_way : (s : Setting) (log : Log) (act : Act) (P : Act → Type 0)
     → ((k : ℕ) (txn : TxnNo) (attempt : ℕ) → P (Records k (Arrive txn attempt (home_of s).dm) []))
-    → ((k : ℕ) (o : Open) (m : Msg) → head_of (filter (is_asked_of k) (opens log)) ≡ Some o → reply (frozen s k log) o.msg ≡ Some m → P (Sends o.from m (Some o.hand)))
-    → ((c : ℕ) (ts : Ts) (k : ClassNo) (txn : TxnNo) (attempt : ℕ) (conds : List Cond) (uses : List Use) → IsClassHere s c → head (pipe c log) ≡ Some (Read ts k txn attempt conds uses) → P (Records c (Answer txn attempt (home_of s).dm) ((source_of (home_of s) c, Ready ts k (counts_told s log ts.0 uses)) ∷ [])))
-    → ((c : ℕ) (ts : Ts) (k : ClassNo) (txn : TxnNo) (attempt : ℕ) (conds : List Cond) (uses : List Use) (by : ClassNo) (write : Ts) → IsClassHere s c → head (pipe c log) ≡ Some (Read ts k txn attempt conds uses) → P (Records c (Rejected txn attempt (home_of s).dm by write) ((source_of (home_of s) c, Reject ts k by write) ∷ [])))
+    → ((k : ℕ) (o : Open) (m : Msg) → head_of (filter (is_asked_of k) (opens log)) ≡ Some o
+    → reply (frozen s k log) o.msg ≡ Some m → P (Sends o.from m (Some o.hand)))
+    → ((c : ℕ) (ts : Ts) (k : ClassNo) (txn : TxnNo) (attempt : ℕ) (conds : List Cond) (uses : List Use)
+    → IsClassHere s c → head (pipe c log) ≡ Some (Read ts k txn attempt conds uses)
+    → P (Records c (Answer txn attempt (home_of s).dm)
+    ((source_of (home_of s) c, Ready ts k (counts_told s log ts.0 uses)) ∷ [])))
+    → ((c : ℕ) (ts : Ts) (k : ClassNo) (txn : TxnNo) (attempt : ℕ) (conds : List Cond) (uses : List Use)
+    (by : ClassNo) (write : Ts) → IsClassHere s c → head (pipe c log) ≡ Some
+    (Read ts k txn attempt conds uses) → P (Records c (Rejected txn attempt (home_of s).dm by write)
+    ((source_of (home_of s) c, Reject ts k by write) ∷ [])))
     → ((c : ℕ) (txn : TxnNo) (attempt : ℕ) (ds : List Cond) → P (Records c (Wait txn attempt (home_of s).dm ds) (map (ask_for (home_of s)) ds)))
-    → ((c : ℕ) (ts : Ts) (k : ClassNo) (txn : TxnNo) (changes : List Change) → head (pipe c log) ≡ Some (Write ts k txn changes) → P (Records c (Apply txn k (home_of s).dm ts) (done_for c (Done ts))))
+    → ((c : ℕ) (ts : Ts) (k : ClassNo) (txn : TxnNo) (changes : List Change) → head (pipe c log) ≡ Some
+    (Write ts k txn changes) → P (Records c (Apply txn k (home_of s).dm ts) (done_for c (Done ts))))
     → ((c : ℕ) (k : ClassNo) (time : Ts) → head (pipe c log) ≡ Some (Null k time) → P (Records c (Pass k (home_of s).dm time) []))
     → IsDataStep s log act → P act
 data_step_way s log act P f1 f2 f3 f4 f5 f6 f7 (arrives k txn attempt e) = subst P (sym e) (f1 k txn attempt)

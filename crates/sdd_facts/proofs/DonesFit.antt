@@ -49,7 +49,8 @@ same_done ts _ = refl
 
 same_tally : (ts : ℕ) (ms : List Msg) → tally (is_done ts) ms ≡ tally (is_done_of ts) ms
 same_tally ts [] = refl
-same_tally ts (m ∷ ms) = let i = same_tally ts ms in let e : one_if (is_done ts m) ≡ one_if (is_done_of ts m) = ap one_if (same_done ts m) in omega (arith, i, e)
+same_tally ts (m ∷ ms) = let i = same_tally ts ms in let e : one_if (is_done ts m) ≡ one_if
+    (is_done_of ts m) = ap one_if (same_done ts m) in omega (arith, i, e)
 
 -- what was served last: since a Commit, unless there was another
 
@@ -129,8 +130,15 @@ start_between s y b l a front c r f e is =
     elim (compare front st.later (Did y) (Did (start_at s 0 st.before st.queued)) b st.before (sym is ∙ st.is)) [
       | inl u ↦ absurd (start_not s st.before st.queued y c u.1)
       | inr u ↦ elim u [
-        | inl v ↦ record { later = st.later; between = v.between; queued = st.queued; is = subst (λ x. l ≡ st.later ++ Did (start_at s 0 x st.queued) ∷ x) v.is st.is }
-        | inr v ↦ (let n = no_record_at 0 front (Did y) v.between (subst (NoRecord 0) v.front st.none_since) in let z : ◌≡◌ {A = Bool} true false = sym r ∙ n in cc)
+        | inl v ↦ record {
+          later = st.later;
+          between = v.between;
+          queued = st.queued;
+          is =
+              subst (λ x. l ≡ st.later ++ Did (start_at s 0 x st.queued) ∷ x) v.is st.is;
+        }
+        | inr v ↦ (let n = no_record_at 0 front (Did y) v.between
+            (subst (NoRecord 0) v.front st.none_since) in let z : ◌≡◌ {A = Bool} true false = sym r ∙ n in cc)
       ]
     ]
 
@@ -150,17 +158,28 @@ all_done g k t log y b a i h w fair e =
     let s : Setting = setting_of g U in
     let p = place_of_act g U log w.later (start_at s 0 (w.between ++ Did y ∷ b) w.queued) (w.between ++ Did y ∷ b) w.is in
     let st = start_of_active s 0 b a fair e in
-    let here : local_of g U p.rest ≡ (w.between ++ Did y ∷ st.later) ++ Did (start_at s 0 st.before st.queued) ∷ st.before = p.local_is ∙ ap (λ x. w.between ++ Did y ∷ x) st.is ∙ sym (append_assoc w.between (Did y ∷ st.later) (Did (start_at s 0 st.before st.queued) ∷ st.before)) in
+    let here : local_of g U p.rest ≡ (w.between ++ Did y ∷ st.later) ++ Did
+    (start_at s 0 st.before st.queued) ∷ st.before = p.local_is ∙ ap (λ x. w.between ++ Did y ∷ x) st.is
+    ∙ sym (append_assoc w.between (Did y ∷ st.later) (Did (start_at s 0 st.before st.queued) ∷ st.before))
+    in
     let q = place_of_act g U p.rest (w.between ++ Did y ∷ st.later) (start_at s 0 st.before st.queued) st.before here in
     let start : start_at s 0 (w.between ++ Did y ∷ b) w.queued ≡ start_u g p.rest w.queued = ap (λ x. start_at s 0 x w.queued) (sym p.local_is) in
     let first : start_at s 0 st.before st.queued ≡ start_u g q.rest st.queued = ap (λ x. start_at s 0 x st.queued) (sym q.local_is) in
-    let hp : IsPermitted g (Does U (start_at s 0 (w.between ++ Did y ∷ b) w.queued) ∷ p.rest) = permitted_before g p.later (Does U (start_at s 0 (w.between ++ Did y ∷ b) w.queued) ∷ p.rest) (subst (IsPermitted g) p.is h) in
-    let z = zero_pair g k t p.rest q.later q.rest w.queued st.queued i (subst (λ x. IsPermitted g (Does U x ∷ p.rest)) start hp) (q.is ∙ ap (λ x. q.later ++ Does U x ∷ q.rest) first) in
+    let hp : IsPermitted g (Does U (start_at s 0 (w.between ++ Did y ∷ b) w.queued) ∷ p.rest) =
+    permitted_before g p.later (Does U (start_at s 0 (w.between ++ Did y ∷ b) w.queued) ∷ p.rest)
+    (subst (IsPermitted g) p.is h) in
+    let z = zero_pair g k t p.rest q.later q.rest w.queued st.queued i
+    (subst (λ x. IsPermitted g (Does U x ∷ p.rest)) start hp) (q.is
+    ∙ ap (λ x. q.later ++ Does U x ∷ q.rest) first) in
     let stamp : next_stamp s (local_of g U q.rest) ≡ a.ts = ap (next_stamp s) q.local_is ∙ sym st.ts_is in
     let got : g.catalogue.dms ≤ dones_of a.ts (local_of g U p.rest) = subst (λ x. g.catalogue.dms ≤ dones_of x (local_of g U p.rest)) stamp z.0 in
     let x = local_grows g U (p.later ++ Does U (start_at s 0 (w.between ++ Did y ∷ b) w.queued) ∷ []) p.rest in
-    let whole : local_of g U log ≡ x.0 ++ local_of g U p.rest = ap (local_of g U) (p.is ∙ sym (append_assoc p.later (Does U (start_at s 0 (w.between ++ Did y ∷ b) w.queued) ∷ []) p.rest)) ∙ x.1 in
-    let up : dones_of a.ts (local_of g U p.rest) ≤ dones_of a.ts (local_of g U log) = subst (λ l. dones_of a.ts (local_of g U p.rest) ≤ dones_of a.ts l) (sym whole) (dones_up a.ts x.0 (local_of g U p.rest)) in
+    let whole : local_of g U log ≡ x.0 ++ local_of g U p.rest =
+    ap (local_of g U) (p.is ∙ sym (append_assoc p.later
+    (Does U (start_at s 0 (w.between ++ Did y ∷ b) w.queued) ∷ []) p.rest)) ∙ x.1 in
+    let up : dones_of a.ts (local_of g U p.rest) ≤ dones_of a.ts (local_of g U log) =
+    subst (λ l. dones_of a.ts (local_of g U p.rest) ≤ dones_of a.ts l) (sym whole)
+    (dones_up a.ts x.0 (local_of g U p.rest)) in
     omega (arith, got, up)
 
 -- so no other Commit stands behind that of a DONE that is still to come
@@ -174,12 +193,22 @@ commit_last g k t log bases a x b i h e act less =
     let start : (last_served s (Did y ∷ b)).ts ≡ a.ts = ap ts_of act in
     elim (served_or s a.ts y b start x) [
       | inl q ↦ ap (λ l. (last_served s l).ts) e ∙ q
-      | inr q ↦ (let whole : local_of g U log ≡ q.later ++ Did q.act ∷ (q.between ++ Did y ∷ b) = e ∙ ap (λ l. l ++ Did y ∷ b) q.is ∙ append_assoc q.later (Did q.act ∷ q.between) (Did y ∷ b) in
+      | inr q ↦ (let whole : local_of g U log ≡ q.later ++ Did q.act ∷ (q.between ++ Did y ∷ b) =
+          e ∙ ap (λ l. l ++ Did y ∷ b) q.is ∙ append_assoc q.later (Did q.act ∷ q.between) (Did y ∷ b) in
           let u = each_at (IsFairU s) q.later (Did q.act) (q.between ++ Did y ∷ b) (subst (Each (IsFairU s)) whole (u_table g log h)) in
           let v = each_at (IsFair s) q.later (Did q.act) (q.between ++ Did y ∷ b) (subst (Each (IsFair s)) whole fair) in
           let c = commit_active s (q.between ++ Did y ∷ b) q.act (u_due s u.0.0.0 (q.between ++ Did y ∷ b) q.act u.0.0.1) q.commits in
           let w = start_between s y b (q.between ++ Did y ∷ b) c.0 q.between refl refl v.1 c.1 refl in
-          let again : HasStartIn s y b (local_of g U log) = record { later = q.later ++ Did q.act ∷ w.later; between = w.between; queued = w.queued; is = whole ∙ ap (λ l. q.later ++ Did q.act ∷ l) w.is ∙ sym (append_assoc q.later (Did q.act ∷ w.later) (Did (start_at s 0 (w.between ++ Did y ∷ b) w.queued) ∷ (w.between ++ Did y ∷ b))) } in
+          let again : HasStartIn s y b (local_of g U log) =
+          record {
+            later = q.later ++ Did q.act ∷ w.later;
+            between = w.between;
+            queued = w.queued;
+            is =
+                whole ∙ ap (λ l. q.later ++ Did q.act ∷ l) w.is
+                ∙ sym (append_assoc q.later (Did q.act ∷ w.later)
+                (Did (start_at s 0 (w.between ++ Did y ∷ b) w.queued) ∷ (w.between ++ Did y ∷ b)));
+          } in
           let d = all_done g k t log y b a i h again (each_at (IsFair s) q.between (Did y) b v.1).1 act in
           absurd (omega (arith, d, less)))
     ]
@@ -196,13 +225,16 @@ done_fits g k t log d n ts i h e =
     let o = write_origin g p.before 0 d ts by.class by.txn by.changes z put in
     let y : Act = commit_act g.catalogue o.bases 0 o.attempt in
     let front : Log = p.later ++ Does (D d) p.act ∷ o.later in
-    let whole : log ≡ front ++ Does U y ∷ o.before = p.is ∙ ap (λ l. p.later ++ Does (D d) p.act ∷ l) o.is ∙ sym (append_assoc p.later (Does (D d) p.act ∷ o.later) (Does U y ∷ o.before)) in
+    let whole : log ≡ front ++ Does U y ∷ o.before = p.is ∙ ap (λ l. p.later ++ Does (D d) p.act ∷ l) o.is
+    ∙ sym (append_assoc p.later (Does (D d) p.act ∷ o.later) (Does U y ∷ o.before)) in
     let x = local_grows g U front (Does U y ∷ o.before) in
     let here : local_of g U log ≡ x.0 ++ Did y ∷ local_of g U o.before = ap (local_of g U) whole ∙ x.1 ∙ ap (λ l. x.0 ++ l) (own_act g U y o.before) in
     let few = dones_few g (Hand (D d) U n (Done ts) ∷ log) ts.0 h in
     let one : one_if (is_done_of ts.0 (Done ts)) ≡ 1 = ap one_if (same_number ts.0) in
     let grown : dones_of ts.0 (local_of g U (Hand (D d) U n (Done ts) ∷ log)) ≡ one_if (is_done_of ts.0 (Done ts)) + dones_of ts.0 (local_of g U log) = refl in
-    let less : dones_of o.attempt.ts (local_of g U log) < g.catalogue.dms = subst (λ q. dones_of q (local_of g U log) < g.catalogue.dms) o.ts_is (omega (arith, few, grown, one)) in
+    let less : dones_of o.attempt.ts (local_of g U log) < g.catalogue.dms =
+    subst (λ q. dones_of q (local_of g U log) < g.catalogue.dms) o.ts_is (omega (arith, few, grown, one))
+    in
     let c = commit_last g k t log o.bases o.attempt x.0 (local_of g U o.before) i h.1 here o.active_is less in
     let le = put_once g log ts.0 d h.1 in let same = same_tally ts.0 (puts_to U (local_of g (D d) log)) in
     record {

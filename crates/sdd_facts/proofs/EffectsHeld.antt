@@ -39,7 +39,8 @@ HandFits cat d log (Did act) = Unit {0}
 abbrev AreFit : Catalogue → ℕ → List Msg → Type 0
 AreFit cat d ms = AllByRecursion (FitsMsg cat d) ms
 
-put_fits : (cat : Catalogue) (d : ℕ) (m : Msg) (b : Bool) (p : Pipe) → FitsMsg cat d m → AreFit cat d p.unprocessed → AreFit cat d (if b then put m p else p).unprocessed
+put_fits : (cat : Catalogue) (d : ℕ) (m : Msg) (b : Bool) (p : Pipe) → FitsMsg cat d m
+    → AreFit cat d p.unprocessed → AreFit cat d (if b then put m p else p).unprocessed
 put_fits cat d m true p h all = all_joined (FitsMsg cat d) p.unprocessed (m ∷ []) all (h, tt)
 put_fits cat d m false p h all = all
 
@@ -81,7 +82,8 @@ more_items : (cat : Catalogue) (b : Bool) (xs ys : Dated) → AreItems cat xs �
 more_items cat true xs ys h k = all_joined (λ (x : ℕ × Change). IsItemChange cat x.1) xs ys h k
 more_items cat false xs ys h k = h
 
-act_items : (cat : Catalogue) (d c : ℕ) (act : Act) (p : Pipe) (xs : Dated) → AreFit cat d p.unprocessed → AreItems cat xs → AreItems cat (applied_acted c act p xs)
+act_items : (cat : Catalogue) (d c : ℕ) (act : Act) (p : Pipe) (xs : Dated) → AreFit cat d p.unprocessed
+    → AreItems cat xs → AreItems cat (applied_acted c act p xs)
 act_items cat d c (Records k r sends) p xs all h = more_items cat ((k == c) && is_apply r) xs (changes_in (head p)) h (head_items cat d p.unprocessed all)
 act_items cat d c (Sends to m hand) p xs all h = h
 
@@ -97,13 +99,18 @@ module _ (s : Setting) (sound : IsSound s.catalogue) (first : IsDatabase s.catal
   -- all changes that make the copies are of items
   pub all_items : (log : Log) → Each (HandFits s.catalogue d) log → AreItems s.catalogue (dated s log)
   all_items log h =
-      all_joined (λ (x : ℕ × Change). IsItemChange s.catalogue x.1) _ (flat_map (λ c. applied c log) (classes_of s)) (first_are_items s.catalogue (database_of s.catalogue s.rows) first)
+      all_joined (λ (x : ℕ × Change). IsItemChange s.catalogue x.1) _
+      (flat_map (λ c. applied c log) (classes_of s))
+      (first_are_items s.catalogue (database_of s.catalogue s.rows) first)
       (all_gathered (λ (x : ℕ × Change). IsItemChange s.catalogue x.1) (λ c. applied c log) (classes_of s) (λ c. applied_items s.catalogue d c log h))
 
   -- what an attempt reads of them are entries of a database
-  answer_entries : (ts : ℕ) (b : Bool) (o : Option Msg) (log : Log) → Each (HandFits s.catalogue d) log → AllByRecursion (IsEntry s.catalogue) (snapshots s ts log)
+  answer_entries : (ts : ℕ) (b : Bool) (o : Option Msg) (log : Log) → Each (HandFits s.catalogue d) log
+      → AllByRecursion (IsEntry s.catalogue) (snapshots s ts log)
       → AllByRecursion (IsEntry s.catalogue) (if b then flat_map (items_of s.catalogue (dated s log)) (frags_asked o) else snapshots s ts log)
-  answer_entries ts true o log h rest = all_gathered (IsEntry s.catalogue) (items_of s.catalogue (dated s log)) (frags_asked o) (items_are_entries s.catalogue sound (dated s log) (all_items log h))
+  answer_entries ts true o log h rest =
+      all_gathered (IsEntry s.catalogue) (items_of s.catalogue (dated s log)) (frags_asked o)
+      (items_are_entries s.catalogue sound (dated s log) (all_items log h))
   answer_entries ts false o log h rest = rest
 
   pub snapshot_entries : (ts : ℕ) (log : Log) → Each (HandFits s.catalogue d) log → AllByRecursion (IsEntry s.catalogue) (snapshots s ts log)
@@ -112,6 +119,8 @@ module _ (s : Setting) (sound : IsSound s.catalogue) (first : IsDatabase s.catal
   snapshot_entries ts (Ticked n ∷ log) h = snapshot_entries ts log h.1
   snapshot_entries ts (Submits n txn ∷ log) h = snapshot_entries ts log h.1
   snapshot_entries ts (Redeclared force t ∷ log) h = snapshot_entries ts log h.1
-  snapshot_entries ts (Did (Records k (Answer txn attempt dm) sends) ∷ log) h = answer_entries ts (is_at ts (head (pipe k log))) (head (pipe k log)) log h.1 (snapshot_entries ts log h.1)
+  snapshot_entries ts (Did (Records k (Answer txn attempt dm) sends) ∷ log) h =
+      answer_entries ts (is_at ts (head (pipe k log))) (head (pipe k log)) log h.1
+      (snapshot_entries ts log h.1)
   snapshot_entries ts (Did (Records k _ sends) ∷ log) h = snapshot_entries ts log h.1
   snapshot_entries ts (Did (Sends to m hand) ∷ log) h = snapshot_entries ts log h.1

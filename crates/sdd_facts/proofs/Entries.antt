@@ -41,7 +41,8 @@ Stands cat f k x = IsItemChange cat x.1 × (x.1.frag.0 ≡ f) × (x.1.key ≡ k)
 abbrev IsOf : Catalogue → ℕ → ℕ × Change → Type 0
 IsOf cat f x = IsItemChange cat x.1 × (x.1.frag.0 ≡ f)
 
-one_of_two : (P : ℕ × Change → Type 0) (y : ℕ × Change) (o : Option (ℕ × Change)) (x : ℕ × Change) → P y → ((z : ℕ × Change) → o ≡ Some z → P z) → newer y o ≡ Some x → P x
+one_of_two : (P : ℕ × Change → Type 0) (y : ℕ × Change) (o : Option (ℕ × Change)) (x : ℕ × Change) → P y
+    → ((z : ℕ × Change) → o ≡ Some z → P z) → newer y o ≡ Some x → P x
 one_of_two P y None x here rest e = let p : y ≡ x = cc in subst P p here
 one_of_two P y (Some z) x here rest e =
     elim (nat_lt y.0 z.0) as (λ b. cond b (Some z) (Some y) ≡ Some x → P x) [ true ↦ λ q. rest x q | false ↦ λ q. let p : y ≡ x = cc in subst P p here ] e
@@ -69,7 +70,8 @@ kept_of cat f (x ∷ xs) all =
 abbrev entry_at : Catalogue → ℕ → ℤ × Row → Item × Row
 entry_at cat f e = (((fragment_at cat f).rel.0, e.0), e.1)
 
-row_is_entry : (cat : Catalogue) → IsSound cat → (f : ℕ) (k : ℤ) (x : ℕ × Change) (row : Row) → Stands cat f k x → x.1.row ≡ Some row → IsEntry cat (entry_at cat f (k, row))
+row_is_entry : (cat : Catalogue) → IsSound cat → (f : ℕ) (k : ℤ) (x : ℕ × Change) (row : Row)
+    → Stands cat f k x → x.1.row ≡ Some row → IsEntry cat (entry_at cat f (k, row))
 row_is_entry cat sound f k x row stands e =
     let c : Change = x.1 in
     let h : IsChange cat ((c.frag.0, c.key), c.row) = stands.0 in
@@ -83,7 +85,9 @@ row_is_entry cat sound f k x row stands e =
       key_held = subst (λ n. in_range n ≡ true) stands.2 h.held;
     }
 
-one_more : (cat : Catalogue) → IsSound cat → (f : ℕ) (k : ℤ) (o : Option (ℕ × Change)) (rest : List (ℤ × Row)) → ((x : ℕ × Change) → o ≡ Some x → Stands cat f k x) → AllByRecursion (IsEntry cat) (map (entry_at cat f) rest)
+one_more : (cat : Catalogue) → IsSound cat → (f : ℕ) (k : ℤ) (o : Option (ℕ × Change))
+    (rest : List (ℤ × Row)) → ((x : ℕ × Change) → o ≡ Some x → Stands cat f k x)
+    → AllByRecursion (IsEntry cat) (map (entry_at cat f) rest)
     → AllByRecursion (IsEntry cat) (map (entry_at cat f) (cons_option (row_left k o) rest))
 one_more cat sound f k None rest h all = all
 one_more cat sound f k (Some x) rest h all =
@@ -92,7 +96,9 @@ one_more cat sound f k (Some x) rest h all =
       | Some row ↦ λ e. (row_is_entry cat sound f k x row (h x refl) e, all)
     ] refl
 
-left_entries : (cat : Catalogue) → IsSound cat → (f : ℕ) (ys : Dated) → AllByRecursion (IsOf cat f) ys → (ks : List ℤ) → AllByRecursion (IsEntry cat) (map (entry_at cat f) (filter_map (λ k. row_left k (latest k ys)) ks))
+left_entries : (cat : Catalogue) → IsSound cat → (f : ℕ) (ys : Dated) → AllByRecursion (IsOf cat f) ys
+    → (ks : List ℤ) → AllByRecursion (IsEntry cat)
+    (map (entry_at cat f) (filter_map (λ k. row_left k (latest k ys)) ks))
 left_entries cat sound f ys of [] = tt
 left_entries cat sound f ys of (k ∷ ks) =
     one_more cat sound f k (latest k ys) (filter_map (λ k. row_left k (latest k ys)) ks) (latest_stands cat f k ys of) (left_entries cat sound f ys of ks)
@@ -101,7 +107,8 @@ pub items_are_entries : (cat : Catalogue) → IsSound cat → (xs : Dated) → A
 items_are_entries cat sound xs all f = left_entries cat sound f (of_fragment f xs) (kept_of cat f xs all) (keys_in (of_fragment f xs))
 
 -- entries make a database
-pub entries_make : (cat : Catalogue) (db : Database) (es : List (Item × Row)) → IsDatabase cat db → AllByRecursion (IsEntry cat) es → IsDatabase cat (fold with_item db es)
+pub entries_make : (cat : Catalogue) (db : Database) (es : List (Item × Row)) → IsDatabase cat db
+    → AllByRecursion (IsEntry cat) es → IsDatabase cat (fold with_item db es)
 entries_make cat db [] is all = is
 entries_make cat db (e ∷ es) is all = entries_make cat (with_item db e) es (with_row_stays cat db e.0 e.1 is all.0) all.1
 

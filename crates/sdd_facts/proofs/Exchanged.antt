@@ -47,7 +47,14 @@ tm_small : (cat : Catalogue) (c : ℕ) → IsWhole cat → (class_at cat c).tm.0
 tm_small cat c w = elim (dec_le (suc (c - 1)) (length cat.classes)) [
   | yes l ↦ (let s = All-get_or (IsServedClass cat) cat.classes (c - 1) (record { name = []; tm = tm_no 0; reads = []; writes = [] }) l w.classes in
       let m = s.module_to in let n = w.few_tms in omega (arith, m, n))
-  | no m ↦ (let e : (class_at cat c).tm.0 ≡ 0 = ap (λ (k : Class). k.tm.0) (get_or_past cat.classes (c - 1) (record { name = []; tm = tm_no 0; reads = []; writes = [] }) (omega (arith, m))) in omega (arith, e))
+  | no m ↦ (let e : (class_at cat c).tm.0 ≡ 0 =
+      ap (λ (k : Class). k.tm.0) (get_or_past cat.classes (c - 1) (record {
+        name = [];
+        tm = tm_no 0;
+        reads =
+            [];
+        writes = [];
+      }) (omega (arith, m))) in omega (arith, e))
 ]
 
 site_small : (b : Bool) (t : TmNo) → t.0 ≤ 63 → number_of (if b then U else T t) ≤ 63
@@ -81,17 +88,21 @@ upheld_r g log a b n (Ready ts class counts) bases w h k = (answers_are_awaited 
 upheld_r g log a b n (Values ts class u values) bases w h k = answers_are_awaited g log a b n (Values ts class u values) h (few_homes g w)
 upheld_r g log a b n (Reduced ts class u c) bases w h k = answers_are_awaited g log a b n (Reduced ts class u c) h (few_homes g w)
 upheld_r g log a b n (Rows ts class rows) bases w h k =
-    rows_fit (setting_of g b) bases (active (setting_of g b) class.0 (local_of g b log)) a ts.0 rows (answers_are_awaited g log a b n (Rows ts class rows) h (few_homes g w)) k
+    rows_fit (setting_of g b) bases (active (setting_of g b) class.0 (local_of g b log)) a ts.0 rows
+    (answers_are_awaited g log a b n (Rows ts class rows) h (few_homes g w)) k
 upheld_r g log a b n _ bases w h k = tt
 
 -- with the last ROWS the rows that came serve the database of the attempt that awaits them
 
 rows_served : (g : Given) (log : Log) (a b : Site) (n : ℕ) (ts : Ts) (of : ClassNo) (rows : List (ℕ × Row)) → IsWhole g.catalogue → FitsGiven g → HasOneForce g
-    → IsPermitted g (Hand a b n (Rows ts of rows) ∷ log) → IsRouted a b (Rows ts of rows) → (o : Option Attempt) → active (setting_of g b) of.0 (local_of g b log) ≡ o
+    → IsPermitted g (Hand a b n (Rows ts of rows) ∷ log) → IsRouted a b (Rows ts of rows)
+    → (o : Option Attempt) → active (setting_of g b) of.0 (local_of g b log) ≡ o
     → ServedBy (setting_of g b) (base_of g (Hand a b n (Rows ts of rows) ∷ log)) o a rows
 rows_served g log a b n ts of rows w good one h route None e = tt
 rows_served g log (D d) b n ts of rows w good one h route (Some x) e =
-    let r : AwaitsRows (Some x) (D d) ts.0 rows = subst (λ o. AwaitsRows o (D d) ts.0 rows) e (answers_are_awaited g log (D d) b n (Rows ts of rows) h (few_homes g w)) in
+    let r : AwaitsRows (Some x) (D d) ts.0 rows =
+    subst (λ o. AwaitsRows o (D d) ts.0 rows) e (answers_are_awaited g log (D d) b n (Rows ts of rows) h
+    (few_homes g w)) in
     let at : home g.catalogue of.0 ≡ b = (start_of_active (setting_of g b) of.0 (local_of g b log) x (fair_of g b log h.1 route.1) e).at_home in
     subst (λ b. IsPermitted g (Hand (D d) b n (Rows ts of rows) ∷ log) → active (setting_of g b) of.0 (local_of g b log) ≡ Some x
     → ServesIfLast (setting_of g b) (base_of g (Hand (D d) b n (Rows ts of rows) ∷ log)) x rows (without x.exchange.lacks d.0)) at

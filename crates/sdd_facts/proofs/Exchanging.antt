@@ -75,9 +75,18 @@ fetch_ships ts c m x (d ∷ ds) = refl
 next_ships : (ts c : ℕ) (x : Exchange) (qs : List Asking) (done : List Step) → ShipsAll (goes_on ts c x qs done)
 next_ships ts c x [] done = λ e. refl
 next_ships ts c x (q ∷ rest) done =
-    elim (next_move q.conds (counts_for x.counts q) done) as (λ o. ShipsAll (elim o as (λ _. Exchange) [ None ↦ goes_on ts c x rest [] | Some m ↦ fetches ts c (move_at q.before m) (record x { left = q ∷ rest; done = done ++ m.step ∷ [] }) ])) [
+    elim (next_move q.conds (counts_for x.counts q) done) as (λ o. ShipsAll
+    (elim o as (λ _. Exchange) [
+      | None ↦ goes_on ts c x rest []
+      | Some m ↦ fetches ts c
+          (move_at q.before m) (record x { left = q ∷ rest; done = done ++ m.step ∷ [] })
+    ])) [
       | None ↦ next_ships ts c x rest []
-      | Some m ↦ λ e. never _ e (fetch_ships ts c (move_at q.before m) (record x { left = q ∷ rest; done = done ++ m.step ∷ [] }) (with_use x (move_at q.before m).source.part))
+      | Some m ↦ λ e. never _ e (fetch_ships ts c (move_at q.before m) (record x {
+        left = q ∷ rest;
+        done =
+            done ++ m.step ∷ [];
+      }) (with_use x (move_at q.before m).source.part))
     ]
 
 end_ships : (ts c : ℕ) (x : Exchange) (p : Phase) → x.phase ≡ p → is_shipped p ≡ false → ShipsAll (phase_ends ts c x p)
@@ -99,7 +108,12 @@ fetch_found ts c m x (d ∷ ds) = refl
 next_found : (ts c : ℕ) (x : Exchange) (qs : List Asking) (done : List Step) → (goes_on ts c x qs done).found ≡ x.found
 next_found ts c x [] done = refl
 next_found ts c x (q ∷ rest) done =
-    elim (next_move q.conds (counts_for x.counts q) done) as (λ o. (elim o as (λ _. Exchange) [ None ↦ goes_on ts c x rest [] | Some m ↦ fetches ts c (move_at q.before m) (record x { left = q ∷ rest; done = done ++ m.step ∷ [] }) ]).found ≡ x.found) [
+    elim (next_move q.conds (counts_for x.counts q) done) as (λ o.
+    (elim o as (λ _. Exchange) [
+      | None ↦ goes_on ts c x rest []
+      | Some m ↦ fetches ts c
+          (move_at q.before m) (record x { left = q ∷ rest; done = done ++ m.step ∷ [] })
+    ]).found ≡ x.found) [
       | None ↦ next_found ts c x rest []
       | Some m ↦ fetch_found ts c (move_at q.before m) (record x { left = q ∷ rest; done = done ++ m.step ∷ [] }) (with_use x (move_at q.before m).source.part)
     ]
@@ -123,9 +137,18 @@ fetch_modules ts c m x (d ∷ ds) = refl
 next_modules : (ts c : ℕ) (x : Exchange) (qs : List Asking) (done : List Step) → (goes_on ts c x qs done).modules ≡ x.modules
 next_modules ts c x [] done = refl
 next_modules ts c x (q ∷ rest) done =
-    elim (next_move q.conds (counts_for x.counts q) done) as (λ o. (elim o as (λ _. Exchange) [ None ↦ goes_on ts c x rest [] | Some m ↦ fetches ts c (move_at q.before m) (record x { left = q ∷ rest; done = done ++ m.step ∷ [] }) ]).modules ≡ x.modules) [
+    elim (next_move q.conds (counts_for x.counts q) done) as (λ o.
+    (elim o as (λ _. Exchange) [
+      | None ↦ goes_on ts c x rest []
+      | Some m ↦ fetches ts c
+          (move_at q.before m) (record x { left = q ∷ rest; done = done ++ m.step ∷ [] })
+    ]).modules ≡ x.modules) [
       | None ↦ next_modules ts c x rest []
-      | Some m ↦ fetch_modules ts c (move_at q.before m) (record x { left = q ∷ rest; done = done ++ m.step ∷ [] }) (with_use x (move_at q.before m).source.part)
+      | Some m ↦ fetch_modules ts c (move_at q.before m) (record x {
+        left = q ∷ rest;
+        done =
+            done ++ m.step ∷ [];
+      }) (with_use x (move_at q.before m).source.part)
     ]
 
 end_modules : (ts c : ℕ) (x : Exchange) (p : Phase) → (phase_ends ts c x p).modules ≡ x.modules
@@ -149,7 +172,8 @@ module _ (ds : List ℕ) (statements : List Stmt) (asked : ℕ → ℕ → Bool)
 
   module _ (ts c n : ℕ) (space : Space) (there : Has ds n) where
     -- an answer before rows are shipped
-    early : (x y : Exchange) → Serving space x → Follows ds statements asked first space (answered ts c n y) → is_shipped x.phase ≡ false → y.phase ≡ x.phase → y.found ≡ x.found
+    early : (x y : Exchange) → Serving space x → Follows ds statements asked first space (answered ts c n y)
+        → is_shipped x.phase ≡ false → y.phase ≡ x.phase → y.found ≡ x.found
         → ((d : ℕ) → Has ds d → contains (firsts y.modules) d ≡ true) → Serving space (answered ts c n y)
     early x y h f idle p q within =
         let empty : (answered ts c n y).found ≡ [] = lack_found ts c y (without y.lacks n) ∙ q ∙ h.none idle in
@@ -159,7 +183,9 @@ module _ (ds : List ℕ) (statements : List Stmt) (asked : ℕ → ℕ → Bool)
           of = λ s k. absurd (subst (λ xs. Has xs s) empty k);
           all = λ e d k l s i.
               (let ships : (answered ts c n y).lacks ≡ firsts (answered ts c n y).modules = lack_ships ts c y (without y.lacks n) (ap is_shipped p ∙ idle) e in
-              let lacks : contains (answered ts c n y).lacks d ≡ true = ap (λ ls. contains ls d) (ships ∙ ap firsts (lack_modules ts c y (without y.lacks n))) ∙ within d k in
+              let lacks : contains (answered ts c n y).lacks d ≡ true =
+              ap (λ ls. contains ls d) (ships ∙ ap firsts (lack_modules ts c y (without y.lacks n)))
+              ∙ within d k in
               never (contains (answered ts c n y).lacks d) lacks l);
         }
 
@@ -175,7 +201,8 @@ module _ (ds : List ℕ) (statements : List Stmt) (asked : ℕ → ℕ → Bool)
         from : (s : ℕ × Row) → Has (x.found ++ rows) s → (d : ℕ) × Has ds d × Has (all_rows (space d)) s
         from s k = elim (Has-append x.found rows s k) [ inl a ↦ h.of s a | inr b ↦ (n, there, subst (λ rs. Has rs s) is b) ]
 
-        come : (ls : List ℕ) → without x.lacks n ≡ ls → (d : ℕ) → Has ds d → contains ls d ≡ false → (s : ℕ × Row) → Has (all_rows (space d)) s → Has (x.found ++ rows) s
+        come : (ls : List ℕ) → without x.lacks n ≡ ls → (d : ℕ) → Has ds d → contains ls d ≡ false
+            → (s : ℕ × Row) → Has (all_rows (space d)) s → Has (x.found ++ rows) s
         come ls e d k l s i = elim (true_or_false (d == n)) [
           | inl own ↦ Has-right x.found rows s (subst (λ rs. Has rs s) (sym is) (subst (λ m. Has (all_rows (space m)) s) (eqb-true d n own) i))
           | inr other ↦ Has-left x.found rows s (h.all (ap is_shipped p) d k (sym (without_other x.lacks n d other) ∙ ap (λ z. contains z d) e ∙ l) s i)
@@ -183,7 +210,11 @@ module _ (ds : List ℕ) (statements : List Stmt) (asked : ℕ → ℕ → Bool)
 
         by : (ls : List ℕ) → without x.lacks n ≡ ls → Follows ds statements asked first space (lacking ts c y ls) → Serving space (lacking ts c y ls)
         by [] e g =
-            let over : phase_ends ts c (record y { lacks = [] }) x.phase ≡ record y { lacks = []; phase = Over } = ap (phase_ends ts c (record y { lacks = [] })) p in
+            let over : phase_ends ts c (record y { lacks = [] }) x.phase ≡ record y {
+              lacks = [];
+              phase =
+                  Over;
+            } = ap (phase_ends ts c (record y { lacks = [] })) p in
             subst (Serving space) (sym over) (record {
               follows = subst (Follows ds statements asked first space) over g;
               none = λ z. cc;
@@ -199,7 +230,8 @@ module _ (ds : List ℕ) (statements : List Stmt) (asked : ℕ → ℕ → Bool)
 
 -- which question an answer replies to
 
-ready_kind : (ns : List ℕ) (q : Msg) (t : Ts) (k : ClassNo) (counts : List (ℕ × ℕ)) → Replies ns q (Ready t k counts) → (is_a_fetch q ≡ false) × (is_a_ship q ≡ false)
+ready_kind : (ns : List ℕ) (q : Msg) (t : Ts) (k : ClassNo) (counts : List (ℕ × ℕ))
+    → Replies ns q (Ready t k counts) → (is_a_fetch q ≡ false) × (is_a_ship q ≡ false)
 ready_kind ns (Read a b txn attempt conds uses) t k counts h = (refl, refl)
 ready_kind ns (Fetch a b u col) t k counts h = absurd h
 ready_kind ns (Reduce a b u col vs) t k counts h = absurd h
@@ -213,14 +245,16 @@ reduced_kind ns (Reduce a b v col vs) t k u y h = (refl, refl)
 reduced_kind ns (Ship a b) t k u y h = absurd h
 reduced_kind ns _ t k u y h = absurd h
 
-values_kind : (ns : List ℕ) (q : Msg) (t : Ts) (k : ClassNo) (u : ℕ) (vs : List Value) → Replies ns q (Values t k u vs) → (is_a_fetch q ≡ true) × (is_a_ship q ≡ false) × (is_a_read q ≡ false)
+values_kind : (ns : List ℕ) (q : Msg) (t : Ts) (k : ClassNo) (u : ℕ) (vs : List Value)
+    → Replies ns q (Values t k u vs) → (is_a_fetch q ≡ true) × (is_a_ship q ≡ false) × (is_a_read q ≡ false)
 values_kind ns (Read a b txn attempt conds uses) t k u vs h = absurd h
 values_kind ns (Fetch a b v col) t k u vs h = (refl, refl, refl)
 values_kind ns (Reduce a b v col ws) t k u vs h = absurd h
 values_kind ns (Ship a b) t k u vs h = absurd h
 values_kind ns _ t k u vs h = absurd h
 
-pub rows_kind : (ns : List ℕ) (q : Msg) (t : Ts) (k : ClassNo) (rows : List (ℕ × Row)) → Replies ns q (Rows t k rows) → (is_a_ship q ≡ true) × (is_a_read q ≡ false)
+pub rows_kind : (ns : List ℕ) (q : Msg) (t : Ts) (k : ClassNo) (rows : List (ℕ × Row))
+    → Replies ns q (Rows t k rows) → (is_a_ship q ≡ true) × (is_a_read q ≡ false)
 rows_kind ns (Read a b txn attempt conds uses) t k rows h = absurd h
 rows_kind ns (Fetch a b v col) t k rows h = absurd h
 rows_kind ns (Reduce a b v col ws) t k rows h = absurd h
@@ -235,13 +269,17 @@ abbrev rows_of_msg : Msg → List (ℕ × Row)
 rows_of_msg (Rows t k rows) = rows
 rows_of_msg _ = []
 
-told_values : (ts c : ℕ) (x : Exchange) (q : Msg) (v : Move) (t : Ts) (k : ClassNo) (u : ℕ) (vs : List Value) (f : Frozen) → x.phase ≡ Fetching v → q ≡ question_of ts c x → Tells q (Values t k u vs) f
+told_values : (ts c : ℕ) (x : Exchange) (q : Msg) (v : Move) (t : Ts) (k : ClassNo) (u : ℕ)
+    (vs : List Value) (f : Frozen) → x.phase ≡ Fetching v → q ≡ question_of ts c x
+    → Tells q (Values t k u vs) f
     → vs ≡ values_in (rows_of v.source.part f) v.source.column
 told_values ts c x q v t k u vs f p e h =
-    let now : Tells (question ts c (Fetching v) x.union) (Values t k u vs) f = subst (λ z. Tells z (Values t k u vs) f) (e ∙ ap (λ ph. question ts c ph x.union) p) h in
+    let now : Tells (question ts c (Fetching v) x.union) (Values t k u vs) f =
+    subst (λ z. Tells z (Values t k u vs) f) (e ∙ ap (λ ph. question ts c ph x.union) p) h in
     ap values_of now
 
-told_rows : (ts c : ℕ) (x : Exchange) (q : Msg) (t : Ts) (k : ClassNo) (rows : List (ℕ × Row)) (f : Frozen) → x.phase ≡ Shipping → q ≡ question_of ts c x → Tells q (Rows t k rows) f → rows ≡ all_rows f
+told_rows : (ts c : ℕ) (x : Exchange) (q : Msg) (t : Ts) (k : ClassNo) (rows : List (ℕ × Row)) (f : Frozen)
+    → x.phase ≡ Shipping → q ≡ question_of ts c x → Tells q (Rows t k rows) f → rows ≡ all_rows f
 told_rows ts c x q t k rows f p e h =
     let now : Tells (question ts c Shipping x.union) (Rows t k rows) f = subst (λ z. Tells z (Rows t k rows) f) (e ∙ ap (λ ph. question ts c ph x.union) p) h in
     ap rows_of_msg now
@@ -260,36 +298,51 @@ module _ (ds : List ℕ) (statements : List Stmt) (asked : ℕ → ℕ → Bool)
   Serves space x = Serving ds statements asked first space x
 
   module _ (ts c n : ℕ) (space : Space) (there : Has ds n) where
-    if_own : (b : Bool) (x y : Exchange) → b ≡ true → Follows ds statements asked first space (if b then answered ts c n y else x) → (Follows ds statements asked first space (answered ts c n y) → Serves space (answered ts c n y)) → Serves space (if b then answered ts c n y else x)
+    if_own : (b : Bool) (x y : Exchange) → b ≡ true → Follows ds statements asked first space
+        (if b then answered ts c n y else x) → (Follows ds statements asked first space (answered ts c n y)
+        → Serves space (answered ts c n y)) → Serves space (if b then answered ts c n y else x)
     if_own true x y e f h = h f
     if_own false x y e f h = cc
 
-    pub hand_serves : (x : Exchange) (m : Msg) → is_answer ts c m ≡ true → is_a_refusal m ≡ false → IsReply ts c n space x m → KeepsOnce (space n) → ((d : ℕ) → Has ds d → contains (firsts x.modules) d ≡ true) → Serves space x
+    pub hand_serves : (x : Exchange) (m : Msg) → is_answer ts c m ≡ true → is_a_refusal m ≡ false
+        → IsReply ts c n space x m → KeepsOnce (space n)
+        → ((d : ℕ) → Has ds d → contains (firsts x.modules) d ≡ true) → Serves space x
         → Serves space (after_hand ts c n m x)
     hand_serves x (Ready t k counts) own kind r once within h =
         let q = ready_kind r.uses r.question t k counts r.replies in
         let y : Exchange = record x { counts = counted n counts x.counts } in
-        if_own ((t.0 == ts) && (k.0 == c)) x y own (follows_hand ds statements asked first ts c space x n (Ready t k counts) h.follows (λ e. no_values x.phase r.question r.phase q.0))
+        if_own ((t.0 == ts) && (k.0 == c)) x y own (follows_hand ds statements asked first ts c space x n
+        (Ready t k counts) h.follows (λ e. no_values x.phase r.question r.phase q.0))
         (λ f. early ds statements asked first ts c n space there x y h f (not_shipping x.phase r.question r.phase q.1) refl refl within)
     hand_serves x (Values t k u vs) own kind r once within h =
         let q = values_kind r.uses r.question t k u vs r.replies in
         let v = fetching_is x.phase r.question r.phase q.0 in
         let y : Exchange = record x { union = with_values x.union vs; values = x.values + length vs } in
-        let told : vs ≡ values_in (rows_of v.0.source.part (space n)) v.0.source.column = told_values ts c x r.question v.0 t k u vs (space n) v.1 (r.content q.2) (r.tells q.2) in
+        let told : vs ≡ values_in (rows_of v.0.source.part (space n)) v.0.source.column =
+        told_values ts c x r.question v.0 t k u vs (space n) v.1 (r.content q.2) (r.tells q.2) in
         if_own ((t.0 == ts) && (k.0 == c)) x y own
-        (follows_hand ds statements asked first ts c space x n (Values t k u vs) h.follows (λ e. (v.0, v.1, subst (TellsAll (space n) v.0.source) (sym told) (tells_all (space n) once v.0.source))))
+        (follows_hand ds statements asked first ts c space x n (Values t k u vs) h.follows
+        (λ e. (
+          v.0,
+          v.1,
+          subst (TellsAll (space n) v.0.source) (sym told)
+              (tells_all (space n) once v.0.source),
+        )))
         (λ f. early ds statements asked first ts c n space there x y h f (not_shipping x.phase r.question r.phase q.1) refl refl within)
     hand_serves x (Reduced t k u z) own kind r once within h =
         let q = reduced_kind r.uses r.question t k u z r.replies in
         let y : Exchange = record x { counts = counted n ((u, z) ∷ []) x.counts } in
-        if_own ((t.0 == ts) && (k.0 == c)) x y own (follows_hand ds statements asked first ts c space x n (Reduced t k u z) h.follows (λ e. no_values x.phase r.question r.phase q.0))
+        if_own ((t.0 == ts) && (k.0 == c)) x y own (follows_hand ds statements asked first ts c space x n
+        (Reduced t k u z) h.follows (λ e. no_values x.phase r.question r.phase q.0))
         (λ f. early ds statements asked first ts c n space there x y h f (not_shipping x.phase r.question r.phase q.1) refl refl within)
     hand_serves x (Rows t k rows) own kind r once within h =
         let q = rows_kind r.uses r.question t k rows r.replies in
         let p : x.phase ≡ Shipping = shipping_is x.phase r.question r.phase q.0 in
         let y : Exchange = record x { found = x.found ++ rows; rows = x.rows + length rows } in
-        if_own ((t.0 == ts) && (k.0 == c)) x y own (follows_hand ds statements asked first ts c space x n (Rows t k rows) h.follows (λ e. subst AwaitsNoValues (sym p) tt))
-        (λ f. more_found ds statements asked first ts c n space there x rows (x.rows + length rows) p (told_rows ts c x r.question t k rows (space n) p (r.content q.1) (r.tells q.1)) h f)
+        if_own ((t.0 == ts) && (k.0 == c)) x y own (follows_hand ds statements asked first ts c space x n
+        (Rows t k rows) h.follows (λ e. subst AwaitsNoValues (sym p) tt))
+        (λ f. more_found ds statements asked first ts c n space there x rows (x.rows + length rows) p
+        (told_rows ts c x r.question t k rows (space n) p (r.content q.1) (r.tells q.1)) h f)
     hand_serves x (Reject t k b write) own kind r once within h = cc
     hand_serves x m own kind r once within h = cc
 

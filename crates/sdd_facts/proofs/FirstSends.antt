@@ -63,7 +63,17 @@ first_of : (s : Setting) (log : Log) (c : ℕ) (a : Attempt) (p : ℕ × Msg) (r
     → active s c log ≡ Some a → a.exchange.to_send ≡ p ∷ rest → IsFirstSend s log (Sends (D (dm_no p.0)) p.1 None)
 first_of s log c a p rest l i e ts k f =
     let w = asks_whose a.ts c ts k p.1 (asks_next s c log a p i (ap head_of e)) f in
-    record { attempt = a; active_is = subst (λ j. active s j log ≡ Some a) w.1 i; ts_is = w.0; module_no = p.0; rest = rest; first = e; to_is = refl; here = subst (λ j. j ≤ length s.catalogue.classes) w.1 l }
+    record {
+      attempt = a;
+      active_is = subst (λ j. active s j log ≡ Some a) w.1 i;
+      ts_is = w.0;
+      module_no =
+          p.0;
+      rest = rest;
+      first = e;
+      to_is = refl;
+      here = subst (λ j. j ≤ length s.catalogue.classes) w.1 l;
+    }
 
 over_first : (s : Setting) (log : Log) (bases : Bases) (c : ℕ) (a : Attempt) (b : Bool) (act : Act)
     → c ≤ length s.catalogue.classes → (if b then Some (commit_act s.catalogue bases c a) else None) ≡ Some act → IsFirstSend s log act

@@ -36,7 +36,9 @@ pub d_fits : (g : Given) (log : Log) (a : Site) (d : DmNo) (n : ℕ) (m : Msg) (
     → IsUpheldD (setting_of g (D d)) (local_of g (D d) log) a m → fits (setting_of g (D d)) bases (local_of g (D d) log) a m
 d_fits g log a d n (Read ts class txn attempt conds uses) bases s l e h u = record {
   piped = pipe_fits g d log a n (Read ts class txn attempt conds uses) class.0 ts.0 h (h.from_small h.route.0) refl (late ts.0 h.times.0);
-  conditions = conds_fit (setting_of g (D d)) conds (read_within (setting_of g a) (D d) (local_of g a log) (handed a (D d) log) ts class txn attempt conds uses (fair_of g a log h.permitted.1 h.route.0) h.place) h.times.1;
+  conditions = conds_fit (setting_of g (D d)) conds (read_within (setting_of g a) (D d) (local_of g a log)
+      (handed a (D d) log) ts class txn attempt conds uses (fair_of g a log h.permitted.1 h.route.0) h.place)
+      h.times.1;
   numbers = u.0;
   here = u.1;
 }

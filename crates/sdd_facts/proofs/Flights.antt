@@ -56,18 +56,25 @@ flight_step g a b e log h =
     let now = flight_splits g a b (e ∷ log) h in
     let before = flight_splits g a b log h.1 in
     cancel hs (handed_by a (made g b log e) ++ flight g a b (e ∷ log)) (flight g a b log ++ put_by b (made g a log e))
-    (sym (append_assoc hs (handed_by a (made g b log e)) (flight g a b (e ∷ log))) ∙ ap (λ l. l ++ flight g a b (e ∷ log)) (sym (hands_grow g a b e log)) ∙ sym now
+    (sym (append_assoc hs (handed_by a (made g b log e)) (flight g a b (e ∷ log)))
+    ∙ ap (λ l. l ++ flight g a b (e ∷ log)) (sym (hands_grow g a b e log)) ∙ sym now
     ∙ puts_grow g a b e log ∙ ap (λ l. l ++ put_by b (made g a log e)) before ∙ append_assoc hs (flight g a b log) (put_by b (made g a log e)))
 
 pub questions_step : (g : Given) (ts c : ℕ) (a b : Site) (e : Entry) (log : Log) → IsPermitted g (e ∷ log)
-    → questions ts c (handed_by a (made g b log e)) ++ questions ts c (flight g a b (e ∷ log)) ≡ questions ts c (flight g a b log) ++ questions ts c (put_by b (made g a log e))
+    → questions ts c (handed_by a (made g b log e)) ++ questions ts c (flight g a b (e ∷ log)) ≡ questions
+    ts c (flight g a b log) ++ questions ts c (put_by b (made g a log e))
 questions_step g ts c a b e log h =
-    sym (filter-append (is_question ts c) (handed_by a (made g b log e)) (flight g a b (e ∷ log))) ∙ ap (questions ts c) (flight_step g a b e log h) ∙ filter-append (is_question ts c) (flight g a b log) (put_by b (made g a log e))
+    sym (filter-append (is_question ts c) (handed_by a (made g b log e)) (flight g a b (e ∷ log)))
+    ∙ ap (questions ts c) (flight_step g a b e log h) ∙ filter-append (is_question ts c)
+    (flight g a b log) (put_by b (made g a log e))
 
 pub answers_step : (g : Given) (ts c : ℕ) (a b : Site) (e : Entry) (log : Log) → IsPermitted g (e ∷ log)
-    → answers ts c (handed_by a (made g b log e)) ++ answers ts c (flight g a b (e ∷ log)) ≡ answers ts c (flight g a b log) ++ answers ts c (put_by b (made g a log e))
+    → answers ts c (handed_by a (made g b log e)) ++ answers ts c (flight g a b (e ∷ log)) ≡ answers ts c
+    (flight g a b log) ++ answers ts c (put_by b (made g a log e))
 answers_step g ts c a b e log h =
-    sym (filter-append (is_answer ts c) (handed_by a (made g b log e)) (flight g a b (e ∷ log))) ∙ ap (answers ts c) (flight_step g a b e log h) ∙ filter-append (is_answer ts c) (flight g a b log) (put_by b (made g a log e))
+    sym (filter-append (is_answer ts c) (handed_by a (made g b log e)) (flight g a b (e ∷ log)))
+    ∙ ap (answers ts c) (flight_step g a b e log h) ∙ filter-append (is_answer ts c) (flight g a b log)
+    (put_by b (made g a log e))
 
 -- a message that may be handed over next is the first in flight
 
@@ -84,12 +91,16 @@ first_in_flight g log a b n m h =
 -- the turns after an entry
 
 at_made : (ts c d : ℕ) (o : Option site.Entry) (l : site.Log)
-    → turn_at ts c d (with_made o l) ≡ told_by (answers ts c (handed_by (D (dm_no d)) o)) (asked_by (questions ts c (put_by (D (dm_no d)) o)) (turn_at ts c d l))
+    → turn_at ts c d (with_made o l) ≡ told_by (answers ts c (handed_by (D (dm_no d)) o))
+    (asked_by (questions ts c (put_by (D (dm_no d)) o)) (turn_at ts c d l))
 at_made ts c d None l = refl
 at_made ts c d (Some x) l = refl
 
 pub turn_at_step : (g : Given) (ts c d : ℕ) (at : Site) (e : Entry) (log : Log)
-    → turn_at ts c d (local_of g at (e ∷ log)) ≡ told_by (answers ts c (handed_by (D (dm_no d)) (made g at log e))) (asked_by (questions ts c (put_by (D (dm_no d)) (made g at log e))) (turn_at ts c d (local_of g at log)))
+    → turn_at ts c d (local_of g at (e ∷ log)) ≡ told_by
+    (answers ts c (handed_by (D (dm_no d)) (made g at log e)))
+    (asked_by (questions ts c (put_by (D (dm_no d)) (made g at log e)))
+    (turn_at ts c d (local_of g at log)))
 turn_at_step g ts c d at e log =
     ap (turn_at ts c d) (local_step g at e log) ∙ at_made ts c d (made g at log e) (local_of g at log)
 
@@ -99,7 +110,8 @@ with_made_turn ts c at None l = refl
 with_made_turn ts c at (Some x) l = refl
 
 pub turn_with_step : (g : Given) (ts c : ℕ) (at b : Site) (e : Entry) (log : Log)
-    → turn_with ts c at (local_of g b (e ∷ log)) ≡ told_by (answers ts c (put_by at (made g b log e))) (asked_by (questions ts c (handed_by at (made g b log e))) (turn_with ts c at (local_of g b log)))
+    → turn_with ts c at (local_of g b (e ∷ log)) ≡ told_by (answers ts c (put_by at (made g b log e)))
+    (asked_by (questions ts c (handed_by at (made g b log e))) (turn_with ts c at (local_of g b log)))
 turn_with_step g ts c at b e log =
     ap (turn_with ts c at) (local_step g b e log) ∙ with_made_turn ts c at (made g b log e) (local_of g b log)
 

@@ -71,7 +71,15 @@ started_of g log d c n t h a =
     let act : Act = commit_act g.catalogue a.bases c a.attempt in
     let hb = (permitted_before g a.later (Does at act ∷ a.before) (subst (IsPermitted g) a.is h)).1 in
     let st = start_of_active (setting_of g at) c (local_of g at a.before) a.attempt (home_fair g c a.before hb) a.active_is in
-    let here : WasStarted (setting_of g at) c t (local_of g at a.before) = record { later = st.later; before = st.before; queued = st.queued; is = st.is; ts_is = a.ts_is ∙ st.ts_is } in
+    let here : WasStarted (setting_of g at) c t (local_of g at a.before) =
+    record {
+      later = st.later;
+      before = st.before;
+      queued = st.queued;
+      is = st.is;
+      ts_is =
+          a.ts_is ∙ st.ts_is;
+    } in
     let front : log ≡ (a.later ++ Does at act ∷ []) ++ a.before = a.is ∙ sym (append_assoc a.later (Does at act ∷ []) a.before) in
     let x = local_grows g at (a.later ++ Does at act ∷ []) a.before in
     started_on (setting_of g at) c t x.0 (local_of g at a.before) (local_of g at log) (ap (local_of g at) front ∙ x.1) here
@@ -133,9 +141,14 @@ pub same_class : (g : Given) (c k t : ℕ) (log : Log) → IsOfNetwork (home g.c
 same_class g c k t log i j v w =
     let a = number_is g c t log v in
     let b = number_is g k t log w in
-    let at : home g.catalogue c ≡ home g.catalogue k = same_numbers (home g.catalogue c) (home g.catalogue k) i j (numbers_by a.0 b.0 (number_of (home g.catalogue c)) (number_of (home g.catalogue k)) t a.1 b.1 i.small j.small) in
-    let u : WasStarted (setting_of g (home g.catalogue k)) c t (local_of g (home g.catalogue k) log) = subst (λ x. WasStarted (setting_of g x) c t (local_of g x log)) at v in
-    let same = same_start (setting_of g (home g.catalogue k)) c k u.later w.later u.before w.before u.queued w.queued (sym u.ts_is ∙ w.ts_is) (sym u.is ∙ w.is) in
+    let at : home g.catalogue c ≡ home g.catalogue k =
+    same_numbers (home g.catalogue c) (home g.catalogue k) i j
+    (numbers_by a.0 b.0 (number_of (home g.catalogue c)) (number_of (home g.catalogue k)) t a.1 b.1
+    i.small j.small) in
+    let u : WasStarted (setting_of g (home g.catalogue k)) c t (local_of g (home g.catalogue k) log) =
+    subst (λ x. WasStarted (setting_of g x) c t (local_of g x log)) at v in
+    let same = same_start (setting_of g (home g.catalogue k)) c k u.later w.later u.before w.before u.queued
+    w.queued (sym u.ts_is ∙ w.ts_is) (sym u.is ∙ w.is) in
     ap class_of_act same.1
 
 -- a WRITE among those that were handed
@@ -152,7 +165,18 @@ record HasWrite (l : site.Log) (t : ℕ) : Type 0 where
   pub ts_is : ts.0 ≡ t
 
 more_write : (e : site.Entry) (l : site.Log) (t : ℕ) → HasWrite l t → HasWrite (e ∷ l) t
-more_write e l t h = record { later = e ∷ h.later; before = h.before; from = h.from; ts = h.ts; class = h.class; txn = h.txn; changes = h.changes; is = ap (λ x. e ∷ x) h.is; ts_is = h.ts_is }
+more_write e l t h = record {
+  later = e ∷ h.later;
+  before = h.before;
+  from = h.from;
+  ts = h.ts;
+  class =
+      h.class;
+  txn = h.txn;
+  changes = h.changes;
+  is = ap (λ x. e ∷ x) h.is;
+  ts_is = h.ts_is;
+}
 
 one_write : (from : Site) (m : Msg) (l : site.Log) (t : ℕ) → (contains (write_times l) t ≡ true → HasWrite l t)
     → contains (with_time (write_time_of m) (write_times l)) t ≡ true → HasWrite (Handed from m ∷ l) t
@@ -207,21 +231,36 @@ not_twice g log a n d ts k txn xs s l h w =
     let j : ℕ = w.class.0 in
     let i = in_pipe g c d now h in
     let is : class_puts g c d now ≡ (all_of (pipe_at g c d log) ++ m ∷ []) ++ i.0 = i.1 ∙ ap (λ x. x ++ i.0) (pipe_with g c d a n m log (same_number k.0)) in
-    let place : slice_get (class_puts g c d now) (length (all_of (pipe_at g c d log))) ≡ Some m = subst (λ x. slice_get x (length (all_of (pipe_at g c d log))) ≡ Some m) (sym is) (in_left (all_of (pipe_at g c d log) ++ m ∷ []) i.0 (length (all_of (pipe_at g c d log))) m (at_seam (all_of (pipe_at g c d log)) [] m)) in
+    let place : slice_get (class_puts g c d now) (length (all_of (pipe_at g c d log))) ≡ Some m =
+    subst (λ x. slice_get x (length (all_of (pipe_at g c d log))) ≡ Some m) (sym is)
+    (in_left (all_of (pipe_at g c d log) ++ m ∷ []) i.0 (length (all_of (pipe_at g c d log))) m
+    (at_seam (all_of (pipe_at g c d log)) [] m)) in
     let new = write_origin g now c d ts k txn xs refl (origin g c d now (length (all_of (pipe_at g c d log))) m h place) in
     let p = in_its_pipe j (local_of g (D d) log) w.later w.from old w.before w.is (same_number w.class.0) in
     let r = in_pipe g j d log h.1 in
-    let there : slice_get (class_puts g j d log) p.0 ≡ Some old = subst (λ x. slice_get x p.0 ≡ Some old) (sym r.1) (in_left (all_of (pipe_at g j d log)) r.0 p.0 old p.1) in
+    let there : slice_get (class_puts g j d log) p.0 ≡ Some old =
+    subst (λ x. slice_get x p.0 ≡ Some old) (sym r.1)
+    (in_left (all_of (pipe_at g j d log)) r.0 p.0 old p.1) in
     let was = write_origin g log j d w.ts w.class w.txn w.changes refl (origin g j d log p.0 old h.1 there) in
     let x = local_grows g (home g.catalogue j) (Hand a (D d) n m ∷ []) log in
-    let first = started_on (setting_of g (home g.catalogue j)) j w.ts.0 x.0 (local_of g (home g.catalogue j) log) (local_of g (home g.catalogue j) now) x.1 (started_of g log d j w.txn.0 w.ts.0 h.1 was) in
+    let first = started_on (setting_of g (home g.catalogue j)) j w.ts.0 x.0
+    (local_of g (home g.catalogue j) log) (local_of g (home g.catalogue j) now) x.1
+    (started_of g log d j w.txn.0 w.ts.0 h.1 was) in
     let mine = started_of g now d c txn.0 ts.0 h new in
     let at_c = act_of_network g now d c txn.0 ts.0 s l new in
     let at_j = act_of_network g log d j w.txn.0 w.ts.0 s l.1 was in
-    let same : c ≡ j = same_class g c j ts.0 now at_c at_j mine (subst (λ t. WasStarted (setting_of g (home g.catalogue j)) j t (local_of g (home g.catalogue j) now)) w.ts_is first) in
+    let same : c ≡ j = same_class g c j ts.0 now at_c at_j mine
+    (subst (λ t. WasStarted (setting_of g (home g.catalogue j)) j t (local_of g (home g.catalogue j) now))
+    w.ts_is first) in
     let q : slice_get (all_of (pipe_at g c d log)) p.0 ≡ Some old = subst (λ y. slice_get (all_of (pipe_at g y d log)) p.0 ≡ Some old) (sym same) p.1 in
-    let before : slice_get (class_puts g c d now) p.0 ≡ Some old = subst (λ y. slice_get y p.0 ≡ Some old) (sym is) (in_left (all_of (pipe_at g c d log) ++ m ∷ []) i.0 p.0 old (in_left (all_of (pipe_at g c d log)) (m ∷ []) p.0 old q)) in
-    let one = one_of_key (write_at c) (class_puts g c d now) p.0 (length (all_of (pipe_at g c d log))) old m ts.0 (writes_strict g c d now h at_c.small) before place (write_key c ts.0 w.ts w.class w.txn w.changes (sym same) w.ts_is) (write_key c ts.0 ts k txn xs refl refl) in
+    let before : slice_get (class_puts g c d now) p.0 ≡ Some old =
+    subst (λ y. slice_get y p.0 ≡ Some old) (sym is)
+    (in_left (all_of (pipe_at g c d log) ++ m ∷ []) i.0 p.0 old (in_left (all_of (pipe_at g c d log))
+    (m ∷ []) p.0 old q)) in
+    let one = one_of_key (write_at c) (class_puts g c d now) p.0 (length (all_of (pipe_at g c d log))) old m
+    ts.0 (writes_strict g c d now h at_c.small) before place
+    (write_key c ts.0 w.ts w.class w.txn w.changes (sym same) w.ts_is)
+    (write_key c ts.0 ts k txn xs refl refl) in
     let less = place_within (all_of (pipe_at g c d log)) p.0 old q in
     omega (arith, one, less)
 
@@ -242,7 +281,10 @@ is_above g log a n d ts k txn xs h =
     let c : ℕ = k.0 in
     let i = in_pipe g c d now h in
     let is : class_puts g c d now ≡ (all_of (pipe_at g c d log) ++ m ∷ []) ++ i.0 = i.1 ∙ ap (λ x. x ++ i.0) (pipe_with g c d a n m log (same_number k.0)) in
-    let place : slice_get (class_puts g c d now) (length (all_of (pipe_at g c d log))) ≡ Some m = subst (λ x. slice_get x (length (all_of (pipe_at g c d log))) ≡ Some m) (sym is) (in_left (all_of (pipe_at g c d log) ++ m ∷ []) i.0 (length (all_of (pipe_at g c d log))) m (at_seam (all_of (pipe_at g c d log)) [] m)) in
+    let place : slice_get (class_puts g c d now) (length (all_of (pipe_at g c d log))) ≡ Some m =
+    subst (λ x. slice_get x (length (all_of (pipe_at g c d log))) ≡ Some m) (sym is)
+    (in_left (all_of (pipe_at g c d log) ++ m ∷ []) i.0 (length (all_of (pipe_at g c d log))) m
+    (at_seam (all_of (pipe_at g c d log)) [] m)) in
     let new = write_origin g now c d ts k txn xs refl (origin g c d now (length (all_of (pipe_at g c d log))) m h place) in
     let w = started_of g now d c txn.0 ts.0 h new in
     let e = stamp_ticks (setting_of g (home g.catalogue c)) w.before in let t = w.ts_is in

@@ -71,7 +71,8 @@ goes_one log to x hand h b k m e =
     let i = the_one b to x k m e in subst (GoesTo log b) i.1 (subst (λ s. GoesTo log s x) (sym i.0) h)
 
 pair_of : (log : Log) (a : Site) (x : Msg) (b : Site) (m : Msg) → ◌≡◌ {A = Site × Msg} (a, x) (b, m) → GoesTo log a x → GoesTo log b m
-pair_of log a x b m e h = let p : a ≡ b = ap (λ (z : Site × Msg). z.0) e in let q : x ≡ m = ap (λ (z : Site × Msg). z.1) e in subst (GoesTo log b) q (subst (λ s. GoesTo log s x) p h)
+pair_of log a x b m e h = let p : a ≡ b = ap (λ (z : Site × Msg). z.0) e in let q : x ≡ m =
+    ap (λ (z : Site × Msg). z.1) e in subst (GoesTo log b) q (subst (λ s. GoesTo log s x) p h)
 
 start_goes : (s : Setting) (log : Log) (c : ℕ) (q : Queued) → Goes log (start_at s c log q)
 start_goes s log c q b k m e =
@@ -110,7 +111,8 @@ send_goes : (s : Setting) (log : Log) (bases : Bases) (c : ℕ) (a : Attempt) (m
     → Goes log act
 send_goes s log bases c a [] act i p e = over_goes s log bases c a (is_over a.exchange.phase) act e
 send_goes s log bases c a (m ∷ rest) act i p e =
-    goes_some log (Sends (D (dm_no m.0)) m.1 None) act (goes_one log (D (dm_no m.0)) m.1 None (asks_to_d log a.ts c m.0 m.1 (asks_next s c log a m i (ap head_of p)))) e
+    goes_some log (Sends (D (dm_no m.0)) m.1 None) act (goes_one log (D (dm_no m.0)) m.1 None
+    (asks_to_d log a.ts c m.0 m.1 (asks_next s c log a m i (ap head_of p)))) e
 
 attempt_goes : (s : Setting) (log : Log) (bases : Bases) (c : ℕ) (o : Option Attempt) (act : Act) → active s c log ≡ o
     → attempt_due s.catalogue bases c o ≡ Some act → Goes log act
@@ -128,7 +130,14 @@ asks_in : (n : ℕ) (from : Site) (m : Msg) (log : Log) (qs : List Question) (k 
     → WasAsked (Handed from m ∷ log) q.from IsAnAsk
 asks_in n from (Ask class time) log qs k q f e = elim (in_either qs (record { hand = n; from = from; class = class.0; time = time.0 } ∷ []) k q e) [
   | inl p ↦ more_asked log (Handed from (Ask class time)) q.from (f k p)
-  | inr p ↦ (let r : record { hand = n; from = from; class = class.0; time = time.0 } ≡ q = in_one (record { hand = n; from = from; class = class.0; time = time.0 } ∷ []) (record { hand = n; from = from; class = class.0; time = time.0 }) p.0 q refl p.1 in
+  | inr p ↦ (let r : record { hand = n; from = from; class = class.0; time = time.0 } ≡ q =
+      in_one (record { hand = n; from = from; class = class.0; time = time.0 } ∷ []) (record {
+        hand =
+            n;
+        from = from;
+        class = class.0;
+        time = time.0;
+      }) p.0 q refl p.1 in
       let s : from ≡ q.from = ap (λ (x : Question). x.from) r in
       record { asked = Ask class time; later = []; before = log; is = ap (λ x. Handed x (Ask class time) ∷ log) s; fits = tt })
 ]
@@ -152,7 +161,8 @@ null_goes : (log : Log) (q : Question) (b : Bool) (o : Option ℕ) (act : Act) �
     → (if b then null_at q o else None) ≡ Some act → Goes log act
 null_goes log q true None act w e = cc
 null_goes log q true (Some t) act w e =
-    goes_some log (Sends q.from (Null (class_no q.class) (time_at t)) (Some q.hand)) act (goes_one log q.from (Null (class_no q.class) (time_at t)) (Some q.hand) w) e
+    goes_some log (Sends q.from (Null (class_no q.class) (time_at t)) (Some q.hand)) act
+    (goes_one log q.from (Null (class_no q.class) (time_at t)) (Some q.hand) w) e
 null_goes log q false o act w e = cc
 
 held_goes : (s : Setting) (log : Log) (b : Bool) (hand : Option ℕ) (act : Act)

@@ -53,7 +53,9 @@ IsLast g ts c d log = AllLe ts (times_in c (puts_to (D (dm_no d)) (home_log g c 
 
 abbrev pub StageAt : Given → ℕ → ℕ → ℕ → Log → Type 0
 StageAt g ts c d log =
-    IsStage (turn_at ts c d (home_log g c log)) (turn_with ts c (home g.catalogue c) (data_log g d log)) (questions ts c (flight g (home g.catalogue c) (D (dm_no d)) log)) (answers ts c (flight g (D (dm_no d)) (home g.catalogue c) log))
+    IsStage (turn_at ts c d (home_log g c log)) (turn_with ts c (home g.catalogue c) (data_log g d log))
+    (questions ts c (flight g (home g.catalogue c) (D (dm_no d)) log))
+    (answers ts c (flight g (D (dm_no d)) (home g.catalogue c) log))
 
 pub record IsSpoken (g : Given) (c : ℕ) (log : Log) : Type 0 where
   pub stages : (ts d : ℕ) → StageAt g ts c d log
@@ -111,7 +113,9 @@ exchanging_active g ts c d log h i e =
 pub active_last : (g : Given) (c d : ℕ) (log : Log) (a : Attempt) → IsPermitted g log → number_of (home g.catalogue c) ≤ 63
     → active (setting_of g (home g.catalogue c)) c (home_log g c log) ≡ Some a → IsLast g a.ts c d log
 active_last g c d log a h small e =
-    subst (λ k. AllLe k (times_in c (puts_to (D (dm_no d)) (home_log g c log)))) (ap (limit_of _) e) (timed (setting_of g (home g.catalogue c)) c (D (dm_no d)) (home_log g c log) small (home_fair g c log h)).within
+    subst (λ k. AllLe k (times_in c (puts_to (D (dm_no d)) (home_log g c log)))) (ap (limit_of _) e)
+    (timed (setting_of g (home g.catalogue c)) c (D (dm_no d)) (home_log g c log) small
+    (home_fair g c log h)).within
 
 le_at : (k : ℕ) (ms : List Msg) (j : ℕ) (m : Msg) → AllLe k (map time_of ms) → slice_get ms j ≡ Some m → time_of m ≤ k
 le_at k [] j m h e = cc
@@ -140,7 +144,16 @@ was_put_for : (g : Given) (ts c d : ℕ) (log : Log) (ns : List ℕ) → IsPermi
 was_put_for g ts c d log ns h i e =
     let r = (data_turns g ts c d log h i).was_read ns e in
     let p = in_pipe g c (dm_no d) log h in
-    record { place = r.place; read = r.read; there = subst (λ l. slice_get l r.place ≡ Some r.read) (sym p.1) (processed_stays (pipe_at g c (dm_no d) log) p.0 r.place r.read r.there); is = r.is; processed = place_within (pipe c (data_log g d log)).processed r.place r.read r.there }
+    record {
+      place = r.place;
+      read = r.read;
+      there =
+          subst (λ l. slice_get l r.place ≡ Some r.read) (sym p.1)
+          (processed_stays (pipe_at g c (dm_no d) log) p.0 r.place r.read r.there);
+      is = r.is;
+      processed =
+          place_within (pipe c (data_log g d log)).processed r.place r.read r.there;
+    }
 
 not_read_held : (b : Bool) (ns : List ℕ) → not b ≡ true → (if b then None else Some ns) ≡ Some ns
 not_read_held true ns e = cc
@@ -183,12 +196,15 @@ alone g ts c d log h small i last = record {
       (let own = was_put_for g ts c d log ns h i e in
       let p = in_pipe g c (dm_no d) log h in
       let here : slice_get (class_puts g c (dm_no d) log) (length (pipe c (data_log g d log)).processed) ≡ Some m =
-      subst (λ l. slice_get l (length (pipe c (data_log g d log)).processed) ≡ Some m) (sym p.1) (in_left (all_of (pipe_at g c (dm_no d) log)) p.0 (length (pipe c (data_log g d log)).processed) m (head_in (pipe c (data_log g d log)) m at_head)) in
+      subst (λ l. slice_get l (length (pipe c (data_log g d log)).processed) ≡ Some m) (sym p.1)
+      (in_left (all_of (pipe_at g c (dm_no d) log)) p.0 (length (pipe c (data_log g d log)).processed) m
+      (head_in (pipe c (data_log g d log)) m at_head)) in
       let le = last_at g ts c d log (length (pipe c (data_log g d log)).processed) m last here in
       let z = read_time ts c own.read own.is in
       let same : time_of m ≡ ts = elim (dec_le ts (time_of m)) [
         | yes l ↦ omega (arith, l, le)
-        | no n ↦ (let lt = in_class_order g c (dm_no d) log (length (pipe c (data_log g d log)).processed) own.place m own.read h small here own.there (omega (arith, n, z)) in
+        | no n ↦ (let lt = in_class_order g c (dm_no d) log (length (pipe c (data_log g d log)).processed)
+            own.place m own.read h small here own.there (omega (arith, n, z)) in
             let w = own.processed in absurd (omega (arith, lt, w)))
       ] in
       is_read_at ts c m r (head_through c (data_log g d log) m at_head) same);

@@ -212,22 +212,28 @@ and_no false = refl
 stands_on : (c n d : ℕ) (m : Msg) (a : Attempt) (v : Turns) → IsStrict (firsts a.exchange.modules) → AllAtTurn (Some a) v
     → rejects m a.ts c ≡ false → (is_answer a.ts c m ≡ true → MayAnswer (v a.ts n) m)
     → StandsAt d (after_hand a.ts c n m a.exchange) (after_answer c n m v a.ts d)
-stands_on c n d m a v strict h e timely = elim (is_answer a.ts c m) as (λ b. is_answer a.ts c m ≡ b → StandsAt d (after_hand a.ts c n m a.exchange) (after_answer c n m v a.ts d)) [
-  | true ↦ λ f.
-      (let by = answers_asked (v a.ts n) m (timely f) in
-      let g : is_a_refusal m ≡ false = not_refused m a.ts c f e in
-      hand_at a.ts c n d a.exchange (v a.ts d) (after_answer c n m v a.ts d) m strict f g
-      (next_of n d (is_answer a.ts c m) m (v a.ts d) by.uses by.question f (λ p. ap (v a.ts) p ∙ by.is) g) ((h a.ts d).0 refl))
-  | false ↦ λ f. subst (λ x. StandsAt d x (after_answer c n m v a.ts d)) (sym (hand_not a.ts c n a.exchange m f))
-      (subst (λ (w : Turn). StandsAt d a.exchange w) (sym (ap (λ (b : Bool). if (d == n) && b then told m (v a.ts d) else v a.ts d) f ∙ ap (λ (b : Bool). if b then told m (v a.ts d) else v a.ts d) (and_no (d == n)))) ((h a.ts d).0 refl))
-] refl
+stands_on c n d m a v strict h e timely = elim (is_answer a.ts c m) as (λ b. is_answer a.ts c m ≡ b
+    → StandsAt d (after_hand a.ts c n m a.exchange) (after_answer c n m v a.ts d)) [
+      | true ↦ λ f.
+          (let by = answers_asked (v a.ts n) m (timely f) in
+          let g : is_a_refusal m ≡ false = not_refused m a.ts c f e in
+          hand_at a.ts c n d a.exchange (v a.ts d) (after_answer c n m v a.ts d) m strict f g
+          (next_of n d (is_answer a.ts c m) m (v a.ts d) by.uses by.question f (λ p. ap (v a.ts) p ∙ by.is) g) ((h a.ts d).0 refl))
+      | false ↦ λ f. subst (λ x. StandsAt d x (after_answer c n m v a.ts d)) (sym (hand_not a.ts c n a.exchange m f))
+          (subst (λ (w : Turn). StandsAt d a.exchange w)
+          (sym (ap (λ (b : Bool). if (d == n) && b then told m (v a.ts d) else v a.ts d) f
+          ∙ ap (λ (b : Bool). if b then told m (v a.ts d) else v a.ts d) (and_no (d == n))))
+          ((h a.ts d).0 refl))
+    ] refl
 
 handed_turns : (c n : ℕ) (m : Msg) (o : Option Attempt) (v : Turns) → IsStrictOf o → AllAtTurn o v
     → ((ts : ℕ) → is_answer ts c m ≡ true → MayAnswer (v ts n) m)
     → AllAtTurn (active_handed c (D (dm_no n)) m o) (after_answer c n m v)
 handed_turns c n m None v strict h timely = λ ts d. quiet_if ((d == n) && is_answer ts c m) m (v ts d) (h ts d)
 handed_turns c n m (Some a) v strict h timely =
-    elim (rejects m a.ts c) as (λ b. rejects m a.ts c ≡ b → AllAtTurn (if b then None else Some (record a { exchange = after_hand a.ts c n m a.exchange })) (after_answer c n m v)) [
+    elim (rejects m a.ts c) as (λ b. rejects m a.ts c ≡ b
+    → AllAtTurn (if b then None else Some (record a { exchange = after_hand a.ts c n m a.exchange }))
+    (after_answer c n m v)) [
       | true ↦ λ e. rejected_turns c n m a v h e (timely a.ts)
       | false ↦ λ e ts d. (
         λ p. subst (λ t. StandsAt d (after_hand a.ts c n m a.exchange) (after_answer c n m v t d)) p (stands_on c n d m a v strict h e (timely a.ts)),
@@ -238,7 +244,9 @@ handed_turns c n m (Some a) v strict h timely =
 handed_strict : (c n : ℕ) (m : Msg) (o : Option Attempt) → IsStrictOf o → IsStrictOf (active_handed c (D (dm_no n)) m o)
 handed_strict c n m None h = tt
 handed_strict c n m (Some a) h =
-    if_way IsStrictOf (rejects m a.ts c) None (Some (record a { exchange = after_hand a.ts c n m a.exchange })) tt (subst (λ l. IsStrict (firsts l)) (sym (hand_goes a.ts c n m a.exchange).modules_same) h)
+    if_way IsStrictOf (rejects m a.ts c) None
+    (Some (record a { exchange = after_hand a.ts c n m a.exchange })) tt (subst (λ l. IsStrict (firsts l))
+    (sym (hand_goes a.ts c n m a.exchange).modules_same) h)
 
 pub turns_now : (o : Option Attempt) (v w : Turns) → ((ts d : ℕ) → w ts d ≡ v ts d) → AllAtTurn o v → AllAtTurn o w
 turns_now o v w e h ts d = subst (AtTurn ts d o) (sym (e ts d)) (h ts d)
@@ -250,8 +258,12 @@ in_turn_hand s c log U m timely h =
 in_turn_hand s c log (T t) m timely h =
     record { turns = h.turns; fresh = λ ts d l. h.fresh ts d (let r = stamp_rises s (Handed (T t) m) log in omega arith); strict = h.strict }
 in_turn_hand s c log (D n) m timely h = record {
-  turns = turns_now (active_handed c (D n) m (active s c log)) (after_answer c n.0 m (λ ts d. turn_at ts c d log)) (λ ts d. turn_at ts c d (Handed (D n) m ∷ log))
-      (λ ts d. told_one ts c (d == n.0) m (turn_at ts c d log)) (handed_turns c n.0 m (active s c log) (λ ts d. turn_at ts c d log) h.strict h.turns (λ ts e. timely ts n.0 refl e));
-  fresh = λ ts d l. told_one ts c (d == n.0) m (turn_at ts c d log) ∙ silent_if ((d == n.0) && is_answer ts c m) m (turn_at ts c d log) (h.fresh ts d (let r = stamp_rises s (Handed (D n) m) log in omega arith));
+  turns = turns_now (active_handed c (D n) m (active s c log))
+      (after_answer c n.0 m (λ ts d. turn_at ts c d log)) (λ ts d. turn_at ts c d (Handed (D n) m ∷ log))
+      (λ ts d. told_one ts c (d == n.0) m (turn_at ts c d log)) (handed_turns c n.0 m (active s c log)
+      (λ ts d. turn_at ts c d log) h.strict h.turns (λ ts e. timely ts n.0 refl e));
+  fresh = λ ts d l. told_one ts c (d == n.0) m (turn_at ts c d log)
+      ∙ silent_if ((d == n.0) && is_answer ts c m) m (turn_at ts c d log) (h.fresh ts d (let r =
+      stamp_rises s (Handed (D n) m) log in omega arith));
   strict = handed_strict c n.0 m (active s c log) h.strict;
 }

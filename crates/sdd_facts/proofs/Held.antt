@@ -85,7 +85,8 @@ all_named_in : (ns : List ℕ) (us : List (ℕ × List (List Value)))
     → list_any (λ (r : ℕ × List Value). not (contains ns r.0)) (flat_map (λ (e : ℕ × List (List Value)). map (λ row. (e.0, row)) e.1) us) ≡ false
 all_named_in ns [] f = refl
 all_named_in ns (u ∷ us) f =
-    any_append (λ (r : ℕ × List Value). not (contains ns r.0)) (map (λ row. (u.0, row)) u.1) (flat_map (λ (e : ℕ × List (List Value)). map (λ row. (e.0, row)) e.1) us)
+    any_append (λ (r : ℕ × List Value). not (contains ns r.0)) (map (λ row. (u.0, row)) u.1)
+    (flat_map (λ (e : ℕ × List (List Value)). map (λ row. (e.0, row)) e.1) us)
     (row_named ns u.0 u.1 (f u.0 (or_left (u.0 == u.0) (contains (map (λ e. e.0) us) u.0) (same_number u.0))))
     (all_named_in ns us (λ n e. f n (or_right (u.0 == n) (contains (map (λ e. e.0) us) n) e)))
 
@@ -96,7 +97,8 @@ held_named ts ns (Some f) h = all_named_in ns f.uses (λ n e. subst (λ l. conta
 
 -- the counts that are told are of the READ's uses, in order
 counts_named : (c : CopyRows) (uses : List Use)
-    → map (λ (n : ℕ × ℕ). n.0) (map (λ (e : ℕ × List (List Value)). (e.0, length e.1)) (map (λ (u : Use). (u.number, rows_for c u)) uses)) ≡ map (λ (u : Use). u.number) uses
+    → map (λ (n : ℕ × ℕ). n.0) (map (λ (e : ℕ × List (List Value)). (e.0, length e.1))
+    (map (λ (u : Use). (u.number, rows_for c u)) uses)) ≡ map (λ (u : Use). u.number) uses
 counts_named c [] = refl
 counts_named c (u ∷ uses) = ap (λ l. u.number ∷ l) (counts_named c uses)
 
@@ -152,14 +154,19 @@ tells_in_turn s ts c at log act home i h held = data_step_way s log act (λ x. I
     let same : k ≡ c = asked_class ts c k o q of in
     let no_read : is_a_read o.msg ≡ false = asks_no_a_read ts c o.msg q in
     subst (λ v. MayAnswer v m) (sym w.is) (may_reply ts w.uses (frozen s k log) o.msg m r
-    (λ z. subst (λ j. AreHeldFor ts w.uses (frozen s j log)) (sym same) (held w.uses (exchanging (turn_with ts c at log) w.uses o.msg w.is no_read) (held_now (turn_with ts c at log) w.uses o.msg w.is no_read))))))
-    (λ k t j txn attempt conds uses l e. one_told (turn_with ts c at log) _ (same_site at (source_of (home_of s) k)) (is_answer ts c (Ready t j (counts_told s log t.0 uses))) (Ready t j (counts_told s log t.0 uses))
+    (λ z. subst (λ j. AreHeldFor ts w.uses (frozen s j log)) (sym same)
+    (held w.uses (exchanging (turn_with ts c at log) w.uses o.msg w.is no_read)
+    (held_now (turn_with ts c at log) w.uses o.msg w.is no_read))))))
+    (λ k t j txn attempt conds uses l e. one_told (turn_with ts c at log) _
+    (same_site at (source_of (home_of s) k)) (is_answer ts c (Ready t j (counts_told s log t.0 uses)))
+    (Ready t j (counts_told s log t.0 uses))
     (answers_one ts c (same_site at (source_of (home_of s) k)) (Ready t j (counts_told s log t.0 uses)))
     (λ x.
     let w = read_next ts c at log k (turn_with ts c at log) (Read t j txn attempt conds uses) h e (head_through k log _ e) x in
     subst (λ v. MayAnswer v (Ready t j (counts_told s log t.0 uses))) (sym w.is)
     (counts_named (copies (dated_in (view_of s log))) uses ∙ own_uses ts c (turn_with ts c at log) w.uses (Read t j txn attempt conds uses) w.is h.own)))
-    (λ k t j txn attempt conds uses by write l e. one_told (turn_with ts c at log) _ (same_site at (source_of (home_of s) k)) (is_answer ts c (Reject t j by write)) (Reject t j by write)
+    (λ k t j txn attempt conds uses by write l e. one_told (turn_with ts c at log) _
+    (same_site at (source_of (home_of s) k)) (is_answer ts c (Reject t j by write)) (Reject t j by write)
     (answers_one ts c (same_site at (source_of (home_of s) k)) (Reject t j by write))
     (λ x.
     let w = read_next ts c at log k (turn_with ts c at log) (Read t j txn attempt conds uses) h e (head_through k log _ e) x in
@@ -174,10 +181,15 @@ abbrev kept_rows : ℕ × List (List Value) → ℕ → List Value → ℕ × Li
 kept_rows e col vs = (e.0, filter (λ row. is_among vs (column row col)) e.1)
 
 reduced_uses : (n col : ℕ) (vs : List Value) (us : List (ℕ × List (List Value)))
-    → map (λ (e : ℕ × List (List Value)). e.0) (map (λ (e : ℕ × List (List Value)). if e.0 == n then (e.0, filter (λ row. is_among vs (column row col)) e.1) else e) us) ≡ map (λ (e : ℕ × List (List Value)). e.0) us
+    → map (λ (e : ℕ × List (List Value)). e.0) (map (λ (e : ℕ × List (List Value)). if e.0 ==
+    n then (e.0, filter (λ row. is_among vs (column row col)) e.1) else e) us) ≡ map
+    (λ (e : ℕ × List (List Value)). e.0) us
 reduced_uses n col vs [] = refl
 reduced_uses n col vs (u ∷ us) =
-    elim (u.0 == n) as (λ b. (if b then kept_rows u col vs else u).0 ∷ map (λ (e : ℕ × List (List Value)). e.0) (map (λ (e : ℕ × List (List Value)). if e.0 == n then (e.0, filter (λ row. is_among vs (column row col)) e.1) else e) us) ≡ u.0 ∷ map (λ (e : ℕ × List (List Value)). e.0) us) [
+    elim (u.0 == n) as (λ b. (if b then kept_rows u col vs else u).0 ∷ map (λ (e : ℕ × List (List Value)).
+    e.0) (map (λ (e : ℕ × List (List Value)). if e.0 ==
+    n then (e.0, filter (λ row. is_among vs (column row col)) e.1) else e) us) ≡ u.0 ∷ map
+    (λ (e : ℕ × List (List Value)). e.0) us) [
       | true ↦ ap (λ l. u.0 ∷ l) (reduced_uses n col vs us)
       | false ↦ ap (λ l. u.0 ∷ l) (reduced_uses n col vs us)
     ]
@@ -216,7 +228,9 @@ held_if_asked false v m ns f e = e
 pub held_hand : (s : Setting) (ts c : ℕ) (at : Site) (log : Log) (from : Site) (m : Msg)
     → (is_question ts c m ≡ true → MayAsk (turn_with ts c at log) m) → IsHeldAt s ts c at log → IsHeldAt s ts c at (Handed from m ∷ log)
 held_hand s ts c at log from m timely h ns e =
-    handed_held ts c ns m (frozen s c log) (h ns (held_if_asked (same_site at from && is_question ts c m) (turn_with ts c at log) m ns (λ b. timely (and_right (same_site at from) (is_question ts c m) b)) (ap uses_held (sym (asked_turn ts c at from m log)) ∙ e)))
+    handed_held ts c ns m (frozen s c log) (h ns (held_if_asked (same_site at from && is_question ts c m)
+    (turn_with ts c at log) m ns (λ b. timely (and_right (same_site at from) (is_question ts c m) b))
+    (ap uses_held (sym (asked_turn ts c at from m log)) ∙ e)))
 
 -- an act of the module
 
@@ -232,8 +246,11 @@ given_is c _ f = refl
 -- ROWS answer the SHIP of an attempt
 gave_up : (c : ℕ) (f : Option Frozen) (q m : Msg) → reply f q ≡ Some m → gives_up c m ≡ true → (t : ℕ) × (asks_rows t c q ≡ true) × (is_a_ship q ≡ true)
 unfolding gives_up
-gave_up c f (Fetch t k u col) m e g = let p : Values t k u (values_in (rows_held u f) col) ≡ m = cc in let z : gives_up c (Values t k u (values_in (rows_held u f) col)) ≡ true = ap (gives_up c) p ∙ g in cc
-gave_up c f (Reduce t k u col vs) m e g = let p : Reduced t k u (length (rows_held u f)) ≡ m = cc in let z : gives_up c (Reduced t k u (length (rows_held u f))) ≡ true = ap (gives_up c) p ∙ g in cc
+gave_up c f (Fetch t k u col) m e g = let p : Values t k u (values_in (rows_held u f) col) ≡ m =
+    cc in let z : gives_up c (Values t k u (values_in (rows_held u f) col)) ≡ true =
+    ap (gives_up c) p ∙ g in cc
+gave_up c f (Reduce t k u col vs) m e g = let p : Reduced t k u (length (rows_held u f)) ≡ m =
+    cc in let z : gives_up c (Reduced t k u (length (rows_held u f))) ≡ true = ap (gives_up c) p ∙ g in cc
 gave_up c f (Ship t k) m e g =
     let p : Rows t k (all_held f) ≡ m = cc in
     let z : (k.0 == c) ≡ true = ap (gives_up c) p ∙ g in
@@ -268,7 +285,8 @@ told_back Refused m ns f e = e
 pub record IsAlone (s : Setting) (ts c : ℕ) (at : Site) (log : Log) : Type 0 where
   pub has : (t : ℕ) → HasTurnAt t c at log
   pub only : (ns : List ℕ) → uses_held (turn_with ts c at log) ≡ Some ns → (t : ℕ) → is_exchanging (turn_with t c at log) ≡ true → t ≡ ts
-  pub no_read : (ns : List ℕ) → uses_held (turn_with ts c at log) ≡ Some ns → (m : Msg) → head (pipe c log) ≡ Some m → is_a_read m ≡ true → is_read ts c m ≡ true
+  pub no_read : (ns : List ℕ) → uses_held (turn_with ts c at log) ≡ Some ns → (m : Msg)
+      → head (pipe c log) ≡ Some m → is_a_read m ≡ true → is_read ts c m ≡ true
 
 -- an act that leaves the turn and what is frozen
 held_still : (s : Setting) (ts c : ℕ) (at : Site) (log : Log) (act : Act) → turn_with ts c at (Did act ∷ log) ≡ turn_with ts c at log
@@ -280,8 +298,11 @@ held_replies : (s : Setting) (ts c : ℕ) (at : Site) (log : Log) (k : ℕ) (o :
     → IsHeldAt s ts c at (Did (Sends o.from m (Some o.hand)) ∷ log)
 held_replies s ts c at log k o m alone e r h ns z =
     let v : Turn = turn_with ts c at log in
-    let now : uses_held (if same_site at o.from && is_answer ts c m then told m v else v) ≡ Some ns = ap uses_held (sym (told_turn ts c at o.from m (Some o.hand) log)) ∙ z in
-    let before : uses_held v ≡ Some ns = elim (same_site at o.from && is_answer ts c m) as (λ b. (same_site at o.from && is_answer ts c m) ≡ b → uses_held (if b then told m v else v) ≡ Some ns → uses_held v ≡ Some ns) [
+    let now : uses_held (if same_site at o.from && is_answer ts c m then told m v else v) ≡ Some ns =
+    ap uses_held (sym (told_turn ts c at o.from m (Some o.hand) log)) ∙ z in
+    let before : uses_held v ≡ Some ns =
+    elim (same_site at o.from && is_answer ts c m) as (λ b. (same_site at o.from && is_answer ts c m) ≡ b
+    → uses_held (if b then told m v else v) ≡ Some ns → uses_held v ≡ Some ns) [
       | true ↦ λ b x.
           (let q : asks_rows ts c o.msg ≡ true = sym (reply_answers ts c (frozen s k log) o.msg m r) ∙ and_right (same_site at o.from) (is_answer ts c m) b in
           let u = asked_rows ts c at log v k o (alone.has ts) e q in
@@ -296,7 +317,10 @@ held_replies s ts c at log k o m alone e r h ns z =
           let q : asks_rows ts c o.msg ≡ true = subst (λ t. asks_rows t c o.msg ≡ true) same y.1 in
           let u = asked_rows ts c at log v k o (alone.has ts) e q in
           let here : same_site at o.from ≡ true = subst (λ x. same_site at x ≡ true) (sym u.from_is) (site_self at) in
-          let told_now : uses_held (told m v) ≡ Some ns = subst (λ (b : Bool). uses_held (if b then told m v else v) ≡ Some ns) (both (same_site at o.from) (is_answer ts c m) here (reply_answers ts c (frozen s k log) o.msg m r ∙ q)) now in
+          let told_now : uses_held (told m v) ≡ Some ns =
+          subst (λ (b : Bool). uses_held (if b then told m v else v) ≡ Some ns)
+          (both (same_site at o.from) (is_answer ts c m) here
+          (reply_answers ts c (frozen s k log) o.msg m r ∙ q)) now in
           absurd (ship_told v u.uses ns o.msg m u.is y.2 (reply_no_refusal (frozen s k log) o.msg m r) told_now))
       | false ↦ λ g. subst (AreHeldFor ts ns) (sym (given_is c m (frozen s c log) ∙ ap (λ (b : Bool). if b then None else frozen s c log) g)) (h ns before)
     ] refl
@@ -331,19 +355,26 @@ held_answers s ts c at log k t j txn attempt conds uses home alone l e h ns z =
     let x : Msg = Ready t j (counts_told s log t.0 uses) in
     let src : Site = source_of (home_of s) k in
     let act : Act = Records k (Answer txn attempt (home_of s).dm) ((src, x) ∷ []) in
-    let now : uses_held (if same_site at src && is_read ts c m then told x v else v) ≡ Some ns = ap uses_held (sym (told_one ts c (same_site at src) x v)) ∙ z in
+    let now : uses_held (if same_site at src && is_read ts c m then told x v else v) ≡ Some ns =
+    ap uses_held (sym (told_one ts c (same_site at src) x v)) ∙ z in
     elim (is_read ts c m) as (λ b. is_read ts c m ≡ b → AreHeldFor ts ns (frozen s c (Did act ∷ log))) [
       | true ↦ λ q.
           (let w = read_next ts c at log k v m (alone.has ts) e (head_through k log m e) q in
           let there : src ≡ at = subst (λ n. source_of (home_of s) n ≡ at) (sym w.class_is) (home (subst (IsClassHere s) w.class_is l)) in
           let here : same_site at src ≡ true = subst (λ y. same_site at y ≡ true) (sym there) (site_self at) in
-          let told_now : uses_held (told x v) ≡ Some ns = subst (λ (b : Bool). uses_held (if b then told x v else v) ≡ Some ns) (both (same_site at src) (is_read ts c m) here q) now in
+          let told_now : uses_held (told x v) ≡ Some ns =
+          subst (λ (b : Bool). uses_held (if b then told x v else v) ≡ Some ns)
+          (both (same_site at src) (is_read ts c m) here q) now in
           let same : w.uses ≡ ns = some_is w.uses ns (sym (ap uses_held (told_is v w.uses m x w.is refl)) ∙ told_now) in
           let own : uses_by m w.uses ≡ w.uses = own_uses ts c v w.uses m w.is (alone.has ts).own in
-          let rows : frozen s c (Did act ∷ log) ≡ frozen_at (dated s log) (Some m) = subst (λ n. frozen s n (Did act ∷ log) ≡ frozen_at (dated s log) (Some m)) w.class_is (own_frozen s k log (Answer txn attempt (home_of s).dm) ((src, x) ∷ []) m refl e) in
+          let rows : frozen s c (Did act ∷ log) ≡ frozen_at (dated s log) (Some m) =
+          subst (λ n. frozen s n (Did act ∷ log) ≡ frozen_at (dated s log) (Some m)) w.class_is
+          (own_frozen s k log (Answer txn attempt (home_of s).dm) ((src, x) ∷ []) m refl e) in
           subst (AreHeldFor ts ns) (sym rows) (eqb-true t.0 ts (and_left (t.0 == ts) (j.0 == c) q), uses_named (copies (dated s log)) uses ∙ own ∙ same))
       | false ↦ λ q.
-          (let before : uses_held v ≡ Some ns = subst (λ (b : Bool). uses_held (if b then told x v else v) ≡ Some ns) (ap (λ b. same_site at src && b) q ∙ and_no (same_site at src)) now in
+          (let before : uses_held v ≡ Some ns =
+          subst (λ (b : Bool). uses_held (if b then told x v else v) ≡ Some ns)
+          (ap (λ b. same_site at src && b) q ∙ and_no (same_site at src)) now in
           elim (same_or_not k c) [
             | inl p ↦ never (is_read ts c m) (alone.no_read ns before m (subst (λ n. head (pipe n log) ≡ Some m) p e) refl) q
             | inr p ↦ subst (AreHeldFor ts ns) (sym (other_frozen s c k log (Answer txn attempt (home_of s).dm) ((src, x) ∷ []) p)) (h ns before)
@@ -351,7 +382,8 @@ held_answers s ts c at log k t j txn attempt conds uses home alone l e h ns z =
     ] refl
 
 -- or rejected
-held_refuses : (s : Setting) (ts c : ℕ) (at : Site) (log : Log) (k : ℕ) (t : Ts) (j : ClassNo) (txn : TxnNo) (attempt : ℕ) (conds : List Cond) (uses : List Use) (by : ClassNo) (write : Ts)
+held_refuses : (s : Setting) (ts c : ℕ) (at : Site) (log : Log) (k : ℕ) (t : Ts) (j : ClassNo) (txn : TxnNo)
+    (attempt : ℕ) (conds : List Cond) (uses : List Use) (by : ClassNo) (write : Ts)
     → IsHomeOf s c at → IsAlone s ts c at log → IsClassHere s k → head (pipe k log) ≡ Some (Read t j txn attempt conds uses) → IsHeldAt s ts c at log
     → IsHeldAt s ts c at (Did (Records k (Rejected txn attempt (home_of s).dm by write) ((source_of (home_of s) k, Reject t j by write) ∷ [])) ∷ log)
 held_refuses s ts c at log k t j txn attempt conds uses by write home alone l e h ns z =
@@ -360,28 +392,37 @@ held_refuses s ts c at log k t j txn attempt conds uses by write home alone l e 
     let x : Msg = Reject t j by write in
     let src : Site = source_of (home_of s) k in
     let act : Act = Records k (Rejected txn attempt (home_of s).dm by write) ((src, x) ∷ []) in
-    let now : uses_held (if same_site at src && is_read ts c m then told x v else v) ≡ Some ns = ap uses_held (sym (told_one ts c (same_site at src) x v)) ∙ z in
+    let now : uses_held (if same_site at src && is_read ts c m then told x v else v) ≡ Some ns =
+    ap uses_held (sym (told_one ts c (same_site at src) x v)) ∙ z in
     elim (is_read ts c m) as (λ b. is_read ts c m ≡ b → AreHeldFor ts ns (frozen s c (Did act ∷ log))) [
       | true ↦ λ q.
           (let w = read_next ts c at log k v m (alone.has ts) e (head_through k log m e) q in
           let there : src ≡ at = subst (λ n. source_of (home_of s) n ≡ at) (sym w.class_is) (home (subst (IsClassHere s) w.class_is l)) in
           let here : same_site at src ≡ true = subst (λ y. same_site at y ≡ true) (sym there) (site_self at) in
-          let told_now : uses_held (told x v) ≡ Some ns = subst (λ (b : Bool). uses_held (if b then told x v else v) ≡ Some ns) (both (same_site at src) (is_read ts c m) here q) now in
+          let told_now : uses_held (told x v) ≡ Some ns =
+          subst (λ (b : Bool). uses_held (if b then told x v else v) ≡ Some ns)
+          (both (same_site at src) (is_read ts c m) here q) now in
           let none : ◌≡◌ {A = Option (List ℕ)} None (Some ns) = sym (ap (λ y. uses_held (told x y)) w.is) ∙ told_now in cc)
       | false ↦ λ q.
-          (let before : uses_held v ≡ Some ns = subst (λ (b : Bool). uses_held (if b then told x v else v) ≡ Some ns) (ap (λ b. same_site at src && b) q ∙ and_no (same_site at src)) now in
+          (let before : uses_held v ≡ Some ns =
+          subst (λ (b : Bool). uses_held (if b then told x v else v) ≡ Some ns)
+          (ap (λ b. same_site at src && b) q ∙ and_no (same_site at src)) now in
           subst (AreHeldFor ts ns) (sym (same_frozen s c k log (Rejected txn attempt (home_of s).dm by write) ((src, x) ∷ []) refl)) (h ns before))
     ] refl
 
 pub held_act : (s : Setting) (ts c : ℕ) (at : Site) (log : Log) (act : Act) → IsHomeOf s c at → IsDataStep s log act → IsAlone s ts c at log
     → IsHeldAt s ts c at log → IsHeldAt s ts c at (Did act ∷ log)
 held_act s ts c at log act home i alone h = data_step_way s log act (λ x. IsHeldAt s ts c at (Did x ∷ log))
-    (λ k txn attempt. held_still s ts c at log (Records k (Arrive txn attempt (home_of s).dm) []) refl (same_frozen s c k log (Arrive txn attempt (home_of s).dm) [] refl) h)
+    (λ k txn attempt. held_still s ts c at log (Records k (Arrive txn attempt (home_of s).dm) []) refl
+    (same_frozen s c k log (Arrive txn attempt (home_of s).dm) [] refl) h)
     (λ k o m e r. held_replies s ts c at log k o m alone e r h)
     (λ k t j txn attempt conds uses l e. held_answers s ts c at log k t j txn attempt conds uses home alone l e h)
     (λ k t j txn attempt conds uses by write l e. held_refuses s ts c at log k t j txn attempt conds uses by write home alone l e h)
     (λ k txn attempt ds. held_still s ts c at log (Records k (Wait txn attempt (home_of s).dm ds) (map (ask_for (home_of s)) ds))
-    (ap (λ l. told_by l (turn_with ts c at log)) (asks_no_answer ts c at (ask_for (home_of s)) ds (λ d. refl))) (same_frozen s c k log (Wait txn attempt (home_of s).dm ds) (map (ask_for (home_of s)) ds) refl) h)
+    (ap (λ l. told_by l (turn_with ts c at log)) (asks_no_answer ts c at (ask_for (home_of s)) ds
+    (λ d. refl))) (same_frozen s c k log (Wait txn attempt (home_of s).dm ds)
+    (map (ask_for (home_of s)) ds) refl) h)
     (λ k t j txn changes e. held_still s ts c at log (Records k (Apply txn j (home_of s).dm t) (done_for k (Done t)))
-    (ap (λ l. told_by l (turn_with ts c at log)) (done_no_answer ts c at k t)) (same_frozen s c k log (Apply txn j (home_of s).dm t) (done_for k (Done t)) refl) h)
+    (ap (λ l. told_by l (turn_with ts c at log)) (done_no_answer ts c at k t))
+    (same_frozen s c k log (Apply txn j (home_of s).dm t) (done_for k (Done t)) refl) h)
     (λ k j time e. held_still s ts c at log (Records k (Pass j (home_of s).dm time) []) refl (same_frozen s c k log (Pass j (home_of s).dm time) [] refl) h) i

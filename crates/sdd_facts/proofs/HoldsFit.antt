@@ -49,8 +49,10 @@ pub hold_fits : (g : Given) (t : TmNo) (n : ℕ) (log : Log) → 1 ≤ t.0 → t
     → IsPermitted g (Hand U (T t) n Hold ∷ log) → FitsHold (setting_of g (T t)) (local_of g (T t) log) U
 hold_fits g t n log l m h =
     let now = chain_at g t (Hand U (T t) n Hold ∷ log) l m h in
-    let more : (holds (local_of g (T t) (Hand U (T t) n Hold ∷ log))).holds ≡ suc (holds (local_of g (T t) log)).holds = ap (λ x. (holds x).holds) (own_hand g U (T t) n Hold log) in
-    let same : (holds (local_of g (T t) (Hand U (T t) n Hold ∷ log))).releases ≡ (holds (local_of g (T t) log)).releases = ap (λ x. (holds x).releases) (own_hand g U (T t) n Hold log) in
+    let more : (holds (local_of g (T t) (Hand U (T t) n Hold ∷ log))).holds ≡ suc
+    (holds (local_of g (T t) log)).holds = ap (λ x. (holds x).holds) (own_hand g U (T t) n Hold log) in
+    let same : (holds (local_of g (T t) (Hand U (T t) n Hold ∷ log))).releases ≡ (holds
+    (local_of g (T t) log)).releases = ap (λ x. (holds x).releases) (own_hand g U (T t) n Hold log) in
     let o = now.one_open in
     record { home = refl; free = lt_false (holds (local_of g (T t) log)).releases (holds (local_of g (T t) log)).holds (omega (arith, more, same, o)) }
 
@@ -85,7 +87,9 @@ pub held_fits : (g : Given) (t : TmNo) (n : ℕ) (time : Ts) (log : Log) → 1 �
 held_fits g t n time log l m early h =
     let lu : site.Log = local_of g U log in
     let now = chain_at g t (Hand (T t) U n (Held time) ∷ log) l m h in
-    let more : (counts t.0 (local_of g U (Hand (T t) U n (Held time) ∷ log))).helds ≡ suc (counts t.0 lu).helds = one_held t.0 (counts t.0 lu) (counts_tm t.0 lu) in
-    let same : (counts t.0 (local_of g U (Hand (T t) U n (Held time) ∷ log))).holds ≡ (counts t.0 lu).holds = same_holds (t.0 == (counts t.0 lu).tm) (counts t.0 lu) in
+    let more : (counts t.0 (local_of g U (Hand (T t) U n (Held time) ∷ log))).helds ≡ suc
+    (counts t.0 lu).helds = one_held t.0 (counts t.0 lu) (counts_tm t.0 lu) in
+    let same : (counts t.0 (local_of g U (Hand (T t) U n (Held time) ∷ log))).holds ≡ (counts t.0
+    lu).holds = same_holds (t.0 == (counts t.0 lu).tm) (counts t.0 lu) in
     let a = now.put_held in let b = now.got_hold in let c = now.put_hold in
     record { early = early; awaited = omega (arith, more, same, a, b, c) }

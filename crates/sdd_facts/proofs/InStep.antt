@@ -93,7 +93,8 @@ none_read [] ds d e ships k = absurd (subst (λ xs. Has xs d) (sym e) k)
 none_read (m ∷ ms) ds d e ships k = cc
 
 -- a READ isn't answered twice at a module
-pub again : (g : Given) → FitsGiven g → (c : ℕ) (d : DmNo) (act : Act) (log : Log) (ts : ℕ) → IsPermitted g (Does (D d) act ∷ log) → own g d.0 (Does (D d) act ∷ log) ≡ Did act ∷ own g d.0 log
+pub again : (g : Given) → FitsGiven g → (c : ℕ) (d : DmNo) (act : Act) (log : Log) (ts : ℕ)
+    → IsPermitted g (Does (D d) act ∷ log) → own g d.0 (Does (D d) act ∷ log) ≡ Did act ∷ own g d.0 log
     → IsFrozen (set g d.0) c ts act (own g d.0 log) → IsAnswerAt ts (own g d.0 log) → ⊥
 again g good c d act log ts h here r older =
     let x = subst (λ l. (y : IsAnswerAt ts l) × (y.before ≡ r.answer.before)) (sym here) (r.answer, refl) in
@@ -101,5 +102,7 @@ again g good c d act log ts h here r older =
     let same : own g d.0 log ≡ older.before = sym r.before_is ∙ sym x.1 ∙ (one_answer g good.sound d (Does (D d) act ∷ log) ts h x.0 y.0).0 ∙ y.1 in
     let long = longer older.later (Did (Records older.class (Answer older.txn older.attempt older.dm) older.sends)) older.before in
     let size : length (own g d.0 log) ≡ length older.before = ap length same in
-    let all : length (own g d.0 log) ≡ length (older.later ++ Did (Records older.class (Answer older.txn older.attempt older.dm) older.sends) ∷ older.before) = ap length older.is in
+    let all : length (own g d.0 log) ≡ length
+    (older.later ++ Did (Records older.class (Answer older.txn older.attempt older.dm) older.sends) ∷
+    older.before) = ap length older.is in
     omega arith

@@ -176,7 +176,9 @@ submits_step : (g : Given) (at : Site) (e : Entry) (log : Log) (k n : ℕ) → s
     → length (submits (local_of g at log)) + k ≤ n → length (submits (local_of g at (e ∷ log))) ≤ n
 submits_step g at e log k n l h =
     let a = submits_more (made g at log e) (local_of g at log) in
-    let b : length (submits (local_of g at (e ∷ log))) ≡ length (submits (with_made (made g at log e) (local_of g at log))) = ap (λ x. length (submits x)) (local_step g at e log) in
+    let b : length (submits (local_of g at (e ∷ log))) ≡ length
+    (submits (with_made (made g at log e) (local_of g at log))) =
+    ap (λ x. length (submits x)) (local_step g at e log) in
     omega (arith, a, b, l, h)
 
 submits_marks : (g : Given) (at : Site) (log : Log) → IsPermitted g log → length (submits (local_of g at log)) + pending log ≤ marks log
@@ -251,7 +253,9 @@ hand_step g at from to n m log true h k e i =
     let a : hands (local_of g at (Hand from to n m ∷ log)) ≡ suc (hands (local_of g at log)) = rw e refl in
     omega (arith, a, i, j)
 hand_step g at from to n m log false h k e i =
-    let j = total_up (λ a. handed a at log) (λ a. handed a at (Hand from to n m ∷ log)) (sites g.catalogue.tms g.catalogue.dms) (λ a. hand_raises (same_site a from) (same_site at to) n (handed a at log) (numbered g log a at from to n m h)) in
+    let j = total_up (λ a. handed a at log) (λ a. handed a at (Hand from to n m ∷ log))
+    (sites g.catalogue.tms g.catalogue.dms) (λ a. hand_raises (same_site a from) (same_site at to) n
+    (handed a at log) (numbered g log a at from to n m h)) in
     let a : hands (local_of g at (Hand from to n m ∷ log)) ≡ hands (local_of g at log) = rw e refl in
     omega (arith, a, i, j)
 

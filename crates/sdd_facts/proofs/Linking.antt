@@ -118,8 +118,12 @@ near_at n (x ∷ ds) (suc k) d h e = near_at n ds k d h.1 e
 start_linked : (g : Given) (at : Site) (c : ℕ) (log : site.Log) (q : Queued) → IsWhole g.catalogue → ToModules g at
     → ActLinked g at (start_at (setting_of g at) c log q)
 start_linked g at c log q w f =
-    all_linked g at (sends_of_act (start_at (setting_of g at) c log q)) (λ k p e. let r = in_mapped (λ d. (D (dm_no d), start_read (setting_of g at) c log q d)) (modules_asked (setting_of g at) c q.text) k p e in
-    subst (λ (x : Site × Msg). Links g at x.0) r.2 (f r.0 (near_at g.catalogue.dms (modules_asked (setting_of g at) c q.text) k r.0 (modules_near g.catalogue c _ w) r.1)))
+    all_linked g at (sends_of_act (start_at (setting_of g at) c log q)) (λ k p e. let r =
+    in_mapped (λ d. (D (dm_no d), start_read (setting_of g at) c log q d))
+    (modules_asked (setting_of g at) c q.text) k p e in
+    subst (λ (x : Site × Msg). Links g at x.0) r.2
+    (f r.0 (near_at g.catalogue.dms (modules_asked (setting_of g at) c q.text) k r.0
+    (modules_near g.catalogue c _ w) r.1)))
 
 write_linked : (g : Given) (at : Site) (b : Bool) (d : ℕ) (m : Msg) (p : Site × Msg) → Links g at (D (dm_no d))
     → cond {A = Option (Site × Msg)} b (Some (D (dm_no d), m)) None ≡ Some p → Links g at p.0
@@ -129,7 +133,8 @@ write_linked g at false d m p l e = cc
 commit_linked : (g : Given) (at : Site) (c : ℕ) (bases : Bases) (a : Attempt) → ToModules g at → ActLinked g at (commit_act g.catalogue bases c a)
 commit_linked g at c bases a f =
     let xs : List Change = (effect g.catalogue (bases a.ts) a.text).changes in
-    all_linked g at (sends_of_act (commit_act g.catalogue bases c a)) (λ k p e. let r = in_made (write_to g.catalogue c a xs) (numbers_to g.catalogue.dms) k p e in
+    all_linked g at (sends_of_act (commit_act g.catalogue bases c a)) (λ k p e. let r =
+    in_made (write_to g.catalogue c a xs) (numbers_to g.catalogue.dms) k p e in
     let i = in_range 1 g.catalogue.dms r.1 r.0 r.2 in
     write_linked g at _ r.0 _ p (f r.0 (i.0, omega (arith, i.1))) r.3)
 
@@ -156,7 +161,8 @@ null_linked : (g : Given) (at : Site) (q : tm_views.Question) (b : Bool) (o : Op
     → (if b then tm.null_at q o else None) ≡ Some act → ActLinked g at act
 null_linked g at q true None act l e = cc
 null_linked g at q true (Some t) act l e =
-    linked_some g at (Sends q.from (Null (class_no q.class) (time_at t)) (Some q.hand)) act (one_linked g at q.from (Null (class_no q.class) (time_at t)) (Some q.hand) l) e
+    linked_some g at (Sends q.from (Null (class_no q.class) (time_at t)) (Some q.hand)) act
+    (one_linked g at q.from (Null (class_no q.class) (time_at t)) (Some q.hand) l) e
 null_linked g at q false o act l e = cc
 
 held_linked : (g : Given) (at : Site) (b : Bool) (m : Msg) (hand : Option ℕ) (act : Act) → Links g at U
@@ -177,7 +183,9 @@ t_linked : (g : Given) (t : TmNo) (log : Log) (bases : Bases) (act : Act) → Is
 t_linked g t log bases act w f h p here (tm.by_exchange k c i e) =
     let s : Setting = setting_of g (T t) in let l : site.Log = local_of g (T t) log in
     let r = in_mapped (tm_views.class_view s l) (tm_views.runs s) k c i in
-    attempt_linked g (T t) r.0 bases l (active s r.0 l) act (λ d n. link_of g (T t) (D (dm_no d)) here (near_here g d n) refl) (active_near s r.0 l w (t_fair g t log p)) (subst (λ v. tm.exchange_due g.catalogue bases v ≡ Some act) (sym r.2) e)
+    attempt_linked g (T t) r.0 bases l (active s r.0 l) act (λ d n. link_of g (T t) (D (dm_no d)) here
+    (near_here g d n) refl) (active_near s r.0 l w (t_fair g t log p))
+    (subst (λ v. tm.exchange_due g.catalogue bases v ≡ Some act) (sym r.2) e)
 t_linked g t log bases act w f h p here (tm.by_ask k n c q i r e) =
     null_linked g (T t) q (q.class == c.class) _ act (asked_linked g (T t) log q.from IsAnAsk f h (was_asked_of (local_of g (T t) log) n q r)) e
 t_linked g t log bases act w f h p here (tm.by_hold e) = held_linked g (T t) _ _ _ act (link_of g (T t) U here refl refl) e
@@ -217,10 +225,13 @@ count_linked g log j k e =
 u_linked : (g : Given) (log : Log) (bases : Bases) (act : Act) → IsWhole g.catalogue → IsPermitted g log
     → um.IsDue g.catalogue bases (um_views.view_of (setting_of g U) (local_of g U log)) act → ActLinked g U act
 u_linked g log bases act w p (um.by_exchange e) =
-    attempt_linked g U 0 bases (local_of g U log) (active (setting_of g U) 0 (local_of g U log)) act (λ d n. link_of g U (D (dm_no d)) refl (near_here g d n) refl) (active_near (setting_of g U) 0 (local_of g U log) w (u_fair g log p)) e
+    attempt_linked g U 0 bases (local_of g U log) (active (setting_of g U) 0 (local_of g U log)) act
+    (λ d n. link_of g U (D (dm_no d)) refl (near_here g d n) refl) (active_near (setting_of g U) 0
+    (local_of g U log) w (u_fair g log p)) e
 u_linked g log bases act w p (um.by_release j k i e) = tm_linked g _ k.tm _ act (count_linked g (local_of g U log) j k i) e
 u_linked g log bases act w p (um.by_start e) =
-    u_begin_linked g (local_of g U log) (head_of (queue (setting_of g U) 0 (local_of g U log))) act w (λ d n. link_of g U (D (dm_no d)) refl (near_here g d n) refl) e
+    u_begin_linked g (local_of g U log) (head_of (queue (setting_of g U) 0 (local_of g U log))) act w
+    (λ d n. link_of g U (D (dm_no d)) refl (near_here g d n) refl) e
 u_linked g log bases act w p (um.by_hold j k i e) =
     hold_linked g k (head_of (queue (setting_of g U) 0 (local_of g U log))) act (count_linked g (local_of g U log) j k i) e
 

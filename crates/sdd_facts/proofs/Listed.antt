@@ -21,7 +21,8 @@ pub in_order : (xs : List ℕ) (n : ℕ) → Has xs n → Has (ascending xs) n
 in_order xs n h = each_of (Has (ascending xs)) xs n (ascending_back (Has (ascending xs)) xs (all_of (Has (ascending xs)) (ascending xs) (λ x k. k))) h
 
 pub from_order : (xs : List ℕ) (n : ℕ) → Has (ascending xs) n → Has xs n
-from_order xs n h = each_of (Has xs) (ascending xs) n (recursion_from_All (Has xs) (ascending xs) (All-ascending (Has xs) [] xs (All-nil (Has xs)) (all_of (Has xs) xs (λ x k. k)))) h
+from_order xs n h = each_of (Has xs) (ascending xs) n (recursion_from_All (Has xs) (ascending xs)
+    (All-ascending (Has xs) [] xs (All-nil (Has xs)) (all_of (Has xs) xs (λ x k. k)))) h
 
 pub has_contains : (xs : List ℕ) (n : ℕ) → Has xs n → contains xs n ≡ true
 has_contains [] n h = absurd h

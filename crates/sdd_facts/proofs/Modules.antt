@@ -34,10 +34,12 @@ without_own (x ∷ ns) n = elim (x == n) as (λ b. (x == n) ≡ b → contains (
 
 pub without_other : (ns : List ℕ) (n d : ℕ) → (d == n) ≡ false → contains (without ns n) d ≡ contains ns d
 without_other [] n d e = refl
-without_other (x ∷ ns) n d e = elim (x == n) as (λ b. (x == n) ≡ b → contains (cond (not b) (x ∷ without ns n) (without ns n)) d ≡ ((x == d) || contains ns d)) [
-  | true ↦ λ p. (let q : (x == d) ≡ false = subst (λ y. (y == d) ≡ false) (sym (eqb-true x n p)) (not_same d n e) in rw q (without_other ns n d e))
-  | false ↦ λ p. ap (λ b. (x == d) || b) (without_other ns n d e)
-] refl
+without_other (x ∷ ns) n d e =
+    elim (x == n) as (λ b. (x == n) ≡ b → contains (cond (not b) (x ∷ without ns n) (without ns n))
+    d ≡ ((x == d) || contains ns d)) [
+      | true ↦ λ p. (let q : (x == d) ≡ false = subst (λ y. (y == d) ≡ false) (sym (eqb-true x n p)) (not_same d n e) in rw q (without_other ns n d e))
+      | false ↦ λ p. ap (λ b. (x == d) || b) (without_other ns n d e)
+    ] refl
 
 -- members of what is joined
 
@@ -65,7 +67,8 @@ pub one_to_each : (m : Msg) (ds : List ℕ) (d : ℕ) → IsStrict ds
     → to_module d (to_all m ds) ≡ (if contains ds d then m ∷ [] else [])
 one_to_each m [] d h = refl
 one_to_each m (x ∷ ds) d h = elim (same_or_not d x) [
-  | inl p ↦ subst (λ y. to_module y (to_all m (x ∷ ds)) ≡ (if contains (x ∷ ds) y then m ∷ [] else [])) (sym p) (rw (same_number x) (ap (λ l. m ∷ l) (none_above m x ds h.0)))
+  | inl p ↦ subst (λ y. to_module y (to_all m (x ∷ ds)) ≡ (if contains (x ∷ ds) y then m ∷ [] else []))
+      (sym p) (rw (same_number x) (ap (λ l. m ∷ l) (none_above m x ds h.0)))
   | inr p ↦ rw (p, not_same d x p) (one_to_each m ds d h.1)
 ]
 
@@ -78,7 +81,9 @@ pub sent_to_each : (f : ℕ → Msg) (ds : List ℕ) (d : ℕ) → IsStrict ds
     → to_site (D (dm_no d)) (map (λ d. (D (dm_no d), f d)) ds) ≡ (if contains ds d then f d ∷ [] else [])
 sent_to_each f [] d h = refl
 sent_to_each f (x ∷ ds) d h = elim (same_or_not d x) [
-  | inl p ↦ subst (λ y. to_site (D (dm_no y)) (map (λ d. (D (dm_no d), f d)) (x ∷ ds)) ≡ (if contains (x ∷ ds) y then f y ∷ [] else [])) (sym p) (rw (same_number x) (ap (λ l. f x ∷ l) (none_sent_above f x ds h.0)))
+  | inl p ↦ subst (λ y. to_site (D (dm_no y)) (map (λ d. (D (dm_no d), f d)) (x ∷ ds)) ≡ (if contains
+      (x ∷ ds) y then f y ∷ [] else [])) (sym p)
+      (rw (same_number x) (ap (λ l. f x ∷ l) (none_sent_above f x ds h.0)))
   | inr p ↦ rw (p, not_same d x p) (sent_to_each f ds d h.1)
 ]
 
@@ -122,13 +127,26 @@ reads_here d u m e f = subst (λ l. contains l u ≡ true) (sym (kept_all (m.0 =
 pub reading_reads : (ms : List (ℕ × List ℕ)) (u d : ℕ) → contains (reading ms u) d ≡ true
     → (contains (firsts ms) d ≡ true) × (contains (uses_at ms d) u ≡ true)
 reading_reads [] u d e = cc
-reading_reads (m ∷ ms) u d e = elim (contains m.1 u) as (λ b. contains m.1 u ≡ b → contains (cons_option (cond b (Some m.0) None) (reading ms u)) d ≡ true → (contains (firsts (m ∷ ms)) d ≡ true) × (contains (uses_at (m ∷ ms) d) u ≡ true)) [
-  | true ↦ λ p q. elim (either (m.0 == d) (contains (reading ms u) d) q) [
-    | inl r ↦ (or_left (m.0 == d) (contains (firsts ms) d) r, contains_left (filter (λ (u : ℕ). m.0 == d) m.1) (uses_at ms d) u (reads_here d u m r p))
-    | inr r ↦ (let i = reading_reads ms u d r in (or_right (m.0 == d) (contains (firsts ms) d) i.0, contains_right (filter (λ (u : ℕ). m.0 == d) m.1) (uses_at ms d) u i.1))
-  ]
-  | false ↦ λ p q. (let i = reading_reads ms u d q in (or_right (m.0 == d) (contains (firsts ms) d) i.0, contains_right (filter (λ (u : ℕ). m.0 == d) m.1) (uses_at ms d) u i.1))
-] refl e
+reading_reads (m ∷ ms) u d e =
+    elim (contains m.1 u) as (λ b. contains m.1 u ≡ b
+    → contains (cons_option (cond b (Some m.0) None) (reading ms u)) d ≡ true
+    → (contains (firsts (m ∷ ms)) d ≡ true) × (contains (uses_at (m ∷ ms) d) u ≡ true)) [
+      | true ↦ λ p q. elim (either (m.0 == d) (contains (reading ms u) d) q) [
+        | inl r ↦ (or_left (m.0 == d) (contains (firsts ms) d) r, contains_left (filter (λ (u : ℕ). m.0 == d) m.1) (uses_at ms d) u (reads_here d u m r p))
+        | inr r ↦ (let i = reading_reads ms u d r in (
+          or_right (m.0 ==
+              d) (contains (firsts ms) d) i.0,
+          contains_right (filter (λ (u : ℕ). m.0 == d) m.1)
+              (uses_at ms d) u i.1,
+        ))
+      ]
+      | false ↦ λ p q. (let i = reading_reads ms u d q in (
+        or_right (m.0 ==
+            d) (contains (firsts ms) d) i.0,
+        contains_right (filter (λ (u : ℕ). m.0 == d) m.1)
+            (uses_at ms d) u i.1,
+      ))
+    ] refl e
 
 -- what a Start sends to modules
 
@@ -156,6 +174,10 @@ pub read_uses : (f : ℕ → Msg) (nums : ℕ → List ℕ) (ds : List ℕ) (d :
     → uses_at (read_modules f ds) d ≡ nums d
 read_uses f nums [] d g h e = cc
 read_uses f nums (x ∷ ds) d g h e = elim (same_or_not x d) [
-  | inl p ↦ rw (g x) (subst (λ y. filter (λ (u : ℕ). x == y) (nums x) ++ uses_at (read_modules f ds) y ≡ nums y) p (append_none (filter (λ (u : ℕ). x == x) (nums x)) (uses_at (read_modules f ds) x) (none_read_above f nums x ds g h.0) ∙ kept_all (x == x) (nums x) (same_number x)))
-  | inr p ↦ rw (g x) (ap (λ l. l ++ uses_at (read_modules f ds) d) (kept_none (x == d) (nums x) p) ∙ read_uses f nums ds d g h.1 (subst (λ b. (b || contains ds d) ≡ true) p e))
+  | inl p ↦ rw (g x) (subst (λ y. filter (λ (u : ℕ). x == y) (nums x) ++ uses_at
+      (read_modules f ds) y ≡ nums y) p (append_none (filter (λ (u : ℕ). x == x) (nums x))
+      (uses_at (read_modules f ds) x) (none_read_above f nums x ds g h.0) ∙ kept_all (x ==
+      x) (nums x) (same_number x)))
+  | inr p ↦ rw (g x) (ap (λ l. l ++ uses_at (read_modules f ds) d) (kept_none (x == d) (nums x) p)
+      ∙ read_uses f nums ds d g h.1 (subst (λ b. (b || contains ds d) ≡ true) p e))
 ]

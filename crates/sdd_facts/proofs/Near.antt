@@ -85,9 +85,23 @@ ships_near n ts c x h = record { modules = h.modules; sends = to_near n _ (map (
 on_near : (n ts c : ℕ) (x : Exchange) (qs : List Asking) (done : List Step) → IsNearBy n x → IsNearBy n (goes_on ts c x qs done)
 on_near n ts c x [] done h = ships_near n ts c x h
 on_near n ts c x (q ∷ rest) done h =
-    elim (next_move q.conds (counts_for x.counts q) done) as (λ o. IsNearBy n (elim o as (λ _. Exchange) [ None ↦ goes_on ts c x rest [] | Some m ↦ fetches ts c (move_at q.before m) (record x { left = q ∷ rest; done = done ++ m.step ∷ [] }) ])) [
+    elim (next_move q.conds (counts_for x.counts q) done) as (λ o. IsNearBy n
+    (elim o as (λ _. Exchange) [
+      | None ↦ goes_on ts c x rest []
+      | Some m ↦ fetches ts c
+          (move_at q.before m) (record x { left = q ∷ rest; done = done ++ m.step ∷ [] })
+    ])) [
       | None ↦ on_near n ts c x rest [] h
-      | Some m ↦ fetches_near n ts c (move_at q.before m) (record x { left = q ∷ rest; done = done ++ m.step ∷ [] }) (with_use x (move_at q.before m).source.part) (use_near n (move_at q.before m).source.part x.modules h.modules) (record { modules = h.modules; sends = h.sends })
+      | Some m ↦ fetches_near n ts c (move_at q.before m) (record x {
+        left = q ∷ rest;
+        done =
+            done ++ m.step ∷ [];
+      }) (with_use x (move_at q.before m).source.part)
+          (use_near n (move_at q.before m).source.part x.modules h.modules) (record {
+            modules =
+                h.modules;
+            sends = h.sends;
+          })
     ]
 
 ends_near : (n ts c : ℕ) (x : Exchange) (p : Phase) → IsNearBy n x → IsNearBy n (phase_ends ts c x p)
@@ -106,12 +120,30 @@ answered_near n ts c d true x y h k = lacking_near n ts c y (without y.lacks d) 
 answered_near n ts c d false x y h k = h
 
 hand_near : (n ts c d : ℕ) (m : Msg) (x : Exchange) → IsNearBy n x → IsNearBy n (after_hand ts c d m x)
-hand_near n ts c d (Ready t k counts) x h = answered_near n ts c d ((t.0 == ts) && (k.0 == c)) x (record x { counts = counted d counts x.counts }) h (record { modules = h.modules; sends = h.sends })
+hand_near n ts c d (Ready t k counts) x h =
+    answered_near n ts c d ((t.0 == ts) && (k.0 == c)) x (record x { counts = counted d counts x.counts }) h
+    (record { modules = h.modules; sends = h.sends })
 hand_near n ts c d (Values t k u vs) x h =
-    answered_near n ts c d ((t.0 == ts) && (k.0 == c)) x (record x { union = with_values x.union vs; values = x.values + length vs }) h (record { modules = h.modules; sends = h.sends })
-hand_near n ts c d (Reduced t k u r) x h = answered_near n ts c d ((t.0 == ts) && (k.0 == c)) x (record x { counts = counted d ((u, r) ∷ []) x.counts }) h (record { modules = h.modules; sends = h.sends })
+    answered_near n ts c d ((t.0 == ts) && (k.0 == c)) x (record x {
+      union =
+          with_values x.union vs;
+      values = x.values + length vs;
+    }) h (record {
+      modules = h.modules;
+      sends =
+          h.sends;
+    })
+hand_near n ts c d (Reduced t k u r) x h =
+    answered_near n ts c d ((t.0 == ts) && (k.0 == c)) x (record x {
+      counts =
+          counted d ((u, r) ∷ []) x.counts;
+    }) h (record { modules = h.modules; sends = h.sends })
 hand_near n ts c d (Rows t k rows) x h =
-    answered_near n ts c d ((t.0 == ts) && (k.0 == c)) x (record x { found = x.found ++ rows; rows = x.rows + length rows }) h (record { modules = h.modules; sends = h.sends })
+    answered_near n ts c d ((t.0 == ts) && (k.0 == c)) x (record x {
+      found = x.found ++ rows;
+      rows =
+          x.rows + length rows;
+    }) h (record { modules = h.modules; sends = h.sends })
 hand_near n ts c d _ x h = h
 
 tail_near : (n : ℕ) (ps : List (ℕ × Msg)) → SendsNear n ps → SendsNear n (tail_of ps)
@@ -167,13 +199,16 @@ found_near cat p rs (Some r) d h e f =
 
 read_near : (cat : Catalogue) (c f d : ℕ) → IsWhole cat → (c == 0) ≡ false → reads_at cat c f ≡ Some d → IsNear cat.dms d
 read_near cat c f d w z e =
-    found_near cat (λ r. r.fragment.0 == f) (class_at cat c).reads (find (λ r. r.fragment.0 == f) (class_at cat c).reads) d (reads_served cat c w) refl (rw z at e)
+    found_near cat (λ r. r.fragment.0 == f) (class_at cat c).reads (find (λ r. r.fragment.0 ==
+    f) (class_at cat c).reads) d (reads_served cat c w) refl (rw z at e)
 
 pub modules_near : (cat : Catalogue) (c : ℕ) (fs : List ℕ) → IsWhole cat → AllNear cat.dms (modules_of cat c fs)
-modules_near cat c fs w = elim (c == 0) as (λ b. (c == 0) ≡ b → AllNear cat.dms (if b then numbers_to cat.dms else ascending (filter_map (reads_at cat c) fs))) [
-  | true ↦ λ z. range_near 1 cat.dms cat.dms (omega arith) (omega arith)
-  | false ↦ λ z. fold_near cat.dms (filter_map (reads_at cat c) fs) [] (made_near cat.dms (reads_at cat c) fs (λ f d e. read_near cat c f d w z e)) tt
-] refl
+modules_near cat c fs w = elim (c ==
+    0) as (λ b. (c == 0) ≡ b → AllNear cat.dms (if b then numbers_to cat.dms else ascending
+    (filter_map (reads_at cat c) fs))) [
+      | true ↦ λ z. range_near 1 cat.dms cat.dms (omega arith) (omega arith)
+      | false ↦ λ z. fold_near cat.dms (filter_map (reads_at cat c) fs) [] (made_near cat.dms (reads_at cat c) fs (λ f d e. read_near cat c f d w z e)) tt
+    ] refl
 
 -- the active attempts
 
@@ -199,13 +234,18 @@ handed_near n c (T t) m o h = h
 
 send_near : (n c : ℕ) (m : Msg) (o : Option Attempt) → HasNear n o → HasNear n (active_sent c m o)
 send_near n c m None h = tt
-send_near n c m (Some a) h = if_way (HasNear n) (asks_rows a.ts c m) (Some (record a { exchange = after_send a.exchange })) (Some a) (sent_near n a.exchange h) h
+send_near n c m (Some a) h = if_way (HasNear n) (asks_rows a.ts c m)
+    (Some (record a { exchange = after_send a.exchange })) (Some a) (sent_near n a.exchange h) h
 
 act_near : (s : Setting) (c : ℕ) (log : Log) (act : Act) → IsWhole s.catalogue → IsStep s log act → HasNear s.catalogue.dms (active s c log)
     → HasNear s.catalogue.dms (active s c (Did act ∷ log))
 act_near s c log act w i h = step_way s log act (λ x. HasNear s.catalogue.dms (active s c (Did x ∷ log)))
-    (λ k q at f e. if_way (HasNear s.catalogue.dms) (k == c) (started (next_stamp s log) (sends_of_act (start_at s k log q)) (head_of (queue s c log))) (active s c log)
-    (started_near s.catalogue.dms (next_stamp s log) (sends_of_act (start_at s k log q)) (head_of (queue s c log)) (reads_near s.catalogue.dms s k log q (modules_asked s k q.text) (modules_near s.catalogue k _ w))) h)
+    (λ k q at f e. if_way (HasNear s.catalogue.dms) (k ==
+    c) (started (next_stamp s log) (sends_of_act (start_at s k log q)) (head_of (queue s c log)))
+    (active s c log)
+    (started_near s.catalogue.dms (next_stamp s log) (sends_of_act (start_at s k log q))
+    (head_of (queue s c log)) (reads_near s.catalogue.dms s k log q (modules_asked s k q.text)
+    (modules_near s.catalogue k _ w))) h)
     (λ k bases a at f. if_way (HasNear s.catalogue.dms) (k == c) None (active s c log) tt h)
     (λ to m hand f. send_near s.catalogue.dms c m (active s c log) h) i
 

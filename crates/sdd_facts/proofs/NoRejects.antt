@@ -84,10 +84,18 @@ kept_place f (y ∷ xs) (suc i) x e h =
 runs_place : (g : Given) (c : ℕ) → 1 ≤ c → c ≤ length g.catalogue.classes
     → (j : ℕ) × (slice_get (runs (setting_of g (T (tm_no (class_at g.catalogue c).tm.0)))) j ≡ Some c)
 runs_place g c l m =
-    kept_place (λ k. (class_at g.catalogue k).tm.0 == (class_at g.catalogue c).tm.0) (numbers_to (length g.catalogue.classes)) (c - 1) c (at_place (length g.catalogue.classes) c l m) (same_number (class_at g.catalogue c).tm.0)
+    kept_place (λ k. (class_at g.catalogue k).tm.0 == (class_at g.catalogue c).tm.0)
+    (numbers_to (length g.catalogue.classes)) (c - 1) c (at_place (length g.catalogue.classes) c l m)
+    (same_number (class_at g.catalogue c).tm.0)
 
 class_served : (cat : Catalogue) (c : ℕ) → IsWhole cat → 1 ≤ c → c ≤ length cat.classes → IsServedClass cat (class_at cat c)
-class_served cat c w l m = All-get_or (IsServedClass cat) cat.classes (c - 1) (record { name = []; tm = tm_no 0; reads = []; writes = [] }) (omega (arith, l, m)) w.classes
+class_served cat c w l m = All-get_or (IsServedClass cat) cat.classes (c - 1) (record {
+  name = [];
+  tm =
+      tm_no 0;
+  reads = [];
+  writes = [];
+}) (omega (arith, l, m)) w.classes
 
 first_there : (ds : List Cond) (q : Cond) → head_of ds ≡ Some q → slice_get ds 0 ≡ Some q
 first_there [] q e = cc
@@ -110,7 +118,9 @@ not_spoilt g d log ts k txn n ds us q w l m h e f =
     let p = runs_place g q.class.0 c.0 up in
     let hm : home g.catalogue q.class.0 ≡ T (tm_no t) = rw (not_zero q.class.0 c.0) refl in
     let a = s.module_to in let b = w.few_tms in
-    let no = never_spoilt g (t - 1) t p.0 (d.0 - 1) i.1 d log ts k txn n ds us q h (at_place g.catalogue.tms t s.module_from s.module_to) p.1 (omega (arith, a, b)) hm (at_place g.catalogue.dms d.0 l m) e i.2 in
+    let no = never_spoilt g (t - 1) t p.0 (d.0 - 1) i.1 d log ts k txn n ds us q h
+    (at_place g.catalogue.tms t s.module_from s.module_to) p.1 (omega (arith, a, b)) hm
+    (at_place g.catalogue.dms d.0 l m) e i.2 in
     not_both (spoils v q) i.0 no
 
 pub u_not_rejected : (g : Given) (d : DmNo) (log : Log) (n : ℕ) (ts : Ts) (k by_class : ClassNo) (write : Ts) → IsWhole g.catalogue → 1 ≤ d.0
@@ -120,5 +130,7 @@ u_not_rejected g d log n ts k by_class write w l m h e =
     let hb = (permitted_before g p.later (Does (D d) p.act ∷ p.before) (subst (IsPermitted g) p.is h)).1 in
     let by : IsRejectBy (setting_of g (D d)) (local_of g (D d) p.before) U p.act ts k by_class write = p.by in
     let z : by.class ≡ 0 = zero_source (setting_of g (D d)) by.class by.here by.to_is in
-    let hd : head (pipe_at g 0 d p.before) ≡ Some (Read ts k by.txn by.attempt by.conds by.uses) = subst (λ j. head (pipe_at g j d p.before) ≡ Some (Read ts k by.txn by.attempt by.conds by.uses)) z by.head_is in
+    let hd : head (pipe_at g 0 d p.before) ≡ Some (Read ts k by.txn by.attempt by.conds by.uses) =
+    subst (λ j. head (pipe_at g j d p.before) ≡ Some (Read ts k by.txn by.attempt by.conds by.uses)) z
+    by.head_is in
     not_spoilt g d p.before ts k by.txn by.attempt by.conds by.uses by.cond_by w l m hb hd by.spoiler_is

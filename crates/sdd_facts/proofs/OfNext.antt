@@ -170,9 +170,13 @@ round_few calls ls = few_join _ _ (few_resends calls ls) (few_delivers calls ls)
 next_is : (g : Given) (log : Log) (e : Entry) → AreFewLeft (left g.events log) → next g log ≡ Some e → OfNext g log e
 next_is g log e f p =
     one_of (OfNext g log e) (mark_due g log) _ e (of_mark g log e)
-    (one_of (OfNext g log e) (site_due g log) _ e (λ q. let r = found_at (λ at. does_at at (next_at g log at)) (sites g.catalogue.tms g.catalogue.dms) e q in of_site g log r.1 (next_at g log r.1) e (r.0, r.2) refl r.3)
+    (one_of (OfNext g log e) (site_due g log) _ e (λ q. let r =
+    found_at (λ at. does_at at (next_at g log at)) (sites g.catalogue.tms g.catalogue.dms) e q in of_site
+    g log r.1 (next_at g log r.1) e (r.0, r.2) refl r.3)
     (one_of (OfNext g log e) (hand_due g log) _ e
-    (λ q. let r = found_at (hand_on log) (all_links g) e q in of_link g log r.1.0 r.1.1 (takes_part r.1.1 log) (next_number (handed r.1.0 r.1.1 log) (delivered (link_of r.1.0 r.1.1 log).there)) e (r.0, r.2) r.3)
+    (λ q. let r = found_at (hand_on log) (all_links g) e q in of_link g log r.1.0 r.1.1
+    (takes_part r.1.1 log) (next_number (handed r.1.0 r.1.1 log)
+    (delivered (link_of r.1.0 r.1.1 log).there)) e (r.0, r.2) r.3)
     (λ q. of_left g log (left g.events log) e f q))) p
 
 few_left : (g : Given) (log : Log) → AllFewTicks g.events → IsLawful g log → AreFewLeft (left g.events log)
@@ -226,11 +230,15 @@ pub site_there : (tms dms : ℕ) (at : Site) → is_site tms dms at ≡ true →
 site_there tms dms U e = (0, refl)
 site_there tms dms (T t) e =
     let i = there_in tms t.0 e in
-    let p = in_left (map (λ n. T (tm_no n)) (range_with_len 1 tms)) (map (λ n. D (dm_no n)) (range_with_len 1 dms)) i.0 (T t) (at_map (λ n. T (tm_no n)) (range_with_len 1 tms) i.0 t.0 i.1) in
+    let p = in_left (map (λ n. T (tm_no n)) (range_with_len 1 tms))
+    (map (λ n. D (dm_no n)) (range_with_len 1 dms)) i.0 (T t)
+    (at_map (λ n. T (tm_no n)) (range_with_len 1 tms) i.0 t.0 i.1) in
     (suc i.0, p)
 site_there tms dms (D d) e =
     let i = there_in dms d.0 e in
-    let p = in_right (map (λ n. T (tm_no n)) (range_with_len 1 tms)) (map (λ n. D (dm_no n)) (range_with_len 1 dms)) i.0 (D d) (at_map (λ n. D (dm_no n)) (range_with_len 1 dms) i.0 d.0 i.1) in
+    let p = in_right (map (λ n. T (tm_no n)) (range_with_len 1 tms))
+    (map (λ n. D (dm_no n)) (range_with_len 1 dms)) i.0 (D d)
+    (at_map (λ n. D (dm_no n)) (range_with_len 1 dms) i.0 d.0 i.1) in
     (suc p.0, p.1)
 
 pub link_of_links : (tms dms : ℕ) (a b : Site) → IsThere (links tms dms) (a, b) → is_link tms dms a b ≡ true

@@ -42,11 +42,18 @@ pub record AreApart (log : Log) : Type 0 where
   pub within : AllLe (hands log) (hands_in (opens log))
 
 apart_if : (b : Bool) (n : ℕ) (from : Site) (m : Msg) (os : List Open) → IsStrict (hands_in os) → AllLe n (hands_in os)
-    → IsStrict (hands_in (if b then os ++ record { hand = suc n; from = from; msg = m } ∷ [] else os)) × AllLe (suc n) (hands_in (if b then os ++ record { hand = suc n; from = from; msg = m } ∷ [] else os))
+    → IsStrict (hands_in (if b then os ++ record { hand = suc n; from = from; msg = m } ∷ [] else os))
+    × AllLe (suc n) (hands_in (if b then os ++ record {
+      hand = suc n;
+      from = from;
+      msg =
+          m;
+    } ∷ [] else os))
 apart_if true n from m os h l =
     let o : Open = record { hand = suc n; from = from; msg = m } in (
       subst IsStrict (sym (hands_push os o)) (strict_push (suc n) (hands_in os) h (lt_above n (suc n) (hands_in os) (omega arith) l)),
-      subst (AllLe (suc n)) (sym (hands_push os o)) (le_join (suc n) (hands_in os) (suc n ∷ []) (le_up n (suc n) (hands_in os) (omega arith) l) (omega arith, tt)),
+      subst (AllLe (suc n)) (sym (hands_push os o)) (le_join (suc n) (hands_in os) (suc n ∷ [])
+          (le_up n (suc n) (hands_in os) (omega arith) l) (omega arith, tt)),
     )
 apart_if false n from m os h l = (h, le_up n (suc n) (hands_in os) (omega arith) l)
 
@@ -115,10 +122,11 @@ sift_swap p q [] = refl
 sift_swap p q (x ∷ xs) =
     let i = sift_swap p q xs in
     elim (p x) as (λ b. p x ≡ b → filter q (cond b (x ∷ filter p xs) (filter p xs)) ≡ filter p (filter q (x ∷ xs))) [
-      | true ↦ λ e. elim (q x) as (λ b. q x ≡ b → cond b (x ∷ filter q (filter p xs)) (filter q (filter p xs)) ≡ filter p (cond b (x ∷ filter q xs) (filter q xs))) [
-        | true ↦ λ g. rw e (ap (λ l. x ∷ l) i)
-        | false ↦ λ g. i
-      ] refl
+      | true ↦ λ e. elim (q x) as (λ b. q x ≡ b → cond b (x ∷ filter q (filter p xs))
+          (filter q (filter p xs)) ≡ filter p (cond b (x ∷ filter q xs) (filter q xs))) [
+            | true ↦ λ g. rw e (ap (λ l. x ∷ l) i)
+            | false ↦ λ g. i
+          ] refl
       | false ↦ λ e. elim (q x) as (λ b. q x ≡ b → filter q (filter p xs) ≡ filter p (cond b (x ∷ filter q xs) (filter q xs))) [
         | true ↦ λ g. rw e i
         | false ↦ λ g. i

@@ -78,7 +78,8 @@ in_turn : (g : Given) (c : ℕ) (d : DmNo) (a : Site) (n : ℕ) (m : Msg) (log :
 in_turn g c d a n m log h small e =
     let i = in_pipe g c d (Hand a (D d) n m ∷ log) h in
     let rises = class_rises g c d (Hand a (D d) n m ∷ log) h small in
-    let is : class_puts g c d (Hand a (D d) n m ∷ log) ≡ (all_of (pipe_at g c d log) ++ m ∷ []) ++ i.0 = i.1 ∙ ap (λ l. l ++ i.0) (pipe_with g c d a n m log e) in
+    let is : class_puts g c d (Hand a (D d) n m ∷ log) ≡ (all_of (pipe_at g c d log) ++ m ∷ []) ++ i.0 =
+    i.1 ∙ ap (λ l. l ++ i.0) (pipe_with g c d a n m log e) in
     last_before (all_of (pipe_at g c d log)) m i.0 (subst (λ l. IsRising (map time_of l)) is rises)
 
 pub pipe_fits : (g : Given) (d : DmNo) (log : Log) (a : Site) (n : ℕ) (m : Msg) (c t : ℕ) → IsHanded g log a (D d) n m
@@ -90,6 +91,7 @@ pipe_fits g d log a n m c t h small e early =
     let time : time_of m ≡ t = subst (λ o. time_in o ≡ t) (sym e) refl in
     record {
       source = class_fits g d a c at l;
-      in_turn = subst (λ x. last_time (pipe c (local_of g (D d) log)) ≤ x) time (in_turn g c d a n m log h.permitted (subst (λ x. number_of x ≤ 63) (sym at) small) through);
+      in_turn = subst (λ x. last_time (pipe c (local_of g (D d) log)) ≤ x) time
+          (in_turn g c d a n m log h.permitted (subst (λ x. number_of x ≤ 63) (sym at) small) through);
       early = early;
     }

@@ -76,13 +76,17 @@ abbrev processes : Act → Bool
 processes (Records k r sends) = is_processing r
 processes (Sends to m hand) = false
 
-answer_class : (s : Setting) (log : site.Log) (k : ℕ) (txn : TxnNo) (attempt : ℕ) (dm : DmNo) (sends : List (Site × Msg)) (act : Act) → act ≡ Records k (Answer txn attempt dm) sends → IsReadStep s log act → IsClassHere s k
+answer_class : (s : Setting) (log : site.Log) (k : ℕ) (txn : TxnNo) (attempt : ℕ) (dm : DmNo)
+    (sends : List (Site × Msg)) (act : Act) → act ≡ Records k (Answer txn attempt dm) sends
+    → IsReadStep s log act → IsClassHere s k
 answer_class s log k txn attempt dm sends act e (in_passing h) = let p : true ≡ false = sym (ap is_moving e) ∙ h in absurd cc
 answer_class s log k txn attempt dm sends act e (by_wait c conds r others here idle waits read none is) =
     let p : true ≡ is_processing r = sym (ap processes e) ∙ ap processes is in absurd cc
-answer_class s log k txn attempt dm sends act e (by_record c m r others here active first may is) = subst (IsClassHere s) (sym (ap class_of is) ∙ ap class_of e) here
+answer_class s log k txn attempt dm sends act e (by_record c m r others here active first may is) =
+    subst (IsClassHere s) (sym (ap class_of is) ∙ ap class_of e) here
 
-pub class_here : (g : Given) (d : DmNo) (log : Log) (later before : site.Log) (k : ℕ) (txn : TxnNo) (attempt : ℕ) (dm : DmNo) (sends : List (Site × Msg)) → IsPermitted g log
+pub class_here : (g : Given) (d : DmNo) (log : Log) (later before : site.Log) (k : ℕ) (txn : TxnNo)
+    (attempt : ℕ) (dm : DmNo) (sends : List (Site × Msg)) → IsPermitted g log
     → local_of g (D d) log ≡ later ++ Did (Records k (Answer txn attempt dm) sends) ∷ before → k ≤ length g.catalogue.classes
 class_here g d log later before k txn attempt dm sends h e =
     let s : Setting = setting_of g (D d) in
@@ -92,7 +96,9 @@ class_here g d log later before k txn attempt dm sends h e =
     omega arith
 
 -- an Answer isn't repeated: no Answer stands behind one to the same READ
-twice : (g : Given) → IsSound g.catalogue → (d : DmNo) (log : Log) (ts : ℕ) → IsPermitted g log → (y : IsAnswerAt ts (local_of g (D d) log)) (z b : site.Log) (k : ℕ) (txn : TxnNo) (attempt : ℕ) (dm : DmNo) (sends : List (Site × Msg))
+twice : (g : Given) → IsSound g.catalogue → (d : DmNo) (log : Log) (ts : ℕ) → IsPermitted g log
+    → (y : IsAnswerAt ts (local_of g (D d) log)) (z b : site.Log) (k : ℕ) (txn : TxnNo) (attempt : ℕ)
+    (dm : DmNo) (sends : List (Site × Msg))
     → y.before ≡ z ++ Did (Records k (Answer txn attempt dm) sends) ∷ b → is_at ts (head (pipe k b)) ≡ true → ⊥
 twice g sound d log ts h y z b k txn attempt dm sends e at =
     let second : Act = Records y.class (Answer y.txn y.attempt y.dm) y.sends in
@@ -107,19 +113,29 @@ twice g sound d log ts h y z b k txn attempt dm sends e at =
     let x = read_at_head ts (head (pipe k b)) at in
     let r = read_at_head ts (head (pipe y.class y.before)) y.at in
     let hd1 : head (pipe_at g k d px.rest) ≡ Some (Read x.t x.of x.txn x.attempt x.conds x.uses) = ap (λ l. head (pipe k l)) px.local_is ∙ x.is in
-    let hd2 : head (pipe_at g y.class d whole) ≡ Some (Read r.t r.of r.txn r.attempt r.conds r.uses) = ap (λ l. head (pipe_at g y.class d l)) (sym px.is) ∙ ap (λ l. head (pipe y.class l)) py.local_is ∙ r.is in
+    let hd2 : head (pipe_at g y.class d whole) ≡ Some (Read r.t r.of r.txn r.attempt r.conds r.uses) =
+    ap (λ l. head (pipe_at g y.class d l)) (sym px.is) ∙ ap (λ l. head (pipe y.class l)) py.local_is
+    ∙ r.is in
     let o1 = (read_of g k d px.rest x.t x.of x.txn x.attempt x.conds x.uses hx hd1).1 in
     let o2 = (read_of g y.class d whole r.t r.of r.txn r.attempt r.conds r.uses hw hd2).1 in
     let n1 : k ≤ length g.catalogue.classes = class_here g d py.rest z b k txn attempt dm sends hy (py.local_is ∙ e) in
     let n2 : y.class ≤ length g.catalogue.classes = class_here g d log y.later y.before y.class y.txn y.attempt y.dm y.sends h y.is in
     let whole_is : front ++ px.rest ≡ whole = append_assoc px.later (Does (D d) first ∷ []) px.rest in
-    let s1 : IsReadOf g whole k x.txn.0 x.attempt ts = subst (λ t. IsReadOf g whole k x.txn.0 x.attempt t) x.ts_is (subst (λ l. IsReadOf g l k x.txn.0 x.attempt x.t.0) whole_is (read_later g k front px.rest x.txn.0 x.attempt x.t.0 o1)) in
+    let s1 : IsReadOf g whole k x.txn.0 x.attempt ts =
+    subst (λ t. IsReadOf g whole k x.txn.0 x.attempt t) x.ts_is
+    (subst (λ l. IsReadOf g l k x.txn.0 x.attempt x.t.0) whole_is
+    (read_later g k front px.rest x.txn.0 x.attempt x.t.0 o1)) in
     let s2 : IsReadOf g whole y.class r.txn.0 r.attempt ts = subst (λ t. IsReadOf g whole y.class r.txn.0 r.attempt t) r.ts_is o2 in
-    let same : k ≡ y.class = (one_start g sound k y.class whole ts s1.queued s2.queued n1 n2 (start_here g k whole x.txn.0 x.attempt ts s1) (start_here g y.class whole r.txn.0 r.attempt ts s2)).0 in
+    let same : k ≡ y.class = (one_start g sound k y.class whole ts s1.queued s2.queued n1 n2
+    (start_here g k whole x.txn.0 x.attempt ts s1) (start_here g y.class whole r.txn.0 r.attempt ts s2)).0
+    in
     let hd3 : head (pipe_at g k d whole) ≡ Some (Read r.t r.of r.txn r.attempt r.conds r.uses) = ap (λ j. head (pipe_at g j d whole)) same ∙ hd2 in
-    answered_there g k d px.later px.rest dm sends x.t r.t x.of r.of txn x.txn r.txn attempt x.attempt r.attempt x.conds r.conds x.uses r.uses hw (small_home g.catalogue sound k n1) hd1 hd3 (x.ts_is ∙ sym r.ts_is)
+    answered_there g k d px.later px.rest dm sends x.t r.t x.of r.of txn x.txn r.txn attempt x.attempt
+    r.attempt x.conds r.conds x.uses r.uses hw (small_home g.catalogue sound k n1) hd1 hd3 (x.ts_is
+    ∙ sym r.ts_is)
 
-pub one_answer : (g : Given) → IsSound g.catalogue → (d : DmNo) (log : Log) (ts : ℕ) → IsPermitted g log → (x y : IsAnswerAt ts (local_of g (D d) log)) → (x.before ≡ y.before) × (x.class ≡ y.class)
+pub one_answer : (g : Given) → IsSound g.catalogue → (d : DmNo) (log : Log) (ts : ℕ) → IsPermitted g log
+    → (x y : IsAnswerAt ts (local_of g (D d) log)) → (x.before ≡ y.before) × (x.class ≡ y.class)
 one_answer g sound d log ts h x y =
     let first : Act = Records x.class (Answer x.txn x.attempt x.dm) x.sends in
     let second : Act = Records y.class (Answer y.txn y.attempt y.dm) y.sends in

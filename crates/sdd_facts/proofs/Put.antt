@@ -67,7 +67,9 @@ abbrev written : Msg → List Change
 written (Write ts class txn changes) = changes
 written _ = []
 
-module _ (s : Setting) (sound : IsSound s.catalogue) (bases : Bases) (are : (ts : ℕ) → IsDatabase s.catalogue (bases ts)) (log : site.Log) (fair : Each (IsFair s) log) (new : Each IsNew log) (fit : (c : ℕ) → Each (SubmitHas (FitsText s.catalogue) s c) log) where
+module _ (s : Setting) (sound : IsSound s.catalogue) (bases : Bases) (are : (ts : ℕ)
+    → IsDatabase s.catalogue (bases ts)) (log : site.Log) (fair : Each (IsFair s) log)
+    (new : Each IsNew log) (fit : (c : ℕ) → Each (SubmitHas (FitsText s.catalogue) s c) log) where
   write_fits : (c : ℕ) (others : Bases) (a : Attempt) (d : DmNo) (k : ℕ) (m : Msg) → IsBased s bases log (commit_act s.catalogue others c a)
       → slice_get (to_site (D d) (sends_of_act (commit_act s.catalogue others c a))) k ≡ Some m → AreWritten s.catalogue d.0 (written m)
   write_fits c others a d k m based e =
@@ -77,25 +79,32 @@ module _ (s : Setting) (sound : IsSound s.catalogue) (bases : Bases) (are : (ts 
       subst (AreWritten s.catalogue d.0) (ap (changes_at s.catalogue d.0) (sym now) ∙ ap written (sym put.0))
       (effect_written s.catalogue sound b.text (active_so (FitsText s.catalogue) s c log b fair new (fit c) based.1) (bases b.ts) (are b.ts) d.0)
 
-  put_fits : (act : Act) (d : DmNo) (k : ℕ) (m : Msg) → IsBased s bases log act → IsPutBy s log act m → slice_get (to_site (D d) (sends_of_act act)) k ≡ Some m → FitsMsg s.catalogue d.0 m
+  put_fits : (act : Act) (d : DmNo) (k : ℕ) (m : Msg) → IsBased s bases log act → IsPutBy s log act m
+      → slice_get (to_site (D d) (sends_of_act act)) k ≡ Some m → FitsMsg s.catalogue d.0 m
   put_fits act d k (Write ts class txn changes) based by e =
       let w : IsWrite s log act class.0 ts.0 txn.0 = by in
       write_fits class.0 w.bases w.attempt d k (Write ts class txn changes) (subst (IsBased s bases log) w.act_is based)
       (subst (λ x. slice_get (to_site (D d) (sends_of_act x)) k ≡ Some (Write ts class txn changes)) w.act_is e)
   put_fits act d k _ based by e = tt
 
-  step_fits : (act : Act) → IsStep s log act → IsBased s bases log act → (d : DmNo) (k : ℕ) (m : Msg) → slice_get (to_site (D d) (sends_of_act act)) k ≡ Some m → FitsMsg s.catalogue d.0 m
+  step_fits : (act : Act) → IsStep s log act → IsBased s bases log act → (d : DmNo) (k : ℕ) (m : Msg)
+      → slice_get (to_site (D d) (sends_of_act act)) k ≡ Some m → FitsMsg s.catalogue d.0 m
   step_fits act step based d k m e = put_fits act d k m based (put_by s (D d) log act k m step e) e
 
 act_fits : (g : Given) → FitsGiven g → (log : Log) (at : Site) (act : Act) → IsPermitted g (Does at act ∷ log) → AreDatabases g log → ActFits g act
 act_fits g good log U act h are =
     let step = (subst (λ l. Each (IsFair (setting_of g U)) l) (own_act g U act log) (u_fair g (Does U act ∷ log) h)).0 in
-    step_fits (setting_of g U) good.sound (base_of g log) are (local_of g U log) (u_fair g log h.1) (all_new g U log h.1) (λ c. submitted_fit g good U c log h.1) act step (u_commit g log act h)
+    step_fits (setting_of g U) good.sound (base_of g log) are (local_of g U log) (u_fair g log h.1)
+    (all_new g U log h.1) (λ c. submitted_fit g good U c log h.1) act step (u_commit g log act h)
 act_fits g good log (T t) act h are =
     let step = (subst (λ l. Each (IsFair (setting_of g (T t))) l) (own_act g (T t) act log) (t_fair g t (Does (T t) act ∷ log) h)).0 in
-    step_fits (setting_of g (T t)) good.sound (base_of g log) are (local_of g (T t) log) (t_fair g t log h.1) (all_new g (T t) log h.1) (λ c. submitted_fit g good (T t) c log h.1) act step (t_commit g t log act h)
+    step_fits (setting_of g (T t)) good.sound (base_of g log) are (local_of g (T t) log)
+    (t_fair g t log h.1) (all_new g (T t) log h.1) (λ c. submitted_fit g good (T t) c log h.1) act step
+    (t_commit g t log act h)
 act_fits g good log (D b) act h are = λ d k m e.
-    not_by_d (setting_of g (D b)) (local_of g (D b) log) (D d) act d.0 m (put_by_d (setting_of g (D b)) (local_of g (D b) log) act (allowed_act g log (Does (D b) act) h.0) (D d) k m e)
+    not_by_d (setting_of g (D b)) (local_of g (D b) log) (D d) act d.0 m
+    (put_by_d (setting_of g (D b)) (local_of g (D b) log) act (allowed_act g log (Does (D b) act) h.0)
+    (D d) k m e)
 
 -- what is handed over was put
 
@@ -107,7 +116,8 @@ act_at : (g : Given) (later rest : Log) (at : Site) (act : Act) → ActsFit g (l
 act_at g [] rest at act h = h.0
 act_at g (e ∷ later) rest at act h = act_at g later rest at act (acts_before g e (later ++ Does at act ∷ rest) h)
 
-pub message_fits : (g : Given) (log : Log) → ActsFit g log → (from : Site) (d : DmNo) (n : ℕ) (m : Msg) → message_at from (D d) n log ≡ Some m → FitsMsg g.catalogue d.0 m
+pub message_fits : (g : Given) (log : Log) → ActsFit g log → (from : Site) (d : DmNo) (n : ℕ) (m : Msg)
+    → message_at from (D d) n log ≡ Some m → FitsMsg g.catalogue d.0 m
 message_fits g log fit from d n m e =
     let p = was_put (D d) (local_of g from log) (n - 1) m (subst (λ xs. slice_get xs (n - 1) ≡ Some m) (sent_is g from (D d) log) e) in
     let l = place_of_act g from log p.later p.act p.before p.is in
@@ -129,7 +139,8 @@ pub hands_fit : (g : Given) (d : DmNo) (log : Log) → IsPermitted g log → Act
 hands_fit g d [] h fit = tt
 hands_fit g d (e ∷ log) h fit =
     let before = acts_before g e log fit in
-    subst (Each (HandFits g.catalogue d.0)) (sym (local_step g (D d) e log)) (made_fits g d e log (made g (D d) log e) before h.0 refl (hands_fit g d log h.1 before))
+    subst (Each (HandFits g.catalogue d.0)) (sym (local_step g (D d) e log))
+    (made_fits g d e log (made g (D d) log e) before h.0 refl (hands_fit g d log h.1 before))
 
 -- so the databases of snapshots are databases
 are_databases : (g : Given) → FitsGiven g → (log : Log) → IsPermitted g log → ActsFit g log → AreDatabases g log

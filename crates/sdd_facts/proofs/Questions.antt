@@ -35,9 +35,18 @@ sends_fetches ts c m x (d ∷ ds) = all_same _ _ (d ∷ ds) refl
 sends_next : (ts c : ℕ) (x : Exchange) (qs : List Asking) (done : List Step) → SendsPhase ts c (goes_on ts c x qs done)
 sends_next ts c x [] done = all_same _ _ (map (λ (m : ℕ × List ℕ). m.0) x.modules) refl
 sends_next ts c x (q ∷ rest) done =
-    elim (next_move q.conds (counts_for x.counts q) done) as (λ o. SendsPhase ts c (elim o as (λ _. Exchange) [ None ↦ goes_on ts c x rest [] | Some m ↦ fetches ts c (move_at q.before m) (record x { left = q ∷ rest; done = done ++ m.step ∷ [] }) ])) [
+    elim (next_move q.conds (counts_for x.counts q) done) as (λ o. SendsPhase ts c
+    (elim o as (λ _. Exchange) [
+      | None ↦ goes_on ts c x rest []
+      | Some m ↦ fetches ts c
+          (move_at q.before m) (record x { left = q ∷ rest; done = done ++ m.step ∷ [] })
+    ])) [
       | None ↦ sends_next ts c x rest []
-      | Some m ↦ sends_fetches ts c (move_at q.before m) (record x { left = q ∷ rest; done = done ++ m.step ∷ [] }) (with_use x (move_at q.before m).source.part)
+      | Some m ↦ sends_fetches ts c (move_at q.before m) (record x {
+        left = q ∷ rest;
+        done =
+            done ++ m.step ∷ [];
+      }) (with_use x (move_at q.before m).source.part)
     ]
 
 sends_end : (ts c : ℕ) (x : Exchange) (p : Phase) → x.phase ≡ p → SendsPhase ts c x → SendsPhase ts c (phase_ends ts c x p)
@@ -75,14 +84,17 @@ module _ (ts c n : ℕ) (m : Msg) (v : ℕ → Turn) where
   w d = after_answer n m v d
 
   -- y is the exchange x with what the answer told
-  module _ (x y : Exchange) (stands : (d : ℕ) → StandsAt d x (v d)) (lacks_are : y.lacks ≡ x.lacks) (same : question_of ts c x ≡ question_of ts c y) (sends : SendsPhase ts c y) (h : AsksPhase ts c x v) where
+  module _ (x y : Exchange) (stands : (d : ℕ) → StandsAt d x (v d)) (lacks_are : y.lacks ≡ x.lacks)
+      (same : question_of ts c x ≡ question_of ts c y) (sends : SendsPhase ts c y)
+      (h : AsksPhase ts c x v) where
     lack_asks : (ds : List ℕ) → without y.lacks n ≡ ds → AsksPhase ts c (lacking ts c y ds) w
     lack_asks [] e = record {
       sends = sends_end ts c (record y { lacks = [] }) y.phase refl sends;
       asked = λ d ns q a r.
           (let k = still_asked n d m q ns v a in
           let l : contains x.lacks d ≡ true = (is_awaited d x (v d) ns q (stands d) k.0).lacks in
-          let none : contains x.lacks d ≡ false = sym (without_other x.lacks n d k.1) ∙ ap (λ ls. contains ls d) (ap (λ ls. without ls n) (sym lacks_are) ∙ e) in
+          let none : contains x.lacks d ≡ false = sym (without_other x.lacks n d k.1)
+          ∙ ap (λ ls. contains ls d) (ap (λ ls. without ls n) (sym lacks_are) ∙ e) in
           never (contains x.lacks d) l none);
     }
     lack_asks (l ∷ ds) e = record { sends = sends; asked = λ d ns q a r. (let k = still_asked n d m q ns v a in h.asked d ns q k.0 r ∙ same) }
@@ -91,7 +103,9 @@ module _ (ts c n : ℕ) (m : Msg) (v : ℕ → Turn) where
     answer_asks = lack_asks (without y.lacks n) refl
 
   -- values come while they are fetched
-  fetched : (x : Exchange) (ns : List ℕ) (q : Msg) (u : ℕ) (vs : List Value) (t : _) (k : _) → awaits x.phase q ≡ true → Replies ns q (Values t k u vs) → (z : List Value) → question ts c x.phase x.union ≡ question ts c x.phase z
+  fetched : (x : Exchange) (ns : List ℕ) (q : Msg) (u : ℕ) (vs : List Value) (t : _) (k : _)
+      → awaits x.phase q ≡ true → Replies ns q (Values t k u vs) → (z : List Value)
+      → question ts c x.phase x.union ≡ question ts c x.phase z
   fetched x ns q u vs t k a r z = by x.phase q a r
     where
       by : (p : Phase) (q : Msg) → awaits p q ≡ true → Replies ns q (Values t k u vs) → question ts c p x.union ≡ question ts c p z
@@ -110,18 +124,37 @@ module _ (ts c n : ℕ) (m : Msg) (v : ℕ → Turn) where
   answered_if false x y e h = cc
 
   -- an answer to the attempt, other than a rejection
-  pub hand_asks : (x : Exchange) → is_answer ts c m ≡ true → is_a_refusal m ≡ false → ((d : ℕ) → StandsAt d x (v d)) → MayAnswer (v n) m → AsksPhase ts c x v → AsksPhase ts c (after_hand ts c n m x) w
+  pub hand_asks : (x : Exchange) → is_answer ts c m ≡ true → is_a_refusal m ≡ false
+      → ((d : ℕ) → StandsAt d x (v d)) → MayAnswer (v n) m → AsksPhase ts c x v
+      → AsksPhase ts c (after_hand ts c n m x) w
   hand_asks x own kind stands may h = by m refl own
     where
       by : (z : Msg) → m ≡ z → is_answer ts c z ≡ true → AsksPhase ts c (after_hand ts c n z x) w
-      by (Ready t k counts) e i = answered_if ((t.0 == ts) && (k.0 == c)) x (record x { counts = counted n counts x.counts }) i (answer_asks x (record x { counts = counted n counts x.counts }) stands refl refl h.sends h)
+      by (Ready t k counts) e i = answered_if ((t.0 == ts) && (k.0 == c)) x (record x {
+        counts =
+            counted n counts x.counts;
+      }) i (answer_asks x (record x { counts = counted n counts x.counts })
+          stands refl refl h.sends h)
       by (Values t k u vs) e i =
           let a = answers_asked (v n) m may in
           let q = is_awaited n x (v n) a.uses a.question (stands n) a.is in
-          let same : question ts c x.phase x.union ≡ question ts c x.phase (with_values x.union vs) = fetched x a.uses a.question u vs t k q.phase (subst (Replies a.uses a.question) e a.replies) (with_values x.union vs) in
+          let same : question ts c x.phase x.union ≡ question ts c x.phase (with_values x.union vs) =
+          fetched x a.uses a.question u vs t k q.phase (subst (Replies a.uses a.question) e a.replies)
+          (with_values x.union vs) in
           answered_if ((t.0 == ts) && (k.0 == c)) x (record x { union = with_values x.union vs; values = x.values + length vs }) i
-          (answer_asks x (record x { union = with_values x.union vs; values = x.values + length vs }) stands refl same (subst (λ z. AllByRecursion (λ (p : ℕ × Msg). p.1 ≡ z) x.to_send) same h.sends) h)
-      by (Reduced t k u y) e i = answered_if ((t.0 == ts) && (k.0 == c)) x (record x { counts = counted n ((u, y) ∷ []) x.counts }) i (answer_asks x (record x { counts = counted n ((u, y) ∷ []) x.counts }) stands refl refl h.sends h)
-      by (Rows t k rows) e i = answered_if ((t.0 == ts) && (k.0 == c)) x (record x { found = x.found ++ rows; rows = x.rows + length rows }) i (answer_asks x (record x { found = x.found ++ rows; rows = x.rows + length rows }) stands refl refl h.sends h)
+          (answer_asks x (record x { union = with_values x.union vs; values = x.values + length vs }) stands
+          refl same (subst (λ z. AllByRecursion (λ (p : ℕ × Msg). p.1 ≡ z) x.to_send) same h.sends) h)
+      by (Reduced t k u y) e i = answered_if ((t.0 == ts) && (k.0 == c)) x (record x {
+        counts =
+            counted n ((u, y) ∷ []) x.counts;
+      }) i
+          (answer_asks x (record x { counts = counted n ((u, y) ∷ []) x.counts }) stands refl refl h.sends h)
+      by (Rows t k rows) e i = answered_if ((t.0 == ts) && (k.0 == c)) x (record x {
+        found =
+            x.found ++ rows;
+        rows = x.rows + length rows;
+      }) i
+          (answer_asks x (record x { found = x.found ++ rows; rows = x.rows + length rows }) stands refl refl
+          h.sends h)
       by (Reject t k b write) e i = let r : true ≡ false = sym (ap is_a_refusal e) ∙ kind in absurd cc
       by z e i = cc

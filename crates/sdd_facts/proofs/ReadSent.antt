@@ -69,24 +69,34 @@ sent_of_kind : (f : Msg → Bool) (d : ℕ) (sends : List (Site × Msg))
 sent_of_kind f d [] = refl
 sent_of_kind f d (p ∷ sends) =
     let i = sent_of_kind f d sends in
-    elim (same_site (D (dm_no d)) p.0) as (λ b. same_site (D (dm_no d)) p.0 ≡ b → filter (at_site (D (dm_no d)) f) (p ∷ sends) ≡ map (to_d d) (filter f (if b then p.1 ∷ to_site (D (dm_no d)) sends else to_site (D (dm_no d)) sends))) [
+    elim (same_site (D (dm_no d)) p.0) as (λ b. same_site (D (dm_no d)) p.0 ≡ b
+    → filter (at_site (D (dm_no d)) f) (p ∷ sends) ≡ map (to_d d)
+    (filter f (if b then p.1 ∷ to_site (D (dm_no d)) sends else to_site (D (dm_no d)) sends))) [
       | true ↦ λ e.
           (let q : same_site p.0 (D (dm_no d)) ≡ true = site_sym p.0 (D (dm_no d)) ∙ e in
           let r : D (dm_no d) ≡ p.0 = site_is (D (dm_no d)) p.0 e in
           let s : p ≡ to_d d p.1 = ap (λ x. (x, p.1)) (sym r) in
           ap (λ (b : Bool). cond (b && f p.1) (p ∷ filter (at_site (D (dm_no d)) f) sends) (filter (at_site (D (dm_no d)) f) sends)) q
-          ∙ (elim (f p.1) as (λ b. cond b (p ∷ filter (at_site (D (dm_no d)) f) sends) (filter (at_site (D (dm_no d)) f) sends) ≡ map (to_d d) (cond b (p.1 ∷ filter f (to_site (D (dm_no d)) sends)) (filter f (to_site (D (dm_no d)) sends)))) [
+          ∙ (elim (f p.1) as (λ b. cond b (p ∷ filter (at_site (D (dm_no d)) f) sends)
+          (filter (at_site (D (dm_no d)) f) sends) ≡ map (to_d d)
+          (cond b (p.1 ∷ filter f (to_site (D (dm_no d)) sends))
+          (filter f (to_site (D (dm_no d)) sends)))) [
             | true ↦ ap (λ x. x ∷ filter (at_site (D (dm_no d)) f) sends) s ∙ ap (λ l. to_d d p.1 ∷ l) i
             | false ↦ i
           ]))
-      | false ↦ λ e. ap (λ (b : Bool). cond (b && f p.1) (p ∷ filter (at_site (D (dm_no d)) f) sends) (filter (at_site (D (dm_no d)) f) sends)) (site_sym p.0 (D (dm_no d)) ∙ e) ∙ i
+      | false ↦ λ e. ap (λ (b : Bool). cond (b && f p.1) (p ∷ filter (at_site (D (dm_no d)) f) sends)
+          (filter (at_site (D (dm_no d)) f) sends)) (site_sym p.0 (D (dm_no d)) ∙ e) ∙ i
     ] refl
 
 reads_of_act : (ts c d : ℕ) (act : Act) (log : Log)
-    → reads_sent ts c d (Did act ∷ log) ≡ map (to_d d) (filter (is_read ts c) (questions ts c (to_site (D (dm_no d)) (sends_of_act act)))) ++ reads_sent ts c d log
+    → reads_sent ts c d (Did act ∷ log) ≡ map (to_d d)
+    (filter (is_read ts c) (questions ts c (to_site (D (dm_no d)) (sends_of_act act)))) ++ reads_sent ts c
+    d log
 reads_of_act ts c d act log =
     filter-append (at_site (D (dm_no d)) (is_read ts c)) (sends_of_act act) (fits.sent log)
-    ∙ ap (λ l. l ++ reads_sent ts c d log) (sent_of_kind (is_read ts c) d (sends_of_act act) ∙ ap (map (to_d d)) (sym (sift_within (is_question ts c) (is_read ts c) (to_site (D (dm_no d)) (sends_of_act act)) (λ j m e f. read_question ts c m f))))
+    ∙ ap (λ l. l ++ reads_sent ts c d log) (sent_of_kind (is_read ts c) d (sends_of_act act)
+    ∙ ap (map (to_d d)) (sym (sift_within (is_question ts c) (is_read ts c)
+    (to_site (D (dm_no d)) (sends_of_act act)) (λ j m e f. read_question ts c m f))))
 
 question_read : (ts c : ℕ) (m : Msg) → is_question ts c m ≡ true → is_a_read m ≡ true → is_read ts c m ≡ true
 question_read ts c (Read t k txn attempt conds uses) e f = e
@@ -105,8 +115,12 @@ one_read ts c m e = ap (λ (b : Bool). cond b (m ∷ []) []) e
 
 last_asked : (ts c d : ℕ) (v : Turn) (m : Msg) (ms : List Msg) (reads : List (Site × Msg)) (b : Bool) → ms ≡ m ∷ [] → MayAsk v m
     → is_question ts c m ≡ true → IsLastRead d v reads b → IsLastRead d (asked m v) (map (to_d d) (filter (is_read ts c) ms) ++ reads) b
-last_asked ts c d Silent m ms reads b e h q i = λ r.
-    (ap (λ l. head_of (map (to_d d) (filter (is_read ts c) l) ++ reads)) e ∙ ap (λ l. head_of (map (to_d d) l ++ reads)) (one_read ts c m (question_read ts c m q r)), i.1, uses_twice m [])
+last_asked ts c d Silent m ms reads b e h q i = λ r. (
+  ap (λ l. head_of (map (to_d d) (filter (is_read ts c) l) ++ reads)) e
+      ∙ ap (λ l. head_of (map (to_d d) l ++ reads)) (one_read ts c m (question_read ts c m q r)),
+  i.1,
+  uses_twice m [],
+)
 last_asked ts c d (Asks ns x) m ms reads b e h q i = absurd h
 last_asked ts c d (Told ns x) m ms reads b e h q i = λ r. no_use_read ns m h.1 r
 last_asked ts c d Refused m ms reads b e h q i = absurd h
@@ -116,11 +130,15 @@ last_act : (ts c d : ℕ) (act : Act) (log : Log) → IsInTurn (turn_at ts c d l
     → IsLastRead d (turn_at ts c d (Did act ∷ log)) (reads_sent ts c d (Did act ∷ log)) (was_answered ts c d (Did act ∷ log))
 last_act ts c d act log (inl e) h =
     subst (λ v. IsLastRead d v (reads_sent ts c d (Did act ∷ log)) (was_answered ts c d log)) (sym (ap (λ l. asked_by l (turn_at ts c d log)) e))
-    (subst (λ l. IsLastRead d (turn_at ts c d log) l (was_answered ts c d log)) (sym (reads_of_act ts c d act log ∙ ap (λ l. map (to_d d) (filter (is_read ts c) l) ++ reads_sent ts c d log) e)) h)
+    (subst (λ l. IsLastRead d (turn_at ts c d log) l (was_answered ts c d log))
+    (sym (reads_of_act ts c d act log
+    ∙ ap (λ l. map (to_d d) (filter (is_read ts c) l) ++ reads_sent ts c d log) e)) h)
 last_act ts c d act log (inr p) h =
     subst (λ v. IsLastRead d v (reads_sent ts c d (Did act ∷ log)) (was_answered ts c d log)) (sym (ap (λ l. asked_by l (turn_at ts c d log)) p.1))
     (subst (λ l. IsLastRead d (asked p.0 (turn_at ts c d log)) l (was_answered ts c d log)) (sym (reads_of_act ts c d act log))
-    (last_asked ts c d (turn_at ts c d log) p.0 (questions ts c (to_site (D (dm_no d)) (sends_of_act act))) (reads_sent ts c d log) (was_answered ts c d log) p.1 p.2 (of_questions ts c (to_site (D (dm_no d)) (sends_of_act act)) p.0 p.1) h))
+    (last_asked ts c d (turn_at ts c d log) p.0 (questions ts c (to_site (D (dm_no d)) (sends_of_act act)))
+    (reads_sent ts c d log) (was_answered ts c d log) p.1 p.2
+    (of_questions ts c (to_site (D (dm_no d)) (sends_of_act act)) p.0 p.1) h))
 
 -- a hand
 
@@ -146,11 +164,17 @@ last_hand ts c d from m log timely h =
     let v : Turn = turn_at ts c d log in
     let here : Bool = same_site (D (dm_no d)) from in
     subst (λ w. IsLastRead d w (reads_sent ts c d log) (was_answered ts c d (Handed from m ∷ log))) (sym (told_one ts c here m v))
-    (elim (here && is_answer ts c m) as (λ b. (here && is_answer ts c m) ≡ b → IsLastRead d (if b then told m v else v) (reads_sent ts c d log) (was_answered ts c d (Handed from m ∷ log))) [
-      | true ↦ λ e. after_told d v m (reads_sent ts c d log) (was_answered ts c d (Handed from m ∷ log)) (timely ts d (sym (site_is (D (dm_no d)) from (and_left here (is_answer ts c m) e))) (and_right here (is_answer ts c m) e))
+    (elim (here && is_answer ts c m) as (λ b. (here && is_answer ts c m) ≡ b
+    → IsLastRead d (if b then told m v else v) (reads_sent ts c d log)
+    (was_answered ts c d (Handed from m ∷ log))) [
+      | true ↦ λ e. after_told d v m (reads_sent ts c d log) (was_answered ts c d (Handed from m ∷ log))
+          (timely ts d (sym (site_is (D (dm_no d)) from (and_left here (is_answer ts c m) e)))
+          (and_right here (is_answer ts c m) e))
       | false ↦ λ e.
           (let none : (same_site from (D (dm_no d)) && is_verdict ts c m) ≡ false = not_true (same_site from (D (dm_no d)) && is_verdict ts c m) (λ f.
-          not_both (here && is_answer ts c m) (both here (is_answer ts c m) (site_sym (D (dm_no d)) from ∙ and_left (same_site from (D (dm_no d))) (is_verdict ts c m) f) (verdict_answer ts c m (and_right (same_site from (D (dm_no d))) (is_verdict ts c m) f))) e) in
+          not_both (here && is_answer ts c m) (both here (is_answer ts c m) (site_sym (D (dm_no d)) from
+          ∙ and_left (same_site from (D (dm_no d))) (is_verdict ts c m) f)
+          (verdict_answer ts c m (and_right (same_site from (D (dm_no d))) (is_verdict ts c m) f))) e) in
           subst (IsLastRead d v (reads_sent ts c d log)) (sym (ap (λ (b : Bool). b || was_answered ts c d log) none)) h)
     ] refl)
 
@@ -163,7 +187,8 @@ last_read s ts c d (Ticked n ∷ log) fair first timely = last_read s ts c d log
 last_read s ts c d (Redeclared force t ∷ log) fair first timely = last_read s ts c d log fair.1 first.1 timely.1
 last_read s ts c d (Submits n txn ∷ log) fair first timely = last_read s ts c d log fair.1 first.1 timely.1
 last_read s ts c d (Did act ∷ log) fair first timely =
-    last_act ts c d act log (asks_in_turn s c log act ts d fair.0 first.0 (in_turn s c log fair.1 first.1 timely.1)) (last_read s ts c d log fair.1 first.1 timely.1)
+    last_act ts c d act log (asks_in_turn s c log act ts d fair.0 first.0
+    (in_turn s c log fair.1 first.1 timely.1)) (last_read s ts c d log fair.1 first.1 timely.1)
 
 pub numbers_are : (m : Msg) (ns : List ℕ) → is_a_read m ≡ true → uses_by m ns ≡ numbers_of m
 numbers_are (Read t k txn attempt conds uses) ns e = refl

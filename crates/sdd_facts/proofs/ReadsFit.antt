@@ -87,7 +87,9 @@ either_class (Some x) p j q f g e = let r : x ≡ q = cc in subst (λ (y : Cond)
 condition_class : (f : ℕ → Bool) (entries : List line.Entry) (i own p2 j : ℕ) (q : Cond) → condition_on f entries i own p2 j ≡ Some q
     → q.class.0 ≡ j
 condition_class f entries i own p2 j q e =
-    either_class (cond_for j own (asked_by P3 f entries i j)) (cond_for j p2 (asked_by P2 f entries i j)) j q (λ x. cond_class j own (asked_by P3 f entries i j) x) (λ x. cond_class j p2 (asked_by P2 f entries i j) x) e
+    either_class (cond_for j own (asked_by P3 f entries i j)) (cond_for j p2 (asked_by P2 f entries i j)) j
+    q (λ x. cond_class j own (asked_by P3 f entries i j) x)
+    (λ x. cond_class j p2 (asked_by P2 f entries i j) x) e
 
 undeclared_in_range : (own : ℕ) (fs : List FragNo) (a n bound : ℕ) → a + n ≤ suc bound
     → AllByRecursion (IsOn bound) (map (λ c. cond_of c own fs) (range_with_len a n))
@@ -99,7 +101,9 @@ conditions_here : (cat : Catalogue) (table : List line.Entry) (c : ℕ) (frags :
 conditions_here cat table c frags own p2 d =
     if_way (AllByRecursion (IsOn (length cat.classes))) (c == 0) (undeclared_conditions cat own) (conditions cat table c d (map frag_no frags) own p2)
     (undeclared_in_range own (map frag_no (fragments_of cat)) 1 (length cat.classes) (length cat.classes) (omega arith))
-    (conds_in_range (condition_on (is_asked cat c d (map frag_no frags)) table c own p2) 1 (length cat.classes) (length cat.classes) (condition_class (is_asked cat c d (map frag_no frags)) table c own p2) (omega arith))
+    (conds_in_range (condition_on (is_asked cat c d (map frag_no frags)) table c own p2) 1
+    (length cat.classes) (length cat.classes)
+    (condition_class (is_asked cat c d (map frag_no frags)) table c own p2) (omega arith))
 
 -- uses are numbered upwards
 
@@ -160,7 +164,8 @@ all_numbered cat before (s ∷ rest) =
     let h = statement_numbered cat before s in
     let i = all_numbered cat (before + length found) rest in
     let more : List Use = uses_from cat (before + length found) rest in (
-      subst (AllGt before) (sym (numbers_append found more)) (gt_join before (numbers found) (numbers more) h.above (gt_down before (before + length found) (numbers more) (omega arith) i.0)),
+      subst (AllGt before) (sym (numbers_append found more)) (gt_join before (numbers found)
+          (numbers more) h.above (gt_down before (before + length found) (numbers more) (omega arith) i.0)),
       subst IsStrict (sym (numbers_append found more)) (strict_join (before + length found) (numbers found) (numbers more) h.strict h.within i.1 i.0),
     )
 
@@ -169,7 +174,8 @@ all_numbered cat before (s ∷ rest) =
 there_above : (cat : Catalogue) (c d k : ℕ) (us : List Use) → AllGt k (numbers us) → AllGt k (numbers (filter_map (use_there cat c d) us))
 there_above cat c d k [] h = tt
 there_above cat c d k (u ∷ us) h =
-    elim (filter (λ (f : FragNo). is_read_at cat c d f.0) u.frags) as (λ l. AllGt k (numbers (cons_option (with_frags u l) (filter_map (use_there cat c d) us)))) [
+    elim (filter (λ (f : FragNo). is_read_at cat c d f.0) u.frags) as (λ l. AllGt k
+    (numbers (cons_option (with_frags u l) (filter_map (use_there cat c d) us)))) [
       | [] ↦ there_above cat c d k us h.1
       | f ∷ fs ↦ (h.0, there_above cat c d k us h.1)
     ]
@@ -177,7 +183,8 @@ there_above cat c d k (u ∷ us) h =
 there_strict : (cat : Catalogue) (c d : ℕ) (us : List Use) → IsStrict (numbers us) → IsStrict (numbers (filter_map (use_there cat c d) us))
 there_strict cat c d [] h = tt
 there_strict cat c d (u ∷ us) h =
-    elim (filter (λ (f : FragNo). is_read_at cat c d f.0) u.frags) as (λ l. IsStrict (numbers (cons_option (with_frags u l) (filter_map (use_there cat c d) us)))) [
+    elim (filter (λ (f : FragNo). is_read_at cat c d f.0) u.frags) as (λ l. IsStrict
+    (numbers (cons_option (with_frags u l) (filter_map (use_there cat c d) us)))) [
       | [] ↦ there_strict cat c d us h.1
       | f ∷ fs ↦ (there_above cat c d u.number us h.0, there_strict cat c d us h.1)
     ]
@@ -207,7 +214,9 @@ frags_in_range : (cat : Catalogue) (p : ℕ → Bool) (a n : ℕ) → 1 ≤ a �
 frags_in_range cat p a zero h l = tt
 frags_in_range cat p a (suc n) h l =
     let i = frags_in_range cat p (a + 1) n (omega arith) (omega (arith, l)) in
-    elim (p a) as (λ b. AllByRecursion (IsFragment cat) (map frag_no (cond b (a ∷ filter p (range_with_len (a + 1) n)) (filter p (range_with_len (a + 1) n))))) [
+    elim (p a) as (λ b. AllByRecursion (IsFragment cat)
+    (map frag_no (cond b (a ∷ filter p (range_with_len (a + 1) n))
+    (filter p (range_with_len (a + 1) n))))) [
       | true ↦ ((h, omega (arith, l)), i)
       | false ↦ i
     ]
@@ -232,7 +241,9 @@ join_placed cat (u ∷ us) vs h i = (h.0, join_placed cat us vs h.1 i)
 all_placed : (cat : Catalogue) (before : ℕ) (ss : List Stmt) → AllByRecursion (AreFragments cat) (uses_from cat before ss)
 all_placed cat before [] = tt
 all_placed cat before (s ∷ rest) =
-    join_placed cat (statement_uses cat before s) (uses_from cat (before + length (statement_uses cat before s)) rest) (statement_placed cat before s) (all_placed cat (before + length (statement_uses cat before s)) rest)
+    join_placed cat (statement_uses cat before s)
+    (uses_from cat (before + length (statement_uses cat before s)) rest) (statement_placed cat before s)
+    (all_placed cat (before + length (statement_uses cat before s)) rest)
 
 same_option : (o : Option ℕ) (d : ℕ) → option_eq ◌==◌ o (Some d) ≡ true → o ≡ Some d
 same_option None d e = cc
@@ -243,19 +254,25 @@ copies_there : (cat : Catalogue) (c d : ℕ) (fs : List FragNo) → catalogues.I
 copies_there cat c d [] sound l h = tt
 copies_there cat c d (f ∷ fs) sound l h =
     let i = copies_there cat c d fs sound l h.1 in
-    elim (is_read_at cat c d f.0) as (λ b. is_read_at cat c d f.0 ≡ b → AllByRecursion (λ (f : FragNo). has_copy cat d f.0 ≡ true) (cond b (f ∷ filter (λ (f : FragNo). is_read_at cat c d f.0) fs) (filter (λ (f : FragNo). is_read_at cat c d f.0) fs))) [
+    elim (is_read_at cat c d f.0) as (λ b. is_read_at cat c d f.0 ≡ b
+    → AllByRecursion (λ (f : FragNo). has_copy cat d f.0 ≡ true)
+    (cond b (f ∷ filter (λ (f : FragNo). is_read_at cat c d f.0) fs)
+    (filter (λ (f : FragNo). is_read_at cat c d f.0) fs))) [
       | true ↦ λ e. ((served_read cat c f.0 d sound l h.0.0 h.0.1 (same_option (reads_at cat c f.0) d e)).copy, i)
       | false ↦ λ e. i
     ] refl
 
-uses_here : (s : Setting) (cat : Catalogue) (c d : ℕ) (us : List Use) → ((u : Use) → AllByRecursion (λ (f : FragNo). has_copy cat d f.0 ≡ true) u.frags → IsHere s u)
+uses_here : (s : Setting) (cat : Catalogue) (c d : ℕ) (us : List Use)
+    → ((u : Use) → AllByRecursion (λ (f : FragNo). has_copy cat d f.0 ≡ true) u.frags → IsHere s u)
     → catalogues.IsSound cat → c ≤ length cat.classes → AllByRecursion (AreFragments cat) us
     → AllByRecursion (IsHere s) (filter_map (use_there cat c d) us)
 uses_here s cat c d [] g sound l h = tt
 uses_here s cat c d (u ∷ us) g sound l h =
     let i = uses_here s cat c d us g sound l h.1 in
     let k = copies_there cat c d u.frags sound l h.0 in
-    elim (filter (λ (f : FragNo). is_read_at cat c d f.0) u.frags) as (λ fs. AllByRecursion (λ (f : FragNo). has_copy cat d f.0 ≡ true) fs → AllByRecursion (IsHere s) (cons_option (with_frags u fs) (filter_map (use_there cat c d) us))) [
+    elim (filter (λ (f : FragNo). is_read_at cat c d f.0) u.frags) as (λ fs. AllByRecursion
+    (λ (f : FragNo). has_copy cat d f.0 ≡ true) fs → AllByRecursion (IsHere s)
+    (cons_option (with_frags u fs) (filter_map (use_there cat c d) us))) [
       | [] ↦ λ j. i
       | f ∷ fs ↦ λ j. (g (record u { frags = f ∷ fs }) j, i)
     ] k
@@ -277,12 +294,16 @@ send_no_read s log m (a_release t e) = ap is_a_read e
 
 act_read : (s : Setting) (log : Log) (act : Act) (d place : ℕ) (m : Msg) → IsStep s log act → IsFirstSend s log act
     → slice_get (to_site (D (dm_no d)) (sends_of_act act)) place ≡ Some m → is_a_read m ≡ true → IsReadOf s log d m
-act_read s log act d place m i first = step_way s log act (λ x. IsFirstSend s log x → slice_get (to_site (D (dm_no d)) (sends_of_act x)) place ≡ Some m → is_a_read m ≡ true → IsReadOf s log d m)
+act_read s log act d place m i first =
+    step_way s log act (λ x. IsFirstSend s log x
+    → slice_get (to_site (D (dm_no d)) (sends_of_act x)) place ≡ Some m → is_a_read m ≡ true
+    → IsReadOf s log d m)
     (λ k q at f e. λ first there r. record {
       class = k;
       queued = q;
       here = first;
-      is = (in_if _ (start_read s k log q d) place m (subst (λ l. slice_get l place ≡ Some m) (sent_to_each (start_read s k log q) (modules_asked s k q.text) d (strict_asked s k q)) there)).1;
+      is = (in_if _ (start_read s k log q d) place m (subst (λ l. slice_get l place ≡ Some m)
+          (sent_to_each (start_read s k log q) (modules_asked s k q.text) d (strict_asked s k q)) there)).1;
     })
     (λ k bases a at f. λ first there r. elim (commit_puts s k bases (D (dm_no d)) a) [
       | inl p ↦ in_none _ place m p there
@@ -295,9 +316,17 @@ start_fits : (g : Given) (at : Site) (d : DmNo) (log : Log) (class : ℕ) (q : Q
     → class ≤ length g.catalogue.classes → IsReadable (setting_of g (D d)) (start_read (setting_of g at) class log q d.0)
 start_fits g at d log class q sound l = record {
   is_class = l;
-  conditions = All-from_recursion (IsOn (length g.catalogue.classes)) _ (conditions_here g.catalogue (in_force (setting_of g at) log).table class (ascending (fragments_in (uses_of g.catalogue q.text))) (next_stamp (setting_of g at) log) (bound (setting_of g at) log) d.0);
-  numbers = distinct_of (numbers (filter_map (use_there g.catalogue class d.0) (uses_of g.catalogue q.text))) (there_strict g.catalogue class d.0 (uses_of g.catalogue q.text) (all_numbered g.catalogue 0 q.text.statements).1);
-  here = All-from_recursion (IsHere (setting_of g (D d))) _ (uses_here (setting_of g (D d)) g.catalogue class d.0 (uses_of g.catalogue q.text) (λ u h. All-from_recursion (λ (f : FragNo). has_copy g.catalogue d.0 f.0 ≡ true) u.frags h) sound l (all_placed g.catalogue 0 q.text.statements));
+  conditions = All-from_recursion (IsOn (length g.catalogue.classes)) _
+      (conditions_here g.catalogue (in_force (setting_of g at) log).table class
+      (ascending (fragments_in (uses_of g.catalogue q.text))) (next_stamp (setting_of g at) log)
+      (bound (setting_of g at) log) d.0);
+  numbers = distinct_of (numbers (filter_map (use_there g.catalogue class d.0)
+      (uses_of g.catalogue q.text))) (there_strict g.catalogue class d.0 (uses_of g.catalogue q.text)
+      (all_numbered g.catalogue 0 q.text.statements).1);
+  here = All-from_recursion (IsHere (setting_of g (D d))) _
+      (uses_here (setting_of g (D d)) g.catalogue class d.0 (uses_of g.catalogue q.text)
+      (λ u h. All-from_recursion (λ (f : FragNo). has_copy g.catalogue d.0 f.0 ≡ true) u.frags h) sound l
+      (all_placed g.catalogue 0 q.text.statements));
 }
 
 read_at : (g : Given) (at : Site) (d : DmNo) (log : Log) (m : Msg) → catalogues.IsSound g.catalogue → IsReadOf (setting_of g at) log d.0 m
@@ -316,7 +345,9 @@ reads_are_readable g log a d n (Read t k txn attempt conds uses) h sound =
     let at : Site = home g.catalogue k.0 in
     let s : Setting = setting_of g at in
     let l : Log = local_of g at log in
-    let there : slice_get (puts_to (D d) l) (handed a (D d) log) ≡ Some m = subst (λ x. slice_get (puts_to (D d) (local_of g x log)) (handed a (D d) log) ≡ Some m) (sym from) put in
+    let there : slice_get (puts_to (D d) l) (handed a (D d) log) ≡ Some m =
+    subst (λ x. slice_get (puts_to (D d) (local_of g x log)) (handed a (D d) log) ≡ Some m)
+    (sym from) put in
     let p = was_put (D d) l (handed a (D d) log) m there in
     let q = each_at (IsFair s) p.later (Did p.act) p.before (subst (Each (IsFair s)) p.is (home_fair g k.0 log h.1)) in
     let r = each_at (IsFirstEach s) p.later (Did p.act) p.before (subst (Each (IsFirstEach s)) p.is (home_first g k.0 log h.1)) in

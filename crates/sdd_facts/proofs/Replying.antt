@@ -136,12 +136,19 @@ asker_if true o = refl
 asker_if false o = refl
 
 rows_handed : (ts c n : ℕ) (from : Site) (m : Msg) (os : List Open)
-    → map asker (filter (asks_open ts c) (opens_handed n from m os)) ≡ map asker (filter (asks_open ts c) os) ++ (if asks_rows ts c m then (from, m) ∷ [] else [])
+    → map asker (filter (asks_open ts c) (opens_handed n from m os)) ≡ map asker
+    (filter (asks_open ts c) os) ++ (if asks_rows ts c m then (from, m) ∷ [] else [])
 rows_handed ts c n from m os =
     let o : Open = record { hand = n; from = from; msg = m } in
-    elim (is_some (class_asked m)) as (λ b. is_some (class_asked m) ≡ b → map asker (filter (asks_open ts c) (if b then os ++ o ∷ [] else os)) ≡ map asker (filter (asks_open ts c) os) ++ (if asks_rows ts c m then (from, m) ∷ [] else [])) [
-      | true ↦ λ e. ap (map asker) (filter-append (asks_open ts c) os (o ∷ [])) ∙ map_append asker (filter (asks_open ts c) os) (filter (asks_open ts c) (o ∷ [])) ∙ ap (λ l. map asker (filter (asks_open ts c) os) ++ l) (asker_if (asks_rows ts c m) o)
-      | false ↦ λ e. sym (ap (λ (b : Bool). map asker (filter (asks_open ts c) os) ++ (if b then (from, m) ∷ [] else [])) (none_implied (asks_rows ts c m) (is_some (class_asked m)) (asks_asked ts c m) e) ∙ append-nil _)
+    elim (is_some (class_asked m)) as (λ b. is_some (class_asked m) ≡ b
+    → map asker (filter (asks_open ts c) (if b then os ++ o ∷ [] else os)) ≡ map asker
+    (filter (asks_open ts c) os) ++ (if asks_rows ts c m then (from, m) ∷ [] else [])) [
+      | true ↦ λ e. ap (map asker) (filter-append (asks_open ts c) os (o ∷ []))
+          ∙ map_append asker (filter (asks_open ts c) os) (filter (asks_open ts c) (o ∷ []))
+          ∙ ap (λ l. map asker (filter (asks_open ts c) os) ++ l) (asker_if (asks_rows ts c m) o)
+      | false ↦ λ e. sym (ap (λ (b : Bool). map asker
+          (filter (asks_open ts c) os) ++ (if b then (from, m) ∷ [] else [])) (none_implied (asks_rows ts c m)
+          (is_some (class_asked m)) (asks_asked ts c m) e) ∙ append-nil _)
     ] refl
 
 read_if : (b : Bool) (m : Msg) → cond b (m ∷ []) [] ≡ (if b then m ∷ [] else [])
@@ -149,11 +156,16 @@ read_if true m = refl
 read_if false m = refl
 
 reads_handed : (ts c : ℕ) (m : Msg) (p : Pipe)
-    → filter (is_read ts c) (if goes_through c m then put m p else p).unprocessed ≡ filter (is_read ts c) p.unprocessed ++ (if is_read ts c m then m ∷ [] else [])
+    → filter (is_read ts c) (if goes_through c m then put m p else p).unprocessed ≡ filter
+    (is_read ts c) p.unprocessed ++ (if is_read ts c m then m ∷ [] else [])
 reads_handed ts c m p =
-    elim (goes_through c m) as (λ b. goes_through c m ≡ b → filter (is_read ts c) (if b then put m p else p).unprocessed ≡ filter (is_read ts c) p.unprocessed ++ (if is_read ts c m then m ∷ [] else [])) [
+    elim (goes_through c m) as (λ b. goes_through c m ≡ b
+    → filter (is_read ts c) (if b then put m p else p).unprocessed ≡ filter
+    (is_read ts c) p.unprocessed ++ (if is_read ts c m then m ∷ [] else [])) [
       | true ↦ λ e. filter-append (is_read ts c) p.unprocessed (m ∷ []) ∙ ap (λ l. filter (is_read ts c) p.unprocessed ++ l) (read_if (is_read ts c m) m)
-      | false ↦ λ e. sym (ap (λ (b : Bool). filter (is_read ts c) p.unprocessed ++ (if b then m ∷ [] else [])) (none_implied (is_read ts c m) (goes_through c m) (read_through ts c m) e) ∙ append-nil _)
+      | false ↦ λ e. sym (ap (λ (b : Bool). filter
+          (is_read ts c) p.unprocessed ++ (if b then m ∷ [] else []))
+          (none_implied (is_read ts c m) (goes_through c m) (read_through ts c m) e) ∙ append-nil _)
     ] refl
 
 -- before a question nothing is still to be answered
@@ -197,23 +209,34 @@ turn_hand ts c at log from m timely h =
     let reads = reads_handed ts c m (pipe c log) in
     let kept : (pipe c (Handed from m ∷ log)).processed ≡ (pipe c log).processed = processed_handed c from m log in
     subst (λ w. HasTurn ts c at (opens (Handed from m ∷ log)) (pipe c (Handed from m ∷ log)) w) (sym (asked_turn ts c at from m log))
-    (elim (is_question ts c m) as (λ b. is_question ts c m ≡ b → HasTurn ts c at (opens (Handed from m ∷ log)) (pipe c (Handed from m ∷ log)) (if same_site at from && b then asked m v else v)) [
+    (elim (is_question ts c m) as (λ b. is_question ts c m ≡ b
+    → HasTurn ts c at (opens (Handed from m ∷ log)) (pipe c (Handed from m ∷ log))
+    (if same_site at from && b then asked m v else v)) [
       | true ↦ λ q.
           (let t = timely ts q in
           let here : same_site at from ≡ true = subst (λ s. same_site at s ≡ true) (sym t.0) (site_self at) in
           subst (λ (b : Bool). HasTurn ts c at (opens (Handed from m ∷ log)) (pipe c (Handed from m ∷ log)) (if b && true then asked m v else v)) (sym here)
           (record {
             own = (q, uses_twice m (uses_in v));
-            rows_are = rows ∙ ap (λ l. l ++ (if asks_rows ts c m then (from, m) ∷ [] else [])) (h.rows_are ∙ ap (map (from_site at)) (calm_rows ts c v m t.1)) ∙ pairs_if (asks_rows ts c m) at from m t.0;
+            rows_are = rows ∙ ap (λ l. l ++ (if asks_rows ts c m then (from, m) ∷ [] else [])) (h.rows_are
+                ∙ ap (map (from_site at)) (calm_rows ts c v m t.1))
+                ∙ pairs_if (asks_rows ts c m) at from m t.0;
             reads_are = reads ∙ ap (λ l. l ++ (if is_read ts c m then m ∷ [] else [])) (h.reads_are ∙ calm_reads ts c v m t.1);
             was_read = λ ns e. same_processed ts c (pipe c log) (pipe c (Handed from m ∷ log)) kept (h.was_read (uses_in v) (held_before v m ns t.1 e));
           }))
       | false ↦ λ q.
-          subst (λ (w : Turn). HasTurn ts c at (opens (Handed from m ∷ log)) (pipe c (Handed from m ∷ log)) w) (sym (ap (λ (b : Bool). if b then asked m v else v) (and_no (same_site at from))))
+          subst (λ (w : Turn). HasTurn ts c at (opens (Handed from m ∷ log)) (pipe c (Handed from m ∷ log))
+          w) (sym (ap (λ (b : Bool). if b then asked m v else v) (and_no (same_site at from))))
           (record {
             own = h.own;
-            rows_are = rows ∙ ap (λ (b : Bool). map asker (filter (asks_open ts c) (opens log)) ++ (if b then (from, m) ∷ [] else [])) (none_implied (asks_rows ts c m) (is_question ts c m) (asks_question ts c m) q) ∙ append-nil _ ∙ h.rows_are;
-            reads_are = reads ∙ ap (λ (b : Bool). filter (is_read ts c) (pipe c log).unprocessed ++ (if b then m ∷ [] else [])) (none_implied (is_read ts c m) (is_question ts c m) (read_question ts c m) q) ∙ append-nil _ ∙ h.reads_are;
+            rows_are = rows ∙ ap (λ (b : Bool). map asker
+                (filter (asks_open ts c) (opens log)) ++ (if b then (from, m) ∷ [] else []))
+                (none_implied (asks_rows ts c m) (is_question ts c m) (asks_question ts c m) q) ∙ append-nil _
+                ∙ h.rows_are;
+            reads_are = reads ∙ ap (λ (b : Bool). filter (is_read ts c)
+                (pipe c log).unprocessed ++ (if b then m ∷ [] else []))
+                (none_implied (is_read ts c m) (is_question ts c m) (read_question ts c m) q) ∙ append-nil _
+                ∙ h.reads_are;
             was_read = λ ns e. same_processed ts c (pipe c log) (pipe c (Handed from m ∷ log)) kept (h.was_read ns e);
           })
     ] refl)
@@ -233,7 +256,13 @@ pub turn_still : (ts c : ℕ) (at : Site) (log : Log) (act : Act) → turn_with 
     → HasTurnAt ts c at log → HasTurnAt ts c at (Did act ∷ log)
 turn_still ts c at log act t rows reads h =
     subst (λ w. HasTurn ts c at (opens (Did act ∷ log)) (pipe c (Did act ∷ log)) w) (sym t)
-    (record { own = h.own; rows_are = ap (map asker) rows ∙ h.rows_are; reads_are = reads ∙ h.reads_are; was_read = λ ns e. stays_processed ts c act (pipe c log) (h.was_read ns e) })
+    (record {
+      own = h.own;
+      rows_are = ap (map asker) rows ∙ h.rows_are;
+      reads_are =
+          reads ∙ h.reads_are;
+      was_read = λ ns e. stays_processed ts c act (pipe c log) (h.was_read ns e);
+    })
 
 not_read_of : (txn attempt ts c : ℕ) (m : Msg) → asks_rows ts c m ≡ true → is_read_of txn attempt m ≡ false
 not_read_of txn attempt ts c (Read t k x a conds uses) e = cc
@@ -303,9 +332,11 @@ asked_rows_of ts c at os (Told ns m) i o e f =
 asked_rows_of ts c at os Refused i o e f =
     let g : slice_get [] i ≡ Some (asker o) = subst (λ l. slice_get l i ≡ Some (asker o)) e (get_map (filter (asks_open ts c) os) i o f) in cc
 asked_rows_of ts c at os (Asks ns m) i o e f =
-    elim (asks_rows ts c m) as (λ b. map asker (filter (asks_open ts c) os) ≡ map (from_site at) (if b then m ∷ [] else []) → IsAskedRows ts c at os (Asks ns m) o) [
+    elim (asks_rows ts c m) as (λ b. map asker (filter (asks_open ts c) os) ≡ map (from_site at)
+    (if b then m ∷ [] else []) → IsAskedRows ts c at os (Asks ns m) o) [
       | true ↦ λ g.
-          let p = pair_is at o.from m o.msg (only_pair (from_site at m) (asker o) i (subst (λ l. slice_get l i ≡ Some (asker o)) g (get_map (filter (asks_open ts c) os) i o f))) in
+          let p = pair_is at o.from m o.msg (only_pair (from_site at m) (asker o) i
+          (subst (λ l. slice_get l i ≡ Some (asker o)) g (get_map (filter (asks_open ts c) os) i o f))) in
           record { uses = ns; is = ap (λ x. Asks ns x) p.1; from_is = sym p.0; alone = one_open (filter (asks_open ts c) os) (from_site at m) i o g f }
       | false ↦ λ g. let x : slice_get [] i ≡ Some (asker o) = subst (λ l. slice_get l i ≡ Some (asker o)) g (get_map (filter (asks_open ts c) os) i o f) in cc
     ] e
@@ -338,7 +369,9 @@ pub turn_replies : (ts c : ℕ) (at : Site) (log : Log) (f : Option Frozen) (k :
 turn_replies ts c at log f k o m e r h =
     let v : Turn = turn_with ts c at log in
     let os : List Open = opens (Did (Sends o.from m (Some o.hand)) ∷ log) in
-    subst (λ w. HasTurn ts c at os (pipe c log) w) (sym (told_turn ts c at o.from m (Some o.hand) log ∙ ap (λ (b : Bool). if same_site at o.from && b then told m v else v) (reply_answers ts c f o.msg m r)))
+    subst (λ w. HasTurn ts c at os (pipe c log) w) (sym (told_turn ts c at o.from m (Some o.hand) log
+    ∙ ap (λ (b : Bool). if same_site at o.from && b then told m v else v)
+    (reply_answers ts c f o.msg m r)))
     (elim (asks_rows ts c o.msg) as (λ b. asks_rows ts c o.msg ≡ b → HasTurn ts c at os (pipe c log) (if same_site at o.from && b then told m v else v)) [
       | true ↦ λ q.
           (let w = asked_rows ts c at log v k o h e q in
@@ -347,7 +380,8 @@ turn_replies ts c at log f k o m e r h =
           subst (λ (b : Bool). HasTurn ts c at os (pipe c log) (if b && true then told m v else v)) (sym here)
           (subst (λ x. HasTurn ts c at os (pipe c log) x) (sym now) (record {
             own = tt;
-            rows_are = ap (map asker) (sift_swap (λ (x : Open). not (o.hand == x.hand)) (asks_open ts c) (opens log) ∙ ap (filter (λ (x : Open). not (o.hand == x.hand))) w.alone ∙ not_own_hand o);
+            rows_are = ap (map asker) (sift_swap (λ (x : Open). not (o.hand == x.hand)) (asks_open ts c)
+                (opens log) ∙ ap (filter (λ (x : Open). not (o.hand == x.hand))) w.alone ∙ not_own_hand o);
             reads_are = h.reads_are ∙ ap (reads_asked ts c) w.is ∙ ap (λ (b : Bool). if b then o.msg ∷ [] else []) (asks_no_is_read ts c o.msg q);
             was_read = λ ns z. h.was_read w.uses (held_told v w.uses o.msg w.is (asks_no_a_read ts c o.msg q));
           })))
@@ -359,7 +393,8 @@ turn_replies ts c at log f k o m e r h =
             own = h.own;
             rows_are = ap (map asker) (sift_within (λ (x : Open). not (o.hand == x.hand)) (asks_open ts c) (opens log)
                 (λ j x z g. elim (same_or_not o.hand x.hand) [
-                  | inl p ↦ never (asks_rows ts c o.msg) (subst (λ (y : Open). asks_rows ts c y.msg ≡ true) (sym (one_hand (opens log) i.1 j o x apart.strict i.2 z p)) g) q
+                  | inl p ↦ never (asks_rows ts c o.msg) (subst (λ (y : Open). asks_rows ts c y.msg ≡ true)
+                      (sym (one_hand (opens log) i.1 j o x apart.strict i.2 z p)) g) q
                   | inr p ↦ ap not p
                 ])) ∙ h.rows_are;
             reads_are = h.reads_are;

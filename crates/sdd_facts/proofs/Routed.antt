@@ -191,7 +191,8 @@ routed g log (T t) b k m h e =
     let p = was_put b l k m e in
     let q = each_at (IsFairT (setting_of g (T t))) p.later (Did p.act) p.before (subst (Each (IsFairT (setting_of g (T t)))) p.is fair) in
     let n = none_member (puts_to b l) k m (t_none (setting_of g (T t)) b l fair) e in
-    t_of t b m p.before (λ w. let v = asked_on l p.later p.before p.act b p.is w in ask_from g (T t) b v.asked v.fits (hand_put g (T t) log v.later b v.asked v.before h v.is))
+    t_of t b m p.before (λ w. let v = asked_on l p.later p.before p.act b p.is w in ask_from g
+    (T t) b v.asked v.fits (hand_put g (T t) log v.later b v.asked v.before h v.is))
     n.0 n.1 (t_goes (setting_of g (T t)) q.0.0 p.before p.act q.0.1 b p.place m p.there)
 routed g log U b k m h e =
     let l : site.Log = local_of g U log in
@@ -199,5 +200,7 @@ routed g log U b k m h e =
     let p = was_put b l k m e in
     let q = each_at (IsFairU (setting_of g U)) p.later (Did p.act) p.before (subst (Each (IsFairU (setting_of g U))) p.is fair) in
     let step = u_due (setting_of g U) q.0.0.0 p.before p.act q.0.0.1 in
-    u_of b m p.before (λ w. let v = asked_on l p.later p.before p.act b p.is w in ask_from g U b v.asked v.fits (hand_put g U log v.later b v.asked v.before h v.is))
+    u_of b m p.before (λ w. let v =
+    asked_on l p.later p.before p.act b p.is w in ask_from g U b v.asked v.fits
+    (hand_put g U log v.later b v.asked v.before h v.is))
     (u_no_held (setting_of g U) p.before p.act step b p.place m p.there) (u_goes (setting_of g U) p.before p.act step b p.place m p.there)

@@ -58,7 +58,9 @@ either_le k (Some d) b h i = h
 condition_le : (k : ℕ) (asked : ℕ → Bool) (entries : List line.Entry) (i own p2 j : ℕ) → own ≤ k → p2 ≤ k
     → IsEarlyCond k (condition_on asked entries i own p2 j)
 condition_le k asked entries i own p2 j l m =
-    either_le k (cond_for j own (asked_by P3 asked entries i j)) (cond_for j p2 (asked_by P2 asked entries i j)) (for_le k j own (asked_by P3 asked entries i j) l) (for_le k j p2 (asked_by P2 asked entries i j) m)
+    either_le k (cond_for j own (asked_by P3 asked entries i j))
+    (cond_for j p2 (asked_by P2 asked entries i j)) (for_le k j own (asked_by P3 asked entries i j) l)
+    (for_le k j p2 (asked_by P2 asked entries i j) m)
 
 abbrev AreEarly : ℕ → List Cond → Type 0
 AreEarly k ds = AllLe k (map (λ (d : Cond). d.time.0) ds)
@@ -67,15 +69,19 @@ conditions_le : (k : ℕ) (cat : Catalogue) (table : List line.Entry) (c : ℕ) 
     → AreEarly k (conditions_at cat table c frags own p2 d)
 conditions_le k cat table c frags own p2 d l m =
     if_way (AreEarly k) (c == 0) _ _ (conds_all_le k (λ j. cond_of j own (map frag_no (fragments_of cat))) (classes_of cat) (λ j. l))
-    (conds_le k (condition_on (is_asked cat c d (map frag_no frags)) table c own p2) (classes_of cat) (λ j. condition_le k (is_asked cat c d (map frag_no frags)) table c own p2 j l m))
+    (conds_le k (condition_on (is_asked cat c d (map frag_no frags)) table c own p2) (classes_of cat)
+    (λ j. condition_le k (is_asked cat c d (map frag_no frags)) table c own p2 j l m))
 
 read_low : (h : ℕ) (s : Setting) (c : ℕ) (log : Log) (q : Queued) (d : ℕ) → number_of s.site ≤ 63 → (clock s.site log).ticks ≤ h
     → IsLow (suc h) (start_read s c log q d)
 read_low h s c log q d w l =
     let n = clock_number s.site log in
     let own : next_stamp s log ≤ top (suc h) = omega arith in
-    let p2 : bound s log ≤ top (suc h) = omega arith in
-    (own, conditions_le (top (suc h)) s.catalogue (in_force s log).table c (ascending (fragments_in (uses_of s.catalogue q.text))) (next_stamp s log) (bound s log) d own p2)
+    let p2 : bound s log ≤ top (suc h) = omega arith in (
+      own,
+      conditions_le (top (suc h)) s.catalogue (in_force s log).table c
+          (ascending (fragments_in (uses_of s.catalogue q.text))) (next_stamp s log) (bound s log) d own p2,
+    )
 
 -- all that an act puts lies below the height, which a Start raises
 abbrev pub PutsLow : ℕ → Act → Type 0

@@ -86,21 +86,28 @@ module _ (g : Given) (good : FitsGiven g) (one : HasOneForce g) (c : ℕ) where
   text_fits log a h e = active_so (FitsText cat) s c (mine log) a (home_fair g c log h) (all_new g at log h) (submitted_fit g good at c log h) e
 
   -- an exchange that is over has rows that serve
-  over_serves : (log : Log) (a : Attempt) → IsPermitted g log → active s c (mine log) ≡ Some a → a.exchange.phase ≡ Over → a.exchange.lacks ≡ [] → Serves cat a.text a.exchange.found (base_of g log a.ts)
+  over_serves : (log : Log) (a : Attempt) → IsPermitted g log → active s c (mine log) ≡ Some a
+      → a.exchange.phase ≡ Over → a.exchange.lacks ≡ [] → Serves cat a.text a.exchange.found
+      (base_of g log a.ts)
   over_serves log a h e p l =
       let ds : List ℕ = modules_asked s c a.text in
       let copies : ℕ → CopyRows = copies_read g log a.ts in
       let first : Space = frozen_space cat c a.text a.ts copies in
       let space : Space = space_at g c a.ts first log in
       let small = small_home cat good.sound c (within log a h e) in
-      let r = subst (AllServed g good one c (in_step g c small) log) e (served_all g good one c (in_step g c small) log h) copies (copies_agree g good a.ts log h) in
+      let r = subst (AllServed g good one c (in_step g c small) log) e
+      (served_all g good one c (in_step g c small) log h) copies (copies_agree g good a.ts log h) in
       let ok : HasCopies cat c a.text ds copies (base_of g log a.ts) = copies_are g good one c log a h e (ap is_over p) in
-      let all : Serves cat a.text (all_held ds space) (base_of g log a.ts) = exchange_serves cat good.sound c a.text (text_fits log a h e).fits a.ts ds copies (base_of g log a.ts) ok space (stage_of a.exchange) r.follows.runs in
+      let all : Serves cat a.text (all_held ds space) (base_of g log a.ts) =
+      exchange_serves cat good.sound c a.text (text_fits log a h e).fits a.ts ds copies
+      (base_of g log a.ts) ok space (stage_of a.exchange) r.follows.runs in
       serves_by_members cat a.text (base_of g log a.ts) (all_held ds space) a.exchange.found
       (λ x k. let m = Has-flat_map_from (λ d. all_rows (space d)) ds x k in r.all (ap is_shipped p) m.0 m.1 (ap (λ z. contains z m.0) l) x m.2)
       (λ x k. let m = r.of x k in Has-flat_map (λ d. all_rows (space d)) ds m.0 x m.1 m.2) all
 
-  last_serves : (log : Log) (a : Attempt) (d : DmNo) (n : ℕ) (t : Ts) (k : ClassNo) (rows : List (ℕ × Row)) → IsPermitted g (Hand (D d) at n (Rows t k rows) ∷ log) → active s c (mine log) ≡ Some a → t.0 ≡ a.ts → k.0 ≡ c → without a.exchange.lacks d.0 ≡ []
+  last_serves : (log : Log) (a : Attempt) (d : DmNo) (n : ℕ) (t : Ts) (k : ClassNo) (rows : List (ℕ × Row))
+      → IsPermitted g (Hand (D d) at n (Rows t k rows) ∷ log) → active s c (mine log) ≡ Some a → t.0 ≡ a.ts
+      → k.0 ≡ c → without a.exchange.lacks d.0 ≡ []
       → Serves cat a.text (a.exchange.found ++ rows) (base_of g (Hand (D d) at n (Rows t k rows) ∷ log) a.ts)
   last_serves log a d n t k rows h e own_ts of none =
       let m : Msg = Rows t k rows in
@@ -112,16 +119,24 @@ module _ (g : Given) (good : FitsGiven g) (one : HasOneForce g) (c : ℕ) where
       let over : Exchange = record a.exchange { found = a.exchange.found ++ rows; rows = a.exchange.rows + length rows; lacks = []; phase = Over } in
       let b : Attempt = record a { exchange = over } in
       let after : after_hand a.ts c d.0 m a.exchange ≡ over = last_rows a.ts c d.0 a.exchange t k rows own_ts of ships none in
-      let here : mine (Hand (D d) at n m ∷ log) ≡ Handed (D d) m ∷ mine log = local_step g at (Hand (D d) at n m) log ∙ ap (λ x. with_made (if x then Some (Handed (D d) m) else None) (mine log)) (site_self at) in
-      let now : active s c (mine (Hand (D d) at n m ∷ log)) ≡ Some b = ap (active s c) here ∙ ap (λ o. active_handed c (D d) m o) e ∙ ap (λ x. Some (record a { exchange = x })) after in
+      let here : mine (Hand (D d) at n m ∷ log) ≡ Handed (D d) m ∷ mine log =
+      local_step g at (Hand (D d) at n m) log
+      ∙ ap (λ x. with_made (if x then Some (Handed (D d) m) else None) (mine log)) (site_self at) in
+      let now : active s c (mine (Hand (D d) at n m ∷ log)) ≡ Some b =
+      ap (active s c) here ∙ ap (λ o. active_handed c (D d) m o) e
+      ∙ ap (λ x. Some (record a { exchange = x })) after in
       over_serves (Hand (D d) at n m ∷ log) b h now refl refl
 
   -- as the site asks it of ROWS
-  serves_if : (log : Log) (a : Attempt) (d : DmNo) (n : ℕ) (t : Ts) (k : ClassNo) (rows : List (ℕ × Row)) → IsPermitted g (Hand (D d) at n (Rows t k rows) ∷ log) → active s c (mine log) ≡ Some a → t.0 ≡ a.ts → k.0 ≡ c → (left : List ℕ) → without a.exchange.lacks d.0 ≡ left
+  serves_if : (log : Log) (a : Attempt) (d : DmNo) (n : ℕ) (t : Ts) (k : ClassNo) (rows : List (ℕ × Row))
+      → IsPermitted g (Hand (D d) at n (Rows t k rows) ∷ log) → active s c (mine log) ≡ Some a → t.0 ≡ a.ts
+      → k.0 ≡ c → (left : List ℕ) → without a.exchange.lacks d.0 ≡ left
       → ServesIfLast s (base_of g (Hand (D d) at n (Rows t k rows) ∷ log)) a rows left
   serves_if log a d n t k rows h e own_ts of [] none = last_serves log a d n t k rows h e own_ts of none
   serves_if log a d n t k rows h e own_ts of (l ∷ left) some = tt
 
-  pub rows_serve : (log : Log) (a : Attempt) (d : DmNo) (n : ℕ) (t : Ts) (k : ClassNo) (rows : List (ℕ × Row)) → IsPermitted g (Hand (D d) at n (Rows t k rows) ∷ log) → active s c (mine log) ≡ Some a → t.0 ≡ a.ts → k.0 ≡ c
+  pub rows_serve : (log : Log) (a : Attempt) (d : DmNo) (n : ℕ) (t : Ts) (k : ClassNo)
+      (rows : List (ℕ × Row)) → IsPermitted g (Hand (D d) at n (Rows t k rows) ∷ log)
+      → active s c (mine log) ≡ Some a → t.0 ≡ a.ts → k.0 ≡ c
       → ServesIfLast s (base_of g (Hand (D d) at n (Rows t k rows) ∷ log)) a rows (without a.exchange.lacks d.0)
   rows_serve log a d n t k rows h e own_ts of = serves_if log a d n t k rows h e own_ts of (without a.exchange.lacks d.0) refl

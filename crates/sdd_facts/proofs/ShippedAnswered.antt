@@ -38,14 +38,21 @@ use Rattle.sdd_facts.proofs.Starts.{StartAt, drawn_already, one_start, read_late
 
 -- of messages that go one to each module, one that goes to a module is its
 
-one_each : (f : ℕ → Msg) (x d : ℕ) (ds : List ℕ) (ms : List Msg) (k : ℕ) (m : Msg) → x ≡ d → ((j : ℕ) → slice_get ms j ≡ Some m → (contains ds x ≡ true) × (m ≡ f x)) → slice_get (f d ∷ ms) k ≡ Some m → (contains (d ∷ ds) x ≡ true) × (m ≡ f x)
+one_each : (f : ℕ → Msg) (x d : ℕ) (ds : List ℕ) (ms : List Msg) (k : ℕ) (m : Msg) → x ≡ d
+    → ((j : ℕ) → slice_get ms j ≡ Some m → (contains ds x ≡ true) × (m ≡ f x))
+    → slice_get (f d ∷ ms) k ≡ Some m → (contains (d ∷ ds) x ≡ true) × (m ≡ f x)
 one_each f x d ds ms zero m q g e = let p : f d ≡ m = cc in (or_left (d == x) (contains ds x) (ap (λ y. y == x) (sym q) ∙ same_number x), sym p ∙ ap f (sym q))
 one_each f x d ds ms (suc k) m q g e = let r = g k e in (or_right (d == x) (contains ds x) r.0, r.1)
 
-pub in_each : (f : ℕ → Msg) (x : ℕ) (ds : List ℕ) (k : ℕ) (m : Msg) → slice_get (to_site (D (dm_no x)) (map (λ d. (D (dm_no d), f d)) ds)) k ≡ Some m → (contains ds x ≡ true) × (m ≡ f x)
+pub in_each : (f : ℕ → Msg) (x : ℕ) (ds : List ℕ) (k : ℕ) (m : Msg)
+    → slice_get (to_site (D (dm_no x)) (map (λ d. (D (dm_no d), f d)) ds)) k ≡ Some m
+    → (contains ds x ≡ true) × (m ≡ f x)
 in_each f x [] k m e = cc
 in_each f x (d ∷ ds) k m e =
-    elim (x == d) as (λ b. (x == d) ≡ b → slice_get (if b then f d ∷ to_site (D (dm_no x)) (map (λ d. (D (dm_no d), f d)) ds) else to_site (D (dm_no x)) (map (λ d. (D (dm_no d), f d)) ds)) k ≡ Some m → (contains (d ∷ ds) x ≡ true) × (m ≡ f x)) [
+    elim (x == d) as (λ b. (x == d) ≡ b
+    → slice_get (if b then f d ∷ to_site (D (dm_no x)) (map (λ d. (D (dm_no d), f d)) ds) else to_site
+    (D (dm_no x)) (map (λ d. (D (dm_no d), f d)) ds)) k ≡ Some m → (contains (d ∷ ds) x ≡ true)
+    × (m ≡ f x)) [
       | true ↦ λ p q. one_each f x d ds (to_site (D (dm_no x)) (map (λ d. (D (dm_no d), f d)) ds)) k m (eqb-true x d p) (λ j r. in_each f x ds j m r) q
       | false ↦ λ p q. let r = in_each f x ds k m q in (or_right (d == x) (contains ds x) r.0, r.1)
     ] refl e
@@ -65,7 +72,8 @@ pub record IsAnswerTo (g : Given) (c : ℕ) (log : Log) (a : Attempt) (d : DmNo)
   pub uses_are : uses_at_head (head (pipe x.class x.before)) ≡ uses_at g.catalogue c a.text d.0
 
 -- the Start of the active attempt
-active_start : (g : Given) (c : ℕ) (log : Log) (a : Attempt) → IsPermitted g log → active (setting_of g (home g.catalogue c)) c (local_of g (home g.catalogue c) log) ≡ Some a
+active_start : (g : Given) (c : ℕ) (log : Log) (a : Attempt) → IsPermitted g log
+    → active (setting_of g (home g.catalogue c)) c (local_of g (home g.catalogue c) log) ≡ Some a
     → (q : Queued) × StartAt g c log (home g.catalogue c) a.ts q × (q.text ≡ a.text)
 active_start g c log a h e =
     let s : Setting = setting_of g (home g.catalogue c) in
@@ -93,20 +101,40 @@ read_started g log ts d h x =
     let at : Site = home g.catalogue x.class in
     let z = read_of g x.class d p.rest r.t r.of r.txn r.attempt r.conds r.uses hr hd in
     let put = head_put g x.class d p.rest m hr hd in
-    let by : IsRead (setting_of g at) (local_of g at put.before) put.act x.class r.t.0 r.txn.0 r.attempt = subst (λ j. IsRead (setting_of g at) (local_of g at put.before) put.act j r.t.0 r.txn.0 r.attempt) z.0 put.by in
-    let start : IsReadOf g p.rest x.class r.txn.0 r.attempt r.t.0 = record { later = put.later; before = put.before; queued = by.queued; is = put.is ∙ ap (λ y. put.later ++ Does at y ∷ put.before) by.act_is; idle = by.idle; head_is = by.head; number_is = by.number_is; try_is = by.try_is; ts_is = by.time_is } in
+    let by : IsRead (setting_of g at) (local_of g at put.before) put.act x.class r.t.0 r.txn.0 r.attempt =
+    subst (λ j. IsRead (setting_of g at) (local_of g at put.before) put.act j r.t.0 r.txn.0 r.attempt) z.0
+    put.by in
+    let start : IsReadOf g p.rest x.class r.txn.0 r.attempt r.t.0 = record {
+      later = put.later;
+      before =
+          put.before;
+      queued = by.queued;
+      is =
+          put.is ∙ ap (λ y. put.later ++ Does at y ∷ put.before) by.act_is;
+      idle = by.idle;
+      head_is =
+          by.head;
+      number_is = by.number_is;
+      try_is = by.try_is;
+      ts_is = by.time_is;
+    } in
     let whole : IsReadOf g (front ++ p.rest) x.class r.txn.0 r.attempt r.t.0 = read_later g x.class front p.rest r.txn.0 r.attempt r.t.0 start in
-    let there = in_each (start_read (setting_of g at) x.class (local_of g at put.before) by.queued) d.0 (modules_asked (setting_of g at) x.class by.queued.text) put.place m (subst (λ y. slice_get (to_site (D d) (sends_of_act y)) put.place ≡ Some m) by.act_is put.there) in
+    let there = in_each (start_read (setting_of g at) x.class (local_of g at put.before) by.queued) d.0
+    (modules_asked (setting_of g at) x.class by.queued.text) put.place m
+    (subst (λ y. slice_get (to_site (D d) (sends_of_act y)) put.place ≡ Some m) by.act_is put.there) in
     record {
       queued = by.queued;
-      start = subst (λ t. StartAt g x.class log at t by.queued) r.ts_is (subst (λ l. StartAt g x.class l at r.t.0 by.queued) log_is (start_here g x.class (front ++ p.rest) r.txn.0 r.attempt r.t.0 whole));
+      start = subst (λ t. StartAt g x.class log at t by.queued) r.ts_is
+          (subst (λ l. StartAt g x.class l at r.t.0 by.queued) log_is
+          (start_here g x.class (front ++ p.rest) r.txn.0 r.attempt r.t.0 whole));
       within = class_here g d log x.later x.before x.class x.txn x.attempt x.dm x.sends h x.is;
       asked = there.0;
       uses_are = ap uses_at_head r.is ∙ ap uses_in_read there.1;
     }
 
 pub answer_to : (g : Given) → IsSound g.catalogue → (c : ℕ) → c ≤ length g.catalogue.classes → (log : Log) (a : Attempt) (d : DmNo) → IsPermitted g log
-    → active (setting_of g (home g.catalogue c)) c (local_of g (home g.catalogue c) log) ≡ Some a → (x : IsAnswerAt a.ts (local_of g (D d) log)) → IsAnswerTo g c log a d x
+    → active (setting_of g (home g.catalogue c)) c (local_of g (home g.catalogue c) log) ≡ Some a
+    → (x : IsAnswerAt a.ts (local_of g (D d) log)) → IsAnswerTo g c log a d x
 answer_to g sound c lc log a d h e x =
     let r = read_started g log a.ts d h x in
     let own = active_start g c log a h e in
@@ -114,7 +142,9 @@ answer_to g sound c lc log a d h e x =
     let text : r.queued.text ≡ a.text = ap (λ (q : Queued). q.text) one.1 ∙ own.2 in
     record {
       class_is = one.0;
-      asked = subst (λ t. contains (modules_asked (setting_of g (home g.catalogue c)) c t) d.0 ≡ true) text (subst (λ j. contains (modules_asked (setting_of g (home g.catalogue j)) j r.queued.text) d.0 ≡ true) one.0 r.asked);
+      asked = subst (λ t. contains (modules_asked (setting_of g (home g.catalogue c)) c t) d.0 ≡ true) text
+          (subst (λ j. contains (modules_asked (setting_of g (home g.catalogue j)) j r.queued.text)
+          d.0 ≡ true) one.0 r.asked);
       uses_are = r.uses_are ∙ ap (λ j. uses_at g.catalogue j r.queued.text d.0) one.0 ∙ ap (λ t. uses_at g.catalogue c t d.0) text;
     }
 

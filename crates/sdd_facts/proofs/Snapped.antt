@@ -27,16 +27,44 @@ MaySnap s ts log = (snapshots s ts log ≡ []) ⊎ IsSnapped s ts log
 
 abbrev pub answer_more : (ts : ℕ) (e : Entry) (log : Log) → IsAnswerAt ts log → IsAnswerAt ts (e ∷ log)
 answer_more ts e log h =
-    record { later = e ∷ h.later; class = h.class; txn = h.txn; attempt = h.attempt; dm = h.dm; sends = h.sends; before = h.before; is = ap (λ l. e ∷ l) h.is; at = h.at }
+    record {
+      later = e ∷ h.later;
+      class = h.class;
+      txn = h.txn;
+      attempt = h.attempt;
+      dm = h.dm;
+      sends =
+          h.sends;
+      before = h.before;
+      is = ap (λ l. e ∷ l) h.is;
+      at = h.at;
+    }
 
-snap_more : (s : Setting) (ts : ℕ) (e : Entry) (log : Log) → snapshots s ts (e ∷ log) ≡ snapshots s ts log → before_answer ts (e ∷ log) ≡ before_answer ts log → MaySnap s ts log → MaySnap s ts (e ∷ log)
+snap_more : (s : Setting) (ts : ℕ) (e : Entry) (log : Log) → snapshots s ts (e ∷ log) ≡ snapshots s ts log
+    → before_answer ts (e ∷ log) ≡ before_answer ts log → MaySnap s ts log → MaySnap s ts (e ∷ log)
 snap_more s ts e log p q (inl none) = inl (p ∙ none)
 snap_more s ts e log p q (inr h) = inr (record { answer = answer_more ts e log h.answer; is = p ∙ h.is; before_is = q ∙ h.before_is })
 
-snap_answer : (s : Setting) (ts k : ℕ) (txn : TxnNo) (attempt : ℕ) (dm : DmNo) (sends : List (Site × Msg)) (log : Log) (b : Bool) → is_at ts (head (pipe k log)) ≡ b → MaySnap s ts log
+snap_answer : (s : Setting) (ts k : ℕ) (txn : TxnNo) (attempt : ℕ) (dm : DmNo) (sends : List (Site × Msg))
+    (log : Log) (b : Bool) → is_at ts (head (pipe k log)) ≡ b → MaySnap s ts log
     → MaySnap s ts (Did (Records k (Answer txn attempt dm) sends) ∷ log)
 snap_answer s ts k txn attempt dm sends log true e h =
-    inr (record { answer = record { later = []; class = k; txn = txn; attempt = attempt; dm = dm; sends = sends; before = log; is = refl; at = e }; is = rw e refl; before_is = rw e refl })
+    inr (record {
+      answer = record {
+        later = [];
+        class = k;
+        txn = txn;
+        attempt = attempt;
+        dm = dm;
+        sends =
+            sends;
+        before = log;
+        is = refl;
+        at = e;
+      };
+      is = rw e refl;
+      before_is = rw e refl;
+    })
 snap_answer s ts k txn attempt dm sends log false e h = snap_more s ts (Did (Records k (Answer txn attempt dm) sends)) log (rw e refl) (rw e refl) h
 
 pub may_snap : (s : Setting) (ts : ℕ) (log : Log) → MaySnap s ts log
@@ -45,32 +73,54 @@ may_snap s ts (Handed from m ∷ log) = snap_more s ts (Handed from m) log refl 
 may_snap s ts (Ticked n ∷ log) = snap_more s ts (Ticked n) log refl refl (may_snap s ts log)
 may_snap s ts (Submits n txn ∷ log) = snap_more s ts (Submits n txn) log refl refl (may_snap s ts log)
 may_snap s ts (Redeclared force t ∷ log) = snap_more s ts (Redeclared force t) log refl refl (may_snap s ts log)
-may_snap s ts (Did (Records k (Answer txn attempt dm) sends) ∷ log) = snap_answer s ts k txn attempt dm sends log (is_at ts (head (pipe k log))) refl (may_snap s ts log)
+may_snap s ts (Did (Records k (Answer txn attempt dm) sends) ∷ log) =
+    snap_answer s ts k txn attempt dm sends log (is_at ts (head (pipe k log))) refl (may_snap s ts log)
 may_snap s ts (Did (Records k _ sends) ∷ log) = snap_more s ts _ log refl refl (may_snap s ts log)
 may_snap s ts (Did (Sends to m hand) ∷ log) = snap_more s ts (Did (Sends to m hand)) log refl refl (may_snap s ts log)
 
 -- where there is an Answer, one is found
-snap_behind : (s : Setting) (ts : ℕ) (e : Entry) (log : Log) → snapshots s ts (e ∷ log) ≡ snapshots s ts log → before_answer ts (e ∷ log) ≡ before_answer ts log → IsSnapped s ts log → IsSnapped s ts (e ∷ log)
+snap_behind : (s : Setting) (ts : ℕ) (e : Entry) (log : Log) → snapshots s ts (e ∷ log) ≡ snapshots s ts log
+    → before_answer ts (e ∷ log) ≡ before_answer ts log → IsSnapped s ts log → IsSnapped s ts (e ∷ log)
 snap_behind s ts e log p q h = record { answer = answer_more ts e log h.answer; is = p ∙ h.is; before_is = q ∙ h.before_is }
 
-snap_there : (s : Setting) (ts k : ℕ) (txn : TxnNo) (attempt : ℕ) (dm : DmNo) (sends : List (Site × Msg)) (log : Log) (b : Bool) → is_at ts (head (pipe k log)) ≡ b → (b ≡ false → IsSnapped s ts log)
+snap_there : (s : Setting) (ts k : ℕ) (txn : TxnNo) (attempt : ℕ) (dm : DmNo) (sends : List (Site × Msg))
+    (log : Log) (b : Bool) → is_at ts (head (pipe k log)) ≡ b → (b ≡ false → IsSnapped s ts log)
     → IsSnapped s ts (Did (Records k (Answer txn attempt dm) sends) ∷ log)
 snap_there s ts k txn attempt dm sends log true e h =
-    record { answer = record { later = []; class = k; txn = txn; attempt = attempt; dm = dm; sends = sends; before = log; is = refl; at = e }; is = rw e refl; before_is = rw e refl }
+    record {
+      answer = record {
+        later = [];
+        class = k;
+        txn = txn;
+        attempt = attempt;
+        dm = dm;
+        sends =
+            sends;
+        before = log;
+        is = refl;
+        at = e;
+      };
+      is = rw e refl;
+      before_is = rw e refl;
+    }
 snap_there s ts k txn attempt dm sends log false e h = snap_behind s ts (Did (Records k (Answer txn attempt dm) sends)) log (rw e refl) (rw e refl) (h refl)
 
 never : {A : Type 0} (b : Bool) → b ≡ true → b ≡ false → A
 never true e f = cc
 never false e f = cc
 
-module _ (s : Setting) (ts : ℕ) (k : ℕ) (txn : TxnNo) (attempt : ℕ) (dm : DmNo) (sends : List (Site × Msg)) (before : Log) (at : is_at ts (head (pipe k before)) ≡ true) where
+module _ (s : Setting) (ts : ℕ) (k : ℕ) (txn : TxnNo) (attempt : ℕ) (dm : DmNo) (sends : List (Site × Msg))
+    (before : Log) (at : is_at ts (head (pipe k before)) ≡ true) where
   pub snapped_behind : (later : Log) → IsSnapped s ts (later ++ Did (Records k (Answer txn attempt dm) sends) ∷ before)
   snapped_behind [] = snap_there s ts k txn attempt dm sends before (is_at ts (head (pipe k before))) refl (λ no. never (is_at ts (head (pipe k before))) at no)
   snapped_behind (Handed from m ∷ later) = snap_behind s ts (Handed from m) _ refl refl (snapped_behind later)
   snapped_behind (Ticked n ∷ later) = snap_behind s ts (Ticked n) _ refl refl (snapped_behind later)
   snapped_behind (Submits n t ∷ later) = snap_behind s ts (Submits n t) _ refl refl (snapped_behind later)
   snapped_behind (Redeclared force t ∷ later) = snap_behind s ts (Redeclared force t) _ refl refl (snapped_behind later)
-  snapped_behind (Did (Records c (Answer t a m) ss) ∷ later) = snap_there s ts c t a m ss _ (is_at ts (head (pipe c (later ++ Did (Records k (Answer txn attempt dm) sends) ∷ before)))) refl (λ no. snapped_behind later)
+  snapped_behind (Did (Records c (Answer t a m) ss) ∷ later) =
+      snap_there s ts c t a m ss _ (is_at ts
+      (head (pipe c (later ++ Did (Records k (Answer txn attempt dm) sends) ∷ before)))) refl
+      (λ no. snapped_behind later)
   snapped_behind (Did (Records c _ ss) ∷ later) = snap_behind s ts _ _ refl refl (snapped_behind later)
   snapped_behind (Did (Sends to m hand) ∷ later) = snap_behind s ts (Did (Sends to m hand)) _ refl refl (snapped_behind later)
 

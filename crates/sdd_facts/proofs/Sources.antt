@@ -70,8 +70,12 @@ pub source_is_home : (s : Setting) (c : ℕ) → IsClassHere s c → source_of (
 source_is_home s zero l = refl
 source_is_home s (suc n) l =
     let z : suc n - 1 ≡ n = omega arith in
-    let e : T (tm_no (class_at s.catalogue (suc n)).tm.0) ≡ T (tm_no (slice_index_or s.catalogue.classes n no_class).tm.0) = ap (λ k. T (tm_no (slice_index_or s.catalogue.classes k no_class).tm.0)) z in
-    class_there s.catalogue.classes n no_class (omega (arith, l)) ∙ sym (ap (λ (b : Bool). if b then U else T (tm_no (class_at s.catalogue (suc n)).tm.0)) (suc_no_zero n) ∙ e)
+    let e : T (tm_no (class_at s.catalogue (suc n)).tm.0) ≡ T
+    (tm_no (slice_index_or s.catalogue.classes n no_class).tm.0) =
+    ap (λ k. T (tm_no (slice_index_or s.catalogue.classes k no_class).tm.0)) z in
+    class_there s.catalogue.classes n no_class (omega (arith, l))
+    ∙ sym (ap (λ (b : Bool). if b then U else T (tm_no (class_at s.catalogue (suc n)).tm.0))
+    (suc_no_zero n) ∙ e)
 
 -- data modules are other sites
 pub apart_from_home : (cat : Catalogue) (c d : ℕ) → same_site (D (dm_no d)) (home cat c) ≡ false
@@ -126,7 +130,9 @@ send_class s log ts c m (a_release t e) f = none_asks ts c m _ e refl f
 
 step_question : (s : Setting) (b : Site) (log : site.Log) (act : Act) (place : ℕ) (m : Msg) (ts c : ℕ) → IsStep s log act
     → slice_get (to_site b (sends_of_act act)) place ≡ Some m → is_question ts c m ≡ true → home s.catalogue c ≡ s.site
-step_question s b log act place m ts c i = step_way s log act (λ x. slice_get (to_site b (sends_of_act x)) place ≡ Some m → is_question ts c m ≡ true → home s.catalogue c ≡ s.site)
+step_question s b log act place m ts c i =
+    step_way s log act (λ x. slice_get (to_site b (sends_of_act x)) place ≡ Some m
+    → is_question ts c m ≡ true → home s.catalogue c ≡ s.site)
     (λ k q at f e. λ there own. elim (start_puts s k b log q) [
       | inl p ↦ in_none _ place m p there
       | inr p ↦ (let is : start_read s k log q p.0 ≡ m = in_one _ (start_read s k log q p.0) place m p.1 there in
@@ -174,7 +180,9 @@ question_home g (D d) b log place m ts c h e f =
 
 abbrev AsksHere : Setting → site.Log → Act → Type 0
 AsksHere s log act =
-    IsFirstSend s log act → (b : Site) (place ts c : ℕ) (m : Msg) → slice_get (to_site b (sends_of_act act)) place ≡ Some m → asks_rows ts c m ≡ true → c ≤ length s.catalogue.classes
+    IsFirstSend s log act → (b : Site) (place ts c : ℕ) (m : Msg)
+    → slice_get (to_site b (sends_of_act act)) place ≡ Some m → asks_rows ts c m ≡ true
+    → c ≤ length s.catalogue.classes
 
 act_here : (s : Setting) (log : site.Log) (act : Act) → IsStep s log act → AsksHere s log act
 act_here s log act i = step_way s log act (AsksHere s log)
@@ -239,9 +247,12 @@ asked_from : (g : Given) (d : DmNo) (log : Log) (b : Site) (later : site.Log) (a
     → IsPermitted g log → local_of g (D d) log ≡ later ++ Did act ∷ before → WasAsked before b P → ((m : Msg) → P m → is_question ts c m ≡ true)
     → home g.catalogue c ≡ b
 asked_from g d log b later act before ts c P h e w f =
-    let all : local_of g (D d) log ≡ (later ++ Did act ∷ w.later) ++ Handed b w.asked ∷ w.before = e ∙ ap (λ l. later ++ Did act ∷ l) w.is ∙ sym (append_assoc later (Did act ∷ w.later) (Handed b w.asked ∷ w.before)) in
+    let all : local_of g (D d) log ≡ (later ++ Did act ∷ w.later) ++ Handed b w.asked ∷ w.before =
+    e ∙ ap (λ l. later ++ Did act ∷ l) w.is
+    ∙ sym (append_assoc later (Did act ∷ w.later) (Handed b w.asked ∷ w.before)) in
     let i = place_of_hand g (D d) log (later ++ Did act ∷ w.later) b w.asked w.before all in
-    let p : IsPermitted g (Hand b (D d) i.number w.asked ∷ i.rest) = permitted_before g i.later (Hand b (D d) i.number w.asked ∷ i.rest) (subst (IsPermitted g) i.is h) in
+    let p : IsPermitted g (Hand b (D d) i.number w.asked ∷ i.rest) =
+    permitted_before g i.later (Hand b (D d) i.number w.asked ∷ i.rest) (subst (IsPermitted g) i.is h) in
     question_home g b (D d) i.rest (handed b (D d) i.rest) w.asked ts c p.1 (hand_was_put g i.rest b (D d) i.number w.asked p.0).1 (f w.asked w.fits)
 
 -- the READ at a head is of its class

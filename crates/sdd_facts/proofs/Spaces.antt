@@ -121,7 +121,9 @@ agrees_before g ts copies e log h d x =
     let y = subst (AnswerWith ts x.before) (sym (local_step g (D (dm_no d)) e log)) (answer_made ts (made g (D (dm_no d)) log e) (own g d log) x) in
     h d y.0 ∙ ap (λ l. λ f. contents f (dated (set g d) l)) y.1
 
-pub space_same : (g : Given) (c ts : ℕ) (first : Space) (e : Entry) (log : Log) → ((d : ℕ) → kept_at g c ts d (e ∷ log) ≡ kept_at g c ts d log) → space_at g c ts first (e ∷ log) ≡ space_at g c ts first log
+pub space_same : (g : Given) (c ts : ℕ) (first : Space) (e : Entry) (log : Log)
+    → ((d : ℕ) → kept_at g c ts d (e ∷ log) ≡ kept_at g c ts d log)
+    → space_at g c ts first (e ∷ log) ≡ space_at g c ts first log
 space_same g c ts first e log k = λ i d. or_first (k d i) (first d)
 
 -- an entry that makes nothing of a module's log leaves what it keeps
@@ -129,7 +131,9 @@ pub kept_apart : (g : Given) (c ts d : ℕ) (e : Entry) (log : Log) → made g (
 kept_apart g c ts d e log m = ap (kept (set g d) c ts) (local_step g (D (dm_no d)) e log ∙ ap (λ o. with_made o (own g d log)) m)
 
 pub kept_still : (g : Given) (c ts d : ℕ) (e : Entry) (log : Log) → IsStillEntry e → kept_at g c ts d (e ∷ log) ≡ kept_at g c ts d log
-kept_still g c ts d e log h = ap (kept (set g d) c ts) (local_step g (D (dm_no d)) e log) ∙ still_kept (set g d) c ts (made g (D (dm_no d)) log e) (own g d log) (made_still g (D (dm_no d)) log e h)
+kept_still g c ts d e log h = ap (kept (set g d) c ts) (local_step g (D (dm_no d)) e log)
+    ∙ still_kept (set g d) c ts (made g (D (dm_no d)) log e) (own g d log)
+    (made_still g (D (dm_no d)) log e h)
 
 -- the site of a class is no data module
 pub home_apart : (cat : Catalogue) (c d : ℕ) → same_site (D (dm_no d)) (home cat c) ≡ false

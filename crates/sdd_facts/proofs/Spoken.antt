@@ -44,8 +44,10 @@ IsFirstAt g c log act = IsFirstSend (setting_of g (home g.catalogue c)) (home_lo
 home_act : (g : Given) (c : ℕ) (log : Log) (act : Act) → IsPermitted g (Does (home g.catalogue c) act ∷ log)
     → IsStep (setting_of g (home g.catalogue c)) (home_log g c log) act × IsFirstAt g c log act
 home_act g c log act h = (
-  (subst (λ l. Each (IsFair (setting_of g (home g.catalogue c))) l) (own_act g (home g.catalogue c) act log) (home_fair g c (Does (home g.catalogue c) act ∷ log) h)).0,
-  (subst (λ l. Each (IsFirstEach (setting_of g (home g.catalogue c))) l) (own_act g (home g.catalogue c) act log) (home_first g c (Does (home g.catalogue c) act ∷ log) h)).0,
+  (subst (λ l. Each (IsFair (setting_of g (home g.catalogue c))) l) (own_act g (home g.catalogue c) act log)
+      (home_fair g c (Does (home g.catalogue c) act ∷ log) h)).0,
+  (subst (λ l. Each (IsFirstEach (setting_of g (home g.catalogue c))) l)
+      (own_act g (home g.catalogue c) act log) (home_first g c (Does (home g.catalogue c) act ∷ log) h)).0,
 )
 
 data_act : (g : Given) (d : ℕ) (log : Log) (act : Act) → IsPermitted g (Does (D (dm_no d)) act ∷ log)
@@ -74,13 +76,19 @@ move_home g ts c d log act h i =
     let v : Turn = turn_at ts c d (home_log g c log) in
     let w : Turn = turn_with ts c at (data_log g d log) in
     let s = home_act g c log act h in
-    let pq : put_by (D (dm_no d)) (made g at log (Does at act)) ≡ to_site (D (dm_no d)) (sends_of_act act) = put_did (same_site at at) (D (dm_no d)) act ∙ ap (λ (b : Bool). if b then to_site (D (dm_no d)) (sends_of_act act) else []) (site_self at) in
+    let pq : put_by (D (dm_no d)) (made g at log (Does at act)) ≡ to_site (D (dm_no d)) (sends_of_act act) =
+    put_did (same_site at at) (D (dm_no d)) act
+    ∙ ap (λ (b : Bool). if b then to_site (D (dm_no d)) (sends_of_act act) else []) (site_self at) in
     let hq : handed_by at (made g (D (dm_no d)) log (Does at act)) ≡ [] = handed_did (same_site (D (dm_no d)) at) at act in
-    let pa : put_by at (made g (D (dm_no d)) log (Does at act)) ≡ [] = put_did (same_site (D (dm_no d)) at) at act ∙ ap (λ (b : Bool). if b then to_site at (sends_of_act act) else []) (apart_from_home g.catalogue c d) in
+    let pa : put_by at (made g (D (dm_no d)) log (Does at act)) ≡ [] =
+    put_did (same_site (D (dm_no d)) at) at act
+    ∙ ap (λ (b : Bool). if b then to_site at (sends_of_act act) else []) (apart_from_home g.catalogue c d)
+    in
     let ha : handed_by (D (dm_no d)) (made g at log (Does at act)) ≡ [] = handed_did (same_site at at) (D (dm_no d)) act in
     elim (asks_in_turn (setting_of g at) c (home_log g c log) act ts d s.0 s.1 (home_turns g c log h.1 i)) [
       | inl e ↦ move_as v w _ _ _ _ [] [] [] [] (ap (questions ts c) pq ∙ e) (ap (questions ts c) hq) (ap (answers ts c) pa) (ap (answers ts c) ha) still
-      | inr p ↦ move_as v w _ _ _ _ (p.0 ∷ []) [] [] [] (ap (questions ts c) pq ∙ p.1) (ap (questions ts c) hq) (ap (answers ts c) pa) (ap (answers ts c) ha) (question_put p.0 p.2)
+      | inr p ↦ move_as v w _ _ _ _ (p.0 ∷ []) [] [] [] (ap (questions ts c) pq ∙ p.1)
+          (ap (questions ts c) hq) (ap (answers ts c) pa) (ap (answers ts c) ha) (question_put p.0 p.2)
     ]
 
 move_data : (g : Given) (ts c d : ℕ) (log : Log) (act : Act) → IsPermitted g (Does (D (dm_no d)) act ∷ log) → number_of (home g.catalogue c) ≤ 63
@@ -90,13 +98,19 @@ move_data g ts c d log act h small i =
     let from : Site = D (dm_no d) in
     let v : Turn = turn_at ts c d (home_log g c log) in
     let w : Turn = turn_with ts c at (data_log g d log) in
-    let pq : put_by from (made g at log (Does from act)) ≡ [] = put_did (same_site at from) from act ∙ ap (λ (b : Bool). if b then to_site from (sends_of_act act) else []) (home_apart g.catalogue c d) in
+    let pq : put_by from (made g at log (Does from act)) ≡ [] = put_did (same_site at from) from act
+    ∙ ap (λ (b : Bool). if b then to_site from (sends_of_act act) else []) (home_apart g.catalogue c d) in
     let hq : handed_by at (made g from log (Does from act)) ≡ [] = handed_did (same_site from from) at act in
-    let pa : put_by at (made g from log (Does from act)) ≡ to_site at (sends_of_act act) = put_did (same_site from from) at act ∙ ap (λ (b : Bool). if b then to_site at (sends_of_act act) else []) (site_self from) in
+    let pa : put_by at (made g from log (Does from act)) ≡ to_site at (sends_of_act act) =
+    put_did (same_site from from) at act
+    ∙ ap (λ (b : Bool). if b then to_site at (sends_of_act act) else []) (site_self from) in
     let ha : handed_by from (made g at log (Does from act)) ≡ [] = handed_did (same_site at from) from act in
-    elim (tells_in_turn (setting_of g from) ts c at (data_log g d log) act (home_source g c d) (data_step (setting_of g from) (data_log g d log) act (data_act g d log act h)) (data_turns g ts c d log h.1 i) (held_exchanging g ts c d log h.1 small i)) [
+    elim (tells_in_turn (setting_of g from) ts c at (data_log g d log) act (home_source g c d)
+    (data_step (setting_of g from) (data_log g d log) act (data_act g d log act h))
+    (data_turns g ts c d log h.1 i) (held_exchanging g ts c d log h.1 small i)) [
       | inl e ↦ move_as v w _ _ _ _ [] [] [] [] (ap (questions ts c) pq) (ap (questions ts c) hq) (ap (answers ts c) pa ∙ e) (ap (answers ts c) ha) still
-      | inr p ↦ move_as v w _ _ _ _ [] [] (p.0 ∷ []) [] (ap (questions ts c) pq) (ap (questions ts c) hq) (ap (answers ts c) pa ∙ p.1) (ap (answers ts c) ha) (answer_put p.0 p.2)
+      | inr p ↦ move_as v w _ _ _ _ [] [] (p.0 ∷ []) [] (ap (questions ts c) pq) (ap (questions ts c) hq)
+          (ap (answers ts c) pa ∙ p.1) (ap (answers ts c) ha) (answer_put p.0 p.2)
     ]
 
 move_act : (g : Given) (ts c d : ℕ) (log : Log) (by : Site) (act : Act) → IsPermitted g (Does by act ∷ log) → number_of (home g.catalogue c) ≤ 63
@@ -109,9 +123,11 @@ move_act g ts c d log by act h small i =
         | true ↦ λ f. (let p : D (dm_no d) ≡ by = site_is (D (dm_no d)) by f in
             subst (λ x. MoveAt g ts c d (Does x act) log) p (move_data g ts c d log act (subst (λ x. IsPermitted g (Does x act ∷ log)) (sym p) h) small i))
         | false ↦ λ f. move_as (turn_at ts c d (home_log g c log)) (turn_with ts c (home g.catalogue c) (data_log g d log)) _ _ _ _ [] [] [] []
-            (ap (questions ts c) (put_did (same_site (home g.catalogue c) by) (D (dm_no d)) act ∙ ap (λ (b : Bool). if b then to_site (D (dm_no d)) (sends_of_act act) else []) e))
+            (ap (questions ts c) (put_did (same_site (home g.catalogue c) by) (D (dm_no d)) act
+            ∙ ap (λ (b : Bool). if b then to_site (D (dm_no d)) (sends_of_act act) else []) e))
             (ap (questions ts c) (handed_did (same_site (D (dm_no d)) by) (home g.catalogue c) act))
-            (ap (answers ts c) (put_did (same_site (D (dm_no d)) by) (home g.catalogue c) act ∙ ap (λ (b : Bool). if b then to_site (home g.catalogue c) (sends_of_act act) else []) f))
+            (ap (answers ts c) (put_did (same_site (D (dm_no d)) by) (home g.catalogue c) act
+            ∙ ap (λ (b : Bool). if b then to_site (home g.catalogue c) (sends_of_act act) else []) f))
             (ap (answers ts c) (handed_did (same_site (home g.catalogue c) by) (D (dm_no d)) act)) still
       ] refl
     ] refl
@@ -139,7 +155,9 @@ move_hand g ts c d log from to n m =
     let ha = ap (answers ts c) (handed_hand (same_site at to) (D (dm_no d)) from m) in
     elim (same_site at to) as (λ b. same_site at to ≡ b → MoveAt g ts c d (Hand from to n m) log) [
       | true ↦ λ e.
-          (let other : same_site (D (dm_no d)) to ≡ false = subst (λ x. same_site (D (dm_no d)) x ≡ false) (site_is at to e) (apart_from_home g.catalogue c d) in
+          (let other : same_site (D (dm_no d)) to ≡ false =
+          subst (λ x. same_site (D (dm_no d)) x ≡ false) (site_is at to e)
+          (apart_from_home g.catalogue c d) in
           let none = hq ∙ ap (λ (b : Bool). questions ts c (if b && same_site at from then m ∷ [] else [])) other in
           elim (answers_if ts c (same_site at to && same_site (D (dm_no d)) from) m) [
             | inl f ↦ move_as v w _ _ _ _ [] [] [] [] pq none pa (ha ∙ f) still
@@ -158,7 +176,9 @@ move_plain g ts c d log e p =
     let at : Site = home g.catalogue c in
     let q = quiet_made g at log e p (D (dm_no d)) in
     let r = quiet_made g (D (dm_no d)) log e p at in
-    move_as (turn_at ts c d (home_log g c log)) (turn_with ts c at (data_log g d log)) _ _ _ _ [] [] [] [] (ap (questions ts c) q.0) (ap (questions ts c) r.1) (ap (answers ts c) r.0) (ap (answers ts c) q.1) still
+    move_as (turn_at ts c d (home_log g c log)) (turn_with ts c at (data_log g d log)) _ _ _ _ [] [] [] []
+    (ap (questions ts c) q.0) (ap (questions ts c) r.1) (ap (answers ts c) r.0)
+    (ap (answers ts c) q.1) still
 
 move_at : (g : Given) (ts c d : ℕ) (log : Log) (e : Entry) → IsPermitted g (e ∷ log) → number_of (home g.catalogue c) ≤ 63
     → IsSpoken g c log → MoveAt g ts c d e log
@@ -171,9 +191,17 @@ stage_step : (g : Given) (ts c d : ℕ) (log : Log) (e : Entry) → IsPermitted 
 stage_step g ts c d log e h small i =
     let at : Site = home g.catalogue c in
     let m : Site = D (dm_no d) in
-    let now = moved (turn_at ts c d (home_log g c log)) (turn_with ts c at (data_log g d log)) _ _ _ _ _ _ (questions ts c (flight g at m (e ∷ log))) (answers ts c (flight g m at (e ∷ log))) (move_at g ts c d log e h small i) (questions_step g ts c at m e log h) (answers_step g ts c m at e log h) (i.stages ts d) in
-    subst (λ v. IsStage v (turn_with ts c at (data_log g d (e ∷ log))) (questions ts c (flight g at m (e ∷ log))) (answers ts c (flight g m at (e ∷ log)))) (sym (turn_at_step g ts c d at e log))
-    (subst (λ w. IsStage (told_by (answers ts c (handed_by m (made g at log e))) (asked_by (questions ts c (put_by m (made g at log e))) (turn_at ts c d (home_log g c log)))) w (questions ts c (flight g at m (e ∷ log))) (answers ts c (flight g m at (e ∷ log)))) (sym (turn_with_step g ts c at m e log)) now)
+    let now = moved (turn_at ts c d (home_log g c log)) (turn_with ts c at (data_log g d log)) _ _ _ _ _ _
+    (questions ts c (flight g at m (e ∷ log))) (answers ts c (flight g m at (e ∷ log)))
+    (move_at g ts c d log e h small i) (questions_step g ts c at m e log h)
+    (answers_step g ts c m at e log h) (i.stages ts d) in
+    subst (λ v. IsStage v (turn_with ts c at (data_log g d (e ∷ log)))
+    (questions ts c (flight g at m (e ∷ log))) (answers ts c (flight g m at (e ∷ log))))
+    (sym (turn_at_step g ts c d at e log))
+    (subst (λ w. IsStage (told_by (answers ts c (handed_by m (made g at log e)))
+    (asked_by (questions ts c (put_by m (made g at log e))) (turn_at ts c d (home_log g c log)))) w
+    (questions ts c (flight g at m (e ∷ log))) (answers ts c (flight g m at (e ∷ log))))
+    (sym (turn_with_step g ts c at m e log)) now)
 
 -- what is handed over comes in turn
 
@@ -191,7 +219,8 @@ pub question_in_turn : (g : Given) (c : ℕ) (log : Log) (d n : ℕ) (m : Msg) (
     → MayAsk (turn_with ts c (home g.catalogue c) (data_log g d log)) m
 question_in_turn g c log d n m ts i h e =
     let f = first_in_flight g log (home g.catalogue c) (D (dm_no d)) n m h in
-    question_comes _ _ _ _ m (questions ts c f.0) (first_of_kind (is_question ts c) (flight g (home g.catalogue c) (D (dm_no d)) log) m f.0 f.1 e) (i.stages ts d)
+    question_comes _ _ _ _ m (questions ts c f.0) (first_of_kind (is_question ts c)
+    (flight g (home g.catalogue c) (D (dm_no d)) log) m f.0 f.1 e) (i.stages ts d)
 
 timely_made : (g : Given) (c : ℕ) (log : Log) (e : Entry) (x : site.Entry) → IsPermitted g (e ∷ log) → IsSpoken g c log
     → made g (home g.catalogue c) log e ≡ Some x → IsTimely c (home_log g c log) x
@@ -208,7 +237,9 @@ asked_made : (g : Given) (c d : ℕ) (log : Log) (e : Entry) (x : site.Entry) �
 asked_made g c d log e (Handed from m) h i p = λ ts q.
     (let k = maker g (D (dm_no d)) log e (Handed from m) p in
     let a : IsAllowed g log (Hand from (D (dm_no d)) k.0 m) = subst (IsAllowed g log) k.1 h.0 in
-    let f : home g.catalogue c ≡ from = question_home g from (D (dm_no d)) log (handed from (D (dm_no d)) log) m ts c h.1 (hand_was_put g log from (D (dm_no d)) k.0 m a).1 q in
+    let f : home g.catalogue c ≡ from =
+    question_home g from (D (dm_no d)) log (handed from (D (dm_no d)) log) m ts c h.1
+    (hand_was_put g log from (D (dm_no d)) k.0 m a).1 q in
     (sym f, question_in_turn g c log d k.0 m ts i (subst (λ s. IsAllowed g log (Hand s (D (dm_no d)) k.0 m)) (sym f) a) q))
 asked_made g c d log e (Ticked n) h i p = tt
 asked_made g c d log e (Submits n t) h i p = tt
@@ -242,14 +273,17 @@ held_made : (g : Given) (ts c d : ℕ) (log : Log) (e : Entry) (o : Option site.
     → IsHeldAt (setting_of g (D (dm_no d))) ts c (home g.catalogue c) (with_made o (data_log g d log))
 held_made g ts c d log e None h small i last p = i.held ts d last
 held_made g ts c d log e (Some (Handed from m)) h small i last p =
-    held_hand (setting_of g (D (dm_no d))) ts c (home g.catalogue c) (data_log g d log) from m (λ q. (asked_made g c d log e (Handed from m) h i p ts q).1) (i.held ts d last)
+    held_hand (setting_of g (D (dm_no d))) ts c (home g.catalogue c) (data_log g d log) from m
+    (λ q. (asked_made g c d log e (Handed from m) h i p ts q).1) (i.held ts d last)
 held_made g ts c d log e (Some (Ticked n)) h small i last p = i.held ts d last
 held_made g ts c d log e (Some (Submits n t)) h small i last p = i.held ts d last
 held_made g ts c d log e (Some (Redeclared force t)) h small i last p = i.held ts d last
 held_made g ts c d log e (Some (Did act)) h small i last p =
     let k : e ≡ Does (D (dm_no d)) act = maker g (D (dm_no d)) log e (Did act) p in
     let due = data_act g d log act (subst (λ x. IsPermitted g (x ∷ log)) k h) in
-    held_act (setting_of g (D (dm_no d))) ts c (home g.catalogue c) (data_log g d log) act (home_source g c d) (data_step (setting_of g (D (dm_no d))) (data_log g d log) act due) (alone g ts c d log h.1 small i last) (i.held ts d last)
+    held_act (setting_of g (D (dm_no d))) ts c (home g.catalogue c) (data_log g d log) act
+    (home_source g c d) (data_step (setting_of g (D (dm_no d))) (data_log g d log) act due)
+    (alone g ts c d log h.1 small i last) (i.held ts d last)
 
 first_timely : (g : Given) (c : ℕ) (at : Site) → Each (IsTimely c) (local_of g at [])
 first_timely g c U = tt
@@ -259,7 +293,8 @@ first_timely g c (D d) = tt
 -- on every permitted log
 pub spoken : (g : Given) (c : ℕ) (log : Log) → IsPermitted g log → number_of (home g.catalogue c) ≤ 63 → IsSpoken g c log
 spoken g c [] h small = record {
-  stages = λ ts d. agreed (silent_first g ts c d (home g.catalogue c)) (ap (λ l. questions ts c (drop 0 l)) (nothing_put g (home g.catalogue c) (D (dm_no d)))) refl;
+  stages = λ ts d. agreed (silent_first g ts c d (home g.catalogue c)) (ap (λ l. questions ts c (drop 0 l))
+      (nothing_put g (home g.catalogue c) (D (dm_no d)))) refl;
   timely_at = first_timely g c (home g.catalogue c);
   timely_with = λ d. tt;
   held = λ ts d l ns e. cc;
@@ -268,7 +303,15 @@ spoken g c (e ∷ log) h small =
     let i = spoken g c log h.1 small in
     record {
       stages = λ ts d. stage_step g ts c d log e h small i;
-      timely_at = subst (Each (IsTimely c)) (sym (local_step g (home g.catalogue c) e log)) (each_made (IsTimely c) (made g (home g.catalogue c) log e) (home_log g c log) (λ x p. timely_made g c log e x h i p) i.timely_at);
-      timely_with = λ d. subst (Each (IsAskedInTurn c (home g.catalogue c))) (sym (local_step g (D (dm_no d)) e log)) (each_made (IsAskedInTurn c (home g.catalogue c)) (made g (D (dm_no d)) log e) (data_log g d log) (λ x p. asked_made g c d log e x h i p) (i.timely_with d));
-      held = λ ts d l. subst (λ k. IsHeldAt (setting_of g (D (dm_no d))) ts c (home g.catalogue c) k) (sym (local_step g (D (dm_no d)) e log)) (held_made g ts c d log e (made g (D (dm_no d)) log e) h small i (last_before g ts c d e log l) refl);
+      timely_at = subst (Each (IsTimely c)) (sym (local_step g (home g.catalogue c) e log))
+          (each_made (IsTimely c) (made g (home g.catalogue c) log e) (home_log g c log)
+          (λ x p. timely_made g c log e x h i p) i.timely_at);
+      timely_with = λ d. subst (Each (IsAskedInTurn c (home g.catalogue c)))
+          (sym (local_step g (D (dm_no d)) e log)) (each_made (IsAskedInTurn c (home g.catalogue c))
+          (made g (D (dm_no d)) log e) (data_log g d log) (λ x p. asked_made g c d log e x h i p)
+          (i.timely_with d));
+      held = λ ts d l. subst (λ k. IsHeldAt (setting_of g (D (dm_no d))) ts c (home g.catalogue c) k)
+          (sym (local_step g (D (dm_no d)) e log))
+          (held_made g ts c d log e (made g (D (dm_no d)) log e) h small i (last_before g ts c d e log l)
+          refl);
     }

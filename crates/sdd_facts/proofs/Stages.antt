@@ -16,7 +16,8 @@ pub data IsMove (v w : Turn) : List Msg → List Msg → List Msg → List Msg �
 pub move_as : (v w : Turn) (a1 a2 a3 a4 b1 b2 b3 b4 : List Msg) → a1 ≡ b1 → a2 ≡ b2 → a3 ≡ b3 → a4 ≡ b4 → IsMove v w b1 b2 b3 b4
     → IsMove v w a1 a2 a3 a4
 move_as v w a1 a2 a3 a4 b1 b2 b3 b4 e1 e2 e3 e4 h =
-    subst (λ a. IsMove v w a a2 a3 a4) (sym e1) (subst (λ a. IsMove v w b1 a a3 a4) (sym e2) (subst (λ a. IsMove v w b1 b2 a a4) (sym e3) (subst (λ a. IsMove v w b1 b2 b3 a) (sym e4) h)))
+    subst (λ a. IsMove v w a a2 a3 a4) (sym e1) (subst (λ a. IsMove v w b1 a a3 a4) (sym e2)
+    (subst (λ a. IsMove v w b1 b2 a a4) (sym e3) (subst (λ a. IsMove v w b1 b2 b3 a) (sym e4) h)))
 
 ask_or_answer : {A : Type 0} (v : Turn) (m x : Msg) → MayAsk v m → MayAnswer v x → A
 ask_or_answer Silent m x h k = absurd k

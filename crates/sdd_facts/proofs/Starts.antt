@@ -109,7 +109,8 @@ small_home cat sound c l = elim (home_is cat sound c l) [
   | inr h ↦ (let to = h.to in let low : h.number ≤ 63 = omega arith in subst (λ x. number_of x ≤ 63) (sym h.is) low)
 ]
 
-same_home : (cat : Catalogue) → IsSound cat → (c k : ℕ) → c ≤ length cat.classes → k ≤ length cat.classes → number_of (home cat c) ≡ number_of (home cat k) → home cat c ≡ home cat k
+same_home : (cat : Catalogue) → IsSound cat → (c k : ℕ) → c ≤ length cat.classes → k ≤ length cat.classes
+    → number_of (home cat c) ≡ number_of (home cat k) → home cat c ≡ home cat k
 same_home cat sound c k lc lk e = elim (home_is cat sound c lc) [
   | inl a ↦ elim (home_is cat sound k lk) [
     | inl b ↦ a ∙ sym b
@@ -132,13 +133,16 @@ same_head : (s : Setting) (c : ℕ) (b1 b2 : site.Log) (q1 q2 : Queued) → b1 �
 same_head s c b1 b2 q1 q2 e f g = let p : Some q1 ≡ Some q2 = sym f ∙ ap (λ b. head_of (queue s c b)) e ∙ g in cc
 
 -- two Starts with one timestamp are one, whatever their classes
-pub one_start : (g : Given) → IsSound g.catalogue → (c k : ℕ) (log : Log) (t : ℕ) (q1 q2 : Queued) → c ≤ length g.catalogue.classes → k ≤ length g.catalogue.classes
+pub one_start : (g : Given) → IsSound g.catalogue → (c k : ℕ) (log : Log) (t : ℕ) (q1 q2 : Queued)
+    → c ≤ length g.catalogue.classes → k ≤ length g.catalogue.classes
     → StartAt g c log (home g.catalogue c) t q1 → StartAt g k log (home g.catalogue k) t q2 → (c ≡ k) × (q1 ≡ q2)
 one_start g sound c k log t q1 q2 lc lk x y =
     let at : Site = home g.catalogue c in
     let s : Setting = setting_of g at in
     let alike : number_of at ≡ number_of (home g.catalogue k) =
-    numbers_alike (clock at x.before).ticks (clock (home g.catalogue k) y.before).ticks (number_of at) (number_of (home g.catalogue k)) (small_home g.catalogue sound c lc) (small_home g.catalogue sound k lk)
+    numbers_alike (clock at x.before).ticks (clock (home g.catalogue k) y.before).ticks (number_of at)
+    (number_of (home g.catalogue k)) (small_home g.catalogue sound c lc)
+    (small_home g.catalogue sound k lk)
     (sym (stamp_is s x.before) ∙ sym x.ts_is ∙ y.ts_is ∙ stamp_is (setting_of g (home g.catalogue k)) y.before) in
     let z : StartAt g k log at t q2 = subst (λ a. StartAt g k log a t q2) (sym (same_home g.catalogue sound c k lc lk alike)) y in
     let r = one_start_of_all s c k x.later z.later x.before z.before q1 q2 (sym x.ts_is ∙ z.ts_is) (sym x.is ∙ z.is) in
@@ -151,7 +155,11 @@ drawn_already g sound c k log q lc lk y =
     let at : Site = home g.catalogue c in
     let s : Setting = setting_of g at in
     let alike : number_of at ≡ number_of (home g.catalogue k) =
-    numbers_alike (clock at (local_of g at log)).ticks (clock (home g.catalogue k) y.before).ticks (number_of at) (number_of (home g.catalogue k)) (small_home g.catalogue sound c lc) (small_home g.catalogue sound k lk)
+    numbers_alike (clock at (local_of g at log)).ticks (clock (home g.catalogue k) y.before).ticks
+    (number_of at) (number_of (home g.catalogue k)) (small_home g.catalogue sound c lc)
+    (small_home g.catalogue sound k lk)
     (sym (stamp_is s (local_of g at log)) ∙ y.ts_is ∙ stamp_is (setting_of g (home g.catalogue k)) y.before) in
-    let z : StartAt g k log at (next_stamp s (local_of g at log)) q = subst (λ a. StartAt g k log a (next_stamp s (local_of g at log)) q) (sym (same_home g.catalogue sound c k lc lk alike)) y in
+    let z : StartAt g k log at (next_stamp s (local_of g at log)) q =
+    subst (λ a. StartAt g k log a (next_stamp s (local_of g at log)) q)
+    (sym (same_home g.catalogue sound c k lc lk alike)) y in
     behind s k z.later z.before (local_of g at log) q (sym z.ts_is) z.is

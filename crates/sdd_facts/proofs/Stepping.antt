@@ -74,11 +74,14 @@ no_refusal ns (Ship t k) (Reject a b by write) e h = absurd h
 no_refusal ns q (Reject a b by write) e h = absurd h
 no_refusal ns q m e h = refl
 
-told_quiet : (s : Setting) (c ts : ℕ) (at : Site) (o : Option site.Entry) (l : site.Log) → IsStill o → KnowsTold s c ts at l → KnowsTold s c ts at (with_made o l)
+told_quiet : (s : Setting) (c ts : ℕ) (at : Site) (o : Option site.Entry) (l : site.Log) → IsStill o
+    → KnowsTold s c ts at l → KnowsTold s c ts at (with_made o l)
 told_quiet s c ts at None l h k = k
 told_quiet s c ts at (Some (Ticked n)) l h k = told_still s c ts at l (Ticked n ∷ l) refl (kept_same s c ts (Ticked n) l refl) refl k
 told_quiet s c ts at (Some (Submits n txn)) l h k = told_still s c ts at l (Submits n txn ∷ l) refl (kept_same s c ts (Submits n txn) l refl) refl k
-told_quiet s c ts at (Some (Redeclared force t)) l h k = told_still s c ts at l (Redeclared force t ∷ l) refl (kept_same s c ts (Redeclared force t) l refl) refl k
+told_quiet s c ts at (Some (Redeclared force t)) l h k =
+    told_still s c ts at l (Redeclared force t ∷ l) refl (kept_same s c ts (Redeclared force t) l refl) refl
+    k
 told_quiet s c ts at (Some (Handed from m)) l h k = absurd h
 told_quiet s c ts at (Some (Did act)) l h k = absurd h
 
@@ -99,7 +102,8 @@ module _ (g : Given) (c : ℕ) (small : number_of (home g.catalogue c) ≤ 63) w
   AllTold log None = Unit {0}
   AllTold log (Some a) = (d : ℕ) → Knows a.ts d log
 
-  told_on : (e : Entry) (log : Log) (o : Option Attempt) → ((a : Attempt) → o ≡ Some a → (d : ℕ) → Knows a.ts d log → Knows a.ts d (e ∷ log)) → AllTold log o → AllTold (e ∷ log) o
+  told_on : (e : Entry) (log : Log) (o : Option Attempt) → ((a : Attempt) → o ≡ Some a → (d : ℕ)
+      → Knows a.ts d log → Knows a.ts d (e ∷ log)) → AllTold log o → AllTold (e ∷ log) o
   told_on e log None f h = tt
   told_on e log (Some a) f h = λ d. f a refl d (h d)
 
@@ -115,29 +119,44 @@ module _ (g : Given) (c : ℕ) (small : number_of (home g.catalogue c) ≤ 63) w
 
   -- a hand to a module
 
-  question_from : (log : Log) (from : Site) (d : DmNo) (n : ℕ) (m : Msg) (ts : ℕ) → IsPermitted g (Hand from (D d) n m ∷ log) → is_question ts c m ≡ true → from ≡ at
+  question_from : (log : Log) (from : Site) (d : DmNo) (n : ℕ) (m : Msg) (ts : ℕ)
+      → IsPermitted g (Hand from (D d) n m ∷ log) → is_question ts c m ≡ true → from ≡ at
   question_from log from d n m ts h q =
       let entry : Entry = Hand from (D d) n m in
-      let here : own g d.0 (entry ∷ log) ≡ Handed from m ∷ own g d.0 log = local_step g (D d) entry log ∙ ap (λ b. with_made (if b then Some (Handed from m) else None) (own g d.0 log)) (same_number d.0) in
+      let here : own g d.0 (entry ∷ log) ≡ Handed from m ∷ own g d.0 log = local_step g (D d) entry log
+      ∙ ap (λ b. with_made (if b then Some (Handed from m) else None) (own g d.0 log))
+      (same_number d.0) in
       let t = subst (Each (IsAskedInTurn c at)) here ((spoken g c (entry ∷ log) h small).timely_with d.0) in
       (t.0 ts q).0
 
-  module_hand : (log : Log) (from : Site) (d : DmNo) (n : ℕ) (m : Msg) (ts : ℕ) → IsPermitted g (Hand from (D d) n m ∷ log) → (k : ℕ) → Knows ts k log → Knows ts k (Hand from (D d) n m ∷ log)
+  module_hand : (log : Log) (from : Site) (d : DmNo) (n : ℕ) (m : Msg) (ts : ℕ)
+      → IsPermitted g (Hand from (D d) n m ∷ log) → (k : ℕ) → Knows ts k log
+      → Knows ts k (Hand from (D d) n m ∷ log)
   module_hand log from d n m ts h k knows = elim (same_or_not k d.0) [
-    | inl p ↦ (let here : own g d.0 (Hand from (D d) n m ∷ log) ≡ Handed from m ∷ own g d.0 log = local_step g (D d) (Hand from (D d) n m) log ∙ ap (λ b. with_made (if b then Some (Handed from m) else None) (own g d.0 log)) (same_number d.0) in
+    | inl p ↦ (let here : own g d.0 (Hand from (D d) n m ∷ log) ≡ Handed from m ∷ own g d.0 log =
+        local_step g (D d) (Hand from (D d) n m) log
+        ∙ ap (λ b. with_made (if b then Some (Handed from m) else None) (own g d.0 log)) (same_number d.0) in
         subst (λ j. Knows ts j log → Knows ts j (Hand from (D d) n m ∷ log)) (sym p)
-        (λ i. subst (KnowsTold (set g d.0) c ts at) (sym here) (told_hand (set g d.0) c ts at (own g d.0 log) from m (λ q. question_from log from d n m ts h q) i)) knows)
+        (λ i. subst (KnowsTold (set g d.0) c ts at) (sym here)
+        (told_hand (set g d.0) c ts at (own g d.0 log) from m (λ q. question_from log from d n m ts h q)
+        i)) knows)
     | inr p ↦ apart (Hand from (D d) n m) log ts k (ap (λ b. if b then Some (Handed from m) else None) p) knows
   ]
 
   -- an act of a module
-  module_act : (log : Log) (d : DmNo) (act : Act) (a : Attempt) → IsPermitted g (Does (D d) act ∷ log) → active s c (mine log) ≡ Some a → (k : ℕ) → Knows a.ts k log → Knows a.ts k (Does (D d) act ∷ log)
+  module_act : (log : Log) (d : DmNo) (act : Act) (a : Attempt) → IsPermitted g (Does (D d) act ∷ log)
+      → active s c (mine log) ≡ Some a → (k : ℕ) → Knows a.ts k log → Knows a.ts k (Does (D d) act ∷ log)
   module_act log d act a h e k knows = elim (same_or_not k d.0) [
-    | inl p ↦ (let here : own g d.0 (Does (D d) act ∷ log) ≡ Did act ∷ own g d.0 log = local_step g (D d) (Does (D d) act) log ∙ ap (λ b. with_made (if b then Some (Did act) else None) (own g d.0 log)) (same_number d.0) in
+    | inl p ↦ (let here : own g d.0 (Does (D d) act ∷ log) ≡ Did act ∷ own g d.0 log =
+        local_step g (D d) (Does (D d) act) log ∙ ap (λ b. with_made (if b then Some (Did act) else None)
+        (own g d.0 log)) (same_number d.0) in
         let sp = spoken g c log h.1 small in
         subst (λ j. Knows a.ts j log → Knows a.ts j (Does (D d) act ∷ log)) (sym p)
         (λ i. subst (KnowsTold (set g d.0) c a.ts at) (sym here)
-        (told_act (set g d.0) c a.ts at (own g d.0 log) act (home_source g c d.0) (data_step (set g d.0) (own g d.0 log) act (allowed_act g log (Does (D d) act) h.0)) (data_turns g a.ts c d.0 log h.1 sp) (sp.held a.ts d.0 (active_last g c d.0 log a h.1 small e)) i)) knows)
+        (told_act (set g d.0) c a.ts at (own g d.0 log) act (home_source g c d.0)
+        (data_step (set g d.0) (own g d.0 log) act (allowed_act g log (Does (D d) act) h.0))
+        (data_turns g a.ts c d.0 log h.1 sp) (sp.held a.ts d.0 (active_last g c d.0 log a h.1 small e))
+        i)) knows)
     | inr p ↦ apart (Does (D d) act) log a.ts k (ap (λ b. if b then Some (Did act) else None) p) knows
   ]
 
@@ -146,30 +165,47 @@ module _ (g : Given) (c : ℕ) (small : number_of (home g.catalogue c) ≤ 63) w
   fresh : (log : Log) → IsPermitted g log → (d : ℕ) → Knows (next_stamp s (mine log)) d log
   fresh log h d ns q t r =
       let sp = spoken g c log h small in
-      let silent = silent_with _ _ _ _ (sp.stages (next_stamp s (mine log)) d) ((home_turns g c log h sp).fresh (next_stamp s (mine log)) d (stamp_below_next s (mine log))) in
+      let silent = silent_with _ _ _ _ (sp.stages (next_stamp s (mine log)) d)
+      ((home_turns g c log h sp).fresh (next_stamp s (mine log)) d (stamp_below_next s (mine log))) in
       let x : Silent ≡ Told ns q = sym silent ∙ t in cc
 
-  begun : (log : Log) (q : Queued) → IsPermitted g log → head_of (queue s c (mine log)) ≡ Some q → AllTold (Does at (start_at s c (mine log) q) ∷ log) (active s c (Did (start_at s c (mine log) q) ∷ mine log))
+  begun : (log : Log) (q : Queued) → IsPermitted g log → head_of (queue s c (mine log)) ≡ Some q
+      → AllTold (Does at (start_at s c (mine log) q) ∷ log)
+      (active s c (Did (start_at s c (mine log) q) ∷ mine log))
   begun log q h e =
       let act : Act = start_at s c (mine log) q in
-      let is : active s c (Did act ∷ mine log) ≡ started (next_stamp s (mine log)) (sends_of_act act) (Some q) = rw (same_number c) (ap (started (next_stamp s (mine log)) (sends_of_act act)) e) in
+      let is : active s c (Did act ∷ mine log) ≡ started (next_stamp s (mine log)) (sends_of_act act)
+      (Some q) = rw (same_number c) (ap (started (next_stamp s (mine log)) (sends_of_act act)) e) in
       subst (AllTold (Does at act ∷ log)) (sym is) (λ d. home_act log act (next_stamp s (mine log)) d (fresh log h d))
 
-  started_by : (log : Log) (k : ℕ) (q : Queued) → IsPermitted g log → head_of (queue s k (mine log)) ≡ Some q → AllTold log (active s c (mine log)) → AllTold (Does at (start_at s k (mine log) q) ∷ log) (active s c (Did (start_at s k (mine log) q) ∷ mine log))
+  started_by : (log : Log) (k : ℕ) (q : Queued) → IsPermitted g log
+      → head_of (queue s k (mine log)) ≡ Some q → AllTold log (active s c (mine log))
+      → AllTold (Does at (start_at s k (mine log) q) ∷ log)
+      (active s c (Did (start_at s k (mine log) q) ∷ mine log))
   started_by log k q h e told = elim (same_or_not k c) [
-    | inl p ↦ subst (λ j. head_of (queue s j (mine log)) ≡ Some q → AllTold (Does at (start_at s j (mine log) q) ∷ log) (active s c (Did (start_at s j (mine log) q) ∷ mine log))) (sym p) (λ f. begun log q h f) e
+    | inl p ↦ subst (λ j. head_of (queue s j (mine log)) ≡ Some q
+        → AllTold (Does at (start_at s j (mine log) q) ∷ log)
+        (active s c (Did (start_at s j (mine log) q) ∷ mine log))) (sym p) (λ f. begun log q h f) e
     | inr p ↦
-        subst (AllTold (Does at (start_at s k (mine log) q) ∷ log)) (ap (λ b. if b then started (next_stamp s (mine log)) (sends_of_act (start_at s k (mine log) q)) (head_of (queue s c (mine log))) else active s c (mine log)) (sym p))
+        subst (AllTold (Does at (start_at s k (mine log) q) ∷ log))
+        (ap (λ b. if b then started (next_stamp s (mine log)) (sends_of_act (start_at s k (mine log) q))
+        (head_of (queue s c (mine log))) else active s c (mine log)) (sym p))
         (told_on (Does at (start_at s k (mine log) q)) log (active s c (mine log)) (λ a i d. home_act log (start_at s k (mine log) q) a.ts d) told)
   ]
 
-  committed_by : (log : Log) (k : ℕ) (bases : Bases) (a : Attempt) → AllTold log (active s c (mine log)) → AllTold (Does at (commit_act s.catalogue bases k a) ∷ log) (active s c (Did (commit_act s.catalogue bases k a) ∷ mine log))
-  committed_by log k bases a told = elim (k == c) as (λ b. AllTold (Does at (commit_act s.catalogue bases k a) ∷ log) (if b then None else active s c (mine log))) [
-    | true ↦ tt
-    | false ↦ told_on (Does at (commit_act s.catalogue bases k a)) log (active s c (mine log)) (λ b i d. home_act log (commit_act s.catalogue bases k a) b.ts d) told
-  ]
+  committed_by : (log : Log) (k : ℕ) (bases : Bases) (a : Attempt) → AllTold log (active s c (mine log))
+      → AllTold (Does at (commit_act s.catalogue bases k a) ∷ log)
+      (active s c (Did (commit_act s.catalogue bases k a) ∷ mine log))
+  committed_by log k bases a told =
+      elim (k == c) as (λ b. AllTold (Does at (commit_act s.catalogue bases k a) ∷ log)
+      (if b then None else active s c (mine log))) [
+        | true ↦ tt
+        | false ↦ told_on (Does at (commit_act s.catalogue bases k a)) log (active s c (mine log))
+            (λ b i d. home_act log (commit_act s.catalogue bases k a) b.ts d) told
+      ]
 
-  acted_home : (log : Log) (act : Act) → IsPermitted g (Does at act ∷ log) → AllTold log (active s c (mine log)) → AllTold (Does at act ∷ log) (active s c (Did act ∷ mine log))
+  acted_home : (log : Log) (act : Act) → IsPermitted g (Does at act ∷ log)
+      → AllTold log (active s c (mine log)) → AllTold (Does at act ∷ log) (active s c (Did act ∷ mine log))
   acted_home log act h told =
       let step = (subst (λ l. Each (IsFair s) l) (own_act g at act log) (home_fair g c (Does at act ∷ log) h)).0 in
       step_way s (mine log) act (λ x. AllTold (Does at x ∷ log) (active s c (Did x ∷ mine log)))
@@ -183,36 +219,64 @@ module _ (g : Given) (c : ℕ) (small : number_of (home g.catalogue c) ≤ 63) w
   home_same : (e : Entry) (log : Log) → made g at log e ≡ None → active s c (mine (e ∷ log)) ≡ active s c (mine log)
   home_same e log m = ap (active s c) (local_step g at e log ∙ ap (λ o. with_made o (mine log)) m)
 
-  by_hand : (log : Log) (from to : Site) (n : ℕ) (m : Msg) → AllTold log (active s c (mine log)) → IsPermitted g (Hand from to n m ∷ log) → (b : Bool) → same_site at to ≡ b → AllTold (Hand from to n m ∷ log) (active s c (mine (Hand from to n m ∷ log)))
+  by_hand : (log : Log) (from to : Site) (n : ℕ) (m : Msg) → AllTold log (active s c (mine log))
+      → IsPermitted g (Hand from to n m ∷ log) → (b : Bool) → same_site at to ≡ b
+      → AllTold (Hand from to n m ∷ log) (active s c (mine (Hand from to n m ∷ log)))
   by_hand log from to n m told hand true e =
-      let here : mine (Hand from at n m ∷ log) ≡ Handed from m ∷ mine log = local_step g at (Hand from at n m) log ∙ ap (λ b. with_made (if b then Some (Handed from m) else None) (mine log)) (site_self at) in
+      let here : mine (Hand from at n m ∷ log) ≡ Handed from m ∷ mine log =
+      local_step g at (Hand from at n m) log
+      ∙ ap (λ b. with_made (if b then Some (Handed from m) else None) (mine log)) (site_self at) in
       subst (λ x. AllTold (Hand from x n m ∷ log) (active s c (mine (Hand from x n m ∷ log)))) (site_is at to e)
       (subst (λ l. AllTold (Hand from at n m ∷ log) (active s c l)) (sym here)
       (told_on (Hand from at n m) log (active_handed c from m (active s c (mine log))) (λ a i d. home_hand log from n m a.ts d)
       (handed_way (AllTold log) c from m (active s c (mine log)) tt (λ a x i. subst (AllTold log) i told) told)))
   by_hand log from (D d) n m told hand false e =
-      subst (AllTold (Hand from (D d) n m ∷ log)) (sym (home_same (Hand from (D d) n m) log (ap (λ b. if b then Some (Handed from m) else None) e))) (told_on (Hand from (D d) n m) log (active s c (mine log)) (λ a i k. module_hand log from d n m a.ts hand k) told)
+      subst (AllTold (Hand from (D d) n m ∷ log))
+      (sym (home_same (Hand from (D d) n m) log (ap (λ b. if b then Some (Handed from m) else None) e)))
+      (told_on (Hand from (D d) n m) log (active s c (mine log))
+      (λ a i k. module_hand log from d n m a.ts hand k) told)
   by_hand log from U n m told hand false e =
-      subst (AllTold (Hand from U n m ∷ log)) (sym (home_same (Hand from U n m) log (ap (λ b. if b then Some (Handed from m) else None) e))) (told_on (Hand from U n m) log (active s c (mine log)) (λ a i k. apart (Hand from U n m) log a.ts k refl) told)
+      subst (AllTold (Hand from U n m ∷ log))
+      (sym (home_same (Hand from U n m) log (ap (λ b. if b then Some (Handed from m) else None) e)))
+      (told_on (Hand from U n m) log (active s c (mine log))
+      (λ a i k. apart (Hand from U n m) log a.ts k refl) told)
   by_hand log from (T t) n m told hand false e =
-      subst (AllTold (Hand from (T t) n m ∷ log)) (sym (home_same (Hand from (T t) n m) log (ap (λ b. if b then Some (Handed from m) else None) e))) (told_on (Hand from (T t) n m) log (active s c (mine log)) (λ a i k. apart (Hand from (T t) n m) log a.ts k refl) told)
+      subst (AllTold (Hand from (T t) n m ∷ log))
+      (sym (home_same (Hand from (T t) n m) log (ap (λ b. if b then Some (Handed from m) else None) e)))
+      (told_on (Hand from (T t) n m) log (active s c (mine log))
+      (λ a i k. apart (Hand from (T t) n m) log a.ts k refl) told)
 
-  by_act : (log : Log) (by : Site) (act : Act) → AllTold log (active s c (mine log)) → IsPermitted g (Does by act ∷ log) → (b : Bool) → same_site at by ≡ b → AllTold (Does by act ∷ log) (active s c (mine (Does by act ∷ log)))
+  by_act : (log : Log) (by : Site) (act : Act) → AllTold log (active s c (mine log))
+      → IsPermitted g (Does by act ∷ log) → (b : Bool) → same_site at by ≡ b → AllTold (Does by act ∷ log)
+      (active s c (mine (Does by act ∷ log)))
   by_act log by act told hand true e =
       let P : Site → Type 0 = λ x. IsPermitted g (Does x act ∷ log) → AllTold (Does x act ∷ log) (active s c (mine (Does x act ∷ log))) in
       subst P (site_is at by e) (λ h. subst (λ l. AllTold (Does at act ∷ log) (active s c l)) (sym (own_act g at act log)) (acted_home log act h told)) hand
   by_act log (D d) act told hand false e =
-      subst (AllTold (Does (D d) act ∷ log)) (sym (home_same (Does (D d) act) log (ap (λ b. if b then Some (Did act) else None) e))) (told_on (Does (D d) act) log (active s c (mine log)) (λ a i k. module_act log d act a hand i k) told)
+      subst (AllTold (Does (D d) act ∷ log))
+      (sym (home_same (Does (D d) act) log (ap (λ b. if b then Some (Did act) else None) e)))
+      (told_on (Does (D d) act) log (active s c (mine log)) (λ a i k. module_act log d act a hand i k)
+      told)
   by_act log U act told hand false e =
-      subst (AllTold (Does U act ∷ log)) (sym (home_same (Does U act) log (ap (λ b. if b then Some (Did act) else None) e))) (told_on (Does U act) log (active s c (mine log)) (λ a i k. apart (Does U act) log a.ts k refl) told)
+      subst (AllTold (Does U act ∷ log))
+      (sym (home_same (Does U act) log (ap (λ b. if b then Some (Did act) else None) e)))
+      (told_on (Does U act) log (active s c (mine log)) (λ a i k. apart (Does U act) log a.ts k refl)
+      told)
   by_act log (T t) act told hand false e =
-      subst (AllTold (Does (T t) act ∷ log)) (sym (home_same (Does (T t) act) log (ap (λ b. if b then Some (Did act) else None) e))) (told_on (Does (T t) act) log (active s c (mine log)) (λ a i k. apart (Does (T t) act) log a.ts k refl) told)
+      subst (AllTold (Does (T t) act ∷ log))
+      (sym (home_same (Does (T t) act) log (ap (λ b. if b then Some (Did act) else None) e)))
+      (told_on (Does (T t) act) log (active s c (mine log))
+      (λ a i k. apart (Does (T t) act) log a.ts k refl) told)
 
   by_still : (log : Log) (e : Entry) → IsStillEntry e → AllTold log (active s c (mine log)) → AllTold (e ∷ log) (active s c (mine (e ∷ log)))
   by_still log e still told =
-      let same : active s c (mine (e ∷ log)) ≡ active s c (mine log) = ap (active s c) (local_step g at e log) ∙ still_active s c (made g at log e) (mine log) (made_still g at log e still) in
+      let same : active s c (mine (e ∷ log)) ≡ active s c (mine log) =
+      ap (active s c) (local_step g at e log) ∙ still_active s c (made g at log e) (mine log)
+      (made_still g at log e still) in
       subst (AllTold (e ∷ log)) (sym same)
-      (told_on e log (active s c (mine log)) (λ a i d k. subst (KnowsTold (set g d) c a.ts at) (sym (local_step g (D (dm_no d)) e log)) (told_quiet (set g d) c a.ts at (made g (D (dm_no d)) log e) (own g d log) (made_still g (D (dm_no d)) log e still) k)) told)
+      (told_on e log (active s c (mine log)) (λ a i d k. subst (KnowsTold (set g d) c a.ts at)
+      (sym (local_step g (D (dm_no d)) e log)) (told_quiet (set g d) c a.ts at
+      (made g (D (dm_no d)) log e) (own g d log) (made_still g (D (dm_no d)) log e still) k)) told)
 
   none_first : active s c (mine []) ≡ None
   none_first = if_way (λ x. active (setting_of g x) c (beginning g x) ≡ None) (c == 0) U (T (tm_no (class_at g.catalogue c).tm.0)) refl refl
@@ -228,12 +292,18 @@ module _ (g : Given) (c : ℕ) (small : number_of (home g.catalogue c) ≤ 63) w
   told_all (Notes ∷ log) h = by_still log Notes tt (told_all log h.1)
 
   -- the answers of a module that were put, and the one that is under way
-  answers_put : (ts : ℕ) (d : DmNo) (log : Log) (m : Msg) → answers ts c (flight g (D d) at log) ≡ m ∷ [] → answers ts c (puts_to at (own g d.0 log)) ≡ answers ts c (take (handed (D d) at log) (puts_to at (own g d.0 log))) ++ m ∷ []
+  answers_put : (ts : ℕ) (d : DmNo) (log : Log) (m : Msg) → answers ts c (flight g (D d) at log) ≡ m ∷ []
+      → answers ts c (puts_to at (own g d.0 log)) ≡ answers ts c
+      (take (handed (D d) at log) (puts_to at (own g d.0 log))) ++ m ∷ []
   answers_put ts d log m e =
       let ms : List Msg = puts_to at (own g d.0 log) in
-      ap (answers ts c) (sym (take-append-drop (handed (D d) at log) ms)) ∙ filter-append (is_answer ts c) (take (handed (D d) at log) ms) (drop (handed (D d) at log) ms) ∙ ap (λ l. answers ts c (take (handed (D d) at log) ms) ++ l) e
+      ap (answers ts c) (sym (take-append-drop (handed (D d) at log) ms)) ∙ filter-append (is_answer ts c)
+      (take (handed (D d) at log) ms) (drop (handed (D d) at log) ms)
+      ∙ ap (λ l. answers ts c (take (handed (D d) at log) ms) ++ l) e
 
-  answered : (log : Log) (a : Attempt) → IsPermitted g log → active s c (mine log) ≡ Some a → (d : DmNo) (n : ℕ) (m : Msg) → IsPermitted g (Hand (D d) at n m ∷ log) → is_answer a.ts c m ≡ true → IsAnswered (turn_at a.ts c d.0 (mine log)) (kept (set g d.0) c a.ts (own g d.0 log)) m
+  answered : (log : Log) (a : Attempt) → IsPermitted g log → active s c (mine log) ≡ Some a
+      → (d : DmNo) (n : ℕ) (m : Msg) → IsPermitted g (Hand (D d) at n m ∷ log) → is_answer a.ts c m ≡ true
+      → IsAnswered (turn_at a.ts c d.0 (mine log)) (kept (set g d.0) c a.ts (own g d.0 log)) m
   answered log a h e d n m hand own_answer =
       let st = answer_stands g c log d n m a.ts h small hand.0 own_answer in
       record {
@@ -242,9 +312,13 @@ module _ (g : Given) (c : ℕ) (small : number_of (home g.catalogue c) ≤ 63) w
         is = st.asks;
         replies = st.replies;
         tells = λ r.
-            let turn : turn_with a.ts c at (own g d.0 log) ≡ Told st.uses st.question = st.tells ∙ told_is (Asks st.uses st.question) st.uses st.question m refl (no_refusal st.uses st.question m r st.replies) in
+            let turn : turn_with a.ts c at (own g d.0 log) ≡ Told st.uses st.question =
+            st.tells ∙ told_is (Asks st.uses st.question) st.uses st.question m refl
+            (no_refusal st.uses st.question m r st.replies) in
             let k = subst (AllTold log) e (told_all log h) d.0 st.uses st.question turn r in
-            let same : k.answer ≡ m = last_same k.front (answers a.ts c (take (handed (D d) at log) (puts_to at (own g d.0 log)))) k.answer m (sym k.last ∙ answers_put a.ts d log m st.alone) in
+            let same : k.answer ≡ m = last_same k.front
+            (answers a.ts c (take (handed (D d) at log) (puts_to at (own g d.0 log)))) k.answer m
+            (sym k.last ∙ answers_put a.ts d log m st.alone) in
             (k.rows, k.kept_is, subst (λ x. Tells st.question x k.rows) same k.tells);
       }
 
@@ -254,6 +328,8 @@ module _ (g : Given) (c : ℕ) (small : number_of (home g.catalogue c) ≤ 63) w
       record {
         stands = λ d. (subst (λ o. AtTurn a.ts d o (turn_at a.ts c d (mine log))) e ((home_turns g c log h sp).turns a.ts d)).0 refl;
         asks = subst (AllAskPhase c (mine log)) e (asks_phase s c (mine log) (home_fair g c log h) (home_first g c log h) sp.timely_at);
-        question = λ from d n m hand q. question_stands g c log d n m a.ts h small (subst (λ x. IsAllowed g log (Hand x (D d) n m)) (question_from log from d n m a.ts hand q) hand.0) q;
+        question = λ from d n m hand q. question_stands g c log d n m a.ts h small
+            (subst (λ x. IsAllowed g log (Hand x (D d) n m)) (question_from log from d n m a.ts hand q)
+            hand.0) q;
         answer = λ d n m hand own_answer. answered log a h e d n m hand own_answer;
       }

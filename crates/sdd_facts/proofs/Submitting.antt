@@ -88,9 +88,13 @@ forced_is g t [] = refl
 forced_is g t (Mark e ∷ log) = tick_forced g (redeclares log) t e (local_of g (T t) log) (forced_is g t log)
 forced_is g t (Redeclares u ∷ log) = refl
 forced_is g t (Hand a b n m ∷ log) =
-    if_way (IsForced g (redeclares log) t) (same_site (T t) b) (Handed a m ∷ local_of g (T t) log) (local_of g (T t) log) (forced_is g t log) (forced_is g t log)
+    if_way (IsForced g (redeclares log) t) (same_site (T t) b) (Handed a m ∷ local_of g (T t) log)
+    (local_of g (T t) log) (forced_is g t log) (forced_is g t log)
 forced_is g t (Submitted at n ∷ log) =
-    if_way (IsForced g (redeclares log) t) (same_site (T t) at) (with_submit n (txn_at g n) (local_of g (T t) log)) (local_of g (T t) log) (submit_forced g (redeclares log) t n (txn_at g n) (local_of g (T t) log) (forced_is g t log)) (forced_is g t log)
+    if_way (IsForced g (redeclares log) t) (same_site (T t) at)
+    (with_submit n (txn_at g n) (local_of g (T t) log)) (local_of g (T t) log)
+    (submit_forced g (redeclares log) t n (txn_at g n) (local_of g (T t) log) (forced_is g t log))
+    (forced_is g t log)
 forced_is g t (Does by act ∷ log) =
     if_way (IsForced g (redeclares log) t) (same_site (T t) by) (Did act ∷ local_of g (T t) log) (local_of g (T t) log) (forced_is g t log) (forced_is g t log)
 forced_is g t (Round es ∷ log) = forced_is g t log
@@ -105,7 +109,9 @@ home_t false k t e = (refl, e)
 pub declared_here : (g : Given) (log : Log) (t : TmNo) (n : ℕ) (txn : Txn) → IsSmall g → IsLawful g log → next g log ≡ Some (Submitted (T t) n)
     → txn_at g n ≡ Some txn → (T t ≡ T txn.tm) × (class_for (in_force (setting_of g (T t)) (local_of g (T t) log)).catalogue txn ≢ 0)
 declared_here g log t n txn s l e f =
-    let h : T t ≡ home_of (force_at g (redeclares log)).catalogue (Some txn) = subst (λ o. T t ≡ home_of (force_at g (redeclares log)).catalogue o) f (at_home g log (T t) n s l e) in
+    let h : T t ≡ home_of (force_at g (redeclares log)).catalogue (Some txn) =
+    subst (λ o. T t ≡ home_of (force_at g (redeclares log)).catalogue o) f (at_home g log (T t) n s l e)
+    in
     let r = home_t (class_for (force_at g (redeclares log)).catalogue txn == 0) txn.tm t h in (
       r.1,
       λ z. (let q : class_for (force_at g (redeclares log)).catalogue txn ≡ 0 = ap (λ (x : Force). class_for x.catalogue txn) (sym (forced_is g t log)) ∙ z in

@@ -55,7 +55,9 @@ reads_left : (ts c k : ℕ) (r : Rec) (sends : List (Site × Msg)) (log : Log) (
     → filter (is_read ts c) (pipe c (Did (Records k r sends) ∷ log)).unprocessed ≡ filter (is_read ts c) (pipe c log).unprocessed
 reads_left ts c k r sends log m p h e = elim (same_or_not k c) [
   | inl q ↦ subst (λ j. filter (is_read ts c) (pipe j (Did (Records k r sends) ∷ log)).unprocessed ≡ filter (is_read ts c) (pipe j log).unprocessed) q
-      (ap (filter (is_read ts c)) (own_taken k r sends log p) ∙ sym (ap (filter (is_read ts c)) (head_rest_of (pipe k log).unprocessed m h) ∙ not_first (is_read ts c) m (tail_of (pipe k log).unprocessed) e))
+      (ap (filter (is_read ts c)) (own_taken k r sends log p)
+      ∙ sym (ap (filter (is_read ts c)) (head_rest_of (pipe k log).unprocessed m h)
+      ∙ not_first (is_read ts c) m (tail_of (pipe k log).unprocessed) e))
   | inr q ↦ ap (λ (x : Pipe). filter (is_read ts c) x.unprocessed) (not_own c k r sends log (inl q)).pipe_same
 ]
 
@@ -69,10 +71,11 @@ reads_one : (ts c : ℕ) (v : Turn) (m : Msg) (rest : List Msg) → m ∷ rest �
 reads_one ts c Silent m rest e = cc
 reads_one ts c (Told ns q) m rest e = cc
 reads_one ts c Refused m rest e = cc
-reads_one ts c (Asks ns q) m rest e = elim (is_read ts c q) as (λ b. m ∷ rest ≡ (if b then q ∷ [] else []) → (ms : List ℕ) × (Asks ns q ≡ Asks ms m) × (rest ≡ [])) [
-  | true ↦ λ f. (let p : m ≡ q = cc in let r : rest ≡ [] = cc in (ns, ap (λ x. Asks ns x) (sym p), r))
-  | false ↦ λ f. cc
-] e
+reads_one ts c (Asks ns q) m rest e = elim (is_read ts c q) as (λ b. m ∷ rest ≡ (if b then q ∷ [] else [])
+    → (ms : List ℕ) × (Asks ns q ≡ Asks ms m) × (rest ≡ [])) [
+      | true ↦ λ f. (let p : m ≡ q = cc in let r : rest ≡ [] = cc in (ns, ap (λ x. Asks ns x) (sym p), r))
+      | false ↦ λ f. cc
+    ] e
 
 -- the READ of the attempt at a head
 pub record IsReadNext (ts c : ℕ) (log : Log) (k : ℕ) (v : Turn) (m : Msg) : Type 0 where
@@ -111,17 +114,32 @@ turn_read ts c at log k r m x src p same e through f home h =
           (let w = read_next ts c at log k v m h e through q in
           let here : same_site at src ≡ true = subst (λ s. same_site at s ≡ true) (sym (home w.class_is)) (site_self at) in
           let now : turn_with ts c at (Did act ∷ log) ≡ (if is_a_refusal x then Refused else Told w.uses m) =
-          turn_is ∙ ap (λ (b : Bool). if same_site at src && b then told x v else v) q ∙ ap (λ (b : Bool). if b && true then told x v else v) here ∙ ap (told x) w.is in
-          let taken : pipe c (Did act ∷ log) ≡ head_processed (pipe c log) = subst (λ j. pipe j (Did act ∷ log) ≡ head_processed (pipe j log)) w.class_is (own_record k r ((src, x) ∷ []) log p).0 in
+          turn_is ∙ ap (λ (b : Bool). if same_site at src && b then told x v else v) q
+          ∙ ap (λ (b : Bool). if b && true then told x v else v) here ∙ ap (told x) w.is in
+          let taken : pipe c (Did act ∷ log) ≡ head_processed (pipe c log) =
+          subst (λ j. pipe j (Did act ∷ log) ≡ head_processed (pipe j log)) w.class_is
+          (own_record k r ((src, x) ∷ []) log p).0 in
           let at_head : head (pipe c log) ≡ Some m = subst (λ j. head (pipe j log) ≡ Some m) w.class_is e in
-          let done : (pipe c (Did act ∷ log)).processed ≡ (pipe c log).processed ++ m ∷ [] = ap (λ (y : Pipe). y.processed) taken ∙ processed_more (pipe c log) m at_head in
+          let done : (pipe c (Did act ∷ log)).processed ≡ (pipe c log).processed ++ m ∷ [] =
+          ap (λ (y : Pipe). y.processed) taken ∙ processed_more (pipe c log) m at_head in
           subst (λ y. HasTurn ts c at (opens (Did act ∷ log)) (pipe c (Did act ∷ log)) y) (sym now)
           (ended_turn ts c at (opens (Did act ∷ log)) (pipe c (Did act ∷ log)) (is_a_refusal x) w.uses m
-          (ap (λ l. map asker (filter (asks_open ts c) l)) same ∙ h.rows_are ∙ ap (λ y. map (from_site at) (rows_asked ts c y)) w.is ∙ ap (λ (b : Bool). map (from_site at) (if b then m ∷ [] else [])) (read_asks_none ts c m (read_is_a_read ts c m q)))
+          (ap (λ l. map asker (filter (asks_open ts c) l)) same ∙ h.rows_are
+          ∙ ap (λ y. map (from_site at) (rows_asked ts c y)) w.is
+          ∙ ap (λ (b : Bool). map (from_site at) (if b then m ∷ [] else []))
+          (read_asks_none ts c m (read_is_a_read ts c m q)))
           (ap (λ (y : Pipe). filter (is_read ts c) y.unprocessed) taken ∙ w.last)
-          (record { place = length (pipe c log).processed; read = m; there = subst (λ l. slice_get l (length (pipe c log).processed) ≡ Some m) (sym done) (at_seam (pipe c log).processed [] m); is = q })))
+          (record {
+            place = length (pipe c log).processed;
+            read = m;
+            there =
+                subst (λ l. slice_get l (length (pipe c log).processed) ≡ Some m) (sym done)
+                (at_seam (pipe c log).processed [] m);
+            is = q;
+          })))
       | false ↦ λ q. turn_still ts c at log act
-          (turn_is ∙ ap (λ (b : Bool). if same_site at src && b then told x v else v) q ∙ ap (λ (b : Bool). if b then told x v else v) (and_no (same_site at src)))
+          (turn_is ∙ ap (λ (b : Bool). if same_site at src && b then told x v else v) q
+          ∙ ap (λ (b : Bool). if b then told x v else v) (and_no (same_site at src)))
           (ap (filter (asks_open ts c)) same) (reads_left ts c k r ((src, x) ∷ []) log m p e q) h
     ] refl
 
@@ -132,7 +150,9 @@ pub asks_no_answer : (ts c : ℕ) (at : Site) (f : Cond → Site × Msg) (ds : L
 asks_no_answer ts c at f [] h = refl
 asks_no_answer ts c at f (d ∷ ds) h =
     if_way (λ l. answers ts c l ≡ []) (same_site at (f d).0) ((f d).1 ∷ to_site at (map f ds)) (to_site at (map f ds))
-    (ap (λ (b : Bool). cond b ((f d).1 ∷ answers ts c (to_site at (map f ds))) (answers ts c (to_site at (map f ds)))) (h d) ∙ asks_no_answer ts c at f ds h) (asks_no_answer ts c at f ds h)
+    (ap (λ (b : Bool). cond b ((f d).1 ∷ answers ts c (to_site at (map f ds)))
+    (answers ts c (to_site at (map f ds)))) (h d) ∙ asks_no_answer ts c at f ds h)
+    (asks_no_answer ts c at f ds h)
 
 pub done_no_answer : (ts c : ℕ) (at : Site) (k : ℕ) (t : Ts) → answers ts c (to_site at (done_for k (Done t))) ≡ []
 done_no_answer ts c at k t =
@@ -190,13 +210,19 @@ turn_act : (s : Setting) (ts c : ℕ) (at : Site) (log : Log) (act : Act) → Is
 turn_act s ts c at log act home i h = data_step_way s log act (λ x. HasTurnAt ts c at (Did x ∷ log))
     (λ k txn attempt. turn_arrives ts c at log k txn attempt (home_of s).dm h)
     (λ k o m e r. turn_replies ts c at log (frozen s k log) k o m e r h)
-    (λ k t j txn attempt conds uses l e. turn_read ts c at log k (Answer txn attempt (home_of s).dm) (Read t j txn attempt conds uses) (Ready t j (counts_told s log t.0 uses)) (source_of (home_of s) k) refl refl e (head_through k log _ e) refl
+    (λ k t j txn attempt conds uses l e. turn_read ts c at log k (Answer txn attempt (home_of s).dm)
+    (Read t j txn attempt conds uses) (Ready t j (counts_told s log t.0 uses))
+    (source_of (home_of s) k) refl refl e (head_through k log _ e) refl
     (λ q. subst (λ n. source_of (home_of s) n ≡ at) (sym q) (home (subst (IsClassHere s) q l))) h)
-    (λ k t j txn attempt conds uses by write l e. turn_read ts c at log k (Rejected txn attempt (home_of s).dm by write) (Read t j txn attempt conds uses) (Reject t j by write) (source_of (home_of s) k) refl refl e (head_through k log _ e) refl
+    (λ k t j txn attempt conds uses by write l e. turn_read ts c at log k
+    (Rejected txn attempt (home_of s).dm by write) (Read t j txn attempt conds uses) (Reject t j by write)
+    (source_of (home_of s) k) refl refl e (head_through k log _ e) refl
     (λ q. subst (λ n. source_of (home_of s) n ≡ at) (sym q) (home (subst (IsClassHere s) q l))) h)
     (λ k txn attempt ds. turn_still ts c at log (Records k (Wait txn attempt (home_of s).dm ds) (map (ask_for (home_of s)) ds))
     (ap (λ l. told_by l (turn_with ts c at log)) (asks_no_answer ts c at (ask_for (home_of s)) ds (λ d. refl))) refl
-    (ap (λ (p : Pipe). filter (is_read ts c) p.unprocessed) (not_own c k (Wait txn attempt (home_of s).dm ds) (map (ask_for (home_of s)) ds) log (inr refl)).pipe_same) h)
+    (ap (λ (p : Pipe). filter (is_read ts c) p.unprocessed)
+    (not_own c k (Wait txn attempt (home_of s).dm ds) (map (ask_for (home_of s)) ds) log
+    (inr refl)).pipe_same) h)
     (λ k t j txn changes e. turn_still ts c at log (Records k (Apply txn j (home_of s).dm t) (done_for k (Done t)))
     (ap (λ l. told_by l (turn_with ts c at log)) (done_no_answer ts c at k t)) refl
     (reads_left ts c k (Apply txn j (home_of s).dm t) (done_for k (Done t)) log (Write t j txn changes) refl e refl) h)

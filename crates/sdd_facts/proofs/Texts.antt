@@ -50,7 +50,13 @@ module _ (P : Txn → Type 0) where
   queued_so : (c : ℕ) (log : Log) (xs : List (ℕ × Txn)) → AreSo xs → TextsAre (filter_map (queued c log) xs)
   queued_so c log [] all = tt
   queued_so c log (x ∷ xs) all =
-      elim (is_committed c x.0 log) as (λ b. TextsAre (cons_option (if b then None else Some (record { number = x.0; text = x.1; tries = starts_of c x.0 log })) (filter_map (queued c log) xs))) [
+      elim (is_committed c x.0 log) as (λ b. TextsAre
+      (cons_option (if b then None else Some (record {
+        number = x.0;
+        text = x.1;
+        tries =
+            starts_of c x.0 log;
+      })) (filter_map (queued c log) xs))) [
         | true ↦ queued_so c log xs all.1
         | false ↦ (all.0, queued_so c log xs all.1)
       ]
@@ -60,13 +66,15 @@ module _ (P : Txn → Type 0) where
   served_so (Some b) [] a e h all = absurd h
   served_so (Some b) (q ∷ qs) a e h all = let same : b ≡ a = cc in subst (λ (x : Attempt). P x.text) same (subst P h.1 all.0)
 
-  pub active_so : (s : Setting) (c : ℕ) (log : Log) (a : Attempt) → Each (IsFair s) log → Each IsNew log → Each (SubmitHas P s c) log → active s c log ≡ Some a → P a.text
+  pub active_so : (s : Setting) (c : ℕ) (log : Log) (a : Attempt) → Each (IsFair s) log → Each IsNew log
+      → Each (SubmitHas P s c) log → active s c log ≡ Some a → P a.text
   active_so s c log a fair new so e =
       let k = queue_is s c log fair new in
       served_so (active s c log) (queue s c log) a e k.served (subst TextsAre (sym k.is) (queued_so c log (submits_of s c log) (submits_so s c log so)))
 
 -- all transactions that are given fit
-pub submitted_fit : (g : Given) → FitsGiven g → (at : Site) (c : ℕ) (log : whole.Log) → IsPermitted g log → Each (SubmitHas (FitsText g.catalogue) (setting_of g at) c) (local_of g at log)
+pub submitted_fit : (g : Given) → FitsGiven g → (at : Site) (c : ℕ) (log : whole.Log) → IsPermitted g log
+    → Each (SubmitHas (FitsText g.catalogue) (setting_of g at) c) (local_of g at log)
 submitted_fit g good at c = each_local g at (SubmitHas (FitsText g.catalogue) (setting_of g at) c) (record {
   handed = λ log p from n m a i. tt;
   ticked = λ log p n i. tt;

@@ -50,7 +50,9 @@ abbrev pub KnowsTold : Setting → ℕ → ℕ → Site → Log → Type 0
 KnowsTold s c ts at log = (ns : List ℕ) (q : Msg) → turn_with ts c at log ≡ Told ns q → is_a_read q ≡ false → IsTold s c ts at log q
 
 -- what leaves the turn, the rows and the answers leaves that
-pub told_still : (s : Setting) (c ts : ℕ) (at : Site) (log more : Log) → turn_with ts c at more ≡ turn_with ts c at log → kept s c ts more ≡ kept s c ts log → answers ts c (puts_to at more) ≡ answers ts c (puts_to at log)
+pub told_still : (s : Setting) (c ts : ℕ) (at : Site) (log more : Log)
+    → turn_with ts c at more ≡ turn_with ts c at log → kept s c ts more ≡ kept s c ts log
+    → answers ts c (puts_to at more) ≡ answers ts c (puts_to at log)
     → KnowsTold s c ts at log → KnowsTold s c ts at more
 told_still s c ts at log more t k p h ns q e r =
     let i = h ns q (sym t ∙ e) r in
@@ -69,13 +71,18 @@ module _ (s : Setting) (c ts : ℕ) (at : Site) (log : Log) where
   told_hand from m home h = elim (is_question ts c m) as (λ b. is_question ts c m ≡ b → KnowsTold s c ts at (Handed from m ∷ log)) [
     | true ↦ λ own ns q e r.
         let here : same_site at from ≡ true = ap (same_site at) (home own) ∙ site_self at in
-        let now : turn_with ts c at (Handed from m ∷ log) ≡ asked m v = asked_turn ts c at from m log ∙ ap (λ b. if b then asked m v else v) (both (same_site at from) (is_question ts c m) here own) in
+        let now : turn_with ts c at (Handed from m ∷ log) ≡ asked m v = asked_turn ts c at from m log
+        ∙ ap (λ b. if b then asked m v else v) (both (same_site at from) (is_question ts c m) here own) in
         asks_told m q v ns (sym now ∙ e)
     | false ↦ λ own.
-        let now : turn_with ts c at (Handed from m ∷ log) ≡ v = asked_turn ts c at from m log ∙ ap (λ b. if same_site at from && b then asked m v else v) own ∙ ap (λ b. if b then asked m v else v) (and_no (same_site at from)) in
+        let now : turn_with ts c at (Handed from m ∷ log) ≡ v = asked_turn ts c at from m log
+        ∙ ap (λ b. if same_site at from && b then asked m v else v) own
+        ∙ ap (λ b. if b then asked m v else v) (and_no (same_site at from)) in
         let keeps : kept s c ts (Handed from m ∷ log) ≡ kept s c ts log = elim (hand_keeps s c ts from m log) [
           | inl same ↦ same
-          | inr r ↦ never (is_question ts c m) (ap (is_question ts c) r.is ∙ both (r.t.0 == ts) (r.of.0 == c) (ap (λ x. x == ts) r.ts_is ∙ same_number ts) (ap (λ x. x == c) r.class_is ∙ same_number c)) own
+          | inr r ↦ never (is_question ts c m) (ap (is_question ts c) r.is ∙ both (r.t.0 == ts) (r.of.0 ==
+              c) (ap (λ x. x == ts) r.ts_is ∙ same_number ts) (ap (λ x. x == c) r.class_is ∙ same_number c))
+              own
         ] in
         told_still s c ts at log (Handed from m ∷ log) now keeps refl h
   ] refl
@@ -85,9 +92,12 @@ module _ (s : Setting) (c ts : ℕ) (at : Site) (log : Log) where
   more_answers : (act : Act) → answers ts c (puts_to at (Did act ∷ log)) ≡ answers ts c (puts_to at log) ++ answers ts c (to_site at (sends_of_act act))
   more_answers act = filter-append (is_answer ts c) (puts_to at log) (to_site at (sends_of_act act))
 
-  quiet_act : (act : Act) → answers ts c (to_site at (sends_of_act act)) ≡ [] → kept s c ts (Did act ∷ log) ≡ kept s c ts log → KnowsTold s c ts at log → KnowsTold s c ts at (Did act ∷ log)
+  quiet_act : (act : Act) → answers ts c (to_site at (sends_of_act act)) ≡ []
+      → kept s c ts (Did act ∷ log) ≡ kept s c ts log → KnowsTold s c ts at log
+      → KnowsTold s c ts at (Did act ∷ log)
   quiet_act act none keeps h =
-      told_still s c ts at log (Did act ∷ log) (ap (λ l. told_by l v) none) keeps (more_answers act ∙ ap (λ l. answers ts c (puts_to at log) ++ l) none ∙ append-nil _) h
+      told_still s c ts at log (Did act ∷ log) (ap (λ l. told_by l v) none) keeps (more_answers act
+      ∙ ap (λ l. answers ts c (puts_to at log) ++ l) none ∙ append-nil _) h
 
   one_sent : (to : Site) (m : Msg) → is_answer ts c m ≡ false → answers ts c (to_site at ((to, m) ∷ [])) ≡ []
   one_sent to m e = elim (same_site at to) as (λ b. answers ts c (if b then m ∷ [] else []) ≡ []) [ true ↦ ap (λ b. cond b (m ∷ []) []) e | false ↦ refl ]
@@ -95,7 +105,8 @@ module _ (s : Setting) (c ts : ℕ) (at : Site) (log : Log) where
   asked_class : (k : ℕ) (o : Option ℕ) (m : Msg) → is_number k o ≡ true → class_asked m ≡ o → asks_rows ts c m ≡ true → k ≡ c
   asked_class k None m n e a = cc
   asked_class k (Some j) (Fetch t f u col) n e a = let p : f.0 ≡ j = cc in sym (eqb-true j k n) ∙ sym p ∙ eqb-true f.0 c (and_right (t.0 == ts) (f.0 == c) a)
-  asked_class k (Some j) (Reduce t f u col vs) n e a = let p : f.0 ≡ j = cc in sym (eqb-true j k n) ∙ sym p ∙ eqb-true f.0 c (and_right (t.0 == ts) (f.0 == c) a)
+  asked_class k (Some j) (Reduce t f u col vs) n e a = let p : f.0 ≡ j = cc in sym (eqb-true j k n) ∙ sym p
+      ∙ eqb-true f.0 c (and_right (t.0 == ts) (f.0 == c) a)
   asked_class k (Some j) (Ship t f) n e a = let p : f.0 ≡ j = cc in sym (eqb-true j k n) ∙ sym p ∙ eqb-true f.0 c (and_right (t.0 == ts) (f.0 == c) a)
   asked_class k (Some j) m n e a = cc
 
@@ -110,15 +121,18 @@ module _ (s : Setting) (c ts : ℕ) (at : Site) (log : Log) where
 
   first_asked : (k : ℕ) (os : List Open) (o : Open) → head_of (filter (is_asked_of k) os) ≡ Some o → is_asked_of k o ≡ true
   first_asked k [] o e = cc
-  first_asked k (x ∷ os) o e = elim (is_asked_of k x) as (λ b. is_asked_of k x ≡ b → head_of (cond b (x ∷ filter (is_asked_of k) os) (filter (is_asked_of k) os)) ≡ Some o → is_asked_of k o ≡ true) [
-    | true ↦ λ p q. (let same : x ≡ o = cc in subst (λ y. is_asked_of k y ≡ true) same p)
-    | false ↦ λ p q. first_asked k os o q
-  ] refl e
+  first_asked k (x ∷ os) o e = elim (is_asked_of k x) as (λ b. is_asked_of k x ≡ b
+      → head_of (cond b (x ∷ filter (is_asked_of k) os) (filter (is_asked_of k) os)) ≡ Some o
+      → is_asked_of k o ≡ true) [
+        | true ↦ λ p q. (let same : x ≡ o = cc in subst (λ y. is_asked_of k y ≡ true) same p)
+        | false ↦ λ p q. first_asked k os o q
+      ] refl e
 
   told_same : (ns ms : List ℕ) (q m : Msg) → Told ns q ≡ Told ms m → q ≡ m
   told_same ns ms q m e = cc
 
-  replied : (k : ℕ) (o : Open) (m : Msg) → HasTurnAt ts c at log → IsHeldAt s ts c at log → head_of (filter (is_asked_of k) (opens log)) ≡ Some o → reply (frozen s k log) o.msg ≡ Some m
+  replied : (k : ℕ) (o : Open) (m : Msg) → HasTurnAt ts c at log → IsHeldAt s ts c at log
+      → head_of (filter (is_asked_of k) (opens log)) ≡ Some o → reply (frozen s k log) o.msg ≡ Some m
       → KnowsTold s c ts at log → KnowsTold s c ts at (Did (Sends o.from m (Some o.hand)) ∷ log)
   replied k o m has held e r h = elim (is_answer ts c m) as (λ b. is_answer ts c m ≡ b → KnowsTold s c ts at (Did (Sends o.from m (Some o.hand)) ∷ log)) [
     | false ↦ λ other. quiet_act (Sends o.from m (Some o.hand)) (one_sent o.from m other) (send_keeps s c ts o.from m (Some o.hand) log) h
@@ -128,7 +142,9 @@ module _ (s : Setting) (c ts : ℕ) (at : Site) (log : Log) where
         let class : k ≡ c = asked_class k (class_asked o.msg) o.msg (first_asked k (opens log) o e) refl asks in
         let here : same_site at o.from ≡ true = ap (same_site at) a.from_is ∙ site_self at in
         let now : turn_with ts c at (Did (Sends o.from m (Some o.hand)) ∷ log) ≡ Told a.uses o.msg =
-        told_turn ts c at o.from m (Some o.hand) log ∙ ap (λ b. if b then told m v else v) (both (same_site at o.from) (is_answer ts c m) here own) ∙ told_is v a.uses o.msg m a.is (reply_no_refusal (frozen s k log) o.msg m r) in
+        told_turn ts c at o.from m (Some o.hand) log ∙ ap (λ b. if b then told m v else v)
+        (both (same_site at o.from) (is_answer ts c m) here own) ∙ told_is v a.uses o.msg m a.is
+        (reply_no_refusal (frozen s k log) o.msg m r) in
         let same : o.msg ≡ q = told_same a.uses ns o.msg q (sym now ∙ t) in
         let uses : uses_held v ≡ Some a.uses = ap uses_held a.is ∙ ap (λ b. if b then None else Some a.uses) (asks_no_a_read ts c o.msg asks) in
         let f = held_rows a.uses (frozen s c log) (held a.uses uses) in
@@ -138,7 +154,8 @@ module _ (s : Setting) (c ts : ℕ) (at : Site) (log : Log) where
           kept_is = send_keeps s c ts o.from m (Some o.hand) log ∙ kept_now s c ts log f.0 f.1 f.2;
           answer = m;
           front = answers ts c (puts_to at log);
-          last = more_answers (Sends o.from m (Some o.hand)) ∙ ap (λ l. answers ts c (puts_to at log) ++ l) (ap (λ b. answers ts c (if b then m ∷ [] else [])) here ∙ ap (λ b. cond b (m ∷ []) []) own);
+          last = more_answers (Sends o.from m (Some o.hand)) ∙ ap (λ l. answers ts c (puts_to at log) ++ l)
+              (ap (λ b. answers ts c (if b then m ∷ [] else [])) here ∙ ap (λ b. cond b (m ∷ []) []) own);
           tells = subst (λ z. Tells z m f.0) same (reply_tells f.0 o.msg m is);
         }
   ] refl
@@ -147,8 +164,12 @@ module _ (s : Setting) (c ts : ℕ) (at : Site) (log : Log) where
   one_turn : (to : Site) (m : Msg) → told_by (answers ts c (to_site at ((to, m) ∷ []))) v ≡ (if same_site at to && is_answer ts c m then told m v else v)
   one_turn to m = told_one ts c (same_site at to) m v
 
-  read_answered : (k : ℕ) (t : Ts) (of : ClassNo) (txn : TxnNo) (attempt : ℕ) (conds : List Cond) (uses : List Use) → IsHomeOf s c at → HasTurnAt ts c at log → IsClassHere s k → head (pipe k log) ≡ Some (Read t of txn attempt conds uses)
-      → KnowsTold s c ts at log → KnowsTold s c ts at (Did (Records k (Answer txn attempt (home_of s).dm) ((source_of (home_of s) k, Ready t of (counts_told s log t.0 uses)) ∷ [])) ∷ log)
+  read_answered : (k : ℕ) (t : Ts) (of : ClassNo) (txn : TxnNo) (attempt : ℕ) (conds : List Cond)
+      (uses : List Use) → IsHomeOf s c at → HasTurnAt ts c at log → IsClassHere s k → head (pipe k log) ≡ Some
+      (Read t of txn attempt conds uses)
+      → KnowsTold s c ts at log → KnowsTold s c ts at
+      (Did (Records k (Answer txn attempt (home_of s).dm)
+      ((source_of (home_of s) k, Ready t of (counts_told s log t.0 uses)) ∷ [])) ∷ log)
   read_answered k t of txn attempt conds uses home has here e h =
       let read : Msg = Read t of txn attempt conds uses in
       let m : Msg = Ready t of (counts_told s log t.0 uses) in
@@ -158,18 +179,26 @@ module _ (s : Setting) (c ts : ℕ) (at : Site) (log : Log) where
             let n = read_next ts c at log k v read has e (head_through k log read e) own in
             let to : source_of (home_of s) k ≡ at = ap (source_of (home_of s)) n.class_is ∙ home (subst (IsClassHere s) n.class_is here) in
             let now : turn_with ts c at (Did act ∷ log) ≡ Told n.uses read =
-            one_turn (source_of (home_of s) k) m ∙ ap (λ b. if b then told m v else v) (both (same_site at (source_of (home_of s) k)) (is_answer ts c m) (ap (same_site at) to ∙ site_self at) own) ∙ told_is v n.uses read m n.is refl in
+            one_turn (source_of (home_of s) k) m ∙ ap (λ b. if b then told m v else v)
+            (both (same_site at (source_of (home_of s) k)) (is_answer ts c m) (ap (same_site at) to
+            ∙ site_self at) own) ∙ told_is v n.uses read m n.is refl in
             never (is_a_read q) (ap is_a_read (sym (told_same n.uses ns read q (sym now ∙ z)))) r
         | false ↦ λ other.
             quiet_act act (one_sent (source_of (home_of s) k) m other)
-            (other_answer_keeps s c ts k txn attempt (home_of s).dm ((source_of (home_of s) k, m) ∷ []) log t of txn attempt conds uses e (λ own. elim (t.0 == ts) as (λ b. (t.0 == ts) ≡ b → b ≡ false) [
-              | true ↦ λ mine. never (is_read ts c read) (both (t.0 == ts) (of.0 == c) mine (subst (λ j. (of.0 == j) ≡ true) own (head_through k log read e))) other
+            (other_answer_keeps s c ts k txn attempt (home_of s).dm ((source_of (home_of s) k, m) ∷ []) log
+            t of txn attempt conds uses e (λ own. elim (t.0 == ts) as (λ b. (t.0 == ts) ≡ b → b ≡ false) [
+              | true ↦ λ mine. never (is_read ts c read) (both (t.0 == ts) (of.0 ==
+                  c) mine (subst (λ j. (of.0 == j) ≡ true) own (head_through k log read e))) other
               | false ↦ λ mine. refl
             ] refl)) h
       ] refl
 
-  read_refused : (k : ℕ) (t : Ts) (of : ClassNo) (txn : TxnNo) (attempt : ℕ) (conds : List Cond) (uses : List Use) (by : ClassNo) (write : Ts) → IsHomeOf s c at → HasTurnAt ts c at log → IsClassHere s k → head (pipe k log) ≡ Some (Read t of txn attempt conds uses)
-      → KnowsTold s c ts at log → KnowsTold s c ts at (Did (Records k (Rejected txn attempt (home_of s).dm by write) ((source_of (home_of s) k, Reject t of by write) ∷ [])) ∷ log)
+  read_refused : (k : ℕ) (t : Ts) (of : ClassNo) (txn : TxnNo) (attempt : ℕ) (conds : List Cond)
+      (uses : List Use) (by : ClassNo) (write : Ts) → IsHomeOf s c at → HasTurnAt ts c at log
+      → IsClassHere s k → head (pipe k log) ≡ Some (Read t of txn attempt conds uses)
+      → KnowsTold s c ts at log → KnowsTold s c ts at
+      (Did (Records k (Rejected txn attempt (home_of s).dm by write)
+      ((source_of (home_of s) k, Reject t of by write) ∷ [])) ∷ log)
   read_refused k t of txn attempt conds uses by write home has here e h =
       let read : Msg = Read t of txn attempt conds uses in
       let m : Msg = Reject t of by write in
@@ -179,17 +208,28 @@ module _ (s : Setting) (c ts : ℕ) (at : Site) (log : Log) where
             let n = read_next ts c at log k v read has e (head_through k log read e) own in
             let to : source_of (home_of s) k ≡ at = ap (source_of (home_of s)) n.class_is ∙ home (subst (IsClassHere s) n.class_is here) in
             let now : turn_with ts c at (Did act ∷ log) ≡ Refused =
-            one_turn (source_of (home_of s) k) m ∙ ap (λ b. if b then told m v else v) (both (same_site at (source_of (home_of s) k)) (is_answer ts c m) (ap (same_site at) to ∙ site_self at) own) ∙ ap (told m) n.is in
+            one_turn (source_of (home_of s) k) m ∙ ap (λ b. if b then told m v else v)
+            (both (same_site at (source_of (home_of s) k)) (is_answer ts c m) (ap (same_site at) to
+            ∙ site_self at) own) ∙ ap (told m) n.is in
             (let x : Refused ≡ Told ns q = sym now ∙ z in cc)
-        | false ↦ λ other. quiet_act act (one_sent (source_of (home_of s) k) m other) (record_keeps s c ts k (Rejected txn attempt (home_of s).dm by write) ((source_of (home_of s) k, m) ∷ []) log refl) h
+        | false ↦ λ other. quiet_act act (one_sent (source_of (home_of s) k) m other)
+            (record_keeps s c ts k (Rejected txn attempt (home_of s).dm by write)
+            ((source_of (home_of s) k, m) ∷ []) log refl) h
       ] refl
 
-  pub told_act : (act : Act) → IsHomeOf s c at → IsDataStep s log act → HasTurnAt ts c at log → IsHeldAt s ts c at log → KnowsTold s c ts at log → KnowsTold s c ts at (Did act ∷ log)
+  pub told_act : (act : Act) → IsHomeOf s c at → IsDataStep s log act → HasTurnAt ts c at log
+      → IsHeldAt s ts c at log → KnowsTold s c ts at log → KnowsTold s c ts at (Did act ∷ log)
   told_act act home step has held h = data_step_way s log act (λ x. KnowsTold s c ts at (Did x ∷ log))
-      (λ k txn attempt. quiet_act (Records k (Arrive txn attempt (home_of s).dm) []) refl (record_keeps s c ts k (Arrive txn attempt (home_of s).dm) [] log refl) h)
+      (λ k txn attempt. quiet_act (Records k (Arrive txn attempt (home_of s).dm) []) refl
+      (record_keeps s c ts k (Arrive txn attempt (home_of s).dm) [] log refl) h)
       (λ k o m e r. replied k o m has held e r h)
       (λ k t of txn attempt conds uses here e. read_answered k t of txn attempt conds uses home has here e h)
       (λ k t of txn attempt conds uses by write here e. read_refused k t of txn attempt conds uses by write home has here e h)
-      (λ k txn attempt ds. quiet_act (Records k (Wait txn attempt (home_of s).dm ds) (map (ask_for (home_of s)) ds)) (asks_no_answer ts c at (ask_for (home_of s)) ds (λ d. refl)) (record_keeps s c ts k (Wait txn attempt (home_of s).dm ds) (map (ask_for (home_of s)) ds) log refl) h)
-      (λ k t of txn changes e. quiet_act (Records k (Apply txn of (home_of s).dm t) (done_for k (Done t))) (done_no_answer ts c at k t) (record_keeps s c ts k (Apply txn of (home_of s).dm t) (done_for k (Done t)) log refl) h)
+      (λ k txn attempt ds. quiet_act (Records k (Wait txn attempt (home_of s).dm ds)
+      (map (ask_for (home_of s)) ds)) (asks_no_answer ts c at (ask_for (home_of s)) ds (λ d. refl))
+      (record_keeps s c ts k (Wait txn attempt (home_of s).dm ds) (map (ask_for (home_of s)) ds) log refl)
+      h)
+      (λ k t of txn changes e. quiet_act (Records k (Apply txn of (home_of s).dm t) (done_for k (Done t)))
+      (done_no_answer ts c at k t) (record_keeps s c ts k (Apply txn of (home_of s).dm t)
+      (done_for k (Done t)) log refl) h)
       (λ k of time e. quiet_act (Records k (Pass of (home_of s).dm time) []) refl (record_keeps s c ts k (Pass of (home_of s).dm time) [] log refl) h) step

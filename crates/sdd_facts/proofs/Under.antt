@@ -108,8 +108,11 @@ put_low h k b (Some (Did act)) m = m.1 b
 under_more : (g : Given) (h k : ℕ) (e : Entry) (log : Log) → h ≤ k → IsUnder g h log → ((at : Site) → MayGrow h k (made g at log e))
     → IsUnder g k (e ∷ log)
 under_more g h k e log u i m = record {
-  clocks = λ at. subst (λ l. (clock at l).ticks ≤ k) (sym (local_step g at e log)) (clock_le at h k (made g at log e) (local_of g at log) u (i.clocks at) (m at));
-  puts = λ a b. subst (AllLow k) (sym (puts_grow g a b e log)) (all_low_join k (puts_to b (local_of g a log)) (put_by b (made g a log e)) (all_low_up h k (puts_to b (local_of g a log)) u (i.puts a b)) (put_low h k b (made g a log e) (m a)));
+  clocks = λ at. subst (λ l. (clock at l).ticks ≤ k) (sym (local_step g at e log))
+      (clock_le at h k (made g at log e) (local_of g at log) u (i.clocks at) (m at));
+  puts = λ a b. subst (AllLow k) (sym (puts_grow g a b e log))
+      (all_low_join k (puts_to b (local_of g a log)) (put_by b (made g a log e))
+      (all_low_up h k (puts_to b (local_of g a log)) u (i.puts a b)) (put_low h k b (made g a log e) (m a)));
   hands = λ at. subst (HandsLow k) (sym (local_step g at e log)) (hands_low h k (made g at log e) (local_of g at log) u (i.hands at) (m at));
 }
 
@@ -145,7 +148,8 @@ greatest_le g h log i =
 act_low : (g : Given) (h : ℕ) (log : Log) (at : Site) (act : Act) → g.catalogue.tms ≤ 63 → IsPermitted g log → IsUnder g h log
     → OfNext g log (Does at act) → IsDueAt g log at act → PutsLow h act
 act_low g h log U act w p i o d =
-    u_low h (setting_of g U) (local_of g U log) act (omega arith) (i.clocks U) (u_fair g log p) (u_due (setting_of g U) (base_of g log) (local_of g U log) act d)
+    u_low h (setting_of g U) (local_of g U log) act (omega arith) (i.clocks U) (u_fair g log p)
+    (u_due (setting_of g U) (base_of g log) (local_of g U log) act d)
 act_low g h log (T t) act w p i o d =
     let r = t_of_sites g.catalogue.tms g.catalogue.dms t o.0 in
     t_low h (setting_of g (T t)) t (base_of g log) (local_of g (T t) log) act refl (omega (arith, w, r.1)) (i.clocks (T t)) (t_fair g t log p) d
@@ -178,7 +182,8 @@ under g (Redeclares t ∷ log) w f h p =
     let i = under g log w f h.1 p.1 in
     let e : t ≡ greatest_bound g log = of_next g log (Redeclares t) f h.1 h.0 in
     let l = greatest_le g (height log) log i in
-    under_more g (height log) (height log) (Redeclares t) log (omega arith) i (λ at. by_force (height log) at (force_at g (suc (redeclares log))) t (omega (arith, e, l)))
+    under_more g (height log) (height log) (Redeclares t) log (omega arith) i
+    (λ at. by_force (height log) at (force_at g (suc (redeclares log))) t (omega (arith, e, l)))
 under g (Hand from to n m ∷ log) w f h p =
     let i = under g log w f h.1 p.1 in
     under_more g (height log) (height log) (Hand from to n m) log (omega arith) i

@@ -112,11 +112,47 @@ pub verdict_by : (s : Setting) (c ts : ℕ) (b : Site) (log : site.Log) (act : A
 verdict_by s c ts b log act (Ready t k counts) i e h =
     let q = two_same t.0 ts k.0 c e in
     let own : k.0 ≡ h.class = class_number k.0 h.class t.0 (i h.class (Read t k h.txn h.attempt h.conds h.uses) h.head_is) in
-    at_class c h.class log act ts (sym own ∙ q.1) (record { rec = Answer h.txn h.attempt (home_of s).dm; to = source_of (home_of s) h.class; msg = Ready t k counts; stamp = t; of = k; txn = h.txn; attempt = h.attempt; conds = h.conds; uses = h.uses; processes = refl; head_is = h.head_is; class_is = own; time_is = q.0; act_is = h.act_is })
+    at_class c h.class log act ts (sym own ∙ q.1) (record {
+      rec =
+          Answer h.txn h.attempt (home_of s).dm;
+      to = source_of (home_of s) h.class;
+      msg =
+          Ready t k counts;
+      stamp = t;
+      of = k;
+      txn = h.txn;
+      attempt = h.attempt;
+      conds = h.conds;
+      uses =
+          h.uses;
+      processes = refl;
+      head_is = h.head_is;
+      class_is = own;
+      time_is = q.0;
+      act_is = h.act_is;
+    })
 verdict_by s c ts b log act (Reject t k by write) i e h =
     let q = two_same t.0 ts k.0 c e in
     let own : k.0 ≡ h.class = class_number k.0 h.class t.0 (i h.class (Read t k h.txn h.attempt h.conds h.uses) h.head_is) in
-    at_class c h.class log act ts (sym own ∙ q.1) (record { rec = Rejected h.txn h.attempt (home_of s).dm by write; to = source_of (home_of s) h.class; msg = Reject t k by write; stamp = t; of = k; txn = h.txn; attempt = h.attempt; conds = h.conds; uses = h.uses; processes = refl; head_is = h.head_is; class_is = own; time_is = q.0; act_is = h.act_is })
+    at_class c h.class log act ts (sym own ∙ q.1) (record {
+      rec =
+          Rejected h.txn h.attempt (home_of s).dm by write;
+      to = source_of (home_of s) h.class;
+      msg =
+          Reject t k by write;
+      stamp = t;
+      of = k;
+      txn = h.txn;
+      attempt = h.attempt;
+      conds = h.conds;
+      uses =
+          h.uses;
+      processes = refl;
+      head_is = h.head_is;
+      class_is = own;
+      time_is = q.0;
+      act_is = h.act_is;
+    })
 verdict_by s c ts b log act m i e h = cc
 
 -- at most one
@@ -166,14 +202,20 @@ own_did c ts b act log strict v h =
     let own : read_at c w ≡ Some ts = read_key c ts v.stamp v.of v.txn v.attempt v.conds v.uses v.class_is v.time_is in
     let none : tally (is_verdict ts c) (puts_to b log) ≤ 0 = elim (dec_le 1 (tally (is_verdict ts c) (puts_to b log))) [
       | yes l ↦ (let u = h.was l in
-          let less = key_rises (read_at c) (all_of p) u.0 (length p.processed) u.1 w ts ts strict (in_left p.processed p.unprocessed u.0 u.1 u.2) at u.3 own (place_within p.processed u.0 u.1 u.2) in
+          let less = key_rises (read_at c) (all_of p) u.0 (length p.processed) u.1 w ts ts strict
+          (in_left p.processed p.unprocessed u.0 u.1 u.2) at u.3 own
+          (place_within p.processed u.0 u.1 u.2) in
           absurd (omega (arith, less)))
       | no n ↦ omega (arith, n)
     ] in
     let a = tally_append (is_verdict ts c) (puts_to b log) (to_site b (sends_of_act act)) in
-    let one : tally (is_verdict ts c) (to_site b (sends_of_act act)) ≤ 1 = subst (λ y. tally (is_verdict ts c) (to_site b (sends_of_act y)) ≤ 1) (sym v.act_is) (one_at_most (is_verdict ts c) (same_site b v.to) v.msg) in
+    let one : tally (is_verdict ts c) (to_site b (sends_of_act act)) ≤ 1 =
+    subst (λ y. tally (is_verdict ts c) (to_site b (sends_of_act y)) ≤ 1) (sym v.act_is)
+    (one_at_most (is_verdict ts c) (same_site b v.to) v.msg) in
     let r = own_record c v.rec ((v.to, v.msg) ∷ []) log v.processes in
-    let pr : (pipe c (Did act ∷ log)).processed ≡ p.processed ++ w ∷ [] = ap (λ y. (pipe c (Did y ∷ log)).processed) v.act_is ∙ ap (λ (q : Pipe). q.processed) r.0 ∙ processed_more p w v.head_is in
+    let pr : (pipe c (Did act ∷ log)).processed ≡ p.processed ++ w ∷ [] =
+    ap (λ y. (pipe c (Did y ∷ log)).processed) v.act_is ∙ ap (λ (q : Pipe). q.processed) r.0
+    ∙ processed_more p w v.head_is in
     record {
       le = omega (arith, a, none, one);
       was = λ l. (length p.processed, w, subst (λ ms. slice_get ms (length p.processed) ≡ Some w) (sym pr) (at_seam p.processed [] w), own);

@@ -77,12 +77,20 @@ commits_here : (n count : ℕ) (e : ℕ × Rec) (h : History) (q : ℕ) → Name
     → IsCommitter n count (e ∷ h) q 0
 unfolding committer
 commits_here n count (k, Commit txn attempt reply changes values rows) h q named e =
-    elim (txn.0 == n) as (λ b. (txn.0 == n) ≡ b → cond b None (Some txn.0) ≡ Some q → IsCommitter n count ((k, Commit txn attempt reply changes values rows) ∷ h) q 0) [
+    elim (txn.0 == n) as (λ b. (txn.0 == n) ≡ b → cond b None (Some txn.0) ≡ Some q
+    → IsCommitter n count ((k, Commit txn attempt reply changes values rows) ∷ h) q 0) [
       | true ↦ λ p s. absurd (cc)
       | false ↦ λ p s.
           let same : txn.0 ≡ q = same_Some txn.0 q s in
           subst (λ z. IsCommitter n count ((k, Commit txn attempt reply changes values rows) ∷ h) z 0) same
-          (record { other = eqb-false txn.0 n p; from = named.0; to = named.1; number = attempt; commit = record { reply = reply; changes = changes; values = values; rows = rows; stands = refl } })
+          (record {
+            other = eqb-false txn.0 n p;
+            from = named.0;
+            to = named.1;
+            number = attempt;
+            commit =
+                record { reply = reply; changes = changes; values = values; rows = rows; stands = refl };
+          })
     ] refl e
 commits_here n count (k, Submit txn) h q named e = absurd (cc)
 commits_here n count (k, Start txn attempt class ts p2 uses) h q named e = absurd (cc)
@@ -129,7 +137,8 @@ with_committer n count e h (Some q) qs one here rest =
     let apart : (z : ℕ) → Commits n count h z → eqb q z ≡ false =
     λ z c. ne_eqb q z (λ same.
     let again = commit_later e h z c.1.number c.0 c.1.commit in
-    let places : 0 ≡ suc c.0 = one q first.number c.1.number 0 (suc c.0) first.commit (subst (λ y. HasCommit (e ∷ h) y c.1.number (suc c.0)) (sym same) again) in
+    let places : 0 ≡ suc c.0 = one q first.number c.1.number 0 (suc c.0) first.commit
+    (subst (λ y. HasCommit (e ∷ h) y c.1.number (suc c.0)) (sym same) again) in
     absurd (omega arith)) in
     record { differ = IsDistinct-cons eqb q qs (each_weaker apart qs rest.each) rest.differ; each = ((0, first), later) }
 
@@ -196,7 +205,8 @@ step : (h : History) (m : ℕ) → starts_to h (suc m) ≤ starts_to h m + start
 unfolding start_to starts_to
 step [] m = omega arith
 step ((k, Start txn attempt class ts p2 uses) ∷ h) m =
-    one_more txn.0 m (k, Start txn attempt class ts p2 uses) (filter (λ e. start_to (suc m) e.1) h) (filter (λ e. start_to m e.1) h) (filter (λ e. is_start_of (suc m) e.1) h) (step h m)
+    one_more txn.0 m (k, Start txn attempt class ts p2 uses) (filter (λ e. start_to (suc m) e.1) h)
+    (filter (λ e. start_to m e.1) h) (filter (λ e. is_start_of (suc m) e.1) h) (step h m)
 step ((k, Submit txn) ∷ h) m = step h m
 step ((k, Arrive txn attempt dm) ∷ h) m = step h m
 step ((k, Wait txn attempt dm conds) ∷ h) m = step h m
@@ -214,14 +224,19 @@ none_to_zero : (count : ℕ) (h : History) → TxnsExist count h → starts_to h
 unfolding start_to starts_to
 none_to_zero count [] exist = refl
 none_to_zero count ((k, Start txn attempt class ts p2 uses) ∷ h) exist =
-    none_from txn.0 (k, Start txn attempt class ts p2 uses) (filter (λ e. start_to 0 e.1) h) (All-head (λ d. NamesOneOf count d.1) (k, Start txn attempt class ts p2 uses) h exist).0
+    none_from txn.0 (k, Start txn attempt class ts p2 uses) (filter (λ e. start_to 0 e.1) h)
+    (All-head (λ d. NamesOneOf count d.1) (k, Start txn attempt class ts p2 uses) h exist).0
     (none_to_zero count h (All-tail (λ d. NamesOneOf count d.1) (k, Start txn attempt class ts p2 uses) h exist))
 none_to_zero count ((k, Submit txn) ∷ h) exist = none_to_zero count h (All-tail (λ d. NamesOneOf count d.1) (k, Submit txn) h exist)
 none_to_zero count ((k, Arrive txn attempt dm) ∷ h) exist = none_to_zero count h (All-tail (λ d. NamesOneOf count d.1) (k, Arrive txn attempt dm) h exist)
-none_to_zero count ((k, Wait txn attempt dm conds) ∷ h) exist = none_to_zero count h (All-tail (λ d. NamesOneOf count d.1) (k, Wait txn attempt dm conds) h exist)
+none_to_zero count ((k, Wait txn attempt dm conds) ∷ h) exist =
+    none_to_zero count h (All-tail (λ d. NamesOneOf count d.1) (k, Wait txn attempt dm conds) h exist)
 none_to_zero count ((k, Answer txn attempt dm) ∷ h) exist = none_to_zero count h (All-tail (λ d. NamesOneOf count d.1) (k, Answer txn attempt dm) h exist)
-none_to_zero count ((k, Reject txn attempt dm class ts) ∷ h) exist = none_to_zero count h (All-tail (λ d. NamesOneOf count d.1) (k, Reject txn attempt dm class ts) h exist)
-none_to_zero count ((k, Commit txn attempt reply changes values rows) ∷ h) exist = none_to_zero count h (All-tail (λ d. NamesOneOf count d.1) (k, Commit txn attempt reply changes values rows) h exist)
+none_to_zero count ((k, Reject txn attempt dm class ts) ∷ h) exist =
+    none_to_zero count h (All-tail (λ d. NamesOneOf count d.1) (k, Reject txn attempt dm class ts) h exist)
+none_to_zero count ((k, Commit txn attempt reply changes values rows) ∷ h) exist =
+    none_to_zero count h (All-tail (λ d. NamesOneOf count d.1)
+    (k, Commit txn attempt reply changes values rows) h exist)
 none_to_zero count ((k, Apply txn class dm ts) ∷ h) exist = none_to_zero count h (All-tail (λ d. NamesOneOf count d.1) (k, Apply txn class dm ts) h exist)
 none_to_zero count ((k, Pass class dm time) ∷ h) exist = none_to_zero count h (All-tail (λ d. NamesOneOf count d.1) (k, Pass class dm time) h exist)
 none_to_zero count ((k, Nothing) ∷ h) exist = none_to_zero count h (All-tail (λ d. NamesOneOf count d.1) (k, Nothing) h exist)
@@ -239,12 +254,21 @@ all_to_count count k ((i, Start txn attempt class ts p2 uses) ∷ h) exist =
     (All-head (λ d. NamesOneOf count d.1) (i, Start txn attempt class ts p2 uses) h exist).1
     (all_to_count count (suc k) h (All-tail (λ d. NamesOneOf count d.1) (i, Start txn attempt class ts p2 uses) h exist))
 all_to_count count k ((i, Submit txn) ∷ h) exist = all_to_count count (suc k) h (All-tail (λ d. NamesOneOf count d.1) (i, Submit txn) h exist)
-all_to_count count k ((i, Arrive txn attempt dm) ∷ h) exist = all_to_count count (suc k) h (All-tail (λ d. NamesOneOf count d.1) (i, Arrive txn attempt dm) h exist)
-all_to_count count k ((i, Wait txn attempt dm conds) ∷ h) exist = all_to_count count (suc k) h (All-tail (λ d. NamesOneOf count d.1) (i, Wait txn attempt dm conds) h exist)
-all_to_count count k ((i, Answer txn attempt dm) ∷ h) exist = all_to_count count (suc k) h (All-tail (λ d. NamesOneOf count d.1) (i, Answer txn attempt dm) h exist)
-all_to_count count k ((i, Reject txn attempt dm class ts) ∷ h) exist = all_to_count count (suc k) h (All-tail (λ d. NamesOneOf count d.1) (i, Reject txn attempt dm class ts) h exist)
-all_to_count count k ((i, Commit txn attempt reply changes values rows) ∷ h) exist = all_to_count count (suc k) h (All-tail (λ d. NamesOneOf count d.1) (i, Commit txn attempt reply changes values rows) h exist)
-all_to_count count k ((i, Apply txn class dm ts) ∷ h) exist = all_to_count count (suc k) h (All-tail (λ d. NamesOneOf count d.1) (i, Apply txn class dm ts) h exist)
+all_to_count count k ((i, Arrive txn attempt dm) ∷ h) exist =
+    all_to_count count (suc k) h (All-tail (λ d. NamesOneOf count d.1) (i, Arrive txn attempt dm) h exist)
+all_to_count count k ((i, Wait txn attempt dm conds) ∷ h) exist =
+    all_to_count count (suc k) h (All-tail (λ d. NamesOneOf count d.1) (i, Wait txn attempt dm conds) h
+    exist)
+all_to_count count k ((i, Answer txn attempt dm) ∷ h) exist =
+    all_to_count count (suc k) h (All-tail (λ d. NamesOneOf count d.1) (i, Answer txn attempt dm) h exist)
+all_to_count count k ((i, Reject txn attempt dm class ts) ∷ h) exist =
+    all_to_count count (suc k) h (All-tail (λ d. NamesOneOf count d.1) (i, Reject txn attempt dm class ts) h
+    exist)
+all_to_count count k ((i, Commit txn attempt reply changes values rows) ∷ h) exist =
+    all_to_count count (suc k) h (All-tail (λ d. NamesOneOf count d.1)
+    (i, Commit txn attempt reply changes values rows) h exist)
+all_to_count count k ((i, Apply txn class dm ts) ∷ h) exist =
+    all_to_count count (suc k) h (All-tail (λ d. NamesOneOf count d.1) (i, Apply txn class dm ts) h exist)
 all_to_count count k ((i, Pass class dm time) ∷ h) exist = all_to_count count (suc k) h (All-tail (λ d. NamesOneOf count d.1) (i, Pass class dm time) h exist)
 all_to_count count k ((i, Nothing) ∷ h) exist = all_to_count count (suc k) h (All-tail (λ d. NamesOneOf count d.1) (i, Nothing) h exist)
 

@@ -29,7 +29,8 @@ pub few_attempts : (g : Given) (rows : List (RelNo × Row)) (log : Log) (eras : 
     → IsPermitted g log → AreErasOf g log eras → AreNumbered g log
     → length (attempts (history log)) ≤ length g.txns * length g.txns
 few_attempts g rows log eras sound fine h are numbered =
-    attempts_square (length g.txns) (history log) (keeps_starts g log eras sound h are).one_commit (txns_exist g rows eras log sound fine h are numbered) (few g eras log sound h are)
+    attempts_square (length g.txns) (history log) (keeps_starts g log eras sound h are).one_commit
+    (txns_exist g rows eras log sound fine h are numbered) (few g eras log sound h are)
 
 pub few_in_limit : (g : Given) (rows : List (RelNo × Row)) (log : Log) (eras : Eras) → IsSound g.catalogue → HasSoundData g rows
     → IsPermitted g log → AreErasOf g log eras → AreNumbered g log → length g.txns ≤ MAX_TXNS

@@ -37,7 +37,9 @@ asked_edge : (test : ℕ → Bool) (i j : ℕ) (e : Edge) (f : FragNo) → asked
 asked_edge test i j (Vertical c) f h = absurd (cc)
 asked_edge test i j (Horizontal c d) f h = absurd (cc)
 asked_edge test i j (Diagonal reader writer g) f h =
-    elim ((reader.0 == i) && ((writer.0 == j) && test g.0)) as (λ b. ((reader.0 == i) && ((writer.0 == j) && test g.0)) ≡ b → cond b (Some g) None ≡ Some f → Diagonal reader writer g ≡ Diagonal (class_no i) (class_no j) f) [
+    elim ((reader.0 == i) && ((writer.0 == j) && test g.0)) as (λ b. ((reader.0 ==
+    i) && ((writer.0 == j) && test g.0)) ≡ b → cond b (Some g) None ≡ Some f
+    → Diagonal reader writer g ≡ Diagonal (class_no i) (class_no j) f) [
       | true ↦ λ p q.
           let r = and_parts (reader.0 == i) ((writer.0 == j) && test g.0) p in
           let w = and_parts (writer.0 == j) (test g.0) r.1 in
@@ -91,7 +93,9 @@ pub two_classes : (cat : Catalogue) (entries : List Entry) (i j : ℕ) → IsTab
 two_classes cat entries i j table d =
     let edge : Edge = Diagonal (class_no i) (class_no j) d.fragment in
     let mapped : Contains (map (λ (e : Entry). e.edge) entries) d.entry.edge = Contains-map (λ (e : Entry). e.edge) entries d.entry d.there in
-    let in_graph : Contains (conflict_graph cat) edge = subst (Contains (conflict_graph cat)) d.edge_is (subst (λ xs. Contains xs d.entry.edge) table.edges mapped) in
+    let in_graph : Contains (conflict_graph cat) edge =
+    subst (Contains (conflict_graph cat)) d.edge_is
+    (subst (λ xs. Contains xs d.entry.edge) table.edges mapped) in
     let reads : ReadsFrom cat i j d.fragment.0 = All-contains (IsEdgeOf cat) (conflict_graph cat) edge (edges_known cat) in_graph in
     reads.others
 
@@ -99,7 +103,9 @@ pub other_class : (era cat : Catalogue) (table : List Entry) (a : Attempt) (d : 
     → Contains (conditions_of cat table a d) c → c.class.0 ≢ a.class
 other_class era cat table a d c is =
     let frags = map frag_no (ascending (fragments_in a.uses)) in
-    elim (a.class == 0) as (λ b. (a.class == 0) ≡ b → Contains (cond b (undeclared_conditions cat a.ts) (conditions cat table a.class d frags a.ts (p2_time a))) c → c.class.0 ≢ a.class) [
+    elim (a.class == 0) as (λ b. (a.class == 0) ≡ b
+    → Contains (cond b (undeclared_conditions cat a.ts) (conditions cat table a.class d frags a.ts
+    (p2_time a))) c → c.class.0 ≢ a.class) [
       | true ↦ λ z m e.
           let of = Contains-from_map (λ k. cond_of k a.ts (map frag_no (fragments_of cat))) (classes_of cat) c m in
           let low = (All-contains (λ k. (1 ≤ k) × (k ≤ length cat.classes)) (classes_of cat) of.0 (each_to (length cat.classes)) of.1).0 in
@@ -109,6 +115,7 @@ other_class era cat table a d c is =
       | false ↦ λ z m e.
           let test = is_asked cat a.class d frags in
           let of = Contains-from_filter_map (condition_on test table a.class a.ts (p2_time a)) (classes_of cat) c m in
-          let k = diagonal_of test table a.class of.0 a.ts (p2_time a) c (asked_by P3 test table a.class of.0) (asked_by P2 test table a.class of.0) refl refl of.2 in
+          let k = diagonal_of test table a.class of.0 a.ts (p2_time a) c
+          (asked_by P3 test table a.class of.0) (asked_by P2 test table a.class of.0) refl refl of.2 in
           two_classes era table a.class of.0 is k.1 (sym e ∙ k.0)
     ] refl

@@ -53,7 +53,8 @@ keeps_rejects g log eras sound h are n number d class write k s =
     let entry : Entry = Does (D (dm_no d)) act in
     let ds : Setting = setting_of g (D (dm_no d)) in
     let l : site.Log = local_of g (D (dm_no d)) x.before in
-    let rj = rejecting ds l x.class (txn_no n) number (dm_no d) (class_no class) (time_at write) x.sends (d_step ds l act (allowed_act g x.before entry x.permitted.0)) in
+    let rj = rejecting ds l x.class (txn_no n) number (dm_no d) (class_no class) (time_at write) x.sends
+    (d_step ds l act (allowed_act g x.before entry x.permitted.0)) in
     let r = read_of_some g log x.later x.before entry x.class n number d rj.ts rj.class rj.conds rj.uses x.permitted.1 x.is rj.head_is in
     let first = first_of_filter (spoils (view_of ds l)) rj.conds rj.cond_by rj.spoiler_is in
     let z = spoilt_by g x.before (dm_no d) rj.cond_by x.permitted.1 first.2 in
@@ -66,7 +67,8 @@ keeps_rejects g log eras sound h are n number d class write k s =
     let at : length (history x.before) ≡ k = x.place_is in
     let same_class : class ≡ j = ap (λ (y : ClassNo). y.0) rj.by_is in
     let same_write : write ≡ z.running.ts = rj.write_is ∙ sym z.ts_is in
-    let condition = read_condition g log eras r.attempt d x.later x.before entry are x.is r.read first.0 rj.cond_by (subst (λ y. slice_get y first.0 ≡ Some rj.cond_by) (sym r.same_conds) first.1) in
+    let condition = read_condition g log eras r.attempt d x.later x.before entry are x.is r.read first.0
+    rj.cond_by (subst (λ y. slice_get y first.0 ≡ Some rj.cond_by) (sym r.same_conds) first.1) in
     let starts = r.read.start_before in
     let at_least = z.at_least in
     let late = rj.write_is in
@@ -82,9 +84,12 @@ keeps_rejects g log eras sound h are n number d class write k s =
       late = omega arith;
       writer = c.committed;
       committed = c.is_committed;
-      other = λ e. other_txn g log eras r.attempt d rj.cond_by c.committed (keeps_starts g log eras sound h are) r.started condition c.is_committed c.class_is (e ∙ sym r.txn_is);
+      other = λ e. other_txn g log eras r.attempt d rj.cond_by c.committed
+          (keeps_starts g log eras sound h are) r.started condition c.is_committed c.class_is
+          (e ∙ sym r.txn_is);
       writer_class = c.class_is ∙ sym same_class;
       writer_time = c.ts_is ∙ sym same_write;
       changes = touched_one g c.committed _ rj.cond_by.frags d c.changes_are z.touching;
-      applied = subst (λ m. AppliedBefore (history log) c.committed.start.txn d m) at (subst (λ m. AppliedBefore (history log) m d (length (history x.before))) (sym c.txn_is) applied);
+      applied = subst (λ m. AppliedBefore (history log) c.committed.start.txn d m) at
+          (subst (λ m. AppliedBefore (history log) m d (length (history x.before))) (sym c.txn_is) applied);
     }

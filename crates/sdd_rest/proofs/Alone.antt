@@ -45,16 +45,21 @@ not_again : (g : Given) (d : DmNo) (log : Log) (a : Attempt) (ts : Ts) (k : Clas
     → (served : ℕ) → a.ts ≡ served → ts.0 ≡ served → ⊥
 not_again g d log a ts k txn n conds uses before h e p w served same own =
     let answer : Act = Records 0 (Answer w.txn w.attempt (home_of (setting_of g (D d))).dm) w.sends in
-    let whole : log ≡ (p.0 ++ w.later) ++ Does (D d) answer ∷ w.before = p.1 ∙ ap (λ l. p.0 ++ l) w.is ∙ sym (append_assoc p.0 w.later (Does (D d) answer ∷ w.before)) in
-    answered_there g 0 d (p.0 ++ w.later) w.before (home_of (setting_of g (D d))).dm w.sends w.ts ts w.of k w.txn w.txn txn w.attempt w.attempt n w.conds conds w.uses uses (subst (IsPermitted g) whole h) (omega arith)
+    let whole : log ≡ (p.0 ++ w.later) ++ Does (D d) answer ∷ w.before = p.1 ∙ ap (λ l. p.0 ++ l) w.is
+    ∙ sym (append_assoc p.0 w.later (Does (D d) answer ∷ w.before)) in
+    answered_there g 0 d (p.0 ++ w.later) w.before (home_of (setting_of g (D d))).dm w.sends w.ts ts w.of k
+    w.txn w.txn txn w.attempt w.attempt n w.conds conds w.uses uses (subst (IsPermitted g) whole h)
+    (omega arith)
     w.head_is (subst (λ l. head (pipe_at g 0 d l) ≡ Some (Read ts k txn n conds uses)) whole e) (w.ts_is ∙ same ∙ sym own)
 
 -- where a declared transaction starts after the undeclared one was served
-start_part : (g : Given) (t c : ℕ) (full log : Log) (a : Attempt) (k : IsCommitT g t c full a) (ts n : ℕ) (high : IsHigh g t c full log a k ts n) → Part full high.start.rest
+start_part : (g : Given) (t c : ℕ) (full log : Log) (a : Attempt) (k : IsCommitT g t c full a) (ts n : ℕ)
+    (high : IsHigh g t c full log a k ts n) → Part full high.start.rest
 start_part g t c full log a k ts n high =
     part_of full high.start.later (Does (T (tm_no t)) (start_at (setting_of g (T (tm_no t))) c k.start.before k.start.queued)) high.start.rest high.start.is
 
-pub below_read : (g : Given) (log : Log) (j : ℕ) (d : DmNo) (ts : Ts) (of : ClassNo) (txn : TxnNo) (n : ℕ) (conds : List Cond) (uses : List Use) (w : Ts) (k : ClassNo) (x : TxnNo) (changes : List Change)
+pub below_read : (g : Given) (log : Log) (j : ℕ) (d : DmNo) (ts : Ts) (of : ClassNo) (txn : TxnNo) (n : ℕ)
+    (conds : List Cond) (uses : List Use) (w : Ts) (k : ClassNo) (x : TxnNo) (changes : List Change)
     → IsSound g.catalogue → IsPermitted g log → (j == 0) ≡ false → IsClass g.catalogue j → IsModule g.catalogue d.0
     → head (pipe_at g 0 d log) ≡ Some (Read ts of txn n conds uses) → head (pipe_at g j d log) ≡ Some (Write w k x changes) → w.0 < ts.0
 below_read g log j d ts of txn n conds uses w k x changes sound h p l m e f =
@@ -65,7 +70,9 @@ below_read g log j d ts of txn n conds uses w k x changes sound h p l m e f =
     let place = runs_place g j run.t (positive j p) l run.number_is in
     let at : slice_get (numbers_to g.catalogue.tms) (run.t - 1) ≡ Some run.t = at_place g.catalogue.tms run.t run.from run.to in
     let few = (sound_whole g.catalogue sound).few_tms in
-    let small : number_of (T (tm_no run.t)) ≤ 63 = (let s = home_small g.catalogue sound j in let same : number_of (home g.catalogue j) ≡ run.t = ap number_of run.home_is in omega (arith, s, same)) in
+    let small : number_of (T (tm_no run.t)) ≤ 63 = (let s =
+    home_small g.catalogue sound j in let same : number_of (home g.catalogue j) ≡ run.t =
+    ap number_of run.home_is in omega (arith, s, same)) in
     let ct = commit_t g run.t j log o.later o.before o.bases o.attempt h run.home_is o.is o.active_is in
     elim (low_or_high g (run.t - 1) run.t j place.0 log r.later r.before r.queued o.attempt ct at place.1 small h r.is) [
       | inl lo ↦ (let b = lo.below in omega (arith, b, r.ts_is, o.ts_is))

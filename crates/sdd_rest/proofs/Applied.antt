@@ -31,9 +31,12 @@ pub pipe_has_all : (g : Given) (log : Log) (c d : ℕ) → IsQuiet g log → IsS
     → all_of (pipe c (at_module g d log)) ≡ class_puts g c (dm_no d) log
 pipe_has_all g log c d h sound l m =
     pipe_is g c (dm_no d) log h.permitted
-    ∙ ap (class_in c) (take_all (handed (home g.catalogue c) (D (dm_no d)) log) (puts_to (D (dm_no d)) (at_home g c log)) (none_left g log (home g.catalogue c) (D (dm_no d)) h (home_linked g.catalogue c d sound l m).0))
+    ∙ ap (class_in c) (take_all (handed (home g.catalogue c) (D (dm_no d)) log)
+    (puts_to (D (dm_no d)) (at_home g c log)) (none_left g log (home g.catalogue c) (D (dm_no d)) h
+    (home_linked g.catalogue c d sound l m).0))
 
-pub all_applied : (g : Given) (log : Log) (c d : ℕ) (later before : Log) (bases : Bases) (a : Attempt) → IsQuiet g log → IsSound g.catalogue → IsClass g.catalogue c → IsModule g.catalogue d
+pub all_applied : (g : Given) (log : Log) (c d : ℕ) (later before : Log) (bases : Bases) (a : Attempt)
+    → IsQuiet g log → IsSound g.catalogue → IsClass g.catalogue c → IsModule g.catalogue d
     → (pipe c (at_module g d log)).unprocessed ≡ [] → log ≡ later ++ Does (home g.catalogue c) (commit_act g.catalogue bases c a) ∷ before
     → ((c == 0) ≡ true) ⊎ (0 < length (changes_to g bases a (dm_no d))) → IsApplied g log (dm_no d) c a
 all_applied g log c d later before bases a h sound l m none is touches =
@@ -41,7 +44,10 @@ all_applied g log c d later before bases a h sound l m none is touches =
     let put = commit_put g c (dm_no d) later before bases a m.0 m.1 touches in
     let there : slice_get (class_puts g c (dm_no d) log) put.0 ≡ Some w = subst (λ x. slice_get (class_puts g c (dm_no d) x) put.0 ≡ Some w) (sym is) put.1 in
     let p = pipe c (at_module g d log) in
-    let all : class_puts g c (dm_no d) log ≡ p.processed = sym (pipe_has_all g log c d h sound l m) ∙ ap (λ ms. p.processed ++ ms) none ∙ append-nil p.processed in
+    let all : class_puts g c (dm_no d) log ≡ p.processed = sym (pipe_has_all g log c d h sound l m)
+    ∙ ap (λ ms. p.processed ++ ms) none ∙ append-nil p.processed in
     let processed : slice_get p.processed put.0 ≡ Some w = subst (λ ms. slice_get ms put.0 ≡ Some w) all there in
-    let z = zip_at IsOf (results c (at_module g d log)) p.processed put.0 w (matched (setting_of g (D (dm_no d))) c (at_module g d log) (d_fair g (dm_no d) log h.permitted)).matched processed in
+    let z = zip_at IsOf (results c (at_module g d log)) p.processed put.0 w
+    (matched (setting_of g (D (dm_no d))) c (at_module g d log)
+    (d_fair g (dm_no d) log h.permitted)).matched processed in
     record { place = put.0; rec = z.0; there = z.1; is = z.2 }

@@ -56,7 +56,9 @@ class_within cat txn = elim (dec_le 1 (class_for cat txn)) [
 
 covers_home : (cat : Catalogue) (txn : Txn) (c : ℕ) → c ≡ class_for cat txn → 1 ≤ c → (class_at cat c).tm.0 ≡ txn.tm.0
 covers_home cat txn c e l =
-    elim (head_of (filter (covers cat txn) (numbers_to (length cat.classes)))) as (λ o. head_of (filter (covers cat txn) (numbers_to (length cat.classes))) ≡ o → c ≡ unwrap_or o 0 → (class_at cat c).tm.0 ≡ txn.tm.0) [
+    elim (head_of (filter (covers cat txn) (numbers_to (length cat.classes)))) as (λ o. head_of
+    (filter (covers cat txn) (numbers_to (length cat.classes))) ≡ o → c ≡ unwrap_or o 0
+    → (class_at cat c).tm.0 ≡ txn.tm.0) [
       | None ↦ λ h z. absurd (omega arith)
       | Some x ↦ λ h z.
           let p = first_passes (covers cat txn) (numbers_to (length cat.classes)) x h in
@@ -78,8 +80,10 @@ for_class g c rest txn e = elim (same_or_not c 0) [
   | inl p ↦ subst (λ k. IsForClass g k rest txn) (sym p) refl
   | inr p ↦ (let t = tm_no (class_at g.catalogue c).tm.0 in
       let here : home g.catalogue c ≡ T t = rw p refl in
-      let k : class_for (in_force (setting_of g (T t)) (local_of g (T t) rest)).catalogue txn ≡ c = ap (λ (w : Force). class_for w.catalogue txn) (force_there g t rest) ∙ e in
-      let q : is_for c (in_force (setting_of g (T t)) (local_of g (T t) rest)).catalogue txn ≡ true = or_right (c == 0) _ (ap (λ y. y == c) k ∙ same_number c) in
+      let k : class_for (in_force (setting_of g (T t)) (local_of g (T t) rest)).catalogue txn ≡ c =
+      ap (λ (w : Force). class_for w.catalogue txn) (force_there g t rest) ∙ e in
+      let q : is_for c (in_force (setting_of g (T t)) (local_of g (T t) rest)).catalogue txn ≡ true =
+      or_right (c == 0) _ (ap (λ y. y == c) k ∙ same_number c) in
       subst (λ a. is_for c (in_force (setting_of g a) (local_of g a rest)).catalogue txn ≡ true) (sym here) q)
 ]
 
@@ -105,9 +109,13 @@ committed_there g log c n e =
     let m = commit_act_in c n (at_home g c log) e in
     let t : Told = record { reply = m.reply; changes = m.changes; values = m.values; rows = m.rows } in
     let act : Act = Records c (commit_rec n m.attempt t) m.sends in
-    let is : at_home g c log ≡ m.later ++ Did act ∷ m.before = m.is ∙ ap (λ j. m.later ++ Did (Records c (commit_rec j m.attempt t) m.sends) ∷ m.before) m.number_is in
+    let is : at_home g c log ≡ m.later ++ Did act ∷ m.before =
+    m.is ∙ ap (λ j. m.later ++ Did (Records c (commit_rec j m.attempt t) m.sends) ∷ m.before) m.number_is
+    in
     let p = place_of_act g at log m.later act m.before is in
-    let stands : Stands (history log) (length (history p.rest)) (commit_rec n m.attempt t) = subst (λ l. Stands (history l) (length (history p.rest)) (commit_rec n m.attempt t)) (sym p.is) (stands_there p.later (Does at act) p.rest (commit_rec n m.attempt t) refl) in
+    let stands : Stands (history log) (length (history p.rest)) (commit_rec n m.attempt t) =
+    subst (λ l. Stands (history l) (length (history p.rest)) (commit_rec n m.attempt t)) (sym p.is)
+    (stands_there p.later (Does at act) p.rest (commit_rec n m.attempt t) refl) in
     record {
       place = length (history p.rest);
       number = m.attempt;
@@ -131,7 +139,8 @@ text_of g log n k h numbered s =
     let m = member_there (n - 1) g.txns (omega (arith, from, to, same)) in
     record { text = m.0; is = m.1 }
 
-pub all_committed : (g : Given) (log : Log) → IsQuiet g log → HasOneTable g → redeclares log ≡ 0 → AreNumbered g log → IsFinished g log → AllCommitted (history log)
+pub all_committed : (g : Given) (log : Log) → IsQuiet g log → HasOneTable g → redeclares log ≡ 0
+    → AreNumbered g log → IsFinished g log → AllCommitted (history log)
 all_committed g log h one none numbered done n k submitted =
     let s = submit_in g log n k h.permitted submitted in
     let now : IsPermitted g (Submitted s.at n ∷ s.rest) = permitted_before g s.later (Submitted s.at n ∷ s.rest) (subst (IsPermitted g) s.is h.permitted) in
@@ -142,15 +151,19 @@ all_committed g log h one none numbered done n k submitted =
     let force : (force_at g (redeclares s.rest)).catalogue ≡ g.catalogue = ap (λ i. (force_at g i).catalogue) first ∙ one.same in
     let class : class_for (force_at g (redeclares s.rest)).catalogue t.text ≡ c = ap (λ w. class_for w t.text) force in
     let at : s.at ≡ home g.catalogue c =
-    x.at_is ∙ ap (home_of (force_at g (redeclares x.earlier)).catalogue) t.is ∙ ap (λ i. home_of (force_at g i).catalogue (Some t.text)) (sym (ap redeclares x.is))
+    x.at_is ∙ ap (home_of (force_at g (redeclares x.earlier)).catalogue) t.is
+    ∙ ap (λ i. home_of (force_at g i).catalogue (Some t.text)) (sym (ap redeclares x.is))
     ∙ ap (λ w. home_of w (Some t.text)) force ∙ home_is g.catalogue t.text c refl in
     let is : log ≡ s.later ++ Submitted (home g.catalogue c) n ∷ s.rest = s.is ∙ ap (λ a. s.later ++ Submitted a n ∷ s.rest) at in
     let m = submit_local g c n t.text s.later s.rest t.is in
     let local : at_home g c log ≡ m.0 ++ Submits n t.text ∷ at_home g c s.rest = ap (at_home g c) is ∙ m.1 in
     let i = submitted_in (home_setting g c) c n t.text m.0 (at_home g c s.rest) (for_class g c s.rest t.text class) in
-    let there : slice_get (submits_of (home_setting g c) c (at_home g c log)) i.0 ≡ Some (n, t.text) = subst (λ l. slice_get (submits_of (home_setting g c) c l) i.0 ≡ Some (n, t.text)) (sym local) i.1 in
+    let there : slice_get (submits_of (home_setting g c) c (at_home g c log)) i.0 ≡ Some (n, t.text) =
+    subst (λ l. slice_get (submits_of (home_setting g c) c l) i.0 ≡ Some (n, t.text)) (sym local) i.1 in
     let q = queue_is (home_setting g c) c (at_home g c log) (home_fair g c log h.permitted) (all_new g (home g.catalogue c) log h.permitted) in
-    let out : queued c (at_home g c log) (n, t.text) ≡ None = none_kept (queued c (at_home g c log)) (submits_of (home_setting g c) c (at_home g c log)) i.0 (n, t.text) (sym q.is ∙ done.no_queue c (class_within g.catalogue t.text)) there in
+    let out : queued c (at_home g c log) (n, t.text) ≡ None =
+    none_kept (queued c (at_home g c log)) (submits_of (home_setting g c) c (at_home g c log)) i.0
+    (n, t.text) (sym q.is ∙ done.no_queue c (class_within g.catalogue t.text)) there in
     committed_there g log c n (if_left (is_committed c n (at_home g c log)) _ out)
 
 -- what is found of what is left is nothing
@@ -165,7 +178,9 @@ any_at p (x ∷ h) (suc k) r f e = or_right (p x) (list_any p h) (any_at p h k r
 pub any_commit : (h : History) (p : ℕ × Rec → Bool) (n : ℕ)
     → ((event attempt : ℕ) (reply : Reply) (changes : List Change) (values rows : ℕ) → p (event, Commit (txn_no n) attempt reply changes values rows) ≡ true)
     → WasCommitted h n → list_any p h ≡ true
-any_commit h p n f d = let c = d.commit in any_at p h d.place (Commit (txn_no n) d.number c.reply c.changes c.values c.rows) (λ event. f event d.number c.reply c.changes c.values c.rows) c.stands
+any_commit h p n f d = let c =
+    d.commit in any_at p h d.place (Commit (txn_no n) d.number c.reply c.changes c.values c.rows)
+    (λ event. f event d.number c.reply c.changes c.values c.rows) c.stands
 
 none_found : {A B : Type 0} (f : A → Option B) (xs : List A) → ((k : ℕ) (x : A) → slice_get xs k ≡ Some x → f x ≡ None) → filter_map f xs ≡ []
 none_found f [] h = refl

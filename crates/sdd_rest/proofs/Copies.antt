@@ -39,13 +39,17 @@ applied_at_copies g log f d h one none idle copied t c e =
     let x = committed_in g log t sound h.permitted c in
     let within = start_within g log (one_era g.catalogue) t.start are (start_in g log t.start sound h.permitted c.started) in
     let some = touches_some g log t x d (record { fragment = f; changed = e; copied = copied }) in
-    let applied = all_applied g log t.start.class d x.later x.before x.bases x.running h sound within m (idle.processed t.start.class d within m) x.is (inr some) in
-    subst (λ n. AppliedBefore (history log) n d (length (history log))) x.txn_is (applied_before g log [] log (dm_no d) t.start.class x.running refl h.permitted applied)
+    let applied = all_applied g log t.start.class d x.later x.before x.bases x.running h sound within m
+    (idle.processed t.start.class d within m) x.is (inr some) in
+    subst (λ n. AppliedBefore (history log) n d (length (history log))) x.txn_is
+    (applied_before g log [] log (dm_no d) t.start.class x.running refl h.permitted applied)
 
 -- and each module has there what a serial run leaves
-pub serial_copies : (g : Given) (rows : List (RelNo × Row)) (log : Log) (order : List TxnNo) (f d : ℕ) → IsQuiet g log → HasOneTable g → redeclares log ≡ 0 → IsIdle g log
+pub serial_copies : (g : Given) (rows : List (RelNo × Row)) (log : Log) (order : List TxnNo) (f d : ℕ)
+    → IsQuiet g log → HasOneTable g → redeclares log ≡ 0 → IsIdle g log
     → HasSoundData g rows → IsSerial g.catalogue (history log) order → has_copy g.catalogue d f ≡ true
-    → rows_in_fragment g.catalogue (run g.catalogue rows g.txns order).1 f ≡ items_of g.catalogue f (contents f (dated (setting_of g (D (dm_no d))) (local_of g (D (dm_no d)) log)))
+    → rows_in_fragment g.catalogue (run g.catalogue rows g.txns order).1 f ≡ items_of g.catalogue f
+    (contents f (dated (setting_of g (D (dm_no d))) (local_of g (D (dm_no d)) log)))
 serial_copies g rows log order f d h one none idle fine serial copied =
     copies g rows (one_era g.catalogue) log order one.fits.sound fine h.permitted (of_one_era g log one.table one.same none) serial f d (length (history log))
     (applied_at_copies g log f d h one none idle copied)

@@ -48,7 +48,8 @@ current_done : (g : Given) (k t : ℕ) (log : whole.Log) (from : Site) (n : ℕ)
 current_done g k t log from n (Done ts) x i h a e =
     let put = (hand_was_put g log from U n (Done ts) a).1 in
     let d = from_a_d g log from U (handed from U log) (Done ts) h put refl in
-    let fits = done_fits g k t log d.0 n ts i (subst (λ y. IsAllowed g log (Hand y U n (Done ts))) d.1 a, h) (subst (λ y. slice_get (puts_to U (local_of g y log)) (handed y U log) ≡ Some (Done ts)) d.1 put) in
+    let fits = done_fits g k t log d.0 n ts i (subst (λ y. IsAllowed g log (Hand y U n (Done ts))) d.1 a, h)
+    (subst (λ y. slice_get (puts_to U (local_of g y log)) (handed y U log) ≡ Some (Done ts)) d.1 put) in
     fits.current ∙ eqb-true ts.0 x e
 current_done g k t log from n m x i h a e = cc
 
@@ -83,10 +84,14 @@ same_counts s e log served dones above h =
     }
 
 -- a hand leaves the timestamp of the active attempt
-handed_ts : (c : ℕ) (from : Site) (m : Msg) (o : Option Attempt) (a : Attempt) → active_handed c from m o ≡ Some a → (b : Attempt) × (o ≡ Some b) × (b.ts ≡ a.ts)
+handed_ts : (c : ℕ) (from : Site) (m : Msg) (o : Option Attempt) (a : Attempt)
+    → active_handed c from m o ≡ Some a → (b : Attempt) × (o ≡ Some b) × (b.ts ≡ a.ts)
 handed_ts c (D d) m None a e = cc
 handed_ts c (D d) m (Some b) a e =
-    elim (rejects m b.ts c) as (λ x. (if x then None else Some (record b { exchange = after_hand b.ts c d.0 m b.exchange })) ≡ Some a → (y : Attempt) × (Some b ≡ Some y) × (y.ts ≡ a.ts)) [
+    elim (rejects m b.ts c) as (λ x. (if x then None else Some (record b {
+      exchange =
+          after_hand b.ts c d.0 m b.exchange;
+    })) ≡ Some a → (y : Attempt) × (Some b ≡ Some y) × (y.ts ≡ a.ts)) [
       | true ↦ λ p. cc
       | false ↦ λ p. (b, refl, ap ts_of p)
     ] e
@@ -98,17 +103,24 @@ handed_ts c (T t) m (Some b) a e = (b, refl, ap ts_of e)
 sent_ts : (c : ℕ) (m : Msg) (o : Option Attempt) (a : Attempt) → active_sent c m o ≡ Some a → (b : Attempt) × (o ≡ Some b) × (b.ts ≡ a.ts)
 sent_ts c m None a e = cc
 sent_ts c m (Some b) a e =
-    elim (asks_rows b.ts c m) as (λ x. (if x then Some (record b { exchange = after_send b.exchange }) else Some b) ≡ Some a → (y : Attempt) × (Some b ≡ Some y) × (y.ts ≡ a.ts)) [
+    elim (asks_rows b.ts c m) as (λ x. (if x then Some (record b { exchange = after_send b.exchange })
+    else Some b) ≡ Some a → (y : Attempt) × (Some b ≡ Some y) × (y.ts ≡ a.ts)) [
       | true ↦ λ p. (b, refl, ap ts_of p)
       | false ↦ λ p. (b, refl, ap ts_of p)
     ] e
 
-above_same : (s : Setting) (log : Log) (o : Option Attempt) (a : Attempt) → IsCountedOff s log → (b : Attempt) × (active s 0 log ≡ Some b) × (b.ts ≡ a.ts) → (last_served s log).ts < a.ts
+above_same : (s : Setting) (log : Log) (o : Option Attempt) (a : Attempt) → IsCountedOff s log
+    → (b : Attempt) × (active s 0 log ≡ Some b) × (b.ts ≡ a.ts) → (last_served s log).ts < a.ts
 above_same s log o a h b = subst (λ x. (last_served s log).ts < x) b.2 (h.attempt_above b.0 b.1)
 
 -- what a hand adds to the count
 done_counts : (m : Msg) (v : Served) → (served_handed m v).dones ≡ one_if (is_done_of v.ts m) + v.dones
-done_counts (Done t) v = elim (t.0 == v.ts) as (λ b. (if b then record v { dones = suc v.dones } else v).dones ≡ one_if b + v.dones) [ true ↦ omega arith | false ↦ omega arith ]
+done_counts (Done t) v = elim (t.0 ==
+    v.ts) as (λ b. (if b then record v { dones = suc v.dones } else v).dones ≡ one_if b + v.dones) [
+      | true ↦
+          omega arith
+      | false ↦ omega arith
+    ]
 done_counts _ v = omega arith
 
 counted_hand : (s : Setting) (from : Site) (m : Msg) (log : Log) → IsCurrent s log (Handed from m) → IsCountedOff s log → IsCountedOff s (Handed from m ∷ log)
@@ -133,9 +145,12 @@ counted_start : (s : Setting) (log : Log) (q : Queued) → IsCountedOff s log �
 counted_start s log q h =
     let l = h.low in
     let b = bound_below_next s log in
-    same_counts s (Did (start_at s 0 log q)) log refl (λ x. refl) (λ a p. started_above (next_stamp s log) (last_served s log).ts (sends_of_act (start_at s 0 log q)) (head_of (queue s 0 log)) a (omega (arith, l, b)) p) h
+    same_counts s (Did (start_at s 0 log q)) log refl (λ x. refl) (λ a p. started_above (next_stamp s log)
+    (last_served s log).ts (sends_of_act (start_at s 0 log q)) (head_of (queue s 0 log)) a
+    (omega (arith, l, b)) p) h
 
-counted_commit : (s : Setting) (log : Log) (bases : Bases) (a : Attempt) → number_of s.site ≤ 63 → Each (IsFair s) log → active s 0 log ≡ Some a → IsCountedOff s log
+counted_commit : (s : Setting) (log : Log) (bases : Bases) (a : Attempt) → number_of s.site ≤ 63
+    → Each (IsFair s) log → active s 0 log ≡ Some a → IsCountedOff s log
     → IsCountedOff s (Did (commit_act s.catalogue bases 0 a) ∷ log)
 counted_commit s log bases a small fair e h =
     let act : Act = commit_act s.catalogue bases 0 a in
@@ -153,14 +168,18 @@ counted_commit s log bases a small fair e h =
       counted = ap (λ x. dones_of x log) ts ∙ none;
     }
 
-counted_act : (s : Setting) (log : Log) (act : Act) → number_of s.site ≤ 63 → Each (IsFair s) log → IsStepU s log act → IsCountedOff s log → IsCountedOff s (Did act ∷ log)
+counted_act : (s : Setting) (log : Log) (act : Act) → number_of s.site ≤ 63 → Each (IsFair s) log
+    → IsStepU s log act → IsCountedOff s log → IsCountedOff s (Did act ∷ log)
 counted_act s log act small fair step h =
     u_way s log act (λ x. IsCountedOff s (Did x ∷ log))
     (λ q i z r. counted_start s log q h)
     (λ bases a i. counted_commit s log bases a small fair i h)
-    (λ d m a i. same_counts s (Did (Sends (D (dm_no d)) m None)) log refl (λ x. refl) (λ b p. above_same s log (active s 0 log) b h (sent_ts 0 m (active s 0 log) b p)) h)
-    (λ t ts i p. same_counts s (Did (Sends (T (tm_no t)) (Release ts) None)) log refl (λ x. refl) (λ b q. above_same s log (active s 0 log) b h (sent_ts 0 (Release ts) (active s 0 log) b q)) h)
-    (λ t i. same_counts s (Did (Sends (T (tm_no t)) Hold None)) log refl (λ x. refl) (λ b q. above_same s log (active s 0 log) b h (sent_ts 0 Hold (active s 0 log) b q)) h)
+    (λ d m a i. same_counts s (Did (Sends (D (dm_no d)) m None)) log refl (λ x. refl)
+    (λ b p. above_same s log (active s 0 log) b h (sent_ts 0 m (active s 0 log) b p)) h)
+    (λ t ts i p. same_counts s (Did (Sends (T (tm_no t)) (Release ts) None)) log refl (λ x. refl)
+    (λ b q. above_same s log (active s 0 log) b h (sent_ts 0 (Release ts) (active s 0 log) b q)) h)
+    (λ t i. same_counts s (Did (Sends (T (tm_no t)) Hold None)) log refl (λ x. refl)
+    (λ b q. above_same s log (active s 0 log) b h (sent_ts 0 Hold (active s 0 log) b q)) h)
     step
 
 pub counted_off : (s : Setting) (log : Log) → number_of s.site ≤ 63 → Each (IsFair s) log → Each (IsFairU s) log → Each (IsCurrent s) log → IsCountedOff s log

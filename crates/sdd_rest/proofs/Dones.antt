@@ -112,7 +112,8 @@ one_there f (x ∷ ms) zero m e p = let q : x ≡ m = cc in let o : one_if (f x)
 one_there f (x ∷ ms) (suc k) m e p = let i = one_there f ms k m e p in omega (arith, i)
 
 -- an Apply of class 0 sends a DONE
-sends_done : (s : Setting) (l : site.Log) (t : Ts) (j : ClassNo) (txn : TxnNo) (dm : DmNo) (sends : List (Site × Msg)) → IsDataStep s l (Records 0 (Apply txn j dm t) sends)
+sends_done : (s : Setting) (l : site.Log) (t : Ts) (j : ClassNo) (txn : TxnNo) (dm : DmNo)
+    (sends : List (Site × Msg)) → IsDataStep s l (Records 0 (Apply txn j dm t) sends)
     → sends ≡ (U, Done t) ∷ []
 sends_done s l t j txn dm sends (applies c ts k x changes e is) =
     let class : 0 ≡ c = cc in
@@ -132,7 +133,9 @@ done_put g log d n ts (Apply txn j dm t) h of x =
     let s : Setting = setting_of g (D (dm_no d)) in
     let act : Act = Records 0 (Apply txn j dm t) x.sends in
     let due = (each_at (IsDueEach s) x.later (Did act) x.before (subst (Each (IsDueEach s)) x.is (d_fair g (dm_no d) log h.permitted))).0 in
-    let sends : x.sends ≡ (U, Done (time_at ts)) ∷ [] = sends_done s x.before t j txn dm x.sends (data_step s x.before act due) ∙ ap (λ y. (U, Done y) ∷ []) of.1 in
+    let sends : x.sends ≡ (U, Done (time_at ts)) ∷ [] =
+    sends_done s x.before t j txn dm x.sends (data_step s x.before act due)
+    ∙ ap (λ y. (U, Done y) ∷ []) of.1 in
     let one : slice_get (to_site U (sends_of_act act)) 0 ≡ Some (Done (time_at ts)) = ap (λ y. slice_get (to_site U y) 0) sends in
     let p = is_put U x.later act x.before 0 (Done (time_at ts)) one in
     (p.0, subst (λ l. slice_get (puts_to U l) p.0 ≡ Some (Done (time_at ts))) (sym x.is) p.1)
@@ -147,7 +150,8 @@ all_done g log later before bases a h sound idle is =
     let x = all_applied g log 0 d later before bases a h sound (omega arith) in_range (idle.processed 0 d (omega arith) in_range) is (inl refl) in
     let p = done_put g log d a.txn a.ts x.rec h x.is (result_in 0 (at_module g d log) x.place x.rec x.there) in
     let same = all_handed g log (D (dm_no d)) U h (home_linked g.catalogue 0 d sound (omega arith) in_range).1 in
-    one_there (is_done_of a.ts) (hands_from (D (dm_no d)) (local_of g U log)) p.0 (Done (time_at a.ts)) (subst (λ ms. slice_get ms p.0 ≡ Some (Done (time_at a.ts))) (sym same) p.1) (same_number a.ts)) in
+    one_there (is_done_of a.ts) (hands_from (D (dm_no d)) (local_of g U log)) p.0 (Done (time_at a.ts))
+    (subst (λ ms. slice_get ms p.0 ≡ Some (Done (time_at a.ts))) (sym same) p.1) (same_number a.ts)) in
     let n = one_each (from_module a.ts (local_of g U log)) g.catalogue.dms 1 each in
     let m = dones_of_modules a.ts g.catalogue.dms 1 (local_of g U log) in
     omega (arith, n, m)
@@ -161,6 +165,7 @@ dones_counted g log k t later before bases a h sound idle i is ts =
     let c = counted_off s (local_of g U log) (omega arith) (u_fair g log h.permitted) (u_table g log h.permitted) (all_current g k t i log h.permitted) in
     let most = dones_few g log a.ts h.permitted in
     let least = all_done g log later before bases a h sound idle is in
-    let same : dones_of (last_served s (local_of g U log)).ts (local_of g U log) ≡ dones_of a.ts (local_of g U log) = ap (λ x. dones_of x (local_of g U log)) ts in
+    let same : dones_of (last_served s (local_of g U log)).ts (local_of g U log) ≡ dones_of a.ts
+    (local_of g U log) = ap (λ x. dones_of x (local_of g U log)) ts in
     let counted = c.counted in
     omega (arith, most, least, same, counted)

@@ -79,7 +79,13 @@ rows_at events (suc k) = refl
 
 pub crossing_table : (events : List Event) → HasOneTable (crossing_with events)
 crossing_table events = record {
-  fits = record { sound = sound_crossing.whole; txns = λ n. text_at (n - 1); rows = λ d. subst (λ rs. IsDatabase crossing (database_of crossing rs)) (sym (rows_at events (d.0 - 1))) no_rows };
+  fits = record {
+    sound = sound_crossing.whole;
+    txns = λ n. text_at (n - 1);
+    rows =
+        λ d. subst (λ rs. IsDatabase crossing (database_of crossing rs)) (sym (rows_at events (d.0 - 1)))
+        no_rows;
+  };
   table = record { table = is_crossing };
   same = refl;
 }
@@ -101,9 +107,13 @@ SubmitsBoth events = (n : ℕ) → submits_in n events ≡ submits_by n (Submit 
 submits_both : (n : ℕ) → (submits_by n (Submit (txn_no 1)) + submits_by n (Submit (txn_no 2)) ≤ 1)
     × (1 ≤ submits_by n (Submit (txn_no 1)) + submits_by n (Submit (txn_no 2)) → IsFrom1To 2 n)
 submits_both n = elim (same_or_not 1 n) [
-  | inl p ↦ subst (λ k. (submits_by k (Submit (txn_no 1)) + submits_by k (Submit (txn_no 2)) ≤ 1) × (1 ≤ submits_by k (Submit (txn_no 1)) + submits_by k (Submit (txn_no 2)) → IsFrom1To 2 k)) p (omega arith, λ l. (omega arith, omega arith))
+  | inl p ↦ subst (λ k. (submits_by k (Submit (txn_no 1)) + submits_by k (Submit (txn_no 2)) ≤ 1)
+      × (1 ≤ submits_by k (Submit (txn_no 1)) + submits_by k (Submit (txn_no 2)) → IsFrom1To 2 k)) p
+      (omega arith, λ l. (omega arith, omega arith))
   | inr p ↦ elim (same_or_not 2 n) [
-    | inl q ↦ subst (λ k. (submits_by k (Submit (txn_no 1)) + submits_by k (Submit (txn_no 2)) ≤ 1) × (1 ≤ submits_by k (Submit (txn_no 1)) + submits_by k (Submit (txn_no 2)) → IsFrom1To 2 k)) q (omega arith, λ l. (omega arith, omega arith))
+    | inl q ↦ subst (λ k. (submits_by k (Submit (txn_no 1)) + submits_by k (Submit (txn_no 2)) ≤ 1)
+        × (1 ≤ submits_by k (Submit (txn_no 1)) + submits_by k (Submit (txn_no 2)) → IsFrom1To 2 k)) q
+        (omega arith, λ l. (omega arith, omega arith))
     | inr q ↦ (let a : submits_by n (Submit (txn_no 1)) ≡ 0 = ap one_if p in
         let b : submits_by n (Submit (txn_no 2)) ≡ 0 = ap one_if q in
         (omega (arith, a, b), λ l. absurd (omega (arith, a, b, l))))

@@ -88,7 +88,8 @@ all_released g log t h sound idle l m =
           let dones = dones_counted g log (t - 1) t at.later at.rest last.bases last.attempt h sound idle place at.is last.ts_is in
           let due : um.release_due g.catalogue (um_views.view_of s lu) (counts t lu) ≡ None = (u_still g log h).releases (t - 1) t place in
           let off = if_none _ _ due in
-          let on : (nat_lt (counts t lu).releases (last_served s lu).commits && ((last_served s lu).dones == g.catalogue.dms)) ≡ true = both _ _ (lt-ltb _ _ less) (eq-eqb _ _ dones) in
+          let on : (nat_lt (counts t lu).releases (last_served s lu).commits && ((last_served s lu).dones ==
+          g.catalogue.dms)) ≡ true = both _ _ (lt-ltb _ _ less) (eq-eqb _ _ dones) in
           absurd (not_both _ on off))
     ]
 
@@ -110,7 +111,8 @@ all_idle g log t idle l =
     (let r = in_mapped (tm_views.class_view (setting_of g (T (tm_no t))) (local_of g (T (tm_no t)) log)) (tm_views.runs (setting_of g (T (tm_no t)))) k x e in
     let run = run_by g r.0 t k r.1 in
     let none = idle.no_attempt r.0 run.2 in
-    let here : active (setting_of g (T (tm_no t))) r.0 (local_of g (T (tm_no t)) log) ≡ None = subst (λ y. active (setting_of g y) r.0 (local_of g y log) ≡ None) run.1 none in
+    let here : active (setting_of g (T (tm_no t))) r.0 (local_of g (T (tm_no t)) log) ≡ None =
+    subst (λ y. active (setting_of g y) r.0 (local_of g y log) ≡ None) run.1 none in
     ap tm_views.is_idle (sym r.2) ∙ ap is_none here))
 
 held_told : (g : Given) (log : Log) (t : ℕ) → IsQuiet g log → IsIdle g log → 1 ≤ t → t ≤ g.catalogue.tms
@@ -130,19 +132,28 @@ held_told g log t h idle l m on =
 
 abbrev AreHolding : Given → Log → Type 0
 AreHolding g log =
-    (t : ℕ) → 1 ≤ t → t ≤ g.catalogue.tms → ((counts t (local_of g U log)).holds ≡ suc (last_served (setting_of g U) (local_of g U log)).commits) × ((counts t (local_of g U log)).helds ≡ suc (last_served (setting_of g U) (local_of g U log)).commits)
+    (t : ℕ) → 1 ≤ t → t ≤ g.catalogue.tms
+    → ((counts t (local_of g U log)).holds ≡ suc
+    (last_served (setting_of g U) (local_of g U log)).commits)
+    × ((counts t (local_of g U log)).helds ≡ suc
+    (last_served (setting_of g U) (local_of g U log)).commits)
 
-u_holding : (g : Given) (log : Log) (q : Queued) → IsQuiet g log → IsSound g.catalogue → IsIdle g log → head_of (queue (setting_of g U) 0 (local_of g U log)) ≡ Some q → AreHolding g log
+u_holding : (g : Given) (log : Log) (q : Queued) → IsQuiet g log → IsSound g.catalogue → IsIdle g log
+    → head_of (queue (setting_of g U) 0 (local_of g U log)) ≡ Some q → AreHolding g log
 u_holding g log q h sound idle e t l m =
     let s = setting_of g U in
     let lu : site.Log = local_of g U log in
     let c = chain_at g (tm_no t) log l m h.permitted in
     let v = level g log t h l m in
     let released = all_released g log t h sound idle l m in
-    let due : um.hold_to (counts t lu) (Some q) ≡ None = subst (λ o. um.hold_to (counts t lu) o ≡ None) e ((u_still g log h).holds (t - 1) t (at_place g.catalogue.tms t l m)) in
+    let due : um.hold_to (counts t lu) (Some q) ≡ None =
+    subst (λ o. um.hold_to (counts t lu) o ≡ None) e ((u_still g log h).holds (t - 1) t
+    (at_place g.catalogue.tms t l m)) in
     let apart : ((counts t lu).releases == (counts t lu).holds) ≡ false = if_none _ _ due in
     let ahead : (counts t lu).releases < (counts t lu).holds = elim (dec_le (counts t lu).holds (counts t lu).releases) [
-      | yes p ↦ (let same : (counts t lu).releases ≡ (counts t lu).holds = omega (arith, p, c.committed, c.started, c.got_held, c.put_held, c.got_hold, c.put_hold) in absurd (not_both _ (eq-eqb _ _ same) apart))
+      | yes p ↦ (let same : (counts t lu).releases ≡ (counts t lu).holds =
+          omega (arith, p, c.committed, c.started, c.got_held, c.put_held, c.got_hold, c.put_hold) in absurd
+          (not_both _ (eq-eqb _ _ same) apart))
       | no p ↦ omega (arith, p)
     ] in
     let on : (holds (local_of g (T (tm_no t)) log)).releases < (holds (local_of g (T (tm_no t)) log)).holds = omega (arith, ahead, v.holds_same, v.releases) in
@@ -206,7 +217,8 @@ t_no_queue g log c t h sound idle l m j i none =
     let lt : site.Log = local_of g (T (tm_no t)) log in
     let off : nat_lt (holds lt).releases (holds lt).holds ≡ false = le-ltb _ _ (let e = off_hold g log t h sound idle l m in omega (arith, e)) in
     let ready = both _ _ (ap not off) (ap is_none none) in
-    no_head (queue s c lt) (no_start g.catalogue (tm_views.view_of s lt) c (head_of (queue s c lt)) (if_started _ _ ready ((t_still g log t h l m).starts j c i)))
+    no_head (queue s c lt) (no_start g.catalogue (tm_views.view_of s lt) c (head_of (queue s c lt))
+    (if_started _ _ ready ((t_still g log t h l m).starts j c i)))
 
 pub finished : (g : Given) (log : Log) → IsQuiet g log → IsSound g.catalogue → IsIdle g log → IsFinished g log
 finished g log h sound idle = record {

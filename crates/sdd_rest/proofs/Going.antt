@@ -63,9 +63,20 @@ to_ship ts c x b = record {
 to_next : (ts c : ℕ) (x : Exchange) (qs : List Asking) (done : List Step) → IsBetween x → AllAskParts qs → IsGoing (goes_on ts c x qs done)
 to_next ts c x [] done b parts = to_ship ts c x b
 to_next ts c x (q ∷ rest) done b parts =
-    elim (next_move q.conds (counts_for x.counts q) done) as (λ o. next_move q.conds (counts_for x.counts q) done ≡ o → IsGoing (elim o as (λ _. Exchange) [ None ↦ goes_on ts c x rest [] | Some m ↦ fetches ts c (move_at q.before m) (record x { left = q ∷ rest; done = done ++ m.step ∷ [] }) ])) [
+    elim (next_move q.conds (counts_for x.counts q) done) as (λ o. next_move q.conds
+    (counts_for x.counts q) done ≡ o
+    → IsGoing (elim o as (λ _. Exchange) [
+      | None ↦ goes_on ts c x rest []
+      | Some m ↦ fetches ts c
+          (move_at q.before m) (record x { left = q ∷ rest; done = done ++ m.step ∷ [] })
+    ])) [
       | None ↦ λ e. to_next ts c x rest [] b parts.1
-      | Some m ↦ λ e. to_fetch ts c (move_at q.before m) (record x { left = q ∷ rest; done = done ++ m.step ∷ [] }) (with_use x (move_at q.before m).source.part) (b.0, b.1, parts) (move_reads x q done m b.1 parts.0 e)
+      | Some m ↦ λ e. to_fetch ts c (move_at q.before m) (record x {
+        left = q ∷ rest;
+        done =
+            done ++ m.step ∷ [];
+      }) (with_use x (move_at q.before m).source.part) (b.0, b.1, parts)
+          (move_reads x q done m b.1 parts.0 e)
     ] refl
 
 is_not_over : (x : Exchange) (p : Phase) → IsCounted x → x.phase ≡ p → is_over p ≡ false → IsBetween x
@@ -82,7 +93,13 @@ ended ts c x Shipping k e = record {
 ended ts c x Over k e = record { counted = k; lacks = λ z. never (is_over x.phase) (ap is_over e) z }
 
 lacks_now : (ts c : ℕ) (x : Exchange) (ds : List ℕ) → IsCounted x → IsGoing (lacking ts c x ds)
-lacks_now ts c x [] k = ended ts c (record x { lacks = [] }) x.phase (record { modules = k.modules; reduces = k.reduces; counts = k.counts; left = k.left }) refl
+lacks_now ts c x [] k = ended ts c (record x { lacks = [] }) x.phase (record {
+  modules =
+      k.modules;
+  reduces = k.reduces;
+  counts = k.counts;
+  left = k.left;
+}) refl
 lacks_now ts c x (d ∷ ds) k =
     record { counted = record { modules = k.modules; reduces = k.reduces; counts = k.counts; left = k.left }; lacks = λ e. refl }
 
@@ -185,16 +202,48 @@ hand_goes ts c d (Ready t k counts) x r h =
     (let w = r e in
     let us : map (λ (n : ℕ × ℕ). n.0) counts ≡ w.uses = ready_uses w.uses w.question t k counts w.replies in
     let all : AllRead x.modules w.uses = all_read x.modules d w.uses (λ u f. subst (λ l. contains l u ≡ true) (sym w.uses_are) f) in
-    record { modules = h.counted.modules; reduces = h.counted.reduces; counts = counted_read d x.modules counts x.counts (subst (AllRead x.modules) (sym us) all) h.counted.counts; left = h.counted.left }))
+    record {
+      modules = h.counted.modules;
+      reduces = h.counted.reduces;
+      counts =
+          counted_read d x.modules counts x.counts (subst (AllRead x.modules) (sym us) all) h.counted.counts;
+      left = h.counted.left;
+    }))
 hand_goes ts c d (Values t k u values) x r h =
-    answer_if ts c d ((t.0 == ts) && (k.0 == c)) x (record x { union = with_values x.union values; values = x.values + length values }) h (λ e. record { modules = h.counted.modules; reduces = h.counted.reduces; counts = h.counted.counts; left = h.counted.left })
+    answer_if ts c d ((t.0 == ts) && (k.0 == c)) x (record x {
+      union = with_values x.union values;
+      values =
+          x.values + length values;
+    }) h (λ e. record {
+      modules = h.counted.modules;
+      reduces =
+          h.counted.reduces;
+      counts = h.counted.counts;
+      left = h.counted.left;
+    })
 hand_goes ts c d (Reduced t k u n) x r h =
     answer_if ts c d ((t.0 == ts) && (k.0 == c)) x (record x { counts = counted d ((u, n) ∷ []) x.counts }) h (λ e.
     (let w = r e in
     let read : IsRead x.modules u = reduced_use x.modules w.uses x.phase w.question t k u n w.replies w.awaited h.counted.reduces in
-    record { modules = h.counted.modules; reduces = h.counted.reduces; counts = counted_read d x.modules ((u, n) ∷ []) x.counts (read, tt) h.counted.counts; left = h.counted.left }))
+    record {
+      modules = h.counted.modules;
+      reduces = h.counted.reduces;
+      counts =
+          counted_read d x.modules ((u, n) ∷ []) x.counts (read, tt) h.counted.counts;
+      left = h.counted.left;
+    }))
 hand_goes ts c d (Rows t k rows) x r h =
-    answer_if ts c d ((t.0 == ts) && (k.0 == c)) x (record x { found = x.found ++ rows; rows = x.rows + length rows }) h (λ e. record { modules = h.counted.modules; reduces = h.counted.reduces; counts = h.counted.counts; left = h.counted.left })
+    answer_if ts c d ((t.0 == ts) && (k.0 == c)) x (record x {
+      found = x.found ++ rows;
+      rows =
+          x.rows + length rows;
+    }) h (λ e. record {
+      modules = h.counted.modules;
+      reduces =
+          h.counted.reduces;
+      counts = h.counted.counts;
+      left = h.counted.left;
+    })
 hand_goes ts c d _ x r h = h
 
 send_goes : (x : Exchange) → IsGoing x → IsGoing (after_send x)
@@ -203,14 +252,29 @@ send_goes x h = record {
   lacks = h.lacks;
 }
 
-begun : (ms : List (ℕ × List ℕ)) (x : Exchange) → x.modules ≡ ms → x.phase ≡ first_phase ms → x.lacks ≡ map (λ (m : ℕ × List ℕ). m.0) ms → x.counts ≡ [] → AllAskParts x.left
+begun : (ms : List (ℕ × List ℕ)) (x : Exchange) → x.modules ≡ ms → x.phase ≡ first_phase ms
+    → x.lacks ≡ map (λ (m : ℕ × List ℕ). m.0) ms → x.counts ≡ [] → AllAskParts x.left
     → IsGoing x
 begun [] x m p l e parts = record {
-  counted = record { modules = λ z. never (is_over x.phase) (ap is_over p) z; reduces = subst (ReducesRead x.modules) (sym p) tt; counts = subst (CountsRead x.modules) (sym e) tt; left = parts };
+  counted = record {
+    modules = λ z. never (is_over x.phase) (ap is_over p) z;
+    reduces =
+        subst (ReducesRead x.modules) (sym p) tt;
+    counts = subst (CountsRead x.modules) (sym e) tt;
+    left =
+        parts;
+  };
   lacks = λ z. never (is_over x.phase) (ap is_over p) z;
 }
 begun (a ∷ ms) x m p l e parts = record {
-  counted = record { modules = λ z. ap is_empty m; reduces = subst (ReducesRead x.modules) (sym p) tt; counts = subst (CountsRead x.modules) (sym e) tt; left = parts };
+  counted = record {
+    modules = λ z. ap is_empty m;
+    reduces =
+        subst (ReducesRead x.modules) (sym p) tt;
+    counts = subst (CountsRead x.modules) (sym e) tt;
+    left =
+        parts;
+  };
   lacks = λ z. ap is_empty l;
 }
 
@@ -227,7 +291,8 @@ started_goes : (ts : ℕ) (sends : List (Site × Msg)) (o : Option Queued) → G
 started_goes ts sends None = tt
 started_goes ts sends (Some q) = λ parts. begun (filter_map module_read sends) (begins q.text sends) refl refl refl refl parts
 
-handed_goes : (s : Setting) (c : ℕ) (log : Log) (d : ℕ) (m : Msg) (o : Option Attempt) → active s c log ≡ o → InTurn s c log → IsTimely c log (Handed (D (dm_no d)) m)
+handed_goes : (s : Setting) (c : ℕ) (log : Log) (d : ℕ) (m : Msg) (o : Option Attempt) → active s c log ≡ o
+    → InTurn s c log → IsTimely c log (Handed (D (dm_no d)) m)
     → GoesOf o → GoesOf (active_handed c (D (dm_no d)) m o)
 handed_goes s c log d m None e i timely h = tt
 handed_goes s c log d m (Some a) e i timely h =
@@ -240,8 +305,10 @@ sent_goes c m None h = tt
 sent_goes c m (Some a) h =
     if_way GoesOf (asks_rows a.ts c m) (Some (record a { exchange = after_send a.exchange })) (Some a) (λ parts. send_goes a.exchange (h parts)) h
 
-record_goes : (c k : ℕ) (r : Rec) (sends : List (Site × Msg)) (qs : List Queued) (o : Option Attempt) → GoesOf o → GoesOf (active_after c (Records k r sends) qs o)
-record_goes c k (Start txn attempt class ts p2 uses) sends qs o h = if_way GoesOf (k == c) (started ts.0 sends (head_of qs)) o (started_goes ts.0 sends (head_of qs)) h
+record_goes : (c k : ℕ) (r : Rec) (sends : List (Site × Msg)) (qs : List Queued) (o : Option Attempt)
+    → GoesOf o → GoesOf (active_after c (Records k r sends) qs o)
+record_goes c k (Start txn attempt class ts p2 uses) sends qs o h =
+    if_way GoesOf (k == c) (started ts.0 sends (head_of qs)) o (started_goes ts.0 sends (head_of qs)) h
 record_goes c k (Commit txn attempt reply changes values rows) sends qs o h = if_way GoesOf (k == c) None o tt h
 record_goes c k _ sends qs o h = h
 

@@ -73,7 +73,9 @@ pub none_left : (g : Given) (log : Log) (a b : Site) → IsQuiet g log → is_li
     → length (puts_to b (local_of g a log)) ≤ handed a b log
 none_left g log a b h e =
     let k = link_there g.catalogue.tms g.catalogue.dms a b e in
-    let q : is_quiet_link (link a b (calls_of log)) ≡ true = all_at (λ (l : Site × Site). is_quiet_link (link l.0 l.1 (calls_of log))) (all_links g) k.0 (a, b) h.links k.1 in
+    let q : is_quiet_link (link a b (calls_of log)) ≡ true =
+    all_at (λ (l : Site × Site). is_quiet_link (link l.0 l.1 (calls_of log))) (all_links g) k.0
+    (a, b) h.links k.1 in
     let acked : length (sent a b log) ≤ (link_of a b log).there.acked = le_is _ _ (and_right (is_empty (link_of a b log).there.flight) _ q) in
     let arrived : (link_of a b log).there.acked ≤ delivered (link_of a b log).there = (sound a b (calls_of log)).there.acked in
     let none : hand_on log (a, b) ≡ None = none_at (hand_on log) (all_links g) k.0 (a, b) h.no_hand k.1 in

@@ -41,7 +41,8 @@ asks_no_hold ts c to (Reduce t k u col values) hand e = refl
 asks_no_hold ts c to (Ship t k) hand e = refl
 asks_no_hold ts c to _ hand e = cc
 
-no_hold_to_commit : (cat : Catalogue) (bases : Bases) (a : Attempt) (b : Bool) (act : Act) → (if b then Some (commit_act cat bases 0 a) else None) ≡ Some act → is_hold act ≡ false
+no_hold_to_commit : (cat : Catalogue) (bases : Bases) (a : Attempt) (b : Bool) (act : Act)
+    → (if b then Some (commit_act cat bases 0 a) else None) ≡ Some act → is_hold act ≡ false
 no_hold_to_commit cat bases a true act e = no_hold_here (commit_act cat bases 0 a) act refl e
 no_hold_to_commit cat bases a false act e = cc
 
@@ -51,7 +52,8 @@ no_hold_to_send s log bases a [] act i p e = no_hold_to_commit s.catalogue bases
 no_hold_to_send s log bases a (m ∷ rest) act i p e =
     no_hold_here (Sends (D (dm_no m.0)) m.1 None) act (asks_no_hold a.ts 0 (D (dm_no m.0)) m.1 None (asks_next s 0 log a m i (ap head_of p))) e
 
-no_hold_by_attempt : (s : Setting) (log : Log) (bases : Bases) (o : Option Attempt) (act : Act) → active s 0 log ≡ o → attempt_due s.catalogue bases 0 o ≡ Some act → is_hold act ≡ false
+no_hold_by_attempt : (s : Setting) (log : Log) (bases : Bases) (o : Option Attempt) (act : Act)
+    → active s 0 log ≡ o → attempt_due s.catalogue bases 0 o ≡ Some act → is_hold act ≡ false
 no_hold_by_attempt s log bases None act i e = cc
 no_hold_by_attempt s log bases (Some a) act i e = no_hold_to_send s log bases a a.exchange.to_send act i refl e
 
@@ -59,10 +61,12 @@ no_hold_if : (b : Bool) (x a : Act) → is_hold x ≡ false → (if b then Some 
 no_hold_if true x a h e = no_hold_here x a h e
 no_hold_if false x a h e = cc
 
-no_hold : (s : Setting) (log : Log) (bases : Bases) (act : Act) → head_of (queue s 0 log) ≡ None → IsDue s.catalogue bases (view_of s log) act → is_hold act ≡ false
+no_hold : (s : Setting) (log : Log) (bases : Bases) (act : Act) → head_of (queue s 0 log) ≡ None
+    → IsDue s.catalogue bases (view_of s log) act → is_hold act ≡ false
 no_hold s log bases act e (by_exchange p) = no_hold_by_attempt s log bases (active s 0 log) act refl p
 no_hold s log bases act e (by_release n k p q) = no_hold_if _ _ act refl q
-no_hold s log bases act e (by_start p) = let q : start_of s.catalogue (view_of s log) None ≡ Some act = subst (λ o. start_of s.catalogue (view_of s log) o ≡ Some act) e p in cc
+no_hold s log bases act e (by_start p) = let q : start_of s.catalogue (view_of s log) None ≡ Some act =
+    subst (λ o. start_of s.catalogue (view_of s log) o ≡ Some act) e p in cc
 no_hold s log bases act e (by_hold n k p q) = let r : hold_to k None ≡ Some act = subst (λ o. hold_to k o ≡ Some act) e q in cc
 
 -- where none waits, no more HOLDs are sent than there are Commits
@@ -78,8 +82,11 @@ head_mapped : (f : Queued → Queued) (qs : List Queued) (q : Queued) → head_o
 head_mapped f [] q e = cc
 head_mapped f (x ∷ qs) q e = (f x, refl)
 
-needed_on : (s : Setting) (t : ℕ) (e : Entry) (log : Log) → (counts t (e ∷ log)).holds ≡ (counts t log).holds → (last_served s (e ∷ log)).commits ≡ (last_served s log).commits
-    → ((q : Queued) → head_of (queue s 0 log) ≡ Some q → (x : Queued) × (head_of (queue s 0 (e ∷ log)) ≡ Some x)) → HoldsNeeded s t log → HoldsNeeded s t (e ∷ log)
+needed_on : (s : Setting) (t : ℕ) (e : Entry) (log : Log)
+    → (counts t (e ∷ log)).holds ≡ (counts t log).holds
+    → (last_served s (e ∷ log)).commits ≡ (last_served s log).commits
+    → ((q : Queued) → head_of (queue s 0 log) ≡ Some q → (x : Queued)
+    × (head_of (queue s 0 (e ∷ log)) ≡ Some x)) → HoldsNeeded s t log → HoldsNeeded s t (e ∷ log)
 needed_on s t e log a b c (inl h) = inl (omega (arith, h, a, b))
 needed_on s t e log a b c (inr h) = inr (c h.0 h.1)
 
@@ -89,7 +96,8 @@ needed_commit s t bases a log c l = let r = c.released in inl (omega (arith, l, 
 
 release_holds : (t n : ℕ) (ts : Ts) (log : Log) → (counts_acted (Sends (T (tm_no n)) (Release ts) None) (counts t log)).holds ≡ (counts t log).holds
 release_holds t n ts log =
-    if_way (λ (k : TmCounts). k.holds ≡ (counts t log).holds) (n == (counts t log).tm) (record (counts t log) { releases = suc (counts t log).releases }) (counts t log) refl refl
+    if_way (λ (k : TmCounts). k.holds ≡ (counts t log).holds) (n == (counts t log).tm)
+    (record (counts t log) { releases = suc (counts t log).releases }) (counts t log) refl refl
 
 exchange_holds : (d : ℕ) (m : Msg) (ts : ℕ) (k : TmCounts) → asks_rows ts 0 m ≡ true → counts_acted (Sends (D (dm_no d)) m None) k ≡ k
 exchange_holds d (Fetch t c u col) ts k e = refl
@@ -103,7 +111,8 @@ needed_act s t log act c l step or h =
     u_way s log act (λ x. is_hold x ≡ false ⊎ ((q : Queued) × (head_of (queue s 0 log) ≡ Some q)) → HoldsNeeded s t (Did x ∷ log))
     (λ q e z r. λ o. needed_on s t (Did (start_at s 0 log q)) log refl refl (λ p i. head_mapped (tried q.number) (queue s 0 log) p i) h)
     (λ bases a e. λ o. needed_commit s t bases a log c l)
-    (λ d m a e. λ o. needed_on s t (Did (Sends (D (dm_no d)) m None)) log (ap (λ (k : TmCounts). k.holds) (exchange_holds d m a.ts (counts t log) e)) refl (λ p i. (p, i)) h)
+    (λ d m a e. λ o. needed_on s t (Did (Sends (D (dm_no d)) m None)) log (ap (λ (k : TmCounts). k.holds)
+    (exchange_holds d m a.ts (counts t log) e)) refl (λ p i. (p, i)) h)
     (λ n ts i w. λ o. needed_on s t (Did (Sends (T (tm_no n)) (Release ts) None)) log (release_holds t n ts log) refl (λ p i. (p, i)) h)
     (λ n i. λ o. elim o [ inl p ↦ cc | inr p ↦ inr p ])
     step or
@@ -118,7 +127,8 @@ one_ahead s t log c =
     let p = one_if_le c.state in
     omega (arith, whole, p, c.holds_are, c.releases_are)
 
-hold_or_head : (s : Setting) (log : Log) (bases : Bases) (act : Act) (o : Option Queued) → head_of (queue s 0 log) ≡ o → IsDue s.catalogue bases (view_of s log) act
+hold_or_head : (s : Setting) (log : Log) (bases : Bases) (act : Act) (o : Option Queued)
+    → head_of (queue s 0 log) ≡ o → IsDue s.catalogue bases (view_of s log) act
     → is_hold act ≡ false ⊎ ((q : Queued) × (head_of (queue s 0 log) ≡ Some q))
 hold_or_head s log bases act None e h = inl (no_hold s log bases act e h)
 hold_or_head s log bases act (Some q) e h = inr (q, e)
@@ -134,10 +144,17 @@ holds_needed s k t (Handed from m ∷ log) i h =
 holds_needed s k t (Ticked n ∷ log) i h = needed_on s t (Ticked n) log refl refl (λ q e. (q, e)) (holds_needed s k t log i h.1)
 holds_needed s k t (Redeclared force n ∷ log) i h = needed_on s t (Redeclared force n) log refl refl (λ q e. (q, e)) (holds_needed s k t log i h.1)
 holds_needed s k t (Submits n txn ∷ log) i h =
-    needed_on s t (Submits n txn) log refl refl (λ q e. submitted_head (is_for 0 (in_force s log).catalogue txn) (queue s 0 log) (record { number = n; text = txn; tries = 0 }) q e) (holds_needed s k t log i h.1)
+    needed_on s t (Submits n txn) log refl refl
+    (λ q e. submitted_head (is_for 0 (in_force s log).catalogue txn) (queue s 0 log) (record {
+      number =
+          n;
+      text = txn;
+      tries = 0;
+    }) q e) (holds_needed s k t log i h.1)
 holds_needed s k t (Did act ∷ log) i h =
     let c = chain s k t log i h.1 in
-    needed_act s t log act c (one_ahead s t log c) (u_due s h.0.0.0 log act h.0.0.1) (hold_or_head s log h.0.0.0 act (head_of (queue s 0 log)) refl h.0.0.1) (holds_needed s k t log i h.1)
+    needed_act s t log act c (one_ahead s t log c) (u_due s h.0.0.0 log act h.0.0.1)
+    (hold_or_head s log h.0.0.0 act (head_of (queue s 0 log)) refl h.0.0.1) (holds_needed s k t log i h.1)
 
 -- the last Commit
 
@@ -156,7 +173,8 @@ later_entry s e log p c =
 abbrev CommitIfAny : Setting → Log → Type 0
 CommitIfAny s log = 0 < (last_served s log).commits → IsLastCommit s log
 
-any_later : (s : Setting) (e : Entry) (log : Log) → (last_served s (e ∷ log)).ts ≡ (last_served s log).ts → (last_served s (e ∷ log)).commits ≡ (last_served s log).commits
+any_later : (s : Setting) (e : Entry) (log : Log) → (last_served s (e ∷ log)).ts ≡ (last_served s log).ts
+    → (last_served s (e ∷ log)).commits ≡ (last_served s log).commits
     → CommitIfAny s log → CommitIfAny s (e ∷ log)
 any_later s e log p q h = λ l. later_entry s e log p (h (subst (λ n. 0 < n) q l))
 

@@ -72,7 +72,8 @@ conds_parts : (cat : Catalogue) (rels : List RelNo) (conds : List Condition) →
 conds_parts cat rels [] h = tt
 conds_parts cat rels (q ∷ conds) h = (cond_parts cat rels q h.0, conds_parts cat rels conds h.1)
 
-askings_parts : (cat : Catalogue) (before : ℕ) (statements : List Stmt) → AllByRecursion (FitsStatement cat) statements → AllAskParts (askings before statements)
+askings_parts : (cat : Catalogue) (before : ℕ) (statements : List Stmt)
+    → AllByRecursion (FitsStatement cat) statements → AllAskParts (askings before statements)
 askings_parts cat before [] h = tt
 askings_parts cat before (Put rel row ∷ rest) h = askings_parts cat (before + uses_in (Put rel row)) rest h.1
 askings_parts cat before (Update rel sets conds ∷ rest) h = askings_parts cat (before + uses_in (Update rel sets conds)) rest h.1
@@ -138,7 +139,8 @@ pub same_turn : (g : Given) (log : Log) (c d ts : ℕ) → IsQuiet g log → IsS
 same_turn g log c d ts h sound l m =
     let linked = home_linked g.catalogue c d sound l m in
     one_turn _ _ _ _ ((spoken g c log h.permitted (small_home g.catalogue sound c l)).stages ts d)
-    (ap (questions ts c) (none_in_flight g log (home g.catalogue c) (D (dm_no d)) h linked.0)) (ap (answers ts c) (none_in_flight g log (D (dm_no d)) (home g.catalogue c) h linked.1))
+    (ap (questions ts c) (none_in_flight g log (home g.catalogue c) (D (dm_no d)) h linked.0))
+    (ap (answers ts c) (none_in_flight g log (D (dm_no d)) (home g.catalogue c) h linked.1))
 
 -- no question of rows stands open
 
@@ -164,14 +166,18 @@ none_asked h k os (Some o) e f =
 class_there : (s : site.Setting) (log : site.Log) (c : ℕ) → c ≤ length s.catalogue.classes → slice_get (view_of s log).classes c ≡ Some (class_view s log c)
 class_there s log c l =
     let z : 0 + c ≡ c = omega arith in
-    at_map (class_view s log) (classes_of s) c c (subst (λ x. slice_get (classes_of s) c ≡ Some x) z (range_at 0 (suc (length s.catalogue.classes)) c (omega (arith, l))))
+    at_map (class_view s log) (classes_of s) c c (subst (λ x. slice_get (classes_of s) c ≡ Some x) z
+    (range_at 0 (suc (length s.catalogue.classes)) c (omega (arith, l))))
 
-pub none_open : (g : Given) (log : Log) (c d : ℕ) → IsQuiet g log → IsClass g.catalogue c → IsModule g.catalogue d → filter (is_asked_of c) (opens (at_module g d log)) ≡ []
+pub none_open : (g : Given) (log : Log) (c d : ℕ) → IsQuiet g log → IsClass g.catalogue c
+    → IsModule g.catalogue d → filter (is_asked_of c) (opens (at_module g d log)) ≡ []
 none_open g log c d h l m =
     let s = setting_of g (D (dm_no d)) in
     let v : View = view_of s (at_module g d log) in
     let p = or_none (first_some (open_due (home_of s) v) v.classes) _ (d_still g log d h m) in
-    let none : open_due (home_of s) v (class_view s (at_module g d log) c) ≡ None = none_at (open_due (home_of s) v) v.classes c (class_view s (at_module g d log) c) p.0 (class_there s (at_module g d log) c l) in
+    let none : open_due (home_of s) v (class_view s (at_module g d log) c) ≡ None =
+    none_at (open_due (home_of s) v) v.classes c (class_view s (at_module g d log) c) p.0
+    (class_there s (at_module g d log) c l) in
     none_asked (home_of s) (class_view s (at_module g d log) c) (opens (at_module g d log)) _ refl none
 
 tail_none : {A : Type 0} (b : Bool) (x : A) (xs : List A) → cond b (x ∷ xs) xs ≡ [] → xs ≡ []
@@ -188,7 +194,8 @@ less_left f g (x ∷ xs) i e =
 
 -- the question that stands is a READ
 
-not_rows : (ts c : ℕ) (at : Site) (os : List Open) (ns : List ℕ) (m : Msg) → filter (asks_open ts c) os ≡ [] → map asker (filter (asks_open ts c) os) ≡ map (from_site at) (rows_asked ts c (Asks ns m))
+not_rows : (ts c : ℕ) (at : Site) (os : List Open) (ns : List ℕ) (m : Msg) → filter (asks_open ts c) os ≡ []
+    → map asker (filter (asks_open ts c) os) ≡ map (from_site at) (rows_asked ts c (Asks ns m))
     → asks_rows ts c m ≡ false
 not_rows ts c at os ns m e f =
     elim (asks_rows ts c m) as (λ b. [] ≡ map (from_site at) (if b then m ∷ [] else []) → b ≡ false) [
@@ -203,7 +210,8 @@ read_it_is ts c (Reduce t k u col values) e f = absurd (not_both _ e f)
 read_it_is ts c (Ship t k) e f = absurd (not_both _ e f)
 read_it_is ts c _ e f = cc
 
-read_there : (ts c : ℕ) (ns : List ℕ) (m : Msg) (unprocessed : List Msg) → is_read ts c m ≡ true → filter (is_read ts c) unprocessed ≡ reads_asked ts c (Asks ns m)
+read_there : (ts c : ℕ) (ns : List ℕ) (m : Msg) (unprocessed : List Msg) → is_read ts c m ≡ true
+    → filter (is_read ts c) unprocessed ≡ reads_asked ts c (Asks ns m)
     → slice_get (filter (is_read ts c) unprocessed) 0 ≡ Some m
 read_there ts c ns m unprocessed e f = rw (f, e) refl
 
@@ -213,8 +221,11 @@ goes_on g log c a h good l e =
     let s = setting_of g (home g.catalogue c) in
     let at = home g.catalogue c in
     let sp = spoken g c log h (small_home g.catalogue good.sound c l) in
-    let text : FitsText g.catalogue a.text = active_so (FitsText g.catalogue) s c (at_home g c log) a (home_fair g c log h) (all_new g at log h) (submitted_fit g good at c log h) e in
-    let parts : AllAskParts (askings 0 a.text.statements) = askings_parts g.catalogue 0 a.text.statements (recursion_from_All (FitsStatement g.catalogue) a.text.statements text.fits.statements) in
+    let text : FitsText g.catalogue a.text = active_so (FitsText g.catalogue) s c (at_home g c log) a
+    (home_fair g c log h) (all_new g at log h) (submitted_fit g good at c log h) e in
+    let parts : AllAskParts (askings 0 a.text.statements) =
+    askings_parts g.catalogue 0 a.text.statements
+    (recursion_from_All (FitsStatement g.catalogue) a.text.statements text.fits.statements) in
     is_going s c (at_home g c log) a (home_fair g c log h) (home_first g c log h) sp.timely_at e parts
 
 pub has_unanswered : (g : Given) (log : Log) (c : ℕ) (a : Attempt) → IsQuiet g log → FitsGiven g → IsClass g.catalogue c
@@ -225,17 +236,27 @@ has_unanswered g log c a h good l e =
     let sp = spoken g c log h.permitted (small_home g.catalogue good.sound c l) in
     let turns = home_turns g c log h.permitted sp in
     let going = goes_on g log c a h.permitted good l e in
-    let waits = waits_for g.catalogue (base_of g log) c a (subst (λ o. attempt_due g.catalogue (base_of g log) c o ≡ None) e (exchange_none g log c h good.sound l)) in
+    let waits = waits_for g.catalogue (base_of g log) c a
+    (subst (λ o. attempt_due g.catalogue (base_of g log) c o ≡ None) e
+    (exchange_none g log c h good.sound l)) in
     let lack = lacking_one a.exchange.lacks (going.lacks waits.not_over) in
     let d : ℕ = lack.0 in
-    let stands : AtTurn a.ts d (Some a) (turn_at a.ts c d (at_home g c log)) = subst (λ o. AtTurn a.ts d o (turn_at a.ts c d (at_home g c log))) e (turns.turns a.ts d) in
+    let stands : AtTurn a.ts d (Some a) (turn_at a.ts c d (at_home g c log)) =
+    subst (λ o. AtTurn a.ts d o (turn_at a.ts c d (at_home g c log))) e (turns.turns a.ts d) in
     let q = asked_at d a.exchange (turn_at a.ts c d (at_home g c log)) waits.nothing_to_send lack.1 (stands.0 refl) in
-    let near : IsNearBy g.catalogue.dms a.exchange = subst (HasNear g.catalogue.dms) e (active_near s c (at_home g c log) (sound_whole g.catalogue good.sound) (home_fair g c log h.permitted)) in
+    let near : IsNearBy g.catalogue.dms a.exchange =
+    subst (HasNear g.catalogue.dms) e (active_near s c (at_home g c log)
+    (sound_whole g.catalogue good.sound) (home_fair g c log h.permitted)) in
     let m : IsModule g.catalogue d = near_one g.catalogue.dms d a.exchange.modules a.exchange near q.within in
     let there : turn_with a.ts c at (at_module g d log) ≡ Asks q.uses q.question = sym (same_turn g log c d a.ts h good.sound l m) ∙ q.is in
-    let has : HasTurn a.ts c at (opens (at_module g d log)) (pipe c (at_module g d log)) (Asks q.uses q.question) = subst (HasTurn a.ts c at (opens (at_module g d log)) (pipe c (at_module g d log))) there (data_turns g a.ts c d log h.permitted sp) in
-    let none : filter (asks_open a.ts c) (opens (at_module g d log)) ≡ [] = less_left (asks_open a.ts c) (is_asked_of c) (opens (at_module g d log)) (λ o f. asks_class a.ts c o.msg f) (none_open g log c d h l m) in
+    let has : HasTurn a.ts c at (opens (at_module g d log)) (pipe c (at_module g d log))
+    (Asks q.uses q.question) = subst (HasTurn a.ts c at (opens (at_module g d log))
+    (pipe c (at_module g d log))) there (data_turns g a.ts c d log h.permitted sp) in
+    let none : filter (asks_open a.ts c) (opens (at_module g d log)) ≡ [] =
+    less_left (asks_open a.ts c) (is_asked_of c) (opens (at_module g d log))
+    (λ o f. asks_class a.ts c o.msg f) (none_open g log c d h l m) in
     let no_rows = not_rows a.ts c at (opens (at_module g d log)) q.uses q.question none has.rows_are in
     let read = read_it_is a.ts c q.question has.own.0 no_rows in
-    let i = in_filtered (is_read a.ts c) (pipe c (at_module g d log)).unprocessed 0 q.question (read_there a.ts c q.uses q.question (pipe c (at_module g d log)).unprocessed read has.reads_are) in
+    let i = in_filtered (is_read a.ts c) (pipe c (at_module g d log)).unprocessed 0 q.question
+    (read_there a.ts c q.uses q.question (pipe c (at_module g d log)).unprocessed read has.reads_are) in
     record { d = d; module_is = m; place = i.1; message = q.question; there = i.2; is_its = read }

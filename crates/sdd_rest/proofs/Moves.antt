@@ -25,7 +25,8 @@ moves_parts : (k : ℕ) (conds : List Condition) → AllHaveParts conds → AllR
 moves_parts k [] h = tt
 moves_parts k (Const left op value ∷ rest) h = moves_parts (k + 1) rest h.1
 moves_parts k (Same left right ∷ rest) h =
-    join_parts (left.part == right.part) (record { number = k; left = left; right = right }) (joins_from (k + 1) rest) h.0.0 h.0.1 (moves_parts (k + 1) rest h.1)
+    join_parts (left.part == right.part) (record { number = k; left = left; right = right })
+    (joins_from (k + 1) rest) h.0.0 h.0.1 (moves_parts (k + 1) rest h.1)
 
 -- the one that is chosen has a target with rows
 abbrev HasTarget : List ℕ → Move → Type 0
@@ -44,7 +45,9 @@ has_target counts done m l e = (l, some_rows (rows_at counts m.source.part) (row
 candidates : (counts : List ℕ) (done : List Step) (ms : List Move) → AllReduceParts ms → AllHaveTargets counts (filter (is_candidate counts done) ms)
 candidates counts done [] h = tt
 candidates counts done (m ∷ ms) h =
-    elim (is_candidate counts done m) as (λ b. is_candidate counts done m ≡ b → AllHaveTargets counts (cond b (m ∷ filter (is_candidate counts done) ms) (filter (is_candidate counts done) ms))) [
+    elim (is_candidate counts done m) as (λ b. is_candidate counts done m ≡ b
+    → AllHaveTargets counts (cond b (m ∷ filter (is_candidate counts done) ms)
+    (filter (is_candidate counts done) ms))) [
       | true ↦ λ e. (has_target counts done m h.0 e, candidates counts done ms h.1)
       | false ↦ λ e. candidates counts done ms h.1
     ] refl
@@ -98,5 +101,7 @@ count_read modules counts u h l = elim (none_or_read modules counts u h) [
 pub move_reads : (x : Exchange) (q : Asking) (done : List Step) (m : Move) → CountsRead x.modules x.counts → AllHaveParts q.conds
     → next_move q.conds (counts_for x.counts q) done ≡ Some m → IsRead x.modules (move_at q.before m).target.part
 move_reads x q done m h parts e =
-    let t = fewest_has (counts_for x.counts q) (filter (is_candidate (counts_for x.counts q) done) (moves q.conds)) m (candidates (counts_for x.counts q) done (moves q.conds) (moves_parts 1 q.conds parts)) e in
+    let t = fewest_has (counts_for x.counts q) (filter (is_candidate (counts_for x.counts q) done)
+    (moves q.conds)) m (candidates (counts_for x.counts q) done (moves q.conds)
+    (moves_parts 1 q.conds parts)) e in
     count_read x.modules x.counts (q.before + m.target.part) h (rows_counted x.counts q m.target.part t.0 t.1)

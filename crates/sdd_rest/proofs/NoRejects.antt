@@ -63,11 +63,14 @@ read_module g c d log ts k txn n conds uses whole h e =
     let p = head_put g c d log m h e in
     let l = local_of g (home g.catalogue c) p.before in
     let r : IsRead s l p.act c ts.0 txn.0 n = subst (λ j. IsRead s l p.act j ts.0 txn.0 n) (class_number k.0 c ts.0 p.of_class) p.by in
-    let there : slice_get (to_site (D d) (sends_of_act (start_at s c l r.queued))) p.place ≡ Some m = subst (λ y. slice_get (to_site (D d) (sends_of_act y)) p.place ≡ Some m) r.act_is p.there in
+    let there : slice_get (to_site (D d) (sends_of_act (start_at s c l r.queued))) p.place ≡ Some m =
+    subst (λ y. slice_get (to_site (D d) (sends_of_act y)) p.place ≡ Some m) r.act_is p.there in
     let sent = sent_to_each (start_read s c l r.queued) (modules_asked s c r.queued.text) d.0 (strict_asked s c r.queued) in
     elim (true_or_false (contains (modules_asked s c r.queued.text) d.0)) [
-      | inl q ↦ near_one g.catalogue.dms d.0 (modules_asked s c r.queued.text) (modules_near g.catalogue c (ascending (fragments_in (uses_of g.catalogue r.queued.text))) whole) q
-      | inr q ↦ in_none (to_site (D d) (sends_of_act (start_at s c l r.queued))) p.place m (sent ∙ ap (λ (b : Bool). if b then start_read s c l r.queued d.0 ∷ [] else []) q) there
+      | inl q ↦ near_one g.catalogue.dms d.0 (modules_asked s c r.queued.text)
+          (modules_near g.catalogue c (ascending (fragments_in (uses_of g.catalogue r.queued.text))) whole) q
+      | inr q ↦ in_none (to_site (D d) (sends_of_act (start_at s c l r.queued))) p.place m (sent
+          ∙ ap (λ (b : Bool). if b then start_read s c l r.queued d.0 ∷ [] else []) q) there
     ]
 
 -- no REJECT was handed to U

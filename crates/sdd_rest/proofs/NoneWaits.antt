@@ -70,7 +70,8 @@ record IsUnmet (g : Given) (log : Log) (d : ℕ) (conds : List Cond) : Type 0 wh
   there : slice_get conds place ≡ Some cond
   unmet : is_met (view_of (setting_of g (D (dm_no d))) (at_module g d log)) cond ≡ false
 
-stuck_read : (s : Setting) (c : ℕ) (l : site.Log) (ts : Ts) (of : ClassNo) (txn : TxnNo) (attempt : ℕ) (conds : List Cond) (uses : List Use) → IsStuck s l c (Some (Read ts of txn attempt conds uses))
+stuck_read : (s : Setting) (c : ℕ) (l : site.Log) (ts : Ts) (of : ClassNo) (txn : TxnNo) (attempt : ℕ)
+    (conds : List Cond) (uses : List Use) → IsStuck s l c (Some (Read ts of txn attempt conds uses))
     → list_all (is_met (view_of s l)) conds ≡ false
 stuck_read s c l ts of txn attempt conds uses h = h.1
 
@@ -108,13 +109,18 @@ record IsWaiting (g : Given) (log : Log) (r : WaitingRead) : Type 0 where
   ticks_are : r.ticks ≡ suc (clock (home g.catalogue r.class) (local_of g (home g.catalogue r.class) from.before)).ticks
   p2_is : r.p2 ≡ bound (setting_of g (home g.catalogue r.class)) (local_of g (home g.catalogue r.class) from.before)
 
-waiting_number : (g : Given) (log : Log) (c ts : ℕ) (conds : List Cond) → (c == 0) ≡ false → IsReader g log c ts conds → (from : AreConditionsOf g log c ts conds)
+waiting_number : (g : Given) (log : Log) (c ts : ℕ) (conds : List Cond) → (c == 0) ≡ false
+    → IsReader g log c ts conds → (from : AreConditionsOf g log c ts conds)
     → IsWaiting g log (read_number g log c ts conds from)
 waiting_number g log c ts conds z r from = record { conds = conds; declared = z; reader = r; from = from; ticks_are = refl; p2_is = refl }
 
-conditions : (g : Given) (log : Log) (c ts : ℕ) (conds : List Cond) → IsQuiet g log → (c == 0) ≡ false → IsReader g log c ts conds → AreConditionsOf g log c ts conds
+conditions : (g : Given) (log : Log) (c ts : ℕ) (conds : List Cond) → IsQuiet g log → (c == 0) ≡ false
+    → IsReader g log c ts conds → AreConditionsOf g log c ts conds
 conditions g log c ts conds h z r =
-    conditions_of g log c (dm_no r.d) (length (pipe c (at_module g r.d log)).processed) (time_at ts) r.of r.txn r.attempt conds r.uses h.permitted (λ e. differ c 0 z e) (head_there (pipe c (at_module g r.d log)) (Read (time_at ts) r.of r.txn r.attempt conds r.uses) r.head_is)
+    conditions_of g log c (dm_no r.d) (length (pipe c (at_module g r.d log)).processed)
+    (time_at ts) r.of r.txn r.attempt conds r.uses h.permitted (λ e. differ c 0 z e)
+    (head_there (pipe c (at_module g r.d log)) (Read (time_at ts) r.of r.txn r.attempt conds r.uses)
+    r.head_is)
 
 stamped : (g : Given) (log : Log) → HasOneTable g → (r : WaitingRead) → IsWaiting g log r → IsStamped r
 stamped g log one r w =
@@ -137,18 +143,39 @@ record IsAlong (G : WaitGraph) (i j time own p2 : ℕ) : Type 0 where
   diagonal : HasDiagonal G i j by_own
   time_is : time ≡ (if by_own then own else p2)
 
-diagonal_in : (cat : Catalogue) (table : List line.Entry) (p : Protocol) (own : Bool) (i j : ℕ) (f : FragNo) → p ≡ wait_protocol own → IsDiagonalIn table p i j f → HasDiagonal (wait_graph cat table) i j own
+diagonal_in : (cat : Catalogue) (table : List line.Entry) (p : Protocol) (own : Bool) (i j : ℕ) (f : FragNo)
+    → p ≡ wait_protocol own → IsDiagonalIn table p i j f → HasDiagonal (wait_graph cat table) i j own
 diagonal_in cat table p own i j f e d =
     let x = diagonals_listed cat table d.place d.entry d.reader d.writer f own d.there d.edge_is (d.protocol_is ∙ e) in
-    record { place = x.place; diagonal = x.diagonal; at = x.at; reader_is = x.reader_is ∙ d.reader_is; writer_is = x.writer_is ∙ d.writer_is; own_is = x.own_is }
+    record {
+      place = x.place;
+      diagonal = x.diagonal;
+      at = x.at;
+      reader_is =
+          x.reader_is ∙ d.reader_is;
+      writer_is = x.writer_is ∙ d.writer_is;
+      own_is = x.own_is;
+    }
 
-first_diagonal : (table : List line.Entry) (p : Protocol) (i j : ℕ) (frags more : List FragNo) (f : FragNo) → frags ≡ f ∷ more → AllDiagonalsIn table p i j frags → IsDiagonalIn table p i j f
+first_diagonal : (table : List line.Entry) (p : Protocol) (i j : ℕ) (frags more : List FragNo) (f : FragNo)
+    → frags ≡ f ∷ more → AllDiagonalsIn table p i j frags → IsDiagonalIn table p i j f
 first_diagonal table p i j frags more f e all = all 0 f (ap (λ l. slice_get l 0) e)
 
-along : (cat : Catalogue) (table : List line.Entry) (i own p2 : ℕ) (q : Cond) → IsFromTable table i own p2 q → IsAlong (wait_graph cat table) i q.class.0 q.time.0 own p2
+along : (cat : Catalogue) (table : List line.Entry) (i own p2 : ℕ) (q : Cond) → IsFromTable table i own p2 q
+    → IsAlong (wait_graph cat table) i q.class.0 q.time.0 own p2
 along cat table i own p2 q t = elim t.by [
-  | inl a ↦ record { by_own = true; diagonal = diagonal_in cat table P3 true i q.class.0 t.first refl (first_diagonal table P3 i q.class.0 q.frags t.more t.first t.names a.1); time_is = a.0 }
-  | inr a ↦ record { by_own = false; diagonal = diagonal_in cat table P2 false i q.class.0 t.first refl (first_diagonal table P2 i q.class.0 q.frags t.more t.first t.names a.1); time_is = a.0 }
+  | inl a ↦ record {
+    by_own = true;
+    diagonal = diagonal_in cat table P3 true i q.class.0 t.first refl
+        (first_diagonal table P3 i q.class.0 q.frags t.more t.first t.names a.1);
+    time_is = a.0;
+  }
+  | inr a ↦ record {
+    by_own = false;
+    diagonal = diagonal_in cat table P2 false i q.class.0 t.first refl
+        (first_diagonal table P2 i q.class.0 q.frags t.more t.first t.names a.1);
+    time_is = a.0;
+  }
 ]
 
 wait_by : (b : Bool) (r : WaitingRead) → (if b then r.ts else r.p2) ≡ wait_time b r
@@ -170,7 +197,9 @@ pub first_list : (log later before : Log) (e : Entry) → redeclares log ≡ 0 �
 first_list log later before e none is =
     let i = redeclares_up e before in let j = redeclares_grow later (e ∷ before) in let all = ap redeclares is in omega (arith, i, j, all, none)
 
-cond_along : (g : Given) (log : Log) (c ts : ℕ) (conds : List Cond) (from : AreConditionsOf g log c ts conds) (k : ℕ) (q : Cond) → redeclares log ≡ 0 → slice_get conds k ≡ Some q
+cond_along : (g : Given) (log : Log) (c ts : ℕ) (conds : List Cond)
+    (from : AreConditionsOf g log c ts conds) (k : ℕ) (q : Cond) → redeclares log ≡ 0
+    → slice_get conds k ≡ Some q
     → IsAlong (graph_of g) c q.class.0 q.time.0 ts (bound (setting_of g (home g.catalogue c)) (local_of g (home g.catalogue c) from.before))
 cond_along g log c ts conds from k q none e =
     let p2 : ℕ = bound (setting_of g (home g.catalogue c)) (local_of g (home g.catalogue c) from.before) in
@@ -189,7 +218,14 @@ write_stamp g log j d w of txn changes sound h e =
     let st = start_of_active s j (local_of g (home g.catalogue j) o.before) o.attempt (home_fair g j o.before hb) o.active_is in
     let n = stamp_ticks s st.before in
     let small = home_small g.catalogue sound j in
-    record { ticks = (clock (home g.catalogue j) st.before).ticks + 1; number = number_of (home g.catalogue j); is = omega (arith, o.ts_is, st.ts_is, n); small = omega (arith, small) }
+    record {
+      ticks = (clock (home g.catalogue j) st.before).ticks + 1;
+      number =
+          number_of (home g.catalogue j);
+      is = omega (arith, o.ts_is, st.ts_is, n);
+      small =
+          omega (arith, small);
+    }
 
 module _ (g : Given) (log : Log) (h : IsQuiet g log) (one : HasOneTable g) (none : redeclares log ≡ 0) where
   -- a READ of class 0 holds nothing back
@@ -197,8 +233,13 @@ module _ (g : Given) (log : Log) (h : IsQuiet g log) (one : HasOneTable g) (none
   holder_declared j t z l k = elim (same_or_not k.class 0) [
     | inr p ↦ p
     | inl p ↦ (let r = k.reader in
-        let at_zero : head (pipe 0 (at_module g r.d log)) ≡ Some (Read (time_at k.ts) r.of r.txn r.attempt k.conds r.uses) = subst (λ c. head (pipe c (at_module g r.d log)) ≡ Some (Read (time_at k.ts) r.of r.txn r.attempt k.conds r.uses)) p r.head_is in
-        let below = below_read g log j (dm_no r.d) (time_at k.ts) r.of r.txn r.attempt k.conds r.uses (time_at k.write) k.of k.txn k.changes one.fits.sound h.permitted z l r.module_is at_zero k.write_is in
+        let at_zero : head (pipe 0 (at_module g r.d log)) ≡ Some
+        (Read (time_at k.ts) r.of r.txn r.attempt k.conds r.uses) =
+        subst (λ c. head (pipe c (at_module g r.d log)) ≡ Some
+        (Read (time_at k.ts) r.of r.txn r.attempt k.conds r.uses)) p r.head_is in
+        let below = below_read g log j (dm_no r.d) (time_at k.ts) r.of r.txn r.attempt k.conds r.uses
+        (time_at k.write) k.of k.txn k.changes one.fits.sound h.permitted z l r.module_is at_zero
+        k.write_is in
         let own = zero_time g log (dm_no r.d) (time_at k.ts) r.of r.txn r.attempt k.conds r.uses k.place k.cond h.permitted at_zero k.there in
         let held = k.held in
         absurd (omega (arith, below, own, held)))
@@ -221,7 +262,8 @@ module _ (g : Given) (log : Log) (h : IsQuiet g log) (one : HasOneTable g) (none
       let u = unmet g log r.class r.ts w.conds w.reader h in
       let x : Cond = u.cond in
       let a0 = cond_along g log r.class r.ts w.conds w.from u.place x none u.there in
-      let a : IsAlong (graph_of g) r.class x.class.0 x.time.0 r.ts r.p2 = subst (λ p. IsAlong (graph_of g) r.class x.class.0 x.time.0 r.ts p) (sym w.p2_is) a0 in
+      let a : IsAlong (graph_of g) r.class x.class.0 x.time.0 r.ts r.p2 =
+      subst (λ p. IsAlong (graph_of g) r.class x.class.0 x.time.0 r.ts p) (sym w.p2_is) a0 in
       let d = a.diagonal in
       let c = class_of_writer r.class x.class.0 a.by_own d in
       let time = time_along (graph_of g) r.class x.class.0 x.time.0 r a in
@@ -229,17 +271,23 @@ module _ (g : Given) (log : Log) (h : IsQuiet g log) (one : HasOneTable g) (none
       elim (next_reader g log x.class.0 x.time.0 h c.1 below) [
         | inl e ↦ (let from = conditions g log x.class.0 e.ts e.conds h c.0 e.reader in
             let l = e.below in
-            reader d.place d.diagonal d.at d.reader_is (read_number g log x.class.0 e.ts e.conds from) (waiting_number g log x.class.0 e.ts e.conds c.0 e.reader from) (sym d.writer_is) (omega (arith, l, time)))
+            reader d.place d.diagonal d.at d.reader_is (read_number g log x.class.0 e.ts e.conds from)
+            (waiting_number g log x.class.0 e.ts e.conds c.0 e.reader from) (sym d.writer_is)
+            (omega (arith, l, time)))
         | inr k ↦ (let z = holder_declared x.class.0 x.time.0 c.0 c.1 k in
             let from = conditions g log k.class k.ts k.conds h z k.reader in
             let q : WaitingRead = read_number g log k.class k.ts k.conds from in
-            let b : IsAlong (graph_of g) q.class k.cond.class.0 k.cond.time.0 q.ts q.p2 = cond_along g log k.class k.ts k.conds from k.place k.cond none k.there in
+            let b : IsAlong (graph_of g) q.class k.cond.class.0 k.cond.time.0 q.ts q.p2 =
+            cond_along g log k.class k.ts k.conds from k.place k.cond none k.there in
             let held_time = time_along (graph_of g) q.class k.cond.class.0 k.cond.time.0 q b in
             let o = b.diagonal in
             let low = k.held in
             let high = k.below in
-            holder d.place d.diagonal d.at d.reader_is q (waiting_number g log k.class k.ts k.conds z k.reader from) o.place o.diagonal o.at o.reader_is (o.writer_is ∙ k.names ∙ sym d.writer_is)
-            k.write (write_stamp g log x.class.0 k.reader.d k.write k.of k.txn k.changes one.fits.sound h.permitted k.write_is) (omega (arith, low, held_time)) (omega (arith, high, time)))
+            holder d.place d.diagonal d.at d.reader_is q
+            (waiting_number g log k.class k.ts k.conds z k.reader from) o.place o.diagonal o.at
+            o.reader_is (o.writer_is ∙ k.names ∙ sym d.writer_is)
+            k.write (write_stamp g log x.class.0 k.reader.d k.write k.of k.txn k.changes one.fits.sound
+            h.permitted k.write_is) (omega (arith, low, held_time)) (omega (arith, high, time)))
       ]
 
   none_declared : (c ts : ℕ) (conds : List Cond) → (c == 0) ≡ false → ¬ IsReader g log c ts conds
@@ -269,9 +317,21 @@ module _ (g : Given) (log : Log) (h : IsQuiet g log) (one : HasOneTable g) (none
 
   -- so no pipe has a message that isn't processed
 
-  zero_head : (d : ℕ) (m : Msg) → IsModule g.catalogue d → head (pipe 0 (at_module g d log)) ≡ Some m → IsStuck (setting_of g (D (dm_no d))) (at_module g d log) 0 (Some m) → ⊥
+  zero_head : (d : ℕ) (m : Msg) → IsModule g.catalogue d → head (pipe 0 (at_module g d log)) ≡ Some m
+      → IsStuck (setting_of g (D (dm_no d))) (at_module g d log) 0 (Some m) → ⊥
   zero_head d (Read ts of txn attempt conds uses) m e stuck =
-      none_undeclared ts.0 conds (record { d = d; module_is = m; class_is = omega arith; waits_there = stuck.0; of = of; txn = txn; attempt = attempt; uses = uses; head_is = e })
+      none_undeclared ts.0 conds (record {
+        d = d;
+        module_is = m;
+        class_is = omega arith;
+        waits_there =
+            stuck.0;
+        of = of;
+        txn = txn;
+        attempt = attempt;
+        uses = uses;
+        head_is = e;
+      })
   zero_head d (Write w of txn changes) m e stuck = cc
   zero_head d x m e stuck = stuck
 
@@ -297,10 +357,13 @@ module _ (g : Given) (log : Log) (h : IsQuiet g log) (one : HasOneTable g) (none
   -- and no attempt is under way
   none_active : (c : ℕ) → IsClass g.catalogue c → active (setting_of g (home g.catalogue c)) c (at_home g c log) ≡ None
   none_active c l =
-      elim (active (setting_of g (home g.catalogue c)) c (at_home g c log)) as (λ o. active (setting_of g (home g.catalogue c)) c (at_home g c log) ≡ o → o ≡ None) [
+      elim (active (setting_of g (home g.catalogue c)) c (at_home g c log)) as (λ o. active
+      (setting_of g (home g.catalogue c)) c (at_home g c log) ≡ o → o ≡ None) [
         | None ↦ λ e. refl
         | Some a ↦ λ e. (let u = has_unanswered g log c a h one.fits l e in
-            let empty : slice_get [] u.place ≡ Some u.message = subst (λ ms. slice_get ms u.place ≡ Some u.message) (all_processed c u.d l u.module_is) u.there in cc)
+            let empty : slice_get [] u.place ≡ Some u.message =
+            subst (λ ms. slice_get ms u.place ≡ Some u.message) (all_processed c u.d l u.module_is)
+            u.there in cc)
       ] refl
 
   pub is_idle : IsIdle g log

@@ -50,8 +50,12 @@ take_same (x ∷ xs) ys = ap (λ zs. x ∷ zs) (take_same xs ys)
 copy_same : (cat : Catalogue) (rows : List (RelNo × Row)) (h : History) (event d f : ℕ)
     → laws.copy_at cat rows (h ++ (event, Nothing) ∷ []) d (length h) f ≡ laws.copy_at cat rows h d (length h) f
 copy_same cat rows h event d f =
-    ap (λ cs. contents f (laws.first_rows cat rows ++ flat_map laws.dated (filter (λ t. list_any (λ e. is_apply t.start.txn d e.1) (take (length h) (h ++ (event, Nothing) ∷ []))) cs))) (committed_same h event)
-    ∙ ap (λ es. contents f (laws.first_rows cat rows ++ flat_map laws.dated (filter (λ t. list_any (λ e. is_apply t.start.txn d e.1) es) (committed h)))) (take_same h ((event, Nothing) ∷ []))
+    ap (λ cs. contents f (laws.first_rows cat rows ++ flat_map laws.dated
+    (filter (λ t. list_any (λ e. is_apply t.start.txn d e.1)
+    (take (length h) (h ++ (event, Nothing) ∷ []))) cs))) (committed_same h event)
+    ∙ ap (λ es. contents f (laws.first_rows cat rows ++ flat_map laws.dated
+    (filter (λ t. list_any (λ e. is_apply t.start.txn d e.1) es) (committed h))))
+    (take_same h ((event, Nothing) ∷ []))
 
 -- the event
 
@@ -66,10 +70,13 @@ noted_permitted g log d up h =
 abbrev noted_made : (log : Log) (d : ℕ) → IsMadeAt (noted d log) (length (history log)) Nothing
 noted_made log d = record { later = []; entry = Notes; before = Mark (Up (dm_no d)) ∷ log; is = refl; makes = refl; place_is = refl }
 
-pub own_copy : (g : Given) (rows : List (RelNo × Row)) (log : Log) (f d : ℕ) → IsQuiet g log → HasOneTable g → redeclares log ≡ 0 → HasSoundData g rows → has_copy g.catalogue d f ≡ true
+pub own_copy : (g : Given) (rows : List (RelNo × Row)) (log : Log) (f d : ℕ) → IsQuiet g log → HasOneTable g
+    → redeclares log ≡ 0 → HasSoundData g rows → has_copy g.catalogue d f ≡ true
     → contents f (dated (setting_of g (D (dm_no d))) (local_of g (D (dm_no d)) log)) ≡ laws.copy_at g.catalogue rows (history log) d (length (history log)) f
 own_copy g rows log f d h one none fine copied =
     let sound = one.fits.sound in
     let up : is_down d log ≡ false = h.up d (copy_module g.catalogue sound d f copied) in
-    same_copy g rows (one_era g.catalogue) (noted d log) sound fine (noted_permitted g log d up h.permitted) (of_one_era g (noted d log) one.table one.same none) d (length (history log)) Nothing (noted_made log d) f copied
+    same_copy g rows (one_era g.catalogue) (noted d log) sound fine (noted_permitted g log d up h.permitted)
+    (of_one_era g (noted d log) one.table one.same none) d (length (history log)) Nothing
+    (noted_made log d) f copied
     ∙ copy_same g.catalogue rows (history log) (suc (marks log)) d f

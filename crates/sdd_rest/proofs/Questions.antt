@@ -51,7 +51,8 @@ risen low high [] k q h e = cc
 risen low high (x ∷ qs) zero q h e = let p : x ≡ q = cc in subst (λ (y : Question). low < y.hand) p h.0
 risen low high (x ∷ qs) (suc k) q h e = let i = risen x.hand high qs k q h.1 e in let l = h.0 in omega (arith, i, l)
 
-one_hand : (low high : ℕ) (qs : List Question) (j k : ℕ) (q r : Question) → Rise low high qs → slice_get qs j ≡ Some q → slice_get qs k ≡ Some r → q.hand ≡ r.hand → q ≡ r
+one_hand : (low high : ℕ) (qs : List Question) (j k : ℕ) (q r : Question) → Rise low high qs
+    → slice_get qs j ≡ Some q → slice_get qs k ≡ Some r → q.hand ≡ r.hand → q ≡ r
 one_hand low high [] j k q r h e f same = cc
 one_hand low high (x ∷ qs) zero zero q r h e f same = let p : Some q ≡ Some r = sym e ∙ f in cc
 one_hand low high (x ∷ qs) zero (suc k) q r h e f same =
@@ -128,7 +129,8 @@ AnswersOne log (Sends to m hand) = (hand ≡ None) ⊎ ((hand ≡ Some (holds lo
 one_as : (log : Log) (x a : Act) → AnswersOne log x → Some x ≡ Some a → AnswersOne log a
 one_as log x a h e = let p : x ≡ a = cc in subst (AnswersOne log) p h
 
-commit_one : (log : Log) (cat : Catalogue) (bases : Bases) (c : ℕ) (a : Attempt) (b : Bool) (act : Act) → (if b then Some (commit_act cat bases c a) else None) ≡ Some act → AnswersOne log act
+commit_one : (log : Log) (cat : Catalogue) (bases : Bases) (c : ℕ) (a : Attempt) (b : Bool) (act : Act)
+    → (if b then Some (commit_act cat bases c a) else None) ≡ Some act → AnswersOne log act
 commit_one log cat bases c a true act e = one_as log _ act tt e
 commit_one log cat bases c a false act e = cc
 
@@ -149,20 +151,26 @@ late_null v (Some a) t u l e =
       | false ↦ λ p f. cc
     ] refl e
 
-null_one : (log : Log) (v : View) (q : Question) (o : Option ℕ) (act : Act) → IsThere (asks log) q → ((u : ℕ) → o ≡ Some u → q.time ≤ u) → null_at q o ≡ Some act → AnswersOne log act
+null_one : (log : Log) (v : View) (q : Question) (o : Option ℕ) (act : Act) → IsThere (asks log) q
+    → ((u : ℕ) → o ≡ Some u → q.time ≤ u) → null_at q o ≡ Some act → AnswersOne log act
 null_one log v q None act h l e = cc
 null_one log v q (Some u) act h l e =
     one_as log _ act (inr (inr (record { question = q; there = h; to_is = refl; hand_is = refl; time = u; message_is = refl; late = l u refl }))) e
 
-null_if_one : (log : Log) (v : View) (q : Question) (b : Bool) (o : Option ℕ) (act : Act) → IsThere (asks log) q → ((u : ℕ) → o ≡ Some u → q.time ≤ u) → (if b then null_at q o else None) ≡ Some act → AnswersOne log act
+null_if_one : (log : Log) (v : View) (q : Question) (b : Bool) (o : Option ℕ) (act : Act)
+    → IsThere (asks log) q → ((u : ℕ) → o ≡ Some u → q.time ≤ u)
+    → (if b then null_at q o else None) ≡ Some act → AnswersOne log act
 null_if_one log v q true o act h l e = null_one log v q o act h l e
 null_if_one log v q false o act h l e = cc
 
-held_one : (log : Log) (b : Bool) (time : Ts) (act : Act) → (if b then Some (Sends U (Held time) (Some (holds log).last)) else None) ≡ Some act → AnswersOne log act
+held_one : (log : Log) (b : Bool) (time : Ts) (act : Act)
+    → (if b then Some (Sends U (Held time) (Some (holds log).last)) else None) ≡ Some act
+    → AnswersOne log act
 held_one log true time act e = one_as log _ act (inr (inl refl)) e
 held_one log false time act e = cc
 
-start_one : (log : Log) (cat : Catalogue) (v : View) (c : ℕ) (b : Bool) (o : Option Queued) (act : Act) → (if b then start_of cat v c o else None) ≡ Some act → AnswersOne log act
+start_one : (log : Log) (cat : Catalogue) (v : View) (c : ℕ) (b : Bool) (o : Option Queued) (act : Act)
+    → (if b then start_of cat v c o else None) ≡ Some act → AnswersOne log act
 start_one log cat v c true None act e = cc
 start_one log cat v c true (Some q) act e = one_as log _ act tt e
 start_one log cat v c false o act e = cc
@@ -199,24 +207,36 @@ still_asked n from m qs q h = h
 
 new_asked : (n : ℕ) (from : Site) (c : ClassNo) (t : Ts) (qs : List Question) → IsThere (asks_handed n from (Ask c t) qs) (question n from c t)
 unfolding question
-new_asked n from c t qs = in_right qs (record { hand = n; from = from; class = c.0; time = t.0 } ∷ []) 0 (record { hand = n; from = from; class = c.0; time = t.0 }) refl
+new_asked n from c t qs = in_right qs (record { hand = n; from = from; class = c.0; time = t.0 } ∷ []) 0
+    (record { hand = n; from = from; class = c.0; time = t.0 }) refl
 
 covered_past : (b from : Site) (m : Msg) (log : Log) (c : ClassNo) (t : Ts) → IsCovered b c t log → IsCovered b c t (Handed from m ∷ log)
-covered_past b from m log c t (inl o) = inl (record { question = o.question; there = still_asked (suc (hands log)) from m (asks log) o.question o.there; from = o.from; class = o.class; time = o.time })
+covered_past b from m log c t (inl o) =
+    inl (record {
+      question = o.question;
+      there =
+          still_asked (suc (hands log)) from m (asks log) o.question o.there;
+      from = o.from;
+      class =
+          o.class;
+      time = o.time;
+    })
 covered_past b from m log c t (inr n) = inr (record { place = n.place; time = n.time; put = n.put; late = n.late })
 
 covered_new : (b from : Site) (m : Msg) (log : Log) (c : ClassNo) (t : Ts) → b ≡ from → m ≡ Ask c t → IsCovered b c t (Handed from m ∷ log)
 unfolding question
 covered_new b from m log c t e f = inl (record {
   question = question (suc (hands log)) from c t;
-  there = subst (λ x. IsThere (asks_handed (suc (hands log)) from x (asks log)) (question (suc (hands log)) from c t)) (sym f) (new_asked (suc (hands log)) from c t (asks log));
+  there = subst (λ x. IsThere (asks_handed (suc (hands log)) from x (asks log))
+      (question (suc (hands log)) from c t)) (sym f) (new_asked (suc (hands log)) from c t (asks log));
   from = sym e;
   class = refl;
   time = refl;
 })
 
 covered_hand : (b from : Site) (m : Msg) (log : Log) → ((k : ℕ) (c : ClassNo) (t : Ts) → slice_get (hands_from b log) k ≡ Some (Ask c t) → IsCovered b c t log)
-    → (x : Bool) → same_site b from ≡ x → (k : ℕ) (c : ClassNo) (t : Ts) → slice_get (if x then hands_from b log ++ m ∷ [] else hands_from b log) k ≡ Some (Ask c t)
+    → (x : Bool) → same_site b from ≡ x → (k : ℕ) (c : ClassNo) (t : Ts)
+    → slice_get (if x then hands_from b log ++ m ∷ [] else hands_from b log) k ≡ Some (Ask c t)
     → IsCovered b c t (Handed from m ∷ log)
 covered_hand b from m log i false same k c t e = covered_past b from m log c t (i k c t e)
 covered_hand b from m log i true same k c t e = elim (in_either (hands_from b log) (m ∷ []) k (Ask c t) e) [
@@ -239,7 +259,9 @@ closes b to m hand c t log o (inr (inl e)) p =
     absurd (apart_at (holds log).last (asks log) o.there.0 o.question (are_open log).apart o.there.1 (sym (eqb-true (holds log).last o.question.hand f)))
 closes b to m hand c t log o (inr (inr w)) p =
     let f : answers_hand (Some w.question.hand) o.question.hand ≡ true = subst (λ x. answers_hand x o.question.hand ≡ true) w.hand_is p in
-    let same : w.question ≡ o.question = one_hand 0 (hands log) (asks log) w.there.0 o.there.0 w.question o.question (are_open log).rise w.there.1 o.there.1 (eqb-true w.question.hand o.question.hand f) in
+    let same : w.question ≡ o.question =
+    one_hand 0 (hands log) (asks log) w.there.0 o.there.0 w.question o.question
+    (are_open log).rise w.there.1 o.there.1 (eqb-true w.question.hand o.question.hand f) in
     let from : b ≡ to = sym (w.to_is ∙ ap (λ (x : Question). x.from) same ∙ o.from) in
     let class : w.question.class ≡ c.0 = ap (λ (x : Question). x.class) same ∙ o.class in
     let time : w.question.time ≡ t.0 = ap (λ (x : Question). x.time) same ∙ o.time in
@@ -253,14 +275,30 @@ closes b to m hand c t log o (inr (inr w)) p =
 
 covered_act : (b : Site) (act : Act) (log : Log) (c : ClassNo) (t : Ts) → AnswersOne log act → IsCovered b c t log → IsCovered b c t (Did act ∷ log)
 covered_act b (Records k r sends) log c t w (inl o) = inl (record { question = o.question; there = o.there; from = o.from; class = o.class; time = o.time })
-covered_act b act log c t w (inr n) = inr (record { place = n.place; time = n.time; put = in_left (puts_to b log) (to_site b (sends_of_act act)) n.place (Null c n.time) n.put; late = n.late })
+covered_act b act log c t w (inr n) =
+    inr (record {
+      place = n.place;
+      time = n.time;
+      put =
+          in_left (puts_to b log) (to_site b (sends_of_act act)) n.place (Null c n.time) n.put;
+      late = n.late;
+    })
 covered_act b (Sends to m hand) log c t w (inl o) =
     elim (answers_hand hand o.question.hand) as (λ x. answers_hand hand o.question.hand ≡ x → IsCovered b c t (Did (Sends to m hand) ∷ log)) [
-      | false ↦ λ p. inl (record { question = o.question; there = kept_there (λ (x : Question). not (answers_hand hand x.hand)) (asks log) o.there.0 o.question o.there.1 (ap not p); from = o.from; class = o.class; time = o.time })
+      | false ↦ λ p. inl (record {
+        question = o.question;
+        there =
+            kept_there (λ (x : Question). not (answers_hand hand x.hand)) (asks log) o.there.0 o.question
+            o.there.1 (ap not p);
+        from = o.from;
+        class = o.class;
+        time = o.time;
+      })
       | true ↦ λ p. inr (closes b to m hand c t log o w p)
     ] refl
 
-pub covered : (s : Setting) (b : Site) (log : Log) → Each (IsFairT s) log → (k : ℕ) (c : ClassNo) (t : Ts) → slice_get (hands_from b log) k ≡ Some (Ask c t) → IsCovered b c t log
+pub covered : (s : Setting) (b : Site) (log : Log) → Each (IsFairT s) log → (k : ℕ) (c : ClassNo) (t : Ts)
+    → slice_get (hands_from b log) k ≡ Some (Ask c t) → IsCovered b c t log
 covered s b [] h k c t e = cc
 covered s b (Handed from m ∷ log) h k c t e = covered_hand b from m log (covered s b log h.1) (same_site b from) refl k c t e
 covered s b (Ticked n ∷ log) h k c t e = elim (covered s b log h.1 k c t e) [
@@ -296,12 +334,14 @@ no_null : (q : Question) (o : Option ℕ) → null_at q o ≡ None → o ≡ Non
 no_null q None e = refl
 no_null q (Some t) e = cc
 
-pub open_is_blocked : (s : Setting) (log : Log) (j c : ℕ) (q : Question) → slice_get (runs s) j ≡ Some c → first_some (null_due (view_of s log)) (view_of s log).classes ≡ None
+pub open_is_blocked : (s : Setting) (log : Log) (j c : ℕ) (q : Question) → slice_get (runs s) j ≡ Some c
+    → first_some (null_due (view_of s log)) (view_of s log).classes ≡ None
     → IsThere (asks log) q → q.class ≡ c → IsEarlier (active s c log) q.time
 open_is_blocked s log j c q i e h at =
     let v = view_of s log in
     let none : null_due v (class_view s log c) ≡ None = none_at (null_due v) v.classes j (class_view s log c) e (at_map (class_view s log) (runs s) j c i) in
     let this : null_to v (class_view s log c) q ≡ None = none_at (null_to v (class_view s log c)) (asks log) h.0 q none h.1 in
     let own : (q.class == c) ≡ true = subst (λ x. (q.class == x) ≡ true) at (same_number q.class) in
-    let null : null_at q (null_time v (active s c log) q.time) ≡ None = subst (λ b. (if b then null_at q (null_time v (active s c log) q.time) else None) ≡ None) own this in
+    let null : null_at q (null_time v (active s c log) q.time) ≡ None =
+    subst (λ b. (if b then null_at q (null_time v (active s c log) q.time) else None) ≡ None) own this in
     not_answered v (active s c log) q.time (no_null q _ null)

@@ -42,7 +42,8 @@ settled_is_finished g log one once s =
 
 pub settled_is_committed : (g : Given) (log : Log) → HasOneTable g → SubmitGiven g → IsSettled g log → AllCommitted (history log)
 settled_is_committed g log one given s =
-    all_committed g log (settled_is_quiet g log given.once s) one s.at_end.one_list (lawful_numbered g log given s.at_end.lawful) (settled_is_finished g log one given.once s)
+    all_committed g log (settled_is_quiet g log given.once s) one s.at_end.one_list
+    (lawful_numbered g log given s.at_end.lawful) (settled_is_finished g log one given.once s)
 
 -- where a settle is the last of the events
 pub settle_ends : (g : Given) (log : Log) (events : List Event) → g.events ≡ events ++ Settle ∷ [] → IsAtEnd g log → IsSettled g log

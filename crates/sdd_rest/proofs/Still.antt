@@ -72,9 +72,12 @@ u_is cat c p = ap (home cat) p
 
 linked_if : (tms dms : ℕ) (a : Site) (d : ℕ) → is_site tms dms a ≡ true → is_site tms dms (D (dm_no d)) ≡ true → (a ≡ U) ⊎ ((t : ℕ) × (a ≡ T (tm_no t)))
     → (is_link tms dms a (D (dm_no d)) ≡ true) × (is_link tms dms (D (dm_no d)) a ≡ true)
-linked_if tms dms a d e f (inl p) = subst (λ x. is_site tms dms x ≡ true → (is_link tms dms x (D (dm_no d)) ≡ true) × (is_link tms dms (D (dm_no d)) x ≡ true)) (sym p) (λ q. (rw f refl, rw f refl)) e
+linked_if tms dms a d e f (inl p) =
+    subst (λ x. is_site tms dms x ≡ true → (is_link tms dms x (D (dm_no d)) ≡ true)
+    × (is_link tms dms (D (dm_no d)) x ≡ true)) (sym p) (λ q. (rw f refl, rw f refl)) e
 linked_if tms dms a d e f (inr p) =
-    subst (λ x. is_site tms dms x ≡ true → (is_link tms dms x (D (dm_no d)) ≡ true) × (is_link tms dms (D (dm_no d)) x ≡ true)) (sym p.1) (λ q. (rw (q, f) refl, rw (f, q) refl)) e
+    subst (λ x. is_site tms dms x ≡ true → (is_link tms dms x (D (dm_no d)) ≡ true)
+    × (is_link tms dms (D (dm_no d)) x ≡ true)) (sym p.1) (λ q. (rw (q, f) refl, rw (f, q) refl)) e
 
 pub home_site : (cat : Catalogue) (c : ℕ) → IsSound cat → IsClass cat c → is_site cat.tms cat.dms (home cat c) ≡ true
 home_site cat c sound l = elim (same_or_not c 0) [
@@ -94,17 +97,23 @@ home_linked cat c d sound l m =
 pub runs_place : (g : Given) (c t : ℕ) → 1 ≤ c → IsClass g.catalogue c → t ≡ (class_at g.catalogue c).tm.0
     → (j : ℕ) × (slice_get (tm_views.runs (setting_of g (T (tm_no t)))) j ≡ Some c)
 runs_place g c t l m e =
-    kept_there (λ k. (class_at g.catalogue k).tm.0 == t) (numbers_to (length g.catalogue.classes)) (c - 1) c (at_place (length g.catalogue.classes) c l m) (subst (λ x. ((class_at g.catalogue c).tm.0 == x) ≡ true) (sym e) (same_number (class_at g.catalogue c).tm.0))
+    kept_there (λ k. (class_at g.catalogue k).tm.0 == t) (numbers_to (length g.catalogue.classes)) (c - 1) c
+    (at_place (length g.catalogue.classes) c l m) (subst (λ x. ((class_at g.catalogue c).tm.0 ==
+    x) ≡ true) (sym e) (same_number (class_at g.catalogue c).tm.0))
 
 -- what isn't due at a transaction module
 
 pub record IsStillT (g : Given) (log : Log) (t : ℕ) : Type 0 where
-  pub nulls : first_some (tm.null_due (tm_views.view_of (setting_of g (T (tm_no t))) (local_of g (T (tm_no t)) log))) (tm_views.view_of (setting_of g (T (tm_no t))) (local_of g (T (tm_no t)) log)).classes ≡ None
+  pub nulls : first_some (tm.null_due (tm_views.view_of (setting_of g (T (tm_no t)))
+      (local_of g (T (tm_no t)) log))) (tm_views.view_of (setting_of g (T (tm_no t)))
+      (local_of g (T (tm_no t)) log)).classes ≡ None
   pub exchanges : (j c : ℕ) → slice_get (tm_views.runs (setting_of g (T (tm_no t)))) j ≡ Some c
       → attempt_due g.catalogue (base_of g log) c (active (setting_of g (T (tm_no t))) c (local_of g (T (tm_no t)) log)) ≡ None
   pub held : tm.held_due (tm_views.view_of (setting_of g (T (tm_no t))) (local_of g (T (tm_no t)) log)) ≡ None
   pub starts : (j c : ℕ) → slice_get (tm_views.runs (setting_of g (T (tm_no t)))) j ≡ Some c
-      → tm.start_due g.catalogue (tm_views.view_of (setting_of g (T (tm_no t))) (local_of g (T (tm_no t)) log)) (tm_views.class_view (setting_of g (T (tm_no t))) (local_of g (T (tm_no t)) log) c) ≡ None
+      → tm.start_due g.catalogue (tm_views.view_of (setting_of g (T (tm_no t)))
+      (local_of g (T (tm_no t)) log)) (tm_views.class_view (setting_of g (T (tm_no t)))
+      (local_of g (T (tm_no t)) log) c) ≡ None
 
 pub t_still : (g : Given) (log : Log) (t : ℕ) → IsQuiet g log → 1 ≤ t → t ≤ g.catalogue.tms → IsStillT g log t
 t_still g log t h l m =
@@ -117,9 +126,11 @@ t_still g log t h l m =
     let r = or_none (tm.held_due v) (first_some (tm.start_due g.catalogue v) v.classes) q.1 in
     record {
       nulls = q.0;
-      exchanges = λ j c i. none_at (tm.exchange_due g.catalogue (base_of g log)) v.classes j (tm_views.class_view s lt c) p.0 (at_map (tm_views.class_view s lt) (tm_views.runs s) j c i);
+      exchanges = λ j c i. none_at (tm.exchange_due g.catalogue (base_of g log)) v.classes j
+          (tm_views.class_view s lt c) p.0 (at_map (tm_views.class_view s lt) (tm_views.runs s) j c i);
       held = r.0;
-      starts = λ j c i. none_at (tm.start_due g.catalogue v) v.classes j (tm_views.class_view s lt c) r.1 (at_map (tm_views.class_view s lt) (tm_views.runs s) j c i);
+      starts = λ j c i. none_at (tm.start_due g.catalogue v) v.classes j (tm_views.class_view s lt c) r.1
+          (at_map (tm_views.class_view s lt) (tm_views.runs s) j c i);
     }
 
 -- what isn't due at the module for undeclared transactions
@@ -143,7 +154,8 @@ u_still g log h =
     let r = or_none (um.start_due g.catalogue v) (first_some (um.hold_due v) v.counts) q.1 in
     record {
       exchange = p.0;
-      releases = λ j t i. none_at (um.release_due g.catalogue v) v.counts j (um_views.counts t lu) q.0 (at_map (λ t. um_views.counts t lu) (numbers_to g.catalogue.tms) j t i);
+      releases = λ j t i. none_at (um.release_due g.catalogue v) v.counts j (um_views.counts t lu) q.0
+          (at_map (λ t. um_views.counts t lu) (numbers_to g.catalogue.tms) j t i);
       start = r.0;
       holds = λ j t i. none_at (um.hold_due v) v.counts j (um_views.counts t lu) r.1 (at_map (λ t. um_views.counts t lu) (numbers_to g.catalogue.tms) j t i);
     }
@@ -152,10 +164,14 @@ u_still g log h =
 pub exchange_none : (g : Given) (log : Log) (c : ℕ) → IsQuiet g log → IsSound g.catalogue → IsClass g.catalogue c
     → attempt_due g.catalogue (base_of g log) c (active (setting_of g (home g.catalogue c)) c (at_home g c log)) ≡ None
 exchange_none g log c h sound l = elim (same_or_not c 0) [
-  | inl p ↦ subst (λ k. attempt_due g.catalogue (base_of g log) k (active (setting_of g (home g.catalogue k)) k (at_home g k log)) ≡ None) (sym p) (u_still g log h).exchange
+  | inl p ↦ subst (λ k. attempt_due g.catalogue (base_of g log) k
+      (active (setting_of g (home g.catalogue k)) k (at_home g k log)) ≡ None) (sym p)
+      (u_still g log h).exchange
   | inr p ↦ (let r = run_at g.catalogue c sound p l in
       let j = runs_place g c r.t (positive c p) l r.number_is in
-      subst (λ x. attempt_due g.catalogue (base_of g log) c (active (setting_of g x) c (local_of g x log)) ≡ None) (sym r.home_is) ((t_still g log r.t h r.from r.to).exchanges j.0 c j.1))
+      subst (λ x. attempt_due g.catalogue (base_of g log) c
+      (active (setting_of g x) c (local_of g x log)) ≡ None) (sym r.home_is)
+      ((t_still g log r.t h r.from r.to).exchanges j.0 c j.1))
 ]
 
 -- what isn't due at a data module

@@ -122,7 +122,8 @@ put_in_pipe g log c d k m h good l w e f =
 none_there : (p : Pipe) → head p ≡ None → all_of p ≡ p.processed
 none_there p e = ap (λ ms. p.processed ++ ms) (no_head p.unprocessed e) ∙ append-nil p.processed
 
-asked : (g : Given) (log : Log) (j d n : ℕ) (c : ClassNo) (t : Ts) → IsQuiet g log → FitsGiven g → IsModule g.catalogue d → (j == 0) ≡ false → IsClass g.catalogue j
+asked : (g : Given) (log : Log) (j d n : ℕ) (c : ClassNo) (t : Ts) → IsQuiet g log → FitsGiven g
+    → IsModule g.catalogue d → (j == 0) ≡ false → IsClass g.catalogue j
     → c.0 ≡ j → slice_get (puts_to (home g.catalogue j) (at_module g d log)) n ≡ Some (Ask c t) → passed (pipe j (at_module g d log)) t.0 ≡ false
     → head (pipe j (at_module g d log)) ≡ None → IsBelow g log j t.0
 asked g log j d n c t h good m z l same put not_yet empty =
@@ -130,24 +131,38 @@ asked g log j d n c t h good m z l same put not_yet empty =
     let at : Site = T (tm_no run.t) in
     let lt : site.Log = local_of g at log in
     let linked = home_linked g.catalogue j d good.sound l m in
-    let got : slice_get (hands_from (D (dm_no d)) (at_home g j log)) n ≡ Some (Ask c t) = ap (λ ms. slice_get ms n) (all_handed g log (D (dm_no d)) (home g.catalogue j) h linked.1) ∙ put in
-    let here : slice_get (hands_from (D (dm_no d)) lt) n ≡ Some (Ask c t) = subst (λ x. slice_get (hands_from (D (dm_no d)) (local_of g x log)) n ≡ Some (Ask c t)) run.home_is got in
+    let got : slice_get (hands_from (D (dm_no d)) (at_home g j log)) n ≡ Some (Ask c t) =
+    ap (λ ms. slice_get ms n) (all_handed g log (D (dm_no d)) (home g.catalogue j) h linked.1) ∙ put in
+    let here : slice_get (hands_from (D (dm_no d)) lt) n ≡ Some (Ask c t) =
+    subst (λ x. slice_get (hands_from (D (dm_no d)) (local_of g x log)) n ≡ Some (Ask c t)) run.home_is
+    got in
     let place = runs_place g j run.t (positive j z) l run.number_is in
     elim (covered (setting_of g at) (D (dm_no d)) lt (t_table g (tm_no run.t) log h.permitted) n c t here) [
       | inl o ↦ (
           let e = open_is_blocked (setting_of g at) lt place.0 j o.question place.1 (t_still g log run.t h run.from run.to).nulls o.there (o.class ∙ same) in
-          let mine : active (setting_of g (home g.catalogue j)) j (at_home g j log) ≡ Some e.attempt = subst (λ x. active (setting_of g x) j (local_of g x log) ≡ Some e.attempt) (sym run.home_is) e.active_is in
+          let mine : active (setting_of g (home g.catalogue j)) j (at_home g j log) ≡ Some e.attempt =
+          subst (λ x. active (setting_of g x) j (local_of g x log) ≡ Some e.attempt)
+          (sym run.home_is) e.active_is in
           let b = e.below in
           let time = o.time in
           below_attempt g log j e.attempt t.0 h good l mine (omega (arith, b, time)))
       | inr w ↦ (
-          let at_home_put : slice_get (puts_to (D (dm_no d)) (at_home g j log)) w.place ≡ Some (Null c w.time) = subst (λ x. slice_get (puts_to (D (dm_no d)) (local_of g x log)) w.place ≡ Some (Null c w.time)) (sym run.home_is) w.put in
+          let at_home_put : slice_get (puts_to (D (dm_no d)) (at_home g j log)) w.place ≡ Some
+          (Null c w.time) = subst (λ x. slice_get (puts_to (D (dm_no d)) (local_of g x log))
+          w.place ≡ Some (Null c w.time)) (sym run.home_is) w.put in
           let through : goes_through j (Null c w.time) ≡ true = subst (λ x. (x == j) ≡ true) (sym same) (same_number j) in
           let i = put_in_pipe g log j d w.place (Null c w.time) h good l m at_home_put through in
           let p = pipe j (at_module g d log) in
           let all = none_there p empty in
           let within = place_within p.processed i.0 (Null c w.time) (subst (λ ms. slice_get ms i.0 ≡ Some (Null c w.time)) all i.1) in
-          let now = reached_is_passed p t.0 (pipe_rises g log j d h good l m) (record { place = i.0; msg = Null c w.time; there = i.1; reaches = w.late; up_to_head = omega (arith, within) }) in
+          let now = reached_is_passed p t.0 (pipe_rises g log j d h good l m) (record {
+            place = i.0;
+            msg =
+                Null c w.time;
+            there = i.1;
+            reaches = w.late;
+            up_to_head = omega (arith, within);
+          }) in
           absurd (not_both (passed p t.0) now not_yet))
     ]
 
@@ -178,23 +193,34 @@ ask_put g log c ts conds r n x h good e l not_yet =
     let lm : site.Log = at_module g r.d log in
     let i = since s c lm (d_fair g (dm_no r.d) log h.permitted) r.waits_there in
     let w = i.wait in
-    let one : Some (Read (time_at ts) r.of r.txn r.attempt conds r.uses) ≡ Some (Read w.ts w.of w.txn w.attempt w.conds w.uses) = sym r.head_is ∙ i.same_head ∙ w.head_is in
+    let one : Some (Read (time_at ts) r.of r.txn r.attempt conds r.uses) ≡ Some
+    (Read w.ts w.of w.txn w.attempt w.conds w.uses) = sym r.head_is ∙ i.same_head ∙ w.head_is in
     let same : conds ≡ w.conds = ap conds_of one in
     let there : slice_get w.conds n ≡ Some x = subst (λ ds. slice_get ds n ≡ Some x) same e in
     let v : View = view_of s i.before in
     let unmet : is_met v x ≡ false = elim (true_or_false (is_met v x)) [
       | inr q ↦ q
-      | inl q ↦ (let before : passed (pipe x.class.0 i.before) x.time.0 ≡ true = subst (λ (k : ClassView). passed k.pipe x.time.0 ≡ true) (class_in_view s i.before x.class.0 (omega (arith, l))) q in
+      | inl q ↦ (let before : passed (pipe x.class.0 i.before) x.time.0 ≡ true =
+          subst (λ (k : ClassView). passed k.pipe x.time.0 ≡ true) (class_in_view s i.before x.class.0
+          (omega (arith, l))) q in
           let whole : (i.later ++ site.Did i.act ∷ []) ++ i.before ≡ lm = append_assoc i.later (site.Did i.act ∷ []) i.before ∙ sym i.is in
           let rises = subst (λ z. IsRising (map time_of (all_of (pipe x.class.0 z)))) (sym whole) (pipe_rises g log x.class.0 r.d h good l r.module_is) in
-          let now : passed (pipe x.class.0 lm) x.time.0 ≡ true = subst (λ z. passed (pipe x.class.0 z) x.time.0 ≡ true) whole (passed_lasts x.class.0 x.time.0 (i.later ++ site.Did i.act ∷ []) i.before rises before) in
+          let now : passed (pipe x.class.0 lm) x.time.0 ≡ true =
+          subst (λ z. passed (pipe x.class.0 z) x.time.0 ≡ true) whole (passed_lasts x.class.0 x.time.0
+          (i.later ++ site.Did i.act ∷ []) i.before rises before) in
           absurd (not_both (passed (pipe x.class.0 lm) x.time.0) now not_yet))
     ] in
     let lacks = kept_there (λ (y : Cond). not (is_met v y)) w.conds n x there (ap not unmet) in
     let listed : slice_get (w.first ∷ w.more) lacks.0 ≡ Some x = subst (λ ds. slice_get ds lacks.0 ≡ Some x) w.lacks lacks.1 in
     let to : source_of (home_of s) x.class.0 ≡ home g.catalogue x.class.0 = source_is_home s x.class.0 (omega (arith, l)) in
-    let sent : slice_get (map (ask_for (home_of s)) (w.first ∷ w.more)) lacks.0 ≡ Some (home g.catalogue x.class.0, Ask x.class x.time) = at_map (ask_for (home_of s)) (w.first ∷ w.more) lacks.0 x listed ∙ ap (λ b. Some (b, Ask x.class x.time)) to in
-    let by : slice_get (sends_of_act i.act) lacks.0 ≡ Some (home g.catalogue x.class.0, Ask x.class x.time) = subst (λ a. slice_get (sends_of_act a) lacks.0 ≡ Some (home g.catalogue x.class.0, Ask x.class x.time)) (sym w.act_is) sent in
+    let sent : slice_get (map (ask_for (home_of s)) (w.first ∷ w.more)) lacks.0 ≡ Some
+    (home g.catalogue x.class.0, Ask x.class x.time) =
+    at_map (ask_for (home_of s)) (w.first ∷ w.more) lacks.0 x listed
+    ∙ ap (λ b. Some (b, Ask x.class x.time)) to in
+    let by : slice_get (sends_of_act i.act) lacks.0 ≡ Some
+    (home g.catalogue x.class.0, Ask x.class x.time) =
+    subst (λ a. slice_get (sends_of_act a) lacks.0 ≡ Some
+    (home g.catalogue x.class.0, Ask x.class x.time)) (sym w.act_is) sent in
     let out = sent_to (home g.catalogue x.class.0) (sends_of_act i.act) lacks.0 (Ask x.class x.time) by in
     let put = is_put (home g.catalogue x.class.0) i.later i.act i.before out.0 (Ask x.class x.time) out.1 in
     (put.0, subst (λ z. slice_get (puts_to (home g.catalogue x.class.0) z) put.0 ≡ Some (Ask x.class x.time)) (sym i.is) put.1)
@@ -207,15 +233,19 @@ next_head g log c ts conds r n x h good e z l unmet =
     let j : ℕ = x.class.0 in
     let s : Setting = setting_of g (D (dm_no r.d)) in
     let lm : site.Log = at_module g r.d log in
-    let not_yet : passed (pipe j lm) x.time.0 ≡ false = subst (λ (k : ClassView). passed k.pipe x.time.0 ≡ false) (class_in_view s lm j (omega (arith, l))) unmet in
+    let not_yet : passed (pipe j lm) x.time.0 ≡ false =
+    subst (λ (k : ClassView). passed k.pipe x.time.0 ≡ false) (class_in_view s lm j (omega (arith, l)))
+    unmet in
     elim (head (pipe j lm)) as (λ o. head (pipe j lm) ≡ o → IsBelow g log j x.time.0) [
       | Some m ↦ λ p. record { d = r.d; module_is = r.module_is; message = m; head_is = p; below = head_below (pipe j lm) x.time.0 m p not_yet }
-      | None ↦ λ p. (let put = ask_put g log c ts conds r n x h good e l not_yet in asked g log j r.d put.0 x.class x.time h good r.module_is z l refl put.1 not_yet p)
+      | None ↦ λ p. (let put = ask_put g log c ts conds r n x h good e l not_yet in asked g log j r.d put.0
+          x.class x.time h good r.module_is z l refl put.1 not_yet p)
     ] refl
 
 -- and so a READ of that class waits, or one that holds back a WRITE of it
 
-held_by : (g : Given) (log : Log) (j t d c : ℕ) (w : Ts) (of : ClassNo) (txn : TxnNo) (changes : List Change) (o : Option Msg) → IsModule g.catalogue d → IsClass g.catalogue c
+held_by : (g : Given) (log : Log) (j t d c : ℕ) (w : Ts) (of : ClassNo) (txn : TxnNo)
+    (changes : List Change) (o : Option Msg) → IsModule g.catalogue d → IsClass g.catalogue c
     → head (pipe j (at_module g d log)) ≡ Some (Write w of txn changes) → w.0 < t → waits c (at_module g d log) ≡ true
     → head (pipe c (at_module g d log)) ≡ o → holds_back j w.0 changes o ≡ true → IsHolder g log j t
 held_by g log j t d c w of txn changes None m l e b waiting at f = cc
@@ -241,7 +271,8 @@ held_by g log j t d c w of txn changes (Some (Read ts k n attempt conds uses)) m
     }
 held_by g log j t d c w of txn changes (Some m) p l e b waiting at f = cc
 
-by_head : (g : Given) (log : Log) (j t d : ℕ) (m : Msg) → IsClass g.catalogue j → IsModule g.catalogue d → head (pipe j (at_module g d log)) ≡ Some m → time_of m < t
+by_head : (g : Given) (log : Log) (j t d : ℕ) (m : Msg) → IsClass g.catalogue j → IsModule g.catalogue d
+    → head (pipe j (at_module g d log)) ≡ Some m → time_of m < t
     → IsStuck (setting_of g (D (dm_no d))) (at_module g d log) j (Some m) → IsEarlierReader g log j t ⊎ IsHolder g log j t
 by_head g log j t d (Read ts of txn attempt conds uses) l p e b stuck = inl (record {
   ts = ts.0;
@@ -252,9 +283,13 @@ by_head g log j t d (Read ts of txn attempt conds uses) l p e b stuck = inl (rec
 by_head g log j t d (Write w of txn changes) l p e b stuck =
     let s : Setting = setting_of g (D (dm_no d)) in
     let v : View = view_of s (at_module g d log) in
-    let a = any_at (λ (k : ClassView). k.waits && holds_back j w.0 changes (head k.pipe)) v.classes (and_right (not (j == 0)) (list_any (λ (k : ClassView). k.waits && holds_back j w.0 changes (head k.pipe)) v.classes) stuck) in
+    let a = any_at (λ (k : ClassView). k.waits && holds_back j w.0 changes (head k.pipe)) v.classes
+    (and_right (not (j == 0)) (list_any (λ (k : ClassView). k.waits && holds_back j w.0 changes
+    (head k.pipe)) v.classes) stuck) in
     let c = class_at_place s (at_module g d log) a.0 a.1 a.2 in
-    let f : (waits c.0 (at_module g d log) && holds_back j w.0 changes (head (pipe c.0 (at_module g d log)))) ≡ true = subst (λ (k : ClassView). (k.waits && holds_back j w.0 changes (head k.pipe)) ≡ true) (sym c.2) a.3 in
+    let f : (waits c.0 (at_module g d log) && holds_back j w.0 changes
+    (head (pipe c.0 (at_module g d log)))) ≡ true =
+    subst (λ (k : ClassView). (k.waits && holds_back j w.0 changes (head k.pipe)) ≡ true) (sym c.2) a.3 in
     let here = c.1 in
     inr (held_by g log j t d c.0 w of txn changes (head (pipe c.0 (at_module g d log))) p (omega (arith, here)) e b (and_left _ _ f) refl (and_right _ _ f))
 by_head g log j t d m l p e b stuck = absurd stuck

@@ -50,7 +50,8 @@ possible g (Up d) h r s = within d.0 g.catalogue.dms h.0 h.1
 abbrev pub IsGoodAlong : (Given → Type 0) → Given → List Event → Type 0
 IsGoodAlong Good g all = (xs ys : List Event) → xs ++ ys ≡ all → Good (record g { events = xs })
 
-pub allowed : (Good : Given → Type 0) (g : Given) (es all : List Event) → g.events ++ es ≡ all → All (IsValidEvent g.catalogue (length g.txns)) es → All IsNoRedeclare es
+pub allowed : (Good : Given → Type 0) (g : Given) (es all : List Event) → g.events ++ es ≡ all
+    → All (IsValidEvent g.catalogue (length g.txns)) es → All IsNoRedeclare es
     → IsGoodAlong Good g all → AreAllowed Good g es
 allowed Good g [] all e valid none good = tt
 allowed Good g (x ∷ es) all e valid none good =

@@ -34,14 +34,16 @@ pub all_given : (cat : Catalogue) (table : List Entry) (work : Workload) → wit
 all_given cat table work = with_events_is (begun cat table work) work.events
 
 -- of each data module the rows are those of the workload
-pub rows_given : (cat : Catalogue) (table : List Entry) (work : Workload) (d : DmNo) → IsSiteOf (begun cat table work) (D d) → rows_of (begun cat table work) (D d) ≡ work.rows
+pub rows_given : (cat : Catalogue) (table : List Entry) (work : Workload) (d : DmNo)
+    → IsSiteOf (begun cat table work) (D d) → rows_of (begun cat table work) (D d) ≡ work.rows
 rows_given cat table work d h =
     let low : 1 ≤ d.0 = leb-true 1 d.0 (first_so (nat_le 1 d.0) (nat_le d.0 cat.dms) h) in
     let high : d.0 ≤ cat.dms = leb-true d.0 cat.dms (second_so (nat_le 1 d.0) (nat_le d.0 cat.dms) h) in
     get_or-map-range_with_len (λ k. work.rows) 1 cat.dms (d.0 - 1) d.0 [] (omega arith) (omega arith)
 
 -- the transactions fit, and so what is given is sound
-pub begins_sound : (cat : Catalogue) (table : List Entry) (work : Workload) → cat.tms ≤ MAX_TMS → cat.dms ≤ MAX_DMS → IsValid cat work → IsSound (begun cat table work)
+pub begins_sound : (cat : Catalogue) (table : List Entry) (work : Workload) → cat.tms ≤ MAX_TMS
+    → cat.dms ≤ MAX_DMS → IsValid cat work → IsSound (begun cat table work)
 begins_sound cat table work tms dms valid = record {
   few_tms = tms;
   few_dms = dms;

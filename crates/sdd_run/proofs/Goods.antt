@@ -68,12 +68,17 @@ one_tick cat count (Up d) h = omega arith
 
 few_ticks : (cat : Catalogue) (count : ℕ) (es : List Event) → All (IsValidEvent cat count) es → AllFewTicks es
 few_ticks cat count [] h = tt
-few_ticks cat count (e ∷ es) h = (one_tick cat count e (All-head (IsValidEvent cat count) e es h), few_ticks cat count es (All-tail (IsValidEvent cat count) e es h))
+few_ticks cat count (e ∷ es) h = (
+  one_tick cat count e (All-head (IsValidEvent cat count) e es h),
+  few_ticks
+      cat count es (All-tail (IsValidEvent cat count) e es h),
+)
 
 fronts : (cat : Catalogue) (count : ℕ) (xs ys : List Event) → All (IsValidEvent cat count) (xs ++ ys) → All (IsValidEvent cat count) xs
 fronts cat count [] ys h = All-nil (IsValidEvent cat count)
 fronts cat count (x ∷ xs) ys h =
-    All-cons (IsValidEvent cat count) x xs (All-head (IsValidEvent cat count) x (xs ++ ys) h) (fronts cat count xs ys (All-tail (IsValidEvent cat count) x (xs ++ ys) h))
+    All-cons (IsValidEvent cat count) x xs (All-head (IsValidEvent cat count) x (xs ++ ys) h)
+    (fronts cat count xs ys (All-tail (IsValidEvent cat count) x (xs ++ ys) h))
 
 front : (cat : Catalogue) (count : ℕ) (xs ys all : List Event) → xs ++ ys ≡ all → All (IsValidEvent cat count) all → All (IsValidEvent cat count) xs
 front cat count xs ys all e h = fronts cat count xs ys (subst (All (IsValidEvent cat count)) (sym e) h)

@@ -48,7 +48,9 @@ module _ (cat : Catalogue) (h : History) (x y : Committed) (first : IsCommitted 
 precedes_later : (cat : Catalogue) (h : History) (x y : Committed) → x.start.txn ≢ y.start.txn → x.start.class ≡ y.start.class → x.start.ts < y.start.ts
     → precedes cat h x y ≡ true
 precedes_later cat h x y other class time =
-    let earlier : is_earlier x y ≡ true = ap (λ b. b && nat_lt x.start.ts y.start.ts) (eq-eqb x.start.class y.start.class class) ∙ lt-ltb x.start.ts y.start.ts time in
+    let earlier : is_earlier x y ≡ true =
+    ap (λ b. b && nat_lt x.start.ts y.start.ts) (eq-eqb x.start.class y.start.class class)
+    ∙ lt-ltb x.start.ts y.start.ts time in
     ap (λ b. not b && ((is_earlier x y || is_overwritten x y) || (misses cat h x y || is_read_by cat h x y))) (ne_eqb x.start.txn y.start.txn other)
     ∙ ap (λ b. (b || is_overwritten x y) || (misses cat h x y || is_read_by cat h x y)) earlier
 
@@ -56,7 +58,8 @@ module _ (cat : Catalogue) (eras : Eras) (txns : List Txn) (h : History) (starts
     (second : IsCommitted h y) (class : x.start.class ≡ y.start.class) (submitted : IsSubmittedBefore h x y) where
   other : x.start.txn ≢ y.start.txn
   other same =
-      let one = starts.one_submit y.start.txn submitted.first_place submitted.second_place (subst (λ n. IsSubmitted h n submitted.first_place) same submitted.first)
+      let one = starts.one_submit y.start.txn submitted.first_place submitted.second_place
+      (subst (λ n. IsSubmitted h n submitted.first_place) same submitted.first)
       submitted.second in
       let before = submitted.before in
       omega (arith, one, before)

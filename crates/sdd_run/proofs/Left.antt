@@ -64,7 +64,8 @@ at_the_end log = record { later = []; entry = Notes; before = Mark (no_packet lo
 abbrev with_nothing : History → ℕ → History
 with_nothing h n = h ++ (n, Nothing) ∷ []
 
-found_alike : {A : Type 0} (f : ℕ × Rec → Option A) → ((k : ℕ) → f (k, Nothing) ≡ None) → (h : History) (n k : ℕ) → filter_map f (placed k (with_nothing h n)) ≡ filter_map f (placed k h)
+found_alike : {A : Type 0} (f : ℕ × Rec → Option A) → ((k : ℕ) → f (k, Nothing) ≡ None)
+    → (h : History) (n k : ℕ) → filter_map f (placed k (with_nothing h n)) ≡ filter_map f (placed k h)
 found_alike f none [] n k = ap (λ o. cons_option o []) (none k)
 found_alike f none (e ∷ h) n k = ap (cons_option (f (k, e.1))) (found_alike f none h n (suc k))
 
@@ -73,7 +74,8 @@ same_attempts h n = found_alike attempt_of (λ k. refl) h n 0
 
 same_committed : (h : History) (n : ℕ) → committed (with_nothing h n) ≡ committed h
 same_committed h n =
-    ap (λ starts. filter_map (committed_of starts) (placed 0 (with_nothing h n))) (same_attempts h n) ∙ found_alike (committed_of (attempts h)) (λ k. refl) h n 0
+    ap (λ starts. filter_map (committed_of starts) (placed 0 (with_nothing h n))) (same_attempts h n)
+    ∙ found_alike (committed_of (attempts h)) (λ k. refl) h n 0
 
 same_front : (h : History) (n : ℕ) → take (length h) (with_nothing h n) ≡ take (length h) h
 same_front h n = take-append_seam h ((n, Nothing) ∷ []) ∙ sym (take_all (length h) h (omega arith))
@@ -83,7 +85,8 @@ abbrev dated_by : Catalogue → List (RelNo × Row) → List Committed → Histo
 dated_by cat rows all front d =
     laws.first_rows cat rows ++ flat_map laws.dated (filter (λ (t : Committed). list_any (λ (e : ℕ × Rec). is_apply t.start.txn d e.1) front) all)
 
-same_dated : (cat : Catalogue) (rows : List (RelNo × Row)) (h : History) (n d : ℕ) → laws.dated_at cat rows (with_nothing h n) d (length h) ≡ laws.dated_at cat rows h d (length h)
+same_dated : (cat : Catalogue) (rows : List (RelNo × Row)) (h : History) (n d : ℕ)
+    → laws.dated_at cat rows (with_nothing h n) d (length h) ≡ laws.dated_at cat rows h d (length h)
 same_dated cat rows h n d =
     ap (λ all. dated_by cat rows all (take (length h) (with_nothing h n)) d) (same_committed h n)
     ∙ ap (λ front. dated_by cat rows (committed h) front d) (same_front h n)
@@ -97,18 +100,22 @@ module _ (g : Given) (rows : List (RelNo × Row)) (log : Log) (sound : IsSound g
   contents_are : (d f : ℕ) → has_copy g.catalogue d f ≡ true
       → contents f (dated (setting_of g (D (dm_no d))) (local_of g (D (dm_no d)) log)) ≡ laws.copy_at g.catalogue rows (history log) d (length (history log)) f
   contents_are d f copied =
-      same_copy g rows (one_era g.catalogue) (noted log) sound fine (still_permitted g log permitted) (eras_of (noted log) none) d (length (history log)) Nothing
+      same_copy g rows (one_era g.catalogue) (noted log) sound fine (still_permitted g log permitted)
+      (eras_of (noted log) none) d (length (history log)) Nothing
       (at_the_end log) f copied
       ∙ ap (contents f) (same_dated g.catalogue rows (history log) _ d)
 
   module _ (order : List TxnNo) (serial : IsSerial g.catalogue (history log) order) where
     left_at : (d f : ℕ) → has_copy g.catalogue d f ≡ true → AreAllApplied (history log) f d (length (history log))
-        → map (λ e. e.1) (contents f (dated (setting_of g (D (dm_no d))) (local_of g (D (dm_no d)) log))) ≡ rows_left g.catalogue (run g.catalogue rows g.txns order).1 f
+        → map (λ e. e.1) (contents f (dated (setting_of g (D (dm_no d)))
+        (local_of g (D (dm_no d)) log))) ≡ rows_left g.catalogue (run g.catalogue rows g.txns order).1 f
     left_at d f copied all =
         let copy = laws.copy_at g.catalogue rows (history log) d (length (history log)) f in
         ap (λ l. map (λ e. e.1) l) (contents_are d f copied)
         ∙ sym (map-map (λ (e : Item × Row). e.1) _ copy)
-        ∙ sym (ap (map (λ (e : Item × Row). e.1)) (left_in_copies g rows (one_era g.catalogue) log order sound fine permitted (eras_of log none) serial f d (length (history log)) all))
+        ∙ sym (ap (map (λ (e : Item × Row). e.1))
+        (left_in_copies g rows (one_era g.catalogue) log order sound fine permitted
+        (eras_of log none) serial f d (length (history log)) all))
 
     -- each copy that is told of
     pub left_in : (copy : CopyTable) → Contains (tables_of g log) copy → AreAllApplied (history log) copy.frag.0 copy.dm.0 (length (history log))
@@ -118,5 +125,6 @@ module _ (g : Given) (rows : List (RelNo × Row)) (log : Log) (sound : IsSound g
         let xs = dated (setting_of g (D (dm_no at.0))) (local_of g (D (dm_no at.0)) log) in
         let of = Contains-from_map (table_of at.0 xs) _ copy at.2 in
         let copied = Contains-from_filter (has_copy g.catalogue at.0) (numbers_to (length g.catalogue.fragments)) of.0 of.1 in
-        subst (λ (t : CopyTable). AreAllApplied (history log) t.frag.0 t.dm.0 (length (history log)) → t.rows ≡ rows_left g.catalogue (run g.catalogue rows g.txns order).1 t.frag.0)
+        subst (λ (t : CopyTable). AreAllApplied (history log) t.frag.0 t.dm.0 (length (history log))
+        → t.rows ≡ rows_left g.catalogue (run g.catalogue rows g.txns order).1 t.frag.0)
         (sym of.2) (left_at at.0 of.0 copied.1)

@@ -61,4 +61,5 @@ pub any_more : {A : Type 0} (p : A → Bool) (xs : List A) (i : ℕ) (x : A) (ol
     → new ≡ (p x || old) → old ≡ list_any p (take i xs) → new ≡ list_any p (take (i + 1) xs)
 any_more p xs i x old new l is e before =
     e ∙ or_turned (p x) old ∙ ap (λ b. b || p x) before
-    ∙ sym (ap (list_any p) (take_more xs i x l ∙ ap (λ y. take i xs ++ y ∷ []) (sym is)) ∙ list_any-append p (take i xs) (x ∷ []) ∙ ap (λ b. list_any p (take i xs) || b) (or-false (p x)))
+    ∙ sym (ap (list_any p) (take_more xs i x l ∙ ap (λ y. take i xs ++ y ∷ []) (sym is))
+    ∙ list_any-append p (take i xs) (x ∷ []) ∙ ap (λ b. list_any p (take i xs) || b) (or-false (p x)))

@@ -27,7 +27,8 @@ marked_there n (Notes ∷ later) before = marked_there n later before
 marked_there n (Does at act ∷ later) before = marked_there n later before
 
 -- a number that valid events submit is one of a transaction
-named_by : (cat : Catalogue) (count n m : ℕ) (rest : ℕ) (b : Bool) → (m == n) ≡ b → IsFrom1To count m → (1 ≤ rest → IsFrom1To count n) → 1 ≤ one_if b + rest → IsFrom1To count n
+named_by : (cat : Catalogue) (count n m : ℕ) (rest : ℕ) (b : Bool) → (m == n) ≡ b → IsFrom1To count m
+    → (1 ≤ rest → IsFrom1To count n) → 1 ≤ one_if b + rest → IsFrom1To count n
 named_by cat count n m rest true e v later h = subst (IsFrom1To count) (eqb-true m n e) v
 named_by cat count n m rest false e v later h = later (omega (arith, h))
 

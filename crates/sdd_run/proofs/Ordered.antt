@@ -48,7 +48,8 @@ module _ (cat : Catalogue) (table : List Entry) (work : Workload) (sound : IsSou
   fine : HasSoundData (given_of cat table work) work.rows
   fine = record {
     txns_fit = All-weaker (IsValidTxn cat) (Fits cat) (λ t v. v.fits) work.txns valid.txns;
-    txns_held = All-weaker (IsValidTxn cat) (λ (t : Txn). All PutsHeld t.statements) (λ t v. All-weaker HoldsValues PutsHeld puts_held t.statements v.values) work.txns valid.txns;
+    txns_held = All-weaker (IsValidTxn cat) (λ (t : Txn). All PutsHeld t.statements)
+        (λ t v. All-weaker HoldsValues PutsHeld puts_held t.statements v.values) work.txns valid.txns;
     rows_fit = All-weaker (IsValidRow cat) (FitsStart cat) (λ r v. v.fits) work.rows valid.rows;
     rows_held = All-weaker (IsValidRow cat) (λ (r : RelNo × Row). All IsHeld r.1) (λ r v. All-weaker IsValue IsHeld held r.1 v.values) work.rows valid.rows;
     alike = λ d here. rows_given cat table work (dm_no d) (is_dm cat (dm_no d) here.0 here.1);
@@ -73,6 +74,7 @@ module _ (cat : Catalogue) (table : List Entry) (work : Workload) (sound : IsSou
   pub replayed : AllZip (IsReplyOf (history log)) (serial_order cat (history log)) (run cat work.rows work.txns (serial_order cat (history log))).0
   replayed = replies (given_of cat table work) work.rows (one_era cat) log (serial_order cat (history log)) sound fine permitted eras_are serial
 
-  pub left : (copy : CopyTable) → Contains (tables_of (given_of cat table work) log) copy → AreAllApplied (history log) copy.frag.0 copy.dm.0 (length (history log))
+  pub left : (copy : CopyTable) → Contains (tables_of (given_of cat table work) log) copy
+      → AreAllApplied (history log) copy.frag.0 copy.dm.0 (length (history log))
       → copy.rows ≡ rows_left cat (run cat work.rows work.txns (serial_order cat (history log))).1 copy.frag.0
   left = left_in (given_of cat table work) work.rows log sound fine permitted (record { table = tabled }) refl none (serial_order cat (history log)) serial

@@ -81,15 +81,20 @@ head_is h v k None step a e = cc
 head_is h v k (Some m) None a e = cc
 head_is h v k (Some m) (Some step) a e = it_is k _ a (acting h v k m step) e
 
-class_below : (s : Setting) (log : site.Log) (c n : ℕ) (k : ClassView) → length s.catalogue.classes < c → slice_get (view_of s log).classes n ≡ Some k → k.class < c
+class_below : (s : Setting) (log : site.Log) (c n : ℕ) (k : ClassView) → length s.catalogue.classes < c
+    → slice_get (view_of s log).classes n ≡ Some k → k.class < c
 class_below s log c n k l e =
     let r = class_at_place s log n k e in
     let same : r.0 ≡ k.class = ap (λ (x : ClassView). x.class) r.2 in
     omega (arith, r.1, same)
 
 due_leaves : (s : Setting) (log : site.Log) (c : ℕ) (a : Act) → length s.catalogue.classes < c → IsDue (home_of s) (view_of s log) a → Leaves c a
-due_leaves s log c a l (by_open n k e f) = leaves c k.class a (class_below s log c n k l e) (open_is (home_of s) k (head_of (filter (is_asked_of k.class) (view_of s log).opens)) a f)
-due_leaves s log c a l (by_head n k e f) = leaves c k.class a (class_below s log c n k l e) (head_is (home_of s) (view_of s log) k.class (head k.pipe) (head_step (view_of s log) k) a f)
+due_leaves s log c a l (by_open n k e f) =
+    leaves c k.class a (class_below s log c n k l e)
+    (open_is (home_of s) k (head_of (filter (is_asked_of k.class) (view_of s log).opens)) a f)
+due_leaves s log c a l (by_head n k e f) =
+    leaves c k.class a (class_below s log c n k l e) (head_is (home_of s) (view_of s log) k.class
+    (head k.pipe) (head_step (view_of s log) k) a f)
 
 -- so no head of a further class ever waits
 
@@ -135,7 +140,9 @@ module _ (g : Given) (d : DmNo) (c : ℕ) (far : length g.catalogue.classes < c)
 pub none_lacks : (g : Given) (c t d : ℕ) → length g.catalogue.classes < c → (log : Log) → IsLawful g log → wait_at g log c t d ≡ None
 none_lacks g c t d far log h =
     let at : Site = D (dm_no d) in
-    let asleep : waiting_at c t (local_of g at log) ≡ None = ap (λ b. if b then conds_of t (head (pipe c (local_of g at log))) else None) (none_waits g (dm_no d) c far log h) in
+    let asleep : waiting_at c t (local_of g at log) ≡ None =
+    ap (λ b. if b then conds_of t (head (pipe c (local_of g at log))) else None)
+    (none_waits g (dm_no d) c far log h) in
     ap (λ o. option_map (wait_for d) (unmet (setting_of g at) (local_of g at log) o)) asleep
 
 pub no_waits : (g : Given) (c t : ℕ) → length g.catalogue.classes < c → (log : Log) → IsLawful g log → waits_of g log c t ≡ []

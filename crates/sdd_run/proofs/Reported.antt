@@ -43,7 +43,8 @@ if_ok (Err e) P Q f p = tt
 
 -- a run is given all of its events
 
-given_all : (cat : Catalogue) (table : List Entry) (work : Workload) (events : List Event) → events ≡ work.events → with_events (begun cat table work) events ≡ given_of cat table work
+given_all : (cat : Catalogue) (table : List Entry) (work : Workload) (events : List Event)
+    → events ≡ work.events → with_events (begun cat table work) events ≡ given_of cat table work
 given_all cat table work events same = ap (with_events (begun cat table work)) same ∙ all_given cat table work
 
 pub run_of : (cat : Catalogue) (table : List Entry) (work : Workload) (events : List Event) → events ≡ work.events

@@ -39,7 +39,8 @@ some_is x y e = cc
 abbrev IsOnly : ℕ → History → ℕ → Type 0
 IsOnly n h k = (j : ℕ) (made : ℕ × Rec) (t : Told) → slice_get h j ≡ Some made → told_in made.1 ≡ Some t → is_of n t ≡ true → j ≡ k
 
-skips : (n : ℕ) (made : ℕ × Rec) (rest : History) (k : ℕ) (o : Option Told) → told_in made.1 ≡ o → IsOnly n (made ∷ rest) (suc k) → first_of n o rest ≡ told_of rest n
+skips : (n : ℕ) (made : ℕ × Rec) (rest : History) (k : ℕ) (o : Option Told) → told_in made.1 ≡ o
+    → IsOnly n (made ∷ rest) (suc k) → first_of n o rest ≡ told_of rest n
 skips n made rest k None tells only = refl
 skips n made rest k (Some t) tells only =
     elim (cases_Bool (is_of n t)) [
@@ -57,7 +58,8 @@ told_by n (first ∷ rest) (suc k) made t there tells is only =
     ∙ told_by n rest k made t there tells is (λ j x u a b c. let same : suc j ≡ suc k = only (suc j) x u a b c in omega (arith, same))
 
 -- a record that tells of transaction n is a Commit of it
-commit_of : (n k : ℕ) (r : Rec) (t : Told) (h : History) → record_at h k ≡ Some r → told_in r ≡ Some t → is_of n t ≡ true → (number : ℕ) × HasCommit h n number k
+commit_of : (n k : ℕ) (r : Rec) (t : Told) (h : History) → record_at h k ≡ Some r → told_in r ≡ Some t
+    → is_of n t ≡ true → (number : ℕ) × HasCommit h n number k
 commit_of n k (Commit txn attempt reply changes values rows) t h there tells is =
     let told : Told = record { txn = txn.0; reply = reply; values = values; rows = rows } in
     let named : txn.0 ≡ n = ap (λ (x : Told). x.txn) (some_is told t tells) ∙ eqb-true t.txn n is in (
@@ -85,7 +87,14 @@ module _ (h : History) (one_commit : (n i j k l : ℕ) → HasCommit h n i k →
   told_is : (t : Committed) → IsCommitted h t → told_of h t.start.txn ≡ Some (told t)
   told_is t is =
       let commit : Rec = Commit (txn_no t.start.txn) t.start.number t.reply t.changes t.values t.rows in
-      let own : HasCommit h t.start.txn t.start.number t.place = record { reply = t.reply; changes = t.changes; values = t.values; rows = t.rows; stands = is.committed } in
+      let own : HasCommit h t.start.txn t.start.number t.place = record {
+        reply = t.reply;
+        changes =
+            t.changes;
+        values = t.values;
+        rows = t.rows;
+        stands = is.committed;
+      } in
       let made = made_at (slice_get h t.place) commit is.committed in
       told_by t.start.txn h t.place made.0 (told t) made.1 (ap told_in made.2) (eq-eqb t.start.txn t.start.txn refl)
       (λ j other u there tells of.
@@ -94,7 +103,8 @@ module _ (h : History) (one_commit : (n i j k l : ℕ) → HasCommit h n i k →
 
   reply_is : (txns : List Txn) (n : TxnNo) (reply : Reply) → IsReplyOf h n reply → reply_of txns h n ≡ reply_lines (txn_name txns n.0) reply
   reply_is txns n reply is =
-      ap (λ o. option_map_or (λ (t : Told). reply_lines (txn_name txns n.0) t.reply) o []) (ap (told_of h) (sym is.txn_is) ∙ told_is is.committed is.is_committed)
+      ap (λ o. option_map_or (λ (t : Told). reply_lines (txn_name txns n.0) t.reply) o [])
+      (ap (told_of h) (sym is.txn_is) ∙ told_is is.committed is.is_committed)
       ∙ ap (reply_lines (txn_name txns n.0)) is.reply_is
 
   replies_are : (txns : List Txn) (order : List TxnNo) (replies : List Reply) → AllZip (IsReplyOf h) order replies

@@ -16,7 +16,8 @@ use Rattle.sdd_run.specs.Reports.{report_by}
 abbrev pub made : Catalogue → List Txn → History → List TxnNo → List Pending → List CopyTable → Report
 made cat txns records order left copies = record { catalogue = cat; txns = txns; history = records; order = order; pending = left; copies = copies }
 
-pub report_is : (tell : Telling) (g : Given) (log : Log) (cat : Catalogue) (txns : List Txn) (records : History) (order : List TxnNo) (left : List Pending) (copies : List CopyTable)
+pub report_is : (tell : Telling) (g : Given) (log : Log) (cat : Catalogue) (txns : List Txn)
+    (records : History) (order : List TxnNo) (left : List Pending) (copies : List CopyTable)
     → g.catalogue ≡ cat → txns ≡ g.txns → records ≡ history log → order ≡ serial_order cat records → left ≡ pending_of tell g log → copies ≡ tables_of g log
     → made cat txns records order left copies ≡ report_by tell g log
 report_is tell g log cat txns records order left copies c t h o p k =

@@ -44,7 +44,8 @@ committed_by h n number place c a started txn attempt =
       txn,
     )
 
-stands_once : (cat : Catalogue) (h : History) (order : List TxnNo) → IsOrderable cat h → IsSerial cat h order → (n : ℕ) → WasCommitted h n → times_in n order ≡ 1
+stands_once : (cat : Catalogue) (h : History) (order : List TxnNo) → IsOrderable cat h
+    → IsSerial cat h order → (n : ℕ) → WasCommitted h n → times_in n order ≡ 1
 stands_once cat h order fine serial n w =
     let a = fine.started n w.number w.place w.commit in
     let t = committed_by h n w.number w.place w.commit a.0 a.1 a.2 a.3 in
@@ -61,7 +62,13 @@ module _ (cat : Catalogue) (table : List Entry) (work : Workload) (sound : IsSou
     all_committed : EndsWithSettle work.events → NoneIsDown cat log → AllCommitted (history log)
     all_committed ends up =
         settled_is_committed (given_of cat table work) log one_table submit_given
-        (settle_ends (given_of cat table work) log ends.before ends.is (record { lawful = the_log.lawful; complete = the_log.complete; one_list = none; up = up }))
+        (settle_ends (given_of cat table work) log ends.before ends.is (record {
+          lawful =
+              the_log.lawful;
+          complete = the_log.complete;
+          one_list = none;
+          up = up;
+        }))
 
     pub settled : IsOrderable cat (history log) → IsSerial cat (history log) (serial_order cat (history log)) → EndsWithSettle work.events → NoneIsDown cat log
         → TellsAllCommitted (report_of (given_of cat table work) log)

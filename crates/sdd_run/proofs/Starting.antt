@@ -37,10 +37,16 @@ module _ (cat : Catalogue) (table : List Entry) (work : Workload) (sound : IsSou
   pub all_allowed : has_lists work ≡ false → (events : List Event) → events ≡ work.events → AreAllowed IsGood (begun cat table work) events
   all_allowed none events e =
       subst (AreAllowed IsGood (begun cat table work)) (sym e)
-      (allowed IsGood (begun cat table work) work.events work.events refl valid.events (no_redeclare cat work valid none) (good_along cat table work sound valid))
+      (allowed IsGood (begun cat table work) work.events work.events refl valid.events
+      (no_redeclare cat work valid none) (good_along cat table work sound valid))
 
   made_of : (rows : List (RelNo × Row)) → rows ≡ work.rows → IsMadeOf (begun cat table work) cat table rows
-  made_of rows e = subst (IsMadeOf (begun cat table work) cat table) (sym e) (record { catalogue_is = refl; force_is = refl; rows_are = rows_given cat table work })
+  made_of rows e = subst (IsMadeOf (begun cat table work) cat table) (sym e) (record {
+    catalogue_is =
+        refl;
+    force_is = refl;
+    rows_are = rows_given cat table work;
+  })
 
   module _ {C S N : Type 0} (cat_of : C → Catalogue) (stands_s : S → Site → Setting → site.Log → Type 0) (stands_n : N → ℕ → ℕ → List (Call Msg) → Type 0) where
     -- what making a world promises
@@ -58,7 +64,8 @@ module _ (cat : Catalogue) (table : List Entry) (work : Workload) (sound : IsSou
         → StandsOn cat_of stands_s stands_n IsGood cat w (begun cat table work) []
     starts home tms dms tms2 dms2 rows sites net w few_tms few_dms made home_is t d t2 d2 r members mail = record {
       catalogue_is = refl;
-      stands = made (begun cat table work) (good_begun cat table work sound valid) (begins_sound cat table work few_tms few_dms valid) home_is (sym t2) (sym d2) refl refl
+      stands = made (begun cat table work) (good_begun cat table work sound valid)
+          (begins_sound cat table work few_tms few_dms valid) home_is (sym t2) (sym d2) refl refl
           (λ at here. members (begun cat table work) at (made_of rows r) here)
           (subst (λ n. stands_n net n cat.dms []) t (subst (λ n. stands_n net tms n []) d mail));
     }

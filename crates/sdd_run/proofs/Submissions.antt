@@ -22,7 +22,8 @@ not_later n m xs h k l d e = h (suc k) (omega arith) d e
 
 never : (n : ℕ) (es : List Event) → IsNew n (numbers es) → submits_in n es ≡ 0
 never n [] h = refl
-never n (Submit m ∷ es) h = ap (λ b. one_if b + submits_in n es) (not_first n m.0 (numbers es) h) ∙ (let e = never n es (not_later n m.0 (numbers es) h) in omega arith)
+never n (Submit m ∷ es) h = ap (λ b. one_if b + submits_in n es) (not_first n m.0 (numbers es) h) ∙ (let e =
+    never n es (not_later n m.0 (numbers es) h) in omega arith)
 never n (Deliver a b k ∷ es) h = let e = never n es h in omega arith
 never n (Lose a b k ∷ es) h = let e = never n es h in omega arith
 never n (Repeat a b k ∷ es) h = let e = never n es h in omega arith

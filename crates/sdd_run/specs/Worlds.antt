@@ -27,7 +27,8 @@ use Rattle.sdd_run.specs.Pending.{commits}
 use Rattle.sdd_run.specs.Runs.{given_of}
 
 -- a world stands for the log of what is given on this catalogue
-pub record StandsOn {C S N : Type 0} (cat : C → Catalogue) (stands_s : S → Site → Setting → site.Log → Type 0) (stands_n : N → ℕ → ℕ → List (Call Msg) → Type 0) (Good : Given → Type 0)
+pub record StandsOn {C S N : Type 0} (cat : C → Catalogue) (stands_s : S → Site → Setting → site.Log
+    → Type 0) (stands_n : N → ℕ → ℕ → List (Call Msg) → Type 0) (Good : Given → Type 0)
     (catalogue : Catalogue) (w : World C S N) (g : Given) (log : Log) : Type 0 where
   pub catalogue_is : g.catalogue ≡ catalogue
   pub stands : StandsFor cat stands_s stands_n Good w g log

@@ -60,7 +60,8 @@ pub ends_from : (g now : Given) (events rest : List Event) (e : Event) (all : Gi
 ends_from g now events rest e all is same h = subst EndsBy (with_first now events rest e is ∙ same) (ends_with_all (with_event now e) rest h)
 
 -- a settle is carried out as the event that it is
-module _ {C S N : Type 0} (cat : C → Catalogue) (stands_s : S → Site → Setting → site.Log → Type 0) (stands_n : N → ℕ → ℕ → List (Call Msg) → Type 0) (Good : Given → Type 0) where
+module _ {C S N : Type 0} (cat : C → Catalogue) (stands_s : S → Site → Setting → site.Log → Type 0)
+    (stands_n : N → ℕ → ℕ → List (Call Msg) → Type 0) (Good : Given → Type 0) where
   abbrev Stand : World C S N → Given → Log → Type 0
   Stand = StandsFor cat stands_s stands_n Good
 

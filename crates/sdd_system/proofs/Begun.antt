@@ -36,7 +36,8 @@ LivesT = Lives (λ k. k.live) tm.Stands
 abbrev LivesD : Standing (Kept dm_state.State)
 LivesD = Lives (λ k. k.live) dm.Stands
 
-pub all_begun : (cat : Catalogue) (table : List Entry) (rows : List (RelNo × Row)) (u : Kept um_state.State) (ts : List (Kept tm_state.State)) (ds : List (Kept dm_state.State))
+pub all_begun : (cat : Catalogue) (table : List Entry) (rows : List (RelNo × Row)) (u : Kept um_state.State)
+    (ts : List (Kept tm_state.State)) (ds : List (Kept dm_state.State))
     → ((s : Setting) → s.catalogue ≡ cat → s.site ≡ U → um.Stands u s [])
     → AllBegin (BeginsT cat table) cat.tms ts → AllBegin (BeginsD cat rows) cat.dms ds
     → (g : Given) (at : Site) → IsMadeOf g cat table rows → IsSiteOf g at

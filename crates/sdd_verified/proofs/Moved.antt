@@ -47,12 +47,16 @@ module _ (cat : Catalogue) (work : Workload) (valid : IsValid cat work) where
   pub moved_texts : (order : List TxnNo) → All IsSubmittedOne order → texts_of (submitted work) (map moved order) ≡ texts_of work.txns order
   moved_texts [] some = refl
   moved_texts (n ∷ order) some =
-      texts_by n order (map moved order) (txn_of work.txns n) refl (same_text n (All-head IsSubmittedOne n order some)) (moved_texts order (All-tail IsSubmittedOne n order some))
+      texts_by n order (map moved order) (txn_of work.txns n) refl
+      (same_text n (All-head IsSubmittedOne n order some))
+      (moved_texts order (All-tail IsSubmittedOne n order some))
 
   moved_names : (order : List TxnNo) → All IsSubmittedOne order → map (name_in (submitted work)) (map moved order) ≡ map (name_in work.txns) order
   moved_names [] some = refl
   moved_names (n ∷ order) some =
-      let here : name_in (submitted work) (moved n) ≡ name_in work.txns n = ap (λ (o : Option Txn). option_map_or (λ (t : Txn). t.name) o []) (same_text n (All-head IsSubmittedOne n order some)) in
+      let here : name_in (submitted work) (moved n) ≡ name_in work.txns n =
+      ap (λ (o : Option Txn). option_map_or (λ (t : Txn). t.name) o [])
+      (same_text n (All-head IsSubmittedOne n order some)) in
       let more = moved_names order (All-tail IsSubmittedOne n order some) in
       rw (here, more) refl
 
@@ -61,7 +65,9 @@ module _ (cat : Catalogue) (work : Workload) (valid : IsValid cat work) where
 
   pub moved_line : (order : List TxnNo) → All IsSubmittedOne order → order_line (submitted work) (map moved order) ≡ order_line work.txns order
   moved_line order some =
-      by_names (submitted work) (map moved order) ∙ ap (λ (l : List (List ℕ)). codes "order" ++ (behind_spaces l ++ 10 ∷ [])) (moved_names order some) ∙ sym (by_names work.txns order)
+      by_names (submitted work) (map moved order)
+      ∙ ap (λ (l : List (List ℕ)). codes "order" ++ (behind_spaces l ++ 10 ∷ [])) (moved_names order some)
+      ∙ sym (by_names work.txns order)
 
   pub moved_class : (n : TxnNo) → IsSubmittedOne n → class_of cat (submitted work) (moved n) ≡ class_of cat work.txns n
   moved_class n some = ap (λ (o : Option Txn). option_map_or (class_for cat) o 0) (same_text n some)

@@ -93,7 +93,9 @@ behind_one txns n t texts (suc number) p =
     let same : slice_get (t ∷ texts) (suc (suc number) - 1) ≡ slice_get texts number = ap (slice_get (t ∷ texts)) here in
     record { from = omega arith; within = omega (arith, within); is = same ∙ sym (ap (slice_get texts) before) ∙ p.is }
 
-place_by : (txns : List Txn) (n : ℕ) (e : Event) (events : List Event) (number : Option ℕ) (text : Option Txn) → scripts.submitted_by e ≡ number → submitted_by txns e ≡ text → Submits txns number text
+place_by : (txns : List Txn) (n : ℕ) (e : Event) (events : List Event) (number : Option ℕ)
+    (text : Option Txn) → scripts.submitted_by e ≡ number → submitted_by txns e ≡ text
+    → Submits txns number text
     → (1 ≤ submits_in n events → PlaceOf txns n (filter_map (submitted_by txns) events) (number_in events n))
     → 1 ≤ counted_by number n + submits_in n events → PlaceOf txns n (filter_map (submitted_by txns) (e ∷ events)) (number_by number n (number_in events n))
 place_by txns n e events None None a b h later some = rw b (later (omega (arith, some)))
@@ -121,7 +123,8 @@ pub place_of : (cat : Catalogue) (txns : List Txn) (n : ℕ) (events : List Even
 place_of cat txns n [] fine some = absurd (omega (arith, some))
 place_of cat txns n (e ∷ events) fine some =
     let count = counted e n in
-    place_by txns n e events (scripts.submitted_by e) (submitted_by txns e) refl refl (submits cat txns e (All-head (IsValidEvent cat (length txns)) e events fine))
+    place_by txns n e events (scripts.submitted_by e) (submitted_by txns e) refl refl
+    (submits cat txns e (All-head (IsValidEvent cat (length txns)) e events fine))
     (place_of cat txns n events (All-tail (IsValidEvent cat (length txns)) e events fine)) (omega (arith, some, count))
 
 -- different transactions have different places
@@ -180,7 +183,14 @@ more_front : (e : Event) (events : List Event) (m n : ℕ) → submits_by n e �
 more_front e events m n none s =
     let first = s.first in
     let not_yet = s.not_yet in
-    record { front = e ∷ s.front; rest = s.rest; is = ap (λ (l : List Event). e ∷ l) s.is; first = omega (arith, first); not_yet = omega (arith, none, not_yet) }
+    record {
+      front = e ∷ s.front;
+      rest = s.rest;
+      is = ap (λ (l : List Event). e ∷ l) s.is;
+      first =
+          omega (arith, first);
+      not_yet = omega (arith, none, not_yet);
+    }
 
 separates_by : (e : Event) (events : List Event) (number : Option ℕ) (m n : ℕ) → scripts.submitted_by e ≡ number
     → (1 ≤ submits_in m events → number_in events m < number_in events n → Separates events m n) → 1 ≤ counted_by number m + submits_in m events

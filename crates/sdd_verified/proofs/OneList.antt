@@ -73,7 +73,9 @@ no_number log l (Some n) = no_message l n (message_at l.0 l.1 n log)
 no_hand : (log : Log) (l : Site × Site) → AreOther (hand_on log l)
 no_hand log l =
     let number : Option ℕ = next_number (handed l.0 l.1 log) (delivered (link_of l.0 l.1 log).there) in
-    elim (takes_part l.1 log) as (λ b. AreOther (cond b (hand_number log l (next_number (handed l.0 l.1 log) (delivered (link_of l.0 l.1 log).there))) None)) [ true ↦ no_number log l number | false ↦ tt ]
+    elim (takes_part l.1 log) as (λ b. AreOther
+    (cond b (hand_number log l (next_number (handed l.0 l.1 log) (delivered (link_of l.0 l.1 log).there)))
+    None)) [ true ↦ no_number log l number | false ↦ tt ]
 
 or_other : (o p : Option Entry) → AreOther o → AreOther p → AreOther (or_else o p)
 or_other None p a b = b

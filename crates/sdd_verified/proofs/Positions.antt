@@ -74,7 +74,10 @@ not_before order i k apart less within b =
     let long : length order ≡ length front + suc (length rest) = ap (λ (l : List TxnNo). length l) b.is ∙ front_length front first rest in
     let here : at order (length front) ≡ first = ap (λ (l : List TxnNo). at l (length front)) b.is ∙ at_front front first rest in
     let there : at order (length front + suc j) ≡ txn_no (at order i).0 =
-    ap (λ (l : List TxnNo). at l (length front + suc j)) b.is ∙ at_behind front first rest j ∙ any_default rest j (txn_no 0) (txn_no (at order i).0) in_rest ∙ b.behind.2 in
+    ap (λ (l : List TxnNo). at l (length front + suc j)) b.is ∙ at_behind front first rest j
+    ∙ any_default rest j (txn_no 0) (txn_no (at order i).0) in_rest ∙ b.behind.2 in
     let p : length front ≡ k = one_place order (length front) k apart (omega (arith, long)) within (ap (λ (n : TxnNo). n.0) here) in
-    let q : length front + suc j ≡ i = one_place order (length front + suc j) i apart (omega (arith, long, in_rest)) (omega (arith, less, within)) (ap (λ (n : TxnNo). n.0) there) in
+    let q : length front + suc j ≡ i =
+    one_place order (length front + suc j) i apart (omega (arith, long, in_rest))
+    (omega (arith, less, within)) (ap (λ (n : TxnNo). n.0) there) in
     omega (arith, p, q, less)

@@ -47,7 +47,15 @@ digit_first : (n : ℕ) (acc : List ℕ) → HasNoNewline acc → IsNumber (digi
 digit_first n acc h =
     let small : n % 10 < 10 = omega arith in
     let glyph = glyph_is (n % 10) small in
-    record { first = digit_glyph false (n % 10); rest = acc; is = refl; most = omega (arith, glyph, small); least = omega (arith, glyph); line = (λ e. omega (arith, glyph, e), h) }
+    record {
+      first = digit_glyph false (n % 10);
+      rest = acc;
+      is = refl;
+      most =
+          omega (arith, glyph, small);
+      least = omega (arith, glyph);
+      line = (λ e. omega (arith, glyph, e), h);
+    }
 
 digits_from : (k n : ℕ) (acc : List ℕ) → HasNoNewline acc → IsNumber (digits_onto (suc k) 10 false n acc)
 digits_from zero n acc h =
@@ -74,11 +82,14 @@ spaced_line word h = (λ e. omega (arith, e), h)
 
 -- names
 
-named_by : {A : Type 0} (name : A → List ℕ) (members : List A) (i : ℕ) (o : Option A) → slice_get members i ≡ o → All (λ m. IsName (name m)) members → HasNoNewline (option_map_or name o [])
+named_by : {A : Type 0} (name : A → List ℕ) (members : List A) (i : ℕ) (o : Option A)
+    → slice_get members i ≡ o → All (λ m. IsName (name m)) members → HasNoNewline (option_map_or name o [])
 named_by name members i None is named = tt
 named_by {A} name members i (Some m) is named = name_line (name m) (found_member (λ (k : A). IsName (name k)) members i m named is)
 
-module _ (cat : Catalogue) (txns : List Txn) (classes_named : All (λ (k : Class). IsName k.name) cat.classes) (txns_named : All (λ (t : Txn). IsName t.name) txns) where
+module _ (cat : Catalogue) (txns : List Txn)
+    (classes_named : All (λ (k : Class). IsName k.name) cat.classes)
+    (txns_named : All (λ (t : Txn). IsName t.name) txns) where
   txn_line : (n : ℕ) → HasNoNewline (txn_name txns n)
   txn_line n = named_by (λ (t : Txn). t.name) txns (n - 1) (slice_get txns (n - 1)) refl txns_named
 
@@ -92,7 +103,8 @@ module _ (cat : Catalogue) (txns : List Txn) (classes_named : All (λ (k : Class
   attempt_line n attempt = no_newline-append (txn_name txns n) (35 ∷ decimal attempt) (txn_line n) (λ e. omega (arith, e), number_line attempt)
 
   class_time_line : (c time : ℕ) → HasNoNewline (class_time cat c time)
-  class_time_line c time = no_newline-append (spaced (class_word cat c)) (spaced (decimal time)) (spaced_line (class_word cat c) (class_line c)) (spaced_line (decimal time) (number_line time))
+  class_time_line c time = no_newline-append (spaced (class_word cat c)) (spaced (decimal time))
+      (spaced_line (class_word cat c) (class_line c)) (spaced_line (decimal time) (number_line time))
 
   time_line : (time : Option Ts) → HasNoNewline (time_word time)
   time_line None = search rules
@@ -106,29 +118,36 @@ module _ (cat : Catalogue) (txns : List Txn) (classes_named : All (λ (k : Class
   conds_line (c ∷ conds) = no_newline-append (class_time cat c.class.0 c.time.0) (cond_words cat conds) (class_time_line c.class.0 c.time.0) (conds_line conds)
 
   attempt_of_line : (word : List ℕ) (n attempt : ℕ) → HasNoNewline word → HasNoNewline (of_attempt word txns n attempt)
-  attempt_of_line word n attempt h = no_newline-append word (spaced (attempt_word txns n attempt)) h (spaced_line (attempt_word txns n attempt) (attempt_line n attempt))
+  attempt_of_line word n attempt h = no_newline-append word (spaced (attempt_word txns n attempt)) h
+      (spaced_line (attempt_word txns n attempt) (attempt_line n attempt))
 
   visit_line : (word : List ℕ) (n attempt d : ℕ) → HasNoNewline word → HasNoNewline (of_visit word txns n attempt d)
   visit_line word n attempt d h = no_newline-append (of_attempt word txns n attempt) (spaced (module_word d)) (attempt_of_line word n attempt h) (module_line d)
 
   record_line : (r : Rec) → HasNoNewline (record_words cat txns r)
-  record_line (records.Submit txn) = no_newline-append (codes "submit") (spaced (txn_name txns txn.0)) (search rules) (spaced_line (txn_name txns txn.0) (txn_line txn.0))
+  record_line (records.Submit txn) = no_newline-append (codes "submit") (spaced (txn_name txns txn.0))
+      (search rules) (spaced_line (txn_name txns txn.0) (txn_line txn.0))
   record_line (records.Start txn attempt class ts p2 uses) =
-      no_newline-append (of_attempt (codes "start") txns txn.0 attempt) (class_time cat class.0 ts.0 ++ spaced (time_word p2)) (attempt_of_line (codes "start") txn.0 attempt (search rules))
+      no_newline-append (of_attempt (codes "start") txns txn.0 attempt)
+      (class_time cat class.0 ts.0 ++ spaced (time_word p2))
+      (attempt_of_line (codes "start") txn.0 attempt (search rules))
       (no_newline-append (class_time cat class.0 ts.0) (spaced (time_word p2)) (class_time_line class.0 ts.0) (spaced_line (time_word p2) (time_line p2)))
   record_line (records.Arrive txn attempt dm) = visit_line (codes "arrive") txn.0 attempt dm.0 (search rules)
   record_line (records.Wait txn attempt dm conds) =
-      no_newline-append (of_visit (codes "wait") txns txn.0 attempt dm.0) (cond_words cat conds) (visit_line (codes "wait") txn.0 attempt dm.0 (search rules)) (conds_line conds)
+      no_newline-append (of_visit (codes "wait") txns txn.0 attempt dm.0) (cond_words cat conds)
+      (visit_line (codes "wait") txn.0 attempt dm.0 (search rules)) (conds_line conds)
   record_line (records.Answer txn attempt dm) = visit_line (codes "answer") txn.0 attempt dm.0 (search rules)
   record_line (records.Reject txn attempt dm class ts) =
-      no_newline-append (of_visit (codes "reject") txns txn.0 attempt dm.0) (class_time cat class.0 ts.0) (visit_line (codes "reject") txn.0 attempt dm.0 (search rules)) (class_time_line class.0 ts.0)
+      no_newline-append (of_visit (codes "reject") txns txn.0 attempt dm.0) (class_time cat class.0 ts.0)
+      (visit_line (codes "reject") txn.0 attempt dm.0 (search rules)) (class_time_line class.0 ts.0)
   record_line (records.Commit txn attempt reply changes values rows) = attempt_of_line (codes "commit") txn.0 attempt (search rules)
   record_line (records.Apply txn class dm ts) =
       no_newline-append (codes "apply") (spaced (txn_name txns txn.0) ++ spaced (module_word dm.0)) (search rules)
       (no_newline-append (spaced (txn_name txns txn.0)) (spaced (module_word dm.0)) (spaced_line (txn_name txns txn.0) (txn_line txn.0)) (module_line dm.0))
   record_line (records.Pass class dm time) =
       no_newline-append (codes "pass") (spaced (class_word cat class.0) ++ (spaced (module_word dm.0) ++ spaced (decimal time.0))) (search rules)
-      (no_newline-append (spaced (class_word cat class.0)) (spaced (module_word dm.0) ++ spaced (decimal time.0)) (spaced_line (class_word cat class.0) (class_line class.0))
+      (no_newline-append (spaced (class_word cat class.0)) (spaced (module_word dm.0) ++ spaced
+      (decimal time.0)) (spaced_line (class_word cat class.0) (class_line class.0))
       (no_newline-append (spaced (module_word dm.0)) (spaced (decimal time.0)) (module_line dm.0) (spaced_line (decimal time.0) (number_line time.0))))
   record_line records.Nothing = search rules
 
@@ -152,8 +171,11 @@ module _ (cat : Catalogue) (txns : List Txn) (classes_named : All (λ (k : Class
 
   pub trace_lines : (history : List (ℕ × Rec)) → AreLines (lines_in history)
   trace_lines [] = tt
-  trace_lines (made ∷ history) =
-      (no_newline-append (decimal made.0) (spaced (record_words cat txns made.1)) (number_line made.0) (spaced_line (record_words cat txns made.1) (record_line made.1)), trace_lines history)
+  trace_lines (made ∷ history) = (
+    no_newline-append (decimal made.0) (spaced (record_words cat txns made.1)) (number_line made.0)
+        (spaced_line (record_words cat txns made.1) (record_line made.1)),
+    trace_lines history,
+  )
 
   -- which begin with a digit
   other_by : (first : ℕ) (rest : List ℕ) → first ≤ 57 → is_order_line (first ∷ rest) ≡ false
@@ -165,7 +187,9 @@ module _ (cat : Catalogue) (txns : List Txn) (classes_named : All (λ (k : Class
   other_line : (made : ℕ × Rec) → is_order_line (line_of made) ≡ false
   other_line made =
       let number = decimal_is made.0 in
-      subst (λ (l : List ℕ). is_order_line (l ++ spaced (record_words cat txns made.1)) ≡ false) (sym number.is) (other_by number.first (number.rest ++ spaced (record_words cat txns made.1)) number.most)
+      subst (λ (l : List ℕ). is_order_line (l ++ spaced (record_words cat txns made.1)) ≡ false)
+      (sym number.is) (other_by number.first (number.rest ++ spaced (record_words cat txns made.1))
+      number.most)
 
   pub trace_others : (history : List (ℕ × Rec)) → All IsOther (lines_in history)
   trace_others [] = All-nil IsOther
@@ -198,11 +222,13 @@ copy_begins cat table = record { first = 99; rest = _; is = refl; none = (λ e. 
 end_begins : Begins (codes "end\n")
 end_begins = record { first = 101; rest = _; is = refl; none = (λ e. omega (arith, e), λ rest. refl) }
 
-shipped_by : (txns : List Txn) (n : TxnNo) (o : Option Told) (rest : List ℕ) → Begins rest → Begins (option_map_or (λ (told : Told). shipped_line (txn_name txns n.0) told) o [] ++ rest)
+shipped_by : (txns : List Txn) (n : TxnNo) (o : Option Told) (rest : List ℕ) → Begins rest
+    → Begins (option_map_or (λ (told : Told). shipped_line (txn_name txns n.0) told) o [] ++ rest)
 shipped_by txns n None rest h = h
 shipped_by txns n (Some told) rest h = begins_front (shipped_line (txn_name txns n.0) told) rest (shipped_begins (txn_name txns n.0) told)
 
-all_shipped : (txns : List Txn) (history : List (ℕ × Rec)) (order : List TxnNo) (rest : List ℕ) → Begins rest → Begins (flat_map (shipped_of txns history) order ++ rest)
+all_shipped : (txns : List Txn) (history : List (ℕ × Rec)) (order : List TxnNo) (rest : List ℕ)
+    → Begins rest → Begins (flat_map (shipped_of txns history) order ++ rest)
 all_shipped txns history [] rest h = h
 all_shipped txns history (n ∷ order) rest h =
     subst Begins (sym (append_assoc (shipped_of txns history n) (flat_map (shipped_of txns history) order) rest))
@@ -211,12 +237,15 @@ all_shipped txns history (n ∷ order) rest h =
 all_pending : (cat : Catalogue) (txns : List Txn) (pending : List Pending) (rest : List ℕ) → Begins rest → Begins (pending_lines cat txns pending ++ rest)
 all_pending cat txns [] rest h = h
 all_pending cat txns (p ∷ pending) rest h =
-    subst Begins (sym (append_assoc (pending_line cat txns p) (pending_lines cat txns pending) rest)) (begins_front (pending_line cat txns p) (pending_lines cat txns pending ++ rest) (pending_begins cat txns p))
+    subst Begins (sym (append_assoc (pending_line cat txns p) (pending_lines cat txns pending) rest))
+    (begins_front (pending_line cat txns p) (pending_lines cat txns pending ++ rest)
+    (pending_begins cat txns p))
 
 all_copies : (cat : Catalogue) (copies : List CopyTable) (rest : List ℕ) → Begins rest → Begins (copies_lines cat copies ++ rest)
 all_copies cat [] rest h = h
 all_copies cat (table ∷ copies) rest h =
-    subst Begins (sym (append_assoc (copy_lines cat table) (copies_lines cat copies) rest)) (begins_front (copy_lines cat table) (copies_lines cat copies ++ rest) (copy_begins cat table))
+    subst Begins (sym (append_assoc (copy_lines cat table) (copies_lines cat copies) rest))
+    (begins_front (copy_lines cat table) (copies_lines cat copies ++ rest) (copy_begins cat table))
 
 pub rest_begins : (cat : Catalogue) (txns : List Txn) (history : List (ℕ × Rec)) (order : List TxnNo) (pending : List Pending) (copies : List CopyTable)
     → Begins (flat_map (shipped_of txns history) order ++ (pending_lines cat txns pending ++ (copies_lines cat copies ++ codes "end\n")))

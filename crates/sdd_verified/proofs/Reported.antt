@@ -59,7 +59,8 @@ use Rattle.sdd_verified.proofs.Submitting.{is_in_schedule, submitted_first}
 abbrev HasText : List Txn → TxnNo → Type 0
 HasText txns n = (t : Txn) × (txn_of txns n ≡ Some t)
 
-replies_are : (txns : List Txn) (order : List TxnNo) (answers : List Reply) → All (HasText txns) order → replies_along (names_of txns order) answers ≡ replies (texts_of txns order) answers
+replies_are : (txns : List Txn) (order : List TxnNo) (answers : List Reply) → All (HasText txns) order
+    → replies_along (names_of txns order) answers ≡ replies (texts_of txns order) answers
 replies_are txns [] answers there = refl
 replies_are txns (n ∷ order) [] there =
     let here = All-head (HasText txns) n order there in
@@ -84,9 +85,12 @@ era_is cat event = ap (λ (e : ℕ × Catalogue). e.1) (only_one cat (begun (one
 
 names_of_txns : (cat : Catalogue) (txns : List Txn) → All (IsValidTxn cat) txns → All (λ (t : Txn). IsName t.name) txns
 names_of_txns cat [] valid = All-nil (λ (t : Txn). IsName t.name)
-names_of_txns cat (t ∷ txns) valid = All-cons (λ (u : Txn). IsName u.name) t txns (All-head (IsValidTxn cat) t txns valid).named (names_of_txns cat txns (All-tail (IsValidTxn cat) t txns valid))
+names_of_txns cat (t ∷ txns) valid =
+    All-cons (λ (u : Txn). IsName u.name) t txns (All-head (IsValidTxn cat) t txns valid).named
+    (names_of_txns cat txns (All-tail (IsValidTxn cat) t txns valid))
 
-module _ (cat : Catalogue) (work : Workload) (text : List ℕ) (sound : IsSound cat) (named : AreNamed cat) (valid : IsValid cat work) (lists : has_lists work ≡ false) (r : IsReportOn cat work text) where
+module _ (cat : Catalogue) (work : Workload) (text : List ℕ) (sound : IsSound cat) (named : AreNamed cat)
+    (valid : IsValid cat work) (lists : has_lists work ≡ false) (r : IsReportOn cat work text) where
   abbrev Happened : History
   Happened = history r.log
 
@@ -125,7 +129,9 @@ module _ (cat : Catalogue) (work : Workload) (text : List ℕ) (sound : IsSound 
   class_is : (n : TxnNo) → (m : IsMember n) → class_of cat work.txns n ≡ m.committed.start.class
   class_is n m =
       let t = has_text n m in
-      ap (λ (o : Option Txn). option_map_or (class_for cat) o 0) t.1 ∙ ap (λ (c : Catalogue). class_for c t.0) (sym (era_is cat (event_at (history r.log) m.of_submit.place))) ∙ sym m.of_submit.class_is
+      ap (λ (o : Option Txn). option_map_or (class_for cat) o 0) t.1
+      ∙ ap (λ (c : Catalogue). class_for c t.0)
+      (sym (era_is cat (event_at (history r.log) m.of_submit.place))) ∙ sym m.of_submit.class_is
 
   all_submitted : All (IsSubmittedOne cat work valid) order
   all_submitted = all_members (IsSubmittedOne cat work valid) order (λ n there. some n (is_member n there))
@@ -143,7 +149,8 @@ module _ (cat : Catalogue) (work : Workload) (text : List ℕ) (sound : IsSound 
       let other : (at order k).0 ≢ (at order i).0 = λ e. apart i k less within (sym e) in
       let first = subst (λ (n : ℕ). IsSubmitted (history r.log) n y.of_submit.place) y.number_is y.of_submit.submitted in
       let second = subst (λ (n : ℕ). IsSubmitted (history r.log) n x.of_submit.place) x.number_is x.of_submit.submitted in
-      let before = submitted_first (given_of cat r.table work) r.log r.log_is.lawful few (at order k).0 (at order i).0 y.of_submit.place x.of_submit.place other s first second in
+      let before = submitted_first (given_of cat r.table work) r.log r.log_is.lawful few (at order k).0
+      (at order i).0 y.of_submit.place x.of_submit.place other s first second in
       let submitted_before : IsSubmittedBefore (history r.log) y.committed x.committed = record {
         first_place = y.of_submit.place;
         second_place = x.of_submit.place;
@@ -153,7 +160,9 @@ module _ (cat : Catalogue) (work : Workload) (text : List ℕ) (sound : IsSound 
       } in
       let one_class : y.committed.start.class ≡ x.committed.start.class = sym (class_is (at order k) y) ∙ sym class ∙ class_is (at order i) x in
       let stands = r.in_turn y.committed x.committed y.is_committed x.is_committed one_class submitted_before in
-      not_before order i k apart less within (subst (λ (n : ℕ). StandsBefore order n (at order i).0) y.number_is (subst (λ (n : ℕ). StandsBefore order y.committed.start.txn n) x.number_is stands))
+      not_before order i k apart less within
+      (subst (λ (n : ℕ). StandsBefore order n (at order i).0) y.number_is
+      (subst (λ (n : ℕ). StandsBefore order y.committed.start.txn n) x.number_is stands))
 
   in_turn : StandInTurn cat work valid order
   in_turn i k less within =
@@ -214,5 +223,7 @@ module _ (cat : Catalogue) (work : Workload) (text : List ℕ) (sound : IsSound 
             ∙ ap (λ (l : List ℕ). l ++ (line ++ (answers ++ after))) (trace_is cat work.txns named.classes names (history r.log))
             ∙ ap (λ (l : List ℕ). spelled_lines before ++ (l ++ (answers ++ after))) (sym (moved_line cat work valid order all_submitted))
             ∙ ap (λ (l : List ℕ). spelled_lines before ++ (order_line (submitted work) (map (moved cat work valid) order) ++ (l ++ after))) replied
-            ∙ ap (λ (l : List ℕ). spelled_lines before ++ (order_line (submitted work) (map (moved cat work valid) order) ++ (serial_replies cat work (map (moved cat work valid) order) ++ l))) follows.is;
+            ∙ ap (λ (l : List ℕ). spelled_lines before ++ (order_line (submitted work)
+            (map (moved cat work valid) order) ++ (serial_replies cat work
+            (map (moved cat work valid) order) ++ l))) follows.is;
       }

@@ -90,12 +90,15 @@ lawful_before g [] log h = h
 lawful_before g (e ∷ later) log h = lawful_before g later log h.1
 
 -- where the submission of m comes behind that of n, its mark does too
-again : (m n : ℕ) (a b : Site) (between rest_m rest_n : Log) (k l : TxnNo) (earlier_m earlier_n : Log) → between ++ Submitted b n ∷ rest_n ≡ Mark (Submit k) ∷ earlier_m
+again : (m n : ℕ) (a b : Site) (between rest_m rest_n : Log) (k l : TxnNo) (earlier_m earlier_n : Log)
+    → between ++ Submitted b n ∷ rest_n ≡ Mark (Submit k) ∷ earlier_m
     → rest_n ≡ Mark (Submit l) ∷ earlier_n → 1 ≤ marked m earlier_n → 1 ≤ marked m earlier_m
 again m n a b [] rest_m rest_n k l earlier_m earlier_n e f some = let q : Submitted b n ≡ Mark (Submit k) = cc in absurd cc
 again m n a b (x ∷ between) rest_m rest_n k l earlier_m earlier_n e f some =
     let q : between ++ Submitted b n ∷ rest_n ≡ earlier_m = cc in
-    let here : 1 ≤ marked m rest_n = subst (λ (log : Log). 1 ≤ marked m log) (sym f) (let more : marked m earlier_n ≤ marked m (Mark (Submit l) ∷ earlier_n) = omega arith in omega (arith, some, more)) in
+    let here : 1 ≤ marked m rest_n =
+    subst (λ (log : Log). 1 ≤ marked m log) (sym f) (let more : marked m earlier_n ≤ marked m
+    (Mark (Submit l) ∷ earlier_n) = omega arith in omega (arith, some, more)) in
     let later = marked_later m between (Submitted b n ∷ rest_n) in
     subst (λ (log : Log). 1 ≤ marked m log) q (omega (arith, here, later))
 
@@ -112,13 +115,16 @@ module _ (g : Given) (log : Log) (lawful : IsLawful g log) (once : AreSubmittedO
       let x = submit_in g log n k permitted s in
       let now : IsPermitted g (Submitted x.at n ∷ x.rest) = permitted_before g x.later (Submitted x.at n ∷ x.rest) (subst (IsPermitted g) x.is permitted) in
       let given = given_at g x.rest x.at n now in
-      let before : IsLawful g (Mark (Submit given.number) ∷ given.earlier) = subst (IsLawful g) given.is (lawful_before g x.later (Submitted x.at n ∷ x.rest) (subst (IsLawful g) x.is lawful)).1 in
+      let before : IsLawful g (Mark (Submit given.number) ∷ given.earlier) =
+      subst (IsLawful g) given.is (lawful_before g x.later (Submitted x.at n ∷ x.rest)
+      (subst (IsLawful g) x.is lawful)).1 in
       let count = (left_is g n (Mark (Submit given.number) ∷ given.earlier) before).all in
       let own : submits_by n (Submit given.number) ≡ 1 = ap (λ (k : ℕ). one_if (k == n)) given.number_is ∙ own_mark n in
       omega (arith, count, own)
 
   -- at the mark of n that of m has been, where m stands before n in the schedule
-  marked_first : (m n : ℕ) (earlier : Log) (k : ℕ) → IsLawful g (Mark (Submit (record { 0 = k })) ∷ earlier) → k ≡ n → m ≢ n → Separates g.events m n → 1 ≤ marked m earlier
+  marked_first : (m n : ℕ) (earlier : Log) (k : ℕ) → IsLawful g (Mark (Submit (record { 0 = k })) ∷ earlier)
+      → k ≡ n → m ≢ n → Separates g.events m n → 1 ≤ marked m earlier
   marked_first m n earlier k h same other s =
       let now : Log = Mark (Submit (record { 0 = k })) ∷ earlier in
       let rest : List Event = (left g.events now).0 in
@@ -151,20 +157,28 @@ module _ (g : Given) (log : Log) (lawful : IsLawful g log) (once : AreSubmittedO
       let now_y : IsPermitted g (Submitted y.at n ∷ y.rest) = permitted_before g y.later (Submitted y.at n ∷ y.rest) (subst (IsPermitted g) y.is permitted) in
       let given_x = given_at g x.rest x.at m now_x in
       let given_y = given_at g y.rest y.at n now_y in
-      let law_x : IsLawful g (Mark (Submit given_x.number) ∷ given_x.earlier) = subst (IsLawful g) given_x.is (lawful_before g x.later (Submitted x.at m ∷ x.rest) (subst (IsLawful g) x.is lawful)).1 in
-      let law_y : IsLawful g (Mark (Submit given_y.number) ∷ given_y.earlier) = subst (IsLawful g) given_y.is (lawful_before g y.later (Submitted y.at n ∷ y.rest) (subst (IsLawful g) y.is lawful)).1 in
+      let law_x : IsLawful g (Mark (Submit given_x.number) ∷ given_x.earlier) =
+      subst (IsLawful g) given_x.is (lawful_before g x.later (Submitted x.at m ∷ x.rest)
+      (subst (IsLawful g) x.is lawful)).1 in
+      let law_y : IsLawful g (Mark (Submit given_y.number) ∷ given_y.earlier) =
+      subst (IsLawful g) given_y.is (lawful_before g y.later (Submitted y.at n ∷ y.rest)
+      (subst (IsLawful g) y.is lawful)).1 in
       let earlier = marked_first m n given_y.earlier given_y.number.0 law_y given_y.number_is other s in
       elim (compare x.later y.later (Submitted x.at m) (Submitted y.at n) x.rest y.rest (sym x.is ∙ y.is)) [
         | inl same ↦ absurd (other (let e : Submitted x.at m ≡ Submitted y.at n = same.1 in cc))
         | inr apart ↦ elim apart [
           | inl behind ↦
               let rises = place_rises behind.between (Submitted x.at m) x.rest (Submission (txn_no m)) refl in
-              let place : length (history y.rest) ≡ length (history (behind.between ++ Submitted x.at m ∷ x.rest)) = ap (λ (l : Log). length (history l)) behind.is in
+              let place : length (history y.rest) ≡ length
+              (history (behind.between ++ Submitted x.at m ∷ x.rest)) =
+              ap (λ (l : Log). length (history l)) behind.is in
               let at_x = x.place_is in
               let at_y = y.place_is in
               omega (arith, rises, place, at_x, at_y)
           | inr before ↦ absurd (
-              let enough : 1 ≤ marked m given_x.earlier = again m n x.at y.at before.between x.rest y.rest given_x.number given_y.number given_x.earlier given_y.earlier (sym before.is ∙ given_x.is) given_y.is earlier in
+              let enough : 1 ≤ marked m given_x.earlier =
+              again m n x.at y.at before.between x.rest y.rest given_x.number given_y.number
+              given_x.earlier given_y.earlier (sym before.is ∙ given_x.is) given_y.is earlier in
               let count = (left_is g m (Mark (Submit given_x.number) ∷ given_x.earlier) law_x).all in
               let own : submits_by m (Submit given_x.number) ≡ 1 = ap (λ (i : ℕ). one_if (i == m)) given_x.number_is ∙ own_mark m in
               let few = once m in

@@ -35,7 +35,8 @@ name_at (txn ∷ txns) (suc i) t e =
     record { is = more.is; within = omega (arith, within) }
 
 -- transactions of one name stand at one place
-one_place : (txns : List Txn) (i k : ℕ) (t u : Txn) → repeats (names_of txns) ≡ false → slice_get txns i ≡ Some t → slice_get txns k ≡ Some u → t.name ≡ u.name → i ≡ k
+one_place : (txns : List Txn) (i k : ℕ) (t u : Txn) → repeats (names_of txns) ≡ false
+    → slice_get txns i ≡ Some t → slice_get txns k ≡ Some u → t.name ≡ u.name → i ≡ k
 one_place txns i k t u none e f same =
     let a = name_at txns i t e in
     let b = name_at txns k u f in
@@ -106,21 +107,26 @@ module _ (cat : Catalogue) (count : ℕ) (txns : List Txn) (none : repeats (name
       others_by x t e events (scripts.submitted_by e) (submitted_by txns e) is least refl refl (submits cat count txns e (All-head IsFine e events fine))
       (λ more. others_differ x t events is least (All-tail IsFine e events fine) more) apart
 
-  all_by : (e : Event) (events : List Event) (number : Option ℕ) (text : Option Txn) → scripts.submitted_by e ≡ number → submitted_by txns e ≡ text → Submits txns number text
+  all_by : (e : Event) (events : List Event) (number : Option ℕ) (text : Option Txn)
+      → scripts.submitted_by e ≡ number → submitted_by txns e ≡ text → Submits txns number text
       → All IsFine events → (AreDistinct (filter_map scripts.submitted_by events) → AllDiffer (filter_map (submitted_by txns) events))
       → AreDistinct (filter_map scripts.submitted_by (e ∷ events)) → AllDiffer (filter_map (submitted_by txns) (e ∷ events))
   all_by e events None None a b h fine later apart = let there = rw a at apart in rw b (later there)
   all_by e events None (Some u) a b h fine later apart = absurd cc
-  all_by e events (Some m) None a b h fine later apart = let there = rw a at apart in rw b (later (others_apart m (filter_map scripts.submitted_by events) there))
+  all_by e events (Some m) None a b h fine later apart = let there =
+      rw a at apart in rw b (later (others_apart m (filter_map scripts.submitted_by events) there))
   all_by e events (Some m) (Some u) a b h fine later apart =
       let there = rw a at apart in
       let numbers : List ℕ = filter_map scripts.submitted_by events in
       rw b (others_differ m u events (sym h.0) h.1 fine (first_apart m numbers there), later (others_apart m numbers there))
 
-  all_differ : (events : List Event) → All IsFine events → AreDistinct (filter_map scripts.submitted_by events) → AllDiffer (filter_map (submitted_by txns) events)
+  all_differ : (events : List Event) → All IsFine events
+      → AreDistinct (filter_map scripts.submitted_by events)
+      → AllDiffer (filter_map (submitted_by txns) events)
   all_differ [] fine apart = tt
   all_differ (e ∷ events) fine apart =
-      all_by e events (scripts.submitted_by e) (submitted_by txns e) refl refl (submits cat count txns e (All-head IsFine e events fine)) (All-tail IsFine e events fine)
+      all_by e events (scripts.submitted_by e) (submitted_by txns e) refl refl
+      (submits cat count txns e (All-head IsFine e events fine)) (All-tail IsFine e events fine)
       (λ more. all_differ events (All-tail IsFine e events fine) more) apart
 
 pub submitted_differ : (cat : Catalogue) (work : Workload) → IsValid cat work → AllDiffer (submitted work)

@@ -54,7 +54,9 @@ module _ (cat : Catalogue) (txns : List Txn) where
   in_turn [] h i k less within = absurd (omega arith)
   in_turn (n ∷ order) h i zero less within = absurd (omega arith)
   in_turn (n ∷ order) h zero (suc k) less within = each n order k (both (list_all (may_follow cat txns n) order) (is_in_turn cat txns order) h).0 (omega arith)
-  in_turn (n ∷ order) h (suc i) (suc k) less within = in_turn order (both (list_all (may_follow cat txns n) order) (is_in_turn cat txns order) h).1 i k (omega arith) (omega arith)
+  in_turn (n ∷ order) h (suc i) (suc k) less within =
+      in_turn order (both (list_all (may_follow cat txns n) order) (is_in_turn cat txns order) h).1 i k
+      (omega arith) (omega arith)
 
   all_follow : (m : TxnNo) (order : List TxnNo) → ((k : ℕ) → k < length order → MayFollow m (at order k)) → list_all (may_follow cat txns m) order ≡ true
   all_follow m [] h = refl

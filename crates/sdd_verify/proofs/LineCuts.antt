@@ -16,7 +16,8 @@ line_behind (c ∷ line) rest h =
     rw (other, more) refl
 
 -- lines that are ended, and what stands behind them
-pub lines_behind : (lines : List (List ℕ)) (rest : List ℕ) → AreLines lines → cut_lines (spelled_lines lines ++ rest) ≡ (lines ++ (cut_lines rest).0, (cut_lines rest).1)
+pub lines_behind : (lines : List (List ℕ)) (rest : List ℕ) → AreLines lines
+    → cut_lines (spelled_lines lines ++ rest) ≡ (lines ++ (cut_lines rest).0, (cut_lines rest).1)
 lines_behind [] rest h = refl
 lines_behind (line ∷ lines) rest h =
     let more = lines_behind lines rest h.1 in

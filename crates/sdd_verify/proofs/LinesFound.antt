@@ -60,7 +60,9 @@ passed_is number [] lines rest h =
     let same : here ≡ rest = ok_is {F = ℕ} here rest h in
     ap (λ (r : Numbered). r.1) same
 passed_is number (line ∷ more) [] rest h = absurd cc
-passed_is number (line ∷ more) (told ∷ lines) rest h = passed_by number line more told lines rest (bytes_eq told line) refl (λ later. passed_is (number + 1) more lines rest later) h
+passed_is number (line ∷ more) (told ∷ lines) rest h =
+    passed_by number line more told lines rest (bytes_eq told line) refl
+    (λ later. passed_is (number + 1) more lines rest later) h
 
 pub passed_again : (number : ℕ) (expected lines : List (List ℕ)) → passed number expected (expected ++ lines) ≡ Ok (number + length expected, lines)
 passed_again number [] lines = let none : number + 0 ≡ number = omega arith in rw none refl
@@ -99,4 +101,5 @@ pub spelled_apart : (front rest : List (List ℕ)) (tail : List ℕ) → spelled
 spelled_apart [] rest tail = refl
 spelled_apart (line ∷ front) rest tail =
     let more = spelled_apart front rest tail in
-    append_assoc line (10 ∷ spelled_lines (front ++ rest)) tail ∙ ap (λ (l : List ℕ). line ++ 10 ∷ l) more ∙ sym (append_assoc line (10 ∷ spelled_lines front) (spelled_lines rest ++ tail))
+    append_assoc line (10 ∷ spelled_lines (front ++ rest)) tail ∙ ap (λ (l : List ℕ). line ++ 10 ∷ l) more
+    ∙ sym (append_assoc line (10 ∷ spelled_lines front) (spelled_lines rest ++ tail))

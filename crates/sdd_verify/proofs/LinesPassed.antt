@@ -5,17 +5,24 @@ use Rattle.sdd_base.specs.Readings.{◌>>=◌}
 use Rattle.sdd_verify.specs.Lines.{passed}
 
 -- what comes after the first line
-pub after_line : (number : ℕ) (line : List ℕ) (more lines : List (List ℕ)) → passed number (line ∷ more) lines ≡ (passed number (line ∷ []) lines >>= λ rest. passed rest.0 more rest.1)
+pub after_line : (number : ℕ) (line : List ℕ) (more lines : List (List ℕ))
+    → passed number (line ∷ more) lines ≡ (passed number (line ∷ []) lines >>=
+    λ rest. passed rest.0 more rest.1)
 after_line number line more [] = refl
 after_line number line more (told ∷ lines) =
-    elim (bytes_eq told line) as (λ b. cond b (passed (number + 1) more lines) (Err number) ≡ (cond b (passed (number + 1) [] lines) (Err number) >>= λ rest. passed rest.0 more rest.1)) [ true ↦ refl | false ↦ refl ]
+    elim (bytes_eq told line) as (λ b. cond b (passed (number + 1) more lines)
+    (Err number) ≡ (cond b (passed (number + 1) [] lines) (Err number) >>=
+    λ rest. passed rest.0 more rest.1)) [ true ↦ refl | false ↦ refl ]
 
 -- what comes after some lines
-pub after_lines : (number : ℕ) (some more lines : List (List ℕ)) → passed number (some ++ more) lines ≡ (passed number some lines >>= λ rest. passed rest.0 more rest.1)
+pub after_lines : (number : ℕ) (some more lines : List (List ℕ))
+    → passed number (some ++ more) lines ≡ (passed number some lines >>= λ rest. passed rest.0 more rest.1)
 after_lines number [] more lines = refl
 after_lines number (line ∷ some) more [] = refl
 after_lines number (line ∷ some) more (told ∷ lines) =
-    elim (bytes_eq told line) as (λ b. cond b (passed (number + 1) (some ++ more) lines) (Err number) ≡ (cond b (passed (number + 1) some lines) (Err number) >>= λ rest. passed rest.0 more rest.1)) [
+    elim (bytes_eq told line) as (λ b. cond b (passed (number + 1) (some ++ more) lines)
+    (Err number) ≡ (cond b (passed (number + 1) some lines) (Err number) >>=
+    λ rest. passed rest.0 more rest.1)) [
       | true ↦ after_lines (number + 1) some more lines
       | false ↦ refl
     ]

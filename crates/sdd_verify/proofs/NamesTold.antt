@@ -55,7 +55,9 @@ tells_by first txn txns name number false e later h =
 
 tells_from : (first : ℕ) (txns : List Txn) (name : List ℕ) (number : TxnNo) → named_from first txns name ≡ Some number → TellsFrom first txns name number
 tells_from first [] name number h = absurd cc
-tells_from first (txn ∷ txns) name number h = tells_by first txn txns name number (bytes_eq txn.name name) refl (λ later. tells_from (first + 1) txns name number later) h
+tells_from first (txn ∷ txns) name number h =
+    tells_by first txn txns name number (bytes_eq txn.name name) refl
+    (λ later. tells_from (first + 1) txns name number later) h
 
 pub named_tells : (txns : List Txn) (name : List ℕ) (number : TxnNo) → named txns name ≡ Some number → Tells txns name number
 named_tells txns name number h =
@@ -76,7 +78,8 @@ AllDiffer [] = Unit {0}
 AllDiffer (txn ∷ txns) = All (λ (u : Txn). u.name ≢ txn.name) txns × AllDiffer txns
 
 -- a name tells the number of its transaction
-again_from : (first : ℕ) (txns : List Txn) (place : ℕ) (t : Txn) → AllDiffer txns → slice_get txns place ≡ Some t → named_from first txns t.name ≡ Some (txn_no (first + place))
+again_from : (first : ℕ) (txns : List Txn) (place : ℕ) (t : Txn) → AllDiffer txns
+    → slice_get txns place ≡ Some t → named_from first txns t.name ≡ Some (txn_no (first + place))
 again_from first [] place t apart there = absurd cc
 again_from first (txn ∷ txns) zero t apart there =
     let is : txn ≡ t = some_is txn t there in
@@ -113,7 +116,8 @@ name_in txns number = txn_name txns number.0
 abbrev pub IsThere : List Txn → TxnNo → Type 0
 IsThere txns number = IsFrom1To (length txns) number.0
 
-answers_told : (line : ℕ) (txns : List Txn) (count : ℕ) (names : List (List ℕ)) (order : List TxnNo) → Answers (λ _ name. known line (named txns name)) count names order
+answers_told : (line : ℕ) (txns : List Txn) (count : ℕ) (names : List (List ℕ)) (order : List TxnNo)
+    → Answers (λ _ name. known line (named txns name)) count names order
     → (names ≡ map (name_in txns) order) × All (IsThere txns) order
 answers_told line txns count [] [] h = (refl, All-nil (IsThere txns))
 answers_told line txns count [] (number ∷ order) h = absurd h
@@ -125,7 +129,8 @@ answers_told line txns count (name ∷ names) (number ∷ order) h =
     let behind = more.0 in
     (rw (here, behind) refl, All-cons (IsThere txns) number order one.there more.1)
 
-pub all_told : (line : ℕ) (txns : List Txn) (count : ℕ) (names : List (List ℕ)) (order : List TxnNo) → along (λ _ name. known line (named txns name)) count names ≡ Ok order
+pub all_told : (line : ℕ) (txns : List Txn) (count : ℕ) (names : List (List ℕ)) (order : List TxnNo)
+    → along (λ _ name. known line (named txns name)) count names ≡ Ok order
     → (names ≡ map (name_in txns) order) × All (IsThere txns) order
 all_told line txns count names order h = answers_told line txns count names order (along_ok (λ _ name. known line (named txns name)) count names order h)
 

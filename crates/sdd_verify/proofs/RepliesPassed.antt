@@ -38,7 +38,9 @@ query_whole number rows =
 
 queries_whole : (number : ℕ) (answers : List (List (List Value))) → IsWhole (queries_from number answers)
 queries_whole number [] = whole_empty
-queries_whole number (rows ∷ answers) = whole_append (query_lines number rows) (queries_from (number + 1) answers) (query_whole number rows) (queries_whole (number + 1) answers)
+queries_whole number (rows ∷ answers) =
+    whole_append (query_lines number rows) (queries_from (number + 1) answers) (query_whole number rows)
+    (queries_whole (number + 1) answers)
 
 outcome_whole : (reply : Reply) → IsWhole (outcome_lines reply)
 outcome_whole (Rows answers) = whole_append (codes " ok\n") (queries_from 1 answers) (whole_ended (codes " ok") [] whole_empty) (queries_whole 1 answers)
@@ -57,11 +59,14 @@ reply_whole name TooMany = behind_front (codes "reply " ++ name) (codes " tooman
 pub replies_whole : (txns : List Txn) (answers : List Reply) → IsWhole (replies txns answers)
 replies_whole [] answers = whole_empty
 replies_whole (txn ∷ txns) [] = whole_empty
-replies_whole (txn ∷ txns) (reply ∷ answers) = whole_append (reply_lines txn.name reply) (replies txns answers) (reply_whole txn.name reply) (replies_whole txns answers)
+replies_whole (txn ∷ txns) (reply ∷ answers) =
+    whole_append (reply_lines txn.name reply) (replies txns answers) (reply_whole txn.name reply)
+    (replies_whole txns answers)
 
 -- the first reply, and then the others
 first_reply : (number : ℕ) (name : List ℕ) (reply : Reply) (others : List ℕ) (lines : List (List ℕ))
-    → passed number (lines_of (reply_lines name reply ++ others)) lines ≡ (passed number (lines_of (reply_lines name reply)) lines >>= λ rest. passed rest.0 (lines_of others) rest.1)
+    → passed number (lines_of (reply_lines name reply ++ others)) lines ≡ (passed number
+    (lines_of (reply_lines name reply)) lines >>= λ rest. passed rest.0 (lines_of others) rest.1)
 first_reply number name reply others lines =
     ap (λ (cut : List (List ℕ) × List ℕ). passed number cut.0 lines) (whole_behind (reply_lines name reply) others (reply_whole name reply))
     ∙ after_lines number (lines_of (reply_lines name reply)) (lines_of others) lines
@@ -81,25 +86,32 @@ module _ (cat : Catalogue) (db : Database) (txns : List (Bor Txn)) (i : ℕ) (t 
       ∙ first_reply number t.now.name reply (replies_on cat next others) lines
 
   -- where the first reply is there, the others have to come behind it
-  pub goes_on : (name : List ℕ) (now : Database) (rest : Numbered) (total : Result Numbered ℕ) → name ≡ t.now.name → now ≡ after_changes cat db (effect cat db t.now).changes
+  pub goes_on : (name : List ℕ) (now : Database) (rest : Numbered) (total : Result Numbered ℕ)
+      → name ≡ t.now.name → now ≡ after_changes cat db (effect cat db t.now).changes
       → passed number (lines_of (reply_lines name reply)) lines ≡ Ok rest
       → passed number (lines_of (replies_on cat db (map (λ u. u.now) (drop i txns)))) lines ≡ total
       → passed rest.0 (lines_of (replies_on cat now (map (λ u. u.now) (drop (i + 1) txns)))) rest.1 ≡ total
   goes_on name now rest total same is passes so_far =
-      let here : passed number (lines_of (reply_lines t.now.name reply)) lines ≡ Ok rest = ap (λ (n : List ℕ). passed number (lines_of (reply_lines n reply)) lines) (sym same) ∙ passes in
+      let here : passed number (lines_of (reply_lines t.now.name reply)) lines ≡ Ok rest =
+      ap (λ (n : List ℕ). passed number (lines_of (reply_lines n reply)) lines) (sym same) ∙ passes in
       let next : Database = after_changes cat db (effect cat db t.now).changes in
       ap (λ (d : Database). passed rest.0 (lines_of (replies_on cat d (map (λ u. u.now) (drop (i + 1) txns)))) rest.1) is
-      ∙ sym (apart ∙ ap (λ (r : Result Numbered ℕ). r >>= λ more. passed more.0 (lines_of (replies_on cat next (map (λ u. u.now) (drop (i + 1) txns)))) more.1) here)
+      ∙ sym (apart ∙ ap (λ (r : Result Numbered ℕ). r >>=
+      λ more. passed more.0 (lines_of (replies_on cat next (map (λ u. u.now) (drop (i + 1) txns))))
+      more.1) here)
       ∙ so_far
 
   -- where it isn't, its fault is that of all
-  pub fails : (e : Flaw) (name : List ℕ) (total : Result Numbered ℕ) → name ≡ t.now.name → Fails line_in e (passed number (lines_of (reply_lines name reply)) lines)
+  pub fails : (e : Flaw) (name : List ℕ) (total : Result Numbered ℕ) → name ≡ t.now.name
+      → Fails line_in e (passed number (lines_of (reply_lines name reply)) lines)
       → passed number (lines_of (replies_on cat db (map (λ u. u.now) (drop i txns)))) lines ≡ total → Fails line_in e total
   fails e name total same breaks so_far =
       let P : Result Numbered ℕ → Type 0 = λ r. Fails line_in e r in
       let next : Database = after_changes cat db (effect cat db t.now).changes in
       let more : Numbered → Result Numbered ℕ = λ rest. passed rest.0 (lines_of (replies_on cat next (map (λ u. u.now) (drop (i + 1) txns)))) rest.1 in
-      let here : Fails line_in e (passed number (lines_of (reply_lines t.now.name reply)) lines) = subst (λ (n : List ℕ). Fails line_in e (passed number (lines_of (reply_lines n reply)) lines)) same breaks in
+      let here : Fails line_in e (passed number (lines_of (reply_lines t.now.name reply)) lines) =
+      subst (λ (n : List ℕ). Fails line_in e (passed number (lines_of (reply_lines n reply)) lines)) same
+      breaks in
       subst P (sym apart ∙ so_far) (fails_bind line_in e (passed number (lines_of (reply_lines t.now.name reply)) lines) more here)
 
 -- where no transaction is left, nothing has to come

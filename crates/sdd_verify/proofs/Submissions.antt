@@ -23,7 +23,8 @@ filter_map_more f xs i d within = rw (take_more xs i d within, filter_map-append
 
 -- an event adds what it gives
 pub submitted_more : (txns : List Txn) (events : List Event) (i : ℕ) (d : Event) → i < length events
-    → filter_map (submitted_by txns) (take (i + 1) events) ≡ filter_map (submitted_by txns) (take i events) ++ filter_map (submitted_by txns) (get_or events i d ∷ [])
+    → filter_map (submitted_by txns) (take (i + 1) events) ≡ filter_map (submitted_by txns)
+    (take i events) ++ filter_map (submitted_by txns) (get_or events i d ∷ [])
 submitted_more txns events i d within = filter_map_more (submitted_by txns) events i d within
 
 -- a number adds its transaction
@@ -32,7 +33,8 @@ pub texts_more : (txns : List Txn) (order : List TxnNo) (i : ℕ) (d : TxnNo) �
 texts_more txns order i d within = filter_map_more (txn_of txns) order i d within
 
 -- no more are given than there are members
-given_length : {A B : Type 0} (f : A → Option B) (x : A) (xs : List A) (o : Option B) → f x ≡ o → length (filter_map f xs) ≤ length xs → length (filter_map f (x ∷ xs)) ≤ length (x ∷ xs)
+given_length : {A B : Type 0} (f : A → Option B) (x : A) (xs : List A) (o : Option B) → f x ≡ o
+    → length (filter_map f xs) ≤ length xs → length (filter_map f (x ∷ xs)) ≤ length (x ∷ xs)
 given_length f x xs None e h = rw e (omega (arith, h))
 given_length f x xs (Some y) e h = rw e (omega (arith, h))
 
@@ -60,7 +62,8 @@ found_member P (y ∷ xs) (suc i) x all is = found_member P xs i x (All-tail P y
 
 -- members that a test gives have what each that it may give has
 
-given_more : {A B : Type 0} (f : A → Option B) (P : B → Type 0) (x : A) (xs : List A) (o : Option B) → f x ≡ o → ((y : B) → o ≡ Some y → P y) → All P (filter_map f xs) → All P (filter_map f (x ∷ xs))
+given_more : {A B : Type 0} (f : A → Option B) (P : B → Type 0) (x : A) (xs : List A) (o : Option B)
+    → f x ≡ o → ((y : B) → o ≡ Some y → P y) → All P (filter_map f xs) → All P (filter_map f (x ∷ xs))
 given_more f P x xs None e each h = rw e h
 given_more f P x xs (Some y) e each h = rw e (All-cons P y (filter_map f xs) (each y refl) h)
 
@@ -100,14 +103,18 @@ lent_fit cat (t ∷ txns) all =
     All-cons (λ (u : Bor Txn). Fits cat u.now) t txns (All-head (Fits cat) t.now given all) (lent_fit cat txns (All-tail (Fits cat) t.now given all))
 
 -- those that an order names fit it too
-pub texts_fit : (cat : Catalogue) (work : Workload) (order : List TxnNo) (texts : List (Bor Txn)) → IsValid cat work → map (λ t. t.now) texts ≡ texts_of (submitted work) order → All (λ (t : Bor Txn). Fits cat t.now) texts
+pub texts_fit : (cat : Catalogue) (work : Workload) (order : List TxnNo) (texts : List (Bor Txn))
+    → IsValid cat work → map (λ t. t.now) texts ≡ texts_of (submitted work) order
+    → All (λ (t : Bor Txn). Fits cat t.now) texts
 texts_fit cat work order texts valid is =
     let fit = submitted_fit cat work valid in
-    lent_fit cat texts (rw is (all_given (txn_of (submitted work)) (Fits cat) order (λ n t found. found_member (Fits cat) (submitted work) (n.0 - 1) t fit found)))
+    lent_fit cat texts (rw is (all_given (txn_of (submitted work)) (Fits cat) order
+    (λ n t found. found_member (Fits cat) (submitted work) (n.0 - 1) t fit found)))
 
 start_fits : (cat : Catalogue) (rows : List (RelNo × List Value)) → All (IsValidRow cat) rows → All (FitsStart cat) rows
 start_fits cat [] all = All-nil (FitsStart cat)
-start_fits cat (r ∷ rows) all = All-cons (FitsStart cat) r rows (All-head (IsValidRow cat) r rows all).fits (start_fits cat rows (All-tail (IsValidRow cat) r rows all))
+start_fits cat (r ∷ rows) all = All-cons (FitsStart cat) r rows (All-head (IsValidRow cat) r rows all).fits
+    (start_fits cat rows (All-tail (IsValidRow cat) r rows all))
 
 -- and so do the rows
 pub rows_fit : (cat : Catalogue) (work : Workload) → IsValid cat work → All (FitsStart cat) work.rows

@@ -92,12 +92,15 @@ module _ (cat : Catalogue) (txns : List Txn) where
       let more = last_more c order n in
       rw more (or_again (cond (Class n == c) (Some n.0) None) (last_of c order) (cond (Class m == c) (Some m.0) None))
 
-  pub turn_more : (order : List TxnNo) (n : TxnNo) → is_in_turn cat txns (order ++ n ∷ []) ≡ (is_in_turn cat txns order && list_all (λ m. may_follow cat txns m n) order)
+  pub turn_more : (order : List TxnNo) (n : TxnNo)
+      → is_in_turn cat txns (order ++ n ∷ []) ≡ (is_in_turn cat txns order && list_all
+      (λ m. may_follow cat txns m n) order)
   turn_more [] n = refl
   turn_more (m ∷ order) n =
       let more = turn_more order n in
       let front = list_all-append (may_follow cat txns m) order (n ∷ []) in
-      rw (front, more) (regroup (list_all (may_follow cat txns m) order) (may_follow cat txns m n) (is_in_turn cat txns order) (list_all (λ k. may_follow cat txns k n) order))
+      rw (front, more) (regroup (list_all (may_follow cat txns m) order) (may_follow cat txns m n)
+      (is_in_turn cat txns order) (list_all (λ k. may_follow cat txns k n) order))
     where
       regroup : (a b c d : Bool) → ((a && (b && true)) && (c && d)) ≡ ((a && c) && (b && d))
       regroup true true c d = refl
@@ -139,7 +142,8 @@ module _ (cat : Catalogue) (txns : List Txn) where
   compared c m n false less None is e f above = refl
   compared c m n true less None is e f above = and_true less ∙ sym f
 
-  pub followed : (order : List TxnNo) (n : TxnNo) → is_in_turn cat txns order ≡ true → list_all (λ m. may_follow cat txns m n) order ≡ allows (last_of (Class n) order) n.0
+  pub followed : (order : List TxnNo) (n : TxnNo) → is_in_turn cat txns order ≡ true
+      → list_all (λ m. may_follow cat txns m n) order ≡ allows (last_of (Class n) order) n.0
   followed [] n h = refl
   followed (m ∷ order) n h =
       let parts = both (list_all (may_follow cat txns m) order) (is_in_turn cat txns order) h in
@@ -156,7 +160,9 @@ module _ (cat : Catalogue) (txns : List Txn) where
   pub never_in_turn : (order rest : List TxnNo) → is_in_turn cat txns order ≡ false → is_in_turn cat txns (order ++ rest) ≡ false
   never_in_turn order [] h = rw append-nil h
   never_in_turn order (n ∷ rest) h =
-      let more : is_in_turn cat txns (order ++ n ∷ []) ≡ false = turn_more order n ∙ and_false (is_in_turn cat txns order) (list_all (λ m. may_follow cat txns m n) order) h in
+      let more : is_in_turn cat txns (order ++ n ∷ []) ≡ false =
+      turn_more order n ∙ and_false (is_in_turn cat txns order)
+      (list_all (λ m. may_follow cat txns m n) order) h in
       let all : (order ++ n ∷ []) ++ rest ≡ order ++ n ∷ rest = append_assoc order (n ∷ []) rest in
       subst (λ (l : List TxnNo). is_in_turn cat txns l ≡ false) all (never_in_turn (order ++ n ∷ []) rest more)
 
@@ -166,24 +172,29 @@ module _ (cat : Catalogue) (txns : List Txn) where
   abbrev pub AreLast : (ℕ → Option ℕ) → List TxnNo → Type 0
   AreLast kept order = (c : ℕ) → kept c ≡ last_of c order
 
-  turn_at : (order : List TxnNo) (i : ℕ) (d : TxnNo) (kept : ℕ → Option ℕ) → i < length order → is_in_turn cat txns (take i order) ≡ true → AreLast kept (take i order)
+  turn_at : (order : List TxnNo) (i : ℕ) (d : TxnNo) (kept : ℕ → Option ℕ) → i < length order
+      → is_in_turn cat txns (take i order) ≡ true → AreLast kept (take i order)
       → is_in_turn cat txns (take (i + 1) order) ≡ allows (kept (Class (get_or order i d))) (get_or order i d).0
   turn_at order i d kept lt so_far last =
       let n : TxnNo = get_or order i d in
-      let one : list_all (λ m. may_follow cat txns m n) (take i order) ≡ allows (kept (Class n)) n.0 = followed (take i order) n so_far ∙ ap (λ (o : Option ℕ). allows o n.0) (sym (last (Class n))) in
+      let one : list_all (λ m. may_follow cat txns m n) (take i order) ≡ allows (kept (Class n)) n.0 =
+      followed (take i order) n so_far ∙ ap (λ (o : Option ℕ). allows o n.0) (sym (last (Class n))) in
       ap (is_in_turn cat txns) (take_more order i d lt) ∙ turn_more (take i order) n ∙ rw (so_far, one) refl
 
   -- one that may not stand there
   pub stops : (order : List TxnNo) (i : ℕ) (d : TxnNo) (class : ℕ) (kept : ℕ → Option ℕ) → i < length order → class ≡ Class (get_or order i d)
-      → is_in_turn cat txns (take i order) ≡ true → AreLast kept (take i order) → allows (kept class) (get_or order i d).0 ≡ false → is_in_turn cat txns order ≡ false
+      → is_in_turn cat txns (take i order) ≡ true → AreLast kept (take i order)
+      → allows (kept class) (get_or order i d).0 ≡ false → is_in_turn cat txns order ≡ false
   stops order i d class kept lt is so_far last refused =
       let n : TxnNo = get_or order i d in
-      let turn : is_in_turn cat txns (take (i + 1) order) ≡ false = turn_at order i d kept lt so_far last ∙ ap (λ (c : ℕ). allows (kept c) n.0) (sym is) ∙ refused in
+      let turn : is_in_turn cat txns (take (i + 1) order) ≡ false = turn_at order i d kept lt so_far last
+      ∙ ap (λ (c : ℕ). allows (kept c) n.0) (sym is) ∙ refused in
       subst (λ (l : List TxnNo). is_in_turn cat txns l ≡ false) (take-append-drop (i + 1) order) (never_in_turn (take (i + 1) order) (drop (i + 1) order) turn)
 
   -- one that may stand there
   pub goes_on : (order : List TxnNo) (i : ℕ) (d : TxnNo) (class : ℕ) (kept : ℕ → Option ℕ) → i < length order → class ≡ Class (get_or order i d)
-      → is_in_turn cat txns (take i order) ≡ true → AreLast kept (take i order) → allows (kept class) (get_or order i d).0 ≡ true → is_in_turn cat txns (take (i + 1) order) ≡ true
+      → is_in_turn cat txns (take i order) ≡ true → AreLast kept (take i order)
+      → allows (kept class) (get_or order i d).0 ≡ true → is_in_turn cat txns (take (i + 1) order) ≡ true
   goes_on order i d class kept lt is so_far last allowed =
       turn_at order i d kept lt so_far last ∙ ap (λ (c : ℕ). allows (kept c) (get_or order i d).0) (sym is) ∙ allowed
 

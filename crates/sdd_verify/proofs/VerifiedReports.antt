@@ -74,7 +74,8 @@ named_bytes name h =
 pub name_line : (name : List ℕ) → IsName name → HasNoNewline name
 name_line name h = (bytes_fine name (named_bytes name h)).1
 
-name_fine : (cat : Catalogue) (txns : List Txn) (number : TxnNo) → All (IsValidTxn cat) txns → IsThere txns number → HasNoSpace (name_in txns number) × HasNoNewline (name_in txns number)
+name_fine : (cat : Catalogue) (txns : List Txn) (number : TxnNo) → All (IsValidTxn cat) txns
+    → IsThere txns number → HasNoSpace (name_in txns number) × HasNoNewline (name_in txns number)
 name_fine cat txns number valid there =
     let from = there.0 in
     let within = there.1 in
@@ -100,7 +101,8 @@ begun_is report whole h = begun_by report whole (nat_le (length report) MAX_REPO
 
 -- the lines of a report, part by part
 lines_parted : (lines all before : List (List ℕ)) (line words : List ℕ) (behind answers rest : List (List ℕ)) (next : List ℕ) (more : List (List ℕ))
-    → lines ≡ all → lines ≡ before ++ line ∷ behind → line ≡ words → behind ≡ answers ++ rest → rest ≡ next ∷ more → all ≡ before ++ words ∷ (answers ++ next ∷ more)
+    → lines ≡ all → lines ≡ before ++ line ∷ behind → line ≡ words → behind ≡ answers ++ rest
+    → rest ≡ next ∷ more → all ≡ before ++ words ∷ (answers ++ next ∷ more)
 lines_parted lines all before line words behind answers rest next more a b c d e = rw (← a, b, c, d, e) refl
 
 -- what each rule that is kept tells
@@ -132,7 +134,8 @@ module _ (cat : Catalogue) (work : Workload) (report : List ℕ) where
   told_by : (number : ℕ) (line : List ℕ) (order : List TxnNo) → is_order_line line ≡ true → order_told cat texts number line ≡ Ok order
       → (line ≡ words_in texts order) × All (IsThere texts) order × (is_in_turn cat texts order ≡ true)
   told_by number line order is h =
-      let a = bind_ok (along (λ _ name. known number (named texts name)) 0 (names_on line)) (λ found. must number (is_in_turn cat texts found) >>= λ _. Ok found) order h in
+      let a = bind_ok (along (λ _ name. known number (named texts name)) 0 (names_on line))
+      (λ found. must number (is_in_turn cat texts found) >>= λ _. Ok found) order h in
       let b = bind_ok (must number (is_in_turn cat texts a.0)) (λ _. Ok a.0) order a.2 in
       let same : a.0 ≡ order = ok_is {F = ℕ} a.0 order b.2 in
       let told = all_told number texts 0 (names_on line) a.0 a.1 in
@@ -161,7 +164,8 @@ module _ (cat : Catalogue) (work : Workload) (report : List ℕ) where
         next = next.next;
         other = next.other;
         more = next.more;
-        lines_are = lines_parted a.0.1 (lines_of report) first.before b.0.1 (words_in texts c.0) b.0.2.1 (lines_of (serial_replies cat work c.0)) d.0.1 next.next next.more
+        lines_are = lines_parted a.0.1 (lines_of report) first.before b.0.1 (words_in texts c.0) b.0.2.1
+            (lines_of (serial_replies cat work c.0)) d.0.1 next.next next.more
             (ap (λ (w : Numbered). w.1) whole.1) first.whole told.0 (passed_is b.0.2.0 (lines_of (serial_replies cat work c.0)) b.0.2.1 d.0 d.1) next.whole;
       }
 
@@ -177,10 +181,12 @@ module _ (cat : Catalogue) (work : Workload) (report : List ℕ) where
       let behind : AreLines (lines_of answers ++ s.next ∷ s.more) = (rest_lines s.before (line ∷ (lines_of answers ++ s.next ∷ s.more)) lines).1 in
       let next : List ℕ = s.next ++ 10 ∷ ended in
       let spelled : spelled_lines (lines_of answers ++ s.next ∷ s.more) ++ tail ≡ answers ++ next =
-      spelled_apart (lines_of answers) (s.next ∷ s.more) tail ∙ ap (λ (l : List ℕ). l ++ (spelled_lines (s.next ∷ s.more) ++ tail)) (sym (whole_is answers whole))
+      spelled_apart (lines_of answers) (s.next ∷ s.more) tail
+      ∙ ap (λ (l : List ℕ). l ++ (spelled_lines (s.next ∷ s.more) ++ tail)) (sym (whole_is answers whole))
       ∙ ap (λ (l : List ℕ). answers ++ l) (append_assoc s.next (10 ∷ spelled_lines s.more) tail) in
       let of_order : spelled_lines (line ∷ (lines_of answers ++ s.next ∷ s.more)) ++ tail ≡ order_line texts s.order ++ (answers ++ next) =
-      append_assoc line (10 ∷ spelled_lines (lines_of answers ++ s.next ∷ s.more)) tail ∙ ap (λ (l : List ℕ). line ++ 10 ∷ l) spelled ∙ sym (line_is texts s.order (answers ++ next)) in
+      append_assoc line (10 ∷ spelled_lines (lines_of answers ++ s.next ∷ s.more)) tail
+      ∙ ap (λ (l : List ℕ). line ++ 10 ∷ l) spelled ∙ sym (line_is texts s.order (answers ++ next)) in
       record {
         small = s.small;
         order = s.order;
@@ -206,7 +212,8 @@ module _ (cat : Catalogue) (work : Workload) (report : List ℕ) where
 
   -- the other way round
 
-  names_fine : (order : List TxnNo) → All (IsValidTxn cat) texts → All (IsThere texts) order → HaveNoSpace (map (name_in texts) order) × HasNoNewline (behind_spaces (map (name_in texts) order))
+  names_fine : (order : List TxnNo) → All (IsValidTxn cat) texts → All (IsThere texts) order
+      → HaveNoSpace (map (name_in texts) order) × HasNoNewline (behind_spaces (map (name_in texts) order))
   names_fine [] valid there = (tt, tt)
   names_fine (number ∷ order) valid there =
       let one = name_fine cat texts number valid (All-head (IsThere texts) number order there) in
@@ -227,15 +234,19 @@ module _ (cat : Catalogue) (work : Workload) (report : List ℕ) where
       ap lines_of v.text_is ∙ ap First (lines_behind v.before (order_line texts v.order ++ (answers ++ next)) v.before_lines)
       ∙ ap (λ (l : List (List ℕ)). v.before ++ l)
       (ap lines_of (line_is texts v.order (answers ++ next)) ∙ ap First (line_behind words (answers ++ next) line)
-      ∙ ap (λ (l : List (List ℕ)). words ∷ l) (ap First (whole_behind answers next whole) ∙ ap (λ (l : List (List ℕ)). lines_of answers ++ l) (ap First (line_behind v.next v.rest v.next_line))))
+      ∙ ap (λ (l : List (List ℕ)). words ∷ l) (ap First (whole_behind answers next whole)
+      ∙ ap (λ (l : List (List ℕ)). lines_of answers ++ l)
+      (ap First (line_behind v.next v.rest v.next_line))))
 
-  order_told_again : (number : ℕ) (order : List TxnNo) → IsValid cat work → All (IsThere texts) order → IsInTurn cat texts order → HaveNoSpace (map (name_in texts) order)
+  order_told_again : (number : ℕ) (order : List TxnNo) → IsValid cat work → All (IsThere texts) order
+      → IsInTurn cat texts order → HaveNoSpace (map (name_in texts) order)
       → order_told cat texts number (words_in texts order) ≡ Ok order
   order_told_again number order valid there turn fine =
       let words : List (List ℕ) = map (name_in texts) order in
       let Rest : Result (List TxnNo) ℕ → Result (List TxnNo) ℕ = λ r. r >>= λ found. must number (is_in_turn cat texts found) >>= λ _. Ok found in
       let are : names_on (words_in texts order) ≡ words = names_again words fine in
-      let told : along (λ _ name. known number (named texts name)) 0 words ≡ Ok order = told_again number texts 0 order (submitted_differ cat work valid) there in
+      let told : along (λ _ name. known number (named texts name)) 0 words ≡ Ok order =
+      told_again number texts 0 order (submitted_differ cat work valid) there in
       let turned : is_in_turn cat texts order ≡ true = in_turn_again cat texts order turn in
       ap (λ (l : List (List ℕ)). Rest (along (λ _ name. known number (named texts name)) 0 l)) are ∙ ap Rest told
       ∙ ap (λ (b : Bool). must number b >>= λ _. Ok order) turned
@@ -249,9 +260,13 @@ module _ (cat : Catalogue) (work : Workload) (report : List ℕ) where
       let behind : List (List ℕ) = lines_of answers ++ v.next ∷ lines_of v.rest in
       let all : begun report ≡ Ok (1, lines_of report) = ap (λ (b : Bool). begun_if b report) (le-leb (length report) MAX_REPORT_BYTES v.small) in
       let lines = lines_again v (line_fine v.order names_are.1) in
-      let found : order_line_in 1 (v.before ++ words ∷ behind) ≡ Ok (number, words, (number + 1, behind)) = order_again 1 v.before words behind v.before_order (is_order_line_again (map (name_in texts) v.order)) in
+      let found : order_line_in 1 (v.before ++ words ∷ behind) ≡ Ok (number, words, (number + 1, behind)) =
+      order_again 1 v.before words behind v.before_order
+      (is_order_line_again (map (name_in texts) v.order)) in
       let told : order_told cat texts number words ≡ Ok v.order = order_told_again number v.order valid v.are_submitted v.in_turn names_are.0 in
-      let came : passed (number + 1) (lines_of answers) behind ≡ Ok (number + 1 + length (lines_of answers), v.next ∷ lines_of v.rest) = passed_again (number + 1) (lines_of answers) (v.next ∷ lines_of v.rest) in
+      let came : passed (number + 1) (lines_of answers) behind ≡ Ok
+      (number + 1 + length (lines_of answers), v.next ∷ lines_of v.rest) =
+      passed_again (number + 1) (lines_of answers) (v.next ∷ lines_of v.rest) in
       let other = v.next_other in
       let last : must (number + 1 + length (lines_of answers)) (ends_replies (v.next ∷ lines_of v.rest)) ≡ Ok tt = rw other refl in
       ap (λ (r : Result Numbered ℕ). r >>= After1) all

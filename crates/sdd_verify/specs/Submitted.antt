@@ -21,7 +21,13 @@ abbrev pub submitted : Workload → List Txn
 submitted work = filter_map (submitted_by work.txns) work.events
 
 -- worked: the second is submitted before the first, and the third isn't
-pub second_first : (a b c : Txn) → submitted (record { rows = []; txns = a ∷ b ∷ c ∷ []; lists = []; events = Submit (txn_no 2) ∷ Settle ∷ Submit (txn_no 1) ∷ [] }) ≡ b ∷ a ∷ []
+pub second_first : (a b c : Txn) → submitted (record {
+  rows = [];
+  txns = a ∷ b ∷ c ∷ [];
+  lists =
+      [];
+  events = Submit (txn_no 2) ∷ Settle ∷ Submit (txn_no 1) ∷ [];
+}) ≡ b ∷ a ∷ []
 second_first a b c = refl
 
 -- the number of the first transaction of this name, where they are counted from a number on

@@ -21,7 +21,10 @@ use Rattle.sdd_world.proofs.Keeping.{keeping_begins, kept_happened}
 use Rattle.sdd_world.proofs.Delivering.{beside, but_for, handed_calm}
 use Rattle.sdd_step.proofs.Delivering.{delivers_messages}
 
-module _ {C S N : Type 0} (cat : C → Catalogue) (stands_s : S → Site → Setting → site.Log → Type 0) (stands_n : N → ℕ → ℕ → List (Call Msg) → Type 0) (Good : Given → Type 0) (w now : World C S N) (g : Given) (log : Log) (a b : Site) (k : ℕ) (messages : List Msg) (h : Arrives cat stands_s stands_n Good w now g log a b k messages) where
+module _ {C S N : Type 0} (cat : C → Catalogue) (stands_s : S → Site → Setting → site.Log → Type 0)
+    (stands_n : N → ℕ → ℕ → List (Call Msg) → Type 0) (Good : Given → Type 0) (w now : World C S N)
+    (g : Given) (log : Log) (a b : Site) (k : ℕ) (messages : List Msg)
+    (h : Arrives cat stands_s stands_n Good w now g log a b k messages) where
   site_is : IsSiteOf g b
   site_is = (link_parts g.catalogue.tms g.catalogue.dms a b h.marked.possible.0).to
 
@@ -45,7 +48,9 @@ module _ {C S N : Type 0} (cat : C → Catalogue) (stands_s : S → Site → Set
       txns_are = ap (λ v. v.txns) h.same ∙ h.marked.parts.txns_are;
       given_is = ap (λ v. v.given.items) h.same ∙ h.marked.parts.given_is;
       history_is = ap (λ v. v.history) h.same ∙ h.marked.parts.history_is;
-      sites = λ x here. subst (λ z. stands_s z x (setting_of g x) (local_of g x (Mark (Deliver a b k) ∷ log))) (sym (ap (λ v. v.sites) h.same)) (h.marked.parts.sites x here);
+      sites = λ x here. subst (λ z. stands_s z x (setting_of g x)
+          (local_of g x (Mark (Deliver a b k) ∷ log))) (sym (ap (λ v. v.sites) h.same))
+          (h.marked.parts.sites x here);
       net = h.net;
     };
     waits = delivers_messages g a b k log messages h.marked.marked part h.delivered_are;
@@ -53,10 +58,16 @@ module _ {C S N : Type 0} (cat : C → Catalogue) (stands_s : S → Site → Set
     spooled = subst (λ z. Spooled g (Mark (Deliver a b k) ∷ log) z b) (sym spool_is) (beside g a b k log w.spool (but_for g log w.spool b h.marked.spooled));
   }
 
-  pub is_over : (w2 : World C S N) → takes_part b log ≡ true → HandedOn cat stands_s stands_n Good w2 g b (from_one a []) (ahead_of g (Mark (Deliver a b k) ∷ log)) now.spool → Happened cat stands_s stands_n Good w2 g log
+  pub is_over : (w2 : World C S N) → takes_part b log ≡ true → HandedOn cat stands_s stands_n Good w2 g b
+      (from_one a []) (ahead_of g (Mark (Deliver a b k) ∷ log)) now.spool
+      → Happened cat stands_s stands_n Good w2 g log
   is_over w2 part d = handed_calm cat stands_s stands_n Good w now w2 g log a b k h.marked part h.same d
 
-module _ {C S N : Type 0} (cat : C → Catalogue) (stands_s : S → Site → Setting → site.Log → Type 0) (stands_n : N → ℕ → ℕ → List (Call Msg) → Type 0) (Good : Given → Type 0) (w now : World C S N) (g : Given) (log : Log) (a b : Site) (d : DmNo) (k : ℕ) (messages : List Msg) (h : Arrives cat stands_s stands_n Good w now g log a b k messages) (at : b ≡ D d) (down : is_down d.0 log ≡ true) where
+module _ {C S N : Type 0} (cat : C → Catalogue) (stands_s : S → Site → Setting → site.Log → Type 0)
+    (stands_n : N → ℕ → ℕ → List (Call Msg) → Type 0) (Good : Given → Type 0) (w now : World C S N)
+    (g : Given) (log : Log) (a b : Site) (d : DmNo) (k : ℕ) (messages : List Msg)
+    (h : Arrives cat stands_s stands_n Good w now g log a b k messages) (at : b ≡ D d)
+    (down : is_down d.0 log ≡ true) where
   here_d : Arrives cat stands_s stands_n Good w now g log a (D d) k messages
   here_d = subst (λ z. Arrives cat stands_s stands_n Good w now g log a z k messages) at h
 
@@ -66,7 +77,9 @@ module _ {C S N : Type 0} (cat : C → Catalogue) (stands_s : S → Site → Set
       subst (λ z. Keeping g (Mark (Deliver a (D d) k) ∷ log) z a d.0 messages) (sym (ap (λ v. v.spool) h.same))
       (keeping_begins cat stands_s stands_n Good w g log a d.0 k messages here_d.marked down here_d.delivered_are)
 
-  pub is_kept : (w2 : World C S N) → w2 ≡ record now { spool = w2.spool } → Keeping g (Mark (Deliver a (D d) k) ∷ log) w2.spool a d.0 [] → Happened cat stands_s stands_n Good w2 g log
+  pub is_kept : (w2 : World C S N) → w2 ≡ record now { spool = w2.spool }
+      → Keeping g (Mark (Deliver a (D d) k) ∷ log) w2.spool a d.0 []
+      → Happened cat stands_s stands_n Good w2 g log
   is_kept w2 same kept =
       kept_happened cat stands_s stands_n Good w w2 now.net g log a d.0 k messages here_d.marked down here_d.delivered_are here_d.net
       (same ∙ ap (λ (v : World C S N). record v { spool = w2.spool }) h.same) kept

@@ -54,11 +54,13 @@ spooled_none g tms dms t d = record {
       keeps_none g tms e (mailbox_at (empty_spool tms dms) e) t (one_of_all dms (e - 1) (empty_mailbox tms) _ (omega (arith, low, high, d))));
 }
 
-module _ {C S N : Type 0} (cat : C → Catalogue) (stands_s : S → Site → Setting → site.Log → Type 0) (stands_n : N → ℕ → ℕ → List (Call Msg) → Type 0) (Good : Given → Type 0) where
+module _ {C S N : Type 0} (cat : C → Catalogue) (stands_s : S → Site → Setting → site.Log → Type 0)
+    (stands_n : N → ℕ → ℕ → List (Call Msg) → Type 0) (Good : Given → Type 0) where
   -- nothing is recorded, kept or due
   pub begins : (w : World C S N) (tms dms : ℕ) → w.history ≡ [] → w.marks ≡ 0 → w.given.items ≡ [] → w.spool ≡ empty_spool tms dms
       → (g : Given) → Good g → IsSound g → cat w.catalogue ≡ g.catalogue → g.catalogue.tms ≡ tms → g.catalogue.dms ≡ dms → w.txns ≡ g.txns → g.events ≡ []
-      → ((at : Site) → IsSiteOf g at → stands_s w.sites at (setting_of g at) (beginning g at)) → stands_n w.net g.catalogue.tms g.catalogue.dms [] → StandsFor cat stands_s stands_n Good w g []
+      → ((at : Site) → IsSiteOf g at → stands_s w.sites at (setting_of g at) (beginning g at))
+      → stands_n w.net g.catalogue.tms g.catalogue.dms [] → StandsFor cat stands_s stands_n Good w g []
   begins w tms dms h m v s g good sound c t d x e sites net = record {
     calm = record {
       parts = record {

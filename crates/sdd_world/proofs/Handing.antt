@@ -31,7 +31,8 @@ use Rattle.sdd_world.specs.Following.{Followed, IsPast, MaySend}
 use Rattle.sdd_world.specs.Standing.{ahead_of, EndsBy, Facts, HandedOn, Handing, Spooled}
 use Rattle.sdd_world.proofs.Parting.{ahead_acts, events_before, redeclares_acts, spooled_acts, spooled_on}
 
-pub due_same : (g : Given) (b : Site) (bases : Bases) (l : site.Log) (acts : List Act) → AreDue (next_of b (setting_of g b) bases) l acts → AreDue (next_in g b bases) l acts
+pub due_same : (g : Given) (b : Site) (bases : Bases) (l : site.Log) (acts : List Act)
+    → AreDue (next_of b (setting_of g b) bases) l acts → AreDue (next_in g b bases) l acts
 due_same g U bases l acts h = h
 due_same g (T t) bases l acts h = h
 due_same g (D d) bases l acts h = h
@@ -53,8 +54,10 @@ own_hand g a b n m log = rw (same_here b) refl
 other_hand : (g : Given) (x a b : Site) (n : ℕ) (m : Msg) (log : Log) → same_site x b ≡ false → local_of g x (Hand a b n m ∷ log) ≡ local_of g x log
 other_hand g x a b n m log e = rw e refl
 
-module _ {C S N : Type 0} (cat : C → Catalogue) (stands_s : S → Site → Setting → site.Log → Type 0) (stands_n : N → ℕ → ℕ → List (Call Msg) → Type 0) (Good : Given → Type 0)
-    (fits : Site → Setting → Bases → site.Log → Site → Msg → Type 0) (fits_submit : Site → Setting → Bases → site.Log → ℕ → Txn → Type 0) (fits_tick : Site → Setting → site.Log → ℕ → Type 0)
+module _ {C S N : Type 0} (cat : C → Catalogue) (stands_s : S → Site → Setting → site.Log → Type 0)
+    (stands_n : N → ℕ → ℕ → List (Call Msg) → Type 0) (Good : Given → Type 0)
+    (fits : Site → Setting → Bases → site.Log → Site → Msg → Type 0) (fits_submit : Site → Setting → Bases
+    → site.Log → ℕ → Txn → Type 0) (fits_tick : Site → Setting → site.Log → ℕ → Type 0)
     (facts : Facts Good fits fits_submit fits_tick) (w : World C S N) (g : Given) (log : Log) (a b : Site) (m : Msg) (kept : Site → List Msg) (rest : List Msg)
     (h : Handing cat stands_s stands_n Good w g log b kept) (f : IsFirst g kept a b m rest) where
   abbrev handed_log : Log
@@ -143,7 +146,8 @@ module _ {C S N : Type 0} (cat : C → Catalogue) (stands_s : S → Site → Set
       → Followed stands_n (record w { sites = s }) w2 b outcome → HandedOn cat stands_s stands_n Good w2 g b less (ahead_of g log) w.spool
   hand_done s outcome w2 less t k others d =
       let sent_all = d.net g.catalogue.tms g.catalogue.dms (calls_of log) h.parts.net (linked_out s outcome t) in
-      let calls : calls_of (after_acts b t.acts handed_log) ≡ puts b outcome.out (calls_of log) = calls_acts b t.acts handed_log ∙ ap (λ o. puts b o (calls_of log)) (sym t.sends_are) in
+      let calls : calls_of (after_acts b t.acts handed_log) ≡ puts b outcome.out (calls_of log) =
+      calls_acts b t.acts handed_log ∙ ap (λ o. puts b o (calls_of log)) (sym t.sends_are) in
       record {
         more = after_acts b t.acts handed_log;
         handing = record {
@@ -154,15 +158,21 @@ module _ {C S N : Type 0} (cat : C → Catalogue) (stands_s : S → Site → Set
             catalogue_is = ap cat d.catalogue ∙ h.parts.catalogue_is;
             txns_are = d.txns ∙ h.parts.txns_are;
             given_is = ap (λ v. v.items) d.given ∙ h.parts.given_is;
-            history_is = d.history ∙ ap (λ r. w.history ++ map (λ x. (w.marks, x)) r) t.records_are ∙ ap (λ k. w.history ++ map (λ x. (k, x)) (records_of t.acts)) h.marks_are ∙ ap (λ xs. xs ++ map (λ x. (marks log, x)) (records_of t.acts)) h.parts.history_is ∙ sym (history_acts b t.acts handed_log);
-            sites = λ x here. subst (λ z. stands_s z x (setting_of g x) (local_of g x (after_acts b t.acts handed_log))) (sym d.sites) (done_sites s outcome t others x here);
+            history_is = d.history ∙ ap (λ r. w.history ++ map (λ x. (w.marks, x)) r) t.records_are
+                ∙ ap (λ k. w.history ++ map (λ x. (k, x)) (records_of t.acts)) h.marks_are
+                ∙ ap (λ xs. xs ++ map (λ x. (marks log, x)) (records_of t.acts)) h.parts.history_is
+                ∙ sym (history_acts b t.acts handed_log);
+            sites = λ x here. subst (λ z. stands_s z x (setting_of g x)
+                (local_of g x (after_acts b t.acts handed_log))) (sym d.sites)
+                (done_sites s outcome t others x here);
             net = subst (λ c. stands_n w2.net g.catalogue.tms g.catalogue.dms c) (sym calls) sent_all.1;
           };
           waits = hands_first g log b kept h.waits a m rest f t.acts less k t.due (ap (λ o. puts_past (calls_of log) b o) (sym t.sends_are) ∙ sent_all.0);
           marks_are = d.marks ∙ h.marks_are ∙ sym (marks_acts b t.acts handed_log);
           spooled = subst (λ boxes. Spooled g (after_acts b t.acts handed_log) boxes b) (sym d.spool)
               (spooled_acts g b t.acts handed_log w.spool b (spooled_on g log handed_log w.spool b (λ e. refl)
-              (λ e apart x r k. remain_other log a b x (D (dm_no e)) (suc (handed a b log)) m r (and_right (same_site x a) (same_site (D (dm_no e)) b) apart) k) h.spooled));
+              (λ e apart x r k. remain_other log a b x (D (dm_no e)) (suc (handed a b log)) m r
+              (and_right (same_site x a) (same_site (D (dm_no e)) b) apart) k) h.spooled));
         };
         ahead_is = ahead_acts g b t.acts handed_log;
         spool_is = d.spool;

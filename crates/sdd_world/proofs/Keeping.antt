@@ -43,10 +43,12 @@ first_in g log boxes d busy h s = (dm_within g d h).0
 pub last_in : (g : Given) (log : Log) (boxes : List (Mailbox Msg)) (d : DmNo) (busy : Site) → IsSiteOf g (D d) → Spooled g log boxes busy → d.0 ≤ length boxes
 last_in g log boxes d busy h s = rw s.count (dm_within g d h).1
 
-pub down_of : (g : Given) (log : Log) (boxes : List (Mailbox Msg)) (d : DmNo) → IsSiteOf g (D d) → Spooled g log boxes U → (mailbox_at boxes d.0).down ≡ is_down d.0 log
+pub down_of : (g : Given) (log : Log) (boxes : List (Mailbox Msg)) (d : DmNo) → IsSiteOf g (D d)
+    → Spooled g log boxes U → (mailbox_at boxes d.0).down ≡ is_down d.0 log
 down_of g log boxes d h s = (s.each d.0 h refl).down_is
 
-pub part_of : (g : Given) (log : Log) (boxes : List (Mailbox Msg)) (d : DmNo) → IsSiteOf g (D d) → Spooled g log boxes U → (mailbox_at boxes d.0).down ≡ false → takes_part (D d) log ≡ true
+pub part_of : (g : Given) (log : Log) (boxes : List (Mailbox Msg)) (d : DmNo) → IsSiteOf g (D d)
+    → Spooled g log boxes U → (mailbox_at boxes d.0).down ≡ false → takes_part (D d) log ≡ true
 part_of g log boxes d h s e = ap not (sym (down_of g log boxes d h s) ∙ e)
 
 numbered : (n most : ℕ) → (nat_le 1 n && nat_le n most) ≡ true → (1 ≤ n) × (n ≤ most)
@@ -59,20 +61,24 @@ t_below (suc n) size most p e = let q = p.1 in omega (arith, q, e)
 -- senders of a module have a place in its mailbox
 pub sender_of : (g : Given) (from : Site) (d : ℕ) (b : Mailbox Msg) → IsLinkOf g from (D (dm_no d)) → length b.queues ≡ suc g.catalogue.tms → IsSender b from
 sender_of g U d b l e = let z : 0 < length b.queues = omega (arith, e) in z
-sender_of g (T n) d b l e = t_below n.0 (length b.queues) g.catalogue.tms (numbered n.0 g.catalogue.tms (link_parts g.catalogue.tms g.catalogue.dms (T n) (D (dm_no d)) l).from) e
+sender_of g (T n) d b l e = t_below n.0 (length b.queues) g.catalogue.tms
+    (numbered n.0 g.catalogue.tms (link_parts g.catalogue.tms g.catalogue.dms (T n) (D (dm_no d)) l).from) e
 sender_of g (D n) d b l e = let k : false ≡ true = (link_parts g.catalogue.tms g.catalogue.dms (D n) (D (dm_no d)) l).linked in cc
 
 same_dm : (e d : ℕ) → same_site (D (dm_no e)) (D (dm_no d)) ≡ false → e ≢ d
 same_dm e d f = λ p. (let t : same_site (D (dm_no e)) (D (dm_no d)) ≡ true = eq-eqb e d p in let no : true ≡ false = sym t ∙ f in cc)
 
 -- the other mailboxes stay
-others_stay : (g : Given) (log : Log) (old new : List (Mailbox Msg)) (d : ℕ) → length new ≡ length old → OnlyAt old new d → Spooled g log old (D (dm_no d)) → Spooled g log new (D (dm_no d))
+others_stay : (g : Given) (log : Log) (old new : List (Mailbox Msg)) (d : ℕ) → length new ≡ length old
+    → OnlyAt old new d → Spooled g log old (D (dm_no d)) → Spooled g log new (D (dm_no d))
 others_stay g log old new d count only s = record {
   count = count ∙ s.count;
   each = λ e here apart. subst (λ b. KeepsFor g log e b) (sym (only e (dm_within g (dm_no e) here).0 (same_dm e d apart))) (s.each e here apart);
 }
 
-moved : (from x : Site) (m : Msg) (rest old new : List Msg) → (same_site x from ≡ true → new ≡ old ++ m ∷ []) → (same_site x from ≡ false → new ≡ old) → old ++ from_one from (m ∷ rest) x ≡ new ++ from_one from rest x
+moved : (from x : Site) (m : Msg) (rest old new : List Msg)
+    → (same_site x from ≡ true → new ≡ old ++ m ∷ []) → (same_site x from ≡ false → new ≡ old)
+    → old ++ from_one from (m ∷ rest) x ≡ new ++ from_one from rest x
 moved from x m rest old new f h =
     elim (same_site x from) as (λ c. same_site x from ≡ c → old ++ (if c then m ∷ rest else []) ≡ new ++ (if c then rest else [])) [
       | true ↦ λ s. sym (append_assoc old (m ∷ []) rest) ∙ ap (λ z. z ++ rest) (sym (f s))
@@ -82,9 +88,11 @@ moved from x m rest old new f h =
 no_more : (a x : Site) → from_one a [] x ≡ []
 no_more a x = none_of_one a x
 
-module _ {C S N : Type 0} (cat : C → Catalogue) (stands_s : S → Site → Setting → site.Log → Type 0) (stands_n : N → ℕ → ℕ → List (Call Msg) → Type 0) (Good : Given → Type 0) where
+module _ {C S N : Type 0} (cat : C → Catalogue) (stands_s : S → Site → Setting → site.Log → Type 0)
+    (stands_n : N → ℕ → ℕ → List (Call Msg) → Type 0) (Good : Given → Type 0) where
   -- a message is put
-  pub put_one : (g : Given) (log : Log) (old new : List (Mailbox Msg)) (from : Site) (d : ℕ) (q rest : List Msg) (m : Msg) → q ≡ m ∷ rest → Keeping g log old from d q
+  pub put_one : (g : Given) (log : Log) (old new : List (Mailbox Msg)) (from : Site) (d : ℕ)
+      (q rest : List Msg) (m : Msg) → q ≡ m ∷ rest → Keeping g log old from d q
       → Puts (mailbox_at old d) (mailbox_at new d) from m → length new ≡ length old → OnlyAt old new d → Keeping g log new from d rest
   put_one g log old new from d q rest m e k p count only = record {
     here = k.here;
@@ -93,15 +101,20 @@ module _ {C S N : Type 0} (cat : C → Catalogue) (stands_s : S → Site → Set
     box_down = p.down ∙ k.box_down;
     senders = p.count ∙ k.senders;
     kept = λ x.
-        let before : Remain log x (D (dm_no d)) (kept_from (mailbox_at old d) x ++ from_one from (m ∷ rest) x) = subst (λ z. Remain log x (D (dm_no d)) (kept_from (mailbox_at old d) x ++ from_one from z x)) e (k.kept x) in
+        let before : Remain log x (D (dm_no d)) (kept_from (mailbox_at old d) x ++ from_one from
+        (m ∷ rest) x) = subst (λ z. Remain log x (D (dm_no d))
+        (kept_from (mailbox_at old d) x ++ from_one from z x)) e (k.kept x) in
         subst (λ z. Remain log x (D (dm_no d)) z)
         (moved from x m rest (kept_from (mailbox_at old d) x) (kept_from (mailbox_at new d) x)
-        (λ s. subst (λ z. kept_from (mailbox_at new d) z ≡ kept_from (mailbox_at old d) z ++ m ∷ []) (sym (same_is x from s)) p.here) (λ s. p.others x s)) before;
+        (λ s. subst (λ z. kept_from (mailbox_at new d) z ≡ kept_from (mailbox_at old d) z ++ m ∷ [])
+        (sym (same_is x from s)) p.here) (λ s. p.others x s)) before;
     others = others_stay g log old new d count only k.others;
   }
 
   -- messages come for a module that is down
-  pub keeping_begins : (w : World C S N) (g : Given) (log : Log) (a : Site) (d : ℕ) (k : ℕ) (messages : List Msg) → Marked cat stands_s stands_n Good w g log (Deliver a (D (dm_no d)) k) → is_down d log ≡ true
+  pub keeping_begins : (w : World C S N) (g : Given) (log : Log) (a : Site) (d : ℕ) (k : ℕ)
+      (messages : List Msg) → Marked cat stands_s stands_n Good w g log (Deliver a (D (dm_no d)) k)
+      → is_down d log ≡ true
       → delivery k (link_of a (D (dm_no d)) log) ≡ Messages messages → Keeping g (Mark (Deliver a (D (dm_no d)) k) ∷ log) w.spool a d messages
   keeping_begins w g log a d k messages m down is =
       let here : IsSiteOf g (D (dm_no d)) = (link_parts g.catalogue.tms g.catalogue.dms a (D (dm_no d)) m.possible.0).to in
@@ -113,14 +126,20 @@ module _ {C S N : Type 0} (cat : C → Catalogue) (stands_s : S → Site → Set
         box_down = box.down_is ∙ down;
         senders = box.senders;
         kept = λ x.
-            elim (same_site x a) as (λ c. same_site x a ≡ c → Remain (Mark (Deliver a (D (dm_no d)) k) ∷ log) x (D (dm_no d)) (kept_from (mailbox_at w.spool d) x ++ (if c then messages else []))) [
-              | true ↦ λ s. subst (λ z. Remain (Mark (Deliver a (D (dm_no d)) k) ∷ log) z (D (dm_no d)) (kept_from (mailbox_at w.spool d) z ++ messages)) (sym (same_is x a s))
+            elim (same_site x a) as (λ c. same_site x a ≡ c
+            → Remain (Mark (Deliver a (D (dm_no d)) k) ∷ log) x (D (dm_no d))
+            (kept_from (mailbox_at w.spool d) x ++ (if c then messages else []))) [
+              | true ↦ λ s. subst (λ z. Remain (Mark (Deliver a (D (dm_no d)) k) ∷ log) z (D (dm_no d))
+                  (kept_from (mailbox_at w.spool d) z ++ messages)) (sym (same_is x a s))
                   (remain_more a (D (dm_no d)) k log (kept_from (mailbox_at w.spool d) a) messages is (box.kept down a))
-              | false ↦ λ s. subst (λ z. Remain (Mark (Deliver a (D (dm_no d)) k) ∷ log) x (D (dm_no d)) z) (sym (append-nil (kept_from (mailbox_at w.spool d) x)))
-                  (remain_beside a (D (dm_no d)) k log x (D (dm_no d)) (kept_from (mailbox_at w.spool d) x) (and_left (same_site x a) (same_site (D (dm_no d)) (D (dm_no d))) s) (box.kept down x))
+              | false ↦ λ s. subst (λ z. Remain (Mark (Deliver a (D (dm_no d)) k) ∷ log) x (D (dm_no d)) z)
+                  (sym (append-nil (kept_from (mailbox_at w.spool d) x)))
+                  (remain_beside a (D (dm_no d)) k log x (D (dm_no d)) (kept_from (mailbox_at w.spool d) x)
+                  (and_left (same_site x a) (same_site (D (dm_no d)) (D (dm_no d))) s) (box.kept down x))
             ] refl;
         others = spooled_on g log (Mark (Deliver a (D (dm_no d)) k) ∷ log) w.spool (D (dm_no d)) (λ e. refl)
-            (λ e apart x rest r. remain_beside a (D (dm_no d)) k log x (D (dm_no e)) rest (and_right (same_site x a) (same_site (D (dm_no e)) (D (dm_no d))) apart) r)
+            (λ e apart x rest r. remain_beside a (D (dm_no d)) k log x (D (dm_no e)) rest
+            (and_right (same_site x a) (same_site (D (dm_no e)) (D (dm_no d))) apart) r)
             (record { count = m.spooled.count; each = λ e h apart. m.spooled.each e h refl });
       }
 
@@ -129,7 +148,8 @@ module _ {C S N : Type 0} (cat : C → Catalogue) (stands_s : S → Site → Set
   kept_box g log boxes a d k = record {
     down_is = k.box_down ∙ sym k.is_down;
     senders = k.senders;
-    kept = λ p x. subst (λ z. Remain log x (D (dm_no d)) z) (ap (λ z. kept_from (mailbox_at boxes d) x ++ z) (no_more a x) ∙ append-nil (kept_from (mailbox_at boxes d) x)) (k.kept x);
+    kept = λ p x. subst (λ z. Remain log x (D (dm_no d)) z) (ap (λ z. kept_from (mailbox_at boxes d) x ++ z)
+        (no_more a x) ∙ append-nil (kept_from (mailbox_at boxes d) x)) (k.kept x);
     empty = λ p x. (let no : true ≡ false = sym k.is_down ∙ p in cc);
   }
 
@@ -143,11 +163,17 @@ module _ {C S N : Type 0} (cat : C → Catalogue) (stands_s : S → Site → Set
         ] refl;
   }
 
-  pub kept_happened : (w w2 : World C S N) (net : N) (g : Given) (log : Log) (a : Site) (d : ℕ) (k : ℕ) (messages : List Msg) → Marked cat stands_s stands_n Good w g log (Deliver a (D (dm_no d)) k) → is_down d log ≡ true
-      → delivery k (link_of a (D (dm_no d)) log) ≡ Messages messages → stands_n net g.catalogue.tms g.catalogue.dms (calls_of (Mark (Deliver a (D (dm_no d)) k) ∷ log))
-      → w2 ≡ record w { net = net; spool = w2.spool } → Keeping g (Mark (Deliver a (D (dm_no d)) k) ∷ log) w2.spool a d [] → Happened cat stands_s stands_n Good w2 g log
+  pub kept_happened : (w w2 : World C S N) (net : N) (g : Given) (log : Log) (a : Site) (d : ℕ) (k : ℕ)
+      (messages : List Msg) → Marked cat stands_s stands_n Good w g log (Deliver a (D (dm_no d)) k)
+      → is_down d log ≡ true
+      → delivery k (link_of a (D (dm_no d)) log) ≡ Messages messages
+      → stands_n net g.catalogue.tms g.catalogue.dms (calls_of (Mark (Deliver a (D (dm_no d)) k) ∷ log))
+      → w2 ≡ record w { net = net; spool = w2.spool }
+      → Keeping g (Mark (Deliver a (D (dm_no d)) k) ∷ log) w2.spool a d []
+      → Happened cat stands_s stands_n Good w2 g log
   kept_happened w w2 net g log a d k messages m down is n same kept =
-      marked_plain cat stands_s stands_n Good w w2 g log (Deliver a (D (dm_no d)) k) m tt (delivers_kept g a (D (dm_no d)) k log messages m.marked (ap not down) is)
+      marked_plain cat stands_s stands_n Good w w2 g log (Deliver a (D (dm_no d)) k) m tt
+      (delivers_kept g a (D (dm_no d)) k log messages m.marked (ap not down) is)
       (same ∙ ap (λ z. record w { net = z; spool = w2.spool }) (sym (ap (λ v. v.net) same)))
       (subst (λ z. stands_n z g.catalogue.tms g.catalogue.dms (calls_of (Mark (Deliver a (D (dm_no d)) k) ∷ log))) (sym (ap (λ v. v.net) same)) n)
       (all_kept g (Mark (Deliver a (D (dm_no d)) k) ∷ log) w2.spool a d kept)
@@ -156,8 +182,10 @@ module _ {C S N : Type 0} (cat : C → Catalogue) (stands_s : S → Site → Set
   no_items [] n e f = refl
   no_items (x ∷ xs) n e f = absurd (omega arith)
 
-  pub all_put : (g : Given) (log : Log) (boxes : List (Mailbox Msg)) (a : Site) (d : ℕ) (queue : List Msg) → Keeping g log boxes a d queue → (n : ℕ) → n ≡ length queue → n ≡ 0 → Keeping g log boxes a d []
+  pub all_put : (g : Given) (log : Log) (boxes : List (Mailbox Msg)) (a : Site) (d : ℕ) (queue : List Msg)
+      → Keeping g log boxes a d queue → (n : ℕ) → n ≡ length queue → n ≡ 0 → Keeping g log boxes a d []
   all_put g log boxes a d queue k n e f = subst (λ q. Keeping g log boxes a d q) (no_items queue n e f) k
 
-  pub same_again : (w now : World C S N) (boxes : List (Mailbox Msg)) → now ≡ record w { spool = now.spool } → record now { spool = boxes } ≡ record w { spool = boxes }
+  pub same_again : (w now : World C S N) (boxes : List (Mailbox Msg)) → now ≡ record w { spool = now.spool }
+      → record now { spool = boxes } ≡ record w { spool = boxes }
   same_again w now boxes e = ap (λ (v : World C S N). record v { spool = boxes }) e

@@ -40,8 +40,12 @@ events_before (Mark e ∷ log) = later (marks log) (suc (marks log)) (history lo
 events_before (Redeclares t ∷ log) = later (marks log) (suc (marks log)) (history log) (omega arith) (events_before log)
 events_before (Round es ∷ log) = events_before log
 events_before (Hand a b n m ∷ log) = events_before log
-events_before (Submitted a n ∷ log) = All-append {X = ℕ × Rec} (λ e. e.0 ≤ marks log) (history log) _ (events_before log) (All-cons {X = ℕ × Rec} (λ e. e.0 ≤ marks log) _ [] (omega arith) (All-nil {X = ℕ × Rec} (λ e. e.0 ≤ marks log)))
-events_before (Notes ∷ log) = All-append {X = ℕ × Rec} (λ e. e.0 ≤ marks log) (history log) _ (events_before log) (All-cons {X = ℕ × Rec} (λ e. e.0 ≤ marks log) _ [] (omega arith) (All-nil {X = ℕ × Rec} (λ e. e.0 ≤ marks log)))
+events_before (Submitted a n ∷ log) = All-append {X = ℕ × Rec} (λ e. e.0 ≤ marks log) (history log) _
+    (events_before log) (All-cons {X = ℕ × Rec} (λ e. e.0 ≤ marks log) _ [] (omega arith) (All-nil {X =
+    ℕ × Rec} (λ e. e.0 ≤ marks log)))
+events_before (Notes ∷ log) = All-append {X = ℕ × Rec} (λ e. e.0 ≤ marks log) (history log) _
+    (events_before log) (All-cons {X = ℕ × Rec} (λ e. e.0 ≤ marks log) _ [] (omega arith) (All-nil {X =
+    ℕ × Rec} (λ e. e.0 ≤ marks log)))
 events_before (Does a act ∷ log) = events_append (marks log) (history log) (records_of_act act) (events_before log)
 
 -- acts put no classes in force
@@ -53,7 +57,8 @@ pub same_ahead : (a b : List Event × List Event) (m n : ℕ) → a ≡ b → m 
 same_ahead a b m n e f = rw (e, f) refl
 
 pub ahead_acts : (g : Given) (at : Site) (acts : List Act) (log : Log) → ahead_of g (after_acts at acts log) ≡ ahead_of g log
-ahead_acts g at acts log = same_ahead (left g.events (after_acts at acts log)) (left g.events log) (marks (after_acts at acts log)) (marks log) (left_acts g.events at acts log) (marks_acts at acts log)
+ahead_acts g at acts log = same_ahead (left g.events (after_acts at acts log)) (left g.events log)
+    (marks (after_acts at acts log)) (marks log) (left_acts g.events at acts log) (marks_acts at acts log)
 
 -- mailboxes stay as the log goes on, where no module turns and what remains stays
 
@@ -77,6 +82,8 @@ spooled_on g log more boxes busy same remains s = record {
   each = λ d here apart. keeps_on g log more d (mailbox_at boxes d) (same d) (remains d apart) (s.each d here apart);
 }
 
-pub spooled_acts : (g : Given) (at : Site) (acts : List Act) (log : Log) (boxes : List (Mailbox Msg)) (busy : Site) → Spooled g log boxes busy → Spooled g (after_acts at acts log) boxes busy
+pub spooled_acts : (g : Given) (at : Site) (acts : List Act) (log : Log) (boxes : List (Mailbox Msg))
+    (busy : Site) → Spooled g log boxes busy → Spooled g (after_acts at acts log) boxes busy
 spooled_acts g at acts log boxes busy s =
-    spooled_on g log (after_acts at acts log) boxes busy (λ d. is_down_acts d at acts log) (λ d apart x rest r. remain_acts at acts log x (D (dm_no d)) rest r) s
+    spooled_on g log (after_acts at acts log) boxes busy (λ d. is_down_acts d at acts log)
+    (λ d apart x rest r. remain_acts at acts log x (D (dm_no d)) rest r) s

@@ -93,18 +93,34 @@ spool_round : (g : Given) (es : List Event) (log : Log) (boxes : List (Mailbox M
 spool_round g es log boxes s = spooled_on g log (Round es ∷ log) boxes U (λ d. refl) (λ d apart x rest r. record { count = r.count; messages = r.messages }) s
 
 spool_more : (g : Given) (e : Event) (log : Log) (boxes : List (Mailbox Msg)) → Spooled g log boxes U → Spooled (with_event g e) log boxes U
-spool_more g e log boxes s = record { count = s.count; each = λ d here apart. (let k = s.each d here apart in record { down_is = k.down_is; senders = k.senders; kept = k.kept; empty = k.empty }) }
+spool_more g e log boxes s = record {
+  count = s.count;
+  each =
+      λ d here apart. (let k = s.each d here apart in record {
+        down_is = k.down_is;
+        senders =
+            k.senders;
+        kept = k.kept;
+        empty = k.empty;
+      });
+}
 
 sound_more : (g : Given) (e : Event) → IsSound g → IsSound (with_event g e)
 sound_more g e s = record { few_tms = s.few_tms; few_dms = s.few_dms; one_force = s.one_force; txns_fit = s.txns_fit }
 
-module _ {C S N : Type 0} (cat : C → Catalogue) (stands_s : S → Site → Setting → site.Log → Type 0) (stands_n : N → ℕ → ℕ → List (Call Msg) → Type 0) (Good : Given → Type 0) where
+module _ {C S N : Type 0} (cat : C → Catalogue) (stands_s : S → Site → Setting → site.Log → Type 0)
+    (stands_n : N → ℕ → ℕ → List (Call Msg) → Type 0) (Good : Given → Type 0) where
   -- a round begins with its events
-  pub round_begins : (w : World C S N) (g : Given) (log : Log) (events : List Event) → Settling cat stands_s stands_n Good w g log → quiet (all_links g) (calls_of log) ≡ false
-      → ((tms dms : ℕ) (calls : List (Call Msg)) → stands_n w.net tms dms calls → events ≡ round (links tms dms) calls) → (more : Log) × Rounding cat stands_s stands_n Good w g more events
+  pub round_begins : (w : World C S N) (g : Given) (log : Log) (events : List Event)
+      → Settling cat stands_s stands_n Good w g log → quiet (all_links g) (calls_of log) ≡ false
+      → ((tms dms : ℕ) (calls : List (Call Msg)) → stands_n w.net tms dms calls
+      → events ≡ round (links tms dms) calls) → (more : Log)
+      × Rounding cat stands_s stands_n Good w g more events
   round_begins w g log events s q f =
       let e : events ≡ round (links g.catalogue.tms g.catalogue.dms) (calls_of log) = f g.catalogue.tms g.catalogue.dms (calls_of log) s.calm.parts.net in
-      let n : next g log ≡ Some (Round events) = round_next g log s.waiting (free g log s.calm.rests) s.left_is s.settles q ∙ ap (λ r. Some (Round r)) (sym e) in (
+      let n : next g log ≡ Some (Round events) =
+      round_next g log s.waiting (free g log s.calm.rests) s.left_is s.settles q
+      ∙ ap (λ r. Some (Round r)) (sym e) in (
         Round events ∷ log,
         record {
           calm = record {
@@ -126,18 +142,23 @@ module _ {C S N : Type 0} (cat : C → Catalogue) (stands_s : S → Site → Set
           waiting = s.waiting;
           left_is = ap (λ v. (v.0, events)) s.left_is;
           settles = s.settles;
-          possible = subst (λ es. AtEach (IsPossible g) es) (sym e) (each_of_round (IsPossible g) g.catalogue.tms g.catalogue.dms (calls_of log) (λ a b l. (l, (l, omega arith))));
+          possible = subst (λ es. AtEach (IsPossible g) es) (sym e)
+              (each_of_round (IsPossible g) g.catalogue.tms g.catalogue.dms (calls_of log)
+              (λ a b l. (l, (l, omega arith))));
         },
       )
 
-  pub round_some : (w : World C S N) (g : Given) (log : Log) (events : List Event) → Settling cat stands_s stands_n Good w g log → quiet (all_links g) (calls_of log) ≡ false
+  pub round_some : (w : World C S N) (g : Given) (log : Log) (events : List Event)
+      → Settling cat stands_s stands_n Good w g log → quiet (all_links g) (calls_of log) ≡ false
       → ((tms dms : ℕ) (calls : List (Call Msg)) → stands_n w.net tms dms calls → events ≡ round (links tms dms) calls) → 0 < length events
   round_some w g log [] s q f =
       let e : round (links g.catalogue.tms g.catalogue.dms) (calls_of log) ≡ [] = sym (f g.catalogue.tms g.catalogue.dms (calls_of log) s.calm.parts.net) in
       let no : true ≡ false = sym (no_events_quiet g.catalogue.tms g.catalogue.dms (calls_of log) e) ∙ q in cc
   round_some w g log (x ∷ events) s q f = omega arith
 
-  pub round_before : (w : World C S N) (g : Given) (log : Log) (events : List Event) (e : Event) (rest : List Event) → Rounding cat stands_s stands_n Good w g log events → events ≡ e ∷ rest → Before cat stands_s stands_n Good w g log e
+  pub round_before : (w : World C S N) (g : Given) (log : Log) (events : List Event) (e : Event)
+      (rest : List Event) → Rounding cat stands_s stands_n Good w g log events → events ≡ e ∷ rest
+      → Before cat stands_s stands_n Good w g log e
   round_before w g log events e rest r same =
       let p : AtEach (IsPossible g) (e ∷ rest) = subst (λ es. AtEach (IsPossible g) es) same r.possible in
       record {
@@ -146,7 +167,9 @@ module _ {C S N : Type 0} (cat : C → Catalogue) (stands_s : S → Site → Set
         possible = p.0;
       }
 
-  pub round_after : (w w2 : World C S N) (g : Given) (log : Log) (events : List Event) (e : Event) (rest : List Event) → Rounding cat stands_s stands_n Good w g log events → events ≡ e ∷ rest → Happened cat stands_s stands_n Good w2 g log
+  pub round_after : (w w2 : World C S N) (g : Given) (log : Log) (events : List Event) (e : Event)
+      (rest : List Event) → Rounding cat stands_s stands_n Good w g log events → events ≡ e ∷ rest
+      → Happened cat stands_s stands_n Good w2 g log
       → (more : Log) × Rounding cat stands_s stands_n Good w2 g more rest
   round_after w w2 g log events e rest r same h =
       let p : AtEach (IsPossible g) (e ∷ rest) = subst (λ es. AtEach (IsPossible g) es) same r.possible in (
@@ -160,17 +183,23 @@ module _ {C S N : Type 0} (cat : C → Catalogue) (stands_s : S → Site → Set
         },
       )
 
-  pub one_mark : (w w2 : World C S N) (g : Given) (log : Log) → Calm cat stands_s stands_n Good w g log → Happened cat stands_s stands_n Good w2 g log → w2.marks ≡ suc w.marks
+  pub one_mark : (w w2 : World C S N) (g : Given) (log : Log) → Calm cat stands_s stands_n Good w g log
+      → Happened cat stands_s stands_n Good w2 g log → w2.marks ≡ suc w.marks
   one_mark w w2 g log c h = h.calm.marks_are ∙ ap (λ a. a.number) h.ahead_is ∙ ap (λ n. suc n) (sym c.marks_are)
 
-  pub round_ends : (w : World C S N) (g : Given) (log : Log) (events : List Event) → Rounding cat stands_s stands_n Good w g log events → events ≡ [] → Settling cat stands_s stands_n Good w g log
+  pub round_ends : (w : World C S N) (g : Given) (log : Log) (events : List Event)
+      → Rounding cat stands_s stands_n Good w g log events → events ≡ []
+      → Settling cat stands_s stands_n Good w g log
   round_ends w g log events r same = record { calm = r.calm; waiting = r.waiting; left_is = r.left_is ∙ ap (λ es. (r.waiting, es)) same; settles = r.settles }
 
-  pub settle_ends : (w : World C S N) (g : Given) (log : Log) → Settling cat stands_s stands_n Good w g log → quiet (all_links g) (calls_of log) ≡ true → StandsFor cat stands_s stands_n Good w g log
+  pub settle_ends : (w : World C S N) (g : Given) (log : Log) → Settling cat stands_s stands_n Good w g log
+      → quiet (all_links g) (calls_of log) ≡ true → StandsFor cat stands_s stands_n Good w g log
   settle_ends w g log s q = record { calm = s.calm; complete = settled g log s.waiting (free g log s.calm.rests) s.left_is s.settles q }
 
   -- one event more is given
-  pub given_more : (w w2 : World C S N) (g : Given) (log : Log) (e : Event) → Good (with_event g e) → Calm cat stands_s stands_n Good w g log → w2 ≡ record w { given = w2.given } → w2.given.items ≡ w.given.items ++ e ∷ []
+  pub given_more : (w w2 : World C S N) (g : Given) (log : Log) (e : Event) → Good (with_event g e)
+      → Calm cat stands_s stands_n Good w g log → w2 ≡ record w { given = w2.given }
+      → w2.given.items ≡ w.given.items ++ e ∷ []
       → Calm cat stands_s stands_n Good w2 (with_event g e) log
   given_more w w2 g log e good c same pushed = record {
     parts = record {
@@ -189,7 +218,9 @@ module _ {C S N : Type 0} (cat : C → Catalogue) (stands_s : S → Site → Set
     spooled = subst (λ boxes. Spooled (with_event g e) log boxes U) (sym (ap (λ v. v.spool) same)) (spool_more g e log w.spool c.spooled);
   }
 
-  pub step_before : (w w2 : World C S N) (g : Given) (log : Log) (e : Event) → Good (with_event g e) → StandsFor cat stands_s stands_n Good w g log → IsPossible g e → w2 ≡ record w { given = w2.given } → w2.given.items ≡ w.given.items ++ e ∷ []
+  pub step_before : (w w2 : World C S N) (g : Given) (log : Log) (e : Event) → Good (with_event g e)
+      → StandsFor cat stands_s stands_n Good w g log → IsPossible g e → w2 ≡ record w { given = w2.given }
+      → w2.given.items ≡ w.given.items ++ e ∷ []
       → Before cat stands_s stands_n Good w2 (with_event g e) log e
   step_before w w2 g log e good s p same pushed = record {
     calm = given_more w w2 g log e good s.calm same pushed;
@@ -197,17 +228,22 @@ module _ {C S N : Type 0} (cat : C → Catalogue) (stands_s : S → Site → Set
     possible = still_possible g e e p;
   }
 
-  pub step_after : (w w2 : World C S N) (g : Given) (log : Log) (e : Event) → StandsFor cat stands_s stands_n Good w g log → IsPossible g e → Happened cat stands_s stands_n Good w2 (with_event g e) log
+  pub step_after : (w w2 : World C S N) (g : Given) (log : Log) (e : Event)
+      → StandsFor cat stands_s stands_n Good w g log → IsPossible g e → Happened cat stands_s stands_n Good w2
+      (with_event g e) log
       → (more : Log) × StandsFor cat stands_s stands_n Good w2 (with_event g e) more
   step_after w w2 g log e s p h = (
     h.more,
     record {
       calm = h.calm;
-      complete = none_left (with_event g e) h.more (free (with_event g e) h.more h.calm.rests) (ap (λ a. a.rest) h.ahead_is ∙ (one_more g e log (single g e p) s.calm.rests.lawful s.complete).1);
+      complete = none_left (with_event g e) h.more (free (with_event g e) h.more h.calm.rests)
+          (ap (λ a. a.rest) h.ahead_is ∙ (one_more g e log (single g e p) s.calm.rests.lawful s.complete).1);
     },
   )
 
-  pub settle_begins : (w w2 : World C S N) (g : Given) (log : Log) → Good (with_event g Settle) → StandsFor cat stands_s stands_n Good w g log → w2 ≡ record w { given = w2.given } → w2.given.items ≡ w.given.items ++ Settle ∷ []
+  pub settle_begins : (w w2 : World C S N) (g : Given) (log : Log) → Good (with_event g Settle)
+      → StandsFor cat stands_s stands_n Good w g log → w2 ≡ record w { given = w2.given }
+      → w2.given.items ≡ w.given.items ++ Settle ∷ []
       → Settling cat stands_s stands_n Good w2 (with_event g Settle) log
   settle_begins w w2 g log good s same pushed =
       let l = one_settle g log s.calm.rests.lawful s.complete in
@@ -217,7 +253,9 @@ module _ {C S N : Type 0} (cat : C → Catalogue) (stands_s : S → Site → Set
   few w g log c = let f : marks log ≤ MAX_RUN_EVENTS = few_marks log c.rests.within in let e : w.marks ≡ marks log = c.marks_are in omega (arith, f, e)
 
   -- an event has its number, where one is left
-  pub marked_next : (w w2 : World C S N) (g : Given) (log : Log) (e e2 : Event) → Before cat stands_s stands_n Good w g log e → e ≡ e2 → w.marks ≢ MAX_RUN_EVENTS → w2 ≡ record w { marks = w.marks + 1 } → Marked cat stands_s stands_n Good w2 g log e2
+  pub marked_next : (w w2 : World C S N) (g : Given) (log : Log) (e e2 : Event)
+      → Before cat stands_s stands_n Good w g log e → e ≡ e2 → w.marks ≢ MAX_RUN_EVENTS
+      → w2 ≡ record w { marks = w.marks + 1 } → Marked cat stands_s stands_n Good w2 g log e2
   marked_next w w2 g log e e2 b is left same =
       let parts : Parts cat stands_s stands_n Good w g log = b.calm.parts in
       let f : w.marks ≤ MAX_RUN_EVENTS = few w g log b.calm in

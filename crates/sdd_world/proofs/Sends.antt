@@ -11,7 +11,8 @@ use Rattle.sdd_step.proofs.Acts.{puts-append, puts_past-append}
 use Rattle.sdd_world.specs.Kinds.{AreLinked}
 use Rattle.sdd_world.specs.Following.{Sending}
 
-linked_at : (tms dms : ℕ) (at : Site) (sent : List (Site × Msg)) (x : Site × Msg) (rest : List (Site × Msg)) → AreLinked tms dms at (sent ++ x ∷ rest) → is_link tms dms at x.0 ≡ true
+linked_at : (tms dms : ℕ) (at : Site) (sent : List (Site × Msg)) (x : Site × Msg) (rest : List (Site × Msg))
+    → AreLinked tms dms at (sent ++ x ∷ rest) → is_link tms dms at x.0 ≡ true
 linked_at tms dms at [] x rest h = h.0
 linked_at tms dms at (y ∷ sent) x rest h = linked_at tms dms at sent x rest h.1
 
@@ -35,11 +36,18 @@ module _ {N : Type 0} (stands : N → ℕ → ℕ → List (Call Msg) → Type 0
 
   pub can_send : (old now : N) (at : Site) (out left rest : List (Site × Msg)) (x : Site × Msg) → Sending stands old now at out left → left ≡ x ∷ rest
       → (tms : ℕ) × (dms : ℕ) × (calls : List (Call Msg)) × stands now tms dms calls × AreLinked tms dms at (x ∷ [])
-  can_send old now at out left rest x s e =
-      (s.some.0, s.some.1, puts at s.sent s.some.2, (s.so_far s.some.0 s.some.1 s.some.2 s.some.3 s.some.4).1, one_linked old now at out left rest x s e s.some.0 s.some.1 s.some.4)
+  can_send old now at out left rest x s e = (
+    s.some.0,
+    s.some.1,
+    puts at s.sent s.some.2,
+    (s.so_far s.some.0 s.some.1 s.some.2 s.some.3 s.some.4).1,
+    one_linked old now at out left rest x s e
+        s.some.0 s.some.1 s.some.4,
+  )
 
   pub sends_on : (old now new : N) (at : Site) (out left rest : List (Site × Msg)) (x : Site × Msg) → Sending stands old now at out left → left ≡ x ∷ rest
-      → ((tms dms : ℕ) (calls : List (Call Msg)) → stands now tms dms calls → AreLinked tms dms at (x ∷ []) → (puts_past calls at (x ∷ []) ≡ false) × stands new tms dms (puts at (x ∷ []) calls))
+      → ((tms dms : ℕ) (calls : List (Call Msg)) → stands now tms dms calls → AreLinked tms dms at (x ∷ [])
+      → (puts_past calls at (x ∷ []) ≡ false) × stands new tms dms (puts at (x ∷ []) calls))
       → Sending stands old new at out rest
   sends_on old now new at out left rest x s e f = record {
     sent = s.sent ++ x ∷ [];
@@ -58,7 +66,8 @@ module _ {N : Type 0} (stands : N → ℕ → ℕ → List (Call Msg) → Type 0
       → (tms dms : ℕ) (calls : List (Call Msg)) → stands old tms dms calls → AreLinked tms dms at out → puts_past calls at out ≡ true
   sends_past old now at out left rest x s e f tms dms calls h k =
       let a = s.so_far tms dms calls h k in
-      let b : puts_past (puts at s.sent calls) at (x ∷ []) ≡ true = f tms dms (puts at s.sent calls) a.1 (one_linked old now at out left rest x s e tms dms k) in
+      let b : puts_past (puts at s.sent calls) at (x ∷ []) ≡ true =
+      f tms dms (puts at s.sent calls) a.1 (one_linked old now at out left rest x s e tms dms k) in
       let parts : out ≡ (s.sent ++ x ∷ []) ++ rest = s.parts ∙ ap (λ l. s.sent ++ l) e ∙ sym (append_assoc s.sent (x ∷ []) rest) in
       ap (λ l. puts_past calls at l) parts ∙ puts_past-append at (s.sent ++ x ∷ []) rest calls
       ∙ or_past (puts_past calls at (s.sent ++ x ∷ [])) (puts_past (puts at (s.sent ++ x ∷ []) calls) at rest)
@@ -66,7 +75,8 @@ module _ {N : Type 0} (stands : N → ℕ → ℕ → List (Call Msg) → Type 0
 
   -- all is sent
   pub sent_all : (old now : N) (at : Site) (out left : List (Site × Msg)) → Sending stands old now at out left → left ≡ []
-      → (tms dms : ℕ) (calls : List (Call Msg)) → stands old tms dms calls → AreLinked tms dms at out → (puts_past calls at out ≡ false) × stands now tms dms (puts at out calls)
+      → (tms dms : ℕ) (calls : List (Call Msg)) → stands old tms dms calls → AreLinked tms dms at out
+      → (puts_past calls at out ≡ false) × stands now tms dms (puts at out calls)
   sent_all old now at out left s e tms dms calls h k =
       let a = s.so_far tms dms calls h k in
       let same : out ≡ s.sent = s.parts ∙ ap (λ l. s.sent ++ l) e ∙ append-nil s.sent in

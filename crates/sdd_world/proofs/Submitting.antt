@@ -46,11 +46,15 @@ read_at (z ∷ xs) zero x y e h = ap (λ v. Some v) (sym h)
 read_at (z ∷ xs) (suc i) x y e h = read_at xs i x y e h
 
 spool_submitted : (g : Given) (n : TxnNo) (log : Log) (boxes : List (Mailbox Msg)) → Spooled g log boxes U → Spooled g (submitted g n log) boxes U
-spool_submitted g n log boxes s = spooled_on g log (submitted g n log) boxes U (λ d. refl) (λ d apart x rest r. record { count = r.count; messages = r.messages }) s
+spool_submitted g n log boxes s = spooled_on g log (submitted g n log) boxes U (λ d. refl)
+    (λ d apart x rest r. record { count = r.count; messages = r.messages }) s
 
-module _ {C S N : Type 0} (cat : C → Catalogue) (stands_s : S → Site → Setting → site.Log → Type 0) (stands_n : N → ℕ → ℕ → List (Call Msg) → Type 0) (Good : Given → Type 0)
-    (fits : Site → Setting → Bases → site.Log → Site → Msg → Type 0) (fits_submit : Site → Setting → Bases → site.Log → ℕ → Txn → Type 0) (fits_tick : Site → Setting → site.Log → ℕ → Type 0)
-    (facts : Facts Good fits fits_submit fits_tick) (w : World C S N) (g : Given) (log : Log) (n : TxnNo) (m : Marked cat stands_s stands_n Good w g log (Submit n)) where
+module _ {C S N : Type 0} (cat : C → Catalogue) (stands_s : S → Site → Setting → site.Log → Type 0)
+    (stands_n : N → ℕ → ℕ → List (Call Msg) → Type 0) (Good : Given → Type 0)
+    (fits : Site → Setting → Bases → site.Log → Site → Msg → Type 0) (fits_submit : Site → Setting → Bases
+    → site.Log → ℕ → Txn → Type 0) (fits_tick : Site → Setting → site.Log → ℕ → Type 0)
+    (facts : Facts Good fits fits_submit fits_tick) (w : World C S N) (g : Given) (log : Log) (n : TxnNo)
+    (m : Marked cat stands_s stands_n Good w g log (Submit n)) where
   abbrev home : Site
   home = home_in g n log
 
@@ -82,12 +86,14 @@ module _ {C S N : Type 0} (cat : C → Catalogue) (stands_s : S → Site → Set
         ∙ ap (λ o. home_of (force_at g (redeclares log)).catalogue o) (sym is)
 
     submit_fits : fits_submit home (setting_of g home) (base_of g submitted_log) (local_of g home log) n.0 txn
-    submit_fits = facts.submit g m.parts.good (Mark (Submit n) ∷ log) home n.0 txn lawful_here (mark_within log (Submit n) m.marked.few, m.marked.rests.within) refl is
+    submit_fits = facts.submit g m.parts.good (Mark (Submit n) ∷ log) home n.0 txn lawful_here
+        (mark_within log (Submit n) m.marked.few, m.marked.rests.within) refl is
 
     submit_stands : stands_s w.sites home (setting_of g home) (local_of g home log)
     submit_stands = m.parts.sites home home_here
 
-    pub submit_asks : (at : Site) → at ≡ home → (setting : Setting) × (bases : Bases) × (l : site.Log) × stands_s w.sites at setting l × fits_submit at setting bases l n.0 txn
+    pub submit_asks : (at : Site) → at ≡ home → (setting : Setting) × (bases : Bases) × (l : site.Log)
+        × stands_s w.sites at setting l × fits_submit at setting bases l n.0 txn
     submit_asks at e =
         subst (λ z. (setting : Setting) × (bases : Bases) × (l : site.Log) × stands_s w.sites z setting l × fits_submit z setting bases l n.0 txn) (sym e)
         (setting_of g home, base_of g submitted_log, local_of g home log, submit_stands, submit_fits)
@@ -102,7 +108,8 @@ module _ {C S N : Type 0} (cat : C → Catalogue) (stands_s : S → Site → Set
 
     abbrev pub SubmitLaw : S → Site → Outcome → Type 0
     SubmitLaw s at outcome = (setting : Setting) (bases : Bases) (l : site.Log) → stands_s w.sites at setting l → fits_submit at setting bases l n.0 txn
-        → (recs : List Rec) × (outcome.recs ≡ Submission n ∷ recs) × site.Does (next_of at setting bases) (Submits n.0 txn ∷ l) recs outcome.out (stands_s s at setting)
+        → (recs : List Rec) × (outcome.recs ≡ Submission n ∷ recs) × site.Does (next_of at setting bases)
+        (Submits n.0 txn ∷ l) recs outcome.out (stands_s s at setting)
 
     pub taken : (s : S) (at : Site) (outcome : Outcome) → at ≡ home → SubmitLaw s at outcome → Taken s outcome
     taken s at outcome e law =
@@ -121,7 +128,8 @@ module _ {C S N : Type 0} (cat : C → Catalogue) (stands_s : S → Site → Set
 
     linked_out : (s : S) (outcome : Outcome) → Taken s outcome → AreLinked g.catalogue.tms g.catalogue.dms home outcome.out
     linked_out s outcome t =
-        rw t.sends_are (are_linked g home (sends_of t.acts) (linked_acts g home t.acts submitted_log (λ l act k e. facts.sends g m.parts.good l home act k e) (acts_lawful_here s outcome t)))
+        rw t.sends_are (are_linked g home (sends_of t.acts) (linked_acts g home t.acts submitted_log
+        (λ l act k e. facts.sends g m.parts.good l home act k e) (acts_lawful_here s outcome t)))
 
     -- it may be sent
     pub may_send : (s : S) (at : Site) (outcome : Outcome) → at ≡ home → Taken s outcome → MaySend stands_n (record w { sites = s }) at outcome
@@ -138,7 +146,8 @@ module _ {C S N : Type 0} (cat : C → Catalogue) (stands_s : S → Site → Set
     submit_ends s at outcome e t past =
         ends_in_acts g home t.acts submitted_log
         (ap (λ o. puts_past (calls_of log) home o) (sym t.sends_are)
-        ∙ subst (λ z. IsPast stands_n (record w { sites = s }) z outcome) e past g.catalogue.tms g.catalogue.dms (calls_of log) m.parts.net (linked_out s outcome t))
+        ∙ subst (λ z. IsPast stands_n (record w { sites = s }) z outcome) e past g.catalogue.tms
+        g.catalogue.dms (calls_of log) m.parts.net (linked_out s outcome t))
         (submitted_within g n log m.marked) (acts_lawful_here s outcome t)
 
     done_sites : (s : S) (outcome : Outcome) → (t : Taken s outcome)
@@ -147,7 +156,9 @@ module _ {C S N : Type 0} (cat : C → Catalogue) (stands_s : S → Site → Set
     done_sites s outcome t others x here =
         elim (same_site x home) as (λ c. same_site x home ≡ c → stands_s s x (setting_of g x) (local_of g x (after_acts home t.acts submitted_log))) [
           | true ↦ λ p. here_at x home (same_is x home p) (λ z. stands_s s z (setting_of g z) (local_of g z (after_acts home t.acts submitted_log)))
-              (at_log (stands_s s home (setting_of g home)) (local_of g home (after_acts home t.acts submitted_log)) (log_after t.acts (Submits n.0 txn ∷ local_of g home log))
+              (at_log (stands_s s home (setting_of g home))
+              (local_of g home (after_acts home t.acts submitted_log))
+              (log_after t.acts (Submits n.0 txn ∷ local_of g home log))
               (own_acts g home t.acts submitted_log ∙ ap (λ l. log_after t.acts l) (submitted_local g n log m.marked txn is)) t.after)
           | false ↦ λ p. at_log (stands_s s x (setting_of g x)) (local_of g x (after_acts home t.acts submitted_log)) (local_of g x log)
               (other_acts g x home t.acts submitted_log p ∙ other_local g x home n.0 (Mark (Submit n) ∷ log) p)
@@ -162,21 +173,28 @@ module _ {C S N : Type 0} (cat : C → Catalogue) (stands_s : S → Site → Set
         → Followed stands_n (record w { sites = s }) w2 at outcome → Happened cat stands_s stands_n Good w2 g log
     submit_done s w2 at outcome e t others_at followed_at =
         let others : OthersLaw s home = subst (λ z. OthersLaw s z) e others_at in
-        let f : Followed stands_n (record w { sites = s }) w2 home outcome = subst (λ z. Followed stands_n (record w { sites = s }) w2 z outcome) e followed_at in
+        let f : Followed stands_n (record w { sites = s }) w2 home outcome =
+        subst (λ z. Followed stands_n (record w { sites = s }) w2 z outcome) e followed_at in
         let sent_all = f.net g.catalogue.tms g.catalogue.dms (calls_of log) m.parts.net (linked_out s outcome t) in
-        let calls : calls_of (after_acts home t.acts submitted_log) ≡ puts home outcome.out (calls_of log) = calls_acts home t.acts submitted_log ∙ ap (λ o. puts home o (calls_of log)) (sym t.sends_are) in
+        let calls : calls_of (after_acts home t.acts submitted_log) ≡ puts home outcome.out (calls_of log) =
+        calls_acts home t.acts submitted_log ∙ ap (λ o. puts home o (calls_of log)) (sym t.sends_are) in
         happened cat stands_s stands_n Good w w2 g log (Submit n) (after_acts home t.acts submitted_log) m
         (record { catalogue = f.catalogue; txns = f.txns; given = f.given; marks = f.marks })
         (record {
-          rests = submits_and_acts g n log m.marked txn t.acts is (listed g.catalogue.tms g.catalogue.dms home home_here) t.due (ap (λ o. puts_past (calls_of log) home o) (sym t.sends_are) ∙ sent_all.0);
+          rests = submits_and_acts g n log m.marked txn t.acts is
+              (listed g.catalogue.tms g.catalogue.dms home home_here) t.due
+              (ap (λ o. puts_past (calls_of log) home o) (sym t.sends_are) ∙ sent_all.0);
           marks_is = marks_acts home t.acts submitted_log;
           left_is = left_acts g.events home t.acts submitted_log;
           redeclares_is = redeclares_acts home t.acts submitted_log;
-          history_is = f.history ∙ ap (λ r. w.history ++ map (λ x. (w.marks, x)) r) t.records_are ∙ ap (λ k. w.history ++ map (λ x. (k, x)) (Submission n ∷ records_of t.acts)) m.marks_are
+          history_is = f.history ∙ ap (λ r. w.history ++ map (λ x. (w.marks, x)) r) t.records_are
+              ∙ ap (λ k. w.history ++ map (λ x. (k, x)) (Submission n ∷ records_of t.acts)) m.marks_are
               ∙ ap (λ xs. xs ++ map (λ x. (suc (marks log), x)) (Submission n ∷ records_of t.acts)) m.parts.history_is
               ∙ sym (append_assoc (history log) ((suc (marks log), Submission n) ∷ []) (map (λ x. (suc (marks log), x)) (records_of t.acts)))
               ∙ sym (history_acts home t.acts submitted_log);
-          sites = λ x here. subst (λ z. stands_s z x (setting_of g x) (local_of g x (after_acts home t.acts submitted_log))) (sym f.sites) (done_sites s outcome t others x here);
+          sites = λ x here. subst (λ z. stands_s z x (setting_of g x)
+              (local_of g x (after_acts home t.acts submitted_log))) (sym f.sites)
+              (done_sites s outcome t others x here);
           net = subst (λ c. stands_n w2.net g.catalogue.tms g.catalogue.dms c) (sym calls) sent_all.1;
           spooled = subst (λ boxes. Spooled g (after_acts home t.acts submitted_log) boxes U) (sym f.spool)
               (spooled_acts g home t.acts submitted_log w.spool U (spool_submitted g n log w.spool m.spooled));

@@ -30,11 +30,15 @@ other_tick : (g : Given) (x : Site) (t : TmNo) (n : ℕ) (log : Log) → same_si
 other_tick g x t n log e = rw e refl
 
 spool_ticked : (g : Given) (t : TmNo) (n : ℕ) (log : Log) (boxes : List (Mailbox Msg)) → Spooled g log boxes U → Spooled g (Mark (Tick t n) ∷ log) boxes U
-spool_ticked g t n log boxes s = spooled_on g log (Mark (Tick t n) ∷ log) boxes U (λ d. refl) (λ d apart x rest r. record { count = r.count; messages = r.messages }) s
+spool_ticked g t n log boxes s = spooled_on g log (Mark (Tick t n) ∷ log) boxes U (λ d. refl)
+    (λ d apart x rest r. record { count = r.count; messages = r.messages }) s
 
-module _ {C S N : Type 0} (cat : C → Catalogue) (stands_s : S → Site → Setting → site.Log → Type 0) (stands_n : N → ℕ → ℕ → List (Call Msg) → Type 0) (Good : Given → Type 0)
-    (fits : Site → Setting → Bases → site.Log → Site → Msg → Type 0) (fits_submit : Site → Setting → Bases → site.Log → ℕ → Txn → Type 0) (fits_tick : Site → Setting → site.Log → ℕ → Type 0)
-    (facts : Facts Good fits fits_submit fits_tick) (w : World C S N) (g : Given) (log : Log) (t : TmNo) (n : ℕ) (m : Marked cat stands_s stands_n Good w g log (Tick t n)) where
+module _ {C S N : Type 0} (cat : C → Catalogue) (stands_s : S → Site → Setting → site.Log → Type 0)
+    (stands_n : N → ℕ → ℕ → List (Call Msg) → Type 0) (Good : Given → Type 0)
+    (fits : Site → Setting → Bases → site.Log → Site → Msg → Type 0) (fits_submit : Site → Setting → Bases
+    → site.Log → ℕ → Txn → Type 0) (fits_tick : Site → Setting → site.Log → ℕ → Type 0)
+    (facts : Facts Good fits fits_submit fits_tick) (w : World C S N) (g : Given) (log : Log) (t : TmNo)
+    (n : ℕ) (m : Marked cat stands_s stands_n Good w g log (Tick t n)) where
   tick_fits : fits_tick (T t) (setting_of g (T t)) (local_of g (T t) log) n
   tick_fits = facts.tick g m.parts.good log t.0 n m.marked.rests.lawful m.marked.rests.within m.marked.next_is
 
@@ -62,7 +66,8 @@ module _ {C S N : Type 0} (cat : C → Catalogue) (stands_s : S → Site → Set
       happened cat stands_s stands_n Good w (record w { sites = s }) g log (Tick t n) (Mark (Tick t n) ∷ log) m
       (record { catalogue = refl; txns = refl; given = refl; marks = refl })
       (record {
-        rests = rests_marked g log (Tick t n) m.marked (ticked_none g log t n m.marked.rests.no_site) refl (handed_still log (Tick t n) tt (λ a b. refl) m.marked.rests.handed_all);
+        rests = rests_marked g log (Tick t n) m.marked (ticked_none g log t n m.marked.rests.no_site) refl
+            (handed_still log (Tick t n) tt (λ a b. refl) m.marked.rests.handed_all);
         marks_is = refl;
         left_is = refl;
         redeclares_is = refl;

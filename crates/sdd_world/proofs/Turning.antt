@@ -39,7 +39,11 @@ use Rattle.sdd_step.proofs.Turning.{comes_up, goes_down, is_down_already, isnt_d
 -- the mailboxes as a module turns
 
 other_downs : (e d : ℕ) (b down : Bool) → e ≢ d → (if d == e then b else down) ≡ down
-other_downs e d b down n = elim (d == e) as (λ c. (d == e) ≡ c → (if c then b else down) ≡ down) [ true ↦ λ p. absurd (n (sym (eqb-true d e p))) | false ↦ λ p. refl ] refl
+other_downs e d b down n = elim (d == e) as (λ c. (d == e) ≡ c → (if c then b else down) ≡ down) [
+  | true ↦
+      λ p. absurd (n (sym (eqb-true d e p)))
+  | false ↦ λ p. refl
+] refl
 
 own_down : (d : ℕ) (log : Log) → is_down d (Mark (Down (dm_no d)) ∷ log) ≡ true
 own_down d log = rw (eq-eqb d d refl) refl
@@ -50,7 +54,9 @@ own_up d log = rw (eq-eqb d d refl) refl
 apart_of : (e d : ℕ) → same_site (D (dm_no e)) (D (dm_no d)) ≡ false → e ≢ d
 apart_of e d f = λ p. (let t : same_site (D (dm_no e)) (D (dm_no d)) ≡ true = eq-eqb e d p in let no : true ≡ false = sym t ∙ f in cc)
 
-still_box : (g : Given) (log more : Log) (e : ℕ) (b : Mailbox Msg) → is_down e more ≡ is_down e log → ((x : Site) (rest : List Msg) → Remain log x (D (dm_no e)) rest → Remain more x (D (dm_no e)) rest) → KeepsFor g log e b → KeepsFor g more e b
+still_box : (g : Given) (log more : Log) (e : ℕ) (b : Mailbox Msg) → is_down e more ≡ is_down e log
+    → ((x : Site) (rest : List Msg) → Remain log x (D (dm_no e)) rest → Remain more x (D (dm_no e)) rest)
+    → KeepsFor g log e b → KeepsFor g more e b
 still_box g log more e b same f k = record {
   down_is = k.down_is ∙ sym same;
   senders = k.senders;
@@ -58,7 +64,8 @@ still_box g log more e b same f k = record {
   empty = λ p x. k.empty (sym same ∙ p) x;
 }
 
-by_site : (g : Given) (more : Log) (boxes : List (Mailbox Msg)) (d : ℕ) → KeepsFor g more d (mailbox_at boxes d) → Spooled g more boxes (D (dm_no d)) → Spooled g more boxes U
+by_site : (g : Given) (more : Log) (boxes : List (Mailbox Msg)) (d : ℕ)
+    → KeepsFor g more d (mailbox_at boxes d) → Spooled g more boxes (D (dm_no d)) → Spooled g more boxes U
 by_site g more boxes d k s = record {
   count = s.count;
   each = λ e here apart.
@@ -69,7 +76,9 @@ by_site g more boxes d k s = record {
 }
 
 -- the mailbox of the module that turns changes alone
-turned_others : (g : Given) (log more : Log) (old new : List (Mailbox Msg)) (d : ℕ) → ((e : ℕ) → e ≢ d → is_down e more ≡ is_down e log) → ((e : ℕ) (x : Site) (rest : List Msg) → Remain log x (D (dm_no e)) rest → Remain more x (D (dm_no e)) rest)
+turned_others : (g : Given) (log more : Log) (old new : List (Mailbox Msg)) (d : ℕ)
+    → ((e : ℕ) → e ≢ d → is_down e more ≡ is_down e log) → ((e : ℕ) (x : Site) (rest : List Msg)
+    → Remain log x (D (dm_no e)) rest → Remain more x (D (dm_no e)) rest)
     → length new ≡ length old → OnlyAt old new d → Spooled g log old U → Spooled g more new (D (dm_no d))
 turned_others g log more old new d downs remains count only s = record {
   count = count ∙ s.count;
@@ -79,7 +88,8 @@ turned_others g log more old new d downs remains count only s = record {
 }
 
 down_spool : (g : Given) (log : Log) (old new : List (Mailbox Msg)) (d : DmNo) → IsSiteOf g (D d) → is_down d.0 log ≡ false → AllHanded log
-    → mailbox_at new d.0 ≡ record (mailbox_at old d.0) { down = true } → length new ≡ length old → OnlyAt old new d.0 → Spooled g log old U → Spooled g (Mark (Down d) ∷ log) new U
+    → mailbox_at new d.0 ≡ record (mailbox_at old d.0) { down = true } → length new ≡ length old
+    → OnlyAt old new d.0 → Spooled g log old U → Spooled g (Mark (Down d) ∷ log) new U
 down_spool g log old new d here up all box count only s =
     let k : KeepsFor g log d.0 (mailbox_at old d.0) = s.each d.0 here refl in
     by_site g (Mark (Down d) ∷ log) new d.0
@@ -88,22 +98,42 @@ down_spool g log old new d here up all box count only s =
       senders = ap (λ b. length b.queues) box ∙ k.senders;
       kept = λ p x.
           let none : kept_from (mailbox_at new d.0) x ≡ [] = ap (λ b. kept_from b x) box ∙ k.empty up x in
-          subst (λ z. Remain (Mark (Down d) ∷ log) x (D (dm_no d.0)) z) (sym none) (let r = none_remains log x (D (dm_no d.0)) (all x (D (dm_no d.0)) (ap not up)) in record { count = r.count; messages = r.messages });
+          subst (λ z. Remain (Mark (Down d) ∷ log) x (D (dm_no d.0)) z) (sym none) (let r =
+          none_remains log x (D (dm_no d.0)) (all x (D (dm_no d.0)) (ap not up)) in record {
+            count =
+                r.count;
+            messages = r.messages;
+          });
       empty = λ p x. (let no : true ≡ false = sym (own_down d.0 log) ∙ p in cc);
     })
-    (turned_others g log (Mark (Down d) ∷ log) old new d.0 (λ e n. other_downs e d.0 true (is_down e log) n) (λ e x rest r. record { count = r.count; messages = r.messages }) count only s)
+    (turned_others g log (Mark (Down d) ∷ log) old new d.0 (λ e n. other_downs e d.0 true (is_down e log) n)
+    (λ e x rest r. record { count = r.count; messages = r.messages }) count only s)
 
-turn_same : (g : Given) (log more : Log) (boxes new : List (Mailbox Msg)) (d : DmNo) → IsSiteOf g (D d) → ((e : ℕ) → is_down e more ≡ is_down e log) → ((e : ℕ) (x : Site) (rest : List Msg) → Remain log x (D (dm_no e)) rest → Remain more x (D (dm_no e)) rest)
+turn_same : (g : Given) (log more : Log) (boxes new : List (Mailbox Msg)) (d : DmNo) → IsSiteOf g (D d)
+    → ((e : ℕ) → is_down e more ≡ is_down e log) → ((e : ℕ) (x : Site) (rest : List Msg)
+    → Remain log x (D (dm_no e)) rest → Remain more x (D (dm_no e)) rest)
     → mailbox_at new d.0 ≡ mailbox_at boxes d.0 → length new ≡ length boxes → OnlyAt boxes new d.0 → Spooled g log boxes U → Spooled g more new U
 turn_same g log more boxes new d here downs remains box count only s =
-    by_site g more new d.0 (subst (λ b. KeepsFor g more d.0 b) (sym box) (still_box g log more d.0 (mailbox_at boxes d.0) (downs d.0) (λ x rest r. remains d.0 x rest r) (s.each d.0 here refl)))
+    by_site g more new d.0 (subst (λ b. KeepsFor g more d.0 b) (sym box)
+    (still_box g log more d.0 (mailbox_at boxes d.0) (downs d.0) (λ x rest r. remains d.0 x rest r)
+    (s.each d.0 here refl)))
     (turned_others g log more boxes new d.0 (λ e n. downs e) remains count only s)
 
 again_down : (e : ℕ) (d : DmNo) (log : Log) → is_down d.0 log ≡ true → is_down e (Mark (Down d) ∷ log) ≡ is_down e log
-again_down e d log p = elim (d.0 == e) as (λ c. (d.0 == e) ≡ c → (if c then true else is_down e log) ≡ is_down e log) [ true ↦ λ q. (let s : d.0 ≡ e = eqb-true d.0 e q in sym (subst (λ z. is_down z log ≡ true) s p)) | false ↦ λ q. refl ] refl
+again_down e d log p = elim (d.0 == e) as (λ c. (d.0 == e) ≡ c
+    → (if c then true else is_down e log) ≡ is_down e log) [
+      | true ↦ λ q. (let s : d.0 ≡ e =
+          eqb-true d.0 e q in sym (subst (λ z. is_down z log ≡ true) s p))
+      | false ↦ λ q. refl
+    ] refl
 
 again_up : (e : ℕ) (d : DmNo) (log : Log) → is_down d.0 log ≡ false → is_down e (Mark (Up d) ∷ log) ≡ is_down e log
-again_up e d log p = elim (d.0 == e) as (λ c. (d.0 == e) ≡ c → (if c then false else is_down e log) ≡ is_down e log) [ true ↦ λ q. (let s : d.0 ≡ e = eqb-true d.0 e q in sym (subst (λ z. is_down z log ≡ false) s p)) | false ↦ λ q. refl ] refl
+again_up e d log p = elim (d.0 == e) as (λ c. (d.0 == e) ≡ c
+    → (if c then false else is_down e log) ≡ is_down e log) [
+      | true ↦ λ q. (let s : d.0 ≡ e =
+          eqb-true d.0 e q in sym (subst (λ z. is_down z log ≡ false) s p))
+      | false ↦ λ q. refl
+    ] refl
 
 same_box : (b : Mailbox Msg) (down : Bool) → b.down ≡ down → record b { down = down } ≡ b
 same_box b down e = ap (λ z. record b { down = z }) (sym e)
@@ -116,32 +146,48 @@ not_true : (b : Bool) → not b ≡ true → b ≡ false
 not_true true e = cc
 not_true false e = refl
 
-module _ {C S N : Type 0} (cat : C → Catalogue) (stands_s : S → Site → Setting → site.Log → Type 0) (stands_n : N → ℕ → ℕ → List (Call Msg) → Type 0) (Good : Given → Type 0) where
+module _ {C S N : Type 0} (cat : C → Catalogue) (stands_s : S → Site → Setting → site.Log → Type 0)
+    (stands_n : N → ℕ → ℕ → List (Call Msg) → Type 0) (Good : Given → Type 0) where
   abbrev pub SpoolTurns : List (Mailbox Msg) → List (Mailbox Msg) → ℕ → Bool → Type 0
   SpoolTurns old new d down = (mailbox_at new d ≡ record (mailbox_at old d) { down = down }) × (length new ≡ length old) × OnlyAt old new d
 
-  box_down : (w : World C S N) (g : Given) (log : Log) (e : Event) (d : DmNo) → Marked cat stands_s stands_n Good w g log e → IsSiteOf g (D d) → (mailbox_at w.spool d.0).down ≡ is_down d.0 log
+  box_down : (w : World C S N) (g : Given) (log : Log) (e : Event) (d : DmNo)
+      → Marked cat stands_s stands_n Good w g log e → IsSiteOf g (D d)
+      → (mailbox_at w.spool d.0).down ≡ is_down d.0 log
   box_down w g log e d m here = (m.spooled.each d.0 here refl).down_is
 
-  same_note : (w w1 w2 : World C S N) → w1 ≡ record w { spool = w1.spool } → w2 ≡ record w1 { history = w2.history } → w2 ≡ record w { net = w2.net; history = w2.history; spool = w2.spool }
+  same_note : (w w1 w2 : World C S N) → w1 ≡ record w { spool = w1.spool } → w2 ≡ record w1 {
+    history =
+        w2.history;
+  } → w2 ≡ record w { net = w2.net; history = w2.history; spool = w2.spool }
   same_note w w1 w2 one two =
       two ∙ ap (λ (v : World C S N). record v { history = w2.history }) one
       ∙ ap (λ z. record w { net = z; history = w2.history; spool = w1.spool }) (sym (ap (λ v. v.net) two ∙ ap (λ v. v.net) one))
       ∙ ap (λ z. record w { net = w2.net; history = w2.history; spool = z }) (sym (ap (λ v. v.spool) two))
 
-  pub noted_too : (w w1 w2 : World C S N) → w1 ≡ record w { spool = w1.spool } → w2.history ≡ w1.history ++ (w1.marks, Noted) ∷ [] → w2.history ≡ w.history ++ (w.marks, Noted) ∷ []
+  pub noted_too : (w w1 w2 : World C S N) → w1 ≡ record w { spool = w1.spool }
+      → w2.history ≡ w1.history ++ (w1.marks, Noted) ∷ [] → w2.history ≡ w.history ++ (w.marks, Noted) ∷ []
   noted_too w w1 w2 one note = note ∙ ap (λ v. v.history ++ (v.marks, Noted) ∷ []) one
 
-  turned_noted : (w w1 w2 : World C S N) (g : Given) (log : Log) (e : Event) (d : DmNo) → Marked cat stands_s stands_n Good w g log e → IsSiteOf g (D d) → IsNoTick e → Rests g (Notes ∷ Mark e ∷ log) → ((k : ℕ) → is_down k (Mark e ∷ log) ≡ is_down k log)
-      → mailbox_at w1.spool d.0 ≡ mailbox_at w.spool d.0 → ((x y : Site) (rest : List Msg) → Remain log x y rest → Remain (Mark e ∷ log) x y rest) → calls_of (Mark e ∷ log) ≡ calls_of log
-      → length w1.spool ≡ length w.spool → OnlyAt w.spool w1.spool d.0 → w1 ≡ record w { spool = w1.spool } → w2 ≡ record w1 { history = w2.history } → w2.history ≡ w1.history ++ (w1.marks, Noted) ∷ [] → Happened cat stands_s stands_n Good w2 g log
+  turned_noted : (w w1 w2 : World C S N) (g : Given) (log : Log) (e : Event) (d : DmNo)
+      → Marked cat stands_s stands_n Good w g log e → IsSiteOf g (D d) → IsNoTick e
+      → Rests g (Notes ∷ Mark e ∷ log) → ((k : ℕ) → is_down k (Mark e ∷ log) ≡ is_down k log)
+      → mailbox_at w1.spool d.0 ≡ mailbox_at w.spool d.0 → ((x y : Site) (rest : List Msg)
+      → Remain log x y rest → Remain (Mark e ∷ log) x y rest) → calls_of (Mark e ∷ log) ≡ calls_of log
+      → length w1.spool ≡ length w.spool → OnlyAt w.spool w1.spool d.0 → w1 ≡ record w { spool = w1.spool }
+      → w2 ≡ record w1 { history = w2.history } → w2.history ≡ w1.history ++ (w1.marks, Noted) ∷ []
+      → Happened cat stands_s stands_n Good w2 g log
   turned_noted w w1 w2 g log e d m here i r downs box remains calls count only one two note =
       marked_noted cat stands_s stands_n Good w w2 g log e m i r (same_note w w1 w2 one two) (noted_too w w1 w2 one note)
-      (subst (λ c. stands_n w2.net g.catalogue.tms g.catalogue.dms c) (sym calls) (subst (λ z. stands_n z g.catalogue.tms g.catalogue.dms (calls_of log)) (sym (ap (λ v. v.net) two ∙ ap (λ v. v.net) one)) m.parts.net))
+      (subst (λ c. stands_n w2.net g.catalogue.tms g.catalogue.dms c) (sym calls)
+      (subst (λ z. stands_n z g.catalogue.tms g.catalogue.dms (calls_of log))
+      (sym (ap (λ v. v.net) two ∙ ap (λ v. v.net) one)) m.parts.net))
       (subst (λ z. Spooled g (Mark e ∷ log) z U) (sym (ap (λ v. v.spool) two))
       (turn_same g log (Mark e ∷ log) w.spool w1.spool d here downs (λ k x rest s. remains x (D (dm_no k)) rest s) box count only m.spooled))
 
-  pub went_down : (w w2 : World C S N) (g : Given) (log : Log) (d : DmNo) (turned : Bool) → Marked cat stands_s stands_n Good w g log (Down d) → turned ≡ not (mailbox_at w.spool d.0).down → SpoolTurns w.spool w2.spool d.0 true
+  pub went_down : (w w2 : World C S N) (g : Given) (log : Log) (d : DmNo) (turned : Bool)
+      → Marked cat stands_s stands_n Good w g log (Down d) → turned ≡ not (mailbox_at w.spool d.0).down
+      → SpoolTurns w.spool w2.spool d.0 true
       → turned ≡ true → w2 ≡ record w { spool = w2.spool } → Happened cat stands_s stands_n Good w2 g log
   went_down w w2 g log d turned m t s e same =
       let up : is_down d.0 log ≡ false = sym (box_down w g log (Down d) d m m.possible) ∙ not_true (mailbox_at w.spool d.0).down (sym t ∙ e) in
@@ -150,21 +196,41 @@ module _ {C S N : Type 0} (cat : C → Catalogue) (stands_s : S → Site → Set
       (subst (λ z. stands_n z g.catalogue.tms g.catalogue.dms (calls_of log)) (sym (ap (λ v. v.net) same)) m.parts.net)
       (down_spool g log w.spool w2.spool d m.possible up m.marked.rests.handed_all s.0 s.1 s.2 m.spooled)
 
-  pub was_down : (w w1 w2 : World C S N) (g : Given) (log : Log) (d : DmNo) (turned : Bool) → Marked cat stands_s stands_n Good w g log (Down d) → turned ≡ not (mailbox_at w.spool d.0).down → SpoolTurns w.spool w1.spool d.0 true
-      → turned ≡ false → w1 ≡ record w { spool = w1.spool } → w2 ≡ record w1 { history = w2.history } → w2.history ≡ w1.history ++ (w1.marks, Noted) ∷ [] → Happened cat stands_s stands_n Good w2 g log
+  pub was_down : (w w1 w2 : World C S N) (g : Given) (log : Log) (d : DmNo) (turned : Bool)
+      → Marked cat stands_s stands_n Good w g log (Down d) → turned ≡ not (mailbox_at w.spool d.0).down
+      → SpoolTurns w.spool w1.spool d.0 true
+      → turned ≡ false → w1 ≡ record w { spool = w1.spool } → w2 ≡ record w1 { history = w2.history }
+      → w2.history ≡ w1.history ++ (w1.marks, Noted) ∷ [] → Happened cat stands_s stands_n Good w2 g log
   was_down w w1 w2 g log d turned m t s e one two note =
       let down : is_down d.0 log ≡ true = sym (box_down w g log (Down d) d m m.possible) ∙ not_false (mailbox_at w.spool d.0).down (sym t ∙ e) in
-      let box : mailbox_at w1.spool d.0 ≡ mailbox_at w.spool d.0 = s.0 ∙ same_box (mailbox_at w.spool d.0) true (not_false (mailbox_at w.spool d.0).down (sym t ∙ e)) in
-      turned_noted w w1 w2 g log (Down d) d m m.possible tt (is_down_already g d log m.marked down) (λ k. again_down k d log down) box (λ x y rest q. record { count = q.count; messages = q.messages }) refl s.1 s.2 one two note
+      let box : mailbox_at w1.spool d.0 ≡ mailbox_at w.spool d.0 =
+      s.0 ∙ same_box (mailbox_at w.spool d.0) true (not_false (mailbox_at w.spool d.0).down (sym t ∙ e))
+      in
+      turned_noted w w1 w2 g log (Down d) d m m.possible tt (is_down_already g d log m.marked down)
+      (λ k. again_down k d log down) box (λ x y rest q. record {
+        count = q.count;
+        messages =
+            q.messages;
+      }) refl s.1 s.2 one two note
 
-  pub wasnt_down : (w w1 w2 : World C S N) (g : Given) (log : Log) (d : DmNo) (turned : Bool) → Marked cat stands_s stands_n Good w g log (Up d) → turned ≡ (mailbox_at w.spool d.0).down → SpoolTurns w.spool w1.spool d.0 false
-      → turned ≡ false → w1 ≡ record w { spool = w1.spool } → w2 ≡ record w1 { history = w2.history } → w2.history ≡ w1.history ++ (w1.marks, Noted) ∷ [] → Happened cat stands_s stands_n Good w2 g log
+  pub wasnt_down : (w w1 w2 : World C S N) (g : Given) (log : Log) (d : DmNo) (turned : Bool)
+      → Marked cat stands_s stands_n Good w g log (Up d) → turned ≡ (mailbox_at w.spool d.0).down
+      → SpoolTurns w.spool w1.spool d.0 false
+      → turned ≡ false → w1 ≡ record w { spool = w1.spool } → w2 ≡ record w1 { history = w2.history }
+      → w2.history ≡ w1.history ++ (w1.marks, Noted) ∷ [] → Happened cat stands_s stands_n Good w2 g log
   wasnt_down w w1 w2 g log d turned m t s e one two note =
       let up : is_down d.0 log ≡ false = sym (box_down w g log (Up d) d m m.possible) ∙ sym t ∙ e in
       let box : mailbox_at w1.spool d.0 ≡ mailbox_at w.spool d.0 = s.0 ∙ same_box (mailbox_at w.spool d.0) false (sym t ∙ e) in
-      turned_noted w w1 w2 g log (Up d) d m m.possible tt (isnt_down g d log m.marked up) (λ k. again_up k d log up) box (λ x y rest q. record { count = q.count; messages = q.messages }) refl s.1 s.2 one two note
+      turned_noted w w1 w2 g log (Up d) d m m.possible tt (isnt_down g d log m.marked up)
+      (λ k. again_up k d log up) box (λ x y rest q. record {
+        count = q.count;
+        messages =
+            q.messages;
+      }) refl s.1 s.2 one two note
 
-pub boxed : (old mid new : List (Mailbox Msg)) (d : ℕ) → new ≡ mid → suc (kept_count (mailbox_at mid d)) ≡ kept_count (mailbox_at old d) → kept_count (mailbox_at new d) < kept_count (mailbox_at old d)
+pub boxed : (old mid new : List (Mailbox Msg)) (d : ℕ) → new ≡ mid
+    → suc (kept_count (mailbox_at mid d)) ≡ kept_count (mailbox_at old d)
+    → kept_count (mailbox_at new d) < kept_count (mailbox_at old d)
 boxed old mid new d e f = let s : kept_count (mailbox_at new d) ≡ kept_count (mailbox_at mid d) = ap (λ b. kept_count (mailbox_at b d)) e in omega (arith, s, f)
 
 -- the sender whose message is taken is the lowest of those of whom one is kept
@@ -191,10 +257,12 @@ t_of b n h j l u = h (T (tm_no j)) (before j n l u)
 u_of : (b : Mailbox Msg) (n : ℕ) → 1 ≤ n → IsLowest b (T (tm_no n)) → kept_from b U ≡ []
 u_of b n l h = h U (first n l)
 
-first_taken : (g : Given) (b : Mailbox Msg) (d : ℕ) (from : Site) (m : Msg) (rest : List Msg) → IsSiteOf g (D (dm_no d)) → length b.queues ≡ suc g.catalogue.tms → IsSender b from → IsLowest b from
+first_taken : (g : Given) (b : Mailbox Msg) (d : ℕ) (from : Site) (m : Msg) (rest : List Msg)
+    → IsSiteOf g (D (dm_no d)) → length b.queues ≡ suc g.catalogue.tms → IsSender b from → IsLowest b from
     → kept_from b from ≡ m ∷ rest → IsFirst g (kept_from b) from (D (dm_no d)) m rest
 first_taken g b d U m rest here e s h k = record {
-  linked = and_from true (is_site g.catalogue.tms g.catalogue.dms (D (dm_no d)) && true) refl (and_from (is_site g.catalogue.tms g.catalogue.dms (D (dm_no d))) true here refl);
+  linked = and_from true (is_site g.catalogue.tms g.catalogue.dms (D (dm_no d)) && true) refl
+      (and_from (is_site g.catalogue.tms g.catalogue.dms (D (dm_no d))) true here refl);
   before = [];
   after = _;
   parts = refl;
@@ -203,9 +271,13 @@ first_taken g b d U m rest here e s h k = record {
 }
 first_taken g b d (T n) m rest here e s h k =
     let r = t_sender n.0 (length b.queues) g.catalogue.tms s e in
-    let c : Cut (sites g.catalogue.tms g.catalogue.dms) (T (tm_no n.0)) (λ x. kept_from b x ≡ []) = cut_at_t (λ x. kept_from b x ≡ []) g.catalogue.tms g.catalogue.dms n.0 r.0 r.1 (u_of b n.0 r.0 h) (t_of b n.0 h) in
+    let c : Cut (sites g.catalogue.tms g.catalogue.dms) (T (tm_no n.0)) (λ x. kept_from b x ≡ []) =
+    cut_at_t (λ x. kept_from b x ≡ []) g.catalogue.tms g.catalogue.dms n.0 r.0 r.1 (u_of b n.0 r.0 h)
+    (t_of b n.0 h) in
     record {
-      linked = and_from (is_site g.catalogue.tms g.catalogue.dms (T n)) (is_site g.catalogue.tms g.catalogue.dms (D (dm_no d)) && true) (t_site n.0 g.catalogue.tms r.0 r.1) (and_from (is_site g.catalogue.tms g.catalogue.dms (D (dm_no d))) true here refl);
+      linked = and_from (is_site g.catalogue.tms g.catalogue.dms (T n))
+          (is_site g.catalogue.tms g.catalogue.dms (D (dm_no d)) && true) (t_site n.0 g.catalogue.tms r.0 r.1)
+          (and_from (is_site g.catalogue.tms g.catalogue.dms (D (dm_no d))) true here refl);
       before = c.before;
       after = c.after;
       parts = c.parts;
@@ -214,10 +286,14 @@ first_taken g b d (T n) m rest here e s h k =
     }
 first_taken g b d (D n) m rest here e s h k = absurd s
 
-module _ {C S N : Type 0} (cat : C → Catalogue) (stands_s : S → Site → Setting → site.Log → Type 0) (stands_n : N → ℕ → ℕ → List (Call Msg) → Type 0) (Good : Given → Type 0) where
+module _ {C S N : Type 0} (cat : C → Catalogue) (stands_s : S → Site → Setting → site.Log → Type 0)
+    (stands_n : N → ℕ → ℕ → List (Call Msg) → Type 0) (Good : Given → Type 0) where
   -- a module comes up
-  pub rises : (w w1 : World C S N) (g : Given) (log : Log) (d : DmNo) (turned : Bool) → Marked cat stands_s stands_n Good w g log (Up d) → turned ≡ (mailbox_at w.spool d.0).down → SpoolTurns cat stands_s stands_n Good w.spool w1.spool d.0 false
-      → turned ≡ true → w1 ≡ record w { spool = w1.spool } → Handing cat stands_s stands_n Good w1 g (Mark (Up d) ∷ log) (D d) (kept_from (mailbox_at w1.spool d.0)) × Rising g w1.spool d.0
+  pub rises : (w w1 : World C S N) (g : Given) (log : Log) (d : DmNo) (turned : Bool)
+      → Marked cat stands_s stands_n Good w g log (Up d) → turned ≡ (mailbox_at w.spool d.0).down
+      → SpoolTurns cat stands_s stands_n Good w.spool w1.spool d.0 false
+      → turned ≡ true → w1 ≡ record w { spool = w1.spool } → Handing cat stands_s stands_n Good w1 g
+      (Mark (Up d) ∷ log) (D d) (kept_from (mailbox_at w1.spool d.0)) × Rising g w1.spool d.0
   rises w w1 g log d turned m t s e same =
       let box : KeepsFor g log d.0 (mailbox_at w.spool d.0) = m.spooled.each d.0 m.possible refl in
       let down : is_down d.0 log ≡ true = sym box.down_is ∙ sym t ∙ e in
@@ -234,9 +310,15 @@ module _ {C S N : Type 0} (cat : C → Catalogue) (stands_s : S → Site → Set
             sites = λ x here. subst (λ z. stands_s z x (setting_of g x) (local_of g x log)) (sym (ap (λ v. v.sites) same)) (m.parts.sites x here);
             net = subst (λ z. stands_n z g.catalogue.tms g.catalogue.dms (calls_of log)) (sym (ap (λ v. v.net) same)) m.parts.net;
           };
-          waits = comes_up g d log (kept_from (mailbox_at w1.spool d.0)) m.marked down (λ x. subst (λ z. Remain log x (D (dm_no d.0)) z) (sym (kept x)) (box.kept down x));
+          waits = comes_up g d log (kept_from (mailbox_at w1.spool d.0)) m.marked down
+              (λ x. subst (λ z. Remain log x (D (dm_no d.0)) z) (sym (kept x)) (box.kept down x));
           marks_are = ap (λ v. v.marks) same ∙ m.marks_are;
-          spooled = turned_others g log (Mark (Up d) ∷ log) w.spool w1.spool d.0 (λ k n. other_downs k d.0 false (is_down k log) n) (λ k x rest r. record { count = r.count; messages = r.messages }) s.1 s.2 m.spooled;
+          spooled = turned_others g log (Mark (Up d) ∷ log) w.spool w1.spool d.0
+              (λ k n. other_downs k d.0 false (is_down k log) n) (λ k x rest r. record {
+                count =
+                    r.count;
+                messages = r.messages;
+              }) s.1 s.2 m.spooled;
         },
         record {
           here = m.possible;
@@ -247,8 +329,14 @@ module _ {C S N : Type 0} (cat : C → Catalogue) (stands_s : S → Site → Set
       )
 
   -- a message is taken out of the mailbox
-  pub taken_out : (w w1 : World C S N) (g : Given) (log : Log) (d : DmNo) (from : Site) (m : Msg) → Handing cat stands_s stands_n Good w g log (D d) (kept_from (mailbox_at w.spool d.0)) → Rising g w.spool d.0
-      → TakesFrom (mailbox_at w.spool d.0) (mailbox_at w1.spool d.0) from m → length w1.spool ≡ length w.spool → OnlyAt w.spool w1.spool d.0 → w1 ≡ record w { spool = w1.spool }
+  pub taken_out : (w w1 : World C S N) (g : Given) (log : Log) (d : DmNo) (from : Site) (m : Msg)
+      → Handing cat stands_s stands_n Good w g log (D d) (kept_from (mailbox_at w.spool d.0))
+      → Rising g w.spool d.0
+      → TakesFrom (mailbox_at w.spool d.0) (mailbox_at w1.spool d.0) from m
+      → length w1.spool ≡ length w.spool → OnlyAt w.spool w1.spool d.0 → w1 ≡ record w {
+        spool =
+            w1.spool;
+      }
       → Handing cat stands_s stands_n Good w1 g log (D d) (kept_from (mailbox_at w.spool d.0)) × Rising g w1.spool d.0
   taken_out w w1 g log d from m h r t count only same = (
     record {
@@ -267,35 +355,54 @@ module _ {C S N : Type 0} (cat : C → Catalogue) (stands_s : S → Site → Set
       marks_are = ap (λ v. v.marks) same ∙ h.marks_are;
       spooled = record {
         count = count ∙ h.spooled.count;
-        each = λ e here apart. subst (λ b. KeepsFor g log e b) (sym (only e (dm_within g (dm_no e) here).0 (apart_of e d.0 apart))) (h.spooled.each e here apart);
+        each = λ e here apart. subst (λ b. KeepsFor g log e b)
+            (sym (only e (dm_within g (dm_no e) here).0 (apart_of e d.0 apart)))
+            (h.spooled.each e here apart);
       };
     },
     record { here = r.here; count = count ∙ r.count; box_up = t.down ∙ r.box_up; senders = t.count ∙ r.senders },
   )
 
-  pub first_kept : (g : Given) (boxes : List (Mailbox Msg)) (new : List (Mailbox Msg)) (d : DmNo) (from : Site) (m : Msg) → Rising g boxes d.0 → TakesFrom (mailbox_at boxes d.0) (mailbox_at new d.0) from m → IsLowest (mailbox_at boxes d.0) from
+  pub first_kept : (g : Given) (boxes : List (Mailbox Msg)) (new : List (Mailbox Msg)) (d : DmNo)
+      (from : Site) (m : Msg) → Rising g boxes d.0 → TakesFrom (mailbox_at boxes d.0)
+      (mailbox_at new d.0) from m → IsLowest (mailbox_at boxes d.0) from
       → IsFirst g (kept_from (mailbox_at boxes d.0)) from (D d) m (kept_from (mailbox_at new d.0) from)
-  first_kept g boxes new d from m r t l = first_taken g (mailbox_at boxes d.0) d.0 from m (kept_from (mailbox_at new d.0) from) r.here r.senders t.sender l t.here
+  first_kept g boxes new d from m r t l =
+      first_taken g (mailbox_at boxes d.0) d.0 from m (kept_from (mailbox_at new d.0) from) r.here r.senders
+      t.sender l t.here
 
   pub less_kept : (boxes new : List (Mailbox Msg)) (d : DmNo) (from : Site) (m : Msg) → TakesFrom (mailbox_at boxes d.0) (mailbox_at new d.0) from m
       → Takes (kept_from (mailbox_at boxes d.0)) (kept_from (mailbox_at new d.0)) from (kept_from (mailbox_at new d.0) from)
   less_kept boxes new d from m t = record { here = refl; others = t.others }
 
   -- one message that was kept is handed over
-  pub rising_on : (w : World C S N) (boxes : List (Mailbox Msg)) (w2 : World C S N) (g : Given) (log : Log) (d : DmNo) (from : Site) (m : Msg) → Handing cat stands_s stands_n Good w g log (D d) (kept_from (mailbox_at w.spool d.0)) → Rising g w.spool d.0
-      → TakesFrom (mailbox_at w.spool d.0) (mailbox_at boxes d.0) from m → IsLowest (mailbox_at w.spool d.0) from → length boxes ≡ length w.spool → OnlyAt w.spool boxes d.0
-      → ((h : Given) (l : Log) (kept less : Site → List Msg) (rest : List Msg) → Handing cat stands_s stands_n Good (record w { spool = boxes }) h l (D d) kept → IsFirst h kept from (D d) m rest → Takes kept less from rest → HandedOn cat stands_s stands_n Good w2 h (D d) less (ahead_of h l) boxes)
-      → (more : Log) × Handing cat stands_s stands_n Good w2 g more (D d) (kept_from (mailbox_at w2.spool d.0)) × Rising g w2.spool d.0 × (ahead_of g more ≡ ahead_of g log)
+  pub rising_on : (w : World C S N) (boxes : List (Mailbox Msg)) (w2 : World C S N) (g : Given) (log : Log)
+      (d : DmNo) (from : Site) (m : Msg) → Handing cat stands_s stands_n Good w g log (D d)
+      (kept_from (mailbox_at w.spool d.0)) → Rising g w.spool d.0
+      → TakesFrom (mailbox_at w.spool d.0) (mailbox_at boxes d.0) from m
+      → IsLowest (mailbox_at w.spool d.0) from → length boxes ≡ length w.spool → OnlyAt w.spool boxes d.0
+      → ((h : Given) (l : Log) (kept less : Site → List Msg) (rest : List Msg)
+      → Handing cat stands_s stands_n Good (record w { spool = boxes }) h l (D d) kept
+      → IsFirst h kept from (D d) m rest → Takes kept less from rest
+      → HandedOn cat stands_s stands_n Good w2 h (D d) less (ahead_of h l) boxes)
+      → (more : Log) × Handing cat stands_s stands_n Good w2 g more (D d)
+      (kept_from (mailbox_at w2.spool d.0)) × Rising g w2.spool d.0 × (ahead_of g more ≡ ahead_of g log)
   rising_on w boxes w2 g log d from m h r t l count only hand =
       let o = taken_out w (record w { spool = boxes }) g log d from m h r t count only refl in
-      let k = hand g log (kept_from (mailbox_at w.spool d.0)) (kept_from (mailbox_at boxes d.0)) (kept_from (mailbox_at boxes d.0) from) o.0 (first_kept g w.spool boxes d from m r t l) (less_kept w.spool boxes d from m t) in (
+      let k = hand g log (kept_from (mailbox_at w.spool d.0)) (kept_from (mailbox_at boxes d.0))
+      (kept_from (mailbox_at boxes d.0) from) o.0 (first_kept g w.spool boxes d from m r t l)
+      (less_kept w.spool boxes d from m t) in (
         k.more,
         subst (λ b. Handing cat stands_s stands_n Good w2 g k.more (D d) (kept_from (mailbox_at b d.0))) (sym k.spool_is) k.handing,
         subst (λ b. Rising g b d.0) (sym k.spool_is) o.1,
         k.ahead_is,
       )
 
-  parts_spool : (w : World C S N) (boxes : List (Mailbox Msg)) (g : Given) (log : Log) → Parts cat stands_s stands_n Good w g log → Parts cat stands_s stands_n Good (record w { spool = boxes }) g log
+  parts_spool : (w : World C S N) (boxes : List (Mailbox Msg)) (g : Given) (log : Log)
+      → Parts cat stands_s stands_n Good w g log → Parts cat stands_s stands_n Good (record w {
+        spool =
+            boxes;
+      }) g log
   parts_spool w boxes g log p = record {
     good = p.good;
     sound = p.sound;
@@ -309,8 +416,12 @@ module _ {C S N : Type 0} (cat : C → Catalogue) (stands_s : S → Site → Set
   }
 
   -- nothing is left to be handed over
-  pub none_left : (w : World C S N) (boxes : List (Mailbox Msg)) (g : Given) (log more : Log) (d : DmNo) → Handing cat stands_s stands_n Good w g more (D d) (kept_from (mailbox_at w.spool d.0)) → Rising g w.spool d.0 → ahead_of g more ≡ ahead_of g log
-      → mailbox_at boxes d.0 ≡ mailbox_at w.spool d.0 → ((x : Site) → kept_from (mailbox_at w.spool d.0) x ≡ []) → length boxes ≡ length w.spool → OnlyAt w.spool boxes d.0 → Risen cat stands_s stands_n Good (record w { spool = boxes }) g log d.0
+  pub none_left : (w : World C S N) (boxes : List (Mailbox Msg)) (g : Given) (log more : Log) (d : DmNo)
+      → Handing cat stands_s stands_n Good w g more (D d) (kept_from (mailbox_at w.spool d.0))
+      → Rising g w.spool d.0 → ahead_of g more ≡ ahead_of g log
+      → mailbox_at boxes d.0 ≡ mailbox_at w.spool d.0
+      → ((x : Site) → kept_from (mailbox_at w.spool d.0) x ≡ []) → length boxes ≡ length w.spool
+      → OnlyAt w.spool boxes d.0 → Risen cat stands_s stands_n Good (record w { spool = boxes }) g log d.0
   none_left w boxes g log more d h r a same none count only = record {
     more = more;
     handing = record {
@@ -319,7 +430,9 @@ module _ {C S N : Type 0} (cat : C → Catalogue) (stands_s : S → Site → Set
       marks_are = h.marks_are;
       spooled = record {
         count = count ∙ h.spooled.count;
-        each = λ e here apart. subst (λ b. KeepsFor g more e b) (sym (only e (dm_within g (dm_no e) here).0 (apart_of e d.0 apart))) (h.spooled.each e here apart);
+        each = λ e here apart. subst (λ b. KeepsFor g more e b)
+            (sym (only e (dm_within g (dm_no e) here).0 (apart_of e d.0 apart)))
+            (h.spooled.each e here apart);
       };
     };
     rising = record { here = r.here; count = count ∙ r.count; box_up = ap (λ b. b.down) same ∙ r.box_up; senders = ap (λ b. length b.queues) same ∙ r.senders };
@@ -328,13 +441,24 @@ module _ {C S N : Type 0} (cat : C → Catalogue) (stands_s : S → Site → Set
   }
 
   -- once none is kept, the event is done
-  pub risen : (w w2 : World C S N) (g : Given) (log more : Log) (d : DmNo) → Marked cat stands_s stands_n Good w g log (Up d) → Handing cat stands_s stands_n Good w2 g more (D d) (kept_from (mailbox_at w2.spool d.0)) → Rising g w2.spool d.0 → ahead_of g more ≡ ahead_of g (Mark (Up d) ∷ log)
+  pub risen : (w w2 : World C S N) (g : Given) (log more : Log) (d : DmNo)
+      → Marked cat stands_s stands_n Good w g log (Up d) → Handing cat stands_s stands_n Good w2 g more (D d)
+      (kept_from (mailbox_at w2.spool d.0)) → Rising g w2.spool d.0 → ahead_of g more ≡ ahead_of g
+      (Mark (Up d) ∷ log)
       → ((x : Site) → kept_from (mailbox_at w2.spool d.0) x ≡ []) → Happened cat stands_s stands_n Good w2 g log
   risen w w2 g log more d m h r e none = record {
     more = more;
     calm = record {
       parts = h.parts;
-      rests = record { lawful = h.waits.lawful; within = h.waits.within; no_mark = h.waits.no_mark; no_site = h.waits.no_site; handed_all = all_handed g more (D d) (kept_from (mailbox_at w2.spool d.0)) h.waits none };
+      rests = record {
+        lawful = h.waits.lawful;
+        within = h.waits.within;
+        no_mark =
+            h.waits.no_mark;
+        no_site = h.waits.no_site;
+        handed_all =
+            all_handed g more (D d) (kept_from (mailbox_at w2.spool d.0)) h.waits none;
+      };
       marks_are = h.marks_are;
       spooled = by_site g more w2.spool d.0
           (let up : is_down d.0 more ≡ false = not_true (is_down d.0 more) h.waits.part in
@@ -344,5 +468,7 @@ module _ {C S N : Type 0} (cat : C → Catalogue) (stands_s : S → Site → Set
     ahead_is = e;
   }
 
-  pub came_up : (w w1 w2 : World C S N) (g : Given) (log : Log) (d : DmNo) → Marked cat stands_s stands_n Good w g log (Up d) → Risen cat stands_s stands_n Good w2 g (Mark (Up d) ∷ log) d.0 → Happened cat stands_s stands_n Good w2 g log
+  pub came_up : (w w1 w2 : World C S N) (g : Given) (log : Log) (d : DmNo)
+      → Marked cat stands_s stands_n Good w g log (Up d) → Risen cat stands_s stands_n Good w2 g
+      (Mark (Up d) ∷ log) d.0 → Happened cat stands_s stands_n Good w2 g log
   came_up w w1 w2 g log d m r = risen w w2 g log r.more d m r.handing r.rising r.ahead_is r.none

@@ -28,7 +28,8 @@ module _ {C S N : Type 0} (stands_n : N → ℕ → ℕ → List (Call Msg) → 
 
   -- there is no number for one of its messages
   abbrev pub IsPast : World C S N → Site → Outcome → Type 0
-  IsPast w at outcome = (tms dms : ℕ) (calls : List (Call Msg)) → stands_n w.net tms dms calls → AreLinked tms dms at outcome.out → puts_past calls at outcome.out ≡ true
+  IsPast w at outcome = (tms dms : ℕ) (calls : List (Call Msg)) → stands_n w.net tms dms calls
+      → AreLinked tms dms at outcome.out → puts_past calls at outcome.out ≡ true
 
 -- in the loop that sends: what was sent, and what is left
 pub record Sending {N : Type 0} (stands : N → ℕ → ℕ → List (Call Msg) → Type 0) (old now : N) (at : Site) (out left : List (Site × Msg)) : Type 0 where

@@ -36,10 +36,13 @@ pub record IsSound (g : Given) : Type 0 where
 
 -- Of all that is given so: what the modules ask of messages, transactions and ticks holds of what is next on its lawful
 -- logs, and what is put goes along links.
-pub record Facts (Good : Given → Type 0) (fits : Site → Setting → Bases → site.Log → Site → Msg → Type 0) (fits_submit : Site → Setting → Bases → site.Log → ℕ → Txn → Type 0) (fits_tick : Site → Setting → site.Log → ℕ → Type 0) : Type 0 where
+pub record Facts (Good : Given → Type 0) (fits : Site → Setting → Bases → site.Log → Site → Msg → Type 0)
+    (fits_submit : Site → Setting → Bases → site.Log → ℕ → Txn → Type 0) (fits_tick : Site → Setting
+    → site.Log → ℕ → Type 0) : Type 0 where
   pub hand : (g : Given) → Good g → (log : Log) (a b : Site) (n : ℕ) (m : Msg) → IsLawful g log → IsWithin log → next g log ≡ Some (Hand a b n m)
       → fits b (setting_of g b) (base_of g (Hand a b n m ∷ log)) (local_of g b log) a m
-  pub submit : (g : Given) → Good g → (log : Log) (at : Site) (n : ℕ) (txn : Txn) → IsLawful g log → IsWithin log → next g log ≡ Some (Submitted at n) → txn_at g n ≡ Some txn
+  pub submit : (g : Given) → Good g → (log : Log) (at : Site) (n : ℕ) (txn : Txn) → IsLawful g log
+      → IsWithin log → next g log ≡ Some (Submitted at n) → txn_at g n ≡ Some txn
       → fits_submit at (setting_of g at) (base_of g (Submitted at n ∷ log)) (local_of g at log) n txn
   pub home : (g : Given) → Good g → (log : Log) (at : Site) (n : ℕ) → IsLawful g log → next g log ≡ Some (Submitted at n) → IsSiteOf g at
   pub tick : (g : Given) → Good g → (log : Log) (t n : ℕ) → IsLawful g log → IsWithin log → next g log ≡ Some (Mark (Tick (tm_no t) n))
@@ -75,7 +78,8 @@ pub record Rising (g : Given) (boxes : List (Mailbox Msg)) (d : ℕ) : Type 0 wh
   pub box_up : (mailbox_at boxes d).down ≡ false
   pub senders : length (mailbox_at boxes d).queues ≡ suc g.catalogue.tms
 
-module _ {C S N : Type 0} (cat : C → Catalogue) (stands_s : S → Site → Setting → site.Log → Type 0) (stands_n : N → ℕ → ℕ → List (Call Msg) → Type 0) (Good : Given → Type 0) where
+module _ {C S N : Type 0} (cat : C → Catalogue) (stands_s : S → Site → Setting → site.Log → Type 0)
+    (stands_n : N → ℕ → ℕ → List (Call Msg) → Type 0) (Good : Given → Type 0) where
   -- the parts of a world stand for a log
   pub record Parts (w : World C S N) (g : Given) (log : Log) : Type 0 where
     pub good : Good g
@@ -130,7 +134,8 @@ after_event g log = record { rest = after_mark (left g.events log); number = suc
 abbrev pub EndsBy : Given → Type 0
 EndsBy g = (more : Log) × EndsByLimit g more
 
-module _ {C S N : Type 0} (cat : C → Catalogue) (stands_s : S → Site → Setting → site.Log → Type 0) (stands_n : N → ℕ → ℕ → List (Call Msg) → Type 0) (Good : Given → Type 0) where
+module _ {C S N : Type 0} (cat : C → Catalogue) (stands_s : S → Site → Setting → site.Log → Type 0)
+    (stands_n : N → ℕ → ℕ → List (Call Msg) → Type 0) (Good : Given → Type 0) where
   -- an event was carried out from the log: no more of it is due
   pub record Happened (w : World C S N) (g : Given) (log : Log) : Type 0 where
     pub more : Log

@@ -9,5 +9,6 @@ returns-then-seed-clause-none c = λ s n small few seed count.
 
 pub returns-then-count-gt2048-clause-none : goal.returns-then-count-gt2048-clause-none
 returns-then-count-gt2048-clause-none c = λ s n small few seed count.
-    let same : n ≡ c.in-Some-read_count.count = decimal_injective n c.in-Some-read_count.count (omega arith) (omega arith) (sym count ∙ c.in-Some-read_count.ensures.found) in
+    let same : n ≡ c.in-Some-read_count.count = decimal_injective n c.in-Some-read_count.count (omega arith)
+    (omega arith) (sym count ∙ c.in-Some-read_count.ensures.found) in
     absurd (omega arith)

@@ -11,7 +11,8 @@ use Rattle.sdd_app.proofs.control_file.accepted_script.Goals as goal
 pub returns-in_err-bytes-clause-told : goal.returns-in_err-bytes-clause-told
 returns-in_err-bytes-clause-told g c = λ fs told.
     let p = err_from_is_err_and c.from_residual.result c.from_residual.ensures.1 in
-    rw (p.1, p.2) (explains_more c.in_err-bytes.field-0.0 (λ _. ⊥) (BlamesScript (script_named fs c.args.name.now)) (λ v no. absurd no) c.in_err-bytes.ensures.silent)
+    rw (p.1, p.2) (explains_more c.in_err-bytes.field-0.0 (λ _. ⊥)
+    (BlamesScript (script_named fs c.args.name.now)) (λ v no. absurd no) c.in_err-bytes.ensures.silent)
 
 pub returns-in_err-bytes-clause-surely : goal.returns-in_err-bytes-clause-surely
 returns-in_err-bytes-clause-surely g c = λ free fs sure told some.
@@ -20,7 +21,8 @@ returns-in_err-bytes-clause-surely g c = λ free fs sure told some.
 
 pub returns-clause-told : goal.returns-clause-told
 returns-clause-told g c = λ fs told.
-    script_gives c.judged.result fs c.args.name.now c.as_slice.result.now (rw c.as_slice.ensures.value (c.in_ok-bytes.ensures.read fs told)) c.judged.ensures.told
+    script_gives c.judged.result fs c.args.name.now c.as_slice.result.now
+    (rw c.as_slice.ensures.value (c.in_ok-bytes.ensures.read fs told)) c.judged.ensures.told
 
 pub returns-clause-ended : goal.returns-clause-ended
 returns-clause-ended g c =

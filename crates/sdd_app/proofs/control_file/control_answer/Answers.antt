@@ -7,11 +7,13 @@ pub returns-in_err-script-clause-told : goal.returns-in_err-script-clause-told
 returns-in_err-script-clause-told g c = λ fs told.
     let p = err_from_is_err_and c.from_residual.result c.from_residual.ensures.1 in
     let name = c.args.file.now in
-    rw (p.1, p.2) (explains_more c.in_err-script.field-0.0 (BlamesScript (script_named fs name)) (ComesToControl fs name) (λ v is. blamed_control fs name v is) (c.in_err-script.ensures.told fs told))
+    rw (p.1, p.2) (explains_more c.in_err-script.field-0.0 (BlamesScript (script_named fs name))
+    (ComesToControl fs name) (λ v is. blamed_control fs name v is) (c.in_err-script.ensures.told fs told))
 
 pub returns-clause-told : goal.returns-clause-told
 returns-clause-told g c = λ fs told.
-    reports_control fs c.args.file.now c.in_ok-script.script c.into_vec.result.items (c.in_ok-script.ensures.told fs told) (rw c.into_vec.ensures c.in_ok-text.ensures)
+    reports_control fs c.args.file.now c.in_ok-script.script c.into_vec.result.items
+    (c.in_ok-script.ensures.told fs told) (rw c.into_vec.ensures c.in_ok-text.ensures)
 
 pub returns-clause-ended : goal.returns-clause-ended
 returns-clause-ended g c = let e = c.in_ok-script.ensures.ended in one_ended _ _ _ _ e.0 e.1

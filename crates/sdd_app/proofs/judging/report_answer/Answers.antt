@@ -11,7 +11,9 @@ use Rattle.sdd_app.proofs.judging.report_answer.Goals as goal
 pub returns-in_err-bytes-clause-told : goal.returns-in_err-bytes-clause-told
 returns-in_err-bytes-clause-told g c = λ fs told.
     let p = err_from_is_err_and c.from_residual.result c.from_residual.ensures.1 in
-    rw (p.1, p.2) (explains_more c.in_err-bytes.field-0.0 (λ _. ⊥) (ComesToVerdict fs c.args.report.now c.args.catalogue.now c.args.work.now) (λ v no. absurd no) c.in_err-bytes.ensures.silent)
+    rw (p.1, p.2) (explains_more c.in_err-bytes.field-0.0 (λ _. ⊥)
+    (ComesToVerdict fs c.args.report.now c.args.catalogue.now c.args.work.now)
+    (λ v no. absurd no) c.in_err-bytes.ensures.silent)
 
 pub returns-in_err-bytes-clause-surely : goal.returns-in_err-bytes-clause-surely
 returns-in_err-bytes-clause-surely g c = λ free fs sure told some.
@@ -36,8 +38,16 @@ returns-clause-told g c = λ fs told.
 
 pub returns-clause-ended : goal.returns-clause-ended
 returns-clause-ended g c =
-    let e = c.in_ok-bytes.ensures.ended in
-    (e.0, record { fresh = e.1; opened = e.2; ended = read_to_limit _ MAX_REPORT_BYTES c.args.report.now c.in_ok-bytes.bytes.items _ c.in_ok-bytes.ensures.read e.3 })
+    let e = c.in_ok-bytes.ensures.ended in (
+      e.0,
+      record {
+        fresh = e.1;
+        opened = e.2;
+        ended =
+            read_to_limit _ MAX_REPORT_BYTES c.args.report.now c.in_ok-bytes.bytes.items _
+            c.in_ok-bytes.ensures.read e.3;
+      },
+    )
 
 pub returns-clause-surely : goal.returns-clause-surely
 returns-clause-surely g c = λ free fs sure told some.

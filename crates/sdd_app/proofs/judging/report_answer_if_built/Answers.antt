@@ -8,5 +8,6 @@ returns-then-has_lists-clause-told g c = λ fs told.
 
 pub returns-clause-told : goal.returns-clause-told
 returns-clause-told g c = λ fs told.
-    judged_if_built c.report_answer.result (λ v. v.items) fs c.args.report.now c.args.catalogue.now c.args.work.now (sym c.has_lists.ensures ∙ c.if-has_lists.false)
+    judged_if_built c.report_answer.result (λ v. v.items) fs c.args.report.now c.args.catalogue.now
+    c.args.work.now (sym c.has_lists.ensures ∙ c.if-has_lists.false)
     (c.report_answer.ensures.told fs told)

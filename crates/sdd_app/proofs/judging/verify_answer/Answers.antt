@@ -11,7 +11,9 @@ returns-in_err-catalogue-clause-told g c = λ fs told.
     let p = err_from_is_err_and c.from_residual.result c.from_residual.ensures.1 in
     let name = c.args.catalogue.now in
     let over = ComesToVerify fs c.args.workload.now c.args.report.now in
-    rw (p.1, p.2) (explains_more c.in_err-catalogue.field-0.0 (BlamesCatalogue (catalogue_named fs name)) (OverCatalogue fs name over) (λ v is. blamed fs name over v is) (c.in_err-catalogue.ensures.told fs told))
+    rw (p.1, p.2) (explains_more c.in_err-catalogue.field-0.0 (BlamesCatalogue (catalogue_named fs name))
+    (OverCatalogue fs name over) (λ v is. blamed fs name over v is)
+    (c.in_err-catalogue.ensures.told fs told))
 
 pub returns-in_err-work-clause-told : goal.returns-in_err-work-clause-told
 returns-in_err-work-clause-told g c = λ fs told.
@@ -22,7 +24,9 @@ returns-in_err-work-clause-told g c = λ fs told.
     let cat = c.in_ok-catalogue.catalogue in
     let over = ComesToVerify fs work report in
     rw (p.1, p.2) (explains_more c.in_err-work.field-0.0 (BlamesWorkload (workload_named fs cat work)) (OverCatalogue fs name over)
-    (λ v is. goes_on fs name over cat v (c.in_ok-catalogue.ensures.told fs told) (blamed_verify fs work report cat v is)) (c.in_err-work.ensures.told fs (c.in_ok-catalogue.ensures.files ∙ told)))
+    (λ v is. goes_on fs name over cat v (c.in_ok-catalogue.ensures.told fs told)
+    (blamed_verify fs work report cat v is))
+    (c.in_err-work.ensures.told fs (c.in_ok-catalogue.ensures.files ∙ told)))
 
 pub returns-in_err-text-clause-told : goal.returns-in_err-text-clause-told
 returns-in_err-text-clause-told g c = λ fs told.
@@ -35,7 +39,8 @@ returns-in_err-text-clause-told g c = λ fs told.
     let second = c.in_ok-catalogue.ensures.files ∙ told in
     rw (p.1, p.2) (explains_more c.in_err-text.field-0.0 (ComesToJudgement fs report cat c.in_ok-work.work) (OverCatalogue fs name over)
     (λ v is. goes_on fs name over cat v (c.in_ok-catalogue.ensures.told fs told)
-    (judges_report fs work report cat c.in_ok-work.work v (c.in_ok-work.ensures.told fs second) is)) (c.in_err-text.ensures.told fs (c.in_ok-work.ensures.files ∙ second)))
+    (judges_report fs work report cat c.in_ok-work.work v (c.in_ok-work.ensures.told fs second) is))
+    (c.in_err-text.ensures.told fs (c.in_ok-work.ensures.files ∙ second)))
 
 pub returns-clause-told : goal.returns-clause-told
 returns-clause-told g c = λ fs told.
@@ -65,7 +70,8 @@ pub returns-in_err-work-clause-surely : goal.returns-in_err-work-clause-surely
 returns-in_err-work-clause-surely g c = λ free fs sure told has report.
     let p = err_from_is_err_and c.from_residual-in_err-work.result c.from_residual-in_err-work.ensures.1 in
     let first = c.in_ok-catalogue.ensures.surely (free + 1 + 1) fs sure told has.0 in
-    let k = c.in_err-work.ensures.surely (free + 1) fs first.1 (c.in_ok-catalogue.ensures.files ∙ told) (has.1 c.in_ok-catalogue.catalogue (c.in_ok-catalogue.ensures.told fs told) tt) in
+    let k = c.in_err-work.ensures.surely (free + 1) fs first.1 (c.in_ok-catalogue.ensures.files ∙ told)
+    (has.1 c.in_ok-catalogue.catalogue (c.in_ok-catalogue.ensures.told fs told) tt) in
     rw (p.1, p.2) (k.0, k.2 ∙ first.2)
 
 pub returns-in_err-text-clause-surely : goal.returns-in_err-text-clause-surely

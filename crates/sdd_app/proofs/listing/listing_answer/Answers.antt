@@ -9,7 +9,9 @@ returns-in_err-catalogue-clause-told g c = λ fs told.
     let p = err_from_is_err_and c.from_residual.result c.from_residual.ensures.1 in
     let name = c.args.catalogue.now in
     let lists = ComesToListing c.args.listing in
-    rw (p.1, p.2) (explains_more c.in_err-catalogue.field-0.0 (BlamesCatalogue (catalogue_named fs name)) (OverCatalogue fs name lists) (λ v is. blamed fs name lists v is) (c.in_err-catalogue.ensures.told fs told))
+    rw (p.1, p.2) (explains_more c.in_err-catalogue.field-0.0 (BlamesCatalogue (catalogue_named fs name))
+    (OverCatalogue fs name lists) (λ v is. blamed fs name lists v is)
+    (c.in_err-catalogue.ensures.told fs told))
 
 pub returns-in_err-catalogue-clause-surely : goal.returns-in_err-catalogue-clause-surely
 returns-in_err-catalogue-clause-surely g c = λ free fs sure told some.
@@ -19,7 +21,8 @@ returns-in_err-catalogue-clause-surely g c = λ free fs sure told some.
 
 pub returns-clause-told : goal.returns-clause-told
 returns-clause-told g c = λ fs told.
-    goes_on fs c.args.catalogue.now (ComesToListing c.args.listing) c.in_ok-catalogue.catalogue (Prints c.in_ok-listed.field-0.items) (c.in_ok-catalogue.ensures.told fs told) c.in_ok-listed.ensures
+    goes_on fs c.args.catalogue.now (ComesToListing c.args.listing) c.in_ok-catalogue.catalogue
+    (Prints c.in_ok-listed.field-0.items) (c.in_ok-catalogue.ensures.told fs told) c.in_ok-listed.ensures
 
 pub returns-clause-ended : goal.returns-clause-ended
 returns-clause-ended g c = let e = c.in_ok-catalogue.ensures.ended in one_ended _ _ _ _ e.0 e.1

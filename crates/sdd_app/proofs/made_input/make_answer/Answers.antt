@@ -12,7 +12,8 @@ summed_up-requires-clause-no_lists c = subst (λ work. has_lists work ≡ false)
 
 pub summed_up-requires-clause-valid : goal.summed_up-requires-clause-valid
 summed_up-requires-clause-valid c =
-    subst (λ cat. IsValid cat c.in_ok-work.work) (sym c.in_ok-catalogue.ensures) (subst (IsValid bank) (sym c.in_ok-work.ensures) c.law_workload_allowed.ensures)
+    subst (λ cat. IsValid cat c.in_ok-work.work) (sym c.in_ok-catalogue.ensures)
+    (subst (IsValid bank) (sym c.in_ok-work.ensures) c.law_workload_allowed.ensures)
 
 pub returns-clause-told : goal.returns-clause-told
 returns-clause-told c =

@@ -28,7 +28,8 @@ returns-in-Some-clause-usage g c =
 
 pub returns-in-Some-clause-errors : goal.returns-in-Some-clause-errors
 returns-in-Some-clause-errors g c =
-    if_err_more c.carried_out.result ComesOfFiles _ c.carried_out.ensures.errors (λ s files. (λ is. subst ComesOfFiles is files, λ is. subst ComesOfFiles is files))
+    if_err_more c.carried_out.result ComesOfFiles _ c.carried_out.ensures.errors
+    (λ s files. (λ is. subst ComesOfFiles is files, λ is. subst ComesOfFiles is files))
 
 pub returns-in-Some-clause-untouched : goal.returns-in-Some-clause-untouched
 returns-in-Some-clause-untouched g c = λ none.

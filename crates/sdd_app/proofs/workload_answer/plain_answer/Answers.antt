@@ -10,7 +10,9 @@ returns-in_err-catalogue-clause-told g c = λ fs told.
     let p = err_from_is_err_and c.from_residual.result c.from_residual.ensures.1 in
     let name = c.args.catalogue.now in
     let over = ComesToPlain fs c.args.workload.now in
-    rw (p.1, p.2) (explains_more c.in_err-catalogue.field-0.0 (BlamesCatalogue (catalogue_named fs name)) (OverCatalogue fs name over) (λ v is. blamed fs name over v is) (c.in_err-catalogue.ensures.told fs told))
+    rw (p.1, p.2) (explains_more c.in_err-catalogue.field-0.0 (BlamesCatalogue (catalogue_named fs name))
+    (OverCatalogue fs name over) (λ v is. blamed fs name over v is)
+    (c.in_err-catalogue.ensures.told fs told))
 
 pub returns-in_err-work-clause-told : goal.returns-in_err-work-clause-told
 returns-in_err-work-clause-told g c = λ fs told.
@@ -20,7 +22,9 @@ returns-in_err-work-clause-told g c = λ fs told.
     let cat = c.in_ok-catalogue.catalogue in
     let over = ComesToPlain fs work in
     rw (p.1, p.2) (explains_more c.in_err-work.field-0.0 (BlamesWorkload (workload_named fs cat work)) (OverCatalogue fs name over)
-    (λ v is. goes_on fs name over cat v (c.in_ok-catalogue.ensures.told fs told) (blamed_plain fs work cat v is)) (c.in_err-work.ensures.told fs (c.in_ok-catalogue.ensures.files ∙ told)))
+    (λ v is. goes_on fs name over cat v (c.in_ok-catalogue.ensures.told fs told)
+    (blamed_plain fs work cat v is)) (c.in_err-work.ensures.told fs (c.in_ok-catalogue.ensures.files
+    ∙ told)))
 
 pub returns-clause-told : goal.returns-clause-told
 returns-clause-told g c = λ fs told.
@@ -46,18 +50,21 @@ pub returns-in_err-work-clause-surely : goal.returns-in_err-work-clause-surely
 returns-in_err-work-clause-surely g c = λ free fs sure told has.
     let p = err_from_is_err_and c.from_residual-in_err-work.result c.from_residual-in_err-work.ensures.1 in
     let first = c.in_ok-catalogue.ensures.surely (free + 1) fs sure told has.0 in
-    let k = c.in_err-work.ensures.surely free fs first.1 (c.in_ok-catalogue.ensures.files ∙ told) (has.1 c.in_ok-catalogue.catalogue (c.in_ok-catalogue.ensures.told fs told) tt) in
+    let k = c.in_err-work.ensures.surely free fs first.1 (c.in_ok-catalogue.ensures.files ∙ told)
+    (has.1 c.in_ok-catalogue.catalogue (c.in_ok-catalogue.ensures.told fs told) tt) in
     rw (p.1, p.2) (k.0, k.2 ∙ first.2)
 
 pub returns-in_err-serial_text-clause-surely : goal.returns-in_err-serial_text-clause-surely
 returns-in_err-serial_text-clause-surely g c = λ free fs sure told has.
     let p = err_from_is_err_and c.from_residual-in_err-serial_text.result c.from_residual-in_err-serial_text.ensures.1 in
     let first = c.in_ok-catalogue.ensures.surely (free + 1) fs sure told has.0 in
-    let k = c.in_ok-work.ensures.surely free fs first.1 (c.in_ok-catalogue.ensures.files ∙ told) (has.1 c.in_ok-catalogue.catalogue (c.in_ok-catalogue.ensures.told fs told) tt) in
+    let k = c.in_ok-work.ensures.surely free fs first.1 (c.in_ok-catalogue.ensures.files ∙ told)
+    (has.1 c.in_ok-catalogue.catalogue (c.in_ok-catalogue.ensures.told fs told) tt) in
     rw (p.1, p.2) (λ is. absurd cc, k.2 ∙ first.2)
 
 pub returns-clause-surely : goal.returns-clause-surely
 returns-clause-surely g c = λ free fs sure told has.
     let first = c.in_ok-catalogue.ensures.surely (free + 1) fs sure told has.0 in
-    let k = c.in_ok-work.ensures.surely free fs first.1 (c.in_ok-catalogue.ensures.files ∙ told) (has.1 c.in_ok-catalogue.catalogue (c.in_ok-catalogue.ensures.told fs told) tt) in
+    let k = c.in_ok-work.ensures.surely free fs first.1 (c.in_ok-catalogue.ensures.files ∙ told)
+    (has.1 c.in_ok-catalogue.catalogue (c.in_ok-catalogue.ensures.told fs told) tt) in
     (tt, k.2 ∙ first.2)

@@ -22,4 +22,5 @@ pub returns : goal.returns
 returns g c =
     after_ok c.add_copies.result _ _ c.add_copies.ensures (λ made given log here s.
     made (dated (setting_of given (D c.args.dm)) (local_of given (D c.args.dm) log)) (c.copies-copies.ensures.stand given log here s.stands)
-    ∙ ap (λ cat. c.args.tables.now.items ++ tables_in cat c.args.dm.0 (dated (setting_of given (D c.args.dm)) (local_of given (D c.args.dm) log))) (sym s.catalogue_is))
+    ∙ ap (λ cat. c.args.tables.now.items ++ tables_in cat c.args.dm.0
+    (dated (setting_of given (D c.args.dm)) (local_of given (D c.args.dm) log))) (sym s.catalogue_is))

@@ -15,7 +15,9 @@ add_tables-requires g c =
 pub loop-number-preserved : goal.loop-number-preserved
 loop-number-preserved g c = λ given log s.
     each_to (tables_at given log) c.loop-number.number c.loop-number.tables.items c.add_tables.new.tables.items
-    c.loop-number.auto.number (c.in_ok-add_tables.ensures given log (dm_of given c.args.catalogue.now (dm_no c.loop-number.number) s.catalogue_is c.loop-number.auto.number (omega arith)) s) (c.loop-number.invariant given log s)
+    c.loop-number.auto.number (c.in_ok-add_tables.ensures given log (dm_of given c.args.catalogue.now
+    (dm_no c.loop-number.number) s.catalogue_is c.loop-number.auto.number (omega arith)) s)
+    (c.loop-number.invariant given log s)
 
 pub returns : goal.returns
 returns g c = λ given log s.

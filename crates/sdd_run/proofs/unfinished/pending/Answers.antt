@@ -8,7 +8,8 @@ use Rattle.sdd_run.proofs.unfinished.pending.Goals as goal
 pub loop-entry-preserved : goal.loop-entry-preserved
 loop-entry-preserved g c = λ given log s.
     let is = c.as_slice-history.ensures ∙ c.history.ensures given log s.stands in
-    chosen_more (pending_by g.S.Modules.standing given log (history log)) c.as_slice-history.result.now c.loop-entry.entry-index c.entry-item.result c.loop-entry.found.items c.add_pending.new.found.items
+    chosen_more (pending_by g.S.Modules.standing given log (history log)) c.as_slice-history.result.now
+    c.loop-entry.entry-index c.entry-item.result c.loop-entry.found.items c.add_pending.new.found.items
     c.loop-entry-test.true c.entry-item.is
     (c.in_ok-add_pending.ensures given log (history log) s (subst (AreCommitted c.in_ok-committed.committed) is c.in_ok-committed.ensures))
     (c.loop-entry.invariant given log s)

@@ -6,5 +6,7 @@ use Rattle.sdd_run.specs.Worlds.{StandsOn}
 use Rattle.sdd_run.proofs.unfinished.pending.Given as goal
 
 abbrev pub invariant-loop-entry : goal.invariant-loop-entry
-invariant-loop-entry g l = (given : Given) (log : Log) → StandsOn g.C.Homes.catalogue g.S.Modules.stands g.N.Network.stands g.S.Lawful.good l.catalogue l.world given log
+invariant-loop-entry g l = (given : Given) (log : Log)
+    → StandsOn g.C.Homes.catalogue g.S.Modules.stands g.N.Network.stands g.S.Lawful.good l.catalogue l.world
+    given log
     → l.found.items ≡ filter_map (pending_by g.S.Modules.standing given log (history log)) (take l.entry-index l.history)

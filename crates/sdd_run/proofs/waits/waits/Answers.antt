@@ -18,15 +18,20 @@ loop-number-preserved g c = λ given log s.
     let here = dm_of given c.args.catalogue.now (dm_no c.loop-number.number) s.catalogue_is c.loop-number.auto.number (omega arith) in
     let declared : c.args.class.0 ≤ length c.args.catalogue.now.classes = omega arith in
     picked_to (wait_at given log c.args.class.0 c.args.ts.0) c.loop-number.number c.loop-number.found.items c.add_wait.new.found.items
-    c.loop-number.auto.number (c.in_ok-add_wait.ensures given log here s.stands (subst (λ (k : Catalogue). c.args.class.0 ≤ length k.classes) (sym s.catalogue_is) declared)) (c.loop-number.invariant given log s)
+    c.loop-number.auto.number (c.in_ok-add_wait.ensures given log here s.stands
+    (subst (λ (k : Catalogue). c.args.class.0 ≤ length k.classes) (sym s.catalogue_is) declared))
+    (c.loop-number.invariant given log s)
 
 pub returns-then-class-classes : goal.returns-then-class-classes
 returns-then-class-classes g c = λ given log s.
     let far : length c.args.catalogue.now.classes < c.args.class.0 = omega arith in
     let none : c.new-found.result.items ≡ [] = search rules in
-    none ∙ sym (no_waits given c.args.class.0 c.args.ts.0 (subst (λ (k : Catalogue). length k.classes < c.args.class.0) (sym s.catalogue_is) far) log s.stands.calm.rests.lawful)
+    none ∙ sym (no_waits given c.args.class.0 c.args.ts.0
+    (subst (λ (k : Catalogue). length k.classes < c.args.class.0) (sym s.catalogue_is) far) log
+    s.stands.calm.rests.lawful)
 
 pub returns : goal.returns
 returns g c = λ given log s.
     let all : c.loop-number.number - 1 ≡ c.args.catalogue.now.dms = omega arith in
-    c.loop-number.invariant given log s ∙ ap (λ n. filter_map (wait_at given log c.args.class.0 c.args.ts.0) (numbers_to n)) (all ∙ ap (λ (k : Catalogue). k.dms) (sym s.catalogue_is))
+    c.loop-number.invariant given log s ∙ ap (λ n. filter_map (wait_at given log c.args.class.0 c.args.ts.0)
+    (numbers_to n)) (all ∙ ap (λ (k : Catalogue). k.dms) (sym s.catalogue_is))

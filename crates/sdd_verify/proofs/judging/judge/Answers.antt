@@ -8,9 +8,11 @@ use Rattle.sdd_verify.proofs.judging.judge.Goals as goal
 
 pub told_order-requires : goal.told_order-requires
 told_order-requires c =
-    subst (λ (txns : List Txn). All (Fits c.args.catalogue.now) txns) (sym c.in_ok-submitted.ensures) (submitted_fit c.args.catalogue.now c.args.work.now c.requires)
+    subst (λ (txns : List Txn). All (Fits c.args.catalogue.now) txns) (sym c.in_ok-submitted.ensures)
+    (submitted_fit c.args.catalogue.now c.args.work.now c.requires)
 
 pub pass_replies-requires-clause-txns : goal.pass_replies-requires-clause-txns
 pass_replies-requires-clause-txns c =
     texts_fit c.args.catalogue.now c.args.work.now c.as_slice.result.now c.as_slice-2.result.now c.requires
-    (ap (map (λ t. t.now)) c.as_slice-2.ensures.value ∙ c.in_ok-texts.ensures ∙ ap (λ (txns : List Txn). texts_of txns c.as_slice.result.now) c.in_ok-submitted.ensures)
+    (ap (map (λ t. t.now)) c.as_slice-2.ensures.value ∙ c.in_ok-texts.ensures
+    ∙ ap (λ (txns : List Txn). texts_of txns c.as_slice.result.now) c.in_ok-submitted.ensures)

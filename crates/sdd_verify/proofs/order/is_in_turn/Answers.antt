@@ -10,7 +10,8 @@ use Rattle.sdd_verify.proofs.order.is_in_turn.Goals as goal
 pub returns-then-not-may_stand_behind : goal.returns-then-not-may_stand_behind
 returns-then-not-may_stand_behind c =
     let kept : ℕ → Option ℕ = λ n. get nat_cmp c.order.last n in
-    let refused = ap (λ (o : Option ℕ). allows o (at c.args.order.now c.order.number-index).0) (sym c.get.ensures.value) ∙ sym c.may_stand_behind.ensures ∙ c.if-not-may_stand_behind.true in
+    let refused = ap (λ (o : Option ℕ). allows o (at c.args.order.now c.order.number-index).0)
+    (sym c.get.ensures.value) ∙ sym c.may_stand_behind.ensures ∙ c.if-not-may_stand_behind.true in
     sym (stops c.args.catalogue.now c.args.submitted.now c.args.order.now c.order.number-index (txn_no 0) c.in_ok-class.class.0 kept
     c.order-test.true c.in_ok-class.ensures c.order.invariant.in_turn c.order.invariant.last refused)
 
@@ -25,7 +26,8 @@ order-preserved c =
     let kept : ℕ → Option ℕ = λ n. get nat_cmp c.order.last n in
     let new : ℕ → Option ℕ = λ n. get nat_cmp c.insert.new.self n in
     let h = c.order.invariant in
-    let allowed = ap (λ (o : Option ℕ). allows o (at c.args.order.now c.order.number-index).0) (sym c.get.ensures.value) ∙ sym c.may_stand_behind.ensures ∙ c.if-not-may_stand_behind.false in
+    let allowed = ap (λ (o : Option ℕ). allows o (at c.args.order.now c.order.number-index).0)
+    (sym c.get.ensures.value) ∙ sym c.may_stand_behind.ensures ∙ c.if-not-may_stand_behind.false in
     record {
       in_turn = goes_on cat txns order i (txn_no 0) c.in_ok-class.class.0 kept within class h.in_turn h.last allowed;
       last = last_at cat txns order i (txn_no 0) c.in_ok-class.class.0 kept new within class h.last c.in_ok-insert.ensures.updates.0;

@@ -7,7 +7,8 @@ abbrev pub invariant-loop-msg : goal.invariant-loop-msg
 invariant-loop-msg g l = record {
   same : l.self ≡ record l.fn.self { spool = l.self.spool };
   some : (given : Given) × (log : Log) × Keeping given log l.self.spool l.from l.dm.0 l.queue.items;
-  so_far : (given : Given) (log : Log) → Keeping given log l.fn.self.spool l.from l.dm.0 l.fn.messages → Keeping given log l.self.spool l.from l.dm.0 l.queue.items;
+  so_far : (given : Given) (log : Log) → Keeping given log l.fn.self.spool l.from l.dm.0 l.fn.messages
+      → Keeping given log l.self.spool l.from l.dm.0 l.queue.items;
 }
 
 abbrev pub decreases-loop-msg : goal.decreases-loop-msg

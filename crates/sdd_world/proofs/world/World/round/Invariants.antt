@@ -8,7 +8,8 @@ use Rattle.sdd_world.proofs.world.World.round.Given as goal
 abbrev pub invariant-loop-event : goal.invariant-loop-event
 invariant-loop-event g l = record {
   some : (given : Given) × (log : Log) × Rounding g.C.Homes.catalogue g.S.Modules.stands g.N.Network.stands g.S.Lawful.good l.self given log l.events.items;
-  so_far : (given : Given) (log : Log) → Settling g.C.Homes.catalogue g.S.Modules.stands g.N.Network.stands g.S.Lawful.good l.fn.self given log → quiet (all_links given) (calls_of log) ≡ false
+  so_far : (given : Given) (log : Log) → Settling g.C.Homes.catalogue g.S.Modules.stands g.N.Network.stands
+      g.S.Lawful.good l.fn.self given log → quiet (all_links given) (calls_of log) ≡ false
       → (more : Log) × Rounding g.C.Homes.catalogue g.S.Modules.stands g.N.Network.stands g.S.Lawful.good l.self given more l.events.items;
   count : l.self.marks + length l.events.items ≡ l.fn.self.marks + length l.initial.events.items;
   began : 0 < length l.initial.events.items;

@@ -24,9 +24,15 @@ loop-self-preserved g c =
 pub returns-in_err-round-clause-limit : goal.returns-in_err-round-clause-limit
 returns-in_err-round-clause-limit g c = λ e given log s.
     let k = c.loop-self.invariant.so_far given log s in
-    c.in_err-round.ensures.limit (handed_on c.from_residual.result c.in_err-round.field-0.0 c.from_residual.ensures.1 e) given k.0 k.1 (sym (c.quiet.ensures given k.0 k.1.calm.parts.net) ∙ c.loop-self-test.true)
+    c.in_err-round.ensures.limit (handed_on c.from_residual.result c.in_err-round.field-0.0
+    c.from_residual.ensures.1 e) given k.0 k.1 (sym (c.quiet.ensures given k.0 k.1.calm.parts.net)
+    ∙ c.loop-self-test.true)
 
 pub returns-clause-ok : goal.returns-clause-ok
 returns-clause-ok g c = λ given log s.
-    let k = c.loop-self.invariant.so_far given log s in
-    (k.0, settle_ends g.C.Homes.catalogue g.S.Modules.stands g.N.Network.stands g.S.Lawful.good c.loop-self.self given k.0 k.1 (sym (c.quiet.ensures given k.0 k.1.calm.parts.net) ∙ c.loop-self-test.false))
+    let k = c.loop-self.invariant.so_far given log s in (
+      k.0,
+      settle_ends g.C.Homes.catalogue g.S.Modules.stands g.N.Network.stands g.S.Lawful.good
+          c.loop-self.self given k.0 k.1 (sym (c.quiet.ensures given k.0 k.1.calm.parts.net)
+          ∙ c.loop-self-test.false),
+    )

@@ -6,7 +6,9 @@ use Rattle.sdd_world.proofs.world.World.settle_down.Given as goal
 abbrev pub invariant-loop-self : goal.invariant-loop-self
 invariant-loop-self g l = record {
   some : (given : Given) × (log : Log) × Settling g.C.Homes.catalogue g.S.Modules.stands g.N.Network.stands g.S.Lawful.good l.self given log;
-  so_far : (given : Given) (log : Log) → Settling g.C.Homes.catalogue g.S.Modules.stands g.N.Network.stands g.S.Lawful.good l.fn.self given log → (more : Log) × Settling g.C.Homes.catalogue g.S.Modules.stands g.N.Network.stands g.S.Lawful.good l.self given more;
+  so_far : (given : Given) (log : Log) → Settling g.C.Homes.catalogue g.S.Modules.stands g.N.Network.stands
+      g.S.Lawful.good l.fn.self given log → (more : Log)
+      × Settling g.C.Homes.catalogue g.S.Modules.stands g.N.Network.stands g.S.Lawful.good l.self given more;
 }
 
 abbrev pub decreases-loop-self : goal.decreases-loop-self

@@ -6,39 +6,87 @@ use Rattle.sdd_world.proofs.world.World.submit.Goals as goal
 pub home-requires : goal.home-requires
 home-requires g c =
     let r = c.requires in
-    txn_fits g.C.Homes.catalogue g.S.Modules.stands g.N.Network.stands g.S.Lawful.good g.S.Modules.fits g.S.Modules.fits_submit g.S.Modules.fits_tick g.met.S.Lawful.facts c.args.self.now r.0 r.1 c.args.number r.2 c.index-as_slice-number.result
-    (txn_read g.C.Homes.catalogue g.S.Modules.stands g.N.Network.stands g.S.Lawful.good g.S.Modules.fits g.S.Modules.fits_submit g.S.Modules.fits_tick g.met.S.Lawful.facts c.args.self.now r.0 r.1 c.args.number r.2 c.index-as_slice-number.result (c.index-as_slice-number.is ∙ ap (λ xs. get_or xs (c.args.number.0 - 1) c.index-as_slice-number.result) c.as_slice.ensures))
+    txn_fits g.C.Homes.catalogue g.S.Modules.stands g.N.Network.stands g.S.Lawful.good g.S.Modules.fits
+    g.S.Modules.fits_submit g.S.Modules.fits_tick g.met.S.Lawful.facts c.args.self.now r.0 r.1
+    c.args.number r.2 c.index-as_slice-number.result
+    (txn_read g.C.Homes.catalogue g.S.Modules.stands g.N.Network.stands g.S.Lawful.good g.S.Modules.fits
+    g.S.Modules.fits_submit g.S.Modules.fits_tick g.met.S.Lawful.facts c.args.self.now r.0 r.1
+    c.args.number r.2 c.index-as_slice-number.result (c.index-as_slice-number.is
+    ∙ ap (λ xs. get_or xs (c.args.number.0 - 1) c.index-as_slice-number.result) c.as_slice.ensures))
 
 pub submit-requires : goal.submit-requires
 submit-requires g c =
     let r = c.requires in
-    let is = (txn_read g.C.Homes.catalogue g.S.Modules.stands g.N.Network.stands g.S.Lawful.good g.S.Modules.fits g.S.Modules.fits_submit g.S.Modules.fits_tick g.met.S.Lawful.facts c.args.self.now r.0 r.1 c.args.number r.2 c.index-as_slice-number.result (c.index-as_slice-number.is ∙ ap (λ xs. get_or xs (c.args.number.0 - 1) c.index-as_slice-number.result) c.as_slice.ensures)) in
-    let here = home_is g.C.Homes.catalogue g.S.Modules.stands g.N.Network.stands g.S.Lawful.good g.S.Modules.fits g.S.Modules.fits_submit g.S.Modules.fits_tick g.met.S.Lawful.facts c.args.self.now r.0 r.1 c.args.number r.2 c.index-as_slice-number.result is c.in_ok-at.at c.in_ok-at.ensures in
-    submit_asks g.C.Homes.catalogue g.S.Modules.stands g.N.Network.stands g.S.Lawful.good g.S.Modules.fits g.S.Modules.fits_submit g.S.Modules.fits_tick g.met.S.Lawful.facts c.args.self.now r.0 r.1 c.args.number r.2 c.index-as_slice-number.result is c.in_ok-at.at here
+    let is = (txn_read g.C.Homes.catalogue g.S.Modules.stands g.N.Network.stands g.S.Lawful.good
+    g.S.Modules.fits g.S.Modules.fits_submit g.S.Modules.fits_tick g.met.S.Lawful.facts c.args.self.now
+    r.0 r.1 c.args.number r.2 c.index-as_slice-number.result (c.index-as_slice-number.is
+    ∙ ap (λ xs. get_or xs (c.args.number.0 - 1) c.index-as_slice-number.result) c.as_slice.ensures)) in
+    let here = home_is g.C.Homes.catalogue g.S.Modules.stands g.N.Network.stands g.S.Lawful.good
+    g.S.Modules.fits g.S.Modules.fits_submit g.S.Modules.fits_tick g.met.S.Lawful.facts c.args.self.now
+    r.0 r.1 c.args.number r.2 c.index-as_slice-number.result is c.in_ok-at.at c.in_ok-at.ensures in
+    submit_asks g.C.Homes.catalogue g.S.Modules.stands g.N.Network.stands g.S.Lawful.good g.S.Modules.fits
+    g.S.Modules.fits_submit g.S.Modules.fits_tick g.met.S.Lawful.facts c.args.self.now r.0 r.1
+    c.args.number r.2 c.index-as_slice-number.result is c.in_ok-at.at here
 
 pub follow-requires-clause-sends : goal.follow-requires-clause-sends
 follow-requires-clause-sends g c =
     let r = c.requires in
-    let is = (txn_read g.C.Homes.catalogue g.S.Modules.stands g.N.Network.stands g.S.Lawful.good g.S.Modules.fits g.S.Modules.fits_submit g.S.Modules.fits_tick g.met.S.Lawful.facts c.args.self.now r.0 r.1 c.args.number r.2 c.index-as_slice-number.result (c.index-as_slice-number.is ∙ ap (λ xs. get_or xs (c.args.number.0 - 1) c.index-as_slice-number.result) c.as_slice.ensures)) in
-    let here = home_is g.C.Homes.catalogue g.S.Modules.stands g.N.Network.stands g.S.Lawful.good g.S.Modules.fits g.S.Modules.fits_submit g.S.Modules.fits_tick g.met.S.Lawful.facts c.args.self.now r.0 r.1 c.args.number r.2 c.index-as_slice-number.result is c.in_ok-at.at c.in_ok-at.ensures in
-    may_send g.C.Homes.catalogue g.S.Modules.stands g.N.Network.stands g.S.Lawful.good g.S.Modules.fits g.S.Modules.fits_submit g.S.Modules.fits_tick g.met.S.Lawful.facts c.args.self.now r.0 r.1 c.args.number r.2 c.index-as_slice-number.result is c.submit.new.self c.in_ok-at.at c.in_ok-outcome.outcome here
-    (taken g.C.Homes.catalogue g.S.Modules.stands g.N.Network.stands g.S.Lawful.good g.S.Modules.fits g.S.Modules.fits_submit g.S.Modules.fits_tick g.met.S.Lawful.facts c.args.self.now r.0 r.1 c.args.number r.2 c.index-as_slice-number.result is c.submit.new.self c.in_ok-at.at c.in_ok-outcome.outcome here c.in_ok-outcome.ensures.law)
+    let is = (txn_read g.C.Homes.catalogue g.S.Modules.stands g.N.Network.stands g.S.Lawful.good
+    g.S.Modules.fits g.S.Modules.fits_submit g.S.Modules.fits_tick g.met.S.Lawful.facts c.args.self.now
+    r.0 r.1 c.args.number r.2 c.index-as_slice-number.result (c.index-as_slice-number.is
+    ∙ ap (λ xs. get_or xs (c.args.number.0 - 1) c.index-as_slice-number.result) c.as_slice.ensures)) in
+    let here = home_is g.C.Homes.catalogue g.S.Modules.stands g.N.Network.stands g.S.Lawful.good
+    g.S.Modules.fits g.S.Modules.fits_submit g.S.Modules.fits_tick g.met.S.Lawful.facts c.args.self.now
+    r.0 r.1 c.args.number r.2 c.index-as_slice-number.result is c.in_ok-at.at c.in_ok-at.ensures in
+    may_send g.C.Homes.catalogue g.S.Modules.stands g.N.Network.stands g.S.Lawful.good g.S.Modules.fits
+    g.S.Modules.fits_submit g.S.Modules.fits_tick g.met.S.Lawful.facts c.args.self.now r.0 r.1
+    c.args.number r.2 c.index-as_slice-number.result is c.submit.new.self c.in_ok-at.at
+    c.in_ok-outcome.outcome here
+    (taken g.C.Homes.catalogue g.S.Modules.stands g.N.Network.stands g.S.Lawful.good g.S.Modules.fits
+    g.S.Modules.fits_submit g.S.Modules.fits_tick g.met.S.Lawful.facts c.args.self.now r.0 r.1
+    c.args.number r.2 c.index-as_slice-number.result is c.submit.new.self c.in_ok-at.at
+    c.in_ok-outcome.outcome here c.in_ok-outcome.ensures.law)
 
 pub follow-requires-clause-order : goal.follow-requires-clause-order
-follow-requires-clause-order g c = let r = c.requires in events_order g.C.Homes.catalogue g.S.Modules.stands g.N.Network.stands g.S.Lawful.good g.S.Modules.fits g.S.Modules.fits_submit g.S.Modules.fits_tick g.met.S.Lawful.facts c.args.self.now r.0 r.1 c.args.number r.2
+follow-requires-clause-order g c = let r =
+    c.requires in events_order g.C.Homes.catalogue g.S.Modules.stands g.N.Network.stands g.S.Lawful.good
+    g.S.Modules.fits g.S.Modules.fits_submit g.S.Modules.fits_tick g.met.S.Lawful.facts c.args.self.now r.0
+    r.1 c.args.number r.2
 
 pub returns-clause-ok : goal.returns-clause-ok
 returns-clause-ok g c = map_ok c.follow.result _ _ c.follow.ensures.ok (λ x f given log m.
-    let is = (txn_read g.C.Homes.catalogue g.S.Modules.stands g.N.Network.stands g.S.Lawful.good g.S.Modules.fits g.S.Modules.fits_submit g.S.Modules.fits_tick g.met.S.Lawful.facts c.args.self.now given log c.args.number m c.index-as_slice-number.result (c.index-as_slice-number.is ∙ ap (λ xs. get_or xs (c.args.number.0 - 1) c.index-as_slice-number.result) c.as_slice.ensures)) in
-    let here = home_is g.C.Homes.catalogue g.S.Modules.stands g.N.Network.stands g.S.Lawful.good g.S.Modules.fits g.S.Modules.fits_submit g.S.Modules.fits_tick g.met.S.Lawful.facts c.args.self.now given log c.args.number m c.index-as_slice-number.result is c.in_ok-at.at c.in_ok-at.ensures in
-    submit_done g.C.Homes.catalogue g.S.Modules.stands g.N.Network.stands g.S.Lawful.good g.S.Modules.fits g.S.Modules.fits_submit g.S.Modules.fits_tick g.met.S.Lawful.facts c.args.self.now given log c.args.number m c.index-as_slice-number.result is c.submit.new.self c.follow.new.self c.in_ok-at.at c.in_ok-outcome.outcome here
-    (taken g.C.Homes.catalogue g.S.Modules.stands g.N.Network.stands g.S.Lawful.good g.S.Modules.fits g.S.Modules.fits_submit g.S.Modules.fits_tick g.met.S.Lawful.facts c.args.self.now given log c.args.number m c.index-as_slice-number.result is c.submit.new.self c.in_ok-at.at c.in_ok-outcome.outcome here c.in_ok-outcome.ensures.law)
+    let is = (txn_read g.C.Homes.catalogue g.S.Modules.stands g.N.Network.stands g.S.Lawful.good
+    g.S.Modules.fits g.S.Modules.fits_submit g.S.Modules.fits_tick g.met.S.Lawful.facts c.args.self.now
+    given log c.args.number m c.index-as_slice-number.result (c.index-as_slice-number.is
+    ∙ ap (λ xs. get_or xs (c.args.number.0 - 1) c.index-as_slice-number.result) c.as_slice.ensures)) in
+    let here = home_is g.C.Homes.catalogue g.S.Modules.stands g.N.Network.stands g.S.Lawful.good
+    g.S.Modules.fits g.S.Modules.fits_submit g.S.Modules.fits_tick g.met.S.Lawful.facts c.args.self.now
+    given log c.args.number m c.index-as_slice-number.result is c.in_ok-at.at c.in_ok-at.ensures in
+    submit_done g.C.Homes.catalogue g.S.Modules.stands g.N.Network.stands g.S.Lawful.good g.S.Modules.fits
+    g.S.Modules.fits_submit g.S.Modules.fits_tick g.met.S.Lawful.facts c.args.self.now given log
+    c.args.number m c.index-as_slice-number.result is c.submit.new.self c.follow.new.self c.in_ok-at.at
+    c.in_ok-outcome.outcome here
+    (taken g.C.Homes.catalogue g.S.Modules.stands g.N.Network.stands g.S.Lawful.good g.S.Modules.fits
+    g.S.Modules.fits_submit g.S.Modules.fits_tick g.met.S.Lawful.facts c.args.self.now given log
+    c.args.number m c.index-as_slice-number.result is c.submit.new.self c.in_ok-at.at
+    c.in_ok-outcome.outcome here c.in_ok-outcome.ensures.law)
     c.in_ok-outcome.ensures.others f)
 
 pub returns-clause-limit : goal.returns-clause-limit
 returns-clause-limit g c = λ e given log m.
-    let is = (txn_read g.C.Homes.catalogue g.S.Modules.stands g.N.Network.stands g.S.Lawful.good g.S.Modules.fits g.S.Modules.fits_submit g.S.Modules.fits_tick g.met.S.Lawful.facts c.args.self.now given log c.args.number m c.index-as_slice-number.result (c.index-as_slice-number.is ∙ ap (λ xs. get_or xs (c.args.number.0 - 1) c.index-as_slice-number.result) c.as_slice.ensures)) in
-    let here = home_is g.C.Homes.catalogue g.S.Modules.stands g.N.Network.stands g.S.Lawful.good g.S.Modules.fits g.S.Modules.fits_submit g.S.Modules.fits_tick g.met.S.Lawful.facts c.args.self.now given log c.args.number m c.index-as_slice-number.result is c.in_ok-at.at c.in_ok-at.ensures in
-    submit_ends g.C.Homes.catalogue g.S.Modules.stands g.N.Network.stands g.S.Lawful.good g.S.Modules.fits g.S.Modules.fits_submit g.S.Modules.fits_tick g.met.S.Lawful.facts c.args.self.now given log c.args.number m c.index-as_slice-number.result is c.submit.new.self c.in_ok-at.at c.in_ok-outcome.outcome here
-    (taken g.C.Homes.catalogue g.S.Modules.stands g.N.Network.stands g.S.Lawful.good g.S.Modules.fits g.S.Modules.fits_submit g.S.Modules.fits_tick g.met.S.Lawful.facts c.args.self.now given log c.args.number m c.index-as_slice-number.result is c.submit.new.self c.in_ok-at.at c.in_ok-outcome.outcome here c.in_ok-outcome.ensures.law)
+    let is = (txn_read g.C.Homes.catalogue g.S.Modules.stands g.N.Network.stands g.S.Lawful.good
+    g.S.Modules.fits g.S.Modules.fits_submit g.S.Modules.fits_tick g.met.S.Lawful.facts c.args.self.now
+    given log c.args.number m c.index-as_slice-number.result (c.index-as_slice-number.is
+    ∙ ap (λ xs. get_or xs (c.args.number.0 - 1) c.index-as_slice-number.result) c.as_slice.ensures)) in
+    let here = home_is g.C.Homes.catalogue g.S.Modules.stands g.N.Network.stands g.S.Lawful.good
+    g.S.Modules.fits g.S.Modules.fits_submit g.S.Modules.fits_tick g.met.S.Lawful.facts c.args.self.now
+    given log c.args.number m c.index-as_slice-number.result is c.in_ok-at.at c.in_ok-at.ensures in
+    submit_ends g.C.Homes.catalogue g.S.Modules.stands g.N.Network.stands g.S.Lawful.good g.S.Modules.fits
+    g.S.Modules.fits_submit g.S.Modules.fits_tick g.met.S.Lawful.facts c.args.self.now given log
+    c.args.number m c.index-as_slice-number.result is c.submit.new.self c.in_ok-at.at
+    c.in_ok-outcome.outcome here
+    (taken g.C.Homes.catalogue g.S.Modules.stands g.N.Network.stands g.S.Lawful.good g.S.Modules.fits
+    g.S.Modules.fits_submit g.S.Modules.fits_tick g.met.S.Lawful.facts c.args.self.now given log
+    c.args.number m c.index-as_slice-number.result is c.submit.new.self c.in_ok-at.at
+    c.in_ok-outcome.outcome here c.in_ok-outcome.ensures.law)
     (c.follow.ensures.limit e)
