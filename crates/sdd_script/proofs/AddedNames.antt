@@ -20,6 +20,7 @@ pub fresh : {A B : Type 0} (p : B → Bool) (f : A → B) (xs : List A) → not 
 fresh p f xs = ap not (sym (any_found (λ x. p (f x)) xs) ∙ ap is_some (sym (position-map p f xs)))
 
 -- the names behind which it stands, unless it is there
-pub behind : {A B : Type 0} (f : A → B) (here : Bool) (xs : List A) (x : A) (new : Bool) → new ≡ not here → map f (cond here xs (xs ++ x ∷ [])) ≡ cond new (map f xs ++ f x ∷ []) (map f xs)
+pub behind : {A B : Type 0} (f : A → B) (here : Bool) (xs : List A) (x : A) (new : Bool) → new ≡ not here
+    → map f (cond here xs (xs ++ x ∷ [])) ≡ cond new (map f xs ++ f x ∷ []) (map f xs)
 behind f true xs x new e = rw e refl
 behind f false xs x new e = rw (e, map-append f xs (x ∷ [])) refl

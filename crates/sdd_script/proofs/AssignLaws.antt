@@ -62,7 +62,9 @@ bool_is x y e = cc
 setting_is : (x y : Setting) → some_of x ≡ some_of y → x ≡ y
 setting_is x y e = cc
 
-adds_if : (bytes : List ℕ) (adds a b : Bool) → bytes_eq bytes (codes "=") ≡ a → bytes_eq bytes (codes "+=") ≡ b → cond a (Some false) (cond b (Some true) None) ≡ Some adds → bytes ≡ adds_word adds
+adds_if : (bytes : List ℕ) (adds a b : Bool) → bytes_eq bytes (codes "=") ≡ a
+    → bytes_eq bytes (codes "+=") ≡ b → cond a (Some false) (cond b (Some true) None) ≡ Some adds
+    → bytes ≡ adds_word adds
 adds_if bytes adds true b p q e = (bytes_eq-Decides bytes (codes "=")).0 p ∙ ap adds_word (bool_is false adds e)
 adds_if bytes adds false true p q e = (bytes_eq-Decides bytes (codes "+=")).0 q ∙ ap adds_word (bool_is true adds e)
 adds_if bytes adds false false p q e = absurd cc
@@ -81,7 +83,9 @@ record IsSetting (left op right : Word) (s : Setting) : Type 0 where
   right_is : right ≡ s.right
   looks : LooksSet s
 
-setting_some : (left right w : Word) (o : Option Bool) (s : Setting) → adds_of w ≡ o → option_map (λ adds. record { left = left; adds = adds; right = right }) o ≡ Some s → (left ≡ s.left) × (w ≡ Plain (adds_word s.adds)) × (right ≡ s.right)
+setting_some : (left right w : Word) (o : Option Bool) (s : Setting) → adds_of w ≡ o
+    → option_map (λ adds. record { left = left; adds = adds; right = right }) o ≡ Some s → (left ≡ s.left)
+    × (w ≡ Plain (adds_word s.adds)) × (right ≡ s.right)
 setting_some left right w None s p e = absurd cc
 setting_some left right w (Some adds) s p e =
     let made : Setting = record { left = left; adds = adds; right = right } in
@@ -94,7 +98,17 @@ setting_if left op right s false t e = absurd cc
 setting_if left op right s true t e =
     let g = both_hold (looks_like_column left) (is_free right) t in
     let r = setting_some left right op (adds_of op) s refl e in
-    record { left_is = r.0; op_is = r.1; right_is = r.2; looks = (subst (λ (w : Word). looks_like_column w ≡ true) r.0 g.0, subst (λ (w : Word). is_free w ≡ true) r.2 g.1) }
+    record {
+      left_is = r.0;
+      op_is = r.1;
+      right_is =
+          r.2;
+      looks = (
+        subst (λ (w : Word). looks_like_column w ≡ true) r.0 g.0,
+        subst
+            (λ (w : Word). is_free w ≡ true) r.2 g.1,
+      );
+    }
 
 pub record AreSettings (ws : List Word) (ss : List Setting) : Type 0 where
   pub spelled : ws ≡ setted ss
@@ -112,7 +126,12 @@ settings_take (left ∷ op ∷ right ∷ more) ss e =
     let j = joined_is (setting_of left op right) (settings more) ss e in
     let one = setting_if left op right j.head (looks_like_column left && is_free right) refl j.first in
     let rest = settings_take more j.rest j.others in
-    subst (λ (l : List Setting). AreSettings (left ∷ op ∷ right ∷ more) l) j.whole (record { spelled = four_same left j.head.left op (Plain (adds_word j.head.adds)) right j.head.right more (setted j.rest) one.left_is one.op_is one.right_is rest.spelled; looks = (one.looks, rest.looks) })
+    subst (λ (l : List Setting). AreSettings (left ∷ op ∷ right ∷ more) l) j.whole (record {
+      spelled =
+          four_same left j.head.left op (Plain (adds_word j.head.adds)) right j.head.right more
+          (setted j.rest) one.left_is one.op_is one.right_is rest.spelled;
+      looks = (one.looks, rest.looks);
+    })
 
 setting_again : (s : Setting) → LooksSet s → setting_of s.left (Plain (adds_word s.adds)) s.right ≡ Some s
 setting_again s h =
@@ -145,13 +164,15 @@ record IsOwn (cat : Catalogue) (rel : RelNo) (w : Word) (f : Found) : Type 0 whe
 abbrev made : ℕ → ℕ → Ref
 made part column = record { part = part; column = column }
 
-own_column_of : (cat : Catalogue) (rel : RelNo) (r : Ref) (column : ℕ) → r ≡ own_column column → IsColumn cat (rel_of (rel ∷ []) r.part) r.column → IsColumn cat rel.0 column
+own_column_of : (cat : Catalogue) (rel : RelNo) (r : Ref) (column : ℕ) → r ≡ own_column column
+    → IsColumn cat (rel_of (rel ∷ []) r.part) r.column → IsColumn cat rel.0 column
 own_column_of cat rel r column e h = subst (λ (x : Ref). IsColumn cat (rel_of (rel ∷ []) x.part) x.column) e h
 
 own_is : (r : Ref) → 1 ≤ r.part → r.part ≤ 1 → r ≡ own_column r.column
 own_is r lo hi = let e : r.part ≡ 1 = omega (arith, lo, hi) in ap (λ (n : ℕ). made n r.column) e
 
-own_takes : (cat : Catalogue) (rel : RelNo) (w : Word) (f : Found) → looks_like_column w ≡ true → column_of_use cat (Some rel.0 ∷ []) w ≡ Ok f → IsOwn cat rel w f
+own_takes : (cat : Catalogue) (rel : RelNo) (w : Word) (f : Found) → looks_like_column w ≡ true
+    → column_of_use cat (Some rel.0 ∷ []) w ≡ Ok f → IsOwn cat rel w f
 own_takes cat rel w f look e =
     let r = ref_takes cat (rel ∷ []) w f look e in
     let own : f.at ≡ own_column f.at.column = own_is f.at r.fits.0.0 r.fits.0.1 in
@@ -171,27 +192,45 @@ addend_takes (Plain bytes) z e =
     (ap (λ (l : List ℕ). Plain l) n.0, n.1)
 addend_takes (Quoted text) z e = absurd cc
 
-assign_if : (cat : Catalogue) (rel : RelNo) (left op right : Word) (adds : Bool) (f : Found) (a : Assign) → IsOwn cat rel left f → f.at.column ≢ key_column cat rel.0 → op ≡ Plain (adds_word adds)
+assign_if : (cat : Catalogue) (rel : RelNo) (left op right : Word) (adds : Bool) (f : Found) (a : Assign)
+    → IsOwn cat rel left f → f.at.column ≢ key_column cat rel.0 → op ≡ Plain (adds_word adds)
     → cond adds (add_of f right) (to_of f right) ≡ Ok a → (left ∷ op ∷ right ∷ [] ≡ assign_words cat rel a) × FitsAssign cat rel.0 a × AssignsValue a
 assign_if cat rel left op right true f a own other is e =
     let b = must_then WrongKind (is_of_kind (Some f.kind) kinds.Int) (λ _. addend_of right >>= λ number. Ok (Add f.at.column number)) a e in
     let c = bind_ok (addend_of right) (λ number. Ok (Add f.at.column number)) a b.1 in
     let n = addend_takes right c.0 c.1 in
-    subst (λ (x : Assign). (left ∷ op ∷ right ∷ [] ≡ assign_words cat rel x) × FitsAssign cat rel.0 x × AssignsValue x) (ok_is (Add f.at.column c.0) a c.2)
-    (three_same left (column_word cat (rel ∷ []) (own_column f.at.column)) op (Plain (codes "+=")) right (Plain (signed_decimal c.0)) own.spelled is n.0, (own.column, other, own.kind ∙ sym (kind_int f.kind b.0)), n.1)
+    subst (λ (x : Assign). (left ∷ op ∷ right ∷ [] ≡ assign_words cat rel x) × FitsAssign cat rel.0 x × AssignsValue x) (ok_is (Add f.at.column c.0) a c.2) (
+      three_same left (column_word cat (rel ∷ []) (own_column f.at.column)) op (Plain (codes "+=")) right
+          (Plain (signed_decimal c.0)) own.spelled is n.0,
+      (
+        own.column,
+        other,
+        own.kind
+            ∙ sym (kind_int f.kind b.0),
+      ),
+      n.1,
+    )
 assign_if cat rel left op right false f a own other is e =
     let c = bind_ok (value_of (Some f.kind) right) (λ value. Ok (To f.at.column value)) a e in
     let v = value_takes f.kind right c.0 c.1 in
-    subst (λ (x : Assign). (left ∷ op ∷ right ∷ [] ≡ assign_words cat rel x) × FitsAssign cat rel.0 x × AssignsValue x) (ok_is (To f.at.column c.0) a c.2)
-    (three_same left (column_word cat (rel ∷ []) (own_column f.at.column)) op (Plain (codes "=")) right (value_word c.0) own.spelled is v.spelled, (own.column, other, v.same ∙ sym own.kind), v.fits)
+    subst (λ (x : Assign). (left ∷ op ∷ right ∷ [] ≡ assign_words cat rel x) × FitsAssign cat rel.0 x × AssignsValue x) (ok_is (To f.at.column c.0) a c.2) (
+      three_same left (column_word cat (rel ∷ []) (own_column f.at.column)) op (Plain (codes "=")) right
+          (value_word c.0) own.spelled is v.spelled,
+      (own.column, other, v.same ∙ sym own.kind),
+      v.fits,
+    )
 
 pub assign_takes : (cat : Catalogue) (rel : RelNo) (s : Setting) (a : Assign) → LooksSet s → assign_of cat rel.0 s ≡ Ok a → IsAssign cat rel s a
 assign_takes cat rel s a looks e =
-    let b = bind_ok (column_of_use cat (Some rel.0 ∷ []) s.left) (λ (f : Found). must KeyChanged (not (f.at.column == key_of cat rel.0)) >>= λ _. (if s.adds then add_of f s.right else to_of f s.right)) a e in
+    let b = bind_ok (column_of_use cat (Some rel.0 ∷ []) s.left) (λ (f : Found). must KeyChanged
+    (not (f.at.column == key_of cat rel.0)) >>=
+    λ _. (if s.adds then add_of f s.right else to_of f s.right)) a e in
     let f : Found = b.0 in
     let own = own_takes cat rel s.left f looks.0 b.1 in
     let c = must_then KeyChanged (not (f.at.column == key_of cat rel.0)) (λ _. (if s.adds then add_of f s.right else to_of f s.right)) a b.2 in
-    let other : f.at.column ≢ key_column cat rel.0 = λ p. not_equal f.at.column (key_of cat rel.0) (not_true (eqb f.at.column (key_of cat rel.0)) c.0) (p ∙ sym (key_is cat rel.0)) in
+    let other : f.at.column ≢ key_column cat rel.0 =
+    λ p. not_equal f.at.column (key_of cat rel.0) (not_true (eqb f.at.column (key_of cat rel.0)) c.0)
+    (p ∙ sym (key_is cat rel.0)) in
     let r = assign_if cat rel s.left (Plain (adds_word s.adds)) s.right s.adds f a own other refl c.1 in
     record { spelled = r.0; fits = r.1; value = r.2 }
 
@@ -203,7 +242,8 @@ pub record AreAssigns (cat : Catalogue) (rel : RelNo) (ws : List Word) (sets : L
 abbrev reads : Catalogue → ℕ → ℕ → Setting → Result Assign WorkRule
 reads cat rel i s = assign_of cat rel s
 
-of_answers : (cat : Catalogue) (rel : RelNo) (i : ℕ) (ss : List Setting) (sets : List Assign) → AllByRecursion LooksSet ss → Answers (reads cat rel.0) i ss sets → AreAssigns cat rel (setted ss) sets
+of_answers : (cat : Catalogue) (rel : RelNo) (i : ℕ) (ss : List Setting) (sets : List Assign)
+    → AllByRecursion LooksSet ss → Answers (reads cat rel.0) i ss sets → AreAssigns cat rel (setted ss) sets
 of_answers cat rel i [] [] looks h = record { spelled = refl; fits = tt; values = tt }
 of_answers cat rel i [] (a ∷ sets) looks h = absurd h
 of_answers cat rel i (s ∷ ss) [] looks h = absurd h
@@ -216,7 +256,8 @@ of_answers cat rel i (s ∷ ss) (a ∷ sets) looks h =
       values = (one.value, more.values);
     }
 
-pub assigns_take : (cat : Catalogue) (rel : RelNo) (ws : List Word) (ss : List Setting) (sets : List Assign) → settings ws ≡ Some ss → along (reads cat rel.0) 0 ss ≡ Ok sets → AreAssigns cat rel ws sets
+pub assigns_take : (cat : Catalogue) (rel : RelNo) (ws : List Word) (ss : List Setting) (sets : List Assign)
+    → settings ws ≡ Some ss → along (reads cat rel.0) 0 ss ≡ Ok sets → AreAssigns cat rel ws sets
 assigns_take cat rel ws ss sets form e =
     let f = settings_take ws ss form in
     subst (λ (l : List Word). AreAssigns cat rel l sets) (sym f.spelled) (of_answers cat rel 0 ss sets f.looks (along_ok (reads cat rel.0) 0 ss sets e))
@@ -229,41 +270,63 @@ setting_for cat rel (Add column by) = record { left = column_word cat (rel ∷ [
 own_fits : (cat : Catalogue) (rel : RelNo) (column : ℕ) → IsColumn cat rel.0 column → FitsRef cat (rel ∷ []) (own_column column)
 own_fits cat rel column h = ((omega arith, omega arith), h)
 
-looks_again : (cat : Catalogue) → IsKnown cat → (rel : RelNo) → AreParts cat (rel ∷ []) → (a : Assign) → FitsAssign cat rel.0 a → AssignsValue a → LooksSet (setting_for cat rel a)
-looks_again cat k rel h (To column value) fits v = ((column_word_is cat k (rel ∷ []) (own_column column) h (own_fits cat rel column fits.0)).looks, value_free value v)
-looks_again cat k rel h (Add column by) fits v = ((column_word_is cat k (rel ∷ []) (own_column column) h (own_fits cat rel column fits.0)).looks, number_free by v)
+looks_again : (cat : Catalogue) → IsKnown cat → (rel : RelNo) → AreParts cat (rel ∷ []) → (a : Assign)
+    → FitsAssign cat rel.0 a → AssignsValue a → LooksSet (setting_for cat rel a)
+looks_again cat k rel h (To column value) fits v = (
+  (column_word_is cat k (rel ∷ []) (own_column column) h (own_fits cat rel column fits.0)).looks,
+  value_free value v,
+)
+looks_again cat k rel h (Add column by) fits v = (
+  (column_word_is cat k (rel ∷ []) (own_column column) h (own_fits cat rel column fits.0)).looks,
+  number_free by v,
+)
 
 other_column : (cat : Catalogue) (rel column : ℕ) → column ≢ key_column cat rel → not (column == key_of cat rel) ≡ true
 other_column cat rel column other = let e : eqb column (key_of cat rel) ≡ false = ne_eqb column (key_of cat rel) (λ p. other (p ∙ key_is cat rel)) in rw e refl
 
-assign_again : (cat : Catalogue) → IsKnown cat → (rel : RelNo) → AreParts cat (rel ∷ []) → (a : Assign) → FitsAssign cat rel.0 a → AssignsValue a → assign_of cat rel.0 (setting_for cat rel a) ≡ Ok a
+assign_again : (cat : Catalogue) → IsKnown cat → (rel : RelNo) → AreParts cat (rel ∷ []) → (a : Assign)
+    → FitsAssign cat rel.0 a → AssignsValue a → assign_of cat rel.0 (setting_for cat rel a) ≡ Ok a
 assign_again cat k rel h (To column value) fits v =
     let a = ref_again cat k (rel ∷ []) (own_column column) h (own_fits cat rel column fits.0) in
     let n = other_column cat rel.0 column fits.1 in
-    let c : value_of (Some (kind_at cat rel.0 column)) (value_word value) ≡ Ok value = subst (λ (x : Kind). value_of (Some x) (value_word value) ≡ Ok value) fits.2 (value_again value v) in
+    let c : value_of (Some (kind_at cat rel.0 column)) (value_word value) ≡ Ok value =
+    subst (λ (x : Kind). value_of (Some x) (value_word value) ≡ Ok value) fits.2 (value_again value v) in
     rw (a, n, c) refl
 assign_again cat k rel h (Add column by) fits v =
     let a = ref_again cat k (rel ∷ []) (own_column column) h (own_fits cat rel column fits.0) in
     let n = other_column cat rel.0 column fits.1 in
-    let s : is_of_kind (Some (kind_at cat rel.0 column)) kinds.Int ≡ true = subst (λ (x : Kind). is_of_kind (Some x) kinds.Int ≡ true) (sym fits.2) (kind_same kinds.Int) in
+    let s : is_of_kind (Some (kind_at cat rel.0 column)) kinds.Int ≡ true =
+    subst (λ (x : Kind). is_of_kind (Some x) kinds.Int ≡ true) (sym fits.2) (kind_same kinds.Int) in
     let c = number_again by v in
     rw (a, n, s, c) refl
 
 words_same : (cat : Catalogue) (rel : RelNo) (sets : List Assign) → sets_words cat rel sets ≡ setted (map (setting_for cat rel) sets)
 words_same cat rel [] = refl
-words_same cat rel (To column value ∷ sets) = ap (λ (l : List Word). column_word cat (rel ∷ []) (own_column column) ∷ Plain (codes "=") ∷ value_word value ∷ l) (words_same cat rel sets)
-words_same cat rel (Add column by ∷ sets) = ap (λ (l : List Word). column_word cat (rel ∷ []) (own_column column) ∷ Plain (codes "+=") ∷ Plain (signed_decimal by) ∷ l) (words_same cat rel sets)
+words_same cat rel (To column value ∷ sets) =
+    ap (λ (l : List Word). column_word cat (rel ∷ []) (own_column column) ∷ Plain
+    (codes "=") ∷ value_word value ∷ l) (words_same cat rel sets)
+words_same cat rel (Add column by ∷ sets) =
+    ap (λ (l : List Word). column_word cat (rel ∷ []) (own_column column) ∷ Plain (codes "+=") ∷ Plain
+    (signed_decimal by) ∷ l) (words_same cat rel sets)
 
-all_look : (cat : Catalogue) → IsKnown cat → (rel : RelNo) → AreParts cat (rel ∷ []) → (sets : List Assign) → AllByRecursion (FitsAssign cat rel.0) sets → AllByRecursion AssignsValue sets → AllByRecursion LooksSet (map (setting_for cat rel) sets)
+all_look : (cat : Catalogue) → IsKnown cat → (rel : RelNo) → AreParts cat (rel ∷ []) → (sets : List Assign)
+    → AllByRecursion (FitsAssign cat rel.0) sets → AllByRecursion AssignsValue sets
+    → AllByRecursion LooksSet (map (setting_for cat rel) sets)
 all_look cat k rel h [] fits v = tt
 all_look cat k rel h (a ∷ sets) fits v = (looks_again cat k rel h a fits.0 v.0, all_look cat k rel h sets fits.1 v.1)
 
-all_read : (cat : Catalogue) → IsKnown cat → (rel : RelNo) → AreParts cat (rel ∷ []) → (i : ℕ) (sets : List Assign) → AllByRecursion (FitsAssign cat rel.0) sets → AllByRecursion AssignsValue sets → Answers (reads cat rel.0) i (map (setting_for cat rel) sets) sets
+all_read : (cat : Catalogue) → IsKnown cat → (rel : RelNo) → AreParts cat (rel ∷ [])
+    → (i : ℕ) (sets : List Assign) → AllByRecursion (FitsAssign cat rel.0) sets
+    → AllByRecursion AssignsValue sets → Answers (reads cat rel.0) i (map (setting_for cat rel) sets) sets
 all_read cat k rel h i [] fits v = tt
 all_read cat k rel h i (a ∷ sets) fits v = (assign_again cat k rel h a fits.0 v.0, all_read cat k rel h (i + 1) sets fits.1 v.1)
 
-pub form_again : (cat : Catalogue) → IsKnown cat → (rel : RelNo) → AreParts cat (rel ∷ []) → (sets : List Assign) → AllByRecursion (FitsAssign cat rel.0) sets → AllByRecursion AssignsValue sets → settings (sets_words cat rel sets) ≡ Some (map (setting_for cat rel) sets)
+pub form_again : (cat : Catalogue) → IsKnown cat → (rel : RelNo) → AreParts cat (rel ∷ [])
+    → (sets : List Assign) → AllByRecursion (FitsAssign cat rel.0) sets → AllByRecursion AssignsValue sets
+    → settings (sets_words cat rel sets) ≡ Some (map (setting_for cat rel) sets)
 form_again cat k rel h sets fits v = ap settings (words_same cat rel sets) ∙ settings_again (map (setting_for cat rel) sets) (all_look cat k rel h sets fits v)
 
-pub assigns_again : (cat : Catalogue) → IsKnown cat → (rel : RelNo) → AreParts cat (rel ∷ []) → (sets : List Assign) → AllByRecursion (FitsAssign cat rel.0) sets → AllByRecursion AssignsValue sets → along (reads cat rel.0) 0 (map (setting_for cat rel) sets) ≡ Ok sets
+pub assigns_again : (cat : Catalogue) → IsKnown cat → (rel : RelNo) → AreParts cat (rel ∷ [])
+    → (sets : List Assign) → AllByRecursion (FitsAssign cat rel.0) sets → AllByRecursion AssignsValue sets
+    → along (reads cat rel.0) 0 (map (setting_for cat rel) sets) ≡ Ok sets
 assigns_again cat k rel h sets fits v = ok_along (reads cat rel.0) 0 (map (setting_for cat rel) sets) sets (all_read cat k rel h 0 sets fits v)

@@ -34,23 +34,29 @@ new_name parts before c e =
 names_with : (before : List ClassPart) (c : ClassPart) → part_names (before ++ c ∷ []) ≡ part_names before ++ c.name ∷ []
 names_with before c = map-append (λ (k : ClassPart). k.name) before (c ∷ [])
 
-no_repeats : (parts : Parts) (before xs : List ClassPart) → repeats (part_names before) ≡ false → found_from (faults_of_class parts) before xs ≡ [] → repeats (part_names (before ++ xs)) ≡ false
+no_repeats : (parts : Parts) (before xs : List ClassPart) → repeats (part_names before) ≡ false
+    → found_from (faults_of_class parts) before xs ≡ [] → repeats (part_names (before ++ xs)) ≡ false
 no_repeats parts before [] r e = subst (λ (l : List ClassPart). repeats (part_names l) ≡ false) (sym (append-nil before)) r
 no_repeats parts before (c ∷ xs) r e =
     let h = both_empty (faults_of_class parts before c) (found_from (faults_of_class parts) (before ++ c ∷ []) xs) e in
     let other = none_any (bytes_eq c.name) (part_names before) (new_name parts before c h.0) in
-    let one : repeats (part_names (before ++ c ∷ [])) ≡ false = subst (λ (l : List (List ℕ)). repeats l ≡ false) (sym (names_with before c)) (repeats_not (part_names before) c.name r other) in
+    let one : repeats (part_names (before ++ c ∷ [])) ≡ false =
+    subst (λ (l : List (List ℕ)). repeats l ≡ false) (sym (names_with before c))
+    (repeats_not (part_names before) c.name r other) in
     subst (λ (l : List ClassPart). repeats (part_names l) ≡ false) (append_assoc before (c ∷ []) xs) (no_repeats parts (before ++ c ∷ []) xs one h.1)
 
 pub class_names_differ : (cat : Catalogue) → IsSound cat → repeats (class_names cat) ≡ false
 class_names_differ cat s =
     let parts : Parts = parts_of cat in
     let differ : repeats (part_names parts.classes) ≡ false = no_repeats parts [] parts.classes refl (no_faults parts s.valid).classes in
-    subst (λ (l : List (List ℕ)). repeats l ≡ false) (map-map (λ (c : ClassPart). c.name) (class_part (map (λ (f : Fragment). f.name) cat.fragments)) cat.classes) differ
+    subst (λ (l : List (List ℕ)). repeats l ≡ false) (map-map (λ (c : ClassPart). c.name)
+    (class_part (map (λ (f : Fragment). f.name) cat.fragments)) cat.classes) differ
 
 -- ---- they are found by numbers
 
-any_number : {A : Type 0} (p : ℕ → Bool) (q : A → Bool) (xs : List A) (d : A) (a : ℕ) → ((i : ℕ) → i < length xs → p (a + i) ≡ q (get_or xs i d)) → list_any p (range_with_len a (length xs)) ≡ list_any q xs
+any_number : {A : Type 0} (p : ℕ → Bool) (q : A → Bool) (xs : List A) (d : A) (a : ℕ)
+    → ((i : ℕ) → i < length xs → p (a + i) ≡ q (get_or xs i d))
+    → list_any p (range_with_len a (length xs)) ≡ list_any q xs
 any_number p q [] d a h = refl
 any_number p q (x ∷ xs) d a h =
     let zero_more : a + 0 ≡ a = omega arith in
@@ -62,7 +68,9 @@ abbrev no_class : Class
 no_class = record { name = []; tm = tm_no 0; reads = []; writes = [] }
 
 -- a name is that of a class exactly where a number has it
-pub named_by_number : (cat : Catalogue) (name : List ℕ) → list_any (λ class. bytes_eq name (name_of_class cat class)) (numbers_to (length cat.classes)) ≡ has_name (class_names cat) name
+pub named_by_number : (cat : Catalogue) (name : List ℕ)
+    → list_any (λ class. bytes_eq name (name_of_class cat class))
+    (numbers_to (length cat.classes)) ≡ has_name (class_names cat) name
 named_by_number cat name =
     any_number (λ class. bytes_eq name (name_of_class cat class)) (λ (c : Class). bytes_eq name c.name) cat.classes no_class 1 (λ i lt.
     let place : 1 + i - 1 ≡ i = omega arith in
@@ -79,16 +87,23 @@ any_joined q [] = refl
 any_joined q (l ∷ lists) = list_any-append q l (joined lists) ∙ ap (λ (b : Bool). list_any q l || b) (any_joined q lists)
 
 pub classes_or_last : (name : List ℕ) (classes : List ClassPart) (last : List ClassPart)
-    → list_any (λ (c : ClassPart). bytes_eq name c.name) (classes ++ last) ≡ (list_any (λ (c : ClassPart). bytes_eq name c.name) classes || list_any (λ (c : ClassPart). bytes_eq name c.name) last)
+    → list_any (λ (c : ClassPart). bytes_eq name c.name)
+    (classes ++ last) ≡ (list_any (λ (c : ClassPart). bytes_eq name c.name) classes || list_any
+    (λ (c : ClassPart). bytes_eq name c.name) last)
 classes_or_last name classes last = list_any-append (named name) classes last
 
 lists_or_open_list : (name : List ℕ) (lists : List (List ClassPart)) (classes : List ClassPart)
-    → list_any (λ (c : ClassPart). bytes_eq name c.name) (joined lists ++ classes) ≡ (list_any (λ (l : List ClassPart). list_any (λ (c : ClassPart). bytes_eq name c.name) l) lists || list_any (λ (c : ClassPart). bytes_eq name c.name) classes)
-lists_or_open_list name lists classes = list_any-append (named name) (joined lists) classes ∙ ap (λ (b : Bool). b || list_any (named name) classes) (any_joined (named name) lists)
+    → list_any (λ (c : ClassPart). bytes_eq name c.name) (joined lists ++ classes) ≡ (list_any
+    (λ (l : List ClassPart). list_any (λ (c : ClassPart). bytes_eq name c.name) l) lists || list_any
+    (λ (c : ClassPart). bytes_eq name c.name) classes)
+lists_or_open_list name lists classes = list_any-append (named name) (joined lists) classes
+    ∙ ap (λ (b : Bool). b || list_any (named name) classes) (any_joined (named name) lists)
 
 pub catalogue_or_lists : (cat : Catalogue) (classes : List ClassPart) (name : List ℕ)
     → has_name (class_names cat ++ part_names classes) name ≡ (has_name (class_names cat) name || list_any (λ (c : ClassPart). bytes_eq name c.name) classes)
-catalogue_or_lists cat classes name = list_any-append (bytes_eq name) (class_names cat) (part_names classes) ∙ ap (λ (b : Bool). has_name (class_names cat) name || b) (list_any-map (bytes_eq name) (λ (c : ClassPart). c.name) classes)
+catalogue_or_lists cat classes name = list_any-append (bytes_eq name) (class_names cat) (part_names classes)
+    ∙ ap (λ (b : Bool). has_name (class_names cat) name || b)
+    (list_any-map (bytes_eq name) (λ (c : ClassPart). c.name) classes)
 
 -- ---- a test of two, of which the second is asked where the first fails
 
@@ -108,8 +123,13 @@ in_lists name lists = list_any (λ (l : List ClassPart). list_any (λ (c : Class
 abbrev pub in_classes : List ℕ → List ClassPart → Bool
 in_classes name classes = list_any (λ (c : ClassPart). bytes_eq name c.name) classes
 
-pub declared_in_lists : (name : List ℕ) (lists : List (List ClassPart)) (classes : List ClassPart) (b : Bool) → b ≡ in_lists name lists → b ≡ true → b ≡ in_classes name (joined lists ++ classes)
+pub declared_in_lists : (name : List ℕ) (lists : List (List ClassPart)) (classes : List ClassPart)
+    (b : Bool) → b ≡ in_lists name lists → b ≡ true → b ≡ in_classes name (joined lists ++ classes)
 declared_in_lists name lists classes b e t = either_first b (in_lists name lists) (in_classes name classes) e t ∙ sym (lists_or_open_list name lists classes)
 
-pub declared_in_open_list : (name : List ℕ) (lists : List (List ClassPart)) (classes : List ClassPart) (b d : Bool) → b ≡ in_lists name lists → b ≡ false → d ≡ in_classes name classes → d ≡ in_classes name (joined lists ++ classes)
-declared_in_open_list name lists classes b d e f g = either_second b (in_lists name lists) d (in_classes name classes) e f g ∙ sym (lists_or_open_list name lists classes)
+pub declared_in_open_list : (name : List ℕ) (lists : List (List ClassPart)) (classes : List ClassPart)
+    (b d : Bool) → b ≡ in_lists name lists → b ≡ false → d ≡ in_classes name classes
+    → d ≡ in_classes name (joined lists ++ classes)
+declared_in_open_list name lists classes b d e f g =
+    either_second b (in_lists name lists) d (in_classes name classes) e f g
+    ∙ sym (lists_or_open_list name lists classes)

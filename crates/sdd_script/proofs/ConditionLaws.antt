@@ -57,7 +57,8 @@ list_is x y e = cc
 five_same : (a b c d e f g h : Word) (xs ys : List Word) → a ≡ b → c ≡ d → e ≡ f → g ≡ h → xs ≡ ys → a ∷ c ∷ e ∷ g ∷ xs ≡ b ∷ d ∷ f ∷ h ∷ ys
 five_same a b c d e f g h xs ys p q r s t = cc
 
-op_choice : (bytes : List ℕ) (o op : Op) (rest : Option Op) (b : Bool) → bytes_eq bytes (op_word o) ≡ b → cond b (Some o) rest ≡ Some op → (rest ≡ Some op → bytes ≡ op_word op) → bytes ≡ op_word op
+op_choice : (bytes : List ℕ) (o op : Op) (rest : Option Op) (b : Bool) → bytes_eq bytes (op_word o) ≡ b
+    → cond b (Some o) rest ≡ Some op → (rest ≡ Some op → bytes ≡ op_word op) → bytes ≡ op_word op
 op_choice bytes o op rest true e is later = (bytes_eq-Decides bytes (op_word o)).0 e ∙ ap op_word (op_is o op is)
 op_choice bytes o op rest false e is later = later is
 
@@ -89,7 +90,9 @@ record IsComparison (key : List ℕ) (k left op right : Word) (c : Comparison) :
   right_is : right ≡ c.right
   looks : LooksRight c
 
-comparison_some : (left right w : Word) (o : Option Op) (c : Comparison) → op_of w ≡ o → option_map (λ op. record { left = left; op = op; right = right }) o ≡ Some c → (left ≡ c.left) × (w ≡ Plain (op_word c.op)) × (right ≡ c.right)
+comparison_some : (left right w : Word) (o : Option Op) (c : Comparison) → op_of w ≡ o
+    → option_map (λ op. record { left = left; op = op; right = right }) o ≡ Some c → (left ≡ c.left)
+    × (w ≡ Plain (op_word c.op)) × (right ≡ c.right)
 comparison_some left right w None c p e = absurd cc
 comparison_some left right w (Some op) c p e =
     let made : Comparison = record { left = left; op = op; right = right } in
@@ -142,7 +145,12 @@ comparisons_take key (k ∷ left ∷ op ∷ right ∷ more) cs e =
     let c = one.op_is in
     let d = one.right_is in
     let r = rest.spelled in
-    subst (λ (l : List Comparison). AreCompared key (k ∷ left ∷ op ∷ right ∷ more) l) j.whole (record { spelled = five_same k (Plain key) left j.head.left op (Plain (op_word j.head.op)) right j.head.right more (compared (codes "and") j.rest) a b c d r; looks = (one.looks, rest.looks) })
+    subst (λ (l : List Comparison). AreCompared key (k ∷ left ∷ op ∷ right ∷ more) l) j.whole
+    (record {
+      spelled = five_same k (Plain key) left j.head.left op (Plain (op_word j.head.op)) right
+          j.head.right more (compared (codes "and") j.rest) a b c d r;
+      looks = (one.looks, rest.looks);
+    })
 
 comparison_again : (key : List ℕ) (c : Comparison) → LooksRight c → comparison_of key (Plain key) c.left (Plain (op_word c.op)) c.right ≡ Some c
 comparison_again key c h =
@@ -167,36 +175,48 @@ pub record IsCondition (cat : Catalogue) (rels : List RelNo) (c : Comparison) (d
   pub fits : FitsCondition cat rels d
   pub value : HoldsValue d
 
-same_takes : (cat : Catalogue) (rels : List RelNo) (c : Comparison) (left : Found) (d : Condition) → IsRef cat rels c.left left → IsNaming c.op c.right → same_of cat (parts_for rels) left c.right ≡ Ok d → IsCondition cat rels c d
+same_takes : (cat : Catalogue) (rels : List RelNo) (c : Comparison) (left : Found) (d : Condition)
+    → IsRef cat rels c.left left → IsNaming c.op c.right → same_of cat (parts_for rels) left c.right ≡ Ok d
+    → IsCondition cat rels c d
 same_takes cat rels c left d l n e =
-    let a = bind_ok (column_of_use cat (parts_for rels) c.right) (λ (r : Found). must WrongKind (is_of_kind (Some left.kind) r.kind) >>= λ _. Ok (Same left.at r.at)) d e in
+    let a = bind_ok (column_of_use cat (parts_for rels) c.right)
+    (λ (r : Found). must WrongKind (is_of_kind (Some left.kind) r.kind) >>=
+    λ _. Ok (Same left.at r.at)) d e in
     let r = ref_takes cat rels c.right a.0 n.looks a.1 in
     let b = must_then WrongKind (is_of_kind (Some left.kind) a.0.kind) (λ _. Ok (Same left.at a.0.at)) d a.2 in
     let k : left.kind ≡ a.0.kind = same_kind left.kind a.0.kind b.0 in
     subst (λ (x : Condition). IsCondition cat rels c x) (ok_is (Same left.at a.0.at) d b.1) (record {
-      spelled = three_same c.left (column_word cat rels left.at) (Plain (op_word c.op)) (Plain (op_word ops.Eq)) c.right (column_word cat rels a.0.at) l.spelled (ap (λ (o : Op). Plain (op_word o)) n.equals) r.spelled;
+      spelled = three_same c.left (column_word cat rels left.at) (Plain (op_word c.op))
+          (Plain (op_word ops.Eq)) c.right (column_word cat rels a.0.at) l.spelled
+          (ap (λ (o : Op). Plain (op_word o)) n.equals) r.spelled;
       fits = (l.fits, r.fits, l.kind ∙ k ∙ sym r.kind);
       value = tt;
     })
 
-const_takes : (cat : Catalogue) (rels : List RelNo) (c : Comparison) (left : Found) (d : Condition) → IsRef cat rels c.left left → const_of left c.op c.right ≡ Ok d → IsCondition cat rels c d
+const_takes : (cat : Catalogue) (rels : List RelNo) (c : Comparison) (left : Found) (d : Condition)
+    → IsRef cat rels c.left left → const_of left c.op c.right ≡ Ok d → IsCondition cat rels c d
 const_takes cat rels c left d l e =
     let a = bind_ok (value_of (Some left.kind) c.right) (λ value. Ok (Const left.at c.op value)) d e in
     let v = value_takes left.kind c.right a.0 a.1 in
     subst (λ (x : Condition). IsCondition cat rels c x) (ok_is (Const left.at c.op a.0) d a.2) (record {
-      spelled = three_same c.left (column_word cat rels left.at) (Plain (op_word c.op)) (Plain (op_word c.op)) c.right (value_word a.0) l.spelled refl v.spelled;
+      spelled = three_same c.left (column_word cat rels left.at) (Plain (op_word c.op))
+          (Plain (op_word c.op)) c.right (value_word a.0) l.spelled refl v.spelled;
       fits = (l.fits, v.same ∙ sym l.kind);
       value = v.fits;
     })
 
-condition_if : (cat : Catalogue) (rels : List RelNo) (c : Comparison) (left : Found) (d : Condition) (b : Bool) → names_column c.op c.right ≡ b → IsRef cat rels c.left left
+condition_if : (cat : Catalogue) (rels : List RelNo) (c : Comparison) (left : Found) (d : Condition)
+    (b : Bool) → names_column c.op c.right ≡ b → IsRef cat rels c.left left
     → cond b (same_of cat (parts_for rels) left c.right) (const_of left c.op c.right) ≡ Ok d → IsCondition cat rels c d
 condition_if cat rels c left d true t l e = same_takes cat rels c left d l (naming c.op c.right t) e
 condition_if cat rels c left d false t l e = const_takes cat rels c left d l e
 
-pub condition_takes : (cat : Catalogue) (rels : List RelNo) (c : Comparison) (d : Condition) → LooksRight c → condition_of cat (parts_for rels) c ≡ Ok d → IsCondition cat rels c d
+pub condition_takes : (cat : Catalogue) (rels : List RelNo) (c : Comparison) (d : Condition) → LooksRight c
+    → condition_of cat (parts_for rels) c ≡ Ok d → IsCondition cat rels c d
 condition_takes cat rels c d looks e =
-    let a = bind_ok (column_of_use cat (parts_for rels) c.left) (λ left. (if names_column c.op c.right then same_of cat (parts_for rels) left c.right else const_of left c.op c.right)) d e in
+    let a = bind_ok (column_of_use cat (parts_for rels) c.left)
+    (λ left. (if names_column c.op c.right then same_of cat (parts_for rels) left c.right else const_of
+    left c.op c.right)) d e in
     condition_if cat rels c a.0 d (names_column c.op c.right) refl (ref_takes cat rels c.left a.0 looks.0 a.1) a.2
 
 pub record AreConditions (cat : Catalogue) (rels : List RelNo) (key : List ℕ) (ws : List Word) (ds : List Condition) : Type 0 where
@@ -207,7 +227,9 @@ pub record AreConditions (cat : Catalogue) (rels : List RelNo) (key : List ℕ) 
 abbrev reads : Catalogue → Parts → ℕ → Comparison → Result Condition WorkRule
 reads cat parts i c = condition_of cat parts c
 
-of_answers : (cat : Catalogue) (rels : List RelNo) (key : List ℕ) (i : ℕ) (cs : List Comparison) (ds : List Condition) → AllByRecursion LooksRight cs → Answers (reads cat (parts_for rels)) i cs ds → AreConditions cat rels key (compared key cs) ds
+of_answers : (cat : Catalogue) (rels : List RelNo) (key : List ℕ) (i : ℕ) (cs : List Comparison)
+    (ds : List Condition) → AllByRecursion LooksRight cs → Answers (reads cat (parts_for rels)) i cs ds
+    → AreConditions cat rels key (compared key cs) ds
 of_answers cat rels key i [] [] looks h = record { spelled = refl; fits = tt; values = tt }
 of_answers cat rels key i [] (d ∷ ds) looks h = absurd h
 of_answers cat rels key i (c ∷ cs) [] looks h = absurd h
@@ -215,54 +237,80 @@ of_answers cat rels key i (c ∷ cs) (d ∷ ds) looks h =
     let one = condition_takes cat rels c d looks.0 h.0 in
     let more = of_answers cat rels (codes "and") (i + 1) cs ds looks.1 h.1 in
     record {
-      spelled = ap (λ (l : List Word). Plain key ∷ (l ++ compared (codes "and") cs)) one.spelled ∙ ap (λ (l : List Word). Plain key ∷ (condition_words cat rels d ++ l)) more.spelled;
+      spelled = ap (λ (l : List Word). Plain key ∷ (l ++ compared (codes "and") cs)) one.spelled
+          ∙ ap (λ (l : List Word). Plain key ∷ (condition_words cat rels d ++ l)) more.spelled;
       fits = (one.fits, more.fits);
       values = (one.value, more.values);
     }
 
 -- the conditions that were read, with their words
-pub conditions_take : (cat : Catalogue) (rels : List RelNo) (key : List ℕ) (ws : List Word) (cs : List Comparison) (ds : List Condition) → comparisons key ws ≡ Some cs → conditions_of cat (parts_for rels) cs ≡ Ok ds → AreConditions cat rels key ws ds
+pub conditions_take : (cat : Catalogue) (rels : List RelNo) (key : List ℕ) (ws : List Word)
+    (cs : List Comparison) (ds : List Condition) → comparisons key ws ≡ Some cs
+    → conditions_of cat (parts_for rels) cs ≡ Ok ds → AreConditions cat rels key ws ds
 conditions_take cat rels key ws cs ds form e =
     let f = comparisons_take key ws cs form in
-    subst (λ (l : List Word). AreConditions cat rels key l ds) (sym f.spelled) (of_answers cat rels key 0 cs ds f.looks (along_ok (reads cat (parts_for rels)) 0 cs ds e))
+    subst (λ (l : List Word). AreConditions cat rels key l ds) (sym f.spelled)
+    (of_answers cat rels key 0 cs ds f.looks (along_ok (reads cat (parts_for rels)) 0 cs ds e))
 
 -- the comparison that a condition is
 abbrev pub comparison_for : Catalogue → List RelNo → Condition → Comparison
 comparison_for cat rels (Const left op value) = record { left = column_word cat rels left; op = op; right = value_word value }
 comparison_for cat rels (Same left right) = record { left = column_word cat rels left; op = ops.Eq; right = column_word cat rels right }
 
-looks_again : (cat : Catalogue) → IsKnown cat → (rels : List RelNo) → AreParts cat rels → (d : Condition) → FitsCondition cat rels d → HoldsValue d → LooksRight (comparison_for cat rels d)
+looks_again : (cat : Catalogue) → IsKnown cat → (rels : List RelNo) → AreParts cat rels → (d : Condition)
+    → FitsCondition cat rels d → HoldsValue d → LooksRight (comparison_for cat rels d)
 looks_again cat k rels h (Const left op value) fits v = ((column_word_is cat k rels left h fits.0).looks, value_free value v)
 looks_again cat k rels h (Same left right) fits v = ((column_word_is cat k rels left h fits.0).looks, (column_word_is cat k rels right h fits.1).free)
 
-condition_again : (cat : Catalogue) → IsKnown cat → (rels : List RelNo) → AreParts cat rels → (d : Condition) → FitsCondition cat rels d → HoldsValue d → condition_of cat (parts_for rels) (comparison_for cat rels d) ≡ Ok d
+condition_again : (cat : Catalogue) → IsKnown cat → (rels : List RelNo) → AreParts cat rels
+    → (d : Condition) → FitsCondition cat rels d → HoldsValue d → condition_of cat (parts_for rels)
+    (comparison_for cat rels d) ≡ Ok d
 condition_again cat k rels h (Const left op value) fits v =
     let a = ref_again cat k rels left h fits.0 in
     let b = value_names_no_column op value v in
-    let c : value_of (Some (kind_of_ref cat rels left)) (value_word value) ≡ Ok value = subst (λ (x : Kind). value_of (Some x) (value_word value) ≡ Ok value) fits.1 (value_again value v) in
+    let c : value_of (Some (kind_of_ref cat rels left)) (value_word value) ≡ Ok value =
+    subst (λ (x : Kind). value_of (Some x) (value_word value) ≡ Ok value) fits.1 (value_again value v) in
     rw (a, b, c) refl
 condition_again cat k rels h (Same left right) fits v =
     let a = ref_again cat k rels left h fits.0 in
     let b = ref_again cat k rels right h fits.1 in
     let n = (column_word_is cat k rels right h fits.1).names in
-    let s : is_of_kind (Some (kind_of_ref cat rels left)) (kind_of_ref cat rels right) ≡ true = subst (λ (x : Kind). is_of_kind (Some (kind_of_ref cat rels left)) x ≡ true) fits.2 (kind_same (kind_of_ref cat rels left)) in
+    let s : is_of_kind (Some (kind_of_ref cat rels left)) (kind_of_ref cat rels right) ≡ true =
+    subst (λ (x : Kind). is_of_kind (Some (kind_of_ref cat rels left)) x ≡ true) fits.2
+    (kind_same (kind_of_ref cat rels left)) in
     rw (a, n, b, s) refl
 
-words_same : (cat : Catalogue) (rels : List RelNo) (key : List ℕ) (ds : List Condition) → conditions_words key cat rels ds ≡ compared key (map (comparison_for cat rels) ds)
+words_same : (cat : Catalogue) (rels : List RelNo) (key : List ℕ) (ds : List Condition)
+    → conditions_words key cat rels ds ≡ compared key (map (comparison_for cat rels) ds)
 words_same cat rels key [] = refl
-words_same cat rels key (Const left op value ∷ ds) = ap (λ (l : List Word). Plain key ∷ column_word cat rels left ∷ Plain (op_word op) ∷ value_word value ∷ l) (words_same cat rels (codes "and") ds)
-words_same cat rels key (Same left right ∷ ds) = ap (λ (l : List Word). Plain key ∷ column_word cat rels left ∷ Plain (op_word ops.Eq) ∷ column_word cat rels right ∷ l) (words_same cat rels (codes "and") ds)
+words_same cat rels key (Const left op value ∷ ds) =
+    ap (λ (l : List Word). Plain key ∷ column_word cat rels left ∷ Plain (op_word op) ∷ value_word value ∷
+    l) (words_same cat rels (codes "and") ds)
+words_same cat rels key (Same left right ∷ ds) =
+    ap (λ (l : List Word). Plain key ∷ column_word cat rels left ∷ Plain (op_word ops.Eq) ∷ column_word cat
+    rels right ∷ l) (words_same cat rels (codes "and") ds)
 
-all_look : (cat : Catalogue) → IsKnown cat → (rels : List RelNo) → AreParts cat rels → (ds : List Condition) → AllByRecursion (FitsCondition cat rels) ds → AllByRecursion HoldsValue ds → AllByRecursion LooksRight (map (comparison_for cat rels) ds)
+all_look : (cat : Catalogue) → IsKnown cat → (rels : List RelNo) → AreParts cat rels → (ds : List Condition)
+    → AllByRecursion (FitsCondition cat rels) ds → AllByRecursion HoldsValue ds → AllByRecursion LooksRight
+    (map (comparison_for cat rels) ds)
 all_look cat k rels h [] fits v = tt
 all_look cat k rels h (d ∷ ds) fits v = (looks_again cat k rels h d fits.0 v.0, all_look cat k rels h ds fits.1 v.1)
 
-all_read : (cat : Catalogue) → IsKnown cat → (rels : List RelNo) → AreParts cat rels → (i : ℕ) (ds : List Condition) → AllByRecursion (FitsCondition cat rels) ds → AllByRecursion HoldsValue ds → Answers (reads cat (parts_for rels)) i (map (comparison_for cat rels) ds) ds
+all_read : (cat : Catalogue) → IsKnown cat → (rels : List RelNo) → AreParts cat rels
+    → (i : ℕ) (ds : List Condition) → AllByRecursion (FitsCondition cat rels) ds
+    → AllByRecursion HoldsValue ds → Answers (reads cat (parts_for rels)) i
+    (map (comparison_for cat rels) ds) ds
 all_read cat k rels h i [] fits v = tt
 all_read cat k rels h i (d ∷ ds) fits v = (condition_again cat k rels h d fits.0 v.0, all_read cat k rels h (i + 1) ds fits.1 v.1)
 
-pub form_again : (cat : Catalogue) → IsKnown cat → (rels : List RelNo) → AreParts cat rels → (key : List ℕ) (ds : List Condition) → AllByRecursion (FitsCondition cat rels) ds → AllByRecursion HoldsValue ds → comparisons key (conditions_words key cat rels ds) ≡ Some (map (comparison_for cat rels) ds)
-form_again cat k rels h key ds fits v = ap (comparisons key) (words_same cat rels key ds) ∙ comparisons_again key (map (comparison_for cat rels) ds) (all_look cat k rels h ds fits v)
+pub form_again : (cat : Catalogue) → IsKnown cat → (rels : List RelNo) → AreParts cat rels
+    → (key : List ℕ) (ds : List Condition) → AllByRecursion (FitsCondition cat rels) ds
+    → AllByRecursion HoldsValue ds → comparisons key (conditions_words key cat rels ds) ≡ Some
+    (map (comparison_for cat rels) ds)
+form_again cat k rels h key ds fits v = ap (comparisons key) (words_same cat rels key ds)
+    ∙ comparisons_again key (map (comparison_for cat rels) ds) (all_look cat k rels h ds fits v)
 
-pub conditions_again : (cat : Catalogue) → IsKnown cat → (rels : List RelNo) → AreParts cat rels → (ds : List Condition) → AllByRecursion (FitsCondition cat rels) ds → AllByRecursion HoldsValue ds → conditions_of cat (parts_for rels) (map (comparison_for cat rels) ds) ≡ Ok ds
+pub conditions_again : (cat : Catalogue) → IsKnown cat → (rels : List RelNo) → AreParts cat rels
+    → (ds : List Condition) → AllByRecursion (FitsCondition cat rels) ds → AllByRecursion HoldsValue ds
+    → conditions_of cat (parts_for rels) (map (comparison_for cat rels) ds) ≡ Ok ds
 conditions_again cat k rels h ds fits v = ok_along (reads cat (parts_for rels)) 0 (map (comparison_for cat rels) ds) ds (all_read cat k rels h 0 ds fits v)

@@ -83,21 +83,36 @@ empty_if [] e = refl
 empty_if (c ∷ ds) e = let n : length (c ∷ ds) ≡ 0 = eqb-true (length (c ∷ ds)) 0 e in absurd (omega (arith, n))
 
 site_if : (cat : Catalogue) (c : ℕ) (ds : List ℕ) (site : Site) (u t d : Bool) → (c == 85 && (length ds == 0)) ≡ u → (c == 84) ≡ t → (c == 68) ≡ d
-    → cond u (Some U) (cond t (option_map (λ n. T (tm_no n)) (numbered cat.tms ds)) (cond d (option_map (λ n. D (dm_no n)) (numbered cat.dms ds)) None)) ≡ Some site
+    → cond u (Some U) (cond t (option_map (λ n. T (tm_no n)) (numbered cat.tms ds))
+    (cond d (option_map (λ n. D (dm_no n)) (numbered cat.dms ds)) None)) ≡ Some site
     → IsSiteWord cat (Plain (c ∷ ds)) site
 site_if cat c ds site true t d p q r e =
     let h = both_hold (c == 85) (length ds == 0) p in
     let a : c ≡ 85 = eqb-true c 85 h.0 in
     let b : ds ≡ [] = empty_if ds h.1 in
-    subst (λ (s : Site). IsSiteWord cat (Plain (c ∷ ds)) s) (site_is U site e) (record { spelled = ap (λ (x : ℕ). Plain (x ∷ ds)) a ∙ ap (λ (l : List ℕ). Plain (85 ∷ l)) b; there = tt })
+    subst (λ (s : Site). IsSiteWord cat (Plain (c ∷ ds)) s) (site_is U site e) (record {
+      spelled =
+          ap (λ (x : ℕ). Plain (x ∷ ds)) a ∙ ap (λ (l : List ℕ). Plain (85 ∷ l)) b;
+      there = tt;
+    })
 site_if cat c ds site false true d p q r e =
     let m = mapped (λ n. T (tm_no n)) (numbered cat.tms ds) site e in
     let n = numbered_takes cat.tms ds m.0 m.1 in
-    subst (λ (s : Site). IsSiteWord cat (Plain (c ∷ ds)) s) m.2 (record { spelled = ap (λ (x : ℕ). Plain (x ∷ ds)) (eqb-true c 84 q) ∙ ap (λ (l : List ℕ). Plain (84 ∷ l)) n.0; there = n.1 })
+    subst (λ (s : Site). IsSiteWord cat (Plain (c ∷ ds)) s) m.2 (record {
+      spelled =
+          ap (λ (x : ℕ). Plain (x ∷ ds)) (eqb-true c 84 q) ∙ ap (λ (l : List ℕ). Plain (84 ∷ l)) n.0;
+      there =
+          n.1;
+    })
 site_if cat c ds site false false true p q r e =
     let m = mapped (λ n. D (dm_no n)) (numbered cat.dms ds) site e in
     let n = numbered_takes cat.dms ds m.0 m.1 in
-    subst (λ (s : Site). IsSiteWord cat (Plain (c ∷ ds)) s) m.2 (record { spelled = ap (λ (x : ℕ). Plain (x ∷ ds)) (eqb-true c 68 r) ∙ ap (λ (l : List ℕ). Plain (68 ∷ l)) n.0; there = n.1 })
+    subst (λ (s : Site). IsSiteWord cat (Plain (c ∷ ds)) s) m.2 (record {
+      spelled =
+          ap (λ (x : ℕ). Plain (x ∷ ds)) (eqb-true c 68 r) ∙ ap (λ (l : List ℕ). Plain (68 ∷ l)) n.0;
+      there =
+          n.1;
+    })
 site_if cat c ds site false false false p q r e = absurd cc
 
 site_bytes : (cat : Catalogue) (bytes : List ℕ) (site : Site) → site_in cat bytes ≡ Some site → IsSiteWord cat (Plain bytes) site
@@ -113,10 +128,16 @@ site_again cat k U h = refl
 site_again cat k (T tm) h = let e = numbered_again cat.tms tm.0 (omega (arith, k.few_tms)) h in rw e refl
 site_again cat k (D dm) h = let e = numbered_again cat.dms dm.0 (omega (arith, k.few_dms)) h in rw e refl
 
-module_takes : (cat : Catalogue) (w : Word) (tm : TmNo) (site : Site) → IsSiteWord cat w site → module_of site ≡ Ok tm → (w ≡ site_word (T tm)) × IsFrom1To cat.tms tm.0
+module_takes : (cat : Catalogue) (w : Word) (tm : TmNo) (site : Site) → IsSiteWord cat w site
+    → module_of site ≡ Ok tm → (w ≡ site_word (T tm)) × IsFrom1To cat.tms tm.0
 module_takes cat w tm U h e = absurd cc
 module_takes cat w tm (D dm) h e = absurd cc
-module_takes cat w tm (T t) h e = let same : t ≡ tm = ok_is t tm e in (h.spelled ∙ ap (λ (x : TmNo). site_word (T x)) same, subst (λ (x : TmNo). IsFrom1To cat.tms x.0) same h.there)
+module_takes cat w tm (T t) h e = let same : t ≡ tm =
+    ok_is t tm e in (
+      h.spelled ∙ ap (λ (x : TmNo). site_word (T x)) same,
+      subst
+          (λ (x : TmNo). IsFrom1To cat.tms x.0) same h.there,
+    )
 
 pub tm_takes : (cat : Catalogue) (w : Word) (tm : TmNo) → tm_of cat w ≡ Ok tm → (w ≡ site_word (T tm)) × IsFrom1To cat.tms tm.0
 tm_takes cat w tm e =
@@ -126,10 +147,16 @@ tm_takes cat w tm e =
 pub tm_again : (cat : Catalogue) → IsKnown cat → (tm : TmNo) → IsFrom1To cat.tms tm.0 → tm_of cat (site_word (T tm)) ≡ Ok tm
 tm_again cat k tm h = let e = site_again cat k (T tm) h in rw e refl
 
-data_module_takes : (cat : Catalogue) (w : Word) (dm : DmNo) (site : Site) → IsSiteWord cat w site → data_module_of site ≡ Ok dm → (w ≡ site_word (D dm)) × IsFrom1To cat.dms dm.0
+data_module_takes : (cat : Catalogue) (w : Word) (dm : DmNo) (site : Site) → IsSiteWord cat w site
+    → data_module_of site ≡ Ok dm → (w ≡ site_word (D dm)) × IsFrom1To cat.dms dm.0
 data_module_takes cat w dm U h e = absurd cc
 data_module_takes cat w dm (T tm) h e = absurd cc
-data_module_takes cat w dm (D d) h e = let same : d ≡ dm = ok_is d dm e in (h.spelled ∙ ap (λ (x : DmNo). site_word (D x)) same, subst (λ (x : DmNo). IsFrom1To cat.dms x.0) same h.there)
+data_module_takes cat w dm (D d) h e = let same : d ≡ dm =
+    ok_is d dm e in (
+      h.spelled ∙ ap (λ (x : DmNo). site_word (D x)) same,
+      subst
+          (λ (x : DmNo). IsFrom1To cat.dms x.0) same h.there,
+    )
 
 pub dm_takes : (cat : Catalogue) (w : Word) (dm : DmNo) → dm_of cat w ≡ Ok dm → (w ≡ site_word (D dm)) × IsFrom1To cat.dms dm.0
 dm_takes cat w dm e =
@@ -154,7 +181,12 @@ link_takes cat from to l e =
     let c = must_then BadEvent (are_linked a.0 b.0) (λ _. Ok (link a.0 b.0)) l b.2 in
     let f = site_takes cat from a.0 a.1 in
     let t = site_takes cat to b.0 b.1 in
-    subst (λ (x : Site × Site). IsLinkWords cat from to x) (ok_is (link a.0 b.0) l c.1) (record { from_is = f.spelled; to_is = t.spelled; linked = (f.there, t.there, c.0) })
+    subst (λ (x : Site × Site). IsLinkWords cat from to x) (ok_is (link a.0 b.0) l c.1) (record {
+      from_is =
+          f.spelled;
+      to_is = t.spelled;
+      linked = (f.there, t.there, c.0);
+    })
 
 pub link_again : (cat : Catalogue) → IsKnown cat → (from to : Site) → IsLink cat from to → link_of cat (site_word from) (site_word to) ≡ Ok (from, to)
 link_again cat k from to h =
@@ -178,14 +210,22 @@ literal : (c : ℕ) → c < 128 → IsUtf8 (c ∷ [])
 literal c lt = IsUtf8-from_ascii (c ∷ []) (IsAscii-cons c [] lt IsAscii-nil)
 
 lettered : (c : ℕ) (bytes : List ℕ) → c < 128 → c ≢ 10 → c ≢ 32 → c ≢ 34 → HasNoSpace bytes → HasNoNewline bytes → IsUtf8 bytes → IsFine (Plain (c ∷ bytes))
-lettered c bytes lt newline space quote s l u = record { word = (quote, space, s); utf8 = IsUtf8-append (c ∷ []) bytes (literal c lt) u; sound = refl; line = (newline, l) }
+lettered c bytes lt newline space quote s l u = record {
+  word = (quote, space, s);
+  utf8 =
+      IsUtf8-append (c ∷ []) bytes (literal c lt) u;
+  sound = refl;
+  line = (newline, l);
+}
 
 plain_space : (bytes : List ℕ) → IsPlain bytes → HasNoSpace bytes
 plain_space [] h = absurd h
 plain_space (c ∷ bytes) h = (h.1, h.2)
 
 numbered_fine : (c n : ℕ) → c < 128 → c ≢ 10 → c ≢ 32 → c ≢ 34 → n < 2 ^ 63 → IsFine (Plain (c ∷ decimal n))
-numbered_fine c n lt newline space quote small = let f = count_fine n small in lettered c (decimal n) lt newline space quote (plain_space (decimal n) f.word) f.line f.utf8
+numbered_fine c n lt newline space quote small = let f =
+    count_fine n small in lettered c (decimal n) lt newline space quote (plain_space (decimal n) f.word)
+    f.line f.utf8
 
 pub site_fine : (cat : Catalogue) → IsKnown cat → (site : Site) → IsSite cat site → IsFine (site_word site)
 site_fine cat k U h = lettered 85 [] (omega arith) (λ e. omega arith) (λ e. omega arith) (λ e. omega arith) tt tt (IsUtf8-from_ascii [] IsAscii-nil)
@@ -224,7 +264,8 @@ place_takes cat [] p h = absurd cc
 place_takes cat (a ∷ []) p h = absurd cc
 place_takes cat (a ∷ b ∷ []) p h = absurd cc
 place_takes cat (from ∷ to ∷ place ∷ []) p h =
-    let a = must_then BadLine (is_free from && is_free to && is_free place) (λ _. link_of cat from to >>= λ (link : Site × Site). count_of MAX_PLACE place >>= λ k. Ok (flight link.0 link.1 k)) p h in
+    let a = must_then BadLine (is_free from && is_free to && is_free place) (λ _. link_of cat from to >>=
+    λ (link : Site × Site). count_of MAX_PLACE place >>= λ k. Ok (flight link.0 link.1 k)) p h in
     let b = bind_ok (link_of cat from to) (λ (link : Site × Site). count_of MAX_PLACE place >>= λ k. Ok (flight link.0 link.1 k)) p a.1 in
     let c = bind_ok (count_of MAX_PLACE place) (λ k. Ok (flight b.0.0 b.0.1 k)) p b.2 in
     let l = link_takes cat from to b.0 b.1 in
@@ -233,12 +274,17 @@ place_takes cat (from ∷ to ∷ place ∷ []) p h =
     (record { linked = l.linked; placed = n.1; spelled = three_words from (site_word b.0.0) to (site_word b.0.1) place (count_word c.0) l.from_is l.to_is n.0 })
 place_takes cat (a ∷ b ∷ c ∷ d ∷ rest) p h = absurd cc
 
-pub place_again : (cat : Catalogue) → IsKnown cat → (from to : Site) (place : ℕ) → IsLink cat from to → IsFrom1To MAX_PLACE place → flight_place cat (site_word from ∷ site_word to ∷ count_word place ∷ []) ≡ Ok (flight from to place)
+pub place_again : (cat : Catalogue) → IsKnown cat → (from to : Site) (place : ℕ) → IsLink cat from to
+    → IsFrom1To MAX_PLACE place → flight_place cat
+    (site_word from ∷ site_word to ∷ count_word place ∷ []) ≡ Ok (flight from to place)
 place_again cat k from to place h n =
-    let f = both_are (is_free (site_word from) && is_free (site_word to)) (is_free (count_word place)) (both_are (is_free (site_word from)) (is_free (site_word to)) (site_free from) (site_free to)) (place_free place n) in
+    let f = both_are (is_free (site_word from) && is_free (site_word to)) (is_free (count_word place))
+    (both_are (is_free (site_word from)) (is_free (site_word to)) (site_free from) (site_free to))
+    (place_free place n) in
     let a = link_again cat k from to h in
     let b = count_again MAX_PLACE place (omega arith) n in
-    ap (λ (t : Bool). must BadLine t >>= λ _. link_of cat (site_word from) (site_word to) >>= λ (link : Site × Site). count_of MAX_PLACE (count_word place) >>= λ k. Ok (flight link.0 link.1 k)) f
+    ap (λ (t : Bool). must BadLine t >>= λ _. link_of cat (site_word from) (site_word to) >>=
+    λ (link : Site × Site). count_of MAX_PLACE (count_word place) >>= λ k. Ok (flight link.0 link.1 k)) f
     ∙ ap (λ (r : Result (Site × Site) WorkRule). r >>= λ (link : Site × Site). count_of MAX_PLACE (count_word place) >>= λ k. Ok (flight link.0 link.1 k)) a
     ∙ ap (λ (r : Result ℕ WorkRule). r >>= λ k. Ok (flight from to k)) b
 
@@ -256,10 +302,19 @@ resend_takes cat (from ∷ to ∷ []) e h =
     let a = must_then BadLine (is_free from && is_free to) (λ _. link_of cat from to >>= λ (link : Site × Site). Ok (Resend link.0 link.1)) e h in
     let b = bind_ok (link_of cat from to) (λ (link : Site × Site). Ok (Resend link.0 link.1)) e a.1 in
     let l = link_takes cat from to b.0 b.1 in
-    record { from = b.0.0; to = b.0.1; linked = l.linked; spelled = two_words from (site_word b.0.0) to (site_word b.0.1) l.from_is l.to_is; is = ok_is (Resend b.0.0 b.0.1) e b.2 }
+    record {
+      from = b.0.0;
+      to = b.0.1;
+      linked = l.linked;
+      spelled =
+          two_words from (site_word b.0.0) to (site_word b.0.1) l.from_is l.to_is;
+      is =
+          ok_is (Resend b.0.0 b.0.1) e b.2;
+    }
 resend_takes cat (a ∷ b ∷ c ∷ rest) e h = absurd cc
 
-pub resend_again : (cat : Catalogue) → IsKnown cat → (from to : Site) → IsLink cat from to → resend_of cat (site_word from ∷ site_word to ∷ []) ≡ Ok (Resend from to)
+pub resend_again : (cat : Catalogue) → IsKnown cat → (from to : Site) → IsLink cat from to
+    → resend_of cat (site_word from ∷ site_word to ∷ []) ≡ Ok (Resend from to)
 resend_again cat k from to h =
     let f = both_are (is_free (site_word from)) (is_free (site_word to)) (site_free from) (site_free to) in
     let a = link_again cat k from to h in
@@ -283,10 +338,19 @@ tick_takes cat (tm ∷ n ∷ []) e h =
     let c = bind_ok (count_of MAX_TICKS n) (λ k. Ok (Tick b.0 k)) e b.2 in
     let t = tm_takes cat tm b.0 b.1 in
     let m = count_takes MAX_TICKS n c.0 c.1 in
-    record { tm = b.0; n = c.0; there = t.1; counted = m.1; spelled = two_words tm (site_word (T b.0)) n (count_word c.0) t.0 m.0; is = ok_is (Tick b.0 c.0) e c.2 }
+    record {
+      tm = b.0;
+      n = c.0;
+      there = t.1;
+      counted = m.1;
+      spelled =
+          two_words tm (site_word (T b.0)) n (count_word c.0) t.0 m.0;
+      is = ok_is (Tick b.0 c.0) e c.2;
+    }
 tick_takes cat (a ∷ b ∷ c ∷ rest) e h = absurd cc
 
-pub tick_again : (cat : Catalogue) → IsKnown cat → (tm : TmNo) (n : ℕ) → IsFrom1To cat.tms tm.0 → IsFrom1To MAX_TICKS n → tick_of cat (site_word (T tm) ∷ count_word n ∷ []) ≡ Ok (Tick tm n)
+pub tick_again : (cat : Catalogue) → IsKnown cat → (tm : TmNo) (n : ℕ) → IsFrom1To cat.tms tm.0
+    → IsFrom1To MAX_TICKS n → tick_of cat (site_word (T tm) ∷ count_word n ∷ []) ≡ Ok (Tick tm n)
 tick_again cat k tm n h m =
     let f = both_are (is_free (site_word (T tm))) (is_free (count_word n)) (site_free (T tm)) (place_free n m) in
     let a = tm_again cat k tm h in

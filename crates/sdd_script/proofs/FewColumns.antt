@@ -16,14 +16,16 @@ few_of : (cat : Catalogue) → IsSound cat → (k : ℕ) (r : Relation) → slic
 few_of cat sound k r e =
     let within : k < length cat.relations = slice_get_within cat.relations k r e in
     let many : length (map relation_part cat.relations) ≡ length cat.relations = length-map cat.relations relation_part in
-    let few : length (get_or (map relation_part cat.relations) k no_relation).columns < 2 ^ 32 - 1 = have_numbers (parts_of cat) sound.valid k no_relation (omega arith) in
+    let few : length (get_or (map relation_part cat.relations) k no_relation).columns < 2 ^ 32 - 1 =
+    have_numbers (parts_of cat) sound.valid k no_relation (omega arith) in
     let at : get_or (map relation_part cat.relations) k no_relation ≡ relation_part r =
     get_or-map relation_part cat.relations k r no_relation within ∙ ap relation_part (get_or_from_slice_get cat.relations k r r e) in
     let same : length (relation_part r).columns ≡ length r.columns = length-map r.columns column_part in
     let there : length (relation_part r).columns < 2 ^ 32 - 1 = subst (λ (p : RelationPart). length p.columns < 2 ^ 32 - 1) at few in
     omega arith
 
-few_if : (cat : Catalogue) → IsSound cat → (k : ℕ) (o : Option Relation) → slice_get cat.relations k ≡ o → length (option_map_or (λ (r : Relation). r.columns) o []) < 2 ^ 32 - 1
+few_if : (cat : Catalogue) → IsSound cat → (k : ℕ) (o : Option Relation) → slice_get cat.relations k ≡ o
+    → length (option_map_or (λ (r : Relation). r.columns) o []) < 2 ^ 32 - 1
 few_if cat sound k None e = omega arith
 few_if cat sound k (Some r) e = few_of cat sound k r e
 

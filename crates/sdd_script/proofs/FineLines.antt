@@ -140,28 +140,64 @@ op_fine op = simple_fine (op_word op) (op_simple op)
 
 -- ---- statements
 
-conditions_fine : (cat : Catalogue) → IsKnown cat → (rels : List RelNo) → AreParts cat rels → (key : List ℕ) → IsFine (Plain key) → (ds : List Condition) → AllByRecursion (FitsCondition cat rels) ds → AllByRecursion HoldsValue ds → AreFine (conditions_words key cat rels ds)
+conditions_fine : (cat : Catalogue) → IsKnown cat → (rels : List RelNo) → AreParts cat rels → (key : List ℕ)
+    → IsFine (Plain key) → (ds : List Condition) → AllByRecursion (FitsCondition cat rels) ds
+    → AllByRecursion HoldsValue ds → AreFine (conditions_words key cat rels ds)
 conditions_fine cat k rels p key f [] fits v = tt
-conditions_fine cat k rels p key f (Const left op value ∷ ds) fits v =
-    (f, ((column_word_is cat k rels left p fits.0.0).fine, (op_fine op, (value_fine value v.0, conditions_fine cat k rels p (codes "and") (simple_fine (codes "and") refl) ds fits.1 v.1))))
-conditions_fine cat k rels p key f (Same left right ∷ ds) fits v =
-    (f, ((column_word_is cat k rels left p fits.0.0).fine, (op_fine ops.Eq, ((column_word_is cat k rels right p fits.0.1).fine, conditions_fine cat k rels p (codes "and") (simple_fine (codes "and") refl) ds fits.1 v.1))))
+conditions_fine cat k rels p key f (Const left op value ∷ ds) fits v = (
+  f,
+  (
+    (column_word_is cat k rels left p fits.0.0).fine,
+    (
+      op_fine op,
+      (
+        value_fine value v.0,
+        conditions_fine cat k rels p (codes "and")
+            (simple_fine (codes "and") refl) ds fits.1 v.1,
+      ),
+    ),
+  ),
+)
+conditions_fine cat k rels p key f (Same left right ∷ ds) fits v = (
+  f,
+  (
+    (column_word_is cat k rels left p fits.0.0).fine,
+    (
+      op_fine ops.Eq,
+      (
+        (column_word_is cat k rels right p fits.0.1).fine,
+        conditions_fine cat k rels p
+            (codes "and") (simple_fine (codes "and") refl) ds fits.1 v.1,
+      ),
+    ),
+  ),
+)
 
-where_fine : (cat : Catalogue) → IsKnown cat → (rels : List RelNo) → AreParts cat rels → (ds : List Condition) → AllByRecursion (FitsCondition cat rels) ds → AllByRecursion HoldsValue ds → AreFine (where_words cat rels ds)
+where_fine : (cat : Catalogue) → IsKnown cat → (rels : List RelNo) → AreParts cat rels
+    → (ds : List Condition) → AllByRecursion (FitsCondition cat rels) ds → AllByRecursion HoldsValue ds
+    → AreFine (where_words cat rels ds)
 where_fine cat k rels p ds fits v = conditions_fine cat k rels p (codes "where") (simple_fine (codes "where") refl) ds fits v
 
-sets_fine : (cat : Catalogue) → IsKnown cat → (rel : RelNo) → AreParts cat (rel ∷ []) → (sets : List Assign) → AllByRecursion (FitsAssign cat rel.0) sets → AllByRecursion AssignsValue sets → AreFine (sets_words cat rel sets)
+sets_fine : (cat : Catalogue) → IsKnown cat → (rel : RelNo) → AreParts cat (rel ∷ []) → (sets : List Assign)
+    → AllByRecursion (FitsAssign cat rel.0) sets → AllByRecursion AssignsValue sets
+    → AreFine (sets_words cat rel sets)
 sets_fine cat k rel p [] fits v = tt
-sets_fine cat k rel p (To column value ∷ sets) fits v =
-    ((column_word_is cat k (rel ∷ []) (own_column column) p ((omega arith, omega arith), fits.0.0)).fine, (simple_fine (codes "=") refl, (value_fine value v.0, sets_fine cat k rel p sets fits.1 v.1)))
-sets_fine cat k rel p (Add column by ∷ sets) fits v =
-    ((column_word_is cat k (rel ∷ []) (own_column column) p ((omega arith, omega arith), fits.0.0)).fine, (simple_fine (codes "+=") refl, (number_fine by v.0, sets_fine cat k rel p sets fits.1 v.1)))
+sets_fine cat k rel p (To column value ∷ sets) fits v = (
+  (column_word_is cat k (rel ∷ []) (own_column column) p ((omega arith, omega arith), fits.0.0)).fine,
+  (simple_fine (codes "=") refl, (value_fine value v.0, sets_fine cat k rel p sets fits.1 v.1)),
+)
+sets_fine cat k rel p (Add column by ∷ sets) fits v = (
+  (column_word_is cat k (rel ∷ []) (own_column column) p ((omega arith, omega arith), fits.0.0)).fine,
+  (simple_fine (codes "+=") refl, (number_fine by v.0, sets_fine cat k rel p sets fits.1 v.1)),
+)
 
-relations_fine : (cat : Catalogue) → IsKnown cat → (rels : List RelNo) → AllByRecursion (λ (r : RelNo). IsRelation cat r.0) rels → AreFine (map (relation_word cat) rels)
+relations_fine : (cat : Catalogue) → IsKnown cat → (rels : List RelNo)
+    → AllByRecursion (λ (r : RelNo). IsRelation cat r.0) rels → AreFine (map (relation_word cat) rels)
 relations_fine cat k [] h = tt
 relations_fine cat k (r ∷ rels) h = (name_fine (name_of_relation cat r.0) (k.relation_name r.0 h.0), relations_fine cat k rels h.1)
 
-columns_fine : (cat : Catalogue) → IsKnown cat → (rels : List RelNo) → AreParts cat rels → (out : List Ref) → AllByRecursion (FitsRef cat rels) out → AreFine (map (column_word cat rels) out)
+columns_fine : (cat : Catalogue) → IsKnown cat → (rels : List RelNo) → AreParts cat rels → (out : List Ref)
+    → AllByRecursion (FitsRef cat rels) out → AreFine (map (column_word cat rels) out)
 columns_fine cat k rels p [] h = tt
 columns_fine cat k rels p (r ∷ out) h = ((column_word_is cat k rels r p h.0).fine, columns_fine cat k rels p out h.1)
 
@@ -173,8 +209,14 @@ statement_fine cat k (Put rel row) h v = (keyword_fine (keys.Statement skeys.Put
 statement_fine cat k (Query out rels conds) h v =
     let q = query_fits cat out rels conds h v in (
       keyword_fine (keys.Statement skeys.Query),
-      fine-append (map (column_word cat rels) out) (Plain (codes "from") ∷ (map (relation_word cat) rels ++ where_words cat rels conds)) (columns_fine cat k rels q.parts out q.columns)
-          (simple_fine (codes "from") refl, fine-append (map (relation_word cat) rels) (where_words cat rels conds) (relations_fine cat k rels q.relations) (where_fine cat k rels q.parts conds q.conds_fit q.conds_hold)),
+      fine-append (map (column_word cat rels) out)
+          (Plain (codes "from") ∷ (map (relation_word cat) rels ++ where_words cat rels conds))
+          (columns_fine cat k rels q.parts out q.columns) (
+            simple_fine (codes "from") refl,
+            fine-append (map (relation_word cat) rels)
+                (where_words cat rels conds) (relations_fine cat k rels q.relations)
+                (where_fine cat k rels q.parts conds q.conds_fit q.conds_hold),
+          ),
     )
 statement_fine cat k (Update rel sets conds) h v =
     let u = update_fits cat rel sets conds h v in (
@@ -183,12 +225,22 @@ statement_fine cat k (Update rel sets conds) h v =
         name_fine (name_of_relation cat rel.0) (k.relation_name rel.0 u.relation),
         (
           simple_fine (codes "set") refl,
-          fine-append (sets_words cat rel sets) (where_words cat (rel ∷ []) conds) (sets_fine cat k rel u.parts sets u.sets_fit u.sets_hold) (where_fine cat k (rel ∷ []) u.parts conds u.conds_fit u.conds_hold),
+          fine-append (sets_words cat rel sets) (where_words cat (rel ∷ []) conds)
+              (sets_fine cat k rel u.parts sets u.sets_fit u.sets_hold)
+              (where_fine cat k (rel ∷ []) u.parts conds u.conds_fit u.conds_hold),
         ),
       ),
     )
-statement_fine cat k (Delete rel conds) h v =
-    (keyword_fine (keys.Statement skeys.Delete), (name_fine (name_of_relation cat rel.0) (k.relation_name rel.0 h.0), where_fine cat k (rel ∷ []) (one_part cat rel h.0) conds (recursion_from_All (FitsCondition cat (rel ∷ [])) conds h.1.1) (recursion_from_All HoldsValue conds v)))
+statement_fine cat k (Delete rel conds) h v = (
+  keyword_fine (keys.Statement skeys.Delete),
+  (
+    name_fine (name_of_relation cat rel.0)
+        (k.relation_name rel.0 h.0),
+    where_fine cat k (rel ∷ []) (one_part cat rel h.0) conds
+        (recursion_from_All (FitsCondition cat (rel ∷ [])) conds h.1.1)
+        (recursion_from_All HoldsValue conds v),
+  ),
+)
 
 -- ---- other lines
 
@@ -203,11 +255,21 @@ abbrev pub NamesOne : List Txn → Event → Type 0
 NamesOne txns (Submit txn) = IsFine (Plain (name_of_txn txns txn.0))
 NamesOne txns _ = Unit {0}
 
-pub event_fine : (cat : Catalogue) → IsKnown cat → (txns : List Txn) (e : Event) → IsValidEvent cat (length txns) e → NamesOne txns e → AreFine (event_words txns e)
+pub event_fine : (cat : Catalogue) → IsKnown cat → (txns : List Txn) (e : Event)
+    → IsValidEvent cat (length txns) e → NamesOne txns e → AreFine (event_words txns e)
 event_fine cat k txns (Submit txn) h n = (keyword_fine (keys.Event ekeys.Submit), (n, tt))
-event_fine cat k txns (Deliver from to place) h n = (keyword_fine (keys.Event ekeys.Deliver), (site_fine cat k from h.0.0, (site_fine cat k to h.0.1, (place_fine place h.1, tt))))
-event_fine cat k txns (Lose from to place) h n = (keyword_fine (keys.Event ekeys.Lose), (site_fine cat k from h.0.0, (site_fine cat k to h.0.1, (place_fine place h.1, tt))))
-event_fine cat k txns (Repeat from to place) h n = (keyword_fine (keys.Event ekeys.Repeat), (site_fine cat k from h.0.0, (site_fine cat k to h.0.1, (place_fine place h.1, tt))))
+event_fine cat k txns (Deliver from to place) h n = (
+  keyword_fine (keys.Event ekeys.Deliver),
+  (site_fine cat k from h.0.0, (site_fine cat k to h.0.1, (place_fine place h.1, tt))),
+)
+event_fine cat k txns (Lose from to place) h n = (
+  keyword_fine (keys.Event ekeys.Lose),
+  (site_fine cat k from h.0.0, (site_fine cat k to h.0.1, (place_fine place h.1, tt))),
+)
+event_fine cat k txns (Repeat from to place) h n = (
+  keyword_fine (keys.Event ekeys.Repeat),
+  (site_fine cat k from h.0.0, (site_fine cat k to h.0.1, (place_fine place h.1, tt))),
+)
 event_fine cat k txns (Resend from to) h n = (keyword_fine (keys.Event ekeys.Resend), (site_fine cat k from h.0, (site_fine cat k to h.1, tt)))
 event_fine cat k txns (Tick tm n) h m = (keyword_fine (keys.Event ekeys.Tick), (site_fine cat k (T tm) h.0, (place_fine n h.1, tt)))
 event_fine cat k txns Settle h n = (keyword_fine (keys.Event ekeys.Settle), tt)
@@ -221,7 +283,13 @@ pub class_fine : (cat : Catalogue) → IsKnown cat → (c : ClassPart) → IsNam
 class_fine cat k c named there = (keyword_fine (keys.Class class_keys.Class), (name_fine c.name named, (site_fine cat k (T (tm_no c.tm)) there, tt)))
 
 pub reads_fine : (cat : Catalogue) → IsKnown cat → (r : ReadPart) → IsValidRead cat r → AreFine (reads_words r)
-reads_fine cat k r h = (keyword_fine (keys.Class class_keys.Reads), (name_fine r.fragment h.fragment.0, (site_fine cat k (D (dm_no r.at)) h.module_is_there, tt)))
+reads_fine cat k r h = (
+  keyword_fine (keys.Class class_keys.Reads),
+  (
+    name_fine r.fragment h.fragment.0,
+    (site_fine cat k (D (dm_no r.at)) h.module_is_there, tt),
+  ),
+)
 
 pub writes_fine : (cat : Catalogue) (f : List ℕ) → IsFragment cat f → AreFine (writes_words f)
 writes_fine cat f h = (keyword_fine (keys.Class class_keys.Writes), (name_fine f h.0, tt))

@@ -52,7 +52,9 @@ pub fragment_again : (cat : Catalogue) (name : List ℕ) → IsFragment cat name
 fragment_again cat name h =
     let s = some_there (fragment_named cat name) h.1 in
     let a : name_in name ≡ Some name = ap (λ (b : Bool). cond b (Some name) None) h.0 in
-    let frag : Option (List ℕ) → Result (List ℕ × ℕ) WorkRule = λ (o : Option (List ℕ)). known UnknownName o >>= λ n. known UnknownName (fragment_named cat n) >>= λ f. Ok (named n f) in
+    let frag : Option (List ℕ) → Result (List ℕ × ℕ) WorkRule =
+    λ (o : Option (List ℕ)). known UnknownName o >>= λ n. known UnknownName (fragment_named cat n) >>=
+    λ f. Ok (named n f) in
     record {
       number = s.0;
       named = s.1;

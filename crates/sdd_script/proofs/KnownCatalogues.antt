@@ -48,13 +48,16 @@ no_part = relation_part no_relation
 part_at : (cat : Catalogue) (rel : ℕ) → IsRelation cat rel → get_or (parts_of cat).relations (rel - 1) no_part ≡ relation_part (relation_at cat rel)
 part_at cat rel h = get_or-map relation_part cat.relations (rel - 1) no_relation no_part (omega (arith, h.0, h.1))
 
-named_number : (cat : Catalogue) → IsSound cat → (rel : ℕ) → IsRelation cat rel → number_of (name_of_relation cat rel) (relation_names (parts_of cat).relations) ≡ rel
+named_number : (cat : Catalogue) → IsSound cat → (rel : ℕ) → IsRelation cat rel
+    → number_of (name_of_relation cat rel) (relation_names (parts_of cat).relations) ≡ rel
 named_number cat s rel h =
     let to : rel ≤ length (parts_of cat).relations = omega (arith, h.1, length-map cat.relations relation_part) in
-    number_of_place (parts_of cat) s.valid (name_of_relation cat rel) rel no_part h.0 to (name_is cat rel ∙ ap (λ (r : RelationPart). r.name) (sym (part_at cat rel h)))
+    number_of_place (parts_of cat) s.valid (name_of_relation cat rel) rel no_part h.0 to (name_is cat rel
+    ∙ ap (λ (r : RelationPart). r.name) (sym (part_at cat rel h)))
 
 one_relation : (cat : Catalogue) → IsSound cat → (a b : ℕ) → IsRelation cat a → IsRelation cat b → name_of_relation cat a ≡ name_of_relation cat b → a ≡ b
-one_relation cat s a b h k e = sym (named_number cat s a h) ∙ ap (λ (n : List ℕ). number_of n (relation_names (parts_of cat).relations)) e ∙ named_number cat s b k
+one_relation cat s a b h k e = sym (named_number cat s a h)
+    ∙ ap (λ (n : List ℕ). number_of n (relation_names (parts_of cat).relations)) e ∙ named_number cat s b k
 
 relation_found : (cat : Catalogue) → IsSound cat → (rel : ℕ) → IsRelation cat rel → relation_named cat (name_of_relation cat rel) ≡ Some rel
 relation_found cat s rel h =
@@ -74,10 +77,16 @@ differ : (cat : Catalogue) → IsSound cat → (rel : ℕ) → IsRelation cat re
 differ cat s rel h =
     let parts : Parts = parts_of cat in
     let lt : rel - 1 < length parts.relations = omega (arith, h.0, h.1, length-map cat.relations relation_part) in
-    let rules : relation_rules (take (rel - 1) parts.relations) (get_or parts.relations (rel - 1) no_part) ≡ [] = empty_of_map _ _ (unfound_at faults_of_relation parts.relations (no_faults parts s.valid).relations (rel - 1) no_part lt) in
-    let at : repeats (map (λ (c : ColumnPart). c.name) (get_or parts.relations (rel - 1) no_part).columns) ≡ false = columns_differ (take (rel - 1) parts.relations) (get_or parts.relations (rel - 1) no_part) rules in
+    let rules : relation_rules (take (rel - 1) parts.relations)
+    (get_or parts.relations (rel - 1) no_part) ≡ [] =
+    empty_of_map _ _ (unfound_at faults_of_relation parts.relations (no_faults parts s.valid).relations
+    (rel - 1) no_part lt) in
+    let at : repeats (map (λ (c : ColumnPart). c.name)
+    (get_or parts.relations (rel - 1) no_part).columns) ≡ false =
+    columns_differ (take (rel - 1) parts.relations) (get_or parts.relations (rel - 1) no_part) rules in
     let same : map (λ (c : ColumnPart). c.name) (get_or parts.relations (rel - 1) no_part).columns ≡ names_of (relation_at cat rel).columns =
-    ap (λ (r : RelationPart). map (λ (c : ColumnPart). c.name) r.columns) (part_at cat rel h) ∙ map-map (λ (c : ColumnPart). c.name) column_part (relation_at cat rel).columns in
+    ap (λ (r : RelationPart). map (λ (c : ColumnPart). c.name) r.columns) (part_at cat rel h)
+    ∙ map-map (λ (c : ColumnPart). c.name) column_part (relation_at cat rel).columns in
     subst (λ (l : List (List ℕ)). repeats l ≡ false) same at
 
 prefix_same : {A : Type 0} (p q : A → Bool) (xs : List A) → ((x : A) → p x ≡ q x) → prefix_len p xs ≡ prefix_len q xs
@@ -96,15 +105,19 @@ turned_if a b false true p q = let e : b ≡ a = (bytes_eq-Decides b a).0 q in l
 turned : (a b : List ℕ) → bytes_eq a b ≡ bytes_eq b a
 turned a b = turned_if a b (bytes_eq a b) (bytes_eq b a) refl refl
 
-column_at : (columns : List Column) (i : ℕ) → i < length columns → option_map_or (λ (c : Column). c.name) (slice_get columns i) [] ≡ get_or (names_of columns) i []
+column_at : (columns : List Column) (i : ℕ) → i < length columns → option_map_or (λ (c : Column). c.name)
+    (slice_get columns i) [] ≡ get_or (names_of columns) i []
 column_at [] i lt = absurd (omega arith)
 column_at (c ∷ columns) zero lt = refl
 column_at (c ∷ columns) (suc i) lt = column_at columns i (omega arith)
 
-column_name_is : (columns : List Column) (column : ℕ) → 1 ≤ column → column ≤ length columns → name_of_column columns column ≡ get_or (names_of columns) (column - 1) []
+column_name_is : (columns : List Column) (column : ℕ) → 1 ≤ column → column ≤ length columns
+    → name_of_column columns column ≡ get_or (names_of columns) (column - 1) []
 column_name_is columns column from to = column_at columns (column - 1) (omega (arith, from, to))
 
-column_found : (cat : Catalogue) → IsSound cat → (rel column : ℕ) → IsRelation cat rel → IsColumn cat rel column → column_named (columns_of cat rel) (name_of_column (columns_of cat rel) column) ≡ Some (column - 1)
+column_found : (cat : Catalogue) → IsSound cat → (rel column : ℕ) → IsRelation cat rel
+    → IsColumn cat rel column → column_named (columns_of cat rel)
+    (name_of_column (columns_of cat rel) column) ≡ Some (column - 1)
 column_found cat s rel column h k =
     let columns : List Column = (relation_at cat rel).columns in
     let name : List ℕ = name_of_column columns column in
@@ -121,13 +134,18 @@ column_found cat s rel column h k =
 relation_named_so : (cat : Catalogue) → AreNamed cat → (rel : ℕ) → IsRelation cat rel → IsNamed (relation_at cat rel)
 relation_named_so cat n rel h = All-get_or IsNamed cat.relations (rel - 1) no_relation (omega (arith, h.0, h.1)) n.relations
 
-column_named_so : (cat : Catalogue) → AreNamed cat → (rel column : ℕ) → IsRelation cat rel → IsColumn cat rel column → is_name (name_of_column (columns_of cat rel) column) ≡ true
+column_named_so : (cat : Catalogue) → AreNamed cat → (rel column : ℕ) → IsRelation cat rel
+    → IsColumn cat rel column → is_name (name_of_column (columns_of cat rel) column) ≡ true
 column_named_so cat n rel column h k =
     let columns : List Column = (relation_at cat rel).columns in
     let lt : column - 1 < length columns = omega (arith, k.0, k.1) in
-    let named : is_name (get_or columns (column - 1) no_column).name ≡ true = All-get_or (λ (c : Column). IsName c.name) columns (column - 1) no_column lt (relation_named_so cat n rel h).columns in
+    let named : is_name (get_or columns (column - 1) no_column).name ≡ true =
+    All-get_or (λ (c : Column). IsName c.name) columns (column - 1) no_column lt
+    (relation_named_so cat n rel h).columns in
     let same : name_of_column (columns_of cat rel) column ≡ (get_or columns (column - 1) no_column).name =
-    ap (λ (l : List Column). name_of_column l column) (columns_are cat rel) ∙ column_name_is columns column k.0 k.1 ∙ get_or-map (λ (c : Column). c.name) columns (column - 1) no_column [] lt in
+    ap (λ (l : List Column). name_of_column l column) (columns_are cat rel)
+    ∙ column_name_is columns column k.0 k.1 ∙ get_or-map (λ (c : Column). c.name) columns
+    (column - 1) no_column [] lt in
     subst (λ (l : List ℕ). is_name l ≡ true) (sym same) named
 
 some_columns : (cat : Catalogue) → IsWhole cat → (rel : ℕ) → IsRelation cat rel → 1 ≤ length (columns_of cat rel)

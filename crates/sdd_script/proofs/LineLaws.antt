@@ -40,7 +40,8 @@ pub record HasWords (cat : Catalogue) (st to : State) (line : List ℕ) : Type 0
 pub line_takes : (cat : Catalogue) (st to : State) (line : List ℕ) → line_rules cat st line ≡ Ok to → HasWords cat st to line
 unfolding line_rules
 line_takes cat st to line e =
-    let a = must_then NotUtf8 (is_utf8 line) (λ _. known BadLine (words_of line) >>= λ words. must BadLine (list_all is_sound words) >>= λ _. words_rules cat st words) to e in
+    let a = must_then NotUtf8 (is_utf8 line) (λ _. known BadLine (words_of line) >>=
+    λ words. must BadLine (list_all is_sound words) >>= λ _. words_rules cat st words) to e in
     let b = known_then BadLine (words_of line) (λ words. must BadLine (list_all is_sound words) >>= λ _. words_rules cat st words) to a.1 in
     let c = must_then BadLine (list_all is_sound b.0) (λ _. words_rules cat st b.0) to b.2 in
     record { words = b.0; spelled = scan_spelled line b.0 b.1; rules = c.1 }
@@ -67,14 +68,16 @@ more_line (w ∷ ws) h = ((λ e. omega arith), no_newline-append (word_bytes w) 
 pub line_has_no_newline : (w : Word) (ws : List Word) → AllByRecursion IsFine (w ∷ ws) → HasNoNewline (line_bytes (w ∷ ws))
 line_has_no_newline w ws h = no_newline-append (word_bytes w) (more_bytes ws) h.0.line (more_line ws h.1)
 
-pub line_again : (cat : Catalogue) (st : State) (w : Word) (ws : List Word) → AllByRecursion IsFine (w ∷ ws) → line_rules cat st (line_bytes (w ∷ ws)) ≡ words_rules cat st (w ∷ ws)
+pub line_again : (cat : Catalogue) (st : State) (w : Word) (ws : List Word) → AllByRecursion IsFine (w ∷ ws)
+    → line_rules cat st (line_bytes (w ∷ ws)) ≡ words_rules cat st (w ∷ ws)
 unfolding line_rules
 line_again cat st w ws h =
     let line : List ℕ = line_bytes (w ∷ ws) in
     let u : is_utf8 line ≡ true = is_utf8-from_IsUtf8 line (IsUtf8-append (word_bytes w) (more_bytes ws) h.0.utf8 (more_utf8 ws h.1)) in
     let s : words_of line ≡ Some (w ∷ ws) = scan_again (w ∷ ws) (h.0.word, all_words ws h.1) in
     let a : list_all is_sound (w ∷ ws) ≡ true = all_sound (w ∷ ws) h in
-    ap (λ (t : Bool). must NotUtf8 t >>= λ _. known BadLine (words_of line) >>= λ words. must BadLine (list_all is_sound words) >>= λ _. words_rules cat st words) u
+    ap (λ (t : Bool). must NotUtf8 t >>= λ _. known BadLine (words_of line) >>=
+    λ words. must BadLine (list_all is_sound words) >>= λ _. words_rules cat st words) u
     ∙ ap (λ (o : Option (List Word)). known BadLine o >>= λ words. must BadLine (list_all is_sound words) >>= λ _. words_rules cat st words) s
     ∙ ap (λ (t : Bool). must BadLine t >>= λ _. words_rules cat st (w ∷ ws)) a
 
@@ -115,7 +118,9 @@ keyword_bytes (keys.Class key) = class_key_bytes key
 keyword_bytes (keys.Event key) = event_key_bytes key
 keyword_bytes keys.End = codes "end"
 
-choice : {K : Type 0} (f : K → List ℕ) (bytes : List ℕ) (o key : K) (rest : Option K) (b : Bool) → bytes_eq bytes (f o) ≡ b → cond b (Some o) rest ≡ Some key → (rest ≡ Some key → bytes ≡ f key) → bytes ≡ f key
+choice : {K : Type 0} (f : K → List ℕ) (bytes : List ℕ) (o key : K) (rest : Option K) (b : Bool)
+    → bytes_eq bytes (f o) ≡ b → cond b (Some o) rest ≡ Some key → (rest ≡ Some key → bytes ≡ f key)
+    → bytes ≡ f key
 choice f bytes o key rest true e is later = (bytes_eq-Decides bytes (f o)).0 e ∙ ap f (some_is o key is)
 choice f bytes o key rest false e is later = later is
 
@@ -146,7 +151,9 @@ event_key_is bytes key e =
     choice event_key_bytes bytes Down key _ (bytes_eq bytes (codes "down")) refl e (λ e.
     choice event_key_bytes bytes Up key None (bytes_eq bytes (codes "up")) refl e (λ e. absurd cc))))))))))
 
-outer_is : (bytes : List ℕ) (key : Keyword) (o : Option ClassKey) (p : Option EventKey) → class_key_in bytes ≡ o → event_key_in bytes ≡ p → outer_keyword o p ≡ Some key → bytes ≡ keyword_bytes key
+outer_is : (bytes : List ℕ) (key : Keyword) (o : Option ClassKey) (p : Option EventKey)
+    → class_key_in bytes ≡ o → event_key_in bytes ≡ p → outer_keyword o p ≡ Some key
+    → bytes ≡ keyword_bytes key
 outer_is bytes key (Some k) p a b e = class_key_is bytes k a ∙ ap keyword_bytes (some_is (keys.Class k) key e)
 outer_is bytes key None (Some v) a b e = event_key_is bytes v b ∙ ap keyword_bytes (some_is (keys.Event v) key e)
 outer_is bytes key None None a b e = absurd cc
@@ -154,7 +161,8 @@ outer_is bytes key None None a b e = absurd cc
 abbrev outer_of : List ℕ → Option Keyword
 outer_of bytes = outer_keyword (class_key_in bytes) (event_key_in bytes)
 
-inner_is : (bytes : List ℕ) (key : Keyword) (o : Option StatementKey) → statement_key_in bytes ≡ o → inner_keyword o (outer_of bytes) ≡ Some key → bytes ≡ keyword_bytes key
+inner_is : (bytes : List ℕ) (key : Keyword) (o : Option StatementKey) → statement_key_in bytes ≡ o
+    → inner_keyword o (outer_of bytes) ≡ Some key → bytes ≡ keyword_bytes key
 inner_is bytes key (Some s) a e = statement_key_is bytes s a ∙ ap keyword_bytes (some_is (keys.Statement s) key e)
 inner_is bytes key None a e = outer_is bytes key (class_key_in bytes) (event_key_in bytes) refl refl e
 
@@ -163,7 +171,8 @@ keyword_bytes_are bytes key e =
     choice keyword_bytes bytes keys.Row key _ (bytes_eq bytes (codes "row")) refl e (λ e.
     choice keyword_bytes bytes keys.Txn key _ (bytes_eq bytes (codes "txn")) refl e (λ e.
     choice keyword_bytes bytes keys.Done key _ (bytes_eq bytes (codes "done")) refl e (λ e.
-    choice keyword_bytes bytes keys.End key (inner_keyword (statement_key_in bytes) (outer_of bytes)) (bytes_eq bytes (codes "end")) refl e (λ e. inner_is bytes key (statement_key_in bytes) refl e))))
+    choice keyword_bytes bytes keys.End key (inner_keyword (statement_key_in bytes) (outer_of bytes))
+    (bytes_eq bytes (codes "end")) refl e (λ e. inner_is bytes key (statement_key_in bytes) refl e))))
 
 pub keyword_takes : (w : Word) (key : Keyword) → keyword_of w ≡ Some key → w ≡ Plain (keyword_bytes key)
 keyword_takes (Plain bytes) key e = ap (λ (l : List ℕ). Plain l) (keyword_bytes_are bytes key e)
@@ -205,5 +214,6 @@ words_take cat st to (first ∷ words) e =
     let a = known_then BadLine (keyword_of first) (λ keyword. keyword_rules keyword cat st words) to e in
     record { key = a.0; words = words; whole = ap (λ (w : Word). w ∷ words) (keyword_takes first a.0 a.1); rules = a.2 }
 
-pub words_again : (cat : Catalogue) (st : State) (key : Keyword) (words : List Word) → words_rules cat st (Plain (keyword_bytes key) ∷ words) ≡ keyword_rules key cat st words
+pub words_again : (cat : Catalogue) (st : State) (key : Keyword) (words : List Word)
+    → words_rules cat st (Plain (keyword_bytes key) ∷ words) ≡ keyword_rules key cat st words
 words_again cat st key words = ap (λ (o : Option Keyword). known BadLine o >>= λ keyword. keyword_rules keyword cat st words) (keyword_again key)

@@ -62,38 +62,54 @@ apart ns name rest once = any_none (bytes_eq name) ns (apart_before ns name rest
 read_names-append : (reads rs : List ReadPart) → read_names (reads ++ rs) ≡ read_names reads ++ read_names rs
 read_names-append reads rs = map-append (λ (r : ReadPart). r.fragment) reads rs
 
-reads_step : (cat : Catalogue) → IsKnown cat → (st : State) (done : List (List ClassPart)) (n : ℕ) (cs : List ClassPart) (c : ClassPart) (reads : List ReadPart) (r : ReadPart) → IsValidRead cat r → has_name (read_names reads) r.fragment ≡ false → length reads < MAX_READS
-    → IsStep cat (at st (places.Listing (behind cs c reads [])) done n) (at st (places.Listing (behind cs c (reads ++ r ∷ []) [])) done n) (line_bytes (reads_words r))
+reads_step : (cat : Catalogue) → IsKnown cat → (st : State) (done : List (List ClassPart)) (n : ℕ)
+    (cs : List ClassPart) (c : ClassPart) (reads : List ReadPart) (r : ReadPart) → IsValidRead cat r
+    → has_name (read_names reads) r.fragment ≡ false → length reads < MAX_READS
+    → IsStep cat (at st (places.Listing (behind cs c reads [])) done n)
+    (at st (places.Listing (behind cs c (reads ++ r ∷ []) [])) done n) (line_bytes (reads_words r))
 reads_step cat k st done n cs c reads r h other room =
     let from : State = at st (places.Listing (behind cs c reads [])) done n in
     let to : State = at st (places.Listing (behind cs c (reads ++ r ∷ []) [])) done n in
     let f = fragment_again cat r.fragment h.fragment in
     let fragment : List ℕ × ℕ = (r.fragment, f.number) in
     let dm : DmNo = dm_no r.at in
-    let a : (is_free (Plain r.fragment) && is_free (site_word (D dm))) ≡ true = both_are (is_free (Plain r.fragment)) (is_free (site_word (D dm))) (name_free r.fragment h.fragment.0) (site_free (D dm)) in
+    let a : (is_free (Plain r.fragment) && is_free (site_word (D dm))) ≡ true =
+    both_are (is_free (Plain r.fragment)) (is_free (site_word (D dm))) (name_free r.fragment h.fragment.0)
+    (site_free (D dm)) in
     let d = dm_again cat k dm h.module_is_there in
     let copy : has_copy cat r.at f.number ≡ true = sym (kept_at cat r.at r.fragment f.number f.named) ∙ h.copy in
-    let may : (not (has_name (read_names reads) r.fragment) && has_copy cat r.at f.number) ≡ true = both_are (not (has_name (read_names reads) r.fragment)) (has_copy cat r.at f.number) (ap not other) copy in
+    let may : (not (has_name (read_names reads) r.fragment) && has_copy cat r.at f.number) ≡ true =
+    both_are (not (has_name (read_names reads) r.fragment)) (has_copy cat r.at f.number)
+    (ap not other) copy in
     let few : ltb (length reads) MAX_READS ≡ true = lt-ltb (length reads) MAX_READS room in
     line_step cat from to (keys.Class class_keys.Reads) (Plain r.fragment ∷ site_word (D dm) ∷ []) refl (reads_fine cat k r h) (
-    ap (λ (b : Bool). must BadLine b >>= λ _. fragment_of cat (Plain r.fragment) >>= λ (x : List ℕ × ℕ). dm_of cat (site_word (D dm)) >>= λ y. with_read_of cat from x y) a
+    ap (λ (b : Bool). must BadLine b >>= λ _. fragment_of cat (Plain r.fragment) >>=
+    λ (x : List ℕ × ℕ). dm_of cat (site_word (D dm)) >>= λ y. with_read_of cat from x y) a
     ∙ ap (λ (q : Result (List ℕ × ℕ) WorkRule). q >>= λ (x : List ℕ × ℕ). dm_of cat (site_word (D dm)) >>= λ y. with_read_of cat from x y) f.read
     ∙ ap (λ (q : Result DmNo WorkRule). q >>= λ y. with_read_of cat from fragment y) d
     ∙ ap (λ (b : Bool). must BadClass b >>= λ _. must (TooMany counts.Read) (nat_lt (length reads) MAX_READS) >>= λ _. Ok to) may
     ∙ ap (λ (b : Bool). must (TooMany counts.Read) b >>= λ _. Ok to) few)
 
-reads_same : (st : State) (done : List (List ClassPart)) (n : ℕ) (cs : List ClassPart) (c : ClassPart) (reads rs : List ReadPart) → reads ≡ rs → at st (places.Listing (behind cs c reads [])) done n ≡ at st (places.Listing (behind cs c rs [])) done n
+reads_same : (st : State) (done : List (List ClassPart)) (n : ℕ) (cs : List ClassPart) (c : ClassPart)
+    (reads rs : List ReadPart) → reads ≡ rs → at st (places.Listing (behind cs c reads [])) done n ≡ at st
+    (places.Listing (behind cs c rs [])) done n
 reads_same st done n cs c reads rs e = ap (λ (l : List ReadPart). at st (places.Listing (behind cs c l [])) done n) e
 
-reads_chain : (cat : Catalogue) → IsKnown cat → (st : State) (done : List (List ClassPart)) (n : ℕ) (cs : List ClassPart) (c : ClassPart) (rs reads : List ReadPart) → AllByRecursion (IsValidRead cat) rs → repeats (read_names (reads ++ rs)) ≡ false → length reads + length rs ≤ MAX_READS
-    → Chain cat (at st (places.Listing (behind cs c reads [])) done n) (map line_bytes (map reads_words rs)) (at st (places.Listing (behind cs c (reads ++ rs) [])) done n)
+reads_chain : (cat : Catalogue) → IsKnown cat → (st : State) (done : List (List ClassPart)) (n : ℕ)
+    (cs : List ClassPart) (c : ClassPart) (rs reads : List ReadPart) → AllByRecursion (IsValidRead cat) rs
+    → repeats (read_names (reads ++ rs)) ≡ false → length reads + length rs ≤ MAX_READS
+    → Chain cat (at st (places.Listing (behind cs c reads [])) done n) (map line_bytes (map reads_words rs))
+    (at st (places.Listing (behind cs c (reads ++ rs) [])) done n)
 reads_chain cat k st done n cs c [] reads h once few = reads_same st done n cs c reads (reads ++ []) (sym (append-nil reads))
 reads_chain cat k st done n cs c (r ∷ rs) reads h once few =
     let mid : State = at st (places.Listing (behind cs c (reads ++ r ∷ []) [])) done n in
     let joins : (reads ++ r ∷ []) ++ rs ≡ reads ++ r ∷ rs = append_assoc reads (r ∷ []) rs in
     let len : length (reads ++ r ∷ []) ≡ length reads + 1 = length-append reads (r ∷ []) in
-    let other = apart (read_names reads) r.fragment (read_names rs) (subst (λ (l : List (List ℕ)). repeats l ≡ false) (read_names-append reads (r ∷ rs)) once) in
-    let more = reads_chain cat k st done n cs c rs (reads ++ r ∷ []) h.1 (subst (λ (l : List ReadPart). repeats (read_names l) ≡ false) (sym joins) once) (omega (arith, few, len)) in (
+    let other = apart (read_names reads) r.fragment (read_names rs)
+    (subst (λ (l : List (List ℕ)). repeats l ≡ false) (read_names-append reads (r ∷ rs)) once) in
+    let more = reads_chain cat k st done n cs c rs (reads ++ r ∷ []) h.1
+    (subst (λ (l : List ReadPart). repeats (read_names l) ≡ false) (sym joins) once)
+    (omega (arith, few, len)) in (
       mid,
       reads_step cat k st done n cs c reads r h.0 other (omega (arith, few)),
       subst (λ (l : List ReadPart). Chain cat mid (map line_bytes (map reads_words rs)) (at st (places.Listing (behind cs c l [])) done n)) joins more,
@@ -101,8 +117,11 @@ reads_chain cat k st done n cs c (r ∷ rs) reads h once few =
 
 -- ---- writes
 
-writes_step : (cat : Catalogue) (st : State) (done : List (List ClassPart)) (n : ℕ) (cs : List ClassPart) (c : ClassPart) (reads : List ReadPart) (writes : List (List ℕ)) (w : List ℕ) → IsFragment cat w → has_name writes w ≡ false
-    → IsStep cat (at st (places.Listing (behind cs c reads writes)) done n) (at st (places.Listing (behind cs c reads (writes ++ w ∷ []))) done n) (line_bytes (writes_words w))
+writes_step : (cat : Catalogue) (st : State) (done : List (List ClassPart)) (n : ℕ) (cs : List ClassPart)
+    (c : ClassPart) (reads : List ReadPart) (writes : List (List ℕ)) (w : List ℕ) → IsFragment cat w
+    → has_name writes w ≡ false
+    → IsStep cat (at st (places.Listing (behind cs c reads writes)) done n)
+    (at st (places.Listing (behind cs c reads (writes ++ w ∷ []))) done n) (line_bytes (writes_words w))
 writes_step cat st done n cs c reads writes w h other =
     let from : State = at st (places.Listing (behind cs c reads writes)) done n in
     let to : State = at st (places.Listing (behind cs c reads (writes ++ w ∷ []))) done n in
@@ -112,11 +131,18 @@ writes_step cat st done n cs c reads writes w h other =
     ∙ ap (λ (q : Result (List ℕ × ℕ) WorkRule). q >>= λ (x : List ℕ × ℕ). with_write_of from x.0) f.read
     ∙ ap (λ (b : Bool). must BadClass (not b) >>= λ _. Ok to) other)
 
-writes_same : (st : State) (done : List (List ClassPart)) (n : ℕ) (cs : List ClassPart) (c : ClassPart) (reads : List ReadPart) (writes ws : List (List ℕ)) → writes ≡ ws → at st (places.Listing (behind cs c reads writes)) done n ≡ at st (places.Listing (behind cs c reads ws)) done n
+writes_same : (st : State) (done : List (List ClassPart)) (n : ℕ) (cs : List ClassPart) (c : ClassPart)
+    (reads : List ReadPart) (writes ws : List (List ℕ)) → writes ≡ ws
+    → at st (places.Listing (behind cs c reads writes)) done n ≡ at st
+    (places.Listing (behind cs c reads ws)) done n
 writes_same st done n cs c reads writes ws e = ap (λ (l : List (List ℕ)). at st (places.Listing (behind cs c reads l)) done n) e
 
-writes_chain : (cat : Catalogue) (st : State) (done : List (List ClassPart)) (n : ℕ) (cs : List ClassPart) (c : ClassPart) (reads : List ReadPart) (ws writes : List (List ℕ)) → AllByRecursion (IsFragment cat) ws → repeats (writes ++ ws) ≡ false
-    → Chain cat (at st (places.Listing (behind cs c reads writes)) done n) (map line_bytes (map writes_words ws)) (at st (places.Listing (behind cs c reads (writes ++ ws))) done n)
+writes_chain : (cat : Catalogue) (st : State) (done : List (List ClassPart)) (n : ℕ) (cs : List ClassPart)
+    (c : ClassPart) (reads : List ReadPart) (ws writes : List (List ℕ)) → AllByRecursion (IsFragment cat) ws
+    → repeats (writes ++ ws) ≡ false
+    → Chain cat (at st (places.Listing (behind cs c reads writes)) done n)
+    (map line_bytes (map writes_words ws)) (at st (places.Listing (behind cs c reads (writes ++ ws))) done
+    n)
 writes_chain cat st done n cs c reads [] writes h once = writes_same st done n cs c reads writes (writes ++ []) (sym (append-nil writes))
 writes_chain cat st done n cs c reads (w ∷ ws) writes h once =
     let mid : State = at st (places.Listing (behind cs c reads (writes ++ w ∷ []))) done n in
@@ -129,13 +155,18 @@ writes_chain cat st done n cs c reads (w ∷ ws) writes h once =
 
 -- ---- a class
 
-class_step : (cat : Catalogue) → IsKnown cat → (st : State) (done : List (List ClassPart)) (n : ℕ) (l : OpenList) (c : ClassPart) → IsValidClass cat c → has_name (class_names cat ++ part_names (joined done ++ classes_in l)) c.name ≡ false → n < MAX_CLASSES
+class_step : (cat : Catalogue) → IsKnown cat → (st : State) (done : List (List ClassPart)) (n : ℕ)
+    (l : OpenList) (c : ClassPart) → IsValidClass cat c
+    → has_name (class_names cat ++ part_names (joined done ++ classes_in l)) c.name ≡ false
+    → n < MAX_CLASSES
     → IsStep cat (at st (places.Listing l) done n) (at st (places.Listing (behind (classes_in l) c [] [])) done (n + 1)) (line_bytes (class_words c))
 class_step cat k st done n l c h other room =
     let from : State = at st (places.Listing l) done n in
     let tm : TmNo = tm_no c.tm in
     let to : State = at st (places.Listing (behind (classes_in l) c [] [])) done (n + 1) in
-    let a : (is_free (Plain c.name) && is_free (site_word (T tm))) ≡ true = both_are (is_free (Plain c.name)) (is_free (site_word (T tm))) (name_free c.name h.named) (site_free (T tm)) in
+    let a : (is_free (Plain c.name) && is_free (site_word (T tm))) ≡ true =
+    both_are (is_free (Plain c.name)) (is_free (site_word (T tm))) (name_free c.name h.named)
+    (site_free (T tm)) in
     let b : name_of (Plain c.name) ≡ Ok c.name = ap (λ (b : Bool). known UnknownName (cond b (Some c.name) None)) h.named in
     let d = tm_again cat k tm h.module_is_there in
     let f : one_more_class n ≡ Some (n + 1) = ap (λ (b : Bool). cond b (Some (n + 1)) None) (lt-ltb n MAX_CLASSES room) in
@@ -143,11 +174,16 @@ class_step cat k st done n l c h other room =
     ap (λ (b : Bool). must BadLine b >>= λ _. name_of (Plain c.name) >>= λ name. tm_of cat (site_word (T tm)) >>= λ t. with_class_of cat from name t) a
     ∙ ap (λ (r : Result (List ℕ) WorkRule). r >>= λ name. tm_of cat (site_word (T tm)) >>= λ t. with_class_of cat from name t) b
     ∙ ap (λ (r : Result TmNo WorkRule). r >>= λ t. with_class_of cat from c.name t) d
-    ∙ ap (λ (b : Bool). must BadClass (not b) >>= λ _. known (TooMany counts.Class) (one_more_class n) >>= λ m. Ok (at st (places.Listing (behind (classes_in l) c [] [])) done m)) other
+    ∙ ap (λ (b : Bool). must BadClass (not b) >>= λ _. known (TooMany counts.Class) (one_more_class n) >>=
+    λ m. Ok (at st (places.Listing (behind (classes_in l) c [] [])) done m)) other
     ∙ ap (λ (o : Option ℕ). known (TooMany counts.Class) o >>= λ m. Ok (at st (places.Listing (behind (classes_in l) c [] [])) done m)) f)
 
-class_chain : (cat : Catalogue) → IsKnown cat → (st : State) (done : List (List ClassPart)) (n : ℕ) (l : OpenList) (c : ClassPart) → IsValidClass cat c → has_name (class_names cat ++ part_names (joined done ++ classes_in l)) c.name ≡ false → n < MAX_CLASSES
-    → Chain cat (at st (places.Listing l) done n) (map line_bytes (class_lines c)) (at st (places.Listing (behind (classes_in l) c c.reads c.writes)) done (n + 1))
+class_chain : (cat : Catalogue) → IsKnown cat → (st : State) (done : List (List ClassPart)) (n : ℕ)
+    (l : OpenList) (c : ClassPart) → IsValidClass cat c
+    → has_name (class_names cat ++ part_names (joined done ++ classes_in l)) c.name ≡ false
+    → n < MAX_CLASSES
+    → Chain cat (at st (places.Listing l) done n) (map line_bytes (class_lines c))
+    (at st (places.Listing (behind (classes_in l) c c.reads c.writes)) done (n + 1))
 class_chain cat k st done n l c h other room =
     let cs : List ClassPart = classes_in l in
     let opened : State = at st (places.Listing (behind cs c [] [])) done (n + 1) in
@@ -155,7 +191,8 @@ class_chain cat k st done n l c h other room =
     let written : State = at st (places.Listing (behind cs c c.reads c.writes)) done (n + 1) in
     let rs : List (List ℕ) = map line_bytes (map reads_words c.reads) in
     let ws : List (List ℕ) = map line_bytes (map writes_words c.writes) in
-    let reads = reads_chain cat k st done (n + 1) cs c c.reads [] (recursion_from_All (IsValidRead cat) c.reads h.reads) h.reads_once (omega (arith, h.few_reads)) in
+    let reads = reads_chain cat k st done (n + 1) cs c c.reads []
+    (recursion_from_All (IsValidRead cat) c.reads h.reads) h.reads_once (omega (arith, h.few_reads)) in
     let writes = writes_chain cat st done (n + 1) cs c c.reads c.writes [] (recursion_from_All (IsFragment cat) c.writes h.writes) h.writes_once in
     let both : Chain cat opened (rs ++ ws) written = chain-append cat opened read written rs ws reads writes in (
       opened,
@@ -171,35 +208,56 @@ record AreClasses (cat : Catalogue) (st : State) (done : List (List ClassPart)) 
   chain : Chain cat (at st (places.Listing l) done n) (map line_bytes (flat_map class_lines cs)) (at st (places.Listing last) done (n + length cs))
 
 -- the names of classes, parted at one of them
-names_parted : (cat : Catalogue) (front : List ClassPart) (c : ClassPart) (cs : List ClassPart) → class_names cat ++ part_names (front ++ c ∷ cs) ≡ (class_names cat ++ part_names front) ++ c.name ∷ part_names cs
-names_parted cat front c cs = ap (λ (l : List (List ℕ)). class_names cat ++ l) (map-append (λ (k : ClassPart). k.name) front (c ∷ cs)) ∙ sym (append_assoc (class_names cat) (part_names front) (c.name ∷ part_names cs))
+names_parted : (cat : Catalogue) (front : List ClassPart) (c : ClassPart) (cs : List ClassPart)
+    → class_names cat ++ part_names (front ++ c ∷ cs) ≡ (class_names cat ++ part_names front) ++ c.name ∷
+    part_names cs
+names_parted cat front c cs = ap (λ (l : List (List ℕ)). class_names cat ++ l)
+    (map-append (λ (k : ClassPart). k.name) front (c ∷ cs))
+    ∙ sym (append_assoc (class_names cat) (part_names front) (c.name ∷ part_names cs))
 
 abbrev Differ : Catalogue → List ClassPart → Type 0
 Differ cat classes = repeats (class_names cat ++ part_names classes) ≡ false
 
-new_name : (cat : Catalogue) (front : List ClassPart) (c : ClassPart) (cs : List ClassPart) → Differ cat (front ++ c ∷ cs) → has_name (class_names cat ++ part_names front) c.name ≡ false
-new_name cat front c cs once = apart (class_names cat ++ part_names front) c.name (part_names cs) (subst (λ (l : List (List ℕ)). repeats l ≡ false) (names_parted cat front c cs) once)
+new_name : (cat : Catalogue) (front : List ClassPart) (c : ClassPart) (cs : List ClassPart)
+    → Differ cat (front ++ c ∷ cs) → has_name (class_names cat ++ part_names front) c.name ≡ false
+new_name cat front c cs once = apart (class_names cat ++ part_names front) c.name (part_names cs)
+    (subst (λ (l : List (List ℕ)). repeats l ≡ false) (names_parted cat front c cs) once)
 
 count_same : (st : State) (p : Place) (done : List (List ClassPart)) (n m : ℕ) → n ≡ m → at st p done n ≡ at st p done m
 count_same st p done n m e = ap (at st p done) e
 
 -- rest: the classes of later lists
-classes_chain : (cat : Catalogue) → IsKnown cat → (st : State) (done : List (List ClassPart)) (rest cs : List ClassPart) (n : ℕ) (l : OpenList) → AllByRecursion (IsValidClass cat) cs → Differ cat ((joined done ++ classes_in l) ++ (cs ++ rest)) → n + length cs ≤ MAX_CLASSES
+classes_chain : (cat : Catalogue) → IsKnown cat → (st : State) (done : List (List ClassPart))
+    (rest cs : List ClassPart) (n : ℕ) (l : OpenList) → AllByRecursion (IsValidClass cat) cs
+    → Differ cat ((joined done ++ classes_in l) ++ (cs ++ rest)) → n + length cs ≤ MAX_CLASSES
     → AreClasses cat st done n l cs
-classes_chain cat k st done rest [] n l h once few = record { last = l; whole = sym (append-nil (classes_in l)); chain = count_same st (places.Listing l) done n (n + 0) (omega arith) }
+classes_chain cat k st done rest [] n l h once few =
+    record {
+      last = l;
+      whole = sym (append-nil (classes_in l));
+      chain =
+          count_same st (places.Listing l) done n (n + 0) (omega arith);
+    }
 classes_chain cat k st done rest (c ∷ cs) n l h once few =
     let front : List ClassPart = joined done ++ classes_in l in
     let new : OpenList = behind (classes_in l) c c.reads c.writes in
     let room : n < MAX_CLASSES = omega (arith, few) in
     let one = class_chain cat k st done n l c h.0 (new_name cat front c (cs ++ rest) once) room in
-    let joins : front ++ (c ∷ (cs ++ rest)) ≡ (joined done ++ classes_in new) ++ (cs ++ rest) = sym (append_assoc front (c ∷ []) (cs ++ rest)) ∙ ap (λ (x : List ClassPart). x ++ (cs ++ rest)) (append_assoc (joined done) (classes_in l) (c ∷ [])) in
+    let joins : front ++ (c ∷ (cs ++ rest)) ≡ (joined done ++ classes_in new) ++ (cs ++ rest) =
+    sym (append_assoc front (c ∷ []) (cs ++ rest)) ∙ ap (λ (x : List ClassPart). x ++ (cs ++ rest))
+    (append_assoc (joined done) (classes_in l) (c ∷ [])) in
     let more = classes_chain cat k st done rest cs (n + 1) new h.1 (subst (Differ cat) joins once) (omega (arith, few)) in
     let from : State = at st (places.Listing l) done n in
     let mid : State = at st (places.Listing new) done (n + 1) in
     let to : State = at st (places.Listing more.last) done (n + length (c ∷ cs)) in
-    let same : at st (places.Listing more.last) done (n + 1 + length cs) ≡ to = count_same st (places.Listing more.last) done (n + 1 + length cs) (n + length (c ∷ cs)) (omega arith) in
-    let others : Chain cat mid (map line_bytes (flat_map class_lines cs)) to = subst (λ (x : State). Chain cat mid (map line_bytes (flat_map class_lines cs)) x) same more.chain in
-    let both : Chain cat from (map line_bytes (class_lines c) ++ map line_bytes (flat_map class_lines cs)) to = chain-append cat from mid to (map line_bytes (class_lines c)) (map line_bytes (flat_map class_lines cs)) one others in
+    let same : at st (places.Listing more.last) done (n + 1 + length cs) ≡ to =
+    count_same st (places.Listing more.last) done (n + 1 + length cs) (n + length (c ∷ cs))
+    (omega arith) in
+    let others : Chain cat mid (map line_bytes (flat_map class_lines cs)) to =
+    subst (λ (x : State). Chain cat mid (map line_bytes (flat_map class_lines cs)) x) same more.chain in
+    let both : Chain cat from (map line_bytes (class_lines c) ++ map line_bytes (flat_map class_lines cs))
+    to = chain-append cat from mid to (map line_bytes (class_lines c))
+    (map line_bytes (flat_map class_lines cs)) one others in
     record {
       last = more.last;
       whole = more.whole ∙ append_assoc (classes_in l) (c ∷ []) cs;
@@ -217,7 +275,9 @@ open_still (places.Listing l) t = absurd cc
 open_still places.Events t = absurd cc
 open_still places.Ended t = absurd cc
 
-list_step : (cat : Catalogue) (st : State) (p : Place) (done : List (List ClassPart)) (n : ℕ) → takes_lists p ≡ true → length done < MAX_LISTS → IsStep cat (at st p done n) (at st (places.Listing no_classes) done n) (line_bytes list_words)
+list_step : (cat : Catalogue) (st : State) (p : Place) (done : List (List ClassPart)) (n : ℕ)
+    → takes_lists p ≡ true → length done < MAX_LISTS → IsStep cat (at st p done n)
+    (at st (places.Listing no_classes) done n) (line_bytes list_words)
 list_step cat st p done n t room =
     let to : State = at st (places.Listing no_classes) done n in
     let few : ltb (length done) MAX_LISTS ≡ true = lt-ltb (length done) MAX_LISTS room in
@@ -225,19 +285,32 @@ list_step cat st p done n t room =
     ap (λ (b : Bool). must BadLine b >>= λ _. must (TooMany counts.List) (nat_lt (length done) MAX_LISTS) >>= λ _. Ok to) t
     ∙ ap (λ (b : Bool). must (TooMany counts.List) b >>= λ _. Ok to) few)
 
-listed_step : (cat : Catalogue) (st : State) (l : OpenList) (done : List (List ClassPart)) (n : ℕ) → IsStep cat (at st (places.Listing l) done n) (at st places.Declared (done ++ classes_in l ∷ []) n) (line_bytes done_words)
-listed_step cat st l done n = line_step cat (at st (places.Listing l) done n) (at st places.Declared (done ++ classes_in l ∷ []) n) keys.Done [] refl (keyword_fine keys.Done, tt) refl
+listed_step : (cat : Catalogue) (st : State) (l : OpenList) (done : List (List ClassPart)) (n : ℕ)
+    → IsStep cat (at st (places.Listing l) done n) (at st places.Declared (done ++ classes_in l ∷ []) n)
+    (line_bytes done_words)
+listed_step cat st l done n = line_step cat (at st (places.Listing l) done n)
+    (at st places.Declared (done ++ classes_in l ∷ []) n) keys.Done [] refl (keyword_fine keys.Done, tt)
+    refl
 
-list_chain : (cat : Catalogue) → IsKnown cat → (st : State) (p : Place) (done : List (List ClassPart)) (rest cs : List ClassPart) (n : ℕ) → takes_lists p ≡ true → length done < MAX_LISTS → AllByRecursion (IsValidClass cat) cs → Differ cat (joined done ++ (cs ++ rest)) → n + length cs ≤ MAX_CLASSES
+list_chain : (cat : Catalogue) → IsKnown cat → (st : State) (p : Place) (done : List (List ClassPart))
+    (rest cs : List ClassPart) (n : ℕ) → takes_lists p ≡ true → length done < MAX_LISTS
+    → AllByRecursion (IsValidClass cat) cs → Differ cat (joined done ++ (cs ++ rest))
+    → n + length cs ≤ MAX_CLASSES
     → Chain cat (at st p done n) (map line_bytes (list_lines cs)) (at st places.Declared (done ++ cs ∷ []) (n + length cs))
 list_chain cat k st p done rest cs n t room h once few =
     let begun : State = at st (places.Listing no_classes) done n in
-    let body = classes_chain cat k st done rest cs n no_classes h (subst (λ (x : List ClassPart). Differ cat (x ++ (cs ++ rest))) (sym (append-nil (joined done))) once) few in
+    let body = classes_chain cat k st done rest cs n no_classes h
+    (subst (λ (x : List ClassPart). Differ cat (x ++ (cs ++ rest))) (sym (append-nil (joined done))) once)
+    few in
     let mid : State = at st (places.Listing body.last) done (n + length cs) in
     let to : State = at st places.Declared (done ++ cs ∷ []) (n + length cs) in
-    let step : IsStep cat mid to (line_bytes done_words) = subst (λ (x : List ClassPart). IsStep cat mid (at st places.Declared (done ++ x ∷ []) (n + length cs)) (line_bytes done_words)) body.whole (listed_step cat st body.last done (n + length cs)) in
+    let step : IsStep cat mid to (line_bytes done_words) =
+    subst (λ (x : List ClassPart). IsStep cat mid (at st places.Declared (done ++ x ∷ []) (n + length cs))
+    (line_bytes done_words)) body.whole (listed_step cat st body.last done (n + length cs)) in
     let last : Chain cat mid (line_bytes done_words ∷ []) to = (to, step, refl) in
-    let both : Chain cat begun (map line_bytes (flat_map class_lines cs) ++ line_bytes done_words ∷ []) to = chain-append cat begun mid to (map line_bytes (flat_map class_lines cs)) (line_bytes done_words ∷ []) body.chain last in (
+    let both : Chain cat begun (map line_bytes (flat_map class_lines cs) ++ line_bytes done_words ∷ []) to =
+    chain-append cat begun mid to (map line_bytes (flat_map class_lines cs)) (line_bytes done_words ∷ [])
+    body.chain last in (
       begun,
       list_step cat st p done n t room,
       subst (λ (x : List (List ℕ)). Chain cat begun x to) (sym (map-append line_bytes (flat_map class_lines cs) (done_words ∷ []))) both,
@@ -257,21 +330,37 @@ all_front : {A : Type 0} (P : A → Type 0) (xs ys : List A) → AllByRecursion 
 all_front P [] ys h = (tt, h)
 all_front P (x ∷ xs) ys h = let r = all_front P xs ys h.1 in ((h.0, r.0), r.1)
 
-lists_chain : (cat : Catalogue) → IsKnown cat → (st : State) (ls : List (List ClassPart)) (p : Place) (done : List (List ClassPart)) (n : ℕ) → takes_lists p ≡ true → AllByRecursion (IsValidClass cat) (joined ls) → Differ cat (joined done ++ joined ls) → length done + length ls ≤ MAX_LISTS → n + length (joined ls) ≤ MAX_CLASSES
+lists_chain : (cat : Catalogue) → IsKnown cat → (st : State) (ls : List (List ClassPart)) (p : Place)
+    (done : List (List ClassPart)) (n : ℕ) → takes_lists p ≡ true → AllByRecursion (IsValidClass cat)
+    (joined ls) → Differ cat (joined done ++ joined ls) → length done + length ls ≤ MAX_LISTS
+    → n + length (joined ls) ≤ MAX_CLASSES
     → AreListed cat st (at st p done n) (map line_bytes (flat_map list_lines ls)) (done ++ ls)
-lists_chain cat k st [] p done n t h once few room = record { place = p; classes = n; goes_on = t; chain = ap (λ (l : List (List ClassPart)). at st p l n) (sym (append-nil done)) }
+lists_chain cat k st [] p done n t h once few room = record {
+  place = p;
+  classes = n;
+  goes_on = t;
+  chain =
+      ap (λ (l : List (List ClassPart)). at st p l n) (sym (append-nil done));
+}
 lists_chain cat k st (cs ∷ ls) p done n t h once few room =
     let valid = all_front (IsValidClass cat) cs (joined ls) h in
     let size : length (cs ++ joined ls) ≡ length cs + length (joined ls) = length-append cs (joined ls) in
     let len : length (done ++ cs ∷ []) ≡ length done + 1 = length-append done (cs ∷ []) in
     let one = list_chain cat k st p done (joined ls) cs n t (omega (arith, few)) valid.0 once (omega (arith, room, size)) in
-    let joins : joined done ++ (cs ++ joined ls) ≡ joined (done ++ cs ∷ []) ++ joined ls = sym (append_assoc (joined done) cs (joined ls)) ∙ ap (λ (x : List ClassPart). x ++ joined ls) (sym (joined_on done cs)) in
-    let more = lists_chain cat k st ls places.Declared (done ++ cs ∷ []) (n + length cs) refl valid.1 (subst (Differ cat) joins once) (omega (arith, few, len)) (omega (arith, room, size)) in
+    let joins : joined done ++ (cs ++ joined ls) ≡ joined (done ++ cs ∷ []) ++ joined ls =
+    sym (append_assoc (joined done) cs (joined ls)) ∙ ap (λ (x : List ClassPart). x ++ joined ls)
+    (sym (joined_on done cs)) in
+    let more = lists_chain cat k st ls places.Declared (done ++ cs ∷ []) (n + length cs) refl valid.1
+    (subst (Differ cat) joins once) (omega (arith, few, len)) (omega (arith, room, size)) in
     let from : State = at st p done n in
     let mid : State = at st places.Declared (done ++ cs ∷ []) (n + length cs) in
     let to : State = at st more.place (done ++ cs ∷ ls) more.classes in
-    let others : Chain cat mid (map line_bytes (flat_map list_lines ls)) to = subst (λ (l : List (List ClassPart)). Chain cat mid (map line_bytes (flat_map list_lines ls)) (at st more.place l more.classes)) (append_assoc done (cs ∷ []) ls) more.chain in
-    let both : Chain cat from (map line_bytes (list_lines cs) ++ map line_bytes (flat_map list_lines ls)) to = chain-append cat from mid to (map line_bytes (list_lines cs)) (map line_bytes (flat_map list_lines ls)) one others in
+    let others : Chain cat mid (map line_bytes (flat_map list_lines ls)) to =
+    subst (λ (l : List (List ClassPart)). Chain cat mid (map line_bytes (flat_map list_lines ls))
+    (at st more.place l more.classes)) (append_assoc done (cs ∷ []) ls) more.chain in
+    let both : Chain cat from (map line_bytes (list_lines cs) ++ map line_bytes (flat_map list_lines ls))
+    to = chain-append cat from mid to (map line_bytes (list_lines cs))
+    (map line_bytes (flat_map list_lines ls)) one others in
     record {
       place = more.place;
       classes = more.classes;
@@ -282,4 +371,6 @@ lists_chain cat k st (cs ∷ ls) p done n t h once few room =
 -- lists that the catalogue allows are read again
 pub lists_read : (cat : Catalogue) → IsKnown cat → (st : State) (lists : List (List ClassPart)) → takes_lists st.place ≡ true → AreValidLists cat lists
     → AreListed cat st (at st st.place [] (length cat.classes)) (map line_bytes (flat_map list_lines lists)) lists
-lists_read cat k st lists t v = lists_chain cat k st lists st.place [] (length cat.classes) t (recursion_from_All (IsValidClass cat) (joined lists) v.classes) v.names (omega (arith, v.few_lists)) v.few_classes
+lists_read cat k st lists t v = lists_chain cat k st lists st.place [] (length cat.classes) t
+    (recursion_from_All (IsValidClass cat) (joined lists) v.classes) v.names (omega (arith, v.few_lists))
+    v.few_classes

@@ -25,14 +25,18 @@ use Rattle.sdd_script.proofs.SoFar.{lines_at, InOrder, opens, stays_open, closes
 
 -- ---- a list begins
 
-begins_in : (cat : Catalogue) (rows : List (RelNo × List Value)) (txns : List Txn) (lists : List (List ClassPart)) (statements : List Stmt) (events : List Event) → events ≡ []
-    → lines_at cat rows txns lists (places.Listing no_classes) statements events ≡ lines_at cat rows txns lists places.Declared statements events ++ list_words ∷ []
+begins_in : (cat : Catalogue) (rows : List (RelNo × List Value)) (txns : List Txn)
+    (lists : List (List ClassPart)) (statements : List Stmt) (events : List Event) → events ≡ []
+    → lines_at cat rows txns lists (places.Listing no_classes) statements events ≡ lines_at cat rows txns
+    lists places.Declared statements events ++ list_words ∷ []
 begins_in cat rows txns lists statements events q =
     ap (λ (x : List Event). lines_at cat rows txns lists (places.Listing no_classes) statements x) q
     ∙ opens (map (start_words cat) rows ++ flat_map (txn_lines cat) txns ++ flat_map list_lines lists) list_words
     ∙ ap (λ (x : List Event). lines_at cat rows txns lists places.Declared statements x ++ list_words ∷ []) (sym q)
 
-pub list_more : (cat : Catalogue) (rows : List (RelNo × List Value)) (txns : List Txn) (lists : List (List ClassPart)) (place : Place) (statements : List Stmt) (events : List Event) → takes_lists place ≡ true → InOrder place txns lists statements events
+pub list_more : (cat : Catalogue) (rows : List (RelNo × List Value)) (txns : List Txn)
+    (lists : List (List ClassPart)) (place : Place) (statements : List Stmt) (events : List Event)
+    → takes_lists place ≡ true → InOrder place txns lists statements events
     → lines_at cat rows txns lists (places.Listing no_classes) statements events ≡ lines_at cat rows txns lists place statements events ++ list_words ∷ []
 list_more cat rows txns lists places.Rows statements events t o = begins_in cat rows txns lists statements events o.3
 list_more cat rows txns lists places.Between statements events t o = begins_in cat rows txns lists statements events o.2
@@ -48,7 +52,9 @@ list_more cat rows txns lists places.Ended statements events t o = absurd cc
 abbrev pub AddsLine : OpenList → OpenList → List Word → Type 0
 AddsLine l new w = flat_map class_lines (classes_in new) ≡ flat_map class_lines (classes_in l) ++ w ∷ []
 
-pub listing_more : (cat : Catalogue) (rows : List (RelNo × List Value)) (txns : List Txn) (lists : List (List ClassPart)) (l new : OpenList) (w : List Word) (statements : List Stmt) (events : List Event) → AddsLine l new w → events ≡ []
+pub listing_more : (cat : Catalogue) (rows : List (RelNo × List Value)) (txns : List Txn)
+    (lists : List (List ClassPart)) (l new : OpenList) (w : List Word) (statements : List Stmt)
+    (events : List Event) → AddsLine l new w → events ≡ []
     → lines_at cat rows txns lists (places.Listing new) statements events ≡ lines_at cat rows txns lists (places.Listing l) statements events ++ w ∷ []
 listing_more cat rows txns lists l new w statements events a q =
     let front : List (List Word) = map (start_words cat) rows ++ flat_map (txn_lines cat) txns ++ flat_map list_lines lists in
@@ -57,16 +63,21 @@ listing_more cat rows txns lists l new w statements events a q =
     ∙ stays_open front (flat_map class_lines (classes_in l)) list_words w
     ∙ ap (λ (x : List Event). lines_at cat rows txns lists (places.Listing l) statements x ++ w ∷ []) (sym q)
 
-pub class_more : (l : OpenList) (name : List ℕ) (tm : TmNo) → AddsLine l (with_class l name tm) (class_words (class_so_far (record { name = name; tm = tm; reads = []; writes = [] })))
+pub class_more : (l : OpenList) (name : List ℕ) (tm : TmNo) → AddsLine l (with_class l name tm)
+    (class_words (class_so_far (record { name = name; tm = tm; reads = []; writes = [] })))
 class_more l name tm = flat_map-append class_lines (classes_in l) (class_so_far (record { name = name; tm = tm; reads = []; writes = [] }) ∷ [])
 
 -- the last class has one line more
-last_more : (cs : List ClassPart) (c new : ClassPart) (w : List Word) → class_lines new ≡ class_lines c ++ w ∷ [] → flat_map class_lines (cs ++ new ∷ []) ≡ flat_map class_lines (cs ++ c ∷ []) ++ w ∷ []
+last_more : (cs : List ClassPart) (c new : ClassPart) (w : List Word)
+    → class_lines new ≡ class_lines c ++ w ∷ []
+    → flat_map class_lines (cs ++ new ∷ []) ≡ flat_map class_lines (cs ++ c ∷ []) ++ w ∷ []
 last_more cs c new w e =
     flat_map-append class_lines cs (new ∷ [])
     ∙ ap (λ (l : List (List Word)). flat_map class_lines cs ++ l) (append-nil (class_lines new) ∙ e)
     ∙ sym (append_assoc (flat_map class_lines cs) (class_lines c) (w ∷ []))
-    ∙ ap (λ (l : List (List Word)). l ++ w ∷ []) (ap (λ (l : List (List Word)). flat_map class_lines cs ++ l) (sym (append-nil (class_lines c))) ∙ sym (flat_map-append class_lines cs (c ∷ [])))
+    ∙ ap (λ (l : List (List Word)). l ++ w ∷ [])
+    (ap (λ (l : List (List Word)). flat_map class_lines cs ++ l) (sym (append-nil (class_lines c)))
+    ∙ sym (flat_map-append class_lines cs (c ∷ [])))
 
 none_written : (writes : List (List ℕ)) → (length writes == 0) ≡ true → writes ≡ []
 none_written [] e = refl
@@ -80,27 +91,48 @@ read_lines h reads r writes none =
     ∙ ap (λ (l : List (List Word)). h ∷ (l ++ reads_words r ∷ [])) (sym (append-nil (map reads_words reads)))
     ∙ ap (λ (ws : List (List ℕ)). (h ∷ (map reads_words reads ++ map writes_words ws)) ++ reads_words r ∷ []) (sym none)
 
-last_read : (cs : List ClassPart) (last : Option OpenClass) (r : ReadPart) → takes_reads (record { classes = cs; last = last }) ≡ true → AddsLine (record { classes = cs; last = last }) (with_read (record { classes = cs; last = last }) r) (reads_words r)
+last_read : (cs : List ClassPart) (last : Option OpenClass) (r : ReadPart)
+    → takes_reads (record { classes = cs; last = last }) ≡ true → AddsLine (record {
+      classes = cs;
+      last =
+          last;
+    }) (with_read (record { classes = cs; last = last }) r) (reads_words r)
 last_read cs None r t = absurd cc
-last_read cs (Some c) r t = last_more cs (class_so_far c) (class_so_far (record c { reads = c.reads ++ r ∷ [] })) (reads_words r) (read_lines (class_words (class_so_far c)) c.reads r c.writes (none_written c.writes t))
+last_read cs (Some c) r t = last_more cs (class_so_far c)
+    (class_so_far (record c { reads = c.reads ++ r ∷ [] })) (reads_words r)
+    (read_lines (class_words (class_so_far c)) c.reads r c.writes (none_written c.writes t))
 
 pub read_more : (l : OpenList) (r : ReadPart) → takes_reads l ≡ true → AddsLine l (with_read l r) (reads_words r)
 read_more l r t = last_read l.classes l.last r t
 
-write_lines : (h : List Word) (rs : List (List Word)) (writes : List (List ℕ)) (f : List ℕ) → h ∷ (rs ++ map writes_words (writes ++ f ∷ [])) ≡ (h ∷ (rs ++ map writes_words writes)) ++ writes_words f ∷ []
-write_lines h rs writes f = ap (λ (l : List (List Word)). h ∷ (rs ++ l)) (map-append writes_words writes (f ∷ [])) ∙ ap (λ (l : List (List Word)). h ∷ l) (sym (append_assoc rs (map writes_words writes) (writes_words f ∷ [])))
+write_lines : (h : List Word) (rs : List (List Word)) (writes : List (List ℕ)) (f : List ℕ)
+    → h ∷ (rs ++ map writes_words (writes ++ f ∷ [])) ≡ (h ∷
+    (rs ++ map writes_words writes)) ++ writes_words f ∷ []
+write_lines h rs writes f = ap (λ (l : List (List Word)). h ∷ (rs ++ l)) (map-append writes_words writes
+    (f ∷ [])) ∙ ap (λ (l : List (List Word)). h ∷ l)
+    (sym (append_assoc rs (map writes_words writes) (writes_words f ∷ [])))
 
-last_write : (cs : List ClassPart) (last : Option OpenClass) (f : List ℕ) → takes_writes (record { classes = cs; last = last }) ≡ true → AddsLine (record { classes = cs; last = last }) (with_write (record { classes = cs; last = last }) f) (writes_words f)
+last_write : (cs : List ClassPart) (last : Option OpenClass) (f : List ℕ)
+    → takes_writes (record { classes = cs; last = last }) ≡ true → AddsLine (record {
+      classes = cs;
+      last =
+          last;
+    }) (with_write (record { classes = cs; last = last }) f) (writes_words f)
 last_write cs None f t = absurd cc
-last_write cs (Some c) f t = last_more cs (class_so_far c) (class_so_far (record c { writes = c.writes ++ f ∷ [] })) (writes_words f) (write_lines (class_words (class_so_far c)) (map reads_words c.reads) c.writes f)
+last_write cs (Some c) f t = last_more cs (class_so_far c)
+    (class_so_far (record c { writes = c.writes ++ f ∷ [] })) (writes_words f)
+    (write_lines (class_words (class_so_far c)) (map reads_words c.reads) c.writes f)
 
 pub write_more : (l : OpenList) (f : List ℕ) → takes_writes l ≡ true → AddsLine l (with_write l f) (writes_words f)
 write_more l f t = last_write l.classes l.last f t
 
 -- ---- a list ends
 
-pub listed_more : (cat : Catalogue) (rows : List (RelNo × List Value)) (txns : List Txn) (lists : List (List ClassPart)) (l : OpenList) (statements : List Stmt) (events : List Event) → events ≡ []
-    → lines_at cat rows txns (lists ++ classes_in l ∷ []) places.Declared statements events ≡ lines_at cat rows txns lists (places.Listing l) statements events ++ done_words ∷ []
+pub listed_more : (cat : Catalogue) (rows : List (RelNo × List Value)) (txns : List Txn)
+    (lists : List (List ClassPart)) (l : OpenList) (statements : List Stmt) (events : List Event)
+    → events ≡ []
+    → lines_at cat rows txns (lists ++ classes_in l ∷ []) places.Declared statements events ≡ lines_at cat
+    rows txns lists (places.Listing l) statements events ++ done_words ∷ []
 listed_more cat rows txns lists l statements events q =
     let front : List (List Word) = map (start_words cat) rows ++ flat_map (txn_lines cat) txns in
     ap (λ (x : List Event). lines_at cat rows txns (lists ++ classes_in l ∷ []) places.Declared statements x) q

@@ -11,27 +11,37 @@ use Rattle.sdd_words.specs.declared.word.Word.TheVariants.{Plain}
 use Rattle.sdd_words.proofs.Written.{item_written, items_written, more_bytes-append}
 use Rattle.sdd_script.specs.Spelling.{condition_words, conditions_words, assign_words, sets_words}
 
-pub condition_more : (key : List ℕ) (cat : Catalogue) (rels : List RelNo) (conds : List Condition) (c : Condition) (out total : List ℕ) (i : ℕ) → i < length conds → c ≡ get_or conds i c
+pub condition_more : (key : List ℕ) (cat : Catalogue) (rels : List RelNo) (conds : List Condition)
+    (c : Condition) (out total : List ℕ) (i : ℕ) → i < length conds → c ≡ get_or conds i c
     → out ++ more_bytes (conditions_words key cat rels (drop i conds)) ≡ total
-    → (out ++ (spaced (Plain key) ++ more_bytes (condition_words cat rels c))) ++ more_bytes (conditions_words (codes "and") cat rels (drop (i + 1) conds)) ≡ total
+    → (out ++ (spaced (Plain key) ++ more_bytes (condition_words cat rels c))) ++ more_bytes
+    (conditions_words (codes "and") cat rels (drop (i + 1) conds)) ≡ total
 condition_more key cat rels conds c out total i lt is e =
     let d : drop i conds ≡ c ∷ drop (i + 1) conds = rw (drop-cons conds i c, ← is, add-one) refl in
     let rest : List ℕ = more_bytes (conditions_words (codes "and") cat rels (drop (i + 1) conds)) in
     let one : more_bytes (conditions_words key cat rels (c ∷ drop (i + 1) conds)) ≡ spaced (Plain key) ++ (more_bytes (condition_words cat rels c) ++ rest) =
-    ap (λ (l : List ℕ). spaced (Plain key) ++ l) (more_bytes-append (condition_words cat rels c) (conditions_words (codes "and") cat rels (drop (i + 1) conds))) in
+    ap (λ (l : List ℕ). spaced (Plain key) ++ l) (more_bytes-append (condition_words cat rels c)
+    (conditions_words (codes "and") cat rels (drop (i + 1) conds))) in
     append_assoc out (spaced (Plain key) ++ more_bytes (condition_words cat rels c)) rest
-    ∙ ap (λ (l : List ℕ). out ++ l) (append_assoc (spaced (Plain key)) (more_bytes (condition_words cat rels c)) rest ∙ sym one ∙ ap (λ l. more_bytes (conditions_words key cat rels l)) (sym d))
+    ∙ ap (λ (l : List ℕ). out ++ l) (append_assoc (spaced (Plain key))
+    (more_bytes (condition_words cat rels c)) rest ∙ sym one
+    ∙ ap (λ l. more_bytes (conditions_words key cat rels l)) (sym d))
     ∙ e
 
 pub conditions_written : (key : List ℕ) (cat : Catalogue) (rels : List RelNo) (conds : List Condition) (out total : List ℕ) (i : ℕ) → length conds ≤ i
     → out ++ more_bytes (conditions_words key cat rels (drop i conds)) ≡ total → out ≡ total
-conditions_written key cat rels conds out total i past e = sym (append-nil out) ∙ ap (λ l. out ++ more_bytes (conditions_words key cat rels l)) (sym (drop_all i conds past)) ∙ e
+conditions_written key cat rels conds out total i past e =
+    sym (append-nil out) ∙ ap (λ l. out ++ more_bytes (conditions_words key cat rels l))
+    (sym (drop_all i conds past)) ∙ e
 
 pub assign_more : (cat : Catalogue) (rel : RelNo) (sets : List Assign) (a : Assign) (out total : List ℕ) (i : ℕ) → i < length sets → a ≡ get_or sets i a
-    → out ++ more_bytes (sets_words cat rel (drop i sets)) ≡ total → (out ++ more_bytes (assign_words cat rel a)) ++ more_bytes (sets_words cat rel (drop (i + 1) sets)) ≡ total
+    → out ++ more_bytes (sets_words cat rel (drop i sets)) ≡ total
+    → (out ++ more_bytes (assign_words cat rel a)) ++ more_bytes
+    (sets_words cat rel (drop (i + 1) sets)) ≡ total
 assign_more cat rel sets a out total i lt is e =
     let d : drop i sets ≡ a ∷ drop (i + 1) sets = rw (drop-cons sets i a, ← is, add-one) refl in
-    let one : more_bytes (sets_words cat rel (a ∷ drop (i + 1) sets)) ≡ more_bytes (assign_words cat rel a) ++ more_bytes (sets_words cat rel (drop (i + 1) sets)) =
+    let one : more_bytes (sets_words cat rel (a ∷ drop (i + 1) sets)) ≡ more_bytes
+    (assign_words cat rel a) ++ more_bytes (sets_words cat rel (drop (i + 1) sets)) =
     more_bytes-append (assign_words cat rel a) (sets_words cat rel (drop (i + 1) sets)) in
     append_assoc out (more_bytes (assign_words cat rel a)) (more_bytes (sets_words cat rel (drop (i + 1) sets)))
     ∙ ap (λ (l : List ℕ). out ++ l) (sym one ∙ ap (λ l. more_bytes (sets_words cat rel l)) (sym d))

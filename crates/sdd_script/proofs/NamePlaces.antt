@@ -68,7 +68,8 @@ in_middle : {A : Type 0} (p : A → Bool) (xs : List A) (x : A) (rest : List A) 
 in_middle p [] x rest h = h.0
 in_middle p (y ∷ xs) x rest h = in_middle p xs x rest h.1
 
-split_at : (ns : List (List ℕ)) (i : ℕ) → i < length ns → (before : List (List ℕ)) × (behind : List (List ℕ)) × (ns ≡ before ++ get_or ns i [] ∷ behind) × (length before ≡ i)
+split_at : (ns : List (List ℕ)) (i : ℕ) → i < length ns → (before : List (List ℕ))
+    × (behind : List (List ℕ)) × (ns ≡ before ++ get_or ns i [] ∷ behind) × (length before ≡ i)
 split_at [] i lt = absurd (omega arith)
 split_at (n ∷ ns) zero lt = ([], ns, refl, refl)
 split_at (n ∷ ns) (suc i) lt = let p = split_at ns i (omega arith) in (n ∷ p.0, p.1, ap (λ (l : List (List ℕ)). n ∷ l) p.2, ap suc p.3)
@@ -95,7 +96,10 @@ pub place_of_name : (ns : List (List ℕ)) (i : ℕ) → repeats ns ≡ false �
 place_of_name ns i e lt =
     let p = split_at ns i lt in
     let name : List ℕ = get_or ns i [] in
-    let found : position (bytes_eq name) (p.0 ++ name ∷ p.1) ≡ Some (length p.0) = position_again (bytes_eq name) p.0 name p.1 (apart_before p.0 name p.1 (subst (λ (l : List (List ℕ)). repeats l ≡ false) p.2 e)) ((bytes_eq-Decides name name).1 refl) in
+    let found : position (bytes_eq name) (p.0 ++ name ∷ p.1) ≡ Some (length p.0) =
+    position_again (bytes_eq name) p.0 name p.1
+    (apart_before p.0 name p.1 (subst (λ (l : List (List ℕ)). repeats l ≡ false) p.2 e))
+    ((bytes_eq-Decides name name).1 refl) in
     ap (position (bytes_eq name)) p.2 ∙ found ∙ ap (λ (k : ℕ). Some k) p.3
 
 -- ---- numbers
@@ -119,7 +123,8 @@ distinct_more ns x h other i k less within d =
       | inr le ↦ λ e.
           let len : length (ns ++ x ∷ []) ≡ length ns + 1 = omega (arith, length-append ns (x ∷ [])) in
           let at : k ≡ length ns = omega (arith, len, within) in
-          let last : get_or (ns ++ x ∷ []) k d ≡ x = get_or-append_right ns (x ∷ []) (length ns) k d refl le ∙ ap (λ (n : ℕ). get_or (x ∷ []) n d) (zero_of k (length ns) at) in
+          let last : get_or (ns ++ x ∷ []) k d ≡ x = get_or-append_right ns (x ∷ []) (length ns) k d refl le
+          ∙ ap (λ (n : ℕ). get_or (x ∷ []) n d) (zero_of k (length ns) at) in
           let first : get_or (ns ++ x ∷ []) i d ≡ get_or ns i d = get_or_append_left ns (x ∷ []) d i (omega (arith, at, less)) in
           let differs : get_or ns i d ≢ x = not_at ns x i d other (omega (arith, at, less)) in
           differs (sym first ∙ e ∙ last)
@@ -128,5 +133,7 @@ distinct_more ns x h other i k less within d =
 pub apart_from : (ns : List ℕ) (x : ℕ) (rest : List ℕ) → AreDistinct (ns ++ x ∷ rest) → NonePasses (λ n. n == x) ns
 apart_from ns x rest h = all_differ ns x (λ i lt e.
     let len : length (ns ++ x ∷ rest) ≡ length ns + length (x ∷ rest) = length-append ns (x ∷ rest) in
-    let at : get_or (ns ++ x ∷ rest) (length ns) 0 ≡ x = get_or-append_right ns (x ∷ rest) (length ns) (length ns) 0 refl (omega arith) ∙ ap (λ (n : ℕ). get_or (x ∷ rest) n 0) (zero_of (length ns) (length ns) refl) in
+    let at : get_or (ns ++ x ∷ rest) (length ns) 0 ≡ x =
+    get_or-append_right ns (x ∷ rest) (length ns) (length ns) 0 refl (omega arith)
+    ∙ ap (λ (n : ℕ). get_or (x ∷ rest) n 0) (zero_of (length ns) (length ns) refl) in
     h i (length ns) lt (omega (arith, len)) 0 (get_or_append_left ns (x ∷ rest) 0 i lt ∙ e ∙ sym at))

@@ -52,4 +52,5 @@ item_of P (y ∷ xs) h zero x e = subst P (some_is y x e) h.0
 item_of P (y ∷ xs) h (suc i) x e = item_of P xs h.1 i x e
 
 pub timely_without : (dms lists : ℕ) (es : List Event) → All IsNoRedeclare es → AreTimely dms lists es
-timely_without dms lists es h i is = let none : is_redeclare Redeclare ≡ false = item_of IsNoRedeclare es (recursion_from_All IsNoRedeclare es h) i Redeclare is in absurd cc
+timely_without dms lists es h i is = let none : is_redeclare Redeclare ≡ false =
+    item_of IsNoRedeclare es (recursion_from_All IsNoRedeclare es h) i Redeclare is in absurd cc

@@ -23,7 +23,8 @@ three_words out a b c =
     ∙ ap (λ (l : List ℕ). out ++ (spaced a ++ (spaced b ++ l))) (sym (append-nil (spaced c)))
 
 -- a word and further ones, each made of an item
-pub word_and_items : {A : Type 0} (out : List ℕ) (a : Word) (f : A → Word) (xs : List A) → (out ++ spaced a) ++ flat_map (λ x. spaced (f x)) xs ≡ out ++ more_bytes (a ∷ map f xs)
+pub word_and_items : {A : Type 0} (out : List ℕ) (a : Word) (f : A → Word) (xs : List A)
+    → (out ++ spaced a) ++ flat_map (λ x. spaced (f x)) xs ≡ out ++ more_bytes (a ∷ map f xs)
 word_and_items out a f xs = append_assoc out (spaced a) (flat_map (λ x. spaced (f x)) xs) ∙ ap (λ (l : List ℕ). out ++ (spaced a ++ l)) (words_spaced f xs)
 
 -- the first word of a line and the others
@@ -44,8 +45,10 @@ pub query_pieces : {A B : Type 0} (out key : List ℕ) (f : A → Word) (xs : Li
     → ((((out ++ key) ++ flat_map (λ x. spaced (f x)) xs) ++ spaced from) ++ flat_map (λ y. spaced (g y)) ys) ++ more_bytes ws
     ≡ out ++ line_bytes (Plain key ∷ (map f xs ++ from ∷ (map g ys ++ ws)))
 query_pieces out key f xs from g ys ws =
-    let a : (((out ++ key) ++ flat_map (λ x. spaced (f x)) xs) ++ spaced from) ++ flat_map (λ y. spaced (g y)) ys ≡ ((out ++ key) ++ more_bytes (map f xs)) ++ more_bytes (from ∷ map g ys) =
-    word_and_items ((out ++ key) ++ flat_map (λ x. spaced (f x)) xs) from g ys ∙ ap (λ (l : List ℕ). ((out ++ key) ++ l) ++ more_bytes (from ∷ map g ys)) (words_spaced f xs) in
+    let a : (((out ++ key) ++ flat_map (λ x. spaced (f x)) xs) ++ spaced from) ++ flat_map
+    (λ y. spaced (g y)) ys ≡ ((out ++ key) ++ more_bytes (map f xs)) ++ more_bytes (from ∷ map g ys) =
+    word_and_items ((out ++ key) ++ flat_map (λ x. spaced (f x)) xs) from g ys
+    ∙ ap (λ (l : List ℕ). ((out ++ key) ++ l) ++ more_bytes (from ∷ map g ys)) (words_spaced f xs) in
     ap (λ (l : List ℕ). l ++ more_bytes ws) a
     ∙ append_assoc ((out ++ key) ++ more_bytes (map f xs)) (more_bytes (from ∷ map g ys)) (more_bytes ws)
     ∙ ap (λ (l : List ℕ). ((out ++ key) ++ more_bytes (map f xs)) ++ l) (sym (more_bytes-append (from ∷ map g ys) ws))
@@ -54,7 +57,9 @@ query_pieces out key f xs from g ys ws =
     ∙ keyed out key (map f xs ++ from ∷ (map g ys ++ ws))
 
 -- two words, then words, then words
-pub update_pieces : (out key : List ℕ) (a b : Word) (ws vs : List Word) → ((((out ++ key) ++ spaced a) ++ spaced b) ++ more_bytes ws) ++ more_bytes vs ≡ out ++ line_bytes (Plain key ∷ a ∷ b ∷ (ws ++ vs))
+pub update_pieces : (out key : List ℕ) (a b : Word) (ws vs : List Word)
+    → ((((out ++ key) ++ spaced a) ++ spaced b) ++ more_bytes ws) ++ more_bytes vs ≡ out ++ line_bytes
+    (Plain key ∷ a ∷ b ∷ (ws ++ vs))
 update_pieces out key a b ws vs =
     append_assoc (((out ++ key) ++ spaced a) ++ spaced b) (more_bytes ws) (more_bytes vs)
     ∙ ap (λ (l : List ℕ). (((out ++ key) ++ spaced a) ++ spaced b) ++ l) (sym (more_bytes-append ws vs))
@@ -96,8 +101,10 @@ list_pieces out h f xs d =
     ∙ ap (λ (l : List ℕ). out ++ (ended h ++ l)) (sym (flat_map-append ended (flat_map f xs) (d ∷ [])))
 
 -- the lines of a workload
-pub work_pieces : {A B C D : Type 0} (f : A → List Word) (xs : List A) (g : B → List (List Word)) (ys : List B) (k : C → List (List Word)) (ls : List C) (h : D → List Word) (zs : List D) (e : List Word)
-    → (((flat_map (λ x. ended (f x)) xs ++ flat_map (λ y. flat_map ended (g y)) ys) ++ flat_map (λ l. flat_map ended (k l)) ls) ++ flat_map (λ z. ended (h z)) zs) ++ ended e
+pub work_pieces : {A B C D : Type 0} (f : A → List Word) (xs : List A) (g : B → List (List Word))
+    (ys : List B) (k : C → List (List Word)) (ls : List C) (h : D → List Word) (zs : List D) (e : List Word)
+    → (((flat_map (λ x. ended (f x)) xs ++ flat_map (λ y. flat_map ended (g y)) ys) ++ flat_map
+    (λ l. flat_map ended (k l)) ls) ++ flat_map (λ z. ended (h z)) zs) ++ ended e
     ≡ flat_map ended ((((map f xs ++ flat_map g ys) ++ flat_map k ls) ++ map h zs) ++ e ∷ [])
 work_pieces f xs g ys k ls h zs e =
     let front : List (List Word) = map f xs ++ flat_map g ys in
@@ -105,11 +112,14 @@ work_pieces f xs g ys k ls h zs e =
     ap (λ (l : List ℕ). l ++ flat_map (λ y. flat_map ended (g y)) ys) (sym (flat_map-map ended f xs))
     ∙ ap (λ (l : List ℕ). flat_map ended (map f xs) ++ l) (sym (flat_map-flat_map ended g ys))
     ∙ sym (flat_map-append ended (map f xs) (flat_map g ys)) in
-    let b : (flat_map (λ x. ended (f x)) xs ++ flat_map (λ y. flat_map ended (g y)) ys) ++ flat_map (λ l. flat_map ended (k l)) ls ≡ flat_map ended (front ++ flat_map k ls) =
+    let b : (flat_map (λ x. ended (f x)) xs ++ flat_map (λ y. flat_map ended (g y)) ys) ++ flat_map
+    (λ l. flat_map ended (k l)) ls ≡ flat_map ended (front ++ flat_map k ls) =
     ap (λ (l : List ℕ). l ++ flat_map (λ l. flat_map ended (k l)) ls) a
     ∙ ap (λ (l : List ℕ). flat_map ended front ++ l) (sym (flat_map-flat_map ended k ls))
     ∙ sym (flat_map-append ended front (flat_map k ls)) in
-    let d : ((flat_map (λ x. ended (f x)) xs ++ flat_map (λ y. flat_map ended (g y)) ys) ++ flat_map (λ l. flat_map ended (k l)) ls) ++ flat_map (λ z. ended (h z)) zs ≡ flat_map ended ((front ++ flat_map k ls) ++ map h zs) =
+    let d : ((flat_map (λ x. ended (f x)) xs ++ flat_map (λ y. flat_map ended (g y)) ys) ++ flat_map
+    (λ l. flat_map ended (k l)) ls) ++ flat_map (λ z. ended (h z)) zs ≡ flat_map ended
+    ((front ++ flat_map k ls) ++ map h zs) =
     ap (λ (l : List ℕ). l ++ flat_map (λ z. ended (h z)) zs) b
     ∙ ap (λ (l : List ℕ). flat_map ended (front ++ flat_map k ls) ++ l) (sym (flat_map-map ended h zs))
     ∙ sym (flat_map-append ended (front ++ flat_map k ls) (map h zs)) in

@@ -49,18 +49,30 @@ pub record IsStatement (cat : Catalogue) (key : List ℕ) (words : List Word) (s
 
 -- ---- limits
 
-pub query_limits : (before : ℕ) (out : List Ref) (rels : List RelNo) (conds : List Condition) (u : Unit {0}) → statement_limits before (Query out rels conds) ≡ Ok u → (length rels ≤ 6) × (length conds ≤ 16) × (length out ≤ 16)
+pub query_limits : (before : ℕ) (out : List Ref) (rels : List RelNo) (conds : List Condition) (u : Unit {0})
+    → statement_limits before (Query out rels conds) ≡ Ok u → (length rels ≤ 6) × (length conds ≤ 16)
+    × (length out ≤ 16)
 query_limits before out rels conds u e =
-    let a = must_then (TooMany counts.Statement) (nat_lt before MAX_STATEMENTS) (λ _. must (TooMany counts.Part) (nat_le (length rels) MAX_USES) >>= λ _. must (TooMany counts.Cond) (nat_le (length conds) MAX_CONDITIONS) >>= λ _. must (TooMany counts.Column) (nat_le (length out) MAX_OUTPUT_COLUMNS)) u e in
-    let b = must_then (TooMany counts.Part) (nat_le (length rels) MAX_USES) (λ _. must (TooMany counts.Cond) (nat_le (length conds) MAX_CONDITIONS) >>= λ _. must (TooMany counts.Column) (nat_le (length out) MAX_OUTPUT_COLUMNS)) u a.1 in
-    let c = must_then (TooMany counts.Cond) (nat_le (length conds) MAX_CONDITIONS) (λ _. must (TooMany counts.Column) (nat_le (length out) MAX_OUTPUT_COLUMNS)) u b.1 in
+    let a = must_then (TooMany counts.Statement) (nat_lt before MAX_STATEMENTS)
+    (λ _. must (TooMany counts.Part) (nat_le (length rels) MAX_USES) >>=
+    λ _. must (TooMany counts.Cond) (nat_le (length conds) MAX_CONDITIONS) >>=
+    λ _. must (TooMany counts.Column) (nat_le (length out) MAX_OUTPUT_COLUMNS)) u e in
+    let b = must_then (TooMany counts.Part) (nat_le (length rels) MAX_USES) (λ _. must (TooMany counts.Cond)
+    (nat_le (length conds) MAX_CONDITIONS) >>=
+    λ _. must (TooMany counts.Column) (nat_le (length out) MAX_OUTPUT_COLUMNS)) u a.1 in
+    let c = must_then (TooMany counts.Cond) (nat_le (length conds) MAX_CONDITIONS)
+    (λ _. must (TooMany counts.Column) (nat_le (length out) MAX_OUTPUT_COLUMNS)) u b.1 in
     let d = must_ok (TooMany counts.Column) (nat_le (length out) MAX_OUTPUT_COLUMNS) u c.1 in
     (le_of (length rels) 6 b.0, le_of (length conds) 16 c.0, le_of (length out) 16 d)
 
-pub update_limits : (before : ℕ) (rel : RelNo) (sets : List Assign) (conds : List Condition) (u : Unit {0}) → statement_limits before (Update rel sets conds) ≡ Ok u → (length conds ≤ 16) × (length sets ≤ 16)
+pub update_limits : (before : ℕ) (rel : RelNo) (sets : List Assign) (conds : List Condition) (u : Unit {0})
+    → statement_limits before (Update rel sets conds) ≡ Ok u → (length conds ≤ 16) × (length sets ≤ 16)
 update_limits before rel sets conds u e =
-    let a = must_then (TooMany counts.Statement) (nat_lt before MAX_STATEMENTS) (λ _. must (TooMany counts.Cond) (nat_le (length conds) MAX_CONDITIONS) >>= λ _. must (TooMany counts.Column) (nat_le (length sets) MAX_ASSIGNMENTS)) u e in
-    let c = must_then (TooMany counts.Cond) (nat_le (length conds) MAX_CONDITIONS) (λ _. must (TooMany counts.Column) (nat_le (length sets) MAX_ASSIGNMENTS)) u a.1 in
+    let a = must_then (TooMany counts.Statement) (nat_lt before MAX_STATEMENTS)
+    (λ _. must (TooMany counts.Cond) (nat_le (length conds) MAX_CONDITIONS) >>=
+    λ _. must (TooMany counts.Column) (nat_le (length sets) MAX_ASSIGNMENTS)) u e in
+    let c = must_then (TooMany counts.Cond) (nat_le (length conds) MAX_CONDITIONS)
+    (λ _. must (TooMany counts.Column) (nat_le (length sets) MAX_ASSIGNMENTS)) u a.1 in
     let d = must_ok (TooMany counts.Column) (nat_le (length sets) MAX_ASSIGNMENTS) u c.1 in
     (le_of (length conds) 16 c.0, le_of (length sets) 16 d)
 
@@ -71,9 +83,18 @@ delete_limits before rel conds u e =
 
 pub limits_before : (before : ℕ) (s : Stmt) (u : Unit {0}) → statement_limits before s ≡ Ok u → before < 32
 limits_before before (Put rel row) u e = ltb-true before 32 (must_ok (TooMany counts.Statement) (nat_lt before MAX_STATEMENTS) u e)
-limits_before before (Query out rels conds) u e = ltb-true before 32 (must_then (TooMany counts.Statement) (nat_lt before MAX_STATEMENTS) (λ _. must (TooMany counts.Part) (nat_le (length rels) MAX_USES) >>= λ _. must (TooMany counts.Cond) (nat_le (length conds) MAX_CONDITIONS) >>= λ _. must (TooMany counts.Column) (nat_le (length out) MAX_OUTPUT_COLUMNS)) u e).0
-limits_before before (Update rel sets conds) u e = ltb-true before 32 (must_then (TooMany counts.Statement) (nat_lt before MAX_STATEMENTS) (λ _. must (TooMany counts.Cond) (nat_le (length conds) MAX_CONDITIONS) >>= λ _. must (TooMany counts.Column) (nat_le (length sets) MAX_ASSIGNMENTS)) u e).0
-limits_before before (Delete rel conds) u e = ltb-true before 32 (must_then (TooMany counts.Statement) (nat_lt before MAX_STATEMENTS) (λ _. must (TooMany counts.Cond) (nat_le (length conds) MAX_CONDITIONS)) u e).0
+limits_before before (Query out rels conds) u e =
+    ltb-true before 32 (must_then (TooMany counts.Statement) (nat_lt before MAX_STATEMENTS)
+    (λ _. must (TooMany counts.Part) (nat_le (length rels) MAX_USES) >>=
+    λ _. must (TooMany counts.Cond) (nat_le (length conds) MAX_CONDITIONS) >>=
+    λ _. must (TooMany counts.Column) (nat_le (length out) MAX_OUTPUT_COLUMNS)) u e).0
+limits_before before (Update rel sets conds) u e =
+    ltb-true before 32 (must_then (TooMany counts.Statement) (nat_lt before MAX_STATEMENTS)
+    (λ _. must (TooMany counts.Cond) (nat_le (length conds) MAX_CONDITIONS) >>=
+    λ _. must (TooMany counts.Column) (nat_le (length sets) MAX_ASSIGNMENTS)) u e).0
+limits_before before (Delete rel conds) u e =
+    ltb-true before 32 (must_then (TooMany counts.Statement) (nat_lt before MAX_STATEMENTS)
+    (λ _. must (TooMany counts.Cond) (nat_le (length conds) MAX_CONDITIONS)) u e).0
 
 pub limits_again : (cat : Catalogue) (before : ℕ) (s : Stmt) → before < 32 → FitsStatement cat s → statement_limits before s ≡ Ok tt
 limits_again cat before (Put rel row) lt h = let a : ltb before 32 ≡ true = lt-ltb before 32 lt in rw a refl
@@ -107,7 +128,8 @@ put_takes cat (name ∷ words) s e =
       fits = λ before u lim. (r.fits.0, r.fits.1);
     })
 
-pub put_again : (cat : Catalogue) → IsKnown cat → (rel : RelNo) (row : List Value) → FitsRowOf cat rel row → put_of cat (row_words cat rel row) ≡ Ok (Put rel row)
+pub put_again : (cat : Catalogue) → IsKnown cat → (rel : RelNo) (row : List Value) → FitsRowOf cat rel row
+    → put_of cat (row_words cat rel row) ≡ Ok (Put rel row)
 put_again cat k rel row h =
     let a = row_free cat k rel row h in
     let b = row_again cat k rel row h in
@@ -124,10 +146,14 @@ parts_named cat i [] = refl
 parts_named cat i (w ∷ ws) = ap (λ (r : Result (List RelNo) WorkRule). part_of cat w >>= λ y. r >>= λ ys. Ok (y ∷ ys)) (parts_named cat (i + 1) ws)
 
 by_words : (cat : Catalogue) (columns rels : List Word) (cs : List Comparison) → query_of_parts cat columns rels cs
-    ≡ (along (λ i w. listed_column cat (parts_of cat rels) w) 0 columns >>= λ out. along (λ i w. part_of cat w) 0 rels >>= λ found. conditions_of cat (parts_of cat rels) cs >>= λ conds. Ok (Query out found conds))
+    ≡ (along (λ i w. listed_column cat (parts_of cat rels) w) 0 columns >>=
+    λ out. along (λ i w. part_of cat w) 0 rels >>= λ found. conditions_of cat (parts_of cat rels) cs >>=
+    λ conds. Ok (Query out found conds))
 unfolding query_over
 by_words cat columns rels cs =
-    ap (λ (r : Result (List RelNo) WorkRule). along (λ i w. listed_column cat (parts_of cat rels) w) 0 columns >>= λ out. r >>= λ found. conditions_of cat (parts_of cat rels) cs >>= λ conds. Ok (Query out found conds)) (parts_named cat 0 rels)
+    ap (λ (r : Result (List RelNo) WorkRule). along (λ i w. listed_column cat (parts_of cat rels) w) 0
+    columns >>= λ out. r >>= λ found. conditions_of cat (parts_of cat rels) cs >>=
+    λ conds. Ok (Query out found conds)) (parts_named cat 0 rels)
 
 two_parts : (a b : Option ℕ) (xs ys : Parts) → a ≡ b → xs ≡ ys → a ∷ xs ≡ b ∷ ys
 two_parts a b xs ys p q = cc
@@ -135,13 +161,22 @@ two_parts a b xs ys p q = cc
 part_again : (cat : Catalogue) (r : RelNo) → relation_of cat (relation_word cat r) ≡ Some r.0 → part_of cat (relation_word cat r) ≡ Ok r
 part_again cat r e = rw e refl
 
-listed_again : (cat : Catalogue) (rels : List RelNo) (r : Ref) → column_of_use cat (parts_for rels) (column_word cat rels r) ≡ Ok (record { at = r; kind = kind_of_ref cat rels r }) → listed_column cat (parts_for rels) (column_word cat rels r) ≡ Ok r
+listed_again : (cat : Catalogue) (rels : List RelNo) (r : Ref) → column_of_use cat (parts_for rels)
+    (column_word cat rels r) ≡ Ok (record { at = r; kind = kind_of_ref cat rels r })
+    → listed_column cat (parts_for rels) (column_word cat rels r) ≡ Ok r
 listed_again cat rels r e = rw e refl
 
-query_words : (a b c d e f : List Word) → a ≡ b → c ≡ d → e ≡ f → Plain (codes "query") ∷ (a ++ Plain (codes "from") ∷ (c ++ e)) ≡ Plain (codes "query") ∷ (b ++ Plain (codes "from") ∷ (d ++ f))
-query_words a b c d e f p q r = ap (λ (l : List Word). Plain (codes "query") ∷ (l ++ Plain (codes "from") ∷ (c ++ e))) p ∙ ap (λ (l : List Word). Plain (codes "query") ∷ (b ++ Plain (codes "from") ∷ (l ++ e))) q ∙ ap (λ (l : List Word). Plain (codes "query") ∷ (b ++ Plain (codes "from") ∷ (d ++ l))) r
+query_words : (a b c d e f : List Word) → a ≡ b → c ≡ d → e ≡ f
+    → Plain (codes "query") ∷ (a ++ Plain (codes "from") ∷ (c ++ e)) ≡ Plain (codes "query") ∷
+    (b ++ Plain (codes "from") ∷ (d ++ f))
+query_words a b c d e f p q r =
+    ap (λ (l : List Word). Plain (codes "query") ∷ (l ++ Plain (codes "from") ∷ (c ++ e))) p
+    ∙ ap (λ (l : List Word). Plain (codes "query") ∷ (b ++ Plain (codes "from") ∷ (l ++ e))) q
+    ∙ ap (λ (l : List Word). Plain (codes "query") ∷ (b ++ Plain (codes "from") ∷ (d ++ l))) r
 
-parts_take : (cat : Catalogue) (i : ℕ) (words : List Word) (rels : List RelNo) → Answers (λ i w. part_of cat w) i words rels → (words ≡ map (relation_word cat) rels) × (parts_of cat words ≡ parts_for rels) × AllByRecursion (λ (r : RelNo). IsRelation cat r.0) rels
+parts_take : (cat : Catalogue) (i : ℕ) (words : List Word) (rels : List RelNo)
+    → Answers (λ i w. part_of cat w) i words rels → (words ≡ map (relation_word cat) rels)
+    × (parts_of cat words ≡ parts_for rels) × AllByRecursion (λ (r : RelNo). IsRelation cat r.0) rels
 parts_take cat i [] [] h = (refl, refl, tt)
 parts_take cat i [] (r ∷ rels) h = absurd h
 parts_take cat i (w ∷ words) [] h = absurd h
@@ -155,15 +190,23 @@ parts_take cat i (w ∷ words) (r ∷ rels) h =
       (subst (λ (x : RelNo). IsRelation cat x.0) same t.there, more.2),
     )
 
-parts_again : (cat : Catalogue) → IsKnown cat → (rels : List RelNo) → AllByRecursion (λ (r : RelNo). IsRelation cat r.0) rels → (i : ℕ) → Answers (λ i w. part_of cat w) i (map (relation_word cat) rels) rels
+parts_again : (cat : Catalogue) → IsKnown cat → (rels : List RelNo)
+    → AllByRecursion (λ (r : RelNo). IsRelation cat r.0) rels → (i : ℕ) → Answers (λ i w. part_of cat w) i
+    (map (relation_word cat) rels) rels
 parts_again cat k [] h i = tt
 parts_again cat k (r ∷ rels) h i = (part_again cat r (relation_again cat k r.0 h.0), parts_again cat k rels h.1 (i + 1))
 
-parts_are : (cat : Catalogue) → IsKnown cat → (rels : List RelNo) → AllByRecursion (λ (r : RelNo). IsRelation cat r.0) rels → parts_of cat (map (relation_word cat) rels) ≡ parts_for rels
+parts_are : (cat : Catalogue) → IsKnown cat → (rels : List RelNo)
+    → AllByRecursion (λ (r : RelNo). IsRelation cat r.0) rels
+    → parts_of cat (map (relation_word cat) rels) ≡ parts_for rels
 parts_are cat k [] h = refl
-parts_are cat k (r ∷ rels) h = two_parts (relation_of cat (relation_word cat r)) (Some r.0) (parts_of cat (map (relation_word cat) rels)) (parts_for rels) (relation_again cat k r.0 h.0) (parts_are cat k rels h.1)
+parts_are cat k (r ∷ rels) h = two_parts (relation_of cat (relation_word cat r)) (Some r.0)
+    (parts_of cat (map (relation_word cat) rels)) (parts_for rels) (relation_again cat k r.0 h.0)
+    (parts_are cat k rels h.1)
 
-columns_take : (cat : Catalogue) (rels : List RelNo) (i : ℕ) (words : List Word) (out : List Ref) → list_all looks_like_column words ≡ true → Answers (λ i w. listed_column cat (parts_for rels) w) i words out → (words ≡ map (column_word cat rels) out) × AllByRecursion (FitsRef cat rels) out
+columns_take : (cat : Catalogue) (rels : List RelNo) (i : ℕ) (words : List Word) (out : List Ref)
+    → list_all looks_like_column words ≡ true → Answers (λ i w. listed_column cat (parts_for rels) w) i
+    words out → (words ≡ map (column_word cat rels) out) × AllByRecursion (FitsRef cat rels) out
 columns_take cat rels i [] [] l h = (refl, tt)
 columns_take cat rels i [] (r ∷ out) l h = absurd h
 columns_take cat rels i (w ∷ words) [] l h = absurd h
@@ -172,10 +215,15 @@ columns_take cat rels i (w ∷ words) (r ∷ out) l h =
     let a = bind_ok (column_of_use cat (parts_for rels) w) (λ (f : Found). Ok f.at) r h.0 in
     let t = ref_takes cat rels w a.0 look.0 a.1 in
     let same : a.0.at ≡ r = ok_is a.0.at r a.2 in
-    let more = columns_take cat rels (i + 1) words out look.1 h.1 in
-    (two_same w (column_word cat rels r) words (map (column_word cat rels) out) (t.spelled ∙ ap (column_word cat rels) same) more.0, (subst (λ (x : Ref). FitsRef cat rels x) same t.fits, more.1))
+    let more = columns_take cat rels (i + 1) words out look.1 h.1 in (
+      two_same w (column_word cat rels r) words (map (column_word cat rels) out) (t.spelled
+          ∙ ap (column_word cat rels) same) more.0,
+      (subst (λ (x : Ref). FitsRef cat rels x) same t.fits, more.1),
+    )
 
-columns_again : (cat : Catalogue) → IsKnown cat → (rels : List RelNo) → AreParts cat rels → (i : ℕ) (out : List Ref) → AllByRecursion (FitsRef cat rels) out → Answers (λ i w. listed_column cat (parts_for rels) w) i (map (column_word cat rels) out) out
+columns_again : (cat : Catalogue) → IsKnown cat → (rels : List RelNo) → AreParts cat rels
+    → (i : ℕ) (out : List Ref) → AllByRecursion (FitsRef cat rels) out
+    → Answers (λ i w. listed_column cat (parts_for rels) w) i (map (column_word cat rels) out) out
 columns_again cat k rels p i [] h = tt
 columns_again cat k rels p i (r ∷ out) h = (listed_again cat rels r (ref_again cat k rels r p h.0), columns_again cat k rels p (i + 1) out h.1)
 
@@ -192,13 +240,20 @@ pub frees_no_key : (key : List ℕ) (ws : List Word) → is_free (Plain key) ≡
 frees_no_key key [] r h = tt
 frees_no_key key (w ∷ ws) r h = let a = both_hold (is_free w) (list_all is_free ws) h in (free_no_key key w r a.0, frees_no_key key ws r a.1)
 
-pub before_where : (cat : Catalogue) (rels : List RelNo) (front : List Word) (conds : List Condition) → NonePasses (is_key (codes "where")) front → up_to (codes "where") (front ++ where_words cat rels conds) ≡ front
+pub before_where : (cat : Catalogue) (rels : List RelNo) (front : List Word) (conds : List Condition)
+    → NonePasses (is_key (codes "where")) front
+    → up_to (codes "where") (front ++ where_words cat rels conds) ≡ front
 before_where cat rels front [] h = ap (up_to (codes "where")) (append-nil front) ∙ all_before (is_key (codes "where")) front h
-before_where cat rels front (c ∷ conds) h = before_again (is_key (codes "where")) front (Plain (codes "where")) (condition_words cat rels c ++ conditions_words (codes "and") cat rels conds) h refl
+before_where cat rels front (c ∷ conds) h =
+    before_again (is_key (codes "where")) front (Plain (codes "where"))
+    (condition_words cat rels c ++ conditions_words (codes "and") cat rels conds) h refl
 
-pub from_where : (cat : Catalogue) (rels : List RelNo) (front : List Word) (conds : List Condition) → NonePasses (is_key (codes "where")) front → from_key (codes "where") (front ++ where_words cat rels conds) ≡ where_words cat rels conds
+pub from_where : (cat : Catalogue) (rels : List RelNo) (front : List Word) (conds : List Condition)
+    → NonePasses (is_key (codes "where")) front → from_key (codes "where")
+    (front ++ where_words cat rels conds) ≡ where_words cat rels conds
 from_where cat rels front [] h = ap (from_key (codes "where")) (append-nil front) ∙ none_from (is_key (codes "where")) front h
-from_where cat rels front (c ∷ conds) h = from_again (is_key (codes "where")) front (Plain (codes "where")) (condition_words cat rels c ++ conditions_words (codes "and") cat rels conds) h refl
+from_where cat rels front (c ∷ conds) h = from_again (is_key (codes "where")) front (Plain (codes "where"))
+    (condition_words cat rels c ++ conditions_words (codes "and") cat rels conds) h refl
 
 -- ---- query
 
@@ -210,35 +265,51 @@ pub not_empty_again : {A : Type 0} (f : A → Word) (xs : List A) → 1 ≤ leng
 not_empty_again f [] h = absurd (omega arith)
 not_empty_again f (x ∷ xs) h = refl
 
-query_parts_take : (cat : Catalogue) (columns rels rest : List Word) (cs : List Comparison) (s : Stmt) → look_like_columns columns ≡ true → are_free rels ≡ true → comparisons (codes "where") rest ≡ Some cs
+query_parts_take : (cat : Catalogue) (columns rels rest : List Word) (cs : List Comparison) (s : Stmt)
+    → look_like_columns columns ≡ true → are_free rels ≡ true → comparisons (codes "where") rest ≡ Some cs
     → query_of_parts cat columns rels cs ≡ Ok s → IsStatement cat (codes "query") (columns ++ Plain (codes "from") ∷ (rels ++ rest)) s
 query_parts_take cat columns rels rest cs s look free form e =
-    let a = bind_ok (along (λ i w. listed_column cat (parts_of cat rels) w) 0 columns) (λ out. along (λ i w. part_of cat w) 0 rels >>= λ found. conditions_of cat (parts_of cat rels) cs >>= λ conds. Ok (Query out found conds)) s (sym (by_words cat columns rels cs) ∙ e) in
+    let a = bind_ok (along (λ i w. listed_column cat (parts_of cat rels) w) 0 columns)
+    (λ out. along (λ i w. part_of cat w) 0 rels >>= λ found. conditions_of cat (parts_of cat rels) cs >>=
+    λ conds. Ok (Query out found conds)) s (sym (by_words cat columns rels cs) ∙ e) in
     let b = bind_ok (along (λ i w. part_of cat w) 0 rels) (λ found. conditions_of cat (parts_of cat rels) cs >>= λ conds. Ok (Query a.0 found conds)) s a.2 in
     let c = bind_ok (conditions_of cat (parts_of cat rels) cs) (λ conds. Ok (Query a.0 b.0 conds)) s b.2 in
     let p = parts_take cat 0 rels b.0 (along_ok (λ i w. part_of cat w) 0 rels b.0 b.1) in
     let looks = both_hold (not_empty columns) (list_all looks_like_column columns) look in
     let frees = both_hold (not_empty rels) (list_all is_free rels) free in
-    let o = columns_take cat b.0 0 columns a.0 looks.1 (along_ok (λ i w. listed_column cat (parts_for b.0) w) 0 columns a.0 (subst (λ (q : Parts). along (λ i w. listed_column cat q w) 0 columns ≡ Ok a.0) p.1 a.1)) in
+    let o = columns_take cat b.0 0 columns a.0 looks.1
+    (along_ok (λ i w. listed_column cat (parts_for b.0) w) 0 columns a.0
+    (subst (λ (q : Parts). along (λ i w. listed_column cat q w) 0 columns ≡ Ok a.0) p.1 a.1)) in
     let d = conditions_take cat b.0 (codes "where") rest cs c.0 form (subst (λ (q : Parts). conditions_of cat q cs ≡ Ok c.0) p.1 c.1) in
     let some_rels : 1 ≤ length b.0 = nonempty (relation_word cat) b.0 (subst (λ (l : List Word). not_empty l ≡ true) p.0 frees.0) in
     let some_out : 1 ≤ length a.0 = nonempty (column_word cat b.0) a.0 (subst (λ (l : List Word). not_empty l ≡ true) o.0 looks.0) in
     subst (λ (x : Stmt). IsStatement cat (codes "query") (columns ++ Plain (codes "from") ∷ (rels ++ rest)) x) (ok_is (Query a.0 b.0 c.0) s c.2) (record {
       spelled = query_words columns (map (column_word cat b.0) a.0) rels (map (relation_word cat) b.0) rest (where_words cat b.0 c.0) o.0 p.0 d.spelled;
       values = All-from_recursion HoldsValue c.0 d.values;
-      fits = λ before u lim. let l = query_limits before a.0 b.0 c.0 u lim in
-          ((some_rels, l.0), All-from_recursion (λ (r : RelNo). IsRelation cat r.0) b.0 p.2, (some_out, l.2), All-from_recursion (FitsRef cat b.0) a.0 o.1, (l.1, All-from_recursion (FitsCondition cat b.0) c.0 d.fits));
+      fits = λ before u lim. let l = query_limits before a.0 b.0 c.0 u lim in (
+        (some_rels, l.0),
+        All-from_recursion (λ (r : RelNo). IsRelation cat r.0) b.0 p.2,
+        (some_out, l.2),
+        All-from_recursion (FitsRef cat b.0) a.0 o.1,
+        (l.1, All-from_recursion (FitsCondition cat b.0) c.0 d.fits),
+      );
     })
 
 pub query_takes : (cat : Catalogue) (words : List Word) (s : Stmt) → query_of cat words ≡ Ok s → IsStatement cat (codes "query") words s
 query_takes cat words s e =
-    let a = known_then BadLine (cut_at (codes "from") words) (λ (cut : List Word × List Word). query_behind_from cat cut.0 (up_to (codes "where") cut.1) (from_key (codes "where") cut.1)) s e in
+    let a = known_then BadLine (cut_at (codes "from") words) (λ (cut : List Word × List Word).
+    query_behind_from cat cut.0 (up_to (codes "where") cut.1) (from_key (codes "where") cut.1)) s e in
     let rels : List Word = up_to (codes "where") a.0.1 in
     let rest : List Word = from_key (codes "where") a.0.1 in
-    let b = must_then BadLine (look_like_columns a.0.0 && are_free rels) (λ _. known BadLine (conditions_form rest) >>= λ comparisons. query_of_parts cat a.0.0 rels comparisons) s a.2 in
+    let b = must_then BadLine (look_like_columns a.0.0 && are_free rels)
+    (λ _. known BadLine (conditions_form rest) >>=
+    λ comparisons. query_of_parts cat a.0.0 rels comparisons) s a.2 in
     let c = known_then BadLine (conditions_form rest) (λ comparisons. query_of_parts cat a.0.0 rels comparisons) s b.1 in
     let t = both_hold (look_like_columns a.0.0) (are_free rels) b.0 in
-    let whole : words ≡ a.0.0 ++ Plain (codes "from") ∷ (rels ++ rest) = cut_takes (codes "from") words a.0.0 a.0.1 a.1 ∙ ap (λ (l : List Word). a.0.0 ++ Plain (codes "from") ∷ l) (sym (joined_again (is_key (codes "where")) a.0.1)) in
+    let whole : words ≡ a.0.0 ++ Plain (codes "from") ∷ (rels ++ rest) =
+    cut_takes (codes "from") words a.0.0 a.0.1 a.1
+    ∙ ap (λ (l : List Word). a.0.0 ++ Plain (codes "from") ∷ l)
+    (sym (joined_again (is_key (codes "where")) a.0.1)) in
     subst (λ (l : List Word). IsStatement cat (codes "query") l s) (sym whole) (query_parts_take cat a.0.0 rels rest c.0 s t.0 t.1 c.1 c.2)
 
 -- where a query fits
@@ -251,7 +322,9 @@ pub record FitsQuery (cat : Catalogue) (out : List Ref) (rels : List RelNo) (con
   pub conds_fit : AllByRecursion (FitsCondition cat rels) conds
   pub conds_hold : AllByRecursion HoldsValue conds
 
-pub query_fits : (cat : Catalogue) (out : List Ref) (rels : List RelNo) (conds : List Condition) → FitsStatement cat (Query out rels conds) → HoldsValues (Query out rels conds) → FitsQuery cat out rels conds
+pub query_fits : (cat : Catalogue) (out : List Ref) (rels : List RelNo) (conds : List Condition)
+    → FitsStatement cat (Query out rels conds) → HoldsValues (Query out rels conds)
+    → FitsQuery cat out rels conds
 query_fits cat out rels conds h v = record {
   parts = record { there = h.1; few = h.0.1 };
   relations = recursion_from_All (λ (r : RelNo). IsRelation cat r.0) rels h.1;
@@ -266,45 +339,71 @@ query_parts_again : (cat : Catalogue) → IsKnown cat → (out : List Ref) (rels
     → query_of_parts cat (map (column_word cat rels) out) (map (relation_word cat) rels) (map (comparison_for cat rels) conds) ≡ Ok (Query out rels conds)
 query_parts_again cat k out rels conds h =
     let p = parts_are cat k rels h.relations in
-    let a : along (λ i w. listed_column cat (parts_for rels) w) 0 (map (column_word cat rels) out) ≡ Ok out = ok_along (λ i w. listed_column cat (parts_for rels) w) 0 (map (column_word cat rels) out) out (columns_again cat k rels h.parts 0 out h.columns) in
-    let b : along (λ i w. part_of cat w) 0 (map (relation_word cat) rels) ≡ Ok rels = ok_along (λ i w. part_of cat w) 0 (map (relation_word cat) rels) rels (parts_again cat k rels h.relations 0) in
+    let a : along (λ i w. listed_column cat (parts_for rels) w) 0 (map (column_word cat rels) out) ≡ Ok
+    out = ok_along (λ i w. listed_column cat (parts_for rels) w) 0 (map (column_word cat rels) out) out
+    (columns_again cat k rels h.parts 0 out h.columns) in
+    let b : along (λ i w. part_of cat w) 0 (map (relation_word cat) rels) ≡ Ok rels =
+    ok_along (λ i w. part_of cat w) 0 (map (relation_word cat) rels) rels
+    (parts_again cat k rels h.relations 0) in
     let c = conditions_again cat k rels h.parts conds h.conds_fit h.conds_hold in
     by_words cat (map (column_word cat rels) out) (map (relation_word cat) rels) (map (comparison_for cat rels) conds)
-    ∙ ap (λ (q : Parts). along (λ i w. listed_column cat q w) 0 (map (column_word cat rels) out) >>= λ o. along (λ i w. part_of cat w) 0 (map (relation_word cat) rels) >>= λ found. conditions_of cat q (map (comparison_for cat rels) conds) >>= λ cs. Ok (Query o found cs)) p
+    ∙ ap (λ (q : Parts). along (λ i w. listed_column cat q w) 0 (map (column_word cat rels) out) >>=
+    λ o. along (λ i w. part_of cat w) 0 (map (relation_word cat) rels) >>=
+    λ found. conditions_of cat q (map (comparison_for cat rels) conds) >>= λ cs. Ok (Query o found cs)) p
     ∙ rw (a, b, c) refl
 
-all_free_names : (cat : Catalogue) → IsKnown cat → (rels : List RelNo) → AllByRecursion (λ (r : RelNo). IsRelation cat r.0) rels → list_all is_free (map (relation_word cat) rels) ≡ true
+all_free_names : (cat : Catalogue) → IsKnown cat → (rels : List RelNo)
+    → AllByRecursion (λ (r : RelNo). IsRelation cat r.0) rels
+    → list_all is_free (map (relation_word cat) rels) ≡ true
 all_free_names cat k [] h = refl
-all_free_names cat k (r ∷ rels) h = both_are (is_free (relation_word cat r)) (list_all is_free (map (relation_word cat) rels)) (name_free (name_of_relation cat r.0) (k.relation_name r.0 h.0)) (all_free_names cat k rels h.1)
+all_free_names cat k (r ∷ rels) h =
+    both_are (is_free (relation_word cat r)) (list_all is_free (map (relation_word cat) rels))
+    (name_free (name_of_relation cat r.0) (k.relation_name r.0 h.0)) (all_free_names cat k rels h.1)
 
-columns_look : (cat : Catalogue) → IsKnown cat → (rels : List RelNo) → AreParts cat rels → (out : List Ref) → AllByRecursion (FitsRef cat rels) out → (list_all looks_like_column (map (column_word cat rels) out) ≡ true) × (list_all is_free (map (column_word cat rels) out) ≡ true)
+columns_look : (cat : Catalogue) → IsKnown cat → (rels : List RelNo) → AreParts cat rels → (out : List Ref)
+    → AllByRecursion (FitsRef cat rels) out
+    → (list_all looks_like_column (map (column_word cat rels) out) ≡ true)
+    × (list_all is_free (map (column_word cat rels) out) ≡ true)
 columns_look cat k rels p [] h = (refl, refl)
 columns_look cat k rels p (r ∷ out) h =
     let w = column_word_is cat k rels r p h.0 in
-    let more = columns_look cat k rels p out h.1 in
-    (both_are (looks_like_column (column_word cat rels r)) (list_all looks_like_column (map (column_word cat rels) out)) w.looks more.0, both_are (is_free (column_word cat rels r)) (list_all is_free (map (column_word cat rels) out)) w.free more.1)
+    let more = columns_look cat k rels p out h.1 in (
+      both_are (looks_like_column (column_word cat rels r))
+          (list_all looks_like_column (map (column_word cat rels) out)) w.looks more.0,
+      both_are
+          (is_free (column_word cat rels r)) (list_all is_free (map (column_word cat rels) out)) w.free more.1,
+    )
 
 pub query_again : (cat : Catalogue) → IsKnown cat → (out : List Ref) (rels : List RelNo) (conds : List Condition) → FitsQuery cat out rels conds
-    → query_of cat (map (column_word cat rels) out ++ Plain (codes "from") ∷ (map (relation_word cat) rels ++ where_words cat rels conds)) ≡ Ok (Query out rels conds)
+    → query_of cat (map (column_word cat rels) out ++ Plain (codes "from") ∷
+    (map (relation_word cat) rels ++ where_words cat rels conds)) ≡ Ok (Query out rels conds)
 query_again cat k out rels conds h =
     let cols : List Word = map (column_word cat rels) out in
     let names : List Word = map (relation_word cat) rels in
     let rest : List Word = where_words cat rels conds in
     let looks = columns_look cat k rels h.parts out h.columns in
     let frees = all_free_names cat k rels h.relations in
-    let a : cut_at (codes "from") (cols ++ Plain (codes "from") ∷ (names ++ rest)) ≡ Some (cols, names ++ rest) = cut_again (codes "from") cols (names ++ rest) (frees_no_key (codes "from") cols refl looks.1) in
+    let a : cut_at (codes "from") (cols ++ Plain (codes "from") ∷ (names ++ rest)) ≡ Some
+    (cols, names ++ rest) = cut_again (codes "from") cols (names ++ rest)
+    (frees_no_key (codes "from") cols refl looks.1) in
     let none : NonePasses (is_key (codes "where")) names = frees_no_key (codes "where") names refl frees in
     let b : up_to (codes "where") (names ++ rest) ≡ names = before_where cat rels names conds none in
     let c : from_key (codes "where") (names ++ rest) ≡ rest = from_where cat rels names conds none in
     let d : (look_like_columns cols && are_free names) ≡ true =
-    both_are (look_like_columns cols) (are_free names) (both_are (not_empty cols) (list_all looks_like_column cols) (not_empty_again (column_word cat rels) out h.some_out) looks.0) (both_are (not_empty names) (list_all is_free names) (not_empty_again (relation_word cat) rels h.some_rels) frees) in
+    both_are (look_like_columns cols) (are_free names)
+    (both_are (not_empty cols) (list_all looks_like_column cols)
+    (not_empty_again (column_word cat rels) out h.some_out) looks.0)
+    (both_are (not_empty names) (list_all is_free names)
+    (not_empty_again (relation_word cat) rels h.some_rels) frees) in
     let f : conditions_form rest ≡ Some (map (comparison_for cat rels) conds) = form_again cat k rels h.parts (codes "where") conds h.conds_fit h.conds_hold in
     let g = query_parts_again cat k out rels conds h in
     let behind : query_behind_from cat cols names rest ≡ Ok (Query out rels conds) =
     ap (λ (t : Bool). must BadLine t >>= λ _. known BadLine (conditions_form rest) >>= λ comparisons. query_of_parts cat cols names comparisons) d
     ∙ ap (λ (o : Option (List Comparison)). known BadLine o >>= λ comparisons. query_of_parts cat cols names comparisons) f
     ∙ g in
-    ap (λ (o : Option (List Word × List Word)). known BadLine o >>= λ (cut : List Word × List Word). query_behind_from cat cut.0 (up_to (codes "where") cut.1) (from_key (codes "where") cut.1)) a
+    ap (λ (o : Option (List Word × List Word)). known BadLine o >>=
+    λ (cut : List Word × List Word). query_behind_from cat cut.0 (up_to (codes "where") cut.1)
+    (from_key (codes "where") cut.1)) a
     ∙ ap (λ (l : List Word). query_behind_from cat cols l (from_key (codes "where") (names ++ rest))) b
     ∙ ap (λ (l : List Word). query_behind_from cat cols names l) c
     ∙ behind

@@ -72,7 +72,9 @@ or_named None = refl
 or_named (Some t) = refl
 
 pub name_at_number : (txns : List Txn) (txn : ℕ) → name_of_txn txns txn ≡ get_or (names_of txns) (txn - 1) []
-name_at_number txns txn = or_named (slice_get txns (txn - 1)) ∙ ap (λ (o : Option (List ℕ)). unwrap_or o []) (sym (slice_get-map (λ (t : Txn). t.name) txns (txn - 1))) ∙ unwrap_or-slice_get (names_of txns) (txn - 1) []
+name_at_number txns txn = or_named (slice_get txns (txn - 1)) ∙ ap (λ (o : Option (List ℕ)). unwrap_or o [])
+    (sym (slice_get-map (λ (t : Txn). t.name) txns (txn - 1))) ∙ unwrap_or-slice_get (names_of txns)
+    (txn - 1) []
 
 record IsSubmit (names : List (List ℕ)) (words : List Word) (e : Event) : Type 0 where
   place : ℕ
@@ -84,7 +86,8 @@ numbered_at : (o : Option ℕ) (n : ℕ) → option_map (λ place. place + 1) o 
 numbered_at None n e = absurd cc
 numbered_at (Some place) n e = (place, refl, some_is (place + 1) n e)
 
-named_submit : (names : List (List ℕ)) (w : Word) (txn : TxnNo) → txn_named names w ≡ Ok txn → (place : ℕ) × (place < length names) × (w ≡ Plain (get_or names place [])) × (txn_no (place + 1) ≡ txn)
+named_submit : (names : List (List ℕ)) (w : Word) (txn : TxnNo) → txn_named names w ≡ Ok txn → (place : ℕ)
+    × (place < length names) × (w ≡ Plain (get_or names place [])) × (txn_no (place + 1) ≡ txn)
 named_submit names (Quoted text) txn e = absurd cc
 named_submit names (Plain bytes) txn e =
     let a = known_then UnknownName (name_in bytes) (λ name. known UnknownName (number_named names name) >>= λ n. Ok (txn_no n)) txn e in
@@ -104,13 +107,18 @@ submit_takes names (w ∷ []) e h =
     record { place = n.0; within = n.1; spelled = ap (λ (x : Word). x ∷ []) n.2; is = ap (λ (t : TxnNo). Submit t) n.3 ∙ ok_is (Submit b.0) e b.2 }
 submit_takes names (a ∷ b ∷ rest) e h = absurd cc
 
-submit_is : (cat : Catalogue) (st : State) (words : List Word) (e : Event) → Sound cat st → takes_events st.place ≡ true → submit_of st.names words ≡ Ok e → IsEvent cat st (codes "submit") words e
+submit_is : (cat : Catalogue) (st : State) (words : List Word) (e : Event) → Sound cat st
+    → takes_events st.place ≡ true → submit_of st.names words ≡ Ok e
+    → IsEvent cat st (codes "submit") words e
 submit_is cat st words e s t h =
     let r = submit_takes st.names words e h in
-    let names : st.names ≡ names_of st.txns = s.names ∙ ap (λ (l : List (List ℕ)). names_of st.txns ++ l) (no_open st.place t) ∙ append-nil (names_of st.txns) in
+    let names : st.names ≡ names_of st.txns = s.names ∙ ap (λ (l : List (List ℕ)). names_of st.txns ++ l)
+    (no_open st.place t) ∙ append-nil (names_of st.txns) in
     let len : length st.names ≡ length st.txns = ap (λ (l : List (List ℕ)). length l) names ∙ length-map st.txns (λ (t : Txn). t.name) in
     let back : r.place + 1 - 1 ≡ r.place = omega arith in
-    let name : name_of_txn st.txns (r.place + 1) ≡ get_or st.names r.place [] = name_at_number st.txns (r.place + 1) ∙ ap (λ (i : ℕ). get_or (names_of st.txns) i []) back ∙ ap (λ (l : List (List ℕ)). get_or l r.place []) (sym names) in
+    let name : name_of_txn st.txns (r.place + 1) ≡ get_or st.names r.place [] =
+    name_at_number st.txns (r.place + 1) ∙ ap (λ (i : ℕ). get_or (names_of st.txns) i []) back
+    ∙ ap (λ (l : List (List ℕ)). get_or l r.place []) (sym names) in
     subst (λ (x : Event). IsEvent cat st (codes "submit") words x) r.is (record {
       spelled = ap (λ (l : List Word). Plain (codes "submit") ∷ l) r.spelled ∙ ap (λ (l : List ℕ). Plain (codes "submit") ∷ Plain l ∷ []) (sym name);
       valid = (omega arith, omega (arith, r.within, len));
@@ -121,61 +129,114 @@ deliver_is : (cat : Catalogue) (st : State) (words : List Word) (e : Event) → 
 deliver_is cat st words e h =
     let b = bind_ok (flight_place cat words) (λ (p : Site × Site × ℕ). Ok (Deliver p.0 p.1 p.2)) e h in
     let r = place_takes cat words b.0 b.1 in
-    subst (λ (x : Event). IsEvent cat st (codes "deliver") words x) (ok_is (Deliver b.0.0 b.0.1 b.0.2) e b.2) (record { spelled = ap (λ (l : List Word). Plain (codes "deliver") ∷ l) r.spelled; valid = (r.linked, r.placed) })
+    subst (λ (x : Event). IsEvent cat st (codes "deliver") words x)
+    (ok_is (Deliver b.0.0 b.0.1 b.0.2) e b.2) (record {
+      spelled =
+          ap (λ (l : List Word). Plain (codes "deliver") ∷ l) r.spelled;
+      valid = (r.linked, r.placed);
+    })
 
 lose_is : (cat : Catalogue) (st : State) (words : List Word) (e : Event) → lose_of cat words ≡ Ok e → IsEvent cat st (codes "lose") words e
 lose_is cat st words e h =
     let b = bind_ok (flight_place cat words) (λ (p : Site × Site × ℕ). Ok (Lose p.0 p.1 p.2)) e h in
     let r = place_takes cat words b.0 b.1 in
-    subst (λ (x : Event). IsEvent cat st (codes "lose") words x) (ok_is (Lose b.0.0 b.0.1 b.0.2) e b.2) (record { spelled = ap (λ (l : List Word). Plain (codes "lose") ∷ l) r.spelled; valid = (r.linked, r.placed) })
+    subst (λ (x : Event). IsEvent cat st (codes "lose") words x) (ok_is (Lose b.0.0 b.0.1 b.0.2) e b.2)
+    (record {
+      spelled = ap (λ (l : List Word). Plain (codes "lose") ∷ l) r.spelled;
+      valid =
+          (r.linked, r.placed);
+    })
 
 repeat_is : (cat : Catalogue) (st : State) (words : List Word) (e : Event) → repeat_of cat words ≡ Ok e → IsEvent cat st (codes "repeat") words e
 repeat_is cat st words e h =
     let b = bind_ok (flight_place cat words) (λ (p : Site × Site × ℕ). Ok (Repeat p.0 p.1 p.2)) e h in
     let r = place_takes cat words b.0 b.1 in
-    subst (λ (x : Event). IsEvent cat st (codes "repeat") words x) (ok_is (Repeat b.0.0 b.0.1 b.0.2) e b.2) (record { spelled = ap (λ (l : List Word). Plain (codes "repeat") ∷ l) r.spelled; valid = (r.linked, r.placed) })
+    subst (λ (x : Event). IsEvent cat st (codes "repeat") words x) (ok_is (Repeat b.0.0 b.0.1 b.0.2) e b.2)
+    (record {
+      spelled = ap (λ (l : List Word). Plain (codes "repeat") ∷ l) r.spelled;
+      valid =
+          (r.linked, r.placed);
+    })
 
 resend_is : (cat : Catalogue) (st : State) (words : List Word) (e : Event) → resend_of cat words ≡ Ok e → IsEvent cat st (codes "resend") words e
-resend_is cat st words e h = let r = resend_takes cat words e h in subst (λ (x : Event). IsEvent cat st (codes "resend") words x) r.is (record { spelled = ap (λ (l : List Word). Plain (codes "resend") ∷ l) r.spelled; valid = r.linked })
+resend_is cat st words e h = let r =
+    resend_takes cat words e h in subst (λ (x : Event). IsEvent cat st (codes "resend") words x) r.is
+    (record { spelled = ap (λ (l : List Word). Plain (codes "resend") ∷ l) r.spelled; valid = r.linked })
 
 tick_is : (cat : Catalogue) (st : State) (words : List Word) (e : Event) → tick_of cat words ≡ Ok e → IsEvent cat st (codes "tick") words e
-tick_is cat st words e h = let r = tick_takes cat words e h in subst (λ (x : Event). IsEvent cat st (codes "tick") words x) r.is (record { spelled = ap (λ (l : List Word). Plain (codes "tick") ∷ l) r.spelled; valid = (r.there, r.counted) })
+tick_is cat st words e h = let r =
+    tick_takes cat words e h in subst (λ (x : Event). IsEvent cat st (codes "tick") words x) r.is
+    (record {
+      spelled = ap (λ (l : List Word). Plain (codes "tick") ∷ l) r.spelled;
+      valid =
+          (r.there, r.counted);
+    })
 
 settle_is : (cat : Catalogue) (st : State) (words : List Word) (e : Event) → settle_of words ≡ Ok e → IsEvent cat st (codes "settle") words e
-settle_is cat st words e h = let r = settle_takes words e h in subst (λ (x : Event). IsEvent cat st (codes "settle") words x) r.1 (record { spelled = ap (λ (l : List Word). Plain (codes "settle") ∷ l) r.0; valid = tt })
+settle_is cat st words e h = let r =
+    settle_takes words e h in subst (λ (x : Event). IsEvent cat st (codes "settle") words x) r.1
+    (record { spelled = ap (λ (l : List Word). Plain (codes "settle") ∷ l) r.0; valid = tt })
 
 redeclare_is : (cat : Catalogue) (st : State) (words : List Word) (e : Event) → redeclare_of words ≡ Ok e → IsEvent cat st (codes "redeclare") words e
-redeclare_is cat st words e h = let r = redeclare_takes words e h in subst (λ (x : Event). IsEvent cat st (codes "redeclare") words x) r.1 (record { spelled = ap (λ (l : List Word). Plain (codes "redeclare") ∷ l) r.0; valid = tt })
+redeclare_is cat st words e h = let r =
+    redeclare_takes words e h in subst (λ (x : Event). IsEvent cat st (codes "redeclare") words x) r.1
+    (record { spelled = ap (λ (l : List Word). Plain (codes "redeclare") ∷ l) r.0; valid = tt })
 
 down_is : (cat : Catalogue) (st : State) (words : List Word) (e : Event) → down_of cat words ≡ Ok e → IsEvent cat st (codes "down") words e
-down_is cat st words e h = let r = down_takes cat words e h in subst (λ (x : Event). IsEvent cat st (codes "down") words x) r.is (record { spelled = ap (λ (l : List Word). Plain (codes "down") ∷ l) r.spelled; valid = r.there })
+down_is cat st words e h = let r =
+    down_takes cat words e h in subst (λ (x : Event). IsEvent cat st (codes "down") words x) r.is
+    (record { spelled = ap (λ (l : List Word). Plain (codes "down") ∷ l) r.spelled; valid = r.there })
 
 up_is : (cat : Catalogue) (st : State) (words : List Word) (e : Event) → up_of cat words ≡ Ok e → IsEvent cat st (codes "up") words e
-up_is cat st words e h = let r = up_takes cat words e h in subst (λ (x : Event). IsEvent cat st (codes "up") words x) r.is (record { spelled = ap (λ (l : List Word). Plain (codes "up") ∷ l) r.spelled; valid = r.there })
+up_is cat st words e h = let r =
+    up_takes cat words e h in subst (λ (x : Event). IsEvent cat st (codes "up") words x) r.is
+    (record { spelled = ap (λ (l : List Word). Plain (codes "up") ∷ l) r.spelled; valid = r.there })
 
 -- ---- a line
 
-keyword_leads : (cat : Catalogue) (st to : State) (key : Keyword) (words : List Word) → Sound cat st → keyword_rules key cat st words ≡ Ok to → Leads cat st to (Plain (keyword_bytes key) ∷ words)
+keyword_leads : (cat : Catalogue) (st to : State) (key : Keyword) (words : List Word) → Sound cat st
+    → keyword_rules key cat st words ≡ Ok to → Leads cat st to (Plain (keyword_bytes key) ∷ words)
 keyword_leads cat st to keys.Row words s e = row_leads cat st to words s e
 keyword_leads cat st to keys.Txn words s e = txn_leads cat st to words s e
-keyword_leads cat st to (keys.Statement skeys.Put) words s e = statement_leads cat st to (codes "put") words (put_of cat words) s (λ q h. put_takes cat words q h) e
-keyword_leads cat st to (keys.Statement skeys.Query) words s e = statement_leads cat st to (codes "query") words (query_of cat words) s (λ q h. query_takes cat words q h) e
-keyword_leads cat st to (keys.Statement skeys.Update) words s e = statement_leads cat st to (codes "update") words (update_of cat words) s (λ q h. update_takes cat words q h) e
-keyword_leads cat st to (keys.Statement skeys.Delete) words s e = statement_leads cat st to (codes "delete") words (delete_of cat words) s (λ q h. delete_takes cat words q h) e
+keyword_leads cat st to (keys.Statement skeys.Put) words s e =
+    statement_leads cat st to (codes "put") words (put_of cat words) s (λ q h. put_takes cat words q h) e
+keyword_leads cat st to (keys.Statement skeys.Query) words s e =
+    statement_leads cat st to (codes "query") words (query_of cat words) s
+    (λ q h. query_takes cat words q h) e
+keyword_leads cat st to (keys.Statement skeys.Update) words s e =
+    statement_leads cat st to (codes "update") words (update_of cat words) s
+    (λ q h. update_takes cat words q h) e
+keyword_leads cat st to (keys.Statement skeys.Delete) words s e =
+    statement_leads cat st to (codes "delete") words (delete_of cat words) s
+    (λ q h. delete_takes cat words q h) e
 keyword_leads cat st to keys.Done words s e = done_leads cat st to words s e
 keyword_leads cat st to (keys.Class class_keys.List) words s e = list_leads cat st to words s e
 keyword_leads cat st to (keys.Class class_keys.Class) words s e = class_leads cat st to words s e
 keyword_leads cat st to (keys.Class class_keys.Reads) words s e = reads_leads cat st to words s e
 keyword_leads cat st to (keys.Class class_keys.Writes) words s e = writes_leads cat st to words s e
-keyword_leads cat st to (keys.Event ekeys.Submit) words s e = event_leads cat st to (codes "submit") words (submit_of st.names words) s (λ t x h. submit_is cat st words x s t h) e
-keyword_leads cat st to (keys.Event ekeys.Deliver) words s e = event_leads cat st to (codes "deliver") words (deliver_of cat words) s (λ t x h. deliver_is cat st words x h) e
-keyword_leads cat st to (keys.Event ekeys.Lose) words s e = event_leads cat st to (codes "lose") words (lose_of cat words) s (λ t x h. lose_is cat st words x h) e
-keyword_leads cat st to (keys.Event ekeys.Repeat) words s e = event_leads cat st to (codes "repeat") words (repeat_of cat words) s (λ t x h. repeat_is cat st words x h) e
-keyword_leads cat st to (keys.Event ekeys.Resend) words s e = event_leads cat st to (codes "resend") words (resend_of cat words) s (λ t x h. resend_is cat st words x h) e
-keyword_leads cat st to (keys.Event ekeys.Tick) words s e = event_leads cat st to (codes "tick") words (tick_of cat words) s (λ t x h. tick_is cat st words x h) e
-keyword_leads cat st to (keys.Event ekeys.Settle) words s e = event_leads cat st to (codes "settle") words (settle_of words) s (λ t x h. settle_is cat st words x h) e
-keyword_leads cat st to (keys.Event ekeys.Redeclare) words s e = event_leads cat st to (codes "redeclare") words (redeclare_of words) s (λ t x h. redeclare_is cat st words x h) e
-keyword_leads cat st to (keys.Event ekeys.Down) words s e = event_leads cat st to (codes "down") words (down_of cat words) s (λ t x h. down_is cat st words x h) e
+keyword_leads cat st to (keys.Event ekeys.Submit) words s e =
+    event_leads cat st to (codes "submit") words (submit_of st.names words) s
+    (λ t x h. submit_is cat st words x s t h) e
+keyword_leads cat st to (keys.Event ekeys.Deliver) words s e =
+    event_leads cat st to (codes "deliver") words (deliver_of cat words) s
+    (λ t x h. deliver_is cat st words x h) e
+keyword_leads cat st to (keys.Event ekeys.Lose) words s e =
+    event_leads cat st to (codes "lose") words (lose_of cat words) s (λ t x h. lose_is cat st words x h) e
+keyword_leads cat st to (keys.Event ekeys.Repeat) words s e =
+    event_leads cat st to (codes "repeat") words (repeat_of cat words) s
+    (λ t x h. repeat_is cat st words x h) e
+keyword_leads cat st to (keys.Event ekeys.Resend) words s e =
+    event_leads cat st to (codes "resend") words (resend_of cat words) s
+    (λ t x h. resend_is cat st words x h) e
+keyword_leads cat st to (keys.Event ekeys.Tick) words s e =
+    event_leads cat st to (codes "tick") words (tick_of cat words) s (λ t x h. tick_is cat st words x h) e
+keyword_leads cat st to (keys.Event ekeys.Settle) words s e =
+    event_leads cat st to (codes "settle") words (settle_of words) s (λ t x h. settle_is cat st words x h) e
+keyword_leads cat st to (keys.Event ekeys.Redeclare) words s e =
+    event_leads cat st to (codes "redeclare") words (redeclare_of words) s
+    (λ t x h. redeclare_is cat st words x h) e
+keyword_leads cat st to (keys.Event ekeys.Down) words s e =
+    event_leads cat st to (codes "down") words (down_of cat words) s (λ t x h. down_is cat st words x h) e
 keyword_leads cat st to (keys.Event ekeys.Up) words s e = event_leads cat st to (codes "up") words (up_of cat words) s (λ t x h. up_is cat st words x h) e
 keyword_leads cat st to keys.End words s e = end_leads cat st to words s e
 
@@ -188,7 +249,13 @@ line_leads : (cat : Catalogue) (st to : State) (line : List ℕ) → Sound cat s
 line_leads cat st to line s e =
     let l = line_takes cat st to line e in
     let k = words_take cat st to l.words l.rules in
-    record { words = l.words; spelled = l.spelled; leads = subst (λ (ws : List Word). Leads cat st to ws) (sym k.whole) (keyword_leads cat st to k.key k.words s k.rules) }
+    record {
+      words = l.words;
+      spelled = l.spelled;
+      leads =
+          subst (λ (ws : List Word). Leads cat st to ws) (sym k.whole)
+          (keyword_leads cat st to k.key k.words s k.rules);
+    }
 
 one_if : (cat : Catalogue) (st to : State) (line : List ℕ) (b : Bool) → cond b (Err BadLine) (line_rules cat st line) ≡ Ok to → line_rules cat st line ≡ Ok to
 one_if cat st to line true e = absurd cc
@@ -196,7 +263,8 @@ one_if cat st to line false e = e
 
 -- ---- a file
 
-at_ok : (n : ℕ) (r : Result State WorkRule) (f : State → Result State WorkFault) (to : State) → at_line n r f ≡ Ok to → (st : State) × (r ≡ Ok st) × (f st ≡ Ok to)
+at_ok : (n : ℕ) (r : Result State WorkRule) (f : State → Result State WorkFault) (to : State)
+    → at_line n r f ≡ Ok to → (st : State) × (r ≡ Ok st) × (f st ≡ Ok to)
 at_ok n (Ok st) f to e = (st, refl, e)
 at_ok n (Err rule) f to e = absurd cc
 
@@ -235,13 +303,22 @@ record IsFile (cat : Catalogue) (st to : State) (lines : List (List ℕ)) (tail 
 line_more : (a b : List ℕ) (xs ys : List (List ℕ)) → a ≡ b → xs ≡ ys → a ∷ xs ≡ b ∷ ys
 line_more a b xs ys p q = cc
 
-walk_takes : (cat : Catalogue) (n : ℕ) (st to : State) (lines : List (List ℕ)) (tail : List ℕ) → Sound cat st → walk cat n st lines tail ≡ Ok to → IsFile cat st to lines tail
+walk_takes : (cat : Catalogue) (n : ℕ) (st to : State) (lines : List (List ℕ)) (tail : List ℕ)
+    → Sound cat st → walk cat n st lines tail ≡ Ok to → IsFile cat st to lines tail
 unfolding walk
 walk_takes cat n st to [] tail s e =
     let a = at_ok n (tail_rules st tail) (λ s. Ok s) to e in
     let t = tail_takes st a.0 tail a.1 in
     let same : st ≡ to = t.is ∙ same_state a.0 to a.2 in
-    subst (λ (x : State). IsFile cat st x [] tail) same (record { words = []; spelled = refl; nothing = t.nothing; sound = s; so = sym (append-nil (so_far cat st)); ended = t.ended })
+    subst (λ (x : State). IsFile cat st x [] tail) same (record {
+      words = [];
+      spelled = refl;
+      nothing =
+          t.nothing;
+      sound = s;
+      so = sym (append-nil (so_far cat st));
+      ended = t.ended;
+    })
 walk_takes cat n st to (line ∷ lines) tail s e =
     let a = at_ok n (one_line cat st line) (λ s. walk cat (n + 1) s lines tail) to e in
     let r = line_leads cat st a.0 line s (one_if cat st a.0 line (is_ended st.place) a.1) in
@@ -333,14 +410,16 @@ finished_ok (Err fault) w e = absurd cc
 state_spelled : (cat : Catalogue) (st : State) → st.place ≡ places.Ended → so_far cat st ≡ lines_of cat (made st)
 state_spelled cat st p = ap (λ (x : Place). lines_at cat st.rows st.txns st.lists x st.statements st.events) p ∙ lines_at_end cat (made st) st.statements
 
-small_if : (bytes : List ℕ) (w : Workload) (fault : WorkFault) (r : Result Workload WorkFault) (b : Bool) → cond b (Err fault) r ≡ Ok w → (b ≡ false) × (r ≡ Ok w)
+small_if : (bytes : List ℕ) (w : Workload) (fault : WorkFault) (r : Result Workload WorkFault) (b : Bool)
+    → cond b (Err fault) r ≡ Ok w → (b ≡ false) × (r ≡ Ok w)
 small_if bytes w fault r true e = absurd cc
 small_if bytes w fault r false e = (refl, e)
 
 -- lines joined are lines with their newlines
 pub lines_spelled : (lines : List (List Word)) → spelled_lines (map line_bytes lines) ≡ flat_map ended lines
 lines_spelled [] = refl
-lines_spelled (l ∷ lines) = ap (λ (t : List ℕ). line_bytes l ++ 10 ∷ t) (lines_spelled lines) ∙ sym (append_assoc (line_bytes l) (10 ∷ []) (flat_map ended lines))
+lines_spelled (l ∷ lines) = ap (λ (t : List ℕ). line_bytes l ++ 10 ∷ t) (lines_spelled lines)
+    ∙ sym (append_assoc (line_bytes l) (10 ∷ []) (flat_map ended lines))
 
 -- a file that gives a workload spells it
 pub reads_spelling : (cat : Catalogue) → IsSound cat → IsWhole cat → (bytes : List ℕ) (w : Workload) → workload cat bytes ≡ Ok w → Accepts cat bytes w
@@ -358,4 +437,10 @@ reads_spelling cat sound whole bytes w e =
     ∙ ap spelled_lines f.spelled
     ∙ ap (λ (l : List (List Word)). spelled_lines (map line_bytes l)) words
     ∙ lines_spelled (lines_of cat (made st)) in
-    subst (λ (x : Workload). Accepts cat bytes x) b.2 (record { small = ltb-false MAX_WORKLOAD_BYTES (length bytes) a.0; valid = sound_valid cat st f.sound place; spelled = spelled })
+    subst (λ (x : Workload). Accepts cat bytes x) b.2 (record {
+      small =
+          ltb-false MAX_WORKLOAD_BYTES (length bytes) a.0;
+      valid = sound_valid cat st f.sound place;
+      spelled =
+          spelled;
+    })

@@ -67,7 +67,8 @@ redeclare_may : (dms lists : ℕ) (events : List Event) (e : Event) → may_foll
 redeclare_may dms lists events e m is = may_redeclare_takes dms lists events (subst (λ (x : Event). may_follow dms lists events x ≡ true) is m)
 
 -- an event that may follow keeps all of them timely
-pub timely_more : (dms lists : ℕ) (events : List Event) (e : Event) → AreTimely dms lists events → may_follow dms lists events e ≡ true → AreTimely dms lists (events ++ e ∷ [])
+pub timely_more : (dms lists : ℕ) (events : List Event) (e : Event) → AreTimely dms lists events
+    → may_follow dms lists events e ≡ true → AreTimely dms lists (events ++ e ∷ [])
 timely_more dms lists events e h may i is =
     elim (cases_lt i (length events)) as (λ o. MayRedeclare dms lists (take i (events ++ e ∷ []))) [
       | inl lt ↦ subst (MayRedeclare dms lists) (sym (take-append-le i events (e ∷ []) (omega arith))) (h i (sym (before_end events e i lt) ∙ is))
@@ -78,8 +79,11 @@ timely_more dms lists events e h may i is =
     ]
 
 -- and where all are timely, each may follow those before it
-pub timely_may : (dms lists : ℕ) (events : List Event) (e : Event) (es : List Event) → AreTimely dms lists (events ++ e ∷ es) → may_follow dms lists events e ≡ true
-timely_may dms lists events Redeclare es h = may_redeclare_again dms lists events (subst (MayRedeclare dms lists) (take-append_seam events (Redeclare ∷ es)) (h (length events) (item_at events Redeclare es)))
+pub timely_may : (dms lists : ℕ) (events : List Event) (e : Event) (es : List Event)
+    → AreTimely dms lists (events ++ e ∷ es) → may_follow dms lists events e ≡ true
+timely_may dms lists events Redeclare es h =
+    may_redeclare_again dms lists events (subst (MayRedeclare dms lists)
+    (take-append_seam events (Redeclare ∷ es)) (h (length events) (item_at events Redeclare es)))
 timely_may dms lists events (Submit txn) es h = refl
 timely_may dms lists events (Deliver from to place) es h = refl
 timely_may dms lists events (Lose from to place) es h = refl

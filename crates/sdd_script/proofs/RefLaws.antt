@@ -47,15 +47,19 @@ number_in _ = 0
 number_is : (x y : ℕ) → some_number x ≡ some_number y → x ≡ y
 number_is x y e = ap number_in e
 
-pub part_there : (rels : List RelNo) (part rel : ℕ) → slice_get (parts_for rels) (part - 1) ≡ Some (Some rel) → (part - 1 < length rels) × (rel ≡ rel_of rels part)
+pub part_there : (rels : List RelNo) (part rel : ℕ) → slice_get (parts_for rels) (part - 1) ≡ Some
+    (Some rel) → (part - 1 < length rels) × (rel ≡ rel_of rels part)
 part_there rels part rel e =
     let d : RelNo = record { 0 = 0 } in
     let lt : part - 1 < length rels = omega (arith, slice_get_within (parts_for rels) (part - 1) (Some rel) e, length-map rels (λ (r : RelNo). Some r.0)) in
-    let at : slice_get (parts_for rels) (part - 1) ≡ Some (Some (rel_of rels part)) = slice_get-map (λ (r : RelNo). Some r.0) rels (part - 1) ∙ ap (option_map (λ (r : RelNo). Some r.0)) (slice_get-get_or rels (part - 1) d lt) in
+    let at : slice_get (parts_for rels) (part - 1) ≡ Some (Some (rel_of rels part)) =
+    slice_get-map (λ (r : RelNo). Some r.0) rels (part - 1) ∙ ap (option_map (λ (r : RelNo). Some r.0))
+    (slice_get-get_or rels (part - 1) d lt) in
     (lt, number_is rel (rel_of rels part) (sym e ∙ at))
 
 pub there_part : (rels : List RelNo) (part : ℕ) → part - 1 < length rels → slice_get (parts_for rels) (part - 1) ≡ Some (Some (rel_of rels part))
-there_part rels part lt = slice_get-map (λ (r : RelNo). Some r.0) rels (part - 1) ∙ ap (option_map (λ (r : RelNo). Some r.0)) (slice_get-get_or rels (part - 1) (record { 0 = 0 }) lt)
+there_part rels part lt = slice_get-map (λ (r : RelNo). Some r.0) rels (part - 1)
+    ∙ ap (option_map (λ (r : RelNo). Some r.0)) (slice_get-get_or rels (part - 1) (record { 0 = 0 }) lt)
 
 pub record IsRef (cat : Catalogue) (rels : List RelNo) (w : Word) (f : Found) : Type 0 where
   pub fits : FitsRef cat rels f.at
@@ -65,14 +69,17 @@ pub record IsRef (cat : Catalogue) (rels : List RelNo) (w : Word) (f : Found) : 
 abbrev kind_of_place_of : Catalogue → ℕ → ℕ → Option Kind
 kind_of_place_of cat rel column = kind_of_place (columns_of cat rel) (column - 1)
 
-pub ref_takes : (cat : Catalogue) (rels : List RelNo) (w : Word) (f : Found) → looks_like_column w ≡ true → column_of_use cat (parts_for rels) w ≡ Ok f → IsRef cat rels w f
+pub ref_takes : (cat : Catalogue) (rels : List RelNo) (w : Word) (f : Found) → looks_like_column w ≡ true
+    → column_of_use cat (parts_for rels) w ≡ Ok f → IsRef cat rels w f
 ref_takes cat rels w f look e =
     let u = use_of_takes cat (parts_for rels) w f look e in
     let p = part_there rels f.at.part u.rel u.there in
     let to : f.at.part ≤ length rels = omega (arith, p.0, u.some) in
     let same : u.rel ≡ rel_of rels f.at.part = p.1 in
     let len : length (columns_of cat u.rel) ≡ length (columns_of cat (rel_of rels f.at.part)) = ap (λ (r : ℕ). length (columns_of cat r)) same in
-    let column : IsColumn cat (rel_of rels f.at.part) f.at.column = subst (λ l. IsFrom1To (length l) f.at.column) (columns_are cat (rel_of rels f.at.part)) (u.column_from, omega (arith, u.column_to, len)) in
+    let column : IsColumn cat (rel_of rels f.at.part) f.at.column =
+    subst (λ l. IsFrom1To (length l) f.at.column) (columns_are cat (rel_of rels f.at.part))
+    (u.column_from, omega (arith, u.column_to, len)) in
     let k = kind_is cat (rel_of rels f.at.part) f.at.column column in
     record {
       fits = ((u.some, to), column);
@@ -88,7 +95,12 @@ pub record AreParts (cat : Catalogue) (rels : List RelNo) : Type 0 where
 pub part_is_there : (cat : Catalogue) (rels : List RelNo) (part : ℕ) → AreParts cat rels → IsFrom1To (length rels) part → IsRelation cat (rel_of rels part)
 part_is_there cat rels part h from = All-get_or (λ (r : RelNo). IsRelation cat r.0) rels (part - 1) (record { 0 = 0 }) (omega (arith, from.0, from.1)) h.there
 
-pub ref_again : (cat : Catalogue) → IsKnown cat → (rels : List RelNo) (r : Ref) → AreParts cat rels → FitsRef cat rels r → column_of_use cat (parts_for rels) (column_word cat rels r) ≡ Ok (record { at = r; kind = kind_of_ref cat rels r })
+pub ref_again : (cat : Catalogue) → IsKnown cat → (rels : List RelNo) (r : Ref) → AreParts cat rels
+    → FitsRef cat rels r → column_of_use cat (parts_for rels) (column_word cat rels r) ≡ Ok (record {
+      at =
+          r;
+      kind = kind_of_ref cat rels r;
+    })
 ref_again cat k rels r h fits =
     use_again cat k (parts_for rels) (rel_of rels r.part) r (record {
       some = fits.0.0;
@@ -104,24 +116,35 @@ pub record IsColumnWord (w : Word) : Type 0 where
   pub looks : looks_like_column w ≡ true
   pub names : names_column ops.Eq w ≡ true
 
-pub column_word_is : (cat : Catalogue) → IsKnown cat → (rels : List RelNo) (r : Ref) → AreParts cat rels → FitsRef cat rels r → IsColumnWord (column_word cat rels r)
+pub column_word_is : (cat : Catalogue) → IsKnown cat → (rels : List RelNo) (r : Ref) → AreParts cat rels
+    → FitsRef cat rels r → IsColumnWord (column_word cat rels r)
 column_word_is cat k rels r h fits =
     let name : List ℕ = name_of_column (columns_of cat (rel_of rels r.part)) r.column in
     let e : is_name name ≡ true = k.column_name (rel_of rels r.part) r.column (part_is_there cat rels r.part h fits.0) fits.1 in
     let lt : r.part < 2 ^ 63 = omega (arith, fits.0.1, h.few) in
-    record { fine = column_fine r.part name lt e; free = column_free r.part name lt; looks = column_looks r.part name lt e; names = column_spelled r.part name lt e }
+    record {
+      fine = column_fine r.part name lt e;
+      free = column_free r.part name lt;
+      looks =
+          column_looks r.part name lt e;
+      names = column_spelled r.part name lt e;
+    }
 
 -- a word that names a column behind `=` looks like one
 
 one_point : (bytes : List ℕ) (o : Option ℕ) → position is_point bytes ≡ o → is_name (behind_point bytes) ≡ true → has_point bytes ≡ true
-one_point bytes None p e = let b : [] ≡ behind_point bytes = none_after is_point bytes (sym p) in let q : is_name [] ≡ true = subst (λ (l : List ℕ). is_name l ≡ true) (sym b) e in absurd cc
+one_point bytes None p e = let b : [] ≡ behind_point bytes =
+    none_after is_point bytes (sym p) in let q : is_name [] ≡ true =
+    subst (λ (l : List ℕ). is_name l ≡ true) (sym b) e in absurd cc
 one_point bytes (Some i) p e = rw p refl
 
 spelled_looks : (bytes : List ℕ) → spells_column bytes ≡ true → looks_like_column (Plain bytes) ≡ true
 spelled_looks bytes e =
     let h = both_hold (whole_digits (before_point bytes)) (is_name (behind_point bytes)) e in
     let a = one_point bytes (position is_point bytes) refl h.1 in
-    let b : has_point (behind_point bytes) ≡ false = no_point (behind_point bytes) (names_no_point (behind_point bytes) (name_parts (behind_point bytes) h.1).bytes_are) in
+    let b : has_point (behind_point bytes) ≡ false =
+    no_point (behind_point bytes) (names_no_point (behind_point bytes)
+    (name_parts (behind_point bytes) h.1).bytes_are) in
     rw (a, b) refl
 
 pub record IsNaming (op : Op) (w : Word) : Type 0 where

@@ -38,8 +38,11 @@ pair_of rel row = (rel, row)
 pub row_takes : (cat : Catalogue) (name : Word) (words : List Word) (r : RelNo × List Value) → row_of cat name words ≡ Ok r → IsRowOf cat name words r
 unfolding row_of
 row_takes cat name words r e =
-    let a = known_then UnknownName (relation_of cat name) (λ rel. values_of (columns_of cat rel) words >>= λ row. must WrongKind (length words == length (columns_of cat rel)) >>= λ _. Ok (pair_of (rel_no rel) row)) r e in
-    let b = bind_ok (values_of (columns_of cat a.0) words) (λ row. must WrongKind (length words == length (columns_of cat a.0)) >>= λ _. Ok (pair_of (rel_no a.0) row)) r a.2 in
+    let a = known_then UnknownName (relation_of cat name) (λ rel. values_of (columns_of cat rel) words >>=
+    λ row. must WrongKind (length words == length (columns_of cat rel)) >>=
+    λ _. Ok (pair_of (rel_no rel) row)) r e in
+    let b = bind_ok (values_of (columns_of cat a.0) words) (λ row. must WrongKind (length words ==
+    length (columns_of cat a.0)) >>= λ _. Ok (pair_of (rel_no a.0) row)) r a.2 in
     let c = must_then WrongKind (length words == length (columns_of cat a.0)) (λ _. Ok (pair_of (rel_no a.0) b.0)) r b.2 in
     let rel = relation_takes cat name a.0 a.1 in
     let row = values_take (columns_of cat a.0) words b.0 b.1 (eqb-true (length words) (length (columns_of cat a.0)) c.0) in
@@ -48,13 +51,16 @@ row_takes cat name words r e =
       fits = (rel.there, row.same ∙ ap kinds_of (columns_are cat a.0), row.fits);
     })
 
-pub row_again : (cat : Catalogue) → IsKnown cat → (rel : RelNo) (row : List Value) → FitsRowOf cat rel row → row_of cat (relation_word cat rel) (map value_word row) ≡ Ok (rel, row)
+pub row_again : (cat : Catalogue) → IsKnown cat → (rel : RelNo) (row : List Value) → FitsRowOf cat rel row
+    → row_of cat (relation_word cat rel) (map value_word row) ≡ Ok (rel, row)
 unfolding row_of
 row_again cat k rel row h =
     let same : map kind_of row ≡ kinds_of (columns_of cat rel.0) = h.1 ∙ ap kinds_of (sym (columns_are cat rel.0)) in
     let a = relation_again cat k rel.0 h.0 in
     let b = values_again (columns_of cat rel.0) row same h.2 in
-    let c : (length (map value_word row) == length (columns_of cat rel.0)) ≡ true = eq-eqb (length (map value_word row)) (length (columns_of cat rel.0)) (values_length (columns_of cat rel.0) row same h.2) in
+    let c : (length (map value_word row) == length (columns_of cat rel.0)) ≡ true =
+    eq-eqb (length (map value_word row)) (length (columns_of cat rel.0))
+    (values_length (columns_of cat rel.0) row same h.2) in
     rw (a, b, c) refl
 
 -- the words of a row
@@ -67,12 +73,14 @@ some_words : (row : List Value) → 1 ≤ length row → not_empty (map value_wo
 some_words [] h = absurd (omega arith)
 some_words (v ∷ row) h = refl
 
-pub row_free : (cat : Catalogue) → IsKnown cat → (rel : RelNo) (row : List Value) → FitsRowOf cat rel row → (is_free (relation_word cat rel) && are_free (map value_word row)) ≡ true
+pub row_free : (cat : Catalogue) → IsKnown cat → (rel : RelNo) (row : List Value) → FitsRowOf cat rel row
+    → (is_free (relation_word cat rel) && are_free (map value_word row)) ≡ true
 row_free cat k rel row h =
     let same : map kind_of row ≡ kinds_of (columns_of cat rel.0) = h.1 ∙ ap kinds_of (sym (columns_are cat rel.0)) in
     let len : length row ≡ length (columns_of cat rel.0) = omega (arith, values_length (columns_of cat rel.0) row same h.2, length-map row value_word) in
     both_are (is_free (relation_word cat rel)) (are_free (map value_word row)) (name_free (name_of_relation cat rel.0) (k.relation_name rel.0 h.0))
-    (both_are (not_empty (map value_word row)) (list_all is_free (map value_word row)) (some_words row (omega (arith, len, k.some_column rel.0 h.0))) (all_free row h.2))
+    (both_are (not_empty (map value_word row)) (list_all is_free (map value_word row))
+    (some_words row (omega (arith, len, k.some_column rel.0 h.0))) (all_free row h.2))
 
 values_fine : (row : List Value) → AllByRecursion IsValue row → AllByRecursion IsFine (map value_word row)
 values_fine [] h = tt

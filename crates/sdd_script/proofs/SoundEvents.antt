@@ -57,7 +57,8 @@ no_open (places.Inside h) t = absurd cc
 no_open (places.Listing list) t = absurd cc
 no_open places.Ended t = absurd cc
 
-pub no_statements : (place : Place) (txns : List Txn) (lists : List (List ClassPart)) (ss : List Stmt) (events : List Event) → takes_events place ≡ true → InOrder place txns lists ss events → ss ≡ []
+pub no_statements : (place : Place) (txns : List Txn) (lists : List (List ClassPart)) (ss : List Stmt)
+    (events : List Event) → takes_events place ≡ true → InOrder place txns lists ss events → ss ≡ []
 no_statements places.Rows txns lists ss events t o = o.2
 no_statements places.Between txns lists ss events t o = o.1
 no_statements places.Declared txns lists ss events t o = o.0
@@ -79,36 +80,88 @@ none_open places.Ended t = absurd cc
 abbrev numbers : List TxnNo → List ℕ
 numbers txns = map (λ (t : TxnNo). t.0) txns
 
-submitted_more : (submitted : List TxnNo) (events : List Event) (e : Event) → numbers submitted ≡ filter_map submitted_by events → numbers (with_submitted submitted e) ≡ filter_map submitted_by (events ++ e ∷ [])
-submitted_more submitted events (Submit txn) h = map-append (λ (t : TxnNo). t.0) submitted (txn ∷ []) ∙ ap (λ (l : List ℕ). l ++ txn.0 ∷ []) h ∙ sym (filter_map-append submitted_by events (Submit txn ∷ []))
-submitted_more submitted events (Deliver from to place) h = h ∙ sym (append-nil (filter_map submitted_by events)) ∙ sym (filter_map-append submitted_by events (Deliver from to place ∷ []))
-submitted_more submitted events (Lose from to place) h = h ∙ sym (append-nil (filter_map submitted_by events)) ∙ sym (filter_map-append submitted_by events (Lose from to place ∷ []))
-submitted_more submitted events (Repeat from to place) h = h ∙ sym (append-nil (filter_map submitted_by events)) ∙ sym (filter_map-append submitted_by events (Repeat from to place ∷ []))
-submitted_more submitted events (Resend from to) h = h ∙ sym (append-nil (filter_map submitted_by events)) ∙ sym (filter_map-append submitted_by events (Resend from to ∷ []))
-submitted_more submitted events (Tick tm n) h = h ∙ sym (append-nil (filter_map submitted_by events)) ∙ sym (filter_map-append submitted_by events (Tick tm n ∷ []))
+submitted_more : (submitted : List TxnNo) (events : List Event) (e : Event)
+    → numbers submitted ≡ filter_map submitted_by events
+    → numbers (with_submitted submitted e) ≡ filter_map submitted_by (events ++ e ∷ [])
+submitted_more submitted events (Submit txn) h = map-append (λ (t : TxnNo). t.0) submitted (txn ∷ [])
+    ∙ ap (λ (l : List ℕ). l ++ txn.0 ∷ []) h ∙ sym (filter_map-append submitted_by events (Submit txn ∷ []))
+submitted_more submitted events (Deliver from to place) h =
+    h ∙ sym (append-nil (filter_map submitted_by events))
+    ∙ sym (filter_map-append submitted_by events (Deliver from to place ∷ []))
+submitted_more submitted events (Lose from to place) h =
+    h ∙ sym (append-nil (filter_map submitted_by events))
+    ∙ sym (filter_map-append submitted_by events (Lose from to place ∷ []))
+submitted_more submitted events (Repeat from to place) h =
+    h ∙ sym (append-nil (filter_map submitted_by events))
+    ∙ sym (filter_map-append submitted_by events (Repeat from to place ∷ []))
+submitted_more submitted events (Resend from to) h = h ∙ sym (append-nil (filter_map submitted_by events))
+    ∙ sym (filter_map-append submitted_by events (Resend from to ∷ []))
+submitted_more submitted events (Tick tm n) h = h ∙ sym (append-nil (filter_map submitted_by events))
+    ∙ sym (filter_map-append submitted_by events (Tick tm n ∷ []))
 submitted_more submitted events Settle h = h ∙ sym (append-nil (filter_map submitted_by events)) ∙ sym (filter_map-append submitted_by events (Settle ∷ []))
-submitted_more submitted events Redeclare h = h ∙ sym (append-nil (filter_map submitted_by events)) ∙ sym (filter_map-append submitted_by events (Redeclare ∷ []))
+submitted_more submitted events Redeclare h = h ∙ sym (append-nil (filter_map submitted_by events))
+    ∙ sym (filter_map-append submitted_by events (Redeclare ∷ []))
 submitted_more submitted events (Down dm) h = h ∙ sym (append-nil (filter_map submitted_by events)) ∙ sym (filter_map-append submitted_by events (Down dm ∷ []))
 submitted_more submitted events (Up dm) h = h ∙ sym (append-nil (filter_map submitted_by events)) ∙ sym (filter_map-append submitted_by events (Up dm ∷ []))
 
 same_distinct : (ns ms : List ℕ) → AreDistinct ns → ns ≡ ms → AreDistinct ms
 same_distinct ns ms h e = subst AreDistinct e h
 
-once_more : (submitted : List TxnNo) (events : List Event) (e : Event) → numbers submitted ≡ filter_map submitted_by events → AreDistinct (filter_map submitted_by events) → is_submitted submitted e ≡ false → AreDistinct (filter_map submitted_by (events ++ e ∷ []))
+once_more : (submitted : List TxnNo) (events : List Event) (e : Event)
+    → numbers submitted ≡ filter_map submitted_by events → AreDistinct (filter_map submitted_by events)
+    → is_submitted submitted e ≡ false → AreDistinct (filter_map submitted_by (events ++ e ∷ []))
 once_more submitted events (Submit txn) h d other =
-    let none : NonePasses (λ (n : ℕ). n == txn.0) (filter_map submitted_by events) = subst (NonePasses (λ (n : ℕ). n == txn.0)) h (none_any (λ (n : ℕ). n == txn.0) (numbers submitted) (list_any-map (λ (n : ℕ). n == txn.0) (λ (t : TxnNo). t.0) submitted ∙ other)) in
-    same_distinct (filter_map submitted_by events ++ txn.0 ∷ []) (filter_map submitted_by (events ++ Submit txn ∷ [])) (distinct_more (filter_map submitted_by events) txn.0 d none) (sym (filter_map-append submitted_by events (Submit txn ∷ [])))
-once_more submitted events (Deliver from to place) h d other = same_distinct (filter_map submitted_by events) (filter_map submitted_by (events ++ Deliver from to place ∷ [])) d (sym (append-nil (filter_map submitted_by events)) ∙ sym (filter_map-append submitted_by events (Deliver from to place ∷ [])))
-once_more submitted events (Lose from to place) h d other = same_distinct (filter_map submitted_by events) (filter_map submitted_by (events ++ Lose from to place ∷ [])) d (sym (append-nil (filter_map submitted_by events)) ∙ sym (filter_map-append submitted_by events (Lose from to place ∷ [])))
-once_more submitted events (Repeat from to place) h d other = same_distinct (filter_map submitted_by events) (filter_map submitted_by (events ++ Repeat from to place ∷ [])) d (sym (append-nil (filter_map submitted_by events)) ∙ sym (filter_map-append submitted_by events (Repeat from to place ∷ [])))
-once_more submitted events (Resend from to) h d other = same_distinct (filter_map submitted_by events) (filter_map submitted_by (events ++ Resend from to ∷ [])) d (sym (append-nil (filter_map submitted_by events)) ∙ sym (filter_map-append submitted_by events (Resend from to ∷ [])))
-once_more submitted events (Tick tm n) h d other = same_distinct (filter_map submitted_by events) (filter_map submitted_by (events ++ Tick tm n ∷ [])) d (sym (append-nil (filter_map submitted_by events)) ∙ sym (filter_map-append submitted_by events (Tick tm n ∷ [])))
-once_more submitted events Settle h d other = same_distinct (filter_map submitted_by events) (filter_map submitted_by (events ++ Settle ∷ [])) d (sym (append-nil (filter_map submitted_by events)) ∙ sym (filter_map-append submitted_by events (Settle ∷ [])))
-once_more submitted events Redeclare h d other = same_distinct (filter_map submitted_by events) (filter_map submitted_by (events ++ Redeclare ∷ [])) d (sym (append-nil (filter_map submitted_by events)) ∙ sym (filter_map-append submitted_by events (Redeclare ∷ [])))
-once_more submitted events (Down dm) h d other = same_distinct (filter_map submitted_by events) (filter_map submitted_by (events ++ Down dm ∷ [])) d (sym (append-nil (filter_map submitted_by events)) ∙ sym (filter_map-append submitted_by events (Down dm ∷ [])))
-once_more submitted events (Up dm) h d other = same_distinct (filter_map submitted_by events) (filter_map submitted_by (events ++ Up dm ∷ [])) d (sym (append-nil (filter_map submitted_by events)) ∙ sym (filter_map-append submitted_by events (Up dm ∷ [])))
+    let none : NonePasses (λ (n : ℕ). n == txn.0) (filter_map submitted_by events) =
+    subst (NonePasses (λ (n : ℕ). n == txn.0)) h (none_any (λ (n : ℕ). n == txn.0) (numbers submitted)
+    (list_any-map (λ (n : ℕ). n == txn.0) (λ (t : TxnNo). t.0) submitted ∙ other)) in
+    same_distinct (filter_map submitted_by events ++ txn.0 ∷ [])
+    (filter_map submitted_by (events ++ Submit txn ∷ []))
+    (distinct_more (filter_map submitted_by events) txn.0 d none)
+    (sym (filter_map-append submitted_by events (Submit txn ∷ [])))
+once_more submitted events (Deliver from to place) h d other =
+    same_distinct (filter_map submitted_by events)
+    (filter_map submitted_by (events ++ Deliver from to place ∷ [])) d
+    (sym (append-nil (filter_map submitted_by events))
+    ∙ sym (filter_map-append submitted_by events (Deliver from to place ∷ [])))
+once_more submitted events (Lose from to place) h d other =
+    same_distinct (filter_map submitted_by events)
+    (filter_map submitted_by (events ++ Lose from to place ∷ [])) d
+    (sym (append-nil (filter_map submitted_by events))
+    ∙ sym (filter_map-append submitted_by events (Lose from to place ∷ [])))
+once_more submitted events (Repeat from to place) h d other =
+    same_distinct (filter_map submitted_by events)
+    (filter_map submitted_by (events ++ Repeat from to place ∷ [])) d
+    (sym (append-nil (filter_map submitted_by events))
+    ∙ sym (filter_map-append submitted_by events (Repeat from to place ∷ [])))
+once_more submitted events (Resend from to) h d other =
+    same_distinct (filter_map submitted_by events) (filter_map submitted_by (events ++ Resend from to ∷ []))
+    d (sym (append-nil (filter_map submitted_by events))
+    ∙ sym (filter_map-append submitted_by events (Resend from to ∷ [])))
+once_more submitted events (Tick tm n) h d other =
+    same_distinct (filter_map submitted_by events) (filter_map submitted_by (events ++ Tick tm n ∷ [])) d
+    (sym (append-nil (filter_map submitted_by events))
+    ∙ sym (filter_map-append submitted_by events (Tick tm n ∷ [])))
+once_more submitted events Settle h d other =
+    same_distinct (filter_map submitted_by events) (filter_map submitted_by (events ++ Settle ∷ [])) d
+    (sym (append-nil (filter_map submitted_by events))
+    ∙ sym (filter_map-append submitted_by events (Settle ∷ [])))
+once_more submitted events Redeclare h d other =
+    same_distinct (filter_map submitted_by events) (filter_map submitted_by (events ++ Redeclare ∷ [])) d
+    (sym (append-nil (filter_map submitted_by events))
+    ∙ sym (filter_map-append submitted_by events (Redeclare ∷ [])))
+once_more submitted events (Down dm) h d other =
+    same_distinct (filter_map submitted_by events) (filter_map submitted_by (events ++ Down dm ∷ [])) d
+    (sym (append-nil (filter_map submitted_by events))
+    ∙ sym (filter_map-append submitted_by events (Down dm ∷ [])))
+once_more submitted events (Up dm) h d other =
+    same_distinct (filter_map submitted_by events) (filter_map submitted_by (events ++ Up dm ∷ [])) d
+    (sym (append-nil (filter_map submitted_by events))
+    ∙ sym (filter_map-append submitted_by events (Up dm ∷ [])))
 
-event_sound : (cat : Catalogue) (st : State) (e : Event) → Sound cat st → takes_events st.place ≡ true → IsValidEvent cat (length st.txns) e → is_submitted st.submitted e ≡ false → may_follow cat.dms (length st.lists) st.events e ≡ true → length st.events < MAX_EVENTS → Sound cat (with_occurrence st e)
+event_sound : (cat : Catalogue) (st : State) (e : Event) → Sound cat st → takes_events st.place ≡ true
+    → IsValidEvent cat (length st.txns) e → is_submitted st.submitted e ≡ false
+    → may_follow cat.dms (length st.lists) st.events e ≡ true → length st.events < MAX_EVENTS
+    → Sound cat (with_occurrence st e)
 event_sound cat st e s t valid other may room = record {
   rows = s.rows;
   txns = s.txns;
@@ -131,13 +184,18 @@ event_sound cat st e s t valid other may room = record {
   order = no_statements st.place st.txns st.lists st.statements st.events t s.order;
 }
 
-pub event_leads : (cat : Catalogue) (st to : State) (key : List ℕ) (words : List Word) (reading : Result Event WorkRule) → Sound cat st → (takes_events st.place ≡ true → (e : Event) → reading ≡ Ok e → IsEvent cat st key words e) → event_rules cat st reading ≡ Ok to → Leads cat st to (Plain key ∷ words)
+pub event_leads : (cat : Catalogue) (st to : State) (key : List ℕ) (words : List Word)
+    (reading : Result Event WorkRule) → Sound cat st → (takes_events st.place ≡ true → (e : Event)
+    → reading ≡ Ok e → IsEvent cat st key words e) → event_rules cat st reading ≡ Ok to
+    → Leads cat st to (Plain key ∷ words)
 event_leads cat st to key words reading s read h =
     let a = must_then BadLine (takes_events st.place) (λ _. reading >>= λ event. with_event cat st event) to h in
     let b = bind_ok reading (λ event. with_event cat st event) to a.1 in
     let e : Event = b.0 in
     let may : Bool = may_follow cat.dms (length st.lists) st.events e in
-    let c = must_then SubmittedTwice (not (is_submitted st.submitted e)) (λ _. must BadEvent may >>= λ _. must (TooMany counts.Event) (nat_lt (length st.events) MAX_EVENTS) >>= λ _. Ok (with_occurrence st e)) to b.2 in
+    let c = must_then SubmittedTwice (not (is_submitted st.submitted e)) (λ _. must BadEvent may >>=
+    λ _. must (TooMany counts.Event) (nat_lt (length st.events) MAX_EVENTS) >>=
+    λ _. Ok (with_occurrence st e)) to b.2 in
     let m = must_then BadEvent may (λ _. must (TooMany counts.Event) (nat_lt (length st.events) MAX_EVENTS) >>= λ _. Ok (with_occurrence st e)) to c.1 in
     let d = must_then (TooMany counts.Event) (nat_lt (length st.events) MAX_EVENTS) (λ _. Ok (with_occurrence st e)) to m.1 in
     let r = read a.0 e b.1 in
@@ -174,7 +232,8 @@ end_sound cat st s t = record {
   order = no_statements st.place st.txns st.lists st.statements st.events t s.order;
 }
 
-pub end_leads : (cat : Catalogue) (st to : State) (words : List Word) → Sound cat st → end_rules st words ≡ Ok to → Leads cat st to (Plain (codes "end") ∷ words)
+pub end_leads : (cat : Catalogue) (st to : State) (words : List Word) → Sound cat st
+    → end_rules st words ≡ Ok to → Leads cat st to (Plain (codes "end") ∷ words)
 end_leads cat st to [] s e =
     let a = must_then BadLine (takes_events st.place) (λ _. Ok (with_end st)) to e in
     subst (λ (x : State). Leads cat st x end_words) (ok_is (with_end st) to a.1) (record {

@@ -54,7 +54,9 @@ record IsMoved (cat : Catalogue) (st : State) (p : Place) (lists : List (List Cl
   few_lists : length lists + lists_open p ≤ MAX_LISTS
   order : InOrder p st.txns lists st.statements st.events
 
-moved : (cat : Catalogue) (st : State) (p : Place) (lists : List (List ClassPart)) (n : ℕ) → Sound cat st → open_name st.place ≡ [] → st.events ≡ [] → IsMoved cat st p lists n → Sound cat (with_lists st p lists n)
+moved : (cat : Catalogue) (st : State) (p : Place) (lists : List (List ClassPart)) (n : ℕ) → Sound cat st
+    → open_name st.place ≡ [] → st.events ≡ [] → IsMoved cat st p lists n
+    → Sound cat (with_lists st p lists n)
 moved cat st p lists n s unnamed none o = record {
   rows = s.rows;
   txns = s.txns;
@@ -85,7 +87,9 @@ record IsOutside (place : Place) (ss : List Stmt) (events : List Event) : Type 0
   no_statements : ss ≡ []
   no_events : events ≡ []
 
-outside : (place : Place) (txns : List Txn) (lists : List (List ClassPart)) (ss : List Stmt) (events : List Event) → takes_lists place ≡ true → InOrder place txns lists ss events → IsOutside place ss events
+outside : (place : Place) (txns : List Txn) (lists : List (List ClassPart)) (ss : List Stmt)
+    (events : List Event) → takes_lists place ≡ true → InOrder place txns lists ss events
+    → IsOutside place ss events
 outside places.Rows txns lists ss events t o = record { unnamed = refl; none = refl; no_statements = o.2; no_events = o.3 }
 outside places.Between txns lists ss events t o = record { unnamed = refl; none = refl; no_statements = o.1; no_events = o.2 }
 outside places.Declared txns lists ss events t o = record { unnamed = refl; none = refl; no_statements = o.0; no_events = o.1 }
@@ -97,7 +101,8 @@ outside places.Ended txns lists ss events t o = absurd cc
 abbrev begun : State → State
 begun st = record st { place = places.Listing no_classes }
 
-pub list_leads : (cat : Catalogue) (st to : State) (words : List Word) → Sound cat st → list_rules st words ≡ Ok to → Leads cat st to (Plain (codes "list") ∷ words)
+pub list_leads : (cat : Catalogue) (st to : State) (words : List Word) → Sound cat st
+    → list_rules st words ≡ Ok to → Leads cat st to (Plain (codes "list") ∷ words)
 list_leads cat st to [] s e =
     let a = must_then BadLine (takes_lists st.place) (λ _. must (TooMany counts.List) (nat_lt (length st.lists) MAX_LISTS) >>= λ _. Ok (begun st)) to e in
     let b = must_then (TooMany counts.List) (nat_lt (length st.lists) MAX_LISTS) (λ _. Ok (begun st)) to a.1 in
@@ -120,13 +125,22 @@ list_leads cat st to (w ∷ words) s e = absurd cc
 abbrev Within : Place → Type 0
 Within place = place ≡ places.Listing (open_list place)
 
-inside_leads : (cat : Catalogue) (st : State) (new : OpenList) (n : ℕ) (w : List Word) → Sound cat st → Within st.place → Declares cat (joined st.lists ++ classes_in new) n → AddsLine (open_list st.place) new w
+inside_leads : (cat : Catalogue) (st : State) (new : OpenList) (n : ℕ) (w : List Word) → Sound cat st
+    → Within st.place → Declares cat (joined st.lists ++ classes_in new) n
+    → AddsLine (open_list st.place) new w
     → Leads cat st (with_lists st (places.Listing new) st.lists n) w
 inside_leads cat st new n w s within d adds =
     let o : (st.statements ≡ []) × (st.events ≡ []) = subst (λ (p : Place). InOrder p st.txns st.lists st.statements st.events) within s.order in
     let few : length st.lists + 1 ≤ MAX_LISTS = subst (λ (p : Place). length st.lists + lists_open p ≤ MAX_LISTS) within s.few_lists in
     record {
-      sound = moved cat st (places.Listing new) st.lists n s (ap open_name within) o.1 (record { header = tt; unnamed = refl; declares = d; few_lists = few; order = o });
+      sound = moved cat st (places.Listing new) st.lists n s (ap open_name within) o.1 (record {
+        header =
+            tt;
+        unnamed = refl;
+        declares = d;
+        few_lists = few;
+        order = o;
+      });
       lines =
           listing_more cat st.rows st.txns st.lists (open_list st.place) new w st.statements st.events adds o.1
           ∙ ap (λ (p : Place). lines_at cat st.rows st.txns st.lists p st.statements st.events ++ w ∷ []) (sym within);
@@ -146,26 +160,34 @@ in_list places.Ended t = absurd cc
 abbrev classed : State → List ℕ → TmNo → ℕ → State
 classed st name tm n = record st { place = places.Listing (with_class (open_list st.place) name tm); classes = n }
 
-one_more_is : (classes n : ℕ) (b : Bool) → nat_lt classes MAX_CLASSES ≡ b → cond b (Some (classes + 1)) None ≡ Some n → (classes + 1 ≡ n) × (classes < MAX_CLASSES)
+one_more_is : (classes n : ℕ) (b : Bool) → nat_lt classes MAX_CLASSES ≡ b
+    → cond b (Some (classes + 1)) None ≡ Some n → (classes + 1 ≡ n) × (classes < MAX_CLASSES)
 one_more_is classes n true t e = (some_is (classes + 1) n e, ltb-true classes MAX_CLASSES t)
 one_more_is classes n false t e = absurd cc
 
-pub class_leads : (cat : Catalogue) (st to : State) (words : List Word) → Sound cat st → class_rules cat st words ≡ Ok to → Leads cat st to (Plain (codes "class") ∷ words)
+pub class_leads : (cat : Catalogue) (st to : State) (words : List Word) → Sound cat st
+    → class_rules cat st words ≡ Ok to → Leads cat st to (Plain (codes "class") ∷ words)
 class_leads cat st to [] s e = absurd cc
 class_leads cat st to (w ∷ []) s e = absurd cc
 class_leads cat st to (word ∷ tm ∷ []) s e =
-    let a = must_then BadLine (takes_classes st.place && (is_free word && is_free tm)) (λ _. name_of word >>= λ name. tm_of cat tm >>= λ t. with_class_of cat st name t) to e in
+    let a = must_then BadLine (takes_classes st.place && (is_free word && is_free tm))
+    (λ _. name_of word >>= λ name. tm_of cat tm >>= λ t. with_class_of cat st name t) to e in
     let b = bind_ok (name_of word) (λ name. tm_of cat tm >>= λ t. with_class_of cat st name t) to a.1 in
     let c = bind_ok (tm_of cat tm) (λ t. with_class_of cat st b.0 t) to b.2 in
-    let d = must_then BadClass (not (is_taken cat st b.0)) (λ _. known (TooMany counts.Class) (one_more_class st.classes) >>= λ n. Ok (classed st b.0 c.0 n)) to c.2 in
+    let d = must_then BadClass (not (is_taken cat st b.0)) (λ _. known (TooMany counts.Class)
+    (one_more_class st.classes) >>= λ n. Ok (classed st b.0 c.0 n)) to c.2 in
     let f = known_then (TooMany counts.Class) (one_more_class st.classes) (λ n. Ok (classed st b.0 c.0 n)) to d.1 in
     let place = (both_hold (takes_classes st.place) (is_free word && is_free tm) a.0).0 in
     let n = one_more_is st.classes f.0 (nat_lt st.classes MAX_CLASSES) refl f.1 in
     let w = name_of_takes word b.0 b.1 in
     let t = tm_takes cat tm c.0 c.1 in
     let l : OpenList = open_list st.place in
-    let spelled : Plain (codes "class") ∷ word ∷ tm ∷ [] ≡ class_words (class_so_far (record { name = b.0; tm = c.0; reads = []; writes = [] })) = two_words (Plain (codes "class")) word (Plain b.0) tm (site_word (T c.0)) w.0 t.0 in
-    let leads = inside_leads cat st (with_class l b.0 c.0) (st.classes + 1) (class_words (class_so_far (record { name = b.0; tm = c.0; reads = []; writes = [] }))) s (in_list st.place place)
+    let spelled : Plain (codes "class") ∷ word ∷ tm ∷ [] ≡ class_words
+    (class_so_far (record { name = b.0; tm = c.0; reads = []; writes = [] })) =
+    two_words (Plain (codes "class")) word (Plain b.0) tm (site_word (T c.0)) w.0 t.0 in
+    let leads = inside_leads cat st (with_class l b.0 c.0) (st.classes + 1)
+    (class_words (class_so_far (record { name = b.0; tm = c.0; reads = []; writes = [] }))) s
+    (in_list st.place place)
     (class_declared cat st.lists l st.classes b.0 c.0 s.declares w.1 t.1 (not_true (is_taken cat st b.0) d.0) n.1) (class_more l b.0 c.0) in
     subst (λ (x : State). Leads cat st x (Plain (codes "class") ∷ word ∷ tm ∷ [])) (ap (classed st b.0 c.0) n.0 ∙ ok_is (classed st b.0 c.0 f.0) to f.2)
     (subst (λ (ws : List Word). Leads cat st (classed st b.0 c.0 (st.classes + 1)) ws) (sym spelled) leads)
@@ -191,14 +213,18 @@ reading st name dm = record st { place = places.Listing (with_read (open_list st
 abbrev may_read : Catalogue → State → List ℕ × ℕ → DmNo → Bool
 may_read cat st f dm = not (has_name (read_names (reads_at st.place)) f.0) && has_copy cat dm.0 f.1
 
-pub reads_leads : (cat : Catalogue) (st to : State) (words : List Word) → Sound cat st → reads_rules cat st words ≡ Ok to → Leads cat st to (Plain (codes "reads") ∷ words)
+pub reads_leads : (cat : Catalogue) (st to : State) (words : List Word) → Sound cat st
+    → reads_rules cat st words ≡ Ok to → Leads cat st to (Plain (codes "reads") ∷ words)
 reads_leads cat st to [] s e = absurd cc
 reads_leads cat st to (w ∷ []) s e = absurd cc
 reads_leads cat st to (word ∷ dm ∷ []) s e =
-    let a = must_then BadLine (takes_reads st.place && (is_free word && is_free dm)) (λ _. fragment_of cat word >>= λ (f : List ℕ × ℕ). dm_of cat dm >>= λ d. with_read_of cat st f d) to e in
+    let a = must_then BadLine (takes_reads st.place && (is_free word && is_free dm))
+    (λ _. fragment_of cat word >>= λ (f : List ℕ × ℕ). dm_of cat dm >>=
+    λ d. with_read_of cat st f d) to e in
     let b = bind_ok (fragment_of cat word) (λ (f : List ℕ × ℕ). dm_of cat dm >>= λ d. with_read_of cat st f d) to a.1 in
     let c = bind_ok (dm_of cat dm) (λ d. with_read_of cat st b.0 d) to b.2 in
-    let d = must_then BadClass (may_read cat st b.0 c.0) (λ _. must (TooMany counts.Read) (nat_lt (length (reads_at st.place)) MAX_READS) >>= λ _. Ok (reading st b.0.0 c.0)) to c.2 in
+    let d = must_then BadClass (may_read cat st b.0 c.0) (λ _. must (TooMany counts.Read)
+    (nat_lt (length (reads_at st.place)) MAX_READS) >>= λ _. Ok (reading st b.0.0 c.0)) to c.2 in
     let f = must_then (TooMany counts.Read) (nat_lt (length (reads_at st.place)) MAX_READS) (λ _. Ok (reading st b.0.0 c.0)) to d.1 in
     let place = reads_within st.place (both_hold (takes_reads st.place) (is_free word && is_free dm) a.0).0 in
     let may = both_hold (not (has_name (read_names (reads_at st.place)) b.0.0)) (has_copy cat c.0.0 b.0.1) d.0 in
@@ -207,9 +233,12 @@ reads_leads cat st to (word ∷ dm ∷ []) s e =
     let l : OpenList = open_list st.place in
     let r : ReadPart = read_at b.0.0 c.0 in
     let valid : IsValidRead cat r = record { fragment = w.there; module_is_there = t.1; copy = kept_at cat c.0.0 b.0.0 b.0.1 w.number ∙ may.1 } in
-    let spelled : Plain (codes "reads") ∷ word ∷ dm ∷ [] ≡ reads_words r = two_words (Plain (codes "reads")) word (Plain b.0.0) dm (site_word (D c.0)) w.spelled t.0 in
+    let spelled : Plain (codes "reads") ∷ word ∷ dm ∷ [] ≡ reads_words r =
+    two_words (Plain (codes "reads")) word (Plain b.0.0) dm (site_word (D c.0)) w.spelled t.0 in
     let leads = inside_leads cat st (with_read l r) st.classes (reads_words r) s place.0
-    (read_declared cat (joined st.lists) l st.classes r s.declares valid (not_true (has_name (read_names (reads_at st.place)) b.0.0) may.0) (ltb-true (length (reads_at st.place)) MAX_READS f.0)) (read_more l r place.1) in
+    (read_declared cat (joined st.lists) l st.classes r s.declares valid
+    (not_true (has_name (read_names (reads_at st.place)) b.0.0) may.0)
+    (ltb-true (length (reads_at st.place)) MAX_READS f.0)) (read_more l r place.1) in
     subst (λ (x : State). Leads cat st x (Plain (codes "reads") ∷ word ∷ dm ∷ [])) (ok_is (reading st b.0.0 c.0) to f.1)
     (subst (λ (ws : List Word). Leads cat st (reading st b.0.0 c.0) ws) (sym spelled) leads)
 reads_leads cat st to (a ∷ b ∷ c ∷ rest) s e = absurd cc
@@ -231,7 +260,8 @@ writing st name = record st { place = places.Listing (with_write (open_list st.p
 one_word : (k a b : Word) → a ≡ b → k ∷ a ∷ [] ≡ k ∷ b ∷ []
 one_word k a b e = ap (λ (w : Word). k ∷ w ∷ []) e
 
-pub writes_leads : (cat : Catalogue) (st to : State) (words : List Word) → Sound cat st → writes_rules cat st words ≡ Ok to → Leads cat st to (Plain (codes "writes") ∷ words)
+pub writes_leads : (cat : Catalogue) (st to : State) (words : List Word) → Sound cat st
+    → writes_rules cat st words ≡ Ok to → Leads cat st to (Plain (codes "writes") ∷ words)
 writes_leads cat st to [] s e = absurd cc
 writes_leads cat st to (word ∷ []) s e =
     let a = must_then BadLine (takes_writes st.place && is_free word) (λ _. fragment_of cat word >>= λ (f : List ℕ × ℕ). with_write_of st f.0) to e in
@@ -242,7 +272,8 @@ writes_leads cat st to (word ∷ []) s e =
     let l : OpenList = open_list st.place in
     let spelled : Plain (codes "writes") ∷ word ∷ [] ≡ writes_words b.0.0 = one_word (Plain (codes "writes")) word (Plain b.0.0) w.spelled in
     let leads = inside_leads cat st (with_write l b.0.0) st.classes (writes_words b.0.0) s place.0
-    (write_declared cat (joined st.lists) l st.classes b.0.0 s.declares w.there (not_true (has_name (writes_at st.place) b.0.0) d.0)) (write_more l b.0.0 place.1) in
+    (write_declared cat (joined st.lists) l st.classes b.0.0 s.declares w.there
+    (not_true (has_name (writes_at st.place) b.0.0) d.0)) (write_more l b.0.0 place.1) in
     subst (λ (x : State). Leads cat st x (Plain (codes "writes") ∷ word ∷ [])) (ok_is (writing st b.0.0) to d.1)
     (subst (λ (ws : List Word). Leads cat st (writing st b.0.0) ws) (sym spelled) leads)
 writes_leads cat st to (a ∷ b ∷ rest) s e = absurd cc
@@ -252,9 +283,11 @@ writes_leads cat st to (a ∷ b ∷ rest) s e = absurd cc
 abbrev listed : State → OpenList → State
 listed st l = record st { place = places.Declared; lists = st.lists ++ classes_in l ∷ [] }
 
-list_closed : (cat : Catalogue) (st to : State) (l : OpenList) → Sound cat (at_place st (places.Listing l)) → closed (places.Listing l) st ≡ Ok to → Leads cat (at_place st (places.Listing l)) to done_words
+list_closed : (cat : Catalogue) (st to : State) (l : OpenList) → Sound cat (at_place st (places.Listing l))
+    → closed (places.Listing l) st ≡ Ok to → Leads cat (at_place st (places.Listing l)) to done_words
 list_closed cat st to l s e =
-    let joins : joined (st.lists ++ classes_in l ∷ []) ++ [] ≡ joined st.lists ++ classes_in l = append-nil (joined (st.lists ++ classes_in l ∷ [])) ∙ joined_more st.lists (classes_in l) in
+    let joins : joined (st.lists ++ classes_in l ∷ []) ++ [] ≡ joined st.lists ++ classes_in l =
+    append-nil (joined (st.lists ++ classes_in l ∷ [])) ∙ joined_more st.lists (classes_in l) in
     subst (λ (x : State). Leads cat (at_place st (places.Listing l)) x done_words) (ok_is (listed st l) to e) (record {
       sound = moved cat (at_place st (places.Listing l)) places.Declared (st.lists ++ classes_in l ∷ []) st.classes s refl s.order.1 (record {
         header = tt;
@@ -275,6 +308,7 @@ closed_leads cat st to places.Declared s e = absurd cc
 closed_leads cat st to places.Events s e = absurd cc
 closed_leads cat st to places.Ended s e = absurd cc
 
-pub done_leads : (cat : Catalogue) (st to : State) (words : List Word) → Sound cat st → done_rules st words ≡ Ok to → Leads cat st to (Plain (codes "done") ∷ words)
+pub done_leads : (cat : Catalogue) (st to : State) (words : List Word) → Sound cat st
+    → done_rules st words ≡ Ok to → Leads cat st to (Plain (codes "done") ∷ words)
 done_leads cat st to [] s e = closed_leads cat st to st.place s e
 done_leads cat st to (w ∷ words) s e = absurd cc

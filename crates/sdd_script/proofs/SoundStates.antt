@@ -152,11 +152,15 @@ row_sound cat st r s v room = record {
   order = s.order;
 }
 
-pub row_leads : (cat : Catalogue) (st to : State) (words : List Word) → Sound cat st → row_rules cat st words ≡ Ok to → Leads cat st to (Plain (codes "row") ∷ words)
+pub row_leads : (cat : Catalogue) (st to : State) (words : List Word) → Sound cat st
+    → row_rules cat st words ≡ Ok to → Leads cat st to (Plain (codes "row") ∷ words)
 row_leads cat st to [] s e = absurd cc
 row_leads cat st to (name ∷ words) s e =
-    let a = must_then BadLine (takes_rows st.place && (is_free name && are_free words)) (λ _. row_of cat name words >>= λ (r : RelNo × List Value). known (TooMany counts.Row) (one_more_row st.written) >>= λ n. Ok (with_row_at st r n)) to e in
-    let b = bind_ok (row_of cat name words) (λ (r : RelNo × List Value). known (TooMany counts.Row) (one_more_row st.written) >>= λ n. Ok (with_row_at st r n)) to a.1 in
+    let a = must_then BadLine (takes_rows st.place && (is_free name && are_free words))
+    (λ _. row_of cat name words >>= λ (r : RelNo × List Value). known (TooMany counts.Row)
+    (one_more_row st.written) >>= λ n. Ok (with_row_at st r n)) to e in
+    let b = bind_ok (row_of cat name words) (λ (r : RelNo × List Value). known (TooMany counts.Row)
+    (one_more_row st.written) >>= λ n. Ok (with_row_at st r n)) to a.1 in
     let c = known_then (TooMany counts.Row) (one_more_row st.written) (λ n. Ok (with_row_at st b.0 n)) to b.2 in
     let n = one_more_is st.written c.0 (nat_lt st.written MAX_ROWS) refl c.1 in
     let place = (both_hold (takes_rows st.place) (is_free name && are_free words) a.0).0 in
@@ -165,7 +169,8 @@ row_leads cat st to (name ∷ words) s e =
     let spelled : Plain (codes "row") ∷ name ∷ words ≡ start_words cat b.0 = ap (λ (l : List Word). Plain (codes "row") ∷ l) r.spelled in
     subst (λ (x : State). Leads cat st x (Plain (codes "row") ∷ name ∷ words)) (ap (with_row_at st b.0) n.0 ∙ ok_is (with_row_at st b.0 c.0) to c.2) (record {
       sound = row_sound cat st b.0 s valid n.1;
-      lines = row_more cat st.rows b.0 st.txns st.lists st.place st.statements st.events place s.order ∙ ap (λ (l : List Word). so_far cat st ++ l ∷ []) (sym spelled);
+      lines = row_more cat st.rows b.0 st.txns st.lists st.place st.statements st.events place s.order
+          ∙ ap (λ (l : List Word). so_far cat st ++ l ∷ []) (sym spelled);
     })
 
 -- ---- a transaction opens
@@ -182,7 +187,9 @@ closed_name places.Declared t = absurd cc
 closed_name places.Events t = absurd cc
 closed_name places.Ended t = absurd cc
 
-no_more : (place : Place) (txns : List Txn) (lists : List (List ClassPart)) (ss : List Stmt) (events : List Event) → takes_txns place ≡ true → InOrder place txns lists ss events → (lists ≡ []) × (events ≡ [])
+no_more : (place : Place) (txns : List Txn) (lists : List (List ClassPart)) (ss : List Stmt)
+    (events : List Event) → takes_txns place ≡ true → InOrder place txns lists ss events → (lists ≡ [])
+    × (events ≡ [])
 no_more places.Rows txns lists ss events t o = (o.1, o.3)
 no_more places.Between txns lists ss events t o = (o.0, o.2)
 no_more (places.Inside h) txns lists ss events t o = absurd cc
@@ -202,7 +209,9 @@ none_open places.Declared t = refl
 none_open places.Events t = refl
 none_open places.Ended t = refl
 
-header_sound : (cat : Catalogue) (st : State) (h : Header) → Sound cat st → takes_txns st.place ≡ true → IsName h.name → IsFrom1To cat.tms h.tm.0 → NonePasses (bytes_eq h.name) st.names → length st.names < MAX_TXNS → Sound cat (with_header st h)
+header_sound : (cat : Catalogue) (st : State) (h : Header) → Sound cat st → takes_txns st.place ≡ true
+    → IsName h.name → IsFrom1To cat.tms h.tm.0 → NonePasses (bytes_eq h.name) st.names
+    → length st.names < MAX_TXNS → Sound cat (with_header st h)
 header_sound cat st h s t named tm other room = record {
   rows = s.rows;
   txns = s.txns;
@@ -210,7 +219,9 @@ header_sound cat st h s t named tm other room = record {
   values = s.values;
   few_statements = s.few_statements;
   header = (named, tm);
-  names = ap (λ (l : List (List ℕ)). l ++ h.name ∷ []) (s.names ∙ ap (λ (l : List (List ℕ)). names_of st.txns ++ l) (closed_name st.place t) ∙ append-nil (names_of st.txns));
+  names = ap (λ (l : List (List ℕ)). l ++ h.name ∷ []) (s.names
+      ∙ ap (λ (l : List (List ℕ)). names_of st.txns ++ l) (closed_name st.place t)
+      ∙ append-nil (names_of st.txns));
   differ = repeats_not st.names h.name s.differ other;
   declares = subst (λ (l : OpenList). Declares cat (joined st.lists ++ classes_in l) st.classes) (none_open st.place t) s.declares;
   few_lists = omega (arith, s.few_lists);
@@ -245,24 +256,30 @@ two_words k a b c d p q = cc
 abbrev header_of : List ℕ → TmNo → Header
 header_of name tm = record { name = name; tm = tm }
 
-pub txn_leads : (cat : Catalogue) (st to : State) (words : List Word) → Sound cat st → txn_rules cat st words ≡ Ok to → Leads cat st to (Plain (codes "txn") ∷ words)
+pub txn_leads : (cat : Catalogue) (st to : State) (words : List Word) → Sound cat st
+    → txn_rules cat st words ≡ Ok to → Leads cat st to (Plain (codes "txn") ∷ words)
 txn_leads cat st to [] s e = absurd cc
 txn_leads cat st to (w ∷ []) s e = absurd cc
 txn_leads cat st to (word ∷ tm ∷ []) s e =
-    let a = must_then BadLine (takes_txns st.place && (is_free word && is_free tm)) (λ _. name_of word >>= λ name. tm_of cat tm >>= λ t. opened st name t) to e in
+    let a = must_then BadLine (takes_txns st.place && (is_free word && is_free tm)) (λ _. name_of word >>=
+    λ name. tm_of cat tm >>= λ t. opened st name t) to e in
     let b = bind_ok (name_of word) (λ name. tm_of cat tm >>= λ t. opened st name t) to a.1 in
     let c = bind_ok (tm_of cat tm) (λ t. opened st b.0 t) to b.2 in
     let h : Header = header_of b.0 c.0 in
-    let d = must_then DuplicateTxn (not (is_some (position (bytes_eq b.0) st.names))) (λ _. must (TooMany counts.Txn) (nat_lt (length st.names) MAX_TXNS) >>= λ _. Ok (with_header st h)) to c.2 in
+    let d = must_then DuplicateTxn (not (is_some (position (bytes_eq b.0) st.names)))
+    (λ _. must (TooMany counts.Txn) (nat_lt (length st.names) MAX_TXNS) >>=
+    λ _. Ok (with_header st h)) to c.2 in
     let f = must_then (TooMany counts.Txn) (nat_lt (length st.names) MAX_TXNS) (λ _. Ok (with_header st h)) to d.1 in
     let place = (both_hold (takes_txns st.place) (is_free word && is_free tm) a.0).0 in
     let n = name_of_takes word b.0 b.1 in
     let t = tm_takes cat tm c.0 c.1 in
     let other = none_found (bytes_eq b.0) st.names (not_true (is_some (position (bytes_eq b.0) st.names)) d.0) in
-    let spelled : Plain (codes "txn") ∷ word ∷ tm ∷ [] ≡ header_words h.name h.tm = two_words (Plain (codes "txn")) word (Plain b.0) tm (site_word (T c.0)) n.0 t.0 in
+    let spelled : Plain (codes "txn") ∷ word ∷ tm ∷ [] ≡ header_words h.name h.tm =
+    two_words (Plain (codes "txn")) word (Plain b.0) tm (site_word (T c.0)) n.0 t.0 in
     subst (λ (x : State). Leads cat st x (Plain (codes "txn") ∷ word ∷ tm ∷ [])) (ok_is (with_header st h) to f.1) (record {
       sound = header_sound cat st h s place n.1 t.1 other (ltb-true (length st.names) MAX_TXNS f.0);
-      lines = header_more cat st.rows st.txns st.lists st.place st.statements st.events h place s.order ∙ ap (λ (l : List Word). so_far cat st ++ l ∷ []) (sym spelled);
+      lines = header_more cat st.rows st.txns st.lists st.place st.statements st.events h place s.order
+          ∙ ap (λ (l : List Word). so_far cat st ++ l ∷ []) (sym spelled);
     })
 txn_leads cat st to (a ∷ b ∷ c ∷ rest) s e = absurd cc
 
@@ -280,7 +297,9 @@ written_is written n (statements.Query out rels conds) few e = let h = some_is w
 written_is written n (statements.Update rel sets conds) few e = let h = some_is written n e in (omega (arith, h), omega (arith, few))
 written_is written n (statements.Delete rel conds) few e = let h = some_is written n e in (omega (arith, h), omega (arith, few))
 
-statement_order : (place : Place) (txns : List Txn) (lists : List (List ClassPart)) (ss other : List Stmt) (events : List Event) → takes_statements place ≡ true → InOrder place txns lists ss events → InOrder place txns lists other events
+statement_order : (place : Place) (txns : List Txn) (lists : List (List ClassPart)) (ss other : List Stmt)
+    (events : List Event) → takes_statements place ≡ true → InOrder place txns lists ss events
+    → InOrder place txns lists other events
 statement_order (places.Inside h) txns lists ss other events t o = o
 statement_order places.Rows txns lists ss other events t o = absurd cc
 statement_order places.Between txns lists ss other events t o = absurd cc
@@ -292,7 +311,9 @@ statement_order places.Ended txns lists ss other events t o = absurd cc
 sum_more : (w r t q x all : ℕ) → w ≡ r + t + q → all ≡ q + (0 + x) → w + x ≡ r + t + all
 sum_more w r t q x all e f = omega (arith, e, f)
 
-statement_sound : (cat : Catalogue) (st : State) (q : Stmt) → Sound cat st → takes_statements st.place ≡ true → FitsStatement cat q → HoldsValues q → length st.statements < 32 → st.written + rows_put q ≤ MAX_ROWS → Sound cat (with_one st q)
+statement_sound : (cat : Catalogue) (st : State) (q : Stmt) → Sound cat st
+    → takes_statements st.place ≡ true → FitsStatement cat q → HoldsValues q → length st.statements < 32
+    → st.written + rows_put q ≤ MAX_ROWS → Sound cat (with_one st q)
 statement_sound cat st q s t fits hold few room = record {
   rows = s.rows;
   txns = s.txns;
@@ -308,25 +329,32 @@ statement_sound cat st q s t fits hold few room = record {
   events = s.events;
   submitted = s.submitted;
   once = s.once;
-  written = sum_more st.written (length st.rows) (sum_by rows_put_by st.txns) (sum_by rows_put st.statements) (rows_put q) (sum_by rows_put (st.statements ++ q ∷ [])) s.written (sum_by-append rows_put st.statements (q ∷ []));
+  written = sum_more st.written (length st.rows) (sum_by rows_put_by st.txns)
+      (sum_by rows_put st.statements) (rows_put q) (sum_by rows_put (st.statements ++ q ∷ [])) s.written
+      (sum_by-append rows_put st.statements (q ∷ []));
   few_rows = room;
   few_txns = s.few_txns;
   few_events = s.few_events;
   order = statement_order st.place st.txns st.lists st.statements (st.statements ++ q ∷ []) st.events t s.order;
 }
 
-pub statement_leads : (cat : Catalogue) (st to : State) (key : List ℕ) (words : List Word) (reading : Result Stmt WorkRule) → Sound cat st → ((q : Stmt) → reading ≡ Ok q → IsStatement cat key words q) → statement_rules st reading ≡ Ok to → Leads cat st to (Plain key ∷ words)
+pub statement_leads : (cat : Catalogue) (st to : State) (key : List ℕ) (words : List Word)
+    (reading : Result Stmt WorkRule) → Sound cat st
+    → ((q : Stmt) → reading ≡ Ok q → IsStatement cat key words q) → statement_rules st reading ≡ Ok to
+    → Leads cat st to (Plain key ∷ words)
 statement_leads cat st to key words reading s read e =
     let a = must_then BadLine (takes_statements st.place) (λ _. reading >>= λ statement. with_statement st statement) to e in
     let b = bind_ok reading (λ statement. with_statement st statement) to a.1 in
     let q : Stmt = b.0 in
-    let c = known_then (TooMany counts.Row) (written_with st.written q) (λ n. statement_limits (length st.statements) q >>= λ _. Ok (with_one_at st q n)) to b.2 in
+    let c = known_then (TooMany counts.Row) (written_with st.written q)
+    (λ n. statement_limits (length st.statements) q >>= λ _. Ok (with_one_at st q n)) to b.2 in
     let n = written_is st.written c.0 q s.few_rows c.1 in
     let d = bind_ok (statement_limits (length st.statements) q) (λ _. Ok (with_one_at st q c.0)) to c.2 in
     let r = read q b.1 in
     subst (λ (x : State). Leads cat st x (Plain key ∷ words)) (ap (with_one_at st q) n.0 ∙ ok_is (with_one_at st q c.0) to d.2) (record {
       sound = statement_sound cat st q s a.0 (r.fits (length st.statements) d.0 d.1) r.values (limits_before (length st.statements) q d.0 d.1) n.1;
-      lines = statement_more cat st.rows st.txns st.lists st.place st.statements q st.events a.0 s.order ∙ ap (λ (l : List Word). so_far cat st ++ l ∷ []) (sym r.spelled);
+      lines = statement_more cat st.rows st.txns st.lists st.place st.statements q st.events a.0 s.order
+          ∙ ap (λ (l : List Word). so_far cat st ++ l ∷ []) (sym r.spelled);
     })
 
 -- ---- a transaction ends
@@ -343,27 +371,43 @@ sum_closed w r t q all e f = omega (arith, e, f)
 done_sound : (cat : Catalogue) (st : State) (h : Header) → Sound cat (at_place st (places.Inside h)) → Sound cat (with_done st h)
 done_sound cat st h s = record {
   rows = s.rows;
-  txns = all_more (IsValidTxn cat) st.txns (txn_with h st.statements) s.txns (record { named = s.header.0; fits = record { module_is_there = s.header.1; few = s.few_statements; statements = s.statements }; values = s.values });
+  txns = all_more (IsValidTxn cat) st.txns (txn_with h st.statements) s.txns (record {
+    named =
+        s.header.0;
+    fits = record {
+      module_is_there = s.header.1;
+      few = s.few_statements;
+      statements =
+          s.statements;
+    };
+    values = s.values;
+  });
   statements = All-from_recursion (FitsStatement cat) [] tt;
   values = All-from_recursion HoldsValues [] tt;
   few_statements = omega arith;
   header = tt;
-  names = s.names ∙ sym (map-append (λ (t : Txn). t.name) st.txns (txn_with h st.statements ∷ [])) ∙ sym (append-nil (names_of (st.txns ++ txn_with h st.statements ∷ [])));
+  names = s.names ∙ sym (map-append (λ (t : Txn). t.name) st.txns (txn_with h st.statements ∷ []))
+      ∙ sym (append-nil (names_of (st.txns ++ txn_with h st.statements ∷ [])));
   differ = s.differ;
   declares = s.declares;
   few_lists = s.few_lists;
   timely = s.timely;
-  events = subst (λ (es : List Event). All (IsValidEvent cat (length (st.txns ++ txn_with h st.statements ∷ []))) es) (sym s.order.1) (All-from_recursion (IsValidEvent cat (length (st.txns ++ txn_with h st.statements ∷ []))) [] tt);
+  events = subst (λ (es : List Event). All
+      (IsValidEvent cat (length (st.txns ++ txn_with h st.statements ∷ []))) es) (sym s.order.1)
+      (All-from_recursion (IsValidEvent cat (length (st.txns ++ txn_with h st.statements ∷ []))) [] tt);
   submitted = s.submitted;
   once = s.once;
-  written = sum_closed st.written (length st.rows) (sum_by rows_put_by st.txns) (sum_by rows_put st.statements) (sum_by rows_put_by (st.txns ++ txn_with h st.statements ∷ [])) s.written (sum_by-append rows_put_by st.txns (txn_with h st.statements ∷ []));
+  written = sum_closed st.written (length st.rows) (sum_by rows_put_by st.txns)
+      (sum_by rows_put st.statements) (sum_by rows_put_by (st.txns ++ txn_with h st.statements ∷ []))
+      s.written (sum_by-append rows_put_by st.txns (txn_with h st.statements ∷ []));
   few_rows = s.few_rows;
   few_txns = s.few_txns;
   few_events = s.few_events;
   order = (s.order.0, refl, s.order.1);
 }
 
-pub txn_closed : (cat : Catalogue) (st to : State) (h : Header) → Sound cat (at_place st (places.Inside h)) → closed (places.Inside h) st ≡ Ok to → Leads cat (at_place st (places.Inside h)) to done_words
+pub txn_closed : (cat : Catalogue) (st to : State) (h : Header) → Sound cat (at_place st (places.Inside h))
+    → closed (places.Inside h) st ≡ Ok to → Leads cat (at_place st (places.Inside h)) to done_words
 txn_closed cat st to h s e =
     subst (λ (x : State). Leads cat (at_place st (places.Inside h)) x done_words) (ok_is (with_done st h) to e) (record {
       sound = done_sound cat st h s;

@@ -81,21 +81,43 @@ pub chain_lines : (cat : Catalogue) (st to : State) (lines : List (List ℕ)) �
 chain_lines cat st to [] h = tt
 chain_lines cat st to (line ∷ lines) h = (h.1.line_is, chain_lines cat h.0 to lines h.2)
 
-pub chain_walk : (cat : Catalogue) (n : ℕ) (st to : State) (lines : List (List ℕ)) → Chain cat st lines to → tail_rules to [] ≡ Ok to → walk cat n st lines [] ≡ Ok to
+pub chain_walk : (cat : Catalogue) (n : ℕ) (st to : State) (lines : List (List ℕ)) → Chain cat st lines to
+    → tail_rules to [] ≡ Ok to → walk cat n st lines [] ≡ Ok to
 unfolding walk
-chain_walk cat n st to [] h e = let k : tail_rules st [] ≡ Ok to = subst (λ (x : State). tail_rules x [] ≡ Ok to) (sym h) e in ap (λ (r : Result State WorkRule). at_line n r (λ s. Ok s)) k
-chain_walk cat n st to (line ∷ lines) h e = ap (λ (r : Result State WorkRule). at_line n r (λ s. walk cat (n + 1) s lines [])) h.1.read ∙ chain_walk cat (n + 1) h.0 to lines h.2 e
+chain_walk cat n st to [] h e = let k : tail_rules st [] ≡ Ok to =
+    subst (λ (x : State). tail_rules x [] ≡ Ok to) (sym h) e in ap (λ (r : Result State WorkRule).
+    at_line n r (λ s. Ok s)) k
+chain_walk cat n st to (line ∷ lines) h e =
+    ap (λ (r : Result State WorkRule). at_line n r (λ s. walk cat (n + 1) s lines [])) h.1.read
+    ∙ chain_walk cat (n + 1) h.0 to lines h.2 e
 
 -- a line, by its keyword
-pub line_step : (cat : Catalogue) (st to : State) (key : Keyword) (words : List Word) → is_ended st.place ≡ false → AreFine (Plain (keyword_bytes key) ∷ words) → keyword_rules key cat st words ≡ Ok to → IsStep cat st to (line_bytes (Plain (keyword_bytes key) ∷ words))
+pub line_step : (cat : Catalogue) (st to : State) (key : Keyword) (words : List Word)
+    → is_ended st.place ≡ false → AreFine (Plain (keyword_bytes key) ∷ words)
+    → keyword_rules key cat st words ≡ Ok to
+    → IsStep cat st to (line_bytes (Plain (keyword_bytes key) ∷ words))
 line_step cat st to key words going fine e = record {
-  read = ap (λ (b : Bool). cond b (Err BadLine) (line_rules cat st (line_bytes (Plain (keyword_bytes key) ∷ words)))) going ∙ line_again cat st (Plain (keyword_bytes key)) words fine ∙ words_again cat st key words ∙ e;
+  read = ap (λ (b : Bool). cond b (Err BadLine)
+      (line_rules cat st (line_bytes (Plain (keyword_bytes key) ∷ words)))) going
+      ∙ line_again cat st (Plain (keyword_bytes key)) words fine ∙ words_again cat st key words ∙ e;
   line_is = line_has_no_newline (Plain (keyword_bytes key)) words fine;
 }
 
 abbrev pub state_of : Place → List (RelNo × List Value) → ℕ → List (List ℕ) → List Txn → List Stmt → List (List ClassPart) → ℕ → List TxnNo → List Event → State
 state_of place rows written names txns statements lists classes submitted events =
-    record { place = place; rows = rows; written = written; names = names; txns = txns; statements = statements; lists = lists; classes = classes; submitted = submitted; events = events }
+    record {
+      place = place;
+      rows = rows;
+      written = written;
+      names = names;
+      txns = txns;
+      statements =
+          statements;
+      lists = lists;
+      classes = classes;
+      submitted = submitted;
+      events = events;
+    }
 
 -- before the lists of classes
 abbrev pub early : Catalogue → Place → List (RelNo × List Value) → ℕ → List (List ℕ) → List Txn → List Stmt → State
@@ -115,14 +137,19 @@ row_step cat k rows written r h room =
     let c : one_more_row written ≡ Some (written + 1) = ap (λ (b : Bool). cond b (Some (written + 1)) None) (lt-ltb written MAX_ROWS room) in
     let st : State = of_rows cat rows written in
     line_step cat st (of_rows cat (rows ++ r ∷ []) (written + 1)) keys.Row (row_words cat r.0 r.1) refl (start_fine cat k r h) (
-    ap (λ (t : Bool). must BadLine t >>= λ _. row_of cat (relation_word cat r.0) (map value_word r.1) >>= λ (x : RelNo × List Value). known (TooMany counts.Row) (one_more_row written) >>= λ n. Ok (record st { rows = st.rows ++ x ∷ []; written = n })) a
-    ∙ ap (λ (q : Result (RelNo × List Value) WorkRule). q >>= λ (x : RelNo × List Value). known (TooMany counts.Row) (one_more_row written) >>= λ n. Ok (record st { rows = st.rows ++ x ∷ []; written = n })) b
+    ap (λ (t : Bool). must BadLine t >>= λ _. row_of cat (relation_word cat r.0) (map value_word r.1) >>=
+    λ (x : RelNo × List Value). known (TooMany counts.Row) (one_more_row written) >>=
+    λ n. Ok (record st { rows = st.rows ++ x ∷ []; written = n })) a
+    ∙ ap (λ (q : Result (RelNo × List Value) WorkRule). q >>=
+    λ (x : RelNo × List Value). known (TooMany counts.Row) (one_more_row written) >>=
+    λ n. Ok (record st { rows = st.rows ++ x ∷ []; written = n })) b
     ∙ ap (λ (o : Option ℕ). known (TooMany counts.Row) o >>= λ n. Ok (of_rows cat (rows ++ r ∷ []) n)) c)
 
 rows_same : (cat : Catalogue) (rows rows2 : List (RelNo × List Value)) (n m : ℕ) → rows ≡ rows2 → n ≡ m → of_rows cat rows n ≡ of_rows cat rows2 m
 rows_same cat rows rows2 n m p q = ap (λ (l : List (RelNo × List Value)). of_rows cat l n) p ∙ ap (of_rows cat rows2) q
 
-pub rows_chain : (cat : Catalogue) → IsKnown cat → (rs rows : List (RelNo × List Value)) (written : ℕ) → AllByRecursion (IsValidRow cat) rs → written + length rs ≤ MAX_ROWS
+pub rows_chain : (cat : Catalogue) → IsKnown cat → (rs rows : List (RelNo × List Value)) (written : ℕ)
+    → AllByRecursion (IsValidRow cat) rs → written + length rs ≤ MAX_ROWS
     → Chain cat (of_rows cat rows written) (map line_bytes (map (start_words cat) rs)) (of_rows cat (rows ++ rs) (written + length rs))
 rows_chain cat k [] rows written h few = rows_same cat rows (rows ++ []) written (written + 0) (sym (append-nil rows)) (omega arith)
 rows_chain cat k (r ∷ rs) rows written h few =
@@ -151,7 +178,8 @@ key_of_statement (statements.Query out rels conds) = (keys.Statement skeys.Query
 key_of_statement (statements.Update rel sets conds) = (keys.Statement skeys.Update)
 key_of_statement (statements.Delete rel conds) = (keys.Statement skeys.Delete)
 
-statement_rules_again : (cat : Catalogue) (h : Header) (rows : List (RelNo × List Value)) (written : ℕ) (names : List (List ℕ)) (txns : List Txn) (ss : List Stmt) (q : Stmt) (reading : Result Stmt WorkRule)
+statement_rules_again : (cat : Catalogue) (h : Header) (rows : List (RelNo × List Value)) (written : ℕ)
+    (names : List (List ℕ)) (txns : List Txn) (ss : List Stmt) (q : Stmt) (reading : Result Stmt WorkRule)
     → reading ≡ Ok q → FitsStatement cat q → length ss < 32 → written + rows_put q ≤ MAX_ROWS
     → statement_rules (inside cat h rows written names txns ss) reading ≡ Ok (inside cat h rows (written + rows_put q) names txns (ss ++ q ∷ []))
 statement_rules_again cat h rows written names txns ss q reading e fits few room =
@@ -159,7 +187,9 @@ statement_rules_again cat h rows written names txns ss q reading e fits few room
     let a : written_with written q ≡ Some (written + rows_put q) = room_again written q room in
     let b = limits_again cat (length ss) q few fits in
     ap (λ (r : Result Stmt WorkRule). r >>= λ s. with_statement st s) e
-    ∙ ap (λ (o : Option ℕ). known (TooMany counts.Row) o >>= λ n. statement_limits (length st.statements) q >>= λ _. Ok (inside cat h rows n names txns (ss ++ q ∷ []))) a
+    ∙ ap (λ (o : Option ℕ). known (TooMany counts.Row) o >>=
+    λ n. statement_limits (length st.statements) q >>=
+    λ _. Ok (inside cat h rows n names txns (ss ++ q ∷ []))) a
     ∙ ap (λ (r : Result (Unit {0}) WorkRule). r >>= λ _. Ok (inside cat h rows (written + rows_put q) names txns (ss ++ q ∷ []))) b
 
 abbrev behind_query : Catalogue → List Ref → List RelNo → List Condition → List Word
@@ -171,31 +201,57 @@ behind_update cat rel sets conds = relation_word cat rel ∷ Plain (codes "set")
 abbrev behind_delete : Catalogue → RelNo → List Condition → List Word
 behind_delete cat rel conds = relation_word cat rel ∷ where_words cat (rel ∷ []) conds
 
-statement_step : (cat : Catalogue) → IsKnown cat → (h : Header) (rows : List (RelNo × List Value)) (written : ℕ) (names : List (List ℕ)) (txns : List Txn) (ss : List Stmt) (q : Stmt) → FitsStatement cat q → HoldsValues q → length ss < 32 → written + rows_put q ≤ MAX_ROWS
-    → IsStep cat (inside cat h rows written names txns ss) (inside cat h rows (written + rows_put q) names txns (ss ++ q ∷ [])) (line_bytes (statement_words cat q))
+statement_step : (cat : Catalogue) → IsKnown cat → (h : Header) (rows : List (RelNo × List Value))
+    (written : ℕ) (names : List (List ℕ)) (txns : List Txn) (ss : List Stmt) (q : Stmt)
+    → FitsStatement cat q → HoldsValues q → length ss < 32 → written + rows_put q ≤ MAX_ROWS
+    → IsStep cat (inside cat h rows written names txns ss)
+    (inside cat h rows (written + rows_put q) names txns (ss ++ q ∷ []))
+    (line_bytes (statement_words cat q))
 statement_step cat k h rows written names txns ss (statements.Put rel row) fits hold few room =
     let q : Stmt = statements.Put rel row in
-    line_step cat (inside cat h rows written names txns ss) (inside cat h rows (written + rows_put q) names txns (ss ++ q ∷ [])) (keys.Statement skeys.Put) (row_words cat rel row) refl (statement_fine cat k q fits hold)
-    (statement_rules_again cat h rows written names txns ss q (put_of cat (row_words cat rel row)) (put_again cat k rel row (row_of_statement cat rel row fits hold)) fits few room)
+    line_step cat (inside cat h rows written names txns ss)
+    (inside cat h rows (written + rows_put q) names txns (ss ++ q ∷ [])) (keys.Statement skeys.Put)
+    (row_words cat rel row) refl (statement_fine cat k q fits hold)
+    (statement_rules_again cat h rows written names txns ss q (put_of cat (row_words cat rel row))
+    (put_again cat k rel row (row_of_statement cat rel row fits hold)) fits few room)
 statement_step cat k h rows written names txns ss (statements.Query out rels conds) fits hold few room =
     let q : Stmt = statements.Query out rels conds in
-    line_step cat (inside cat h rows written names txns ss) (inside cat h rows (written + rows_put q) names txns (ss ++ q ∷ [])) (keys.Statement skeys.Query) (behind_query cat out rels conds) refl (statement_fine cat k q fits hold)
-    (statement_rules_again cat h rows written names txns ss q (query_of cat (behind_query cat out rels conds)) (query_again cat k out rels conds (query_fits cat out rels conds fits hold)) fits few room)
+    line_step cat (inside cat h rows written names txns ss)
+    (inside cat h rows (written + rows_put q) names txns (ss ++ q ∷ [])) (keys.Statement skeys.Query)
+    (behind_query cat out rels conds) refl (statement_fine cat k q fits hold)
+    (statement_rules_again cat h rows written names txns ss q
+    (query_of cat (behind_query cat out rels conds)) (query_again cat k out rels conds
+    (query_fits cat out rels conds fits hold)) fits few room)
 statement_step cat k h rows written names txns ss (statements.Update rel sets conds) fits hold few room =
     let q : Stmt = statements.Update rel sets conds in
-    line_step cat (inside cat h rows written names txns ss) (inside cat h rows (written + rows_put q) names txns (ss ++ q ∷ [])) (keys.Statement skeys.Update) (behind_update cat rel sets conds) refl (statement_fine cat k q fits hold)
-    (statement_rules_again cat h rows written names txns ss q (update_of cat (behind_update cat rel sets conds)) (update_again cat k rel sets conds (update_fits cat rel sets conds fits hold)) fits few room)
+    line_step cat (inside cat h rows written names txns ss)
+    (inside cat h rows (written + rows_put q) names txns (ss ++ q ∷ [])) (keys.Statement skeys.Update)
+    (behind_update cat rel sets conds) refl (statement_fine cat k q fits hold)
+    (statement_rules_again cat h rows written names txns ss q
+    (update_of cat (behind_update cat rel sets conds)) (update_again cat k rel sets conds
+    (update_fits cat rel sets conds fits hold)) fits few room)
 statement_step cat k h rows written names txns ss (statements.Delete rel conds) fits hold few room =
     let q : Stmt = statements.Delete rel conds in
-    line_step cat (inside cat h rows written names txns ss) (inside cat h rows (written + rows_put q) names txns (ss ++ q ∷ [])) (keys.Statement skeys.Delete) (behind_delete cat rel conds) refl (statement_fine cat k q fits hold)
-    (statement_rules_again cat h rows written names txns ss q (delete_of cat (behind_delete cat rel conds)) (delete_again cat k rel conds fits hold) fits few room)
+    line_step cat (inside cat h rows written names txns ss)
+    (inside cat h rows (written + rows_put q) names txns (ss ++ q ∷ [])) (keys.Statement skeys.Delete)
+    (behind_delete cat rel conds) refl (statement_fine cat k q fits hold)
+    (statement_rules_again cat h rows written names txns ss q (delete_of cat (behind_delete cat rel conds))
+    (delete_again cat k rel conds fits hold) fits few room)
 
-inside_same : (cat : Catalogue) (h : Header) (rows : List (RelNo × List Value)) (n m : ℕ) (names : List (List ℕ)) (txns : List Txn) (ss ts : List Stmt) → n ≡ m → ss ≡ ts → inside cat h rows n names txns ss ≡ inside cat h rows m names txns ts
+inside_same : (cat : Catalogue) (h : Header) (rows : List (RelNo × List Value)) (n m : ℕ)
+    (names : List (List ℕ)) (txns : List Txn) (ss ts : List Stmt) → n ≡ m → ss ≡ ts
+    → inside cat h rows n names txns ss ≡ inside cat h rows m names txns ts
 inside_same cat h rows n m names txns ss ts p q = ap (λ (x : ℕ). inside cat h rows x names txns ss) p ∙ ap (inside cat h rows m names txns) q
 
-statements_chain : (cat : Catalogue) → IsKnown cat → (h : Header) (rows : List (RelNo × List Value)) (names : List (List ℕ)) (txns : List Txn) (qs ss : List Stmt) (written : ℕ) → AllByRecursion (FitsStatement cat) qs → AllByRecursion HoldsValues qs → length ss + length qs ≤ 32 → written + sum_by rows_put qs ≤ MAX_ROWS
-    → Chain cat (inside cat h rows written names txns ss) (map line_bytes (map (statement_words cat) qs)) (inside cat h rows (written + sum_by rows_put qs) names txns (ss ++ qs))
-statements_chain cat k h rows names txns [] ss written fits hold few room = inside_same cat h rows written (written + 0) names txns ss (ss ++ []) (omega arith) (sym (append-nil ss))
+statements_chain : (cat : Catalogue) → IsKnown cat → (h : Header) (rows : List (RelNo × List Value))
+    (names : List (List ℕ)) (txns : List Txn) (qs ss : List Stmt) (written : ℕ)
+    → AllByRecursion (FitsStatement cat) qs → AllByRecursion HoldsValues qs → length ss + length qs ≤ 32
+    → written + sum_by rows_put qs ≤ MAX_ROWS
+    → Chain cat (inside cat h rows written names txns ss) (map line_bytes (map (statement_words cat) qs))
+    (inside cat h rows (written + sum_by rows_put qs) names txns (ss ++ qs))
+statements_chain cat k h rows names txns [] ss written fits hold few room =
+    inside_same cat h rows written (written + 0) names txns ss (ss ++ []) (omega arith)
+    (sym (append-nil ss))
 statements_chain cat k h rows names txns (q ∷ qs) ss written fits hold few room =
     let sum : sum_by rows_put (q ∷ qs) ≡ rows_put q + sum_by rows_put qs = sum_by-cons rows_put q qs in
     let len : length (ss ++ q ∷ []) ≡ length ss + 1 = length-append ss (q ∷ []) in
@@ -203,7 +259,9 @@ statements_chain cat k h rows names txns (q ∷ qs) ss written fits hold few roo
       inside cat h rows (written + rows_put q) names txns (ss ++ q ∷ []),
       statement_step cat k h rows written names txns ss q fits.0 hold.0 (omega (arith, few)) (omega (arith, room, sum)),
       subst (λ (x : State). Chain cat (inside cat h rows (written + rows_put q) names txns (ss ++ q ∷ [])) (map line_bytes (map (statement_words cat) qs)) x)
-          (inside_same cat h rows (written + rows_put q + sum_by rows_put qs) (written + sum_by rows_put (q ∷ qs)) names txns ((ss ++ q ∷ []) ++ qs) (ss ++ q ∷ qs) n (append_assoc ss (q ∷ []) qs))
+          (inside_same cat h rows (written + rows_put q + sum_by rows_put qs)
+          (written + sum_by rows_put (q ∷ qs)) names txns ((ss ++ q ∷ []) ++ qs) (ss ++ q ∷ qs) n
+          (append_assoc ss (q ∷ []) qs))
           (statements_chain cat k h rows names txns qs (ss ++ q ∷ []) (written + rows_put q) fits.1 hold.1 (omega (arith, few, len)) (omega (arith, room, n))),
     )
 
@@ -224,12 +282,18 @@ going_on places.Ended t = absurd cc
 abbrev header_for : Txn → Header
 header_for t = record { name = t.name; tm = t.tm }
 
-header_step : (cat : Catalogue) → IsKnown cat → (place : Place) (rows : List (RelNo × List Value)) (written : ℕ) (names : List (List ℕ)) (txns : List Txn) (t : Txn) → takes_txns place ≡ true → IsValidTxn cat t → NonePasses (bytes_eq t.name) names → length names < MAX_TXNS
-    → IsStep cat (outside cat place rows written names txns) (inside cat (header_for t) rows written (names ++ t.name ∷ []) txns []) (line_bytes (header_words t.name t.tm))
+header_step : (cat : Catalogue) → IsKnown cat → (place : Place) (rows : List (RelNo × List Value))
+    (written : ℕ) (names : List (List ℕ)) (txns : List Txn) (t : Txn) → takes_txns place ≡ true
+    → IsValidTxn cat t → NonePasses (bytes_eq t.name) names → length names < MAX_TXNS
+    → IsStep cat (outside cat place rows written names txns) (inside cat (header_for t) rows written
+    (names ++ t.name ∷ []) txns []) (line_bytes (header_words t.name t.tm))
 header_step cat k place rows written names txns t at h other room =
     let st : State = outside cat place rows written names txns in
     let to : State = inside cat (header_for t) rows written (names ++ t.name ∷ []) txns [] in
-    let a : (takes_txns place && (is_free (Plain t.name) && is_free (site_word (T t.tm)))) ≡ true = both_are (takes_txns place) (is_free (Plain t.name) && is_free (site_word (T t.tm))) at (both_are (is_free (Plain t.name)) (is_free (site_word (T t.tm))) (name_free t.name h.named) (site_free (T t.tm))) in
+    let a : (takes_txns place && (is_free (Plain t.name) && is_free (site_word (T t.tm)))) ≡ true =
+    both_are (takes_txns place) (is_free (Plain t.name) && is_free (site_word (T t.tm))) at
+    (both_are (is_free (Plain t.name)) (is_free (site_word (T t.tm))) (name_free t.name h.named)
+    (site_free (T t.tm))) in
     let n : name_of (Plain t.name) ≡ Ok t.name = ap (λ (b : Bool). known UnknownName (cond b (Some t.name) None)) h.named in
     let m = tm_again cat k t.tm h.fits.module_is_there in
     let d : not (is_some (position (bytes_eq t.name) names)) ≡ true = ap not (found_none (bytes_eq t.name) names other) in
@@ -242,49 +306,89 @@ header_step cat k place rows written names txns t at h other room =
     ∙ ap (λ (b : Bool). must (TooMany counts.Txn) b >>= λ _. Ok to) c)
 
 done_step : (cat : Catalogue) (h : Header) (rows : List (RelNo × List Value)) (written : ℕ) (names : List (List ℕ)) (txns : List Txn) (ss : List Stmt)
-    → IsStep cat (inside cat h rows written names txns ss) (outside cat places.Between rows written names (txns ++ record { name = h.name; tm = h.tm; statements = ss } ∷ [])) (line_bytes done_words)
+    → IsStep cat (inside cat h rows written names txns ss) (outside cat places.Between rows written names
+    (txns ++ record { name = h.name; tm = h.tm; statements = ss } ∷ [])) (line_bytes done_words)
 done_step cat h rows written names txns ss =
-    line_step cat (inside cat h rows written names txns ss) (outside cat places.Between rows written names (txns ++ record { name = h.name; tm = h.tm; statements = ss } ∷ [])) keys.Done [] refl (keyword_fine keys.Done, tt) refl
+    line_step cat (inside cat h rows written names txns ss) (outside cat places.Between rows written names
+    (txns ++ record { name = h.name; tm = h.tm; statements = ss } ∷ [])) keys.Done [] refl
+    (keyword_fine keys.Done, tt) refl
 
-txn_chain : (cat : Catalogue) → IsKnown cat → (place : Place) (rows : List (RelNo × List Value)) (written : ℕ) (names : List (List ℕ)) (txns : List Txn) (t : Txn) → takes_txns place ≡ true → IsValidTxn cat t → NonePasses (bytes_eq t.name) names → length names < MAX_TXNS → written + rows_put_by t ≤ MAX_ROWS
-    → Chain cat (outside cat place rows written names txns) (map line_bytes (txn_lines cat t)) (outside cat places.Between rows (written + rows_put_by t) (names ++ t.name ∷ []) (txns ++ t ∷ []))
+txn_chain : (cat : Catalogue) → IsKnown cat → (place : Place) (rows : List (RelNo × List Value))
+    (written : ℕ) (names : List (List ℕ)) (txns : List Txn) (t : Txn) → takes_txns place ≡ true
+    → IsValidTxn cat t → NonePasses (bytes_eq t.name) names → length names < MAX_TXNS
+    → written + rows_put_by t ≤ MAX_ROWS
+    → Chain cat (outside cat place rows written names txns) (map line_bytes (txn_lines cat t))
+    (outside cat places.Between rows (written + rows_put_by t) (names ++ t.name ∷ []) (txns ++ t ∷ []))
 txn_chain cat k place rows written names txns t at h other room few =
     let hd : Header = header_for t in
     let more : List (List ℕ) = names ++ t.name ∷ [] in
-    let body = statements_chain cat k hd rows more txns t.statements [] written (recursion_from_All (FitsStatement cat) t.statements h.fits.statements) (recursion_from_All HoldsValues t.statements h.values) (omega (arith, h.fits.few)) few in
+    let body = statements_chain cat k hd rows more txns t.statements [] written
+    (recursion_from_All (FitsStatement cat) t.statements h.fits.statements)
+    (recursion_from_All HoldsValues t.statements h.values) (omega (arith, h.fits.few)) few in
     let mid : State = inside cat hd rows (written + rows_put_by t) more txns t.statements in
     let to : State = outside cat places.Between rows (written + rows_put_by t) more (txns ++ t ∷ []) in
     let last : Chain cat mid (line_bytes done_words ∷ []) to = (to, done_step cat hd rows (written + rows_put_by t) more txns t.statements, refl) in
     let both : Chain cat (inside cat hd rows written more txns []) (map line_bytes (map (statement_words cat) t.statements) ++ line_bytes done_words ∷ []) to =
-    chain-append cat (inside cat hd rows written more txns []) mid to (map line_bytes (map (statement_words cat) t.statements)) (line_bytes done_words ∷ []) body last in (
+    chain-append cat (inside cat hd rows written more txns []) mid to
+    (map line_bytes (map (statement_words cat) t.statements)) (line_bytes done_words ∷ []) body last in (
       inside cat hd rows written more txns [],
       header_step cat k place rows written names txns t at h other room,
-      subst (λ (l : List (List ℕ)). Chain cat (inside cat hd rows written more txns []) l to) (sym (map-append line_bytes (map (statement_words cat) t.statements) (done_words ∷ []))) both,
+      subst (λ (l : List (List ℕ)). Chain cat (inside cat hd rows written more txns []) l to)
+          (sym (map-append line_bytes (map (statement_words cat) t.statements) (done_words ∷ []))) both,
     )
 
-pub record AreRead (cat : Catalogue) (st : State) (lines : List (List ℕ)) (rows : List (RelNo × List Value)) (written : ℕ) (names : List (List ℕ)) (txns : List Txn) : Type 0 where
+pub record AreRead (cat : Catalogue) (st : State) (lines : List (List ℕ)) (rows : List (RelNo × List Value))
+    (written : ℕ) (names : List (List ℕ)) (txns : List Txn) : Type 0 where
   pub place : Place
   pub goes_on : takes_txns place ≡ true
   pub chain : Chain cat st lines (outside cat place rows written names txns)
 
-outside_same : (cat : Catalogue) (place : Place) (rows : List (RelNo × List Value)) (n m : ℕ) (names ns : List (List ℕ)) (txns ts : List Txn) → n ≡ m → names ≡ ns → txns ≡ ts → outside cat place rows n names txns ≡ outside cat place rows m ns ts
-outside_same cat place rows n m names ns txns ts p q r = ap (λ (x : ℕ). outside cat place rows x names txns) p ∙ ap (λ (x : List (List ℕ)). outside cat place rows m x txns) q ∙ ap (outside cat place rows m ns) r
+outside_same : (cat : Catalogue) (place : Place) (rows : List (RelNo × List Value)) (n m : ℕ)
+    (names ns : List (List ℕ)) (txns ts : List Txn) → n ≡ m → names ≡ ns → txns ≡ ts
+    → outside cat place rows n names txns ≡ outside cat place rows m ns ts
+outside_same cat place rows n m names ns txns ts p q r =
+    ap (λ (x : ℕ). outside cat place rows x names txns) p
+    ∙ ap (λ (x : List (List ℕ)). outside cat place rows m x txns) q ∙ ap (outside cat place rows m ns) r
 
-pub txns_chain : (cat : Catalogue) → IsKnown cat → (rows : List (RelNo × List Value)) (ts : List Txn) (place : Place) (written : ℕ) (names : List (List ℕ)) (txns : List Txn) → takes_txns place ≡ true → AllByRecursion (IsValidTxn cat) ts → repeats (names ++ names_of ts) ≡ false → length names + length ts ≤ MAX_TXNS → written + sum_by rows_put_by ts ≤ MAX_ROWS
-    → AreRead cat (outside cat place rows written names txns) (map line_bytes (flat_map (txn_lines cat) ts)) rows (written + sum_by rows_put_by ts) (names ++ names_of ts) (txns ++ ts)
-txns_chain cat k rows [] place written names txns at h differ room few = record { place = place; goes_on = at; chain = outside_same cat place rows written (written + 0) names (names ++ []) txns (txns ++ []) (omega arith) (sym (append-nil names)) (sym (append-nil txns)) }
+pub txns_chain : (cat : Catalogue) → IsKnown cat → (rows : List (RelNo × List Value)) (ts : List Txn)
+    (place : Place) (written : ℕ) (names : List (List ℕ)) (txns : List Txn) → takes_txns place ≡ true
+    → AllByRecursion (IsValidTxn cat) ts → repeats (names ++ names_of ts) ≡ false
+    → length names + length ts ≤ MAX_TXNS → written + sum_by rows_put_by ts ≤ MAX_ROWS
+    → AreRead cat (outside cat place rows written names txns) (map line_bytes (flat_map (txn_lines cat) ts))
+    rows (written + sum_by rows_put_by ts) (names ++ names_of ts) (txns ++ ts)
+txns_chain cat k rows [] place written names txns at h differ room few = record {
+  place = place;
+  goes_on =
+      at;
+  chain = outside_same cat place rows written (written + 0) names (names ++ []) txns (txns ++ [])
+      (omega arith) (sym (append-nil names)) (sym (append-nil txns));
+}
 txns_chain cat k rows (t ∷ ts) place written names txns at h differ room few =
     let sum : sum_by rows_put_by (t ∷ ts) ≡ rows_put_by t + sum_by rows_put_by ts = sum_by-cons rows_put_by t ts in
     let len : length (names ++ t.name ∷ []) ≡ length names + 1 = length-append names (t.name ∷ []) in
     let n : written + rows_put_by t + sum_by rows_put_by ts ≡ written + sum_by rows_put_by (t ∷ ts) = omega (arith, sum) in
     let joined : (names ++ t.name ∷ []) ++ names_of ts ≡ names ++ names_of (t ∷ ts) = append_assoc names (t.name ∷ []) (names_of ts) in
-    let one = txn_chain cat k place rows written names txns t at h.0 (apart_before names t.name (names_of ts) differ) (omega (arith, room)) (omega (arith, few, sum)) in
-    let more = txns_chain cat k rows ts places.Between (written + rows_put_by t) (names ++ t.name ∷ []) (txns ++ t ∷ []) refl h.1 (subst (λ (l : List (List ℕ)). repeats l ≡ false) (sym joined) differ) (omega (arith, room, len)) (omega (arith, few, n)) in
+    let one = txn_chain cat k place rows written names txns t at h.0
+    (apart_before names t.name (names_of ts) differ) (omega (arith, room)) (omega (arith, few, sum)) in
+    let more = txns_chain cat k rows ts places.Between (written + rows_put_by t) (names ++ t.name ∷ [])
+    (txns ++ t ∷ []) refl h.1 (subst (λ (l : List (List ℕ)). repeats l ≡ false) (sym joined) differ)
+    (omega (arith, room, len)) (omega (arith, few, n)) in
     let start : State = outside cat place rows written names txns in
     let mid : State = outside cat places.Between rows (written + rows_put_by t) (names ++ t.name ∷ []) (txns ++ t ∷ []) in
-    let last : State = outside cat more.place rows (written + rows_put_by t + sum_by rows_put_by ts) ((names ++ t.name ∷ []) ++ names_of ts) ((txns ++ t ∷ []) ++ ts) in
+    let last : State = outside cat more.place rows (written + rows_put_by t + sum_by rows_put_by ts)
+    ((names ++ t.name ∷ []) ++ names_of ts) ((txns ++ t ∷ []) ++ ts) in
     let to : State = outside cat more.place rows (written + sum_by rows_put_by (t ∷ ts)) (names ++ names_of (t ∷ ts)) (txns ++ t ∷ ts) in
     let whole = chain-append cat start mid last (map line_bytes (txn_lines cat t)) (map line_bytes (flat_map (txn_lines cat) ts)) one more.chain in
     let ended : Chain cat start (map line_bytes (txn_lines cat t) ++ map line_bytes (flat_map (txn_lines cat) ts)) to =
-    subst (λ (x : State). Chain cat start (map line_bytes (txn_lines cat t) ++ map line_bytes (flat_map (txn_lines cat) ts)) x) (outside_same cat more.place rows (written + rows_put_by t + sum_by rows_put_by ts) (written + sum_by rows_put_by (t ∷ ts)) ((names ++ t.name ∷ []) ++ names_of ts) (names ++ names_of (t ∷ ts)) ((txns ++ t ∷ []) ++ ts) (txns ++ t ∷ ts) n joined (append_assoc txns (t ∷ []) ts)) whole in
-    record { place = more.place; goes_on = more.goes_on; chain = subst (λ (l : List (List ℕ)). Chain cat start l to) (sym (map-append line_bytes (txn_lines cat t) (flat_map (txn_lines cat) ts))) ended }
+    subst (λ (x : State). Chain cat start (map line_bytes (txn_lines cat t) ++ map line_bytes
+    (flat_map (txn_lines cat) ts)) x) (outside_same cat more.place rows
+    (written + rows_put_by t + sum_by rows_put_by ts) (written + sum_by rows_put_by (t ∷ ts))
+    ((names ++ t.name ∷ []) ++ names_of ts) (names ++ names_of (t ∷ ts)) ((txns ++ t ∷ []) ++ ts)
+    (txns ++ t ∷ ts) n joined (append_assoc txns (t ∷ []) ts)) whole in
+    record {
+      place = more.place;
+      goes_on = more.goes_on;
+      chain =
+          subst (λ (l : List (List ℕ)). Chain cat start l to)
+          (sym (map-append line_bytes (txn_lines cat t) (flat_map (txn_lines cat) ts))) ended;
+    }

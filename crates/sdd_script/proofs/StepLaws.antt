@@ -13,7 +13,8 @@ must_then rule true f y e = (refl, e)
 must_then rule false f y e = absurd cc
 
 -- a value that is there, and then what follows
-pub known_then : {A B : Type 0} (rule : WorkRule) (o : Option A) (f : A → Result B WorkRule) (y : B) → (known rule o >>= f) ≡ Ok y → (x : A) × (o ≡ Some x) × (f x ≡ Ok y)
+pub known_then : {A B : Type 0} (rule : WorkRule) (o : Option A) (f : A → Result B WorkRule) (y : B)
+    → (known rule o >>= f) ≡ Ok y → (x : A) × (o ≡ Some x) × (f x ≡ Ok y)
 known_then rule None f y e = absurd cc
 known_then rule (Some x) f y e = (x, refl, e)
 

@@ -41,8 +41,13 @@ use Rattle.sdd_script.proofs.QueryLaws.{IsStatement, update_limits, delete_limit
 middle_same : (a b c : Word) (xs ys : List Word) → b ≡ c → xs ≡ ys → a ∷ b ∷ xs ≡ a ∷ c ∷ ys
 middle_same a b c xs ys p q = cc
 
-update_words : (a b : Word) (c d e f : List Word) → a ≡ b → c ≡ d → e ≡ f → Plain (codes "update") ∷ a ∷ Plain (codes "set") ∷ (c ++ e) ≡ Plain (codes "update") ∷ b ∷ Plain (codes "set") ∷ (d ++ f)
-update_words a b c d e f p q r = ap (λ (w : Word). Plain (codes "update") ∷ w ∷ Plain (codes "set") ∷ (c ++ e)) p ∙ ap (λ (l : List Word). Plain (codes "update") ∷ b ∷ Plain (codes "set") ∷ (l ++ e)) q ∙ ap (λ (l : List Word). Plain (codes "update") ∷ b ∷ Plain (codes "set") ∷ (d ++ l)) r
+update_words : (a b : Word) (c d e f : List Word) → a ≡ b → c ≡ d → e ≡ f
+    → Plain (codes "update") ∷ a ∷ Plain (codes "set") ∷ (c ++ e) ≡ Plain (codes "update") ∷ b ∷ Plain
+    (codes "set") ∷ (d ++ f)
+update_words a b c d e f p q r =
+    ap (λ (w : Word). Plain (codes "update") ∷ w ∷ Plain (codes "set") ∷ (c ++ e)) p
+    ∙ ap (λ (l : List Word). Plain (codes "update") ∷ b ∷ Plain (codes "set") ∷ (l ++ e)) q
+    ∙ ap (λ (l : List Word). Plain (codes "update") ∷ b ∷ Plain (codes "set") ∷ (d ++ l)) r
 
 sets_some : (cat : Catalogue) (rel : RelNo) (sets : List Assign) → not_empty (sets_words cat rel sets) ≡ true → 1 ≤ length sets
 sets_some cat rel [] e = absurd cc
@@ -55,13 +60,19 @@ some_sets_words cat rel (Add column by ∷ sets) h = refl
 
 -- ---- update
 
-update_parts_take : (cat : Catalogue) (name : Word) (sets rest : List Word) (ss : List Setting) (cs : List Comparison) (s : Stmt) → not_empty sets ≡ true → settings sets ≡ Some ss → comparisons (codes "where") rest ≡ Some cs
+update_parts_take : (cat : Catalogue) (name : Word) (sets rest : List Word) (ss : List Setting)
+    (cs : List Comparison) (s : Stmt) → not_empty sets ≡ true → settings sets ≡ Some ss
+    → comparisons (codes "where") rest ≡ Some cs
     → update_of_parts cat name ss cs ≡ Ok s → IsStatement cat (codes "update") (name ∷ Plain (codes "set") ∷ (sets ++ rest)) s
 unfolding update_of_parts
 update_parts_take cat name sets rest ss cs s some set_form form e =
-    let a = known_then UnknownName (relation_of cat name) (λ rel. along (λ i s. assign_of cat rel s) 0 ss >>= λ assigns. conditions_of cat (Some rel ∷ []) cs >>= λ conds. Ok (Update (rel_no rel) assigns conds)) s e in
+    let a = known_then UnknownName (relation_of cat name)
+    (λ rel. along (λ i s. assign_of cat rel s) 0 ss >>=
+    λ assigns. conditions_of cat (Some rel ∷ []) cs >>= λ conds. Ok (Update (rel_no rel) assigns conds)) s
+    e in
     let rel : RelNo = rel_no a.0 in
-    let b = bind_ok (along (λ i s. assign_of cat a.0 s) 0 ss) (λ assigns. conditions_of cat (Some a.0 ∷ []) cs >>= λ conds. Ok (Update rel assigns conds)) s a.2 in
+    let b = bind_ok (along (λ i s. assign_of cat a.0 s) 0 ss)
+    (λ assigns. conditions_of cat (Some a.0 ∷ []) cs >>= λ conds. Ok (Update rel assigns conds)) s a.2 in
     let c = bind_ok (conditions_of cat (Some a.0 ∷ []) cs) (λ conds. Ok (Update rel b.0 conds)) s b.2 in
     let t = relation_takes cat name a.0 a.1 in
     let g = assigns_take cat rel sets ss b.0 set_form b.1 in
@@ -70,8 +81,12 @@ update_parts_take cat name sets rest ss cs s some set_form form e =
     subst (λ (x : Stmt). IsStatement cat (codes "update") (name ∷ Plain (codes "set") ∷ (sets ++ rest)) x) (ok_is (Update rel b.0 c.0) s c.2) (record {
       spelled = update_words name (relation_word cat rel) sets (sets_words cat rel b.0) rest (where_words cat (rel ∷ []) c.0) t.spelled g.spelled d.spelled;
       values = (All-from_recursion AssignsValue b.0 g.values, All-from_recursion HoldsValue c.0 d.values);
-      fits = λ before u lim. let l = update_limits before rel b.0 c.0 u lim in
-          (t.there, (some_sets, l.1), All-from_recursion (FitsAssign cat rel.0) b.0 g.fits, (l.0, All-from_recursion (FitsCondition cat (rel ∷ [])) c.0 d.fits));
+      fits = λ before u lim. let l = update_limits before rel b.0 c.0 u lim in (
+        t.there,
+        (some_sets, l.1),
+        All-from_recursion (FitsAssign cat rel.0) b.0 g.fits,
+        (l.0, All-from_recursion (FitsCondition cat (rel ∷ [])) c.0 d.fits),
+      );
     })
 
 pub update_takes : (cat : Catalogue) (words : List Word) (s : Stmt) → update_of cat words ≡ Ok s → IsStatement cat (codes "update") words s
@@ -81,11 +96,16 @@ update_takes cat (name ∷ key ∷ words) s e =
     let sets : List Word = up_to (codes "where") words in
     let rest : List Word = from_key (codes "where") words in
     let a = must_then BadLine (is_key (codes "set") key) (λ _. update_behind_set cat name sets rest) s e in
-    let b = must_then BadLine (is_free name && not_empty sets) (λ _. known BadLine (settings sets) >>= λ found. known BadLine (conditions_form rest) >>= λ comparisons. update_of_parts cat name found comparisons) s a.1 in
-    let c = known_then BadLine (settings sets) (λ found. known BadLine (conditions_form rest) >>= λ comparisons. update_of_parts cat name found comparisons) s b.1 in
+    let b = must_then BadLine (is_free name && not_empty sets) (λ _. known BadLine (settings sets) >>=
+    λ found. known BadLine (conditions_form rest) >>=
+    λ comparisons. update_of_parts cat name found comparisons) s a.1 in
+    let c = known_then BadLine (settings sets) (λ found. known BadLine (conditions_form rest) >>=
+    λ comparisons. update_of_parts cat name found comparisons) s b.1 in
     let d = known_then BadLine (conditions_form rest) (λ comparisons. update_of_parts cat name c.0 comparisons) s c.2 in
     let t = both_hold (is_free name) (not_empty sets) b.0 in
-    let whole : name ∷ key ∷ words ≡ name ∷ Plain (codes "set") ∷ (sets ++ rest) = middle_same name key (Plain (codes "set")) words (sets ++ rest) (key_is_that (codes "set") key a.0) (sym (joined_again (is_key (codes "where")) words)) in
+    let whole : name ∷ key ∷ words ≡ name ∷ Plain (codes "set") ∷ (sets ++ rest) =
+    middle_same name key (Plain (codes "set")) words (sets ++ rest) (key_is_that (codes "set") key a.0)
+    (sym (joined_again (is_key (codes "where")) words)) in
     subst (λ (l : List Word). IsStatement cat (codes "update") l s) (sym whole) (update_parts_take cat name sets rest c.0 d.0 s t.1 c.1 d.1 d.2)
 
 pub record FitsUpdate (cat : Catalogue) (rel : RelNo) (sets : List Assign) (conds : List Condition) : Type 0 where
@@ -100,7 +120,9 @@ pub record FitsUpdate (cat : Catalogue) (rel : RelNo) (sets : List Assign) (cond
 pub one_part : (cat : Catalogue) (rel : RelNo) → IsRelation cat rel.0 → AreParts cat (rel ∷ [])
 one_part cat rel h = record { there = All-from_recursion (λ (r : RelNo). IsRelation cat r.0) (rel ∷ []) (h, tt); few = omega arith }
 
-pub update_fits : (cat : Catalogue) (rel : RelNo) (sets : List Assign) (conds : List Condition) → FitsStatement cat (Update rel sets conds) → HoldsValues (Update rel sets conds) → FitsUpdate cat rel sets conds
+pub update_fits : (cat : Catalogue) (rel : RelNo) (sets : List Assign) (conds : List Condition)
+    → FitsStatement cat (Update rel sets conds) → HoldsValues (Update rel sets conds)
+    → FitsUpdate cat rel sets conds
 update_fits cat rel sets conds h v = record {
   parts = one_part cat rel h.0;
   relation = h.0;
@@ -120,14 +142,34 @@ update_parts_again cat k rel sets conds h =
     let c = conditions_again cat k (rel ∷ []) h.parts conds h.conds_fit h.conds_hold in
     rw (a, b, c) refl
 
-sets_not_where : (cat : Catalogue) → IsKnown cat → (rel : RelNo) → AreParts cat (rel ∷ []) → (sets : List Assign) → AllByRecursion (FitsAssign cat rel.0) sets → AllByRecursion AssignsValue sets → NonePasses (is_key (codes "where")) (sets_words cat rel sets)
+sets_not_where : (cat : Catalogue) → IsKnown cat → (rel : RelNo) → AreParts cat (rel ∷ [])
+    → (sets : List Assign) → AllByRecursion (FitsAssign cat rel.0) sets → AllByRecursion AssignsValue sets
+    → NonePasses (is_key (codes "where")) (sets_words cat rel sets)
 sets_not_where cat k rel p [] h v = tt
 sets_not_where cat k rel p (To column value ∷ sets) h v =
-    let w = column_word_is cat k (rel ∷ []) (own_column column) p ((omega arith, omega arith), h.0.0) in
-    (free_no_key (codes "where") (column_word cat (rel ∷ []) (own_column column)) refl w.free, (refl, (free_no_key (codes "where") (value_word value) refl (value_free value v.0), sets_not_where cat k rel p sets h.1 v.1)))
+    let w = column_word_is cat k (rel ∷ []) (own_column column) p ((omega arith, omega arith), h.0.0) in (
+      free_no_key (codes "where") (column_word cat (rel ∷ []) (own_column column)) refl w.free,
+      (
+        refl,
+        (
+          free_no_key (codes "where") (value_word value) refl (value_free value v.0),
+          sets_not_where cat
+              k rel p sets h.1 v.1,
+        ),
+      ),
+    )
 sets_not_where cat k rel p (Add column by ∷ sets) h v =
-    let w = column_word_is cat k (rel ∷ []) (own_column column) p ((omega arith, omega arith), h.0.0) in
-    (free_no_key (codes "where") (column_word cat (rel ∷ []) (own_column column)) refl w.free, (refl, (free_no_key (codes "where") (Plain (signed_decimal by)) refl (number_free by v.0), sets_not_where cat k rel p sets h.1 v.1)))
+    let w = column_word_is cat k (rel ∷ []) (own_column column) p ((omega arith, omega arith), h.0.0) in (
+      free_no_key (codes "where") (column_word cat (rel ∷ []) (own_column column)) refl w.free,
+      (
+        refl,
+        (
+          free_no_key (codes "where") (Plain (signed_decimal by)) refl
+              (number_free by v.0),
+          sets_not_where cat k rel p sets h.1 v.1,
+        ),
+      ),
+    )
 
 pub update_again : (cat : Catalogue) → IsKnown cat → (rel : RelNo) (sets : List Assign) (conds : List Condition) → FitsUpdate cat rel sets conds
     → update_of cat (relation_word cat rel ∷ Plain (codes "set") ∷ (sets_words cat rel sets ++ where_words cat (rel ∷ []) conds)) ≡ Ok (Update rel sets conds)
@@ -138,13 +180,20 @@ update_again cat k rel sets conds h =
     let none = sets_not_where cat k rel h.parts sets h.sets_fit h.sets_hold in
     let b : up_to (codes "where") (front ++ rest) ≡ front = before_where cat (rel ∷ []) front conds none in
     let c : from_key (codes "where") (front ++ rest) ≡ rest = from_where cat (rel ∷ []) front conds none in
-    let d : (is_free name && not_empty front) ≡ true = both_are (is_free name) (not_empty front) (name_free (name_of_relation cat rel.0) (k.relation_name rel.0 h.relation)) (some_sets_words cat rel sets h.some_sets) in
+    let d : (is_free name && not_empty front) ≡ true =
+    both_are (is_free name) (not_empty front) (name_free (name_of_relation cat rel.0)
+    (k.relation_name rel.0 h.relation)) (some_sets_words cat rel sets h.some_sets) in
     let s : settings front ≡ Some (map (setting_for cat rel) sets) = assigning.form_again cat k rel h.parts sets h.sets_fit h.sets_hold in
-    let f : conditions_form rest ≡ Some (map (comparison_for cat (rel ∷ [])) conds) = form_again cat k (rel ∷ []) h.parts (codes "where") conds h.conds_fit h.conds_hold in
+    let f : conditions_form rest ≡ Some (map (comparison_for cat (rel ∷ [])) conds) =
+    form_again cat k (rel ∷ []) h.parts (codes "where") conds h.conds_fit h.conds_hold in
     ap (λ (l : List Word). update_behind_set cat name l (from_key (codes "where") (front ++ rest))) b
     ∙ ap (λ (l : List Word). update_behind_set cat name front l) c
-    ∙ ap (λ (t : Bool). must BadLine t >>= λ _. known BadLine (settings front) >>= λ found. known BadLine (conditions_form rest) >>= λ comparisons. update_of_parts cat name found comparisons) d
-    ∙ ap (λ (o : Option (List Setting)). known BadLine o >>= λ found. known BadLine (conditions_form rest) >>= λ comparisons. update_of_parts cat name found comparisons) s
+    ∙ ap (λ (t : Bool). must BadLine t >>= λ _. known BadLine (settings front) >>=
+    λ found. known BadLine (conditions_form rest) >>=
+    λ comparisons. update_of_parts cat name found comparisons) d
+    ∙ ap (λ (o : Option (List Setting)). known BadLine o >>=
+    λ found. known BadLine (conditions_form rest) >>=
+    λ comparisons. update_of_parts cat name found comparisons) s
     ∙ ap (λ (o : Option (List Comparison)). known BadLine o >>= λ comparisons. update_of_parts cat name (map (setting_for cat rel) sets) comparisons) f
     ∙ update_parts_again cat k rel sets conds h
 
@@ -153,20 +202,27 @@ update_again cat k rel sets conds h =
 pub delete_takes : (cat : Catalogue) (words : List Word) (s : Stmt) → delete_of cat words ≡ Ok s → IsStatement cat (codes "delete") words s
 delete_takes cat [] s e = absurd cc
 delete_takes cat (name ∷ rest) s e =
-    let a = must_then BadLine (is_free name) (λ _. known BadLine (conditions_form rest) >>= λ comparisons. known UnknownName (relation_of cat name) >>= λ rel. conditions_of cat (Some rel ∷ []) comparisons >>= λ conds. Ok (Delete (rel_no rel) conds)) s e in
-    let b = known_then BadLine (conditions_form rest) (λ comparisons. known UnknownName (relation_of cat name) >>= λ rel. conditions_of cat (Some rel ∷ []) comparisons >>= λ conds. Ok (Delete (rel_no rel) conds)) s a.1 in
+    let a = must_then BadLine (is_free name) (λ _. known BadLine (conditions_form rest) >>=
+    λ comparisons. known UnknownName (relation_of cat name) >>=
+    λ rel. conditions_of cat (Some rel ∷ []) comparisons >>=
+    λ conds. Ok (Delete (rel_no rel) conds)) s e in
+    let b = known_then BadLine (conditions_form rest) (λ comparisons. known UnknownName
+    (relation_of cat name) >>= λ rel. conditions_of cat (Some rel ∷ []) comparisons >>=
+    λ conds. Ok (Delete (rel_no rel) conds)) s a.1 in
     let c = known_then UnknownName (relation_of cat name) (λ rel. conditions_of cat (Some rel ∷ []) b.0 >>= λ conds. Ok (Delete (rel_no rel) conds)) s b.2 in
     let rel : RelNo = rel_no c.0 in
     let d = bind_ok (conditions_of cat (Some c.0 ∷ []) b.0) (λ conds. Ok (Delete rel conds)) s c.2 in
     let t = relation_takes cat name c.0 c.1 in
     let f = conditions_take cat (rel ∷ []) (codes "where") rest b.0 d.0 b.1 d.1 in
     subst (λ (x : Stmt). IsStatement cat (codes "delete") (name ∷ rest) x) (ok_is (Delete rel d.0) s d.2) (record {
-      spelled = ap (λ (l : List Word). Plain (codes "delete") ∷ l) (two_same name (relation_word cat rel) rest (where_words cat (rel ∷ []) d.0) t.spelled f.spelled);
+      spelled = ap (λ (l : List Word). Plain (codes "delete") ∷ l)
+          (two_same name (relation_word cat rel) rest (where_words cat (rel ∷ []) d.0) t.spelled f.spelled);
       values = All-from_recursion HoldsValue d.0 f.values;
       fits = λ before u lim. (t.there, (delete_limits before rel d.0 u lim, All-from_recursion (FitsCondition cat (rel ∷ [])) d.0 f.fits));
     })
 
-pub delete_again : (cat : Catalogue) → IsKnown cat → (rel : RelNo) (conds : List Condition) → FitsStatement cat (Delete rel conds) → HoldsValues (Delete rel conds)
+pub delete_again : (cat : Catalogue) → IsKnown cat → (rel : RelNo) (conds : List Condition)
+    → FitsStatement cat (Delete rel conds) → HoldsValues (Delete rel conds)
     → delete_of cat (relation_word cat rel ∷ where_words cat (rel ∷ []) conds) ≡ Ok (Delete rel conds)
 delete_again cat k rel conds h v =
     let p = one_part cat rel h.0 in
@@ -177,6 +233,10 @@ delete_again cat k rel conds h v =
     let b : conditions_form rest ≡ Some (map (comparison_for cat (rel ∷ [])) conds) = form_again cat k (rel ∷ []) p (codes "where") conds fits hold in
     let c = relation_again cat k rel.0 h.0 in
     let d = conditions_again cat k (rel ∷ []) p conds fits hold in
-    ap (λ (t : Bool). must BadLine t >>= λ _. known BadLine (conditions_form rest) >>= λ comparisons. known UnknownName (relation_of cat (relation_word cat rel)) >>= λ rel. conditions_of cat (Some rel ∷ []) comparisons >>= λ conds. Ok (Delete (rel_no rel) conds)) a
-    ∙ ap (λ (o : Option (List Comparison)). known BadLine o >>= λ comparisons. known UnknownName (relation_of cat (relation_word cat rel)) >>= λ rel. conditions_of cat (Some rel ∷ []) comparisons >>= λ conds. Ok (Delete (rel_no rel) conds)) b
+    ap (λ (t : Bool). must BadLine t >>= λ _. known BadLine (conditions_form rest) >>=
+    λ comparisons. known UnknownName (relation_of cat (relation_word cat rel)) >>=
+    λ rel. conditions_of cat (Some rel ∷ []) comparisons >>= λ conds. Ok (Delete (rel_no rel) conds)) a
+    ∙ ap (λ (o : Option (List Comparison)). known BadLine o >>=
+    λ comparisons. known UnknownName (relation_of cat (relation_word cat rel)) >>=
+    λ rel. conditions_of cat (Some rel ∷ []) comparisons >>= λ conds. Ok (Delete (rel_no rel) conds)) b
     ∙ rw (c, d) refl

@@ -37,7 +37,8 @@ use Rattle.sdd_script.proofs.WordLooks.{before_is, behind_is, decimal_is_whole}
 -- a catalogue in which each number is found by its name, and each name is one
 pub record IsKnown (cat : Catalogue) : Type 0 where
   pub relation : (rel : ℕ) → IsRelation cat rel → relation_named cat (name_of_relation cat rel) ≡ Some rel
-  pub column : (rel column : ℕ) → IsRelation cat rel → IsColumn cat rel column → column_named (columns_of cat rel) (name_of_column (columns_of cat rel) column) ≡ Some (column - 1)
+  pub column : (rel column : ℕ) → IsRelation cat rel → IsColumn cat rel column
+      → column_named (columns_of cat rel) (name_of_column (columns_of cat rel) column) ≡ Some (column - 1)
   pub relation_name : (rel : ℕ) → IsRelation cat rel → is_name (name_of_relation cat rel) ≡ true
   pub column_name : (rel column : ℕ) → IsRelation cat rel → IsColumn cat rel column → is_name (name_of_column (columns_of cat rel) column) ≡ true
   pub some_column : (rel : ℕ) → IsRelation cat rel → 1 ≤ length (columns_of cat rel)
@@ -51,8 +52,15 @@ pub record IsFound (p : ℕ → Bool) (a n found : ℕ) : Type 0 where
   pub from : a ≤ found
   pub to : found < a + n
 
-found_step : (p : ℕ → Bool) (a n found : ℕ) (b : Bool) → p a ≡ b → (find p (range_with_len (a + 1) n) ≡ Some found → IsFound p (a + 1) n found) → cond b (Some a) (find p (range_with_len (a + 1) n)) ≡ Some found → IsFound p a (suc n) found
-found_step p a n found true e ih h = let same = some_is a found h in record { passes = subst (λ (x : ℕ). p x ≡ true) same e; from = omega (arith, same); to = omega (arith, same) }
+found_step : (p : ℕ → Bool) (a n found : ℕ) (b : Bool) → p a ≡ b
+    → (find p (range_with_len (a + 1) n) ≡ Some found → IsFound p (a + 1) n found)
+    → cond b (Some a) (find p (range_with_len (a + 1) n)) ≡ Some found → IsFound p a (suc n) found
+found_step p a n found true e ih h = let same = some_is a found h in record {
+  passes =
+      subst (λ (x : ℕ). p x ≡ true) same e;
+  from = omega (arith, same);
+  to = omega (arith, same);
+}
 found_step p a n found false e ih h = let r = ih h in record { passes = r.passes; from = omega (arith, r.from); to = omega (arith, r.to) }
 
 found_in_range : (p : ℕ → Bool) (a n found : ℕ) → find p (range_with_len a n) ≡ Some found → IsFound p a n found
@@ -82,7 +90,8 @@ pub record IsColumnAt (columns : List Column) (part : ℕ) (name : List ℕ) (f 
   pub named : name_of_column columns (place + 1) ≡ name
   pub kind : kind_of_place columns place ≡ Some f.kind
 
-name_at : (columns : List Column) (i : ℕ) (d : Column) → i < length columns → option_map_or (λ (c : Column). c.name) (slice_get columns i) [] ≡ (get_or columns i d).name
+name_at : (columns : List Column) (i : ℕ) (d : Column) → i < length columns
+    → option_map_or (λ (c : Column). c.name) (slice_get columns i) [] ≡ (get_or columns i d).name
 name_at columns i d lt = let e = slice_get-get_or columns i d lt in rw e refl
 
 kind_at_place : (columns : List Column) (i : ℕ) (d : Column) → i < length columns → kind_of_place columns i ≡ Some (get_or columns i d).kind
@@ -90,7 +99,9 @@ kind_at_place columns i d lt = let e = slice_get-get_or columns i d lt in rw e r
 
 pub column_takes : (columns : List Column) (part : ℕ) (name : List ℕ) (f : Found) → column_in columns part name ≡ Ok f → IsColumnAt columns part name f
 column_takes columns part name f e =
-    let a = known_then UnknownName (column_named columns name) (λ place. known UnknownName (kind_of_place columns place) >>= λ kind. Ok (record { at = record { part = part; column = place + 1 }; kind = kind })) f e in
+    let a = known_then UnknownName (column_named columns name)
+    (λ place. known UnknownName (kind_of_place columns place) >>=
+    λ kind. Ok (record { at = record { part = part; column = place + 1 }; kind = kind })) f e in
     let b = known_then UnknownName (kind_of_place columns a.0) (λ kind. Ok (record { at = record { part = part; column = a.0 + 1 }; kind = kind })) f a.2 in
     let d : Column = record { name = []; kind = b.0 } in
     let p = position-Some (λ (c : Column). bytes_eq c.name name) columns a.0 d a.1 in
@@ -101,7 +112,8 @@ column_takes columns part name f e =
       place = a.0;
       within = p.0;
       at = refl;
-      named = ap (λ (i : ℕ). option_map_or (λ (c : Column). c.name) (slice_get columns i) []) n ∙ name_at columns a.0 d p.0 ∙ (bytes_eq-Decides (get_or columns a.0 d).name name).0 p.1;
+      named = ap (λ (i : ℕ). option_map_or (λ (c : Column). c.name) (slice_get columns i) []) n
+          ∙ name_at columns a.0 d p.0 ∙ (bytes_eq-Decides (get_or columns a.0 d).name name).0 p.1;
       kind = b.1;
     })
 
@@ -143,7 +155,9 @@ use_in_is None part u e = absurd cc
 use_in_is (Some None) part u e = absurd cc
 use_in_is (Some (Some rel)) part u e = use_pair rel part u e
 
-use_at_if : (parts : Parts) (part : ℕ) (u : ℕ × ℕ) (a b : Bool) → eqb part 0 ≡ a → ltb part (2 ^ 32) ≡ b → cond (a || not b) None (use_in (slice_get parts (part - 1)) part) ≡ Some u → IsUseAt parts (pos part) u
+use_at_if : (parts : Parts) (part : ℕ) (u : ℕ × ℕ) (a b : Bool) → eqb part 0 ≡ a → ltb part (2 ^ 32) ≡ b
+    → cond (a || not b) None (use_in (slice_get parts (part - 1)) part) ≡ Some u
+    → IsUseAt parts (pos part) u
 use_at_if parts part u true b p q e = absurd cc
 use_at_if parts part u false false p q e = absurd cc
 use_at_if parts zero u false true p q e = absurd cc
@@ -151,13 +165,21 @@ use_at_if parts (suc part) u false true p q e =
     let i = use_in_is (slice_get parts (suc part - 1)) (suc part) u e in
     let same : u.0 ≡ suc part = i.0 in
     let small : suc part < 2 ^ 32 = ltb-true (suc part) (2 ^ 32) q in
-    record { is = ap (λ (n : ℕ). pos n) (sym same); some = omega (arith, same); small = omega (arith, same, small); there = subst (λ (n : ℕ). slice_get parts (n - 1) ≡ Some (Some u.1)) (sym same) i.1 }
+    record {
+      is = ap (λ (n : ℕ). pos n) (sym same);
+      some = omega (arith, same);
+      small =
+          omega (arith, same, small);
+      there = subst (λ (n : ℕ). slice_get parts (n - 1) ≡ Some (Some u.1))
+          (sym same) i.1;
+    }
 
 pub use_takes : (parts : Parts) (z : ℤ) (u : ℕ × ℕ) → use_at parts z ≡ Some u → IsUseAt parts z u
 use_takes parts (pos part) u e = use_at_if parts part u (eqb part 0) (ltb part (2 ^ 32)) refl refl e
 use_takes parts (negsuc n) u e = absurd cc
 
-use_of_number : (cat : Catalogue) (parts : Parts) (bytes : List ℕ) (f : Found) (u : ℕ × ℕ) (o : Option ℤ) → number_of (before_point bytes) ≡ o → bytes ≡ before_point bytes ++ 46 ∷ behind_point bytes
+use_of_number : (cat : Catalogue) (parts : Parts) (bytes : List ℕ) (f : Found) (u : ℕ × ℕ) (o : Option ℤ)
+    → number_of (before_point bytes) ≡ o → bytes ≡ before_point bytes ++ 46 ∷ behind_point bytes
     → use_numbered parts o ≡ Some u → column_in (columns_of cat u.1) u.0 (behind_point bytes) ≡ Ok f → IsUse cat parts (Plain bytes) f
 use_of_number cat parts bytes f u None n cut e c = absurd cc
 use_of_number cat parts bytes f u (Some z) n cut e c =
@@ -176,15 +198,21 @@ use_of_number cat parts bytes f u (Some z) n cut e c =
       column_from = omega (arith, column);
       column_to = omega (arith, column, col.within);
       kind = subst (λ (k : ℕ). kind_of_place (columns_of cat u.1) k ≡ Some f.kind) (sym back) col.kind;
-      spelled = ap (λ (l : List ℕ). Plain l) (cut ∙ ap (λ (l : List ℕ). l ++ 46 ∷ behind_point bytes) (digits ∙ ap decimal (sym part)) ∙ ap (λ (l : List ℕ). decimal f.at.part ++ 46 ∷ l) (sym col.named ∙ ap (name_of_column (columns_of cat u.1)) (sym column)));
+      spelled = ap (λ (l : List ℕ). Plain l) (cut ∙ ap (λ (l : List ℕ). l ++ 46 ∷ behind_point bytes)
+          (digits ∙ ap decimal (sym part)) ∙ ap (λ (l : List ℕ). decimal f.at.part ++ 46 ∷ l) (sym col.named
+          ∙ ap (name_of_column (columns_of cat u.1)) (sym column)));
     }
 
-pub use_of_takes : (cat : Catalogue) (parts : Parts) (w : Word) (f : Found) → looks_like_column w ≡ true → column_of_use cat parts w ≡ Ok f → IsUse cat parts w f
+pub use_of_takes : (cat : Catalogue) (parts : Parts) (w : Word) (f : Found) → looks_like_column w ≡ true
+    → column_of_use cat parts w ≡ Ok f → IsUse cat parts w f
 use_of_takes cat parts (Quoted text) f look e = absurd cc
 use_of_takes cat parts (Plain bytes) f look e =
-    let a = must_then BadNumber (is_whole (before_point bytes)) (λ _. known UnknownName (use_numbered parts (number_of (before_point bytes))) >>= λ u. column_in (columns_of cat u.1) u.0 (behind_point bytes)) f e in
+    let a = must_then BadNumber (is_whole (before_point bytes))
+    (λ _. known UnknownName (use_numbered parts (number_of (before_point bytes))) >>=
+    λ u. column_in (columns_of cat u.1) u.0 (behind_point bytes)) f e in
     let b = known_then UnknownName (use_numbered parts (number_of (before_point bytes))) (λ u. column_in (columns_of cat u.1) u.0 (behind_point bytes)) f a.1 in
-    use_of_number cat parts bytes f b.0 (number_of (before_point bytes)) refl (point_cut bytes (both_hold (has_point bytes) (not (has_point (behind_point bytes))) look).0) b.1 b.2
+    use_of_number cat parts bytes f b.0 (number_of (before_point bytes)) refl
+    (point_cut bytes (both_hold (has_point bytes) (not (has_point (behind_point bytes))) look).0) b.1 b.2
 
 -- what is spelled is read
 
@@ -195,7 +223,8 @@ pub record HasUse (cat : Catalogue) (parts : Parts) (rel : ℕ) (r : Ref) : Type
   pub relation : IsRelation cat rel
   pub column : IsColumn cat rel r.column
 
-use_at_again : (parts : Parts) (part rel : ℕ) → 1 ≤ part → part < 2 ^ 32 → slice_get parts (part - 1) ≡ Some (Some rel) → use_at parts (pos part) ≡ Some (part, rel)
+use_at_again : (parts : Parts) (part rel : ℕ) → 1 ≤ part → part < 2 ^ 32 → slice_get parts (part - 1) ≡ Some
+    (Some rel) → use_at parts (pos part) ≡ Some (part, rel)
 use_at_again parts part rel some small there =
     let a : eqb part 0 ≡ false = ne_eqb part 0 (λ e. omega arith) in
     let b : ltb part (2 ^ 32) ≡ true = lt-ltb part (2 ^ 32) small in
@@ -208,7 +237,8 @@ kind_is cat rel column h =
     kind_at_place (columns_of cat rel) (column - 1) d lt ∙ ap (λ (l : List Column). Some (get_or l (column - 1) d).kind) (columns_are cat rel)
 
 pub use_again : (cat : Catalogue) → IsKnown cat → (parts : Parts) (rel : ℕ) (r : Ref) → HasUse cat parts rel r
-    → column_of_use cat parts (Plain (decimal r.part ++ 46 ∷ name_of_column (columns_of cat rel) r.column)) ≡ Ok (record { at = r; kind = kind_at cat rel r.column })
+    → column_of_use cat parts (Plain (decimal r.part ++ 46 ∷ name_of_column
+    (columns_of cat rel) r.column)) ≡ Ok (record { at = r; kind = kind_at cat rel r.column })
 use_again cat k parts rel r h =
     let name : List ℕ = name_of_column (columns_of cat rel) r.column in
     let lt : r.part < 2 ^ 63 = omega (arith, h.small) in

@@ -87,7 +87,12 @@ value_takes k (Quoted text) v e =
     let a = known_then BadLine (text_in text) (λ t. must WrongKind (is_of_kind (Some k) kinds.Text) >>= λ _. Ok (values.Text t)) v e in
     let t = text_takes text a.0 a.1 in
     let b = must_then WrongKind (is_of_kind (Some k) kinds.Text) (λ _. Ok (values.Text a.0)) v a.2 in
-    rw (← ok_is (values.Text a.0) v b.1) (record { spelled = ap (λ (l : List ℕ). Quoted l) t.1; same = kind_text k b.0; fits = (subst (λ (l : List ℕ). is_text l ≡ true) t.1 t.0) })
+    rw (← ok_is (values.Text a.0) v b.1) (record {
+      spelled = ap (λ (l : List ℕ). Quoted l) t.1;
+      same =
+          kind_text k b.0;
+      fits = (subst (λ (l : List ℕ). is_text l ≡ true) t.1 t.0);
+    })
 
 pub value_again : (v : Value) → IsValue v → value_of (Some (kind_of v)) (value_word v) ≡ Ok v
 value_again (values.Int z) h = let e = number_again z h in rw e refl
@@ -98,14 +103,16 @@ value_again (values.Text text) h = rw h refl
 abbrev at_columns : List Column → ℕ → Word → Result Value WorkRule
 at_columns columns i w = value_of (kind_of_place columns i) w
 
-shifted : (c : Column) (cs : List Column) (i : ℕ) (ws : List Word) (vs : List Value) → Answers (at_columns (c ∷ cs)) (i + 1) ws vs → Answers (at_columns cs) i ws vs
+shifted : (c : Column) (cs : List Column) (i : ℕ) (ws : List Word) (vs : List Value)
+    → Answers (at_columns (c ∷ cs)) (i + 1) ws vs → Answers (at_columns cs) i ws vs
 shifted c cs i [] [] h = tt
 shifted c cs i [] (v ∷ vs) h = absurd h
 shifted c cs i (w ∷ ws) [] h = absurd h
 shifted c cs i (w ∷ ws) (v ∷ vs) h =
     (subst (λ (n : ℕ). at_columns (c ∷ cs) n w ≡ Ok v) (add-one i) h.0, shifted c cs (i + 1) ws vs h.1)
 
-back : (c : Column) (cs : List Column) (i : ℕ) (ws : List Word) (vs : List Value) → Answers (at_columns cs) i ws vs → Answers (at_columns (c ∷ cs)) (i + 1) ws vs
+back : (c : Column) (cs : List Column) (i : ℕ) (ws : List Word) (vs : List Value)
+    → Answers (at_columns cs) i ws vs → Answers (at_columns (c ∷ cs)) (i + 1) ws vs
 back c cs i [] [] h = tt
 back c cs i [] (v ∷ vs) h = absurd h
 back c cs i (w ∷ ws) [] h = absurd h
@@ -120,7 +127,8 @@ pub record IsRow (columns : List Column) (ws : List Word) (vs : List Value) : Ty
   pub same : map kind_of vs ≡ kinds_of columns
   pub fits : AllByRecursion IsValue vs
 
-row_of_answers : (columns : List Column) (ws : List Word) (vs : List Value) → Answers (at_columns columns) 0 ws vs → length ws ≡ length columns → IsRow columns ws vs
+row_of_answers : (columns : List Column) (ws : List Word) (vs : List Value)
+    → Answers (at_columns columns) 0 ws vs → length ws ≡ length columns → IsRow columns ws vs
 row_of_answers [] [] [] h len = record { spelled = refl; same = refl; fits = tt }
 row_of_answers [] [] (v ∷ vs) h len = absurd h
 row_of_answers [] (w ∷ ws) vs h len = absurd (omega arith)
@@ -141,7 +149,9 @@ values_take columns ws vs e len = row_of_answers columns ws vs (along_ok (at_col
 heads : (k l : Kind) (ks ls : List Kind) → k ∷ ks ≡ l ∷ ls → (k ≡ l) × (ks ≡ ls)
 heads k l ks ls e = (cc, cc)
 
-answers_of_row : (columns : List Column) (vs : List Value) → map kind_of vs ≡ kinds_of columns → AllByRecursion IsValue vs → Answers (at_columns columns) 0 (map value_word vs) vs × (length (map value_word vs) ≡ length columns)
+answers_of_row : (columns : List Column) (vs : List Value) → map kind_of vs ≡ kinds_of columns
+    → AllByRecursion IsValue vs → Answers (at_columns columns) 0 (map value_word vs) vs
+    × (length (map value_word vs) ≡ length columns)
 answers_of_row [] [] e h = (tt, refl)
 answers_of_row [] (v ∷ vs) e h = absurd cc
 answers_of_row (c ∷ cs) [] e h = absurd cc
@@ -150,8 +160,10 @@ answers_of_row (c ∷ cs) (v ∷ vs) e h =
     let more = answers_of_row cs vs k.1 h.1 in
     ((subst (λ (x : Kind). value_of (Some x) (value_word v) ≡ Ok v) k.0 (value_again v h.0), back c cs 0 (map value_word vs) vs more.0), ap suc more.1)
 
-pub values_again : (columns : List Column) (vs : List Value) → map kind_of vs ≡ kinds_of columns → AllByRecursion IsValue vs → values_of columns (map value_word vs) ≡ Ok vs
+pub values_again : (columns : List Column) (vs : List Value) → map kind_of vs ≡ kinds_of columns
+    → AllByRecursion IsValue vs → values_of columns (map value_word vs) ≡ Ok vs
 values_again columns vs e h = ok_along (at_columns columns) 0 (map value_word vs) vs (answers_of_row columns vs e h).0
 
-pub values_length : (columns : List Column) (vs : List Value) → map kind_of vs ≡ kinds_of columns → AllByRecursion IsValue vs → length (map value_word vs) ≡ length columns
+pub values_length : (columns : List Column) (vs : List Value) → map kind_of vs ≡ kinds_of columns
+    → AllByRecursion IsValue vs → length (map value_word vs) ≡ length columns
 values_length columns vs e h = (answers_of_row columns vs e h).1

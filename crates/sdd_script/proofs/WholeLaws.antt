@@ -68,11 +68,13 @@ scheduled place rows written txns lists classes submitted events = state_of plac
 no_txn : Txn
 no_txn = record { name = []; tm = record { 0 = 0 }; statements = [] }
 
-pub submitted_name : (cat : Catalogue) (txns : List Txn) (txn : ℕ) → All (IsValidTxn cat) txns → IsFrom1To (length txns) txn → is_name (name_of_txn txns txn) ≡ true
+pub submitted_name : (cat : Catalogue) (txns : List Txn) (txn : ℕ) → All (IsValidTxn cat) txns
+    → IsFrom1To (length txns) txn → is_name (name_of_txn txns txn) ≡ true
 submitted_name cat txns txn valid h =
     let lt : txn - 1 < length txns = omega (arith, h.0, h.1) in
     let named : is_name (get_or txns (txn - 1) no_txn).name ≡ true = (All-get_or (IsValidTxn cat) txns (txn - 1) no_txn lt valid).named in
-    let same : name_of_txn txns txn ≡ (get_or txns (txn - 1) no_txn).name = name_at_number txns txn ∙ get_or-map (λ (t : Txn). t.name) txns (txn - 1) no_txn [] lt in
+    let same : name_of_txn txns txn ≡ (get_or txns (txn - 1) no_txn).name =
+    name_at_number txns txn ∙ get_or-map (λ (t : Txn). t.name) txns (txn - 1) no_txn [] lt in
     subst (λ (l : List ℕ). is_name l ≡ true) (sym same) named
 
 number_again : (n : ℕ) → 1 ≤ n → n - 1 + 1 ≡ n
@@ -81,17 +83,23 @@ number_again n h = omega (arith, h)
 abbrev number_of : ℕ → TxnNo
 number_of n = record { 0 = n }
 
-submit_again : (cat : Catalogue) (txns : List Txn) (txn : TxnNo) → All (IsValidTxn cat) txns → repeats (names_of txns) ≡ false → IsFrom1To (length txns) txn.0 → submit_of (names_of txns) (Plain (name_of_txn txns txn.0) ∷ []) ≡ Ok (Submit txn)
+submit_again : (cat : Catalogue) (txns : List Txn) (txn : TxnNo) → All (IsValidTxn cat) txns
+    → repeats (names_of txns) ≡ false → IsFrom1To (length txns) txn.0 → submit_of (names_of txns)
+    (Plain (name_of_txn txns txn.0) ∷ []) ≡ Ok (Submit txn)
 submit_again cat txns txn valid differ h =
     let name : List ℕ = name_of_txn txns txn.0 in
     let named = submitted_name cat txns txn.0 valid h in
     let lt : txn.0 - 1 < length (names_of txns) = omega (arith, h.0, h.1, length-map txns (λ (t : Txn). t.name)) in
     let free = name_free name named in
     let a : name_in name ≡ Some name = ap (λ (b : Bool). cond b (Some name) None) named in
-    let p : position (bytes_eq name) (names_of txns) ≡ Some (txn.0 - 1) = ap (λ (l : List ℕ). position (bytes_eq l) (names_of txns)) (name_at_number txns txn.0) ∙ place_of_name (names_of txns) (txn.0 - 1) differ lt in
+    let p : position (bytes_eq name) (names_of txns) ≡ Some (txn.0 - 1) =
+    ap (λ (l : List ℕ). position (bytes_eq l) (names_of txns)) (name_at_number txns txn.0)
+    ∙ place_of_name (names_of txns) (txn.0 - 1) differ lt in
     let is : txn_no (txn.0 - 1 + 1) ≡ txn = ap (λ (n : ℕ). number_of n) (number_again txn.0 h.0) in
     ap (λ (b : Bool). must BadLine b >>= λ _. txn_named (names_of txns) (Plain name) >>= λ t. Ok (Submit t)) free
-    ∙ ap (λ (o : Option (List ℕ)). (known UnknownName o >>= λ n. known UnknownName (number_named (names_of txns) n) >>= λ m. Ok (txn_no m)) >>= λ t. Ok (Submit t)) a
+    ∙ ap (λ (o : Option (List ℕ)). (known UnknownName o >>=
+    λ n. known UnknownName (number_named (names_of txns) n) >>= λ m. Ok (txn_no m)) >>=
+    λ t. Ok (Submit t)) a
     ∙ ap (λ (o : Option ℕ). (known UnknownName (option_map (λ place. place + 1) o) >>= λ m. Ok (txn_no m)) >>= λ t. Ok (Submit t)) p
     ∙ ap (λ (t : TxnNo). Ok (Submit t)) is
 
@@ -113,9 +121,13 @@ record IsFresh (submitted : List TxnNo) (e : Event) (es : List Event) : Type 0 w
 
 fresh : (submitted : List TxnNo) (e : Event) (es : List Event) → AreDistinct (numbers submitted ++ filter_map submitted_by (e ∷ es)) → IsFresh submitted e es
 fresh submitted (Submit txn) es d =
-    let none : list_any (λ (n : ℕ). n == txn.0) (numbers submitted) ≡ false = any_none (λ (n : ℕ). n == txn.0) (numbers submitted) (apart_from (numbers submitted) txn.0 (filter_map submitted_by es) d) in
+    let none : list_any (λ (n : ℕ). n == txn.0) (numbers submitted) ≡ false =
+    any_none (λ (n : ℕ). n == txn.0) (numbers submitted) (apart_from (numbers submitted) txn.0
+    (filter_map submitted_by es) d) in
     let joined : numbers submitted ++ txn.0 ∷ filter_map submitted_by es ≡ numbers (submitted ++ txn ∷ []) ++ filter_map submitted_by es =
-    sym (append_assoc (numbers submitted) (txn.0 ∷ []) (filter_map submitted_by es)) ∙ ap (λ (l : List ℕ). l ++ filter_map submitted_by es) (sym (map-append (λ (t : TxnNo). t.0) submitted (txn ∷ []))) in
+    sym (append_assoc (numbers submitted) (txn.0 ∷ []) (filter_map submitted_by es))
+    ∙ ap (λ (l : List ℕ). l ++ filter_map submitted_by es)
+    (sym (map-append (λ (t : TxnNo). t.0) submitted (txn ∷ []))) in
     record { new = sym (list_any-map (λ (n : ℕ). n == txn.0) (λ (t : TxnNo). t.0) submitted) ∙ none; distinct = subst AreDistinct joined d }
 fresh submitted (Deliver from to place) es d = record { new = refl; distinct = d }
 fresh submitted (Lose from to place) es d = record { new = refl; distinct = d }
@@ -144,90 +156,159 @@ record CanStand (cat : Catalogue) (place : Place) (lists : List (List ClassPart)
   may : may_follow cat.dms (length lists) events e ≡ true
   room : length events < MAX_EVENTS
 
-event_rules_again : (cat : Catalogue) (place : Place) (rows : List (RelNo × List Value)) (written : ℕ) (txns : List Txn) (lists : List (List ClassPart)) (classes : ℕ) (submitted : List TxnNo) (events : List Event) (e : Event) (reading : Result Event WorkRule)
+event_rules_again : (cat : Catalogue) (place : Place) (rows : List (RelNo × List Value)) (written : ℕ)
+    (txns : List Txn) (lists : List (List ClassPart)) (classes : ℕ) (submitted : List TxnNo)
+    (events : List Event) (e : Event) (reading : Result Event WorkRule)
     → reading ≡ Ok e → CanStand cat place lists submitted events e
-    → event_rules cat (scheduled place rows written txns lists classes submitted events) reading ≡ Ok (scheduled places.Events rows written txns lists classes (with_submitted submitted e) (events ++ e ∷ []))
+    → event_rules cat (scheduled place rows written txns lists classes submitted events) reading ≡ Ok
+    (scheduled places.Events rows written txns lists classes (with_submitted submitted e)
+    (events ++ e ∷ []))
 event_rules_again cat place rows written txns lists classes submitted events e reading r h =
     let st : State = scheduled place rows written txns lists classes submitted events in
     let to : State = scheduled places.Events rows written txns lists classes (with_submitted submitted e) (events ++ e ∷ []) in
     let c : ltb (length events) MAX_EVENTS ≡ true = lt-ltb (length events) MAX_EVENTS h.room in
     ap (λ (b : Bool). must BadLine b >>= λ _. reading >>= λ event. with_event cat st event) h.takes
     ∙ ap (λ (q : Result Event WorkRule). q >>= λ event. with_event cat st event) r
-    ∙ ap (λ (b : Bool). must SubmittedTwice (not b) >>= λ _. must BadEvent (may_follow cat.dms (length lists) events e) >>= λ _. must (TooMany counts.Event) (nat_lt (length events) MAX_EVENTS) >>= λ _. Ok to) h.new
+    ∙ ap (λ (b : Bool). must SubmittedTwice (not b) >>=
+    λ _. must BadEvent (may_follow cat.dms (length lists) events e) >>=
+    λ _. must (TooMany counts.Event) (nat_lt (length events) MAX_EVENTS) >>= λ _. Ok to) h.new
     ∙ ap (λ (b : Bool). must BadEvent b >>= λ _. must (TooMany counts.Event) (nat_lt (length events) MAX_EVENTS) >>= λ _. Ok to) h.may
     ∙ ap (λ (b : Bool). must (TooMany counts.Event) b >>= λ _. Ok to) c
 
-event_step : (cat : Catalogue) → IsKnown cat → (place : Place) (rows : List (RelNo × List Value)) (written : ℕ) (txns : List Txn) (lists : List (List ClassPart)) (classes : ℕ) (submitted : List TxnNo) (events : List Event) (e : Event)
+event_step : (cat : Catalogue) → IsKnown cat → (place : Place) (rows : List (RelNo × List Value))
+    (written : ℕ) (txns : List Txn) (lists : List (List ClassPart)) (classes : ℕ) (submitted : List TxnNo)
+    (events : List Event) (e : Event)
     → All (IsValidTxn cat) txns → repeats (names_of txns) ≡ false → IsValidEvent cat (length txns) e → CanStand cat place lists submitted events e
-    → IsStep cat (scheduled place rows written txns lists classes submitted events) (scheduled places.Events rows written txns lists classes (with_submitted submitted e) (events ++ e ∷ [])) (line_bytes (event_words txns e))
+    → IsStep cat (scheduled place rows written txns lists classes submitted events)
+    (scheduled places.Events rows written txns lists classes (with_submitted submitted e)
+    (events ++ e ∷ [])) (line_bytes (event_words txns e))
 event_step cat k place rows written txns lists classes submitted events (Submit txn) valid differ h c =
     let e : Event = Submit txn in
-    line_step cat (scheduled place rows written txns lists classes submitted events) (scheduled places.Events rows written txns lists classes (with_submitted submitted e) (events ++ e ∷ [])) (keys.Event ekeys.Submit) (Plain (name_of_txn txns txn.0) ∷ []) (still place c.takes) (event_fine cat k txns e h (names_one cat txns e valid h))
-    (event_rules_again cat place rows written txns lists classes submitted events e (submit_of (names_of txns) (Plain (name_of_txn txns txn.0) ∷ [])) (submit_again cat txns txn valid differ h) c)
+    line_step cat (scheduled place rows written txns lists classes submitted events)
+    (scheduled places.Events rows written txns lists classes (with_submitted submitted e)
+    (events ++ e ∷ [])) (keys.Event ekeys.Submit) (Plain (name_of_txn txns txn.0) ∷ [])
+    (still place c.takes) (event_fine cat k txns e h (names_one cat txns e valid h))
+    (event_rules_again cat place rows written txns lists classes submitted events e
+    (submit_of (names_of txns) (Plain (name_of_txn txns txn.0) ∷ []))
+    (submit_again cat txns txn valid differ h) c)
 event_step cat k place rows written txns lists classes submitted events (Deliver from to n) valid differ h c =
     let e : Event = Deliver from to n in
     let ws : List Word = site_word from ∷ site_word to ∷ count_word n ∷ [] in
-    line_step cat (scheduled place rows written txns lists classes submitted events) (scheduled places.Events rows written txns lists classes (with_submitted submitted e) (events ++ e ∷ [])) (keys.Event ekeys.Deliver) ws (still place c.takes) (event_fine cat k txns e h tt)
-    (event_rules_again cat place rows written txns lists classes submitted events e (deliver_of cat ws) (ap (λ (r : Result (Site × Site × ℕ) WorkRule). r >>= λ (p : Site × Site × ℕ). Ok (Deliver p.0 p.1 p.2)) (place_again cat k from to n h.0 h.1)) c)
+    line_step cat (scheduled place rows written txns lists classes submitted events)
+    (scheduled places.Events rows written txns lists classes (with_submitted submitted e)
+    (events ++ e ∷ [])) (keys.Event ekeys.Deliver) ws (still place c.takes) (event_fine cat k txns e h tt)
+    (event_rules_again cat place rows written txns lists classes submitted events e (deliver_of cat ws)
+    (ap (λ (r : Result (Site × Site × ℕ) WorkRule). r >>=
+    λ (p : Site × Site × ℕ). Ok (Deliver p.0 p.1 p.2)) (place_again cat k from to n h.0 h.1)) c)
 event_step cat k place rows written txns lists classes submitted events (Lose from to n) valid differ h c =
     let e : Event = Lose from to n in
     let ws : List Word = site_word from ∷ site_word to ∷ count_word n ∷ [] in
-    line_step cat (scheduled place rows written txns lists classes submitted events) (scheduled places.Events rows written txns lists classes (with_submitted submitted e) (events ++ e ∷ [])) (keys.Event ekeys.Lose) ws (still place c.takes) (event_fine cat k txns e h tt)
-    (event_rules_again cat place rows written txns lists classes submitted events e (lose_of cat ws) (ap (λ (r : Result (Site × Site × ℕ) WorkRule). r >>= λ (p : Site × Site × ℕ). Ok (Lose p.0 p.1 p.2)) (place_again cat k from to n h.0 h.1)) c)
+    line_step cat (scheduled place rows written txns lists classes submitted events)
+    (scheduled places.Events rows written txns lists classes (with_submitted submitted e)
+    (events ++ e ∷ [])) (keys.Event ekeys.Lose) ws (still place c.takes) (event_fine cat k txns e h tt)
+    (event_rules_again cat place rows written txns lists classes submitted events e (lose_of cat ws)
+    (ap (λ (r : Result (Site × Site × ℕ) WorkRule). r >>= λ (p : Site × Site × ℕ). Ok (Lose p.0 p.1 p.2))
+    (place_again cat k from to n h.0 h.1)) c)
 event_step cat k place rows written txns lists classes submitted events (Repeat from to n) valid differ h c =
     let e : Event = Repeat from to n in
     let ws : List Word = site_word from ∷ site_word to ∷ count_word n ∷ [] in
-    line_step cat (scheduled place rows written txns lists classes submitted events) (scheduled places.Events rows written txns lists classes (with_submitted submitted e) (events ++ e ∷ [])) (keys.Event ekeys.Repeat) ws (still place c.takes) (event_fine cat k txns e h tt)
-    (event_rules_again cat place rows written txns lists classes submitted events e (repeat_of cat ws) (ap (λ (r : Result (Site × Site × ℕ) WorkRule). r >>= λ (p : Site × Site × ℕ). Ok (Repeat p.0 p.1 p.2)) (place_again cat k from to n h.0 h.1)) c)
+    line_step cat (scheduled place rows written txns lists classes submitted events)
+    (scheduled places.Events rows written txns lists classes (with_submitted submitted e)
+    (events ++ e ∷ [])) (keys.Event ekeys.Repeat) ws (still place c.takes) (event_fine cat k txns e h tt)
+    (event_rules_again cat place rows written txns lists classes submitted events e (repeat_of cat ws)
+    (ap (λ (r : Result (Site × Site × ℕ) WorkRule). r >>=
+    λ (p : Site × Site × ℕ). Ok (Repeat p.0 p.1 p.2)) (place_again cat k from to n h.0 h.1)) c)
 event_step cat k place rows written txns lists classes submitted events (Resend from to) valid differ h c =
     let e : Event = Resend from to in
     let ws : List Word = site_word from ∷ site_word to ∷ [] in
-    line_step cat (scheduled place rows written txns lists classes submitted events) (scheduled places.Events rows written txns lists classes (with_submitted submitted e) (events ++ e ∷ [])) (keys.Event ekeys.Resend) ws (still place c.takes) (event_fine cat k txns e h tt)
+    line_step cat (scheduled place rows written txns lists classes submitted events)
+    (scheduled places.Events rows written txns lists classes (with_submitted submitted e)
+    (events ++ e ∷ [])) (keys.Event ekeys.Resend) ws (still place c.takes) (event_fine cat k txns e h tt)
     (event_rules_again cat place rows written txns lists classes submitted events e (resend_of cat ws) (resend_again cat k from to h) c)
 event_step cat k place rows written txns lists classes submitted events (Tick tm n) valid differ h c =
     let e : Event = Tick tm n in
     let ws : List Word = site_word (T tm) ∷ count_word n ∷ [] in
-    line_step cat (scheduled place rows written txns lists classes submitted events) (scheduled places.Events rows written txns lists classes (with_submitted submitted e) (events ++ e ∷ [])) (keys.Event ekeys.Tick) ws (still place c.takes) (event_fine cat k txns e h tt)
+    line_step cat (scheduled place rows written txns lists classes submitted events)
+    (scheduled places.Events rows written txns lists classes (with_submitted submitted e)
+    (events ++ e ∷ [])) (keys.Event ekeys.Tick) ws (still place c.takes) (event_fine cat k txns e h tt)
     (event_rules_again cat place rows written txns lists classes submitted events e (tick_of cat ws) (tick_again cat k tm n h.0 h.1) c)
 event_step cat k place rows written txns lists classes submitted events Settle valid differ h c =
-    line_step cat (scheduled place rows written txns lists classes submitted events) (scheduled places.Events rows written txns lists classes submitted (events ++ Settle ∷ [])) (keys.Event ekeys.Settle) [] (still place c.takes) (event_fine cat k txns Settle h tt)
+    line_step cat (scheduled place rows written txns lists classes submitted events)
+    (scheduled places.Events rows written txns lists classes submitted (events ++ Settle ∷ []))
+    (keys.Event ekeys.Settle) [] (still place c.takes) (event_fine cat k txns Settle h tt)
     (event_rules_again cat place rows written txns lists classes submitted events Settle (settle_of []) refl c)
 event_step cat k place rows written txns lists classes submitted events Redeclare valid differ h c =
-    line_step cat (scheduled place rows written txns lists classes submitted events) (scheduled places.Events rows written txns lists classes submitted (events ++ Redeclare ∷ [])) (keys.Event ekeys.Redeclare) [] (still place c.takes) (event_fine cat k txns Redeclare h tt)
+    line_step cat (scheduled place rows written txns lists classes submitted events)
+    (scheduled places.Events rows written txns lists classes submitted (events ++ Redeclare ∷ []))
+    (keys.Event ekeys.Redeclare) [] (still place c.takes) (event_fine cat k txns Redeclare h tt)
     (event_rules_again cat place rows written txns lists classes submitted events Redeclare (redeclare_of []) refl c)
 event_step cat k place rows written txns lists classes submitted events (Down dm) valid differ h c =
     let e : Event = Down dm in
     let ws : List Word = site_word (D dm) ∷ [] in
-    line_step cat (scheduled place rows written txns lists classes submitted events) (scheduled places.Events rows written txns lists classes (with_submitted submitted e) (events ++ e ∷ [])) (keys.Event ekeys.Down) ws (still place c.takes) (event_fine cat k txns e h tt)
+    line_step cat (scheduled place rows written txns lists classes submitted events)
+    (scheduled places.Events rows written txns lists classes (with_submitted submitted e)
+    (events ++ e ∷ [])) (keys.Event ekeys.Down) ws (still place c.takes) (event_fine cat k txns e h tt)
     (event_rules_again cat place rows written txns lists classes submitted events e (down_of cat ws) (down_again cat k dm h) c)
 event_step cat k place rows written txns lists classes submitted events (Up dm) valid differ h c =
     let e : Event = Up dm in
     let ws : List Word = site_word (D dm) ∷ [] in
-    line_step cat (scheduled place rows written txns lists classes submitted events) (scheduled places.Events rows written txns lists classes (with_submitted submitted e) (events ++ e ∷ [])) (keys.Event ekeys.Up) ws (still place c.takes) (event_fine cat k txns e h tt)
+    line_step cat (scheduled place rows written txns lists classes submitted events)
+    (scheduled places.Events rows written txns lists classes (with_submitted submitted e)
+    (events ++ e ∷ [])) (keys.Event ekeys.Up) ws (still place c.takes) (event_fine cat k txns e h tt)
     (event_rules_again cat place rows written txns lists classes submitted events e (up_of cat ws) (up_again cat k dm h) c)
 
-record AreEvents (cat : Catalogue) (st : State) (lines : List (List ℕ)) (rows : List (RelNo × List Value)) (written : ℕ) (txns : List Txn) (lists : List (List ClassPart)) (classes : ℕ) (events : List Event) : Type 0 where
+record AreEvents (cat : Catalogue) (st : State) (lines : List (List ℕ)) (rows : List (RelNo × List Value))
+    (written : ℕ) (txns : List Txn) (lists : List (List ClassPart)) (classes : ℕ)
+    (events : List Event) : Type 0 where
   place : Place
   submitted : List TxnNo
   takes : takes_events place ≡ true
   chain : Chain cat st lines (scheduled place rows written txns lists classes submitted events)
 
-events_chain : (cat : Catalogue) → IsKnown cat → (rows : List (RelNo × List Value)) (written : ℕ) (txns : List Txn) (lists : List (List ClassPart)) (classes : ℕ) → All (IsValidTxn cat) txns → repeats (names_of txns) ≡ false
-    → (es : List Event) (place : Place) (submitted : List TxnNo) (events : List Event) → takes_events place ≡ true → AllByRecursion (IsValidEvent cat (length txns)) es → AreDistinct (numbers submitted ++ filter_map submitted_by es) → length events + length es ≤ MAX_EVENTS → AreTimely cat.dms (length lists) (events ++ es)
-    → AreEvents cat (scheduled place rows written txns lists classes submitted events) (map line_bytes (map (event_words txns) es)) rows written txns lists classes (events ++ es)
-events_chain cat k rows written txns lists classes valid differ [] place submitted events t h d few y = record { place = place; submitted = submitted; takes = t; chain = ap (scheduled place rows written txns lists classes submitted) (sym (append-nil events)) }
+events_chain : (cat : Catalogue) → IsKnown cat → (rows : List (RelNo × List Value)) (written : ℕ)
+    (txns : List Txn) (lists : List (List ClassPart)) (classes : ℕ) → All (IsValidTxn cat) txns
+    → repeats (names_of txns) ≡ false
+    → (es : List Event) (place : Place) (submitted : List TxnNo) (events : List Event)
+    → takes_events place ≡ true → AllByRecursion (IsValidEvent cat (length txns)) es
+    → AreDistinct (numbers submitted ++ filter_map submitted_by es)
+    → length events + length es ≤ MAX_EVENTS → AreTimely cat.dms (length lists) (events ++ es)
+    → AreEvents cat (scheduled place rows written txns lists classes submitted events)
+    (map line_bytes (map (event_words txns) es)) rows written txns lists classes (events ++ es)
+events_chain cat k rows written txns lists classes valid differ [] place submitted events t h d few y =
+    record {
+      place = place;
+      submitted = submitted;
+      takes = t;
+      chain =
+          ap (scheduled place rows written txns lists classes submitted) (sym (append-nil events));
+    }
 events_chain cat k rows written txns lists classes valid differ (e ∷ es) place submitted events t h d few y =
     let f = fresh submitted e es d in
     let len : length (events ++ e ∷ []) ≡ length events + 1 = length-append events (e ∷ []) in
-    let one = event_step cat k place rows written txns lists classes submitted events e valid differ h.0 (record { takes = t; new = f.new; may = timely_may cat.dms (length lists) events e es y; room = omega (arith, few) }) in
+    let one = event_step cat k place rows written txns lists classes submitted events e valid differ h.0
+    (record {
+      takes = t;
+      new = f.new;
+      may = timely_may cat.dms (length lists) events e es y;
+      room =
+          omega (arith, few);
+    }) in
     let joined_on : (events ++ e ∷ []) ++ es ≡ events ++ e ∷ es = append_assoc events (e ∷ []) es in
-    let more = events_chain cat k rows written txns lists classes valid differ es places.Events (with_submitted submitted e) (events ++ e ∷ []) refl h.1 f.distinct (omega (arith, few, len)) (subst (AreTimely cat.dms (length lists)) (sym joined_on) y) in
+    let more = events_chain cat k rows written txns lists classes valid differ es places.Events
+    (with_submitted submitted e) (events ++ e ∷ []) refl h.1 f.distinct (omega (arith, few, len))
+    (subst (AreTimely cat.dms (length lists)) (sym joined_on) y) in
     let mid : State = scheduled places.Events rows written txns lists classes (with_submitted submitted e) (events ++ e ∷ []) in
     record {
       place = more.place;
       submitted = more.submitted;
       takes = more.takes;
-      chain = (mid, one, subst (λ (l : List Event). Chain cat mid (map line_bytes (map (event_words txns) es)) (scheduled more.place rows written txns lists classes more.submitted l)) joined_on more.chain);
+      chain = (
+        mid,
+        one,
+        subst (λ (l : List Event). Chain cat mid
+            (map line_bytes (map (event_words txns) es))
+            (scheduled more.place rows written txns lists classes more.submitted l)) joined_on more.chain,
+      );
     }
 
 -- ---- the whole
@@ -250,10 +331,15 @@ events_from (places.Listing list) t = absurd cc
 events_from places.Events t = absurd cc
 events_from places.Ended t = absurd cc
 
-end_step : (cat : Catalogue) (place : Place) (rows : List (RelNo × List Value)) (written : ℕ) (txns : List Txn) (lists : List (List ClassPart)) (classes : ℕ) (submitted : List TxnNo) (events : List Event) → takes_events place ≡ true
-    → IsStep cat (scheduled place rows written txns lists classes submitted events) (scheduled places.Ended rows written txns lists classes submitted events) (line_bytes end_words)
+end_step : (cat : Catalogue) (place : Place) (rows : List (RelNo × List Value)) (written : ℕ)
+    (txns : List Txn) (lists : List (List ClassPart)) (classes : ℕ) (submitted : List TxnNo)
+    (events : List Event) → takes_events place ≡ true
+    → IsStep cat (scheduled place rows written txns lists classes submitted events)
+    (scheduled places.Ended rows written txns lists classes submitted events) (line_bytes end_words)
 end_step cat place rows written txns lists classes submitted events t =
-    line_step cat (scheduled place rows written txns lists classes submitted events) (scheduled places.Ended rows written txns lists classes submitted events) keys.End [] (still place t) (keyword_fine keys.End, tt)
+    line_step cat (scheduled place rows written txns lists classes submitted events)
+    (scheduled places.Ended rows written txns lists classes submitted events) keys.End [] (still place t)
+    (keyword_fine keys.End, tt)
     (ap (λ (b : Bool). must BadLine b >>= λ _. Ok (scheduled places.Ended rows written txns lists classes submitted events)) t)
 
 record IsWhole (cat : Catalogue) (w : Workload) : Type 0 where
@@ -263,7 +349,9 @@ record IsWhole (cat : Catalogue) (w : Workload) : Type 0 where
   chain : Chain cat (nothing_read cat) (map line_bytes (lines_of cat w)) (scheduled places.Ended w.rows written w.txns w.lists classes submitted w.events)
 
 five_mapped : {A B : Type 0} (f : A → B) (a b c d e : List A) → map f (a ++ b ++ c ++ d ++ e) ≡ map f a ++ map f b ++ map f c ++ map f d ++ map f e
-five_mapped f a b c d e = map-append f (a ++ b ++ c ++ d) e ∙ ap (λ l. l ++ map f e) (map-append f (a ++ b ++ c) d ∙ ap (λ l. l ++ map f d) (map-append f (a ++ b) c ∙ ap (λ l. l ++ map f c) (map-append f a b)))
+five_mapped f a b c d e = map-append f (a ++ b ++ c ++ d) e
+    ∙ ap (λ l. l ++ map f e) (map-append f (a ++ b ++ c) d ∙ ap (λ l. l ++ map f d) (map-append f (a ++ b) c
+    ∙ ap (λ l. l ++ map f c) (map-append f a b)))
 
 whole_chain : (cat : Catalogue) → IsKnown cat → (w : Workload) → IsValid cat w → IsWhole cat w
 whole_chain cat k w v =
@@ -274,36 +362,54 @@ whole_chain cat k w v =
     let written : ℕ = length w.rows + sum_by rows_put_by w.txns in
     let zero_more : 0 + length w.rows ≡ length w.rows = omega arith in
     let rows = rows_chain cat k w.rows [] 0 (recursion_from_All (IsValidRow cat) w.rows v.rows) (omega (arith, v.few_rows, zero_more)) in
-    let rows_are : Chain cat (nothing_read cat) rs (of_rows cat w.rows (length w.rows)) = subst (λ (n : ℕ). Chain cat (nothing_read cat) rs (of_rows cat w.rows n)) zero_more rows in
-    let txns = txns_chain cat k w.rows w.txns places.Rows (length w.rows) [] [] refl (recursion_from_All (IsValidTxn cat) w.txns v.txns) v.names (omega (arith, v.few_txns)) v.few_rows in
+    let rows_are : Chain cat (nothing_read cat) rs (of_rows cat w.rows (length w.rows)) =
+    subst (λ (n : ℕ). Chain cat (nothing_read cat) rs (of_rows cat w.rows n)) zero_more rows in
+    let txns = txns_chain cat k w.rows w.txns places.Rows (length w.rows) [] [] refl
+    (recursion_from_All (IsValidTxn cat) w.txns v.txns) v.names (omega (arith, v.few_txns)) v.few_rows in
     let after_rows : State = of_rows cat w.rows (length w.rows) in
     let after_txns : State = scheduled txns.place w.rows written w.txns [] (length cat.classes) [] [] in
     let lists = lists_read cat k after_txns w.lists (lists_from txns.place txns.goes_on) v.lists in
     let n : ℕ = lists.classes in
     let after_lists : State = scheduled lists.place w.rows written w.txns w.lists n [] [] in
-    let events = events_chain cat k w.rows written w.txns w.lists n v.txns v.names w.events lists.place [] [] (events_from lists.place lists.goes_on) (recursion_from_All (IsValidEvent cat (length w.txns)) w.events v.events) v.submitted (omega (arith, v.few_events)) v.timely in
+    let events = events_chain cat k w.rows written w.txns w.lists n v.txns v.names w.events lists.place []
+    [] (events_from lists.place lists.goes_on)
+    (recursion_from_All (IsValidEvent cat (length w.txns)) w.events v.events) v.submitted
+    (omega (arith, v.few_events)) v.timely in
     let after_events : State = scheduled events.place w.rows written w.txns w.lists n events.submitted w.events in
     let last : State = scheduled places.Ended w.rows written w.txns w.lists n events.submitted w.events in
-    let ended : Chain cat after_events (line_bytes end_words ∷ []) last = (last, end_step cat events.place w.rows written w.txns w.lists n events.submitted w.events events.takes, refl) in
+    let ended : Chain cat after_events (line_bytes end_words ∷ []) last = (
+      last,
+      end_step cat events.place w.rows written w.txns w.lists n events.submitted w.events
+          events.takes,
+      refl,
+    ) in
     let two : Chain cat (nothing_read cat) (rs ++ ts) after_txns = chain-append cat (nothing_read cat) after_rows after_txns rs ts rows_are txns.chain in
-    let three : Chain cat (nothing_read cat) (rs ++ ts ++ ls) after_lists = chain-append cat (nothing_read cat) after_txns after_lists (rs ++ ts) ls two lists.chain in
-    let four : Chain cat (nothing_read cat) (rs ++ ts ++ ls ++ es) after_events = chain-append cat (nothing_read cat) after_lists after_events (rs ++ ts ++ ls) es three events.chain in
-    let five : Chain cat (nothing_read cat) (rs ++ ts ++ ls ++ es ++ line_bytes end_words ∷ []) last = chain-append cat (nothing_read cat) after_events last (rs ++ ts ++ ls ++ es) (line_bytes end_words ∷ []) four ended in
+    let three : Chain cat (nothing_read cat) (rs ++ ts ++ ls) after_lists =
+    chain-append cat (nothing_read cat) after_txns after_lists (rs ++ ts) ls two lists.chain in
+    let four : Chain cat (nothing_read cat) (rs ++ ts ++ ls ++ es) after_events =
+    chain-append cat (nothing_read cat) after_lists after_events (rs ++ ts ++ ls) es three events.chain in
+    let five : Chain cat (nothing_read cat) (rs ++ ts ++ ls ++ es ++ line_bytes end_words ∷ []) last =
+    chain-append cat (nothing_read cat) after_events last (rs ++ ts ++ ls ++ es)
+    (line_bytes end_words ∷ []) four ended in
     record {
       written = written;
       classes = n;
       submitted = events.submitted;
-      chain = subst (λ (l : List (List ℕ)). Chain cat (nothing_read cat) l last) (sym (five_mapped line_bytes (map (start_words cat) w.rows) (flat_map (txn_lines cat) w.txns) (flat_map list_lines w.lists) (map (event_words w.txns) w.events) (end_words ∷ []))) five;
+      chain = subst (λ (l : List (List ℕ)). Chain cat (nothing_read cat) l last)
+          (sym (five_mapped line_bytes (map (start_words cat) w.rows) (flat_map (txn_lines cat) w.txns)
+          (flat_map list_lines w.lists) (map (event_words w.txns) w.events) (end_words ∷ []))) five;
     }
 
 -- the spelling of a workload that is allowed is read as the workload
-pub read_again : (cat : Catalogue) → IsKnown cat → (w : Workload) → IsValid cat w → length (spelling cat w) ≤ MAX_WORKLOAD_BYTES → workload cat (spelling cat w) ≡ Ok w
+pub read_again : (cat : Catalogue) → IsKnown cat → (w : Workload) → IsValid cat w
+    → length (spelling cat w) ≤ MAX_WORKLOAD_BYTES → workload cat (spelling cat w) ≡ Ok w
 read_again cat k w v small =
     let c = whole_chain cat k w v in
     let lines : List (List ℕ) = map line_bytes (lines_of cat w) in
     let last : State = scheduled places.Ended w.rows c.written w.txns w.lists c.classes c.submitted w.events in
     let a : nat_lt MAX_WORKLOAD_BYTES (length (spelling cat w)) ≡ false = le-ltb MAX_WORKLOAD_BYTES (length (spelling cat w)) small in
-    let b : cut_lines (spelling cat w) ≡ (lines, []) = ap cut_lines (sym (lines_spelled (lines_of cat w))) ∙ cut_again lines (chain_lines cat (nothing_read cat) last lines c.chain) in
+    let b : cut_lines (spelling cat w) ≡ (lines, []) = ap cut_lines (sym (lines_spelled (lines_of cat w)))
+    ∙ cut_again lines (chain_lines cat (nothing_read cat) last lines c.chain) in
     let d : walk cat 1 (nothing_read cat) lines [] ≡ Ok last = chain_walk cat 1 (nothing_read cat) last lines c.chain refl in
     ap (λ (t : Bool). cond t (Err (record { line = 0; rule = TooLong })) (finished (walk_bytes cat 1 (nothing_read cat) (spelling cat w)))) a
     ∙ ap (λ (cut : List (List ℕ) × List ℕ). finished (walk cat 1 (nothing_read cat) cut.0 cut.1)) b

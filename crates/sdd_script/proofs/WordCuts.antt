@@ -30,12 +30,15 @@ before_again p xs x rest h e = take_at xs (x ∷ rest) (position_or_len p (xs ++
 pub after_again : {A : Type 0} (p : A → Bool) (xs : List A) (x : A) (rest : List A) → NonePasses p xs → p x ≡ true → after_first p (xs ++ x ∷ rest) ≡ rest
 after_again p xs x rest h e =
     let n : length (xs ++ x ∷ []) ≡ position_or_len p (xs ++ x ∷ rest) + 1 = rw (first_at p xs x rest h e) (omega (arith, length-append xs (x ∷ []))) in
-    ap (λ l. drop (position_or_len p (xs ++ x ∷ rest) + 1) l) (sym (append_assoc xs (x ∷ []) rest)) ∙ drop_at (xs ++ x ∷ []) rest (position_or_len p (xs ++ x ∷ rest) + 1) n
+    ap (λ l. drop (position_or_len p (xs ++ x ∷ rest) + 1) l) (sym (append_assoc xs (x ∷ []) rest))
+    ∙ drop_at (xs ++ x ∷ []) rest (position_or_len p (xs ++ x ∷ rest) + 1) n
 
-pub from_again : {A : Type 0} (p : A → Bool) (xs : List A) (x : A) (rest : List A) → NonePasses p xs → p x ≡ true → drop (position_or_len p (xs ++ x ∷ rest)) (xs ++ x ∷ rest) ≡ x ∷ rest
+pub from_again : {A : Type 0} (p : A → Bool) (xs : List A) (x : A) (rest : List A) → NonePasses p xs
+    → p x ≡ true → drop (position_or_len p (xs ++ x ∷ rest)) (xs ++ x ∷ rest) ≡ x ∷ rest
 from_again p xs x rest h e = drop_at xs (x ∷ rest) (position_or_len p (xs ++ x ∷ rest)) (sym (first_at p xs x rest h e))
 
-pub position_again : {A : Type 0} (p : A → Bool) (xs : List A) (x : A) (rest : List A) → NonePasses p xs → p x ≡ true → position p (xs ++ x ∷ rest) ≡ Some (length xs)
+pub position_again : {A : Type 0} (p : A → Bool) (xs : List A) (x : A) (rest : List A) → NonePasses p xs
+    → p x ≡ true → position p (xs ++ x ∷ rest) ≡ Some (length xs)
 position_again p xs x rest h e =
     let f = first_at p xs x rest h e in
     let lt : nat_lt (length xs) (length (xs ++ x ∷ rest)) ≡ true = lt-ltb _ _ (omega (arith, length-append xs (x ∷ rest))) in
@@ -103,7 +106,8 @@ seconds a b c d e = ap right_of e
 abbrev cut_there : List Word → ℕ → List Word × List Word
 cut_there ws k = (take k ws, drop (k + 1) ws)
 
-cut_if : (key : List ℕ) (ws before behind : List Word) (o : Option ℕ) → position (is_key key) ws ≡ o → option_map (cut_there ws) o ≡ Some (before, behind) → ws ≡ before ++ Plain key ∷ behind
+cut_if : (key : List ℕ) (ws before behind : List Word) (o : Option ℕ) → position (is_key key) ws ≡ o
+    → option_map (cut_there ws) o ≡ Some (before, behind) → ws ≡ before ++ Plain key ∷ behind
 cut_if key ws before behind None p e = absurd cc
 cut_if key ws before behind (Some k) p e =
     let a : take k ws ≡ before = firsts (take k ws) before (drop (k + 1) ws) behind e in
@@ -119,7 +123,9 @@ cut_again key before behind h =
     let p = position_again (is_key key) before (Plain key) behind h t in
     let n : length (before ++ Plain key ∷ []) ≡ length before + 1 = omega (arith, length-append before (Plain key ∷ [])) in
     let a : take (length before) (before ++ Plain key ∷ behind) ≡ before = take_at before (Plain key ∷ behind) (length before) refl in
-    let b : drop (length before + 1) (before ++ Plain key ∷ behind) ≡ behind = ap (λ (l : List Word). drop (length before + 1) l) (sym (append_assoc before (Plain key ∷ []) behind)) ∙ drop_at (before ++ Plain key ∷ []) behind (length before + 1) n in
+    let b : drop (length before + 1) (before ++ Plain key ∷ behind) ≡ behind =
+    ap (λ (l : List Word). drop (length before + 1) l) (sym (append_assoc before (Plain key ∷ []) behind))
+    ∙ drop_at (before ++ Plain key ∷ []) behind (length before + 1) n in
     rw (p, a, b) refl
 
 -- points
@@ -140,7 +146,8 @@ point_if bytes (Some k) p e =
     let at = position-Some is_point bytes k 0 p in
     let is : get_or bytes k 0 ≡ 46 = eqb-true (get_or bytes k 0) 46 at.1 in
     let lt : k < length bytes = at.0 in
-    let whole : bytes ≡ take k bytes ++ 46 ∷ drop (k + 1) bytes = sym (take-append-drop k bytes) ∙ ap (λ l. take k bytes ++ l) (rw (drop-cons bytes k 0, is, add-one) refl) in
+    let whole : bytes ≡ take k bytes ++ 46 ∷ drop (k + 1) bytes = sym (take-append-drop k bytes)
+    ∙ ap (λ l. take k bytes ++ l) (rw (drop-cons bytes k 0, is, add-one) refl) in
     let place : position_or_len is_point bytes ≡ k = place_is (position_or_len is_point bytes) (length bytes) k p in
     rw place whole
 

@@ -67,7 +67,12 @@ names_no_space (b ∷ bs) e = let h = both_hold (is_name_byte b) (list_all is_na
 
 pub names_no_point : (bs : List ℕ) → list_all is_name_byte bs ≡ true → NonePasses is_point bs
 names_no_point [] e = tt
-names_no_point (b ∷ bs) e = let h = both_hold (is_name_byte b) (list_all is_name_byte bs) e in (ne_eqb b 46 (not_it is_name_byte b 46 refl h.0), names_no_point bs h.1)
+names_no_point (b ∷ bs) e = let h =
+    both_hold (is_name_byte b) (list_all is_name_byte bs) e in (
+      ne_eqb b 46
+          (not_it is_name_byte b 46 refl h.0),
+      names_no_point bs h.1,
+    )
 
 pub record IsNamed (bytes : List ℕ) : Type 0 where
   pub letter : begins_with_letter bytes ≡ true
@@ -82,15 +87,29 @@ name_parts bs e =
 
 plain_name : (bs : List ℕ) → begins_with_letter bs ≡ true → list_all is_name_byte bs ≡ true → IsPlain bs
 plain_name [] l e = absurd cc
-plain_name (b ∷ bs) l e = let h = both_hold (is_name_byte b) (list_all is_name_byte bs) e in (not_it is_name_byte b 34 refl h.0, not_it is_name_byte b 32 refl h.0, names_no_space bs h.1)
+plain_name (b ∷ bs) l e = let h =
+    both_hold (is_name_byte b) (list_all is_name_byte bs) e in (
+      not_it is_name_byte b 34 refl h.0,
+      not_it
+          is_name_byte b 32 refl h.0,
+      names_no_space bs h.1,
+    )
 
 pub name_fine : (bs : List ℕ) → is_name bs ≡ true → IsFine (Plain bs)
-name_fine bs e = let n = name_parts bs e in record { word = plain_name bs n.letter n.bytes_are; utf8 = name_is_utf8 bs e; sound = refl; line = names_no_newline bs n.bytes_are }
+name_fine bs e = let n = name_parts bs e in record {
+  word = plain_name bs n.letter n.bytes_are;
+  utf8 =
+      name_is_utf8 bs e;
+  sound = refl;
+  line = names_no_newline bs n.bytes_are;
+}
 
 -- ---- words that are free
 
 -- a word is known to be free by its first byte
-free_first : (c : ℕ) (cs : List ℕ) → eqb c 102 ≡ false → eqb c 119 ≡ false → eqb c 97 ≡ false → eqb c 115 ≡ false → eqb c 43 ≡ false → eqb c 61 ≡ false → eqb c 33 ≡ false → eqb c 60 ≡ false → eqb c 62 ≡ false
+free_first : (c : ℕ) (cs : List ℕ) → eqb c 102 ≡ false → eqb c 119 ≡ false → eqb c 97 ≡ false
+    → eqb c 115 ≡ false → eqb c 43 ≡ false → eqb c 61 ≡ false → eqb c 33 ≡ false → eqb c 60 ≡ false
+    → eqb c 62 ≡ false
     → is_free (Plain (c ∷ cs)) ≡ true
 free_first c cs f w a s p e n l g = rw (f, w, a, s, p, e, n, l, g) refl
 
@@ -104,14 +123,20 @@ free_if c cs k p e n l g =
 
 name_free_if : (bs : List ℕ) → begins_with_letter bs ≡ true → is_keyword bs ≡ false → is_free (Plain bs) ≡ true
 name_free_if [] l k = absurd cc
-name_free_if (c ∷ cs) l k = free_if c cs k (ne_eqb c 43 (not_it is_letter c 43 refl l)) (ne_eqb c 61 (not_it is_letter c 61 refl l)) (ne_eqb c 33 (not_it is_letter c 33 refl l)) (ne_eqb c 60 (not_it is_letter c 60 refl l)) (ne_eqb c 62 (not_it is_letter c 62 refl l))
+name_free_if (c ∷ cs) l k = free_if c cs k (ne_eqb c 43 (not_it is_letter c 43 refl l))
+    (ne_eqb c 61 (not_it is_letter c 61 refl l)) (ne_eqb c 33 (not_it is_letter c 33 refl l))
+    (ne_eqb c 60 (not_it is_letter c 60 refl l)) (ne_eqb c 62 (not_it is_letter c 62 refl l))
 
 pub name_free : (bs : List ℕ) → is_name bs ≡ true → is_free (Plain bs) ≡ true
 name_free bs e = let n = name_parts bs e in name_free_if bs n.letter n.no_key
 
 free_digit : (c : ℕ) (cs : List ℕ) → is_digit c ≡ true → is_free (Plain (c ∷ cs)) ≡ true
 free_digit c cs d =
-    free_first c cs (ne_eqb c 102 (not_it is_digit c 102 refl d)) (ne_eqb c 119 (not_it is_digit c 119 refl d)) (ne_eqb c 97 (not_it is_digit c 97 refl d)) (ne_eqb c 115 (not_it is_digit c 115 refl d)) (ne_eqb c 43 (not_it is_digit c 43 refl d)) (ne_eqb c 61 (not_it is_digit c 61 refl d)) (ne_eqb c 33 (not_it is_digit c 33 refl d)) (ne_eqb c 60 (not_it is_digit c 60 refl d)) (ne_eqb c 62 (not_it is_digit c 62 refl d))
+    free_first c cs (ne_eqb c 102 (not_it is_digit c 102 refl d))
+    (ne_eqb c 119 (not_it is_digit c 119 refl d)) (ne_eqb c 97 (not_it is_digit c 97 refl d))
+    (ne_eqb c 115 (not_it is_digit c 115 refl d)) (ne_eqb c 43 (not_it is_digit c 43 refl d))
+    (ne_eqb c 61 (not_it is_digit c 61 refl d)) (ne_eqb c 33 (not_it is_digit c 33 refl d))
+    (ne_eqb c 60 (not_it is_digit c 60 refl d)) (ne_eqb c 62 (not_it is_digit c 62 refl d))
 
 -- ---- numbers
 
@@ -123,7 +148,8 @@ within c lo hi = both_are (nat_le 48 c) (nat_le c 57) (le_is 48 c lo) (le_is c 5
 
 all_digits : (ds : List ℕ) → AllDigits 10 ds → list_all is_digit ds ≡ true
 all_digits [] h = refl
-all_digits (c ∷ ds) h = let r = digit_from_value c (omega (arith, h.0)) in both_are (is_digit c) (list_all is_digit ds) (within c (omega (arith, r.0)) (omega (arith, r.1))) (all_digits ds h.1)
+all_digits (c ∷ ds) h = let r = digit_from_value c (omega (arith, h.0)) in both_are (is_digit c)
+    (list_all is_digit ds) (within c (omega (arith, r.0)) (omega (arith, r.1))) (all_digits ds h.1)
 
 digits_no_newline : (ds : List ℕ) → list_all is_digit ds ≡ true → HasNoNewline ds
 digits_no_newline [] e = tt
@@ -159,10 +185,18 @@ signed_no_point (pos n) lt = digits_no_point (decimal n) (decimal_parts n lt).di
 signed_no_point (negsuc n) lt = (refl, digits_no_point (decimal (suc n)) (wide_parts (suc n) (omega (arith, lt))).digits)
 
 pub number_fine : (z : ℤ) → mag z < 2 ^ 63 → IsFine (Plain (signed_decimal z))
-number_fine z lt = record { word = number_plain z lt; utf8 = IsUtf8-from_ascii (signed_decimal z) (IsAscii-signed z lt); sound = refl; line = signed_no_newline z lt }
+number_fine z lt = record {
+  word = number_plain z lt;
+  utf8 =
+      IsUtf8-from_ascii (signed_decimal z) (IsAscii-signed z lt);
+  sound = refl;
+  line =
+      signed_no_newline z lt;
+}
 
 pub number_free : (z : ℤ) → mag z < 2 ^ 63 → is_free (Plain (signed_decimal z)) ≡ true
-number_free (pos n) lt = let d = decimal_parts n lt in subst (λ (l : List ℕ). is_free (Plain l) ≡ true) (append-nil (decimal n)) (digits_free (decimal n) [] d.some d.digits)
+number_free (pos n) lt = let d = decimal_parts n lt in subst (λ (l : List ℕ). is_free (Plain l) ≡ true)
+    (append-nil (decimal n)) (digits_free (decimal n) [] d.some d.digits)
 number_free (negsuc n) lt = refl
 
 pub count_fine : (n : ℕ) → n < 2 ^ 63 → IsFine (Plain (decimal n))
@@ -190,7 +224,9 @@ escaped_no_newline : (text : List ℕ) → has_newline text ≡ false → HasNoN
 escaped_no_newline [] e = tt
 escaped_no_newline (c ∷ cs) e =
     let h = or_parts (eqb c 10) (has_newline cs) e in
-    no_newline-append (escaped_byte c) (escaped cs) (escaped_line c (eqb c 34) (eqb c 92) refl refl (λ p. let q : eqb 10 10 ≡ false = subst (λ (b : ℕ). eqb b 10 ≡ false) p h.0 in absurd cc)) (escaped_no_newline cs h.1)
+    no_newline-append (escaped_byte c) (escaped cs) (escaped_line c (eqb c 34) (eqb c 92) refl refl
+    (λ p. let q : eqb 10 10 ≡ false = subst (λ (b : ℕ). eqb b 10 ≡ false) p h.0 in absurd cc))
+    (escaped_no_newline cs h.1)
 
 pub text_fine : (text : List ℕ) → is_text text ≡ true → IsFine (Quoted text)
 text_fine text e =
@@ -198,9 +234,14 @@ text_fine text e =
     let front = both_hold (nat_le (length text) 255) (not (has_newline text)) all.0 in
     record {
       word = tt;
-      utf8 = IsUtf8-append (34 ∷ []) (escaped text ++ 34 ∷ []) quote (IsUtf8-append (escaped text) (34 ∷ []) (IsUtf8-escaped text (IsUtf8-from_is_utf8 text all.1)) quote);
+      utf8 = IsUtf8-append (34 ∷ []) (escaped text ++ 34 ∷ []) quote (IsUtf8-append (escaped text) (34 ∷ [])
+          (IsUtf8-escaped text (IsUtf8-from_is_utf8 text all.1)) quote);
       sound = e;
-      line = ((λ p. omega arith), no_newline-append (escaped text) (34 ∷ []) (escaped_no_newline text (not_true (has_newline text) front.1)) ((λ p. omega arith), tt));
+      line = (
+        (λ p. omega arith),
+        no_newline-append (escaped text) (34 ∷ [])
+            (escaped_no_newline text (not_true (has_newline text) front.1)) ((λ p. omega arith), tt),
+      );
     }
 
 pub value_fine : (v : Value) → IsValue v → IsFine (value_word v)
@@ -236,7 +277,9 @@ value_names_no_column ops.Ge v h = refl
 -- ---- columns of uses
 
 column_bytes_line : (n : ℕ) (name : List ℕ) → n < 2 ^ 63 → is_name name ≡ true → HasNoNewline (decimal n ++ 46 ∷ name)
-column_bytes_line n name lt e = no_newline-append (decimal n) (46 ∷ name) (digits_no_newline (decimal n) (decimal_parts n lt).digits) ((λ p. omega arith), names_no_newline name (name_parts name e).bytes_are)
+column_bytes_line n name lt e =
+    no_newline-append (decimal n) (46 ∷ name) (digits_no_newline (decimal n) (decimal_parts n lt).digits)
+    ((λ p. omega arith), names_no_newline name (name_parts name e).bytes_are)
 
 point : IsUtf8 (46 ∷ [])
 unfolding lib.Utf8.encode

@@ -185,7 +185,8 @@ unfolding walk cut_lines is_utf8 scan line_rules row_of query_over update_of_par
 open_list = refl
 
 -- a ninth list
-pub nine_lists : workload accounts (codes "list\ndone\nlist\ndone\nlist\ndone\nlist\ndone\nlist\ndone\nlist\ndone\nlist\ndone\nlist\ndone\nlist\n") ≡ at 17 (TooMany counts.List)
+pub nine_lists : workload accounts
+    (codes "list\ndone\nlist\ndone\nlist\ndone\nlist\ndone\nlist\ndone\nlist\ndone\nlist\ndone\nlist\ndone\nlist\n") ≡ at 17 (TooMany counts.List)
 unfolding walk cut_lines is_utf8 scan line_rules row_of query_over update_of_parts comparisons settings number_of digits chars lib.Utf8.encode
 nine_lists = refl
 
@@ -211,11 +212,25 @@ unfolding digits
 one_list_again = refl
 
 -- a row and nothing else
-pub one_row : workload accounts (codes "row acct 1 -2\nend\n") ≡ Ok (record { rows = (rel_no 1, Int (pos 1) ∷ Int (negsuc 1) ∷ []) ∷ []; txns = []; lists = []; events = [] })
+pub one_row : workload accounts (codes "row acct 1 -2\nend\n") ≡ Ok
+    (record {
+      rows = (rel_no 1, Int (pos 1) ∷ Int (negsuc 1) ∷ []) ∷ [];
+      txns = [];
+      lists = [];
+      events =
+          [];
+    })
 unfolding walk cut_lines is_utf8 scan line_rules row_of query_over update_of_parts comparisons settings number_of digits chars lib.Utf8.encode
 one_row = refl
 
 -- and its spelling
-pub one_row_again : spelling accounts (record { rows = (rel_no 1, Int (pos 1) ∷ Int (negsuc 1) ∷ []) ∷ []; txns = []; lists = []; events = [] }) ≡ codes "row acct 1 -2\nend\n"
+pub one_row_again : spelling accounts
+    (record {
+      rows = (rel_no 1, Int (pos 1) ∷ Int (negsuc 1) ∷ []) ∷ [];
+      txns = [];
+      lists = [];
+      events =
+          [];
+    }) ≡ codes "row acct 1 -2\nend\n"
 unfolding digits
 one_row_again = refl

@@ -37,7 +37,19 @@ walk_bytes cat line st bytes = walk cat line st (cut_lines bytes).0 (cut_lines b
 
 -- before the first line
 abbrev pub nothing_read : Catalogue → State
-nothing_read cat = record { place = Rows; rows = []; written = 0; names = []; txns = []; statements = []; lists = []; classes = length cat.classes; submitted = []; events = [] }
+nothing_read cat = record {
+  place = Rows;
+  rows = [];
+  written = 0;
+  names = [];
+  txns = [];
+  statements =
+      [];
+  lists = [];
+  classes = length cat.classes;
+  submitted = [];
+  events = [];
+}
 
 abbrev pub finished : Result State WorkFault → Result Workload WorkFault
 finished (Ok st) = Ok (record { rows = st.rows; txns = st.txns; lists = st.lists; events = st.events })

@@ -12,4 +12,6 @@ returns-then-is_among_lists c =
 pub returns-else-is_among_lists : goal.returns-else-is_among_lists
 returns-else-is_among_lists c =
     let e : c.is_among_lists.result ≡ in_lists c.args.name.now c.args.state.now.lists = rw c.as_slice.ensures at c.is_among_lists.ensures in
-    declared_in_open_list c.args.name.now c.args.state.now.lists (classes_in (open_list c.args.state.now.place)) c.is_among_lists.result c.is_in_open_list.result e c.if-is_among_lists.false c.is_in_open_list.ensures
+    declared_in_open_list c.args.name.now c.args.state.now.lists
+    (classes_in (open_list c.args.state.now.place)) c.is_among_lists.result c.is_in_open_list.result e
+    c.if-is_among_lists.false c.is_in_open_list.ensures

@@ -7,4 +7,5 @@ use Rattle.sdd_script.proofs.values.read_values.Given as goal
 
 -- what was read and what is left to read is all of it
 abbrev pub invariant-words : goal.invariant-words
-invariant-words l = with_front l.values.items (along (λ i w. value_of (kind_of_place l.columns i) w) l.i (drop l.i l.words)) ≡ along (λ i w. value_of (kind_of_place l.columns i) w) 0 l.words
+invariant-words l = with_front l.values.items (along (λ i w. value_of (kind_of_place l.columns i) w) l.i
+    (drop l.i l.words)) ≡ along (λ i w. value_of (kind_of_place l.columns i) w) 0 l.words

@@ -7,6 +7,8 @@ use Rattle.sdd_script.proofs.names.Names.add.Goals as goal
 
 pub returns-clause-fresh : goal.returns-clause-fresh
 returns-clause-fresh c = elim c.match-insert.branch [
-  | in-Ok w ↦ rw w.result-is (w.in-Ok.ensures.added ∙ fresh (bytes_eq (string_bytes c.in_ok-to_string.field-0)) string_bytes c.self.inside.set.keys ∙ rw (c.in_ok-to_string.ensures.ok, c.self.view_is) refl)
+  | in-Ok w ↦ rw w.result-is (w.in-Ok.ensures.added
+      ∙ fresh (bytes_eq (string_bytes c.in_ok-to_string.field-0)) string_bytes c.self.inside.set.keys
+      ∙ rw (c.in_ok-to_string.ensures.ok, c.self.view_is) refl)
   | in-Err w ↦ rw w.result-is tt
 ]
