@@ -16,7 +16,7 @@ use Rattle.sdd_umod.specs.Fits as um
 use Rattle.sdd_log.specs.Entries.{Given}
 use Rattle.sdd_log.specs.Permitted.{AreSubmittedOnce}
 use Rattle.sdd_facts.specs.Bounds.{AllFewTicks}
-use Rattle.sdd_sites.specs.AtSites.{fits_at, fits_submit_at, fits_tick_at}
+use Rattle.sdd_world.specs.AtSites.{fits_at, fits_submit_at, fits_tick_at}
 use Rattle.sdd_facts.specs.Fitting.{FitsGiven}
 use Rattle.sdd_facts.specs.Reading.{HasOneForce}
 use Rattle.sdd_module.specs.SiteLog as site

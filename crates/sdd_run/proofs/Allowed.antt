@@ -15,7 +15,7 @@ use Rattle.sdd_script.specs.Valid.{IsLink, IsSite, IsValidEvent}
 use Rattle.sdd_script.proofs.NoLists.{IsNoRedeclare}
 use Rattle.sdd_log.specs.Entries.{Given, with_event}
 use Rattle.sdd_step.specs.Resting.{IsPossible}
-use Rattle.sdd_schedule.specs.Schedules.{AreAllowed, is_settle}
+use Rattle.sdd_world.specs.Schedules.{AreAllowed, is_settle}
 use Rattle.sdd_run.proofs.Homes.{within}
 
 member : {A : Type 0} (xs : List A) (i : ℕ) → i < length xs → (x : A) × (slice_get xs i ≡ Some x)

@@ -17,7 +17,7 @@ use Rattle.sdd_script.specs.declared.workload.Workload.{Workload}
 use Rattle.sdd_log.specs.Entries.{Given, with_event}
 use Rattle.sdd_log.specs.Locals.{rows_of}
 use Rattle.sdd_step.specs.Resting.{IsSiteOf}
-use Rattle.sdd_schedule.specs.Schedules.{with_events}
+use Rattle.sdd_world.specs.Schedules.{with_events}
 use Rattle.sdd_world.specs.Standing.{IsSound}
 use Rattle.sdd_run.specs.Runs.{begun, given_of}
 

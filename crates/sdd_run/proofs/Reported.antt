@@ -18,12 +18,12 @@ use Rattle.sdd_net.specs.Nets.{Directions}
 use Rattle.sdd_log.specs.Entries.{Log, history}
 use Rattle.sdd_log.specs.Lawful.{EndsByLimit, IsTheLog}
 use Rattle.sdd_log.specs.Locals.{redeclares}
-use Rattle.sdd_mail.specs.Carries.{Carries}
+use Rattle.sdd_world.specs.Carries.{Carries}
 use Rattle.sdd_facts.specs.Real.{IsGood}
 use Rattle.sdd_order.specs.SerialOrder.{serial_order}
-use Rattle.sdd_schedule.specs.Schedules.{with_events}
-use Rattle.sdd_system.specs.Members.{StandFor}
-use Rattle.sdd_system.specs.declared.members.Members.{Members}
+use Rattle.sdd_world.specs.Schedules.{with_events}
+use Rattle.sdd_world.specs.Members.{StandFor}
+use Rattle.sdd_world.specs.declared.members.Members.{Members}
 use Rattle.sdd_world.specs.Standing.{EndsBy, StandsFor}
 use Rattle.sdd_world.specs.declared.world.World.{World}
 use Rattle.sdd_run.specs.Reports.{report_of}

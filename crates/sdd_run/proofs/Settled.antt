@@ -17,8 +17,8 @@ use Rattle.sdd_protocol.specs.Protocols.{IsTable}
 use Rattle.sdd_protocol.specs.declared.entry.Entry.{Entry}
 use Rattle.sdd_script.specs.Valid.{IsValid}
 use Rattle.sdd_script.specs.declared.workload.Workload.{Workload}
-use Rattle.sdd_sites.specs.AtSites.{standing_at}
-use Rattle.sdd_sites.specs.Standings.{standing_at_t, standing_at_u}
+use Rattle.sdd_world.specs.AtSites.{standing_at}
+use Rattle.sdd_world.specs.Standings.{standing_at_t, standing_at_u}
 use Rattle.sdd_upheld.specs.Given.{SubmitGiven}
 use Rattle.sdd_rest.proofs.Settled.{settle_ends, settled_is_committed}
 use Rattle.sdd_rest.specs.Committed.{AllCommitted, WasCommitted}

@@ -21,8 +21,8 @@ use Rattle.sdd_log.specs.Entries.{Given}
 use Rattle.sdd_log.specs.Locals.{beginning, setting_of}
 use Rattle.sdd_step.specs.Resting.{IsSiteOf}
 use Rattle.sdd_facts.specs.Real.{IsGood}
-use Rattle.sdd_schedule.specs.Schedules.{AreAllowed}
-use Rattle.sdd_system.specs.Members.{IsMadeOf}
+use Rattle.sdd_world.specs.Schedules.{AreAllowed}
+use Rattle.sdd_world.specs.Members.{IsMadeOf}
 use Rattle.sdd_world.specs.Standing as standing
 use Rattle.sdd_world.specs.Standing.{StandsFor}
 use Rattle.sdd_world.specs.declared.world.World.{World}

@@ -1,6 +1,6 @@
 -- The report on a run, as its log gives it.
-use Rattle.sdd_sites.specs.AtSites.{standing_at}
-use Rattle.sdd_sites.specs.Standings.{standing_at_t, standing_at_u}
+use Rattle.sdd_world.specs.AtSites.{standing_at}
+use Rattle.sdd_world.specs.Standings.{standing_at_t, standing_at_u}
 use Rattle.sdd_log.specs.Entries.{Given, Log, history}
 use Rattle.sdd_order.specs.SerialOrder.{serial_order}
 use Rattle.sdd_report.specs.Report.{Report}

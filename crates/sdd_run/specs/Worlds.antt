@@ -17,10 +17,10 @@ use Rattle.sdd_script.specs.declared.workload.Workload.{Workload}
 use Rattle.sdd_log.specs.Entries.{Given, Log}
 use Rattle.sdd_log.specs.Lawful.{IsTheLog}
 use Rattle.sdd_log.specs.Locals.{redeclares}
-use Rattle.sdd_mail.specs.Carries.{Carries}
+use Rattle.sdd_world.specs.Carries.{Carries}
 use Rattle.sdd_facts.specs.Real.{IsGood}
-use Rattle.sdd_system.specs.Members.{StandFor}
-use Rattle.sdd_system.specs.declared.members.Members.{Members}
+use Rattle.sdd_world.specs.Members.{StandFor}
+use Rattle.sdd_world.specs.declared.members.Members.{Members}
 use Rattle.sdd_world.specs.Standing.{StandsFor}
 use Rattle.sdd_world.specs.declared.world.World.{World}
 use Rattle.sdd_run.specs.Pending.{commits}

@@ -12,9 +12,9 @@ ghost use Rattle.sdd_run.specs.Worlds.{StandsOn};
 use sdd_base::{DmNo, FragNo, Listed, NoMemory, RowList};
 use sdd_catalog::Catalogue;
 use sdd_copy::Copies;
-use sdd_mail::Network;
+use sdd_world::Network;
 use sdd_report::CopyTable;
-use sdd_sites::Homes;
+use sdd_world::Homes;
 use sdd_world::{Lawful, World};
 use std::alloc::Global;
 

@@ -7,12 +7,12 @@ ghost use Rattle.sdd_run.specs.Runs.{EndsAtLimit};
 ghost use Rattle.sdd_run.specs.Worlds.{IsRunOf};
 
 use sdd_catalog::Catalogue;
-use sdd_mail::Mail;
+use sdd_world::Mail;
 use sdd_protocol::Table;
-use sdd_schedule::carry_out;
+use sdd_world::carry_out;
 use sdd_script::Workload;
-use sdd_sites::Home;
-use sdd_system::Members;
+use sdd_world::Home;
+use sdd_world::Members;
 use sdd_world::{World, WorldEnd};
 use std::alloc::Global;
 

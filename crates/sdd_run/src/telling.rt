@@ -10,10 +10,10 @@ use crate::copies::tables;
 use crate::unfinished::pending;
 use sdd_base::NoMemory;
 use sdd_catalog::Catalogue;
-use sdd_mail::Network;
+use sdd_world::Network;
 use sdd_order::serial_order;
 use sdd_report::{Report, report_text};
-use sdd_sites::Homes;
+use sdd_world::Homes;
 use sdd_world::{Lawful, World};
 use std::alloc::Global;
 

@@ -12,9 +12,9 @@ ghost use Rattle.sdd_run.specs.Worlds.{StandsOn};
 use sdd_attempt::Standing;
 use sdd_base::{ClassNo, DmNo, NoMemory, Site, Ts, TxnNo};
 use sdd_catalog::Catalogue;
-use sdd_mail::Network;
+use sdd_world::Network;
 use sdd_report::{Waiting, Why, under_way};
-use sdd_sites::Homes;
+use sdd_world::Homes;
 use sdd_world::{Lawful, World};
 use std::alloc::Global;
 

@@ -25,7 +25,7 @@ use Rattle.sdd_step.specs.Resting.{AllLinked, IsFirst, IsSiteOf, Takes}
 use Rattle.sdd_step.proofs.Acts.{calls_acts, ends_in_acts, history_acts, linked_acts, marks_acts, other_acts, own_acts}
 use Rattle.sdd_step.proofs.Handing.{and_right, first_lawful, first_next, hands_first, remain_other}
 use Rattle.sdd_world.specs.declared.world.World.{World}
-use Rattle.sdd_sites.specs.Kinds.{next_of}
+use Rattle.sdd_world.specs.DueAt.{next_of}
 use Rattle.sdd_world.specs.Kinds.{AreLinked}
 use Rattle.sdd_world.specs.Following.{Followed, IsPast, MaySend}
 use Rattle.sdd_world.specs.Standing.{ahead_of, EndsBy, Facts, HandedOn, Handing, Spooled}

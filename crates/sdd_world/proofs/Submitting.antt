@@ -31,7 +31,7 @@ use Rattle.sdd_step.proofs.FirstHand.{listed}
 use Rattle.sdd_step.proofs.Marking.{mark_within}
 use Rattle.sdd_step.proofs.Submitting.{home_in, other_local, submits_and_acts, submitted, submitted_local, submitted_within, acts_lawful}
 use Rattle.sdd_world.specs.declared.world.World.{World}
-use Rattle.sdd_sites.specs.Kinds.{next_of}
+use Rattle.sdd_world.specs.DueAt.{next_of}
 use Rattle.sdd_world.specs.Kinds.{AreLinked}
 use Rattle.sdd_world.specs.Following.{Followed, IsPast, MaySend}
 use Rattle.sdd_world.specs.Standing.{EndsBy, Facts, Happened, Marked, Spooled}

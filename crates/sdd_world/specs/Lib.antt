@@ -1,3 +1,10 @@
+pub mod AtSites
+pub mod Beginnings
+pub mod Carries
+pub mod DueAt
 pub mod Following
 pub mod Kinds
+pub mod Members
+pub mod Schedules
 pub mod Standing
+pub mod Standings

@@ -1,7 +1,7 @@
 ghost use Rattle.sdd_log.specs.Entries.{Given};
 ghost use Rattle.sdd_world.specs.Standing.{Facts};
 
-use sdd_sites::Modules;
+use crate::sites_trait::Modules;
 
 /// Modules whose logs hold what they ask of the next call.
 pub trait Lawful: Modules {

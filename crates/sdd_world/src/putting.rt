@@ -8,7 +8,7 @@ ghost use Rattle.sdd_world.specs.Kinds.{AreLinked};
 use crate::ends::WorldEnd;
 use sdd_base::{NoMemory, Site};
 use sdd_history::{History, Recs};
-use sdd_mail::Network;
+use crate::network::Network;
 use sdd_wire::{Msg, Outs};
 use std::collections::VecDeque;
 

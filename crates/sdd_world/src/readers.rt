@@ -23,8 +23,8 @@ use sdd_base::{ClassNo, Cond, DmNo, Event, Listed, NoMemory, Site, Ts, TxnNo};
 use sdd_copy::Copies;
 use sdd_history::History;
 use sdd_lang::Txn;
-use sdd_mail::Network;
-use sdd_sites::Homes;
+use crate::network::Network;
+use crate::homes::Homes;
 use sdd_spool::Spool;
 use std::alloc::Global;
 

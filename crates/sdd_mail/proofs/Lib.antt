@@ -1,4 +1,0 @@
-pub mod Carrying
-pub mod Fitting
-pub mod Opened
-pub mod Quietness

@@ -1,3 +1,0 @@
-pub mod AtSites
-pub mod Kinds
-pub mod Standings

@@ -1,0 +1,166 @@
+-- What one module's law says of all sites.
+use Rattle.std.proofs.Common.{◌-◌, ◌≡◌, ◌∙◌, sym, subst, refl, Bool, List, [], ◌∷◌, Option, Result, Ok, Err}
+use Rattle.std.specs.Prelude.{IfOk, IsTrue, slice_get}
+use Rattle.sdd_base.specs.declared.no_memory.NoMemory.{NoMemory}
+use Rattle.sdd_base.specs.declared.number.DmNo.{DmNo}
+use Rattle.sdd_base.specs.declared.number.TmNo.{TmNo}
+use Rattle.sdd_base.specs.declared.number.TxnNo.{TxnNo}
+use Rattle.sdd_base.specs.declared.site.Site.{Site}
+use Rattle.sdd_base.specs.declared.site.Site.TheVariants.{U, T, D}
+use Rattle.sdd_lang.specs.declared.transaction.Txn.{Txn}
+use Rattle.sdd_history.specs.declared.record.Rec.{Rec}
+use Rattle.sdd_history.specs.declared.record.Rec.TheVariants.{Submit as Submission}
+use Rattle.sdd_wire.specs.declared.msg.Msg.{Msg}
+use Rattle.sdd_wire.specs.declared.outcome.Outcome.{Outcome}
+use Rattle.sdd_module.specs.SiteLog.{Setting, Bases, Act, Handed, Submits, AreDue, Does, Did, log_after}
+use Rattle.sdd_module.specs.SiteLog as site
+use Rattle.sdd_dm.specs.Due as dm
+use Rattle.sdd_tm.specs.Due as tm
+use Rattle.sdd_umod.specs.Due as um
+use Rattle.sdd_world.specs.AtSites.{Standing, Fitting, FittingSubmit, Lives, At, StandsAt, fits_at, fits_submit_at}
+use Rattle.sdd_world.specs.DueAt.{next_of}
+
+-- the act that is due next
+abbrev pub Table : Type 0
+Table = Setting → Bases → site.Log → Option Act
+
+abbrev pub Agree : Table → Table → Type 0
+Agree next table = (s : Setting) (bases : Bases) (log : site.Log) → next s bases log ≡ table s bases log
+
+due_by : (f h : site.Log → Option Act) → ((l : site.Log) → f l ≡ h l) → (l : site.Log) (acts : List Act) → AreDue f l acts → AreDue h l acts
+due_by f h e l [] d = sym (e l) ∙ d
+due_by f h e l (a ∷ acts) d = (sym (e l) ∙ d.0, due_by f h e (Did a ∷ l) acts d.1)
+
+-- a call does the same by a table that agrees, and leaves what follows from what it leaves
+does_by : (f h : site.Log → Option Act) → ((l : site.Log) → f l ≡ h l) → (l : site.Log) (recs : List Rec) (out : List (Site × Msg))
+    (P Q : site.Log → Type 0) → ((k : site.Log) → P k → Q k) → Does f l recs out P → Does h l recs out Q
+does_by f h e l recs out P Q g d = record {
+  acts = d.acts;
+  due = due_by f h e l d.acts d.due;
+  records_are = d.records_are;
+  sends_are = d.sends_are;
+  after = g (log_after d.acts l) d.after;
+}
+
+if_ok : (res : Result Outcome NoMemory) (P Q : Outcome → Type 0) → ((o : Outcome) → P o → Q o) → IfOk res P → IfOk res Q
+if_ok (Ok o) P Q h k = h o k
+if_ok (Err e) P Q h k = tt
+
+-- the laws of `take` and `submit`, for whatever stands for logs and acts by a table
+module _ {V : Type 0} (stands : Standing V) (next : Table) where
+  abbrev pub Takes : Fitting → V → V → Site → Msg → Outcome → Type 0
+  Takes fits v v2 from msg o =
+      (setting : Setting) (bases : Bases) (log : site.Log) → stands v setting log → fits setting bases log from msg
+      → Does (next setting bases) (Handed from msg ∷ log) o.recs o.out (stands v2 setting)
+
+  abbrev pub Given : FittingSubmit → V → V → TxnNo → Txn → Outcome → Type 0
+  Given fits v v2 n txn o =
+      (setting : Setting) (bases : Bases) (log : site.Log) → stands v setting log → fits setting bases log n.0 txn
+      → (recs : List Rec) × (o.recs ≡ Submission n ∷ recs)
+      × Does (next setting bases) (Submits n.0 txn ∷ log) recs o.out (stands v2 setting)
+
+-- what stands for a log in a wider sense does in the narrower, and after a call does again
+record Widens {V W : Type 0} (stands : Standing V) (wide : Standing W) (v v2 : V) (w w2 : W) : Type 0 where
+  narrow : (setting : Setting) (log : site.Log) → wide w setting log → stands v setting log
+  widen : (setting : Setting) (log more : site.Log) → wide w setting log → stands v2 setting more → wide w2 setting more
+
+module _ {V W : Type 0} (stands : Standing V) (wide : Standing W) (next table : Table) (agree : Agree next table) (v v2 : V) (w w2 : W)
+    (widens : Widens stands wide v v2 w w2) where
+  takes_so : (fits : Fitting) (from : Site) (msg : Msg) (o : Outcome) → Takes stands next fits v v2 from msg o → Takes wide table fits w w2 from msg o
+  takes_so fits from msg o law = λ setting bases log s f.
+      does_by (next setting bases) (table setting bases) (agree setting bases) (Handed from msg ∷ log) o.recs o.out (stands v2 setting)
+      (wide w2 setting) (λ k x. widens.widen setting log k s x) (law setting bases log (widens.narrow setting log s) f)
+
+  given_so : (fits : FittingSubmit) (n : TxnNo) (txn : Txn) (o : Outcome) → Given stands next fits v v2 n txn o → Given wide table fits w w2 n txn o
+  given_so fits n txn o law = λ setting bases log s f.
+      let d = law setting bases log (widens.narrow setting log s) f in (
+        d.0,
+        d.1,
+        does_by (next setting bases) (table setting bases) (agree setting bases) (Submits n.0 txn ∷ log) d.0 o.out (stands v2 setting)
+            (wide w2 setting) (λ k x. widens.widen setting log k s x) d.2,
+      )
+
+-- a module that is live after the call
+module _ {V : Type 0} (is_live : V → Bool) (stands : Standing V) (next : Table) (v v2 : V) where
+  lives : IsTrue (is_live v2) → Widens stands (Lives is_live stands) v v2 v v2
+  lives live = record {
+    narrow = λ setting log x. x.stands_for;
+    widen = λ setting log more x y. record { live = live; stands_for = y };
+  }
+
+  pub lives_take : (fits : Fitting) (from : Site) (msg : Msg) (res : Result Outcome NoMemory) → IfOk res (Takes stands next fits v v2 from msg)
+      → IfOk res (λ o. IsTrue (is_live v2)) → IfOk res (Takes (Lives is_live stands) next fits v v2 from msg)
+  lives_take fits from msg (Ok o) law live =
+      takes_so stands (Lives is_live stands) next next (λ s b l. refl) v v2 v v2 (lives live) fits from msg o law
+  lives_take fits from msg (Err e) law live = tt
+
+  pub lives_submit : (fits : FittingSubmit) (n : TxnNo) (txn : Txn) (res : Result Outcome NoMemory) → IfOk res (Given stands next fits v v2 n txn)
+      → IfOk res (λ o. IsTrue (is_live v2)) → IfOk res (Given (Lives is_live stands) next fits v v2 n txn)
+  lives_submit fits n txn (Ok o) law live =
+      given_so stands (Lives is_live stands) next next (λ s b l. refl) v v2 v v2 (lives live) fits n txn o law
+  lives_submit fits n txn (Err e) law live = tt
+
+-- the modules of all sites, where that of one site makes the call
+module _ {A B C : Type 0} (p : Standing A) (q : Standing B) (r : Standing C) where
+  abbrev pub AllAt : Site → Standing (A × List B × List C)
+  AllAt at m setting log = StandsAt p q r m.0 m.1 m.2 at setting log
+
+  at_u : (u u2 : A) (ts : List B) (ds : List C) → Widens p (AllAt U) u u2 (u, ts, ds) (u2, ts, ds)
+  at_u u u2 ts ds = record { narrow = λ setting log x. x; widen = λ setting log more x y. y }
+
+  at_t : (n : TmNo) (u : A) (ts ts2 : List B) (ds : List C)
+      → Widens (At q) (AllAt (T n)) (slice_get ts (n.0 - 1)) (slice_get ts2 (n.0 - 1)) (u, ts, ds) (u, ts2, ds)
+  at_t n u ts ts2 ds = record { narrow = λ setting log x. x.1; widen = λ setting log more x y. (x.0, y) }
+
+  at_d : (n : DmNo) (u : A) (ts : List B) (ds ds2 : List C)
+      → Widens (At r) (AllAt (D n)) (slice_get ds (n.0 - 1)) (slice_get ds2 (n.0 - 1)) (u, ts, ds) (u, ts, ds2)
+  at_d n u ts ds ds2 = record { narrow = λ setting log x. x.1; widen = λ setting log more x y. (x.0, y) }
+
+  module _ (fu ft fd : Fitting) (from : Site) (msg : Msg) (res : Result Outcome NoMemory) where
+    abbrev pub TakenAt : A × List B × List C → A × List B × List C → Site → Type 0
+    TakenAt m m2 at = IfOk res (Takes (AllAt at) (next_of at) (fits_at fu ft fd at) m m2 from msg)
+
+    pub take_u : (next : Table) (u u2 : A) (ts : List B) (ds : List C) (at : Site) → at ≡ U → Agree next um.next
+        → IfOk res (Takes p next fu u u2 from msg) → TakenAt (u, ts, ds) (u2, ts, ds) at
+    take_u next u u2 ts ds at e agree law =
+        subst (TakenAt (u, ts, ds) (u2, ts, ds)) (sym e)
+        (if_ok res (Takes p next fu u u2 from msg) (Takes (AllAt U) um.next fu (u, ts, ds) (u2, ts, ds) from msg)
+        (takes_so p (AllAt U) next um.next agree u u2 (u, ts, ds) (u2, ts, ds) (at_u u u2 ts ds) fu from msg) law)
+
+    pub take_t : (next : Table) (u : A) (ts ts2 : List B) (ds : List C) (at : Site) (n : TmNo) → at ≡ T n → Agree next tm.next
+        → IfOk res (Takes (At q) next ft (slice_get ts (n.0 - 1)) (slice_get ts2 (n.0 - 1)) from msg) → TakenAt (u, ts, ds) (u, ts2, ds) at
+    take_t next u ts ts2 ds at n e agree law =
+        let here = slice_get ts (n.0 - 1) in
+        let after = slice_get ts2 (n.0 - 1) in
+        subst (TakenAt (u, ts, ds) (u, ts2, ds)) (sym e)
+        (if_ok res (Takes (At q) next ft here after from msg) (Takes (AllAt (T n)) tm.next ft (u, ts, ds) (u, ts2, ds) from msg)
+        (takes_so (At q) (AllAt (T n)) next tm.next agree here after (u, ts, ds) (u, ts2, ds) (at_t n u ts ts2 ds) ft from msg) law)
+
+    pub take_d : (next : Table) (u : A) (ts : List B) (ds ds2 : List C) (at : Site) (n : DmNo) → at ≡ D n → Agree next dm.next
+        → IfOk res (Takes (At r) next fd (slice_get ds (n.0 - 1)) (slice_get ds2 (n.0 - 1)) from msg) → TakenAt (u, ts, ds) (u, ts, ds2) at
+    take_d next u ts ds ds2 at n e agree law =
+        let here = slice_get ds (n.0 - 1) in
+        let after = slice_get ds2 (n.0 - 1) in
+        subst (TakenAt (u, ts, ds) (u, ts, ds2)) (sym e)
+        (if_ok res (Takes (At r) next fd here after from msg) (Takes (AllAt (D n)) dm.next fd (u, ts, ds) (u, ts, ds2) from msg)
+        (takes_so (At r) (AllAt (D n)) next dm.next agree here after (u, ts, ds) (u, ts, ds2) (at_d n u ts ds ds2) fd from msg) law)
+
+  module _ (fu ft : FittingSubmit) (n : TxnNo) (txn : Txn) (res : Result Outcome NoMemory) where
+    abbrev pub GivenAt : A × List B × List C → A × List B × List C → Site → Type 0
+    GivenAt m m2 at = IfOk res (Given (AllAt at) (next_of at) (fits_submit_at fu ft at) m m2 n txn)
+
+    pub submit_u : (next : Table) (u u2 : A) (ts : List B) (ds : List C) (at : Site) → at ≡ U → Agree next um.next
+        → IfOk res (Given p next fu u u2 n txn) → GivenAt (u, ts, ds) (u2, ts, ds) at
+    submit_u next u u2 ts ds at e agree law =
+        subst (GivenAt (u, ts, ds) (u2, ts, ds)) (sym e)
+        (if_ok res (Given p next fu u u2 n txn) (Given (AllAt U) um.next fu (u, ts, ds) (u2, ts, ds) n txn)
+        (given_so p (AllAt U) next um.next agree u u2 (u, ts, ds) (u2, ts, ds) (at_u u u2 ts ds) fu n txn) law)
+
+    pub submit_t : (next : Table) (u : A) (ts ts2 : List B) (ds : List C) (at : Site) (t : TmNo) → at ≡ T t → Agree next tm.next
+        → IfOk res (Given (At q) next ft (slice_get ts (t.0 - 1)) (slice_get ts2 (t.0 - 1)) n txn) → GivenAt (u, ts, ds) (u, ts2, ds) at
+    submit_t next u ts ts2 ds at t e agree law =
+        let here = slice_get ts (t.0 - 1) in
+        let after = slice_get ts2 (t.0 - 1) in
+        subst (GivenAt (u, ts, ds) (u, ts2, ds)) (sym e)
+        (if_ok res (Given (At q) next ft here after n txn) (Given (AllAt (T t)) tm.next ft (u, ts, ds) (u, ts2, ds) n txn)
+        (given_so (At q) (AllAt (T t)) next tm.next agree here after (u, ts, ds) (u, ts2, ds) (at_t t u ts ts2 ds) ft n txn) law)

@@ -1,0 +1,9 @@
+use Rattle.std.proofs.Common.{◌∙◌}
+use Rattle.sdd_world.specs.Carries.{in_bytes}
+use Rattle.sdd_world.proofs.InBytes.{stands_in, quiet_in}
+use Rattle.sdd_world.proofs.mail.MailNetwork.quiet.Goals as goal
+
+pub returns : goal.returns
+returns c tms dms calls carries =
+    c.quiet.ensures (in_bytes calls) (stands_in c.args.self.now c.self.inside.net c.self.inside.live tms dms calls c.self.view_is carries)
+    ∙ quiet_in c.args.self.now c.self.inside.net c.self.inside.live tms dms calls c.self.view_is carries

@@ -1,0 +1,11 @@
+use Rattle.std.proofs.Common.{◌∙◌}
+use Rattle.sdd_wire.specs.Spelling.{spelled}
+use Rattle.sdd_world.specs.Carries.{in_bytes}
+use Rattle.sdd_world.proofs.InBytes.{stands_in}
+use Rattle.sdd_world.proofs.Quietness.{packet_same}
+use Rattle.sdd_world.proofs.mail.MailNetwork.repeat.Goals as goal
+
+pub returns-clause-there : goal.returns-clause-there
+returns-clause-there c tms dms calls carries =
+    c.in_ok-there.ensures.there (in_bytes calls) (stands_in c.args.self.now c.self.inside.net c.self.inside.live tms dms calls c.self.view_is carries)
+    ∙ packet_same spelled c.args.from c.args.to c.args.place calls

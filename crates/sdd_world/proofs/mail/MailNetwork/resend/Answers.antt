@@ -1,0 +1,11 @@
+use Rattle.std.proofs.Common.{◌∙◌}
+use Rattle.sdd_wire.specs.Spelling.{spelled}
+use Rattle.sdd_world.specs.Carries.{in_bytes}
+use Rattle.sdd_world.proofs.InBytes.{stands_in}
+use Rattle.sdd_world.proofs.Quietness.{unacked_same}
+use Rattle.sdd_world.proofs.mail.MailNetwork.resend.Goals as goal
+
+pub returns-clause-some : goal.returns-clause-some
+returns-clause-some c tms dms calls carries =
+    c.in_ok-some.ensures.some (in_bytes calls) (stands_in c.args.self.now c.self.inside.net c.self.inside.live tms dms calls c.self.view_is carries)
+    ∙ unacked_same spelled c.args.from c.args.to calls

@@ -1,0 +1,6 @@
+use Rattle.sdd_world.specs.Beginnings.{BeginsT}
+use Rattle.sdd_world.proofs.Numbered.{MadeTo}
+use Rattle.sdd_world.proofs.making.txn_modules.Given as goal
+
+abbrev pub invariant-loop-number : goal.invariant-loop-number
+invariant-loop-number l = MadeTo (BeginsT l.catalogue l.table) l.number l.made.items

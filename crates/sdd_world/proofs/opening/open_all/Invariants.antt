@@ -1,0 +1,12 @@
+use Rattle.std.proofs.Common.{◌≡◌, map, take}
+use Rattle.std.specs.List.{AllByRecursion}
+use Rattle.sdd_wire.specs.Fits.{Fits}
+use Rattle.sdd_wire.specs.Spelling.{spelled}
+use Rattle.sdd_world.proofs.opening.open_all.Given as goal
+
+-- so far the messages are those of the spellings so far
+abbrev pub invariant-spellings : goal.invariant-spellings
+invariant-spellings l = record {
+  spelled : take l.spelling-index l.spelling-items ≡ map spelled l.messages.items;
+  fit : AllByRecursion Fits l.messages.items;
+}

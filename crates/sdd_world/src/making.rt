@@ -1,0 +1,47 @@
+ghost use Rattle.std.specs.Prelude.{IfOk};
+ghost use Rattle.std.specs.List.{All};
+ghost use Rattle.sdd_lang.specs.Fits.{FitsStart};
+ghost use Rattle.sdd_world.specs.Beginnings.{AllBegin, BeginsD, BeginsT};
+
+use sdd_base::{DmNo, NoMemory, RelNo, Row, TmNo};
+use sdd_catalog::Catalogue;
+use sdd_dm::DataModule;
+use sdd_protocol::Table;
+use sdd_tm::TxnModule;
+use std::alloc::Global;
+
+/// The transaction modules, where this catalogue and its protocol table are in force. Each costs a
+/// look at each class.
+pub fn txn_modules<'a>(
+    alloc: Global,
+    catalogue: &'a Catalogue,
+    table: &'a Table,
+) -> Result<Vec<TxnModule<'a>>, NoMemory>
+    ensures { IfOk result (λ made.
+        AllBegin (BeginsT catalogue.now table.now) catalogue.now.tms made.items) }
+{
+    catalogue.known();
+    let mut made = Vec::new(alloc);
+    for number in 1..catalogue.tms() + 1 {
+        made.push(TxnModule::new(alloc, catalogue, table, TmNo(number as u8))?)?;
+    }
+    Ok(made)
+}
+
+/// The data modules, each made of the same rows. Each costs O(n log n) for n rows.
+pub fn data_modules(
+    alloc: Global,
+    catalogue: &Catalogue,
+    rows: &[(RelNo, Row)],
+) -> Result<Vec<DataModule>, NoMemory>
+    requires { All (FitsStart catalogue.now) rows.now }
+    ensures { IfOk result (λ made.
+        AllBegin (BeginsD catalogue.now rows.now) catalogue.now.dms made.items) }
+{
+    catalogue.known();
+    let mut made = Vec::new(alloc);
+    for number in 1..catalogue.dms() + 1 {
+        made.push(DataModule::new(alloc, catalogue, DmNo(number as u8), rows)?)?;
+    }
+    Ok(made)
+}
