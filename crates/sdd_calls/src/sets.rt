@@ -23,7 +23,7 @@ fn tell_txn<W: Write>(alloc: Global, out: &mut W, cat: &Catalogue, txn: &Txn) ->
     ensure!(fits(cat, txn), "a transaction that doesn't fit");
     let reads = read_set(alloc, cat, txn).map_err(wanting)?;
     let writes = write_set(alloc, cat, txn).map_err(wanting)?;
-    let class = class_for(alloc, cat, txn).map_err(wanting)?.0;
+    let class = class_for(cat, txn).0;
     writeln!(
         out,
         "read_set {:?}, write_set {:?}",

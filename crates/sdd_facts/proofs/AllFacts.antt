@@ -19,7 +19,7 @@ use Rattle.sdd_log.specs.Locals.{force_at, local_of, redeclares, setting_of, txn
 use Rattle.sdd_log.specs.Snapshots.{base_of}
 use Rattle.sdd_log.proofs.NewMarks.{lawful_permitted}
 use Rattle.sdd_facts.proofs.Put.{databases}
-use Rattle.sdd_world.specs.Standing.{Facts}
+use Rattle.sdd_facts.specs.Facts.{Facts}
 use Rattle.sdd_facts.proofs.Early.{clock_below}
 use Rattle.sdd_facts.specs.Given.{IsFit}
 use Rattle.sdd_facts.specs.Real.{IsGood, fits, fits_submit, fits_tick}
@@ -102,7 +102,7 @@ submit_fits g good log (D d) n txn l w e f =
     (at_home g log (D d) n (fit_of g good).small l e) in
     not_d (class_for (force_at g (redeclares log)).catalogue txn == 0) txn.tm d h
 
-pub all_facts : Facts IsGood fits fits_submit fits_tick
+pub all_facts : Facts
 all_facts = record {
   hand = hand_fits;
   submit = submit_fits;

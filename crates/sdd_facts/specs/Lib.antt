@@ -1,6 +1,7 @@
 pub mod Awaited
 pub mod Bounds
 pub mod Contents
+pub mod Facts
 pub mod Fitting
 pub mod Given
 pub mod Heights

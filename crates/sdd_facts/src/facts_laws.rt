@@ -18,7 +18,7 @@ ghost use Rattle.sdd_log.specs.Locals.{local_of, setting_of, txn_at};
 ghost use Rattle.sdd_log.specs.Permitted.{IsPermitted};
 ghost use Rattle.sdd_step.specs.Resting.{AllLinked, IsSiteOf};
 ghost use Rattle.sdd_invariants.specs.Traffic.{puts_to};
-ghost use Rattle.sdd_world.specs.Standing.{Facts};
+ghost use Rattle.sdd_facts.specs.Facts.{Facts};
 ghost use Rattle.sdd_facts.specs.Given.{IsFit};
 ghost use Rattle.sdd_facts.specs.Real.{IsGood, fits, fits_submit, fits_tick};
 ghost use Rattle.sdd_facts.specs.Routes.{IsRouted};
@@ -81,5 +81,5 @@ pub fn law_sends()
 /// What a world asks of its modules' messages, transactions, ticks and sends holds of the real
 /// modules' on the lawful logs of what is given so.
 pub fn law_facts()
-    ensures { Facts IsGood fits fits_submit fits_tick }
+    ensures { Facts }
 {}

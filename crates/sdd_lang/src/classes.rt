@@ -45,13 +45,13 @@ pub fn write_set(alloc: Global, cat: &Catalogue, txn: &Txn) -> Result<Vec<FragNo
 ///
 /// Costs what the two sets cost, and, for each class of its module, time in the fragments of the
 /// catalogue, and for each fragment of the sets time in the class's lists. Takes no memory.
-pub fn class_for(_alloc: Global, cat: &Catalogue, txn: &Txn) -> Result<ClassNo, NoMemory>
+pub fn class_for(cat: &Catalogue, txn: &Txn) -> ClassNo
     requires { Fits cat.now txn.now }
-    ensures { IfOk result (λ class. class.0 ≡ class_for cat.now txn.now) }
+    ensures { result.0 ≡ class_for cat.now txn.now }
 {
     let mut touched = Touched::none();
     touched.add_all(cat, txn);
-    Ok(first_covering(cat, txn, &touched))
+    first_covering(cat, txn, &touched)
 }
 
 /// The fragments of the set, ascending.

@@ -1,7 +1,6 @@
 -- What is told of a world that has carried out all events of a workload is told of its run.
 use Rattle.std.proofs.Common.{ℕ, ◌≡◌, ◌∙◌, List, length, Result, Ok, Err, ap, refl, subst}
 use Rattle.std.specs.Prelude.{IfOk}
-use Rattle.sdd_base.specs.Kept.{Kept}
 use Rattle.sdd_base.specs.declared.event.Event.{Event}
 use Rattle.sdd_catalog.specs.Catalogue.{Catalogue}
 use Rattle.sdd_catalog.specs.Rules.{IsSound}
@@ -14,16 +13,11 @@ use Rattle.sdd_lang.specs.declared.transaction.Txn.{Txn}
 use Rattle.sdd_history.specs.Records.{History}
 use Rattle.sdd_make.specs.Summary.{summary_of, summary_text}
 use Rattle.sdd_make.specs.declared.summary.Summary.{Summary}
-use Rattle.sdd_net.specs.Nets.{Directions}
 use Rattle.sdd_log.specs.Entries.{Log, history}
 use Rattle.sdd_log.specs.Lawful.{EndsByLimit, IsTheLog}
 use Rattle.sdd_log.specs.Locals.{redeclares}
-use Rattle.sdd_world.specs.Carries.{Carries}
-use Rattle.sdd_facts.specs.Real.{IsGood}
 use Rattle.sdd_order.specs.SerialOrder.{serial_order}
 use Rattle.sdd_world.specs.Schedules.{with_events}
-use Rattle.sdd_world.specs.Members.{StandFor}
-use Rattle.sdd_world.specs.declared.members.Members.{Members}
 use Rattle.sdd_world.specs.Standing.{EndsBy, StandsFor}
 use Rattle.sdd_world.specs.declared.world.World.{World}
 use Rattle.sdd_run.specs.Reports.{report_of}
@@ -48,10 +42,10 @@ given_all : (cat : Catalogue) (table : List Entry) (work : Workload) (events : L
 given_all cat table work events same = ap (with_events (begun cat table work)) same ∙ all_given cat table work
 
 pub run_of : (cat : Catalogue) (table : List Entry) (work : Workload) (events : List Event) → events ≡ work.events
-    → (w : World Catalogue Members (Kept (Directions (List ℕ)))) (log : Log)
-    → StandsFor (λ (c : Catalogue). c) StandFor Carries IsGood w (with_events (begun cat table work) events) log → IsRunOf cat table work w
+    → (w : World) (log : Log)
+    → StandsFor w (with_events (begun cat table work) events) log → IsRunOf cat table work w
 run_of cat table work events same w log stands =
-    let s = subst (λ g. StandsFor (λ (c : Catalogue). c) StandFor Carries IsGood w g log) (given_all cat table work events same) stands in
+    let s = subst (λ g. StandsFor w g log) (given_all cat table work events same) stands in
     record {
       log = log;
       log_is = record { lawful = s.calm.rests.lawful; within = s.calm.rests.within; complete = s.complete };
@@ -95,7 +89,7 @@ reported cat table work log sound valid tabled the_log none text is =
     }
 
 -- the summary of the run: of counts that were made of its records
-pub summed_up : (cat : Catalogue) (table : List Entry) (work : Workload) (w : World Catalogue Members (Kept (Directions (List ℕ)))) → IsTable cat table
+pub summed_up : (cat : Catalogue) (table : List Entry) (work : Workload) (w : World) → IsTable cat table
     → (r : IsRunOf cat table work w) (text : List ℕ) (counts : Summary) (txns : List Txn) (records : History) → text ≡ summary_text counts
     → counts ≡ summary_of (length txns) records w.marks → txns ≡ work.txns → records ≡ history r.log → IsSummaryOn cat work text
 summed_up cat table work w tabled r text counts txns records told made txns_are records_are = record {

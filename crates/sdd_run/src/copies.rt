@@ -12,10 +12,8 @@ ghost use Rattle.sdd_run.specs.Worlds.{StandsOn};
 use sdd_base::{DmNo, FragNo, Listed, NoMemory, RowList};
 use sdd_catalog::Catalogue;
 use sdd_copy::Copies;
-use sdd_world::Network;
 use sdd_report::CopyTable;
-use sdd_world::Homes;
-use sdd_world::{Lawful, World};
+use sdd_world::World;
 use std::alloc::Global;
 
 /// The rows of the copy of a fragment, ascending by key.
@@ -76,16 +74,16 @@ fn add_copies(
 }
 
 /// Adds the copies of a module of the world.
-fn add_tables<C: Homes, S: Lawful, N: Network>(
+fn add_tables(
     catalogue: &Catalogue,
-    world: &World<C, S, N>,
+    world: &World<'_>,
     dm: DmNo,
     tables: &mut Vec<CopyTable>,
 ) -> Result<(), NoMemory>
     requires { (g : Given) × (log : Log) × IsSiteOf g (D dm)
-        × StandsOn C.catalogue S.stands N.stands S.good catalogue.now world.now g log }
+        × StandsOn catalogue.now world.now g log }
     ensures { OnOk result ((g : Given) (log : Log) → IsSiteOf g (D dm)
-        → StandsOn C.catalogue S.stands N.stands S.good catalogue.now world.now g log
+        → StandsOn catalogue.now world.now g log
         → tables.new.items ≡ tables.old.items ++ tables_at g log dm.0) }
 {
     let copies = world.copies(dm);
@@ -94,15 +92,15 @@ fn add_tables<C: Homes, S: Lawful, N: Network>(
 
 /// The copies of all data modules, ascending by module and then by fragment. Costs time and memory
 /// in the rows.
-pub fn tables<C: Homes, S: Lawful, N: Network>(
+pub fn tables(
     alloc: Global,
     catalogue: &Catalogue,
-    world: &World<C, S, N>,
+    world: &World<'_>,
 ) -> Result<Vec<CopyTable>, NoMemory>
     requires { (g : Given) × (log : Log)
-        × StandsOn C.catalogue S.stands N.stands S.good catalogue.now world.now g log }
+        × StandsOn catalogue.now world.now g log }
     ensures { IfOk result (λ tables. (g : Given) (log : Log)
-        → StandsOn C.catalogue S.stands N.stands S.good catalogue.now world.now g log
+        → StandsOn catalogue.now world.now g log
         → tables.items ≡ tables_of g log) }
 {
     catalogue.known();

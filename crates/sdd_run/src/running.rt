@@ -7,13 +7,9 @@ ghost use Rattle.sdd_run.specs.Runs.{EndsAtLimit};
 ghost use Rattle.sdd_run.specs.Worlds.{IsRunOf};
 
 use sdd_catalog::Catalogue;
-use sdd_world::Mail;
 use sdd_protocol::Table;
-use sdd_world::carry_out;
 use sdd_script::Workload;
-use sdd_world::Home;
-use sdd_world::Members;
-use sdd_world::{World, WorldEnd};
+use sdd_world::{World, WorldEnd, carry_out, data_modules};
 use std::alloc::Global;
 
 /// The world of the real modules, begun with the rows of a workload without lists of classes, that has
@@ -27,7 +23,7 @@ pub fn finished<'a>(
     catalogue: &'a Catalogue,
     table: &'a Table,
     work: Workload,
-) -> Result<World<Home<'a>, Members<'a>, Mail>, WorldEnd>
+) -> Result<World<'a>, WorldEnd>
     requires tabled { IsTable catalogue.now table.now }
     requires valid { IsValid catalogue.now work }
     requires no_lists { has_lists work ≡ false }
@@ -41,17 +37,7 @@ pub fn finished<'a>(
         events,
         ..
     } = work;
-    let members = Members::new(alloc, catalogue, table, rows.as_slice())?;
-    let mail = Mail::new(alloc, catalogue.tms(), catalogue.dms())?;
-    let home = Home::new(alloc, catalogue);
-    let world = World::new(
-        alloc,
-        home,
-        txns,
-        catalogue.tms(),
-        catalogue.dms(),
-        members,
-        mail,
-    )?;
+    let modules = data_modules(alloc, catalogue, rows.as_slice())?;
+    let world = World::new(alloc, catalogue, table, txns, modules)?;
     carry_out(world, events.into_vec())
 }

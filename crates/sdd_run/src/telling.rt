@@ -6,29 +6,29 @@ ghost use Rattle.sdd_report.specs.Report.{report_text as text_of};
 ghost use Rattle.sdd_run.specs.Reports.{report_by};
 ghost use Rattle.sdd_run.specs.Worlds.{StandsOn};
 
+ghost use Rattle.sdd_world.specs.Standings.{standing_of};
+
 use crate::copies::tables;
 use crate::unfinished::pending;
 use sdd_base::NoMemory;
 use sdd_catalog::Catalogue;
-use sdd_world::Network;
 use sdd_order::serial_order;
 use sdd_report::{Report, report_text};
-use sdd_world::Homes;
-use sdd_world::{Lawful, World};
+use sdd_world::World;
 use std::alloc::Global;
 
 /// The text of the report on a world whose history has a serial order. Costs what the order, the
 /// pending transactions, the copies and the text cost.
-pub fn report_on<C: Homes, S: Lawful, N: Network>(
+pub fn report_on(
     alloc: Global,
     catalogue: &Catalogue,
-    world: &World<C, S, N>,
+    world: &World<'_>,
 ) -> Result<Vec<u8>, NoMemory>
     requires { (g : Given) × (log : Log) × IsOrderable catalogue.now (history log)
-        × StandsOn C.catalogue S.stands N.stands S.good catalogue.now world.now g log }
+        × StandsOn catalogue.now world.now g log }
     ensures { IfOk result (λ text. (g : Given) (log : Log)
-        → StandsOn C.catalogue S.stands N.stands S.good catalogue.now world.now g log
-        → text.items ≡ text_of (report_by S.standing g log)) }
+        → StandsOn catalogue.now world.now g log
+        → text.items ≡ text_of (report_by standing_of g log)) }
 {
     let history = world.history().as_slice();
     let order = serial_order(alloc, catalogue, history)?;

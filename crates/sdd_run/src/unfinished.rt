@@ -5,30 +5,30 @@ ghost use Rattle.sdd_log.specs.Entries.{Given, Log};
 ghost use Rattle.sdd_run.specs.Pending.{pending_as, pending_by, pending_of, reason_of};
 ghost use Rattle.sdd_run.specs.Worlds.{AreCommitted, StandsOn};
 
+ghost use Rattle.sdd_world.specs.Standings.{standing_of};
+
 use crate::commits::committed;
 use crate::waits::why;
 use sdd_base::{NoMemory, TxnNo};
 use sdd_catalog::Catalogue;
 use sdd_history::Rec;
-use sdd_world::Network;
 use sdd_report::Pending;
-use sdd_world::Homes;
-use sdd_world::{Lawful, World};
+use sdd_world::World;
 use std::alloc::Global;
 use std::collections::BTreeSet;
 
 /// The transaction, where its site has it, and why it is pending.
-fn pending_one<C: Homes, S: Lawful, N: Network>(
+fn pending_one(
     alloc: Global,
     catalogue: &Catalogue,
-    world: &World<C, S, N>,
+    world: &World<'_>,
     number: TxnNo,
 ) -> Result<Option<Pending>, NoMemory>
     requires { (g : Given) × (log : Log)
-        × StandsOn C.catalogue S.stands N.stands S.good catalogue.now world.now g log }
+        × StandsOn catalogue.now world.now g log }
     ensures { IfOk result (λ one. (g : Given) (log : Log)
-        → StandsOn C.catalogue S.stands N.stands S.good catalogue.now world.now g log
-        → one ≡ pending_as number (reason_of S.standing g log number.0)) }
+        → StandsOn catalogue.now world.now g log
+        → one ≡ pending_as number (reason_of standing_of g log number.0)) }
 {
     match why(alloc, catalogue, world, number)? {
         Some(why) => Ok(Some(Pending { txn: number, why })),
@@ -37,19 +37,19 @@ fn pending_one<C: Homes, S: Lawful, N: Network>(
 }
 
 /// The transaction that a record submits, where it is pending.
-fn pending_in<C: Homes, S: Lawful, N: Network>(
+fn pending_in(
     alloc: Global,
     catalogue: &Catalogue,
-    world: &World<C, S, N>,
+    world: &World<'_>,
     entry: &(u32, Rec),
     committed: &BTreeSet<u32>,
 ) -> Result<Option<Pending>, NoMemory>
     requires { (g : Given) × (log : Log)
-        × StandsOn C.catalogue S.stands N.stands S.good catalogue.now world.now g log }
+        × StandsOn catalogue.now world.now g log }
     ensures { IfOk result (λ one. (g : Given) (log : Log) (all : History)
-        → StandsOn C.catalogue S.stands N.stands S.good catalogue.now world.now g log
+        → StandsOn catalogue.now world.now g log
         → AreCommitted committed.now all
-        → one ≡ pending_by S.standing g log all entry.now) }
+        → one ≡ pending_by standing_of g log all entry.now) }
 {
     let Rec::Submit(number) = &entry.1 else {
         return Ok(None);
@@ -61,20 +61,20 @@ fn pending_in<C: Homes, S: Lawful, N: Network>(
 }
 
 /// Adds the transaction that a record submits, where it is pending.
-fn add_pending<C: Homes, S: Lawful, N: Network>(
+fn add_pending(
     alloc: Global,
     catalogue: &Catalogue,
-    world: &World<C, S, N>,
+    world: &World<'_>,
     entry: &(u32, Rec),
     committed: &BTreeSet<u32>,
     found: &mut Vec<Pending>,
 ) -> Result<(), NoMemory>
     requires { (g : Given) × (log : Log)
-        × StandsOn C.catalogue S.stands N.stands S.good catalogue.now world.now g log }
+        × StandsOn catalogue.now world.now g log }
     ensures { OnOk result ((g : Given) (log : Log) (all : History)
-        → StandsOn C.catalogue S.stands N.stands S.good catalogue.now world.now g log
+        → StandsOn catalogue.now world.now g log
         → AreCommitted committed.now all
-        → found.new.items ≡ found.old.items ++ filter_map (pending_by S.standing g log all) (entry.now ∷ [])) }
+        → found.new.items ≡ found.old.items ++ filter_map (pending_by standing_of g log all) (entry.now ∷ [])) }
 {
     let Some(one) = pending_in(alloc, catalogue, world, entry, committed)? else {
         return Ok(());
@@ -88,16 +88,16 @@ fn add_pending<C: Homes, S: Lawful, N: Network>(
 ///
 /// O(r log t) for r records of t transactions, and of each that is pending a look at its queue and
 /// at each data module.
-pub fn pending<C: Homes, S: Lawful, N: Network>(
+pub fn pending(
     alloc: Global,
     catalogue: &Catalogue,
-    world: &World<C, S, N>,
+    world: &World<'_>,
 ) -> Result<Vec<Pending>, NoMemory>
     requires { (g : Given) × (log : Log)
-        × StandsOn C.catalogue S.stands N.stands S.good catalogue.now world.now g log }
+        × StandsOn catalogue.now world.now g log }
     ensures { IfOk result (λ found. (g : Given) (log : Log)
-        → StandsOn C.catalogue S.stands N.stands S.good catalogue.now world.now g log
-        → found.items ≡ pending_of S.standing g log) }
+        → StandsOn catalogue.now world.now g log
+        → found.items ≡ pending_of standing_of g log) }
 {
     let history = world.history().as_slice();
     let committed = committed(alloc, history)?;

@@ -8,28 +8,27 @@ ghost use Rattle.sdd_step.specs.Resting.{IsSiteOf};
 ghost use Rattle.sdd_world.specs.Standing.{StandsFor};
 ghost use Rattle.sdd_run.specs.Pending.{reason_of, wait_at, waits_of, why_of};
 ghost use Rattle.sdd_run.specs.Worlds.{StandsOn};
+ghost use Rattle.sdd_world.specs.Standings.{standing_of};
 
 use sdd_attempt::Standing;
 use sdd_base::{ClassNo, DmNo, NoMemory, Site, Ts, TxnNo};
 use sdd_catalog::Catalogue;
-use sdd_world::Network;
 use sdd_report::{Waiting, Why, under_way};
-use sdd_world::Homes;
-use sdd_world::{Lawful, World};
+use sdd_world::{World, home};
 use std::alloc::Global;
 
 /// Adds the wait of a READ at a module, where it waits there.
-fn add_wait<C: Homes, S: Lawful, N: Network>(
-    world: &World<C, S, N>,
+fn add_wait(
+    world: &World<'_>,
     dm: DmNo,
     class: ClassNo,
     ts: Ts,
     found: &mut Vec<Waiting>,
 ) -> Result<(), NoMemory>
     requires { (g : Given) × (log : Log) × IsSiteOf g (D dm)
-        × StandsFor C.catalogue S.stands N.stands S.good world.now g log }
+        × StandsFor world.now g log }
     ensures { OnOk result ((g : Given) (log : Log) → IsSiteOf g (D dm)
-        → StandsFor C.catalogue S.stands N.stands S.good world.now g log
+        → StandsFor world.now g log
         → class.0 ≤ length g.catalogue.classes
         → found.new.items ≡ found.old.items ++ filter_map (wait_at g log class.0 ts.0) (dm.0 ∷ [])) }
 {
@@ -45,17 +44,17 @@ fn add_wait<C: Homes, S: Lawful, N: Network>(
 }
 
 /// Where a READ waits, ascending by module, and for what.
-fn waits<C: Homes, S: Lawful, N: Network>(
+fn waits(
     alloc: Global,
     catalogue: &Catalogue,
-    world: &World<C, S, N>,
+    world: &World<'_>,
     class: ClassNo,
     ts: Ts,
 ) -> Result<Vec<Waiting>, NoMemory>
     requires { (g : Given) × (log : Log)
-        × StandsOn C.catalogue S.stands N.stands S.good catalogue.now world.now g log }
+        × StandsOn catalogue.now world.now g log }
     ensures { IfOk result (λ found. (g : Given) (log : Log)
-        → StandsOn C.catalogue S.stands N.stands S.good catalogue.now world.now g log
+        → StandsOn catalogue.now world.now g log
         → found.items ≡ waits_of g log class.0 ts.0) }
 {
     catalogue.known();
@@ -70,16 +69,16 @@ fn waits<C: Homes, S: Lawful, N: Network>(
 }
 
 /// Why a transaction is pending that stands so.
-fn why_so<C: Homes, S: Lawful, N: Network>(
+fn why_so(
     alloc: Global,
     catalogue: &Catalogue,
-    world: &World<C, S, N>,
+    world: &World<'_>,
     standing: Standing,
 ) -> Result<Option<Why>, NoMemory>
     requires { (g : Given) × (log : Log)
-        × StandsOn C.catalogue S.stands N.stands S.good catalogue.now world.now g log }
+        × StandsOn catalogue.now world.now g log }
     ensures { IfOk result (λ why. (g : Given) (log : Log)
-        → StandsOn C.catalogue S.stands N.stands S.good catalogue.now world.now g log
+        → StandsOn catalogue.now world.now g log
         → why ≡ why_of g log standing) }
 {
     match standing {
@@ -94,37 +93,36 @@ fn why_so<C: Homes, S: Lawful, N: Network>(
 }
 
 /// The site of a transaction, by its number.
-fn home_of<C: Homes, S: Lawful, N: Network>(
-    world: &World<C, S, N>,
+fn home_of(
+    world: &World<'_>,
     number: TxnNo,
-) -> Result<Site, NoMemory>
+) -> Site
     requires { (g : Given) × (log : Log)
-        × StandsFor C.catalogue S.stands N.stands S.good world.now g log }
-    ensures { IfOk result (λ at. (g : Given) (log : Log)
-        → StandsFor C.catalogue S.stands N.stands S.good world.now g log
-        → at ≡ site_of g.catalogue (txn_at g number.0)) }
+        × StandsFor world.now g log }
+    ensures { (g : Given) (log : Log) → StandsFor world.now g log
+        → result ≡ site_of g.catalogue (txn_at g number.0) }
 {
     let place = number.0.saturating_sub(1);
     match world.txns.as_slice().get(place as usize) {
-        Some(txn) => world.catalogue.home(txn),
-        None => Ok(Site::U),
+        Some(txn) => home(world.catalogue, txn),
+        None => Site::U,
     }
 }
 
 /// Why a transaction is pending, or None where its site doesn't have it.
-pub fn why<C: Homes, S: Lawful, N: Network>(
+pub fn why(
     alloc: Global,
     catalogue: &Catalogue,
-    world: &World<C, S, N>,
+    world: &World<'_>,
     number: TxnNo,
 ) -> Result<Option<Why>, NoMemory>
     requires { (g : Given) × (log : Log)
-        × StandsOn C.catalogue S.stands N.stands S.good catalogue.now world.now g log }
+        × StandsOn catalogue.now world.now g log }
     ensures { IfOk result (λ why. (g : Given) (log : Log)
-        → StandsOn C.catalogue S.stands N.stands S.good catalogue.now world.now g log
-        → why ≡ reason_of S.standing g log number.0) }
+        → StandsOn catalogue.now world.now g log
+        → why ≡ reason_of standing_of g log number.0) }
 {
-    let at = home_of(world, number)?;
+    let at = home_of(world, number);
     let standing = world.standing(at, number);
     why_so(alloc, catalogue, world, standing)
 }

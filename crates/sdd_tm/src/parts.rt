@@ -260,7 +260,7 @@ impl<'a> Parts<'a> {
         ensures places { IfOk result (λ places. places
             ≡ one_place (place_of self.old.classes (class_for self.old.force.catalogue txn.now))) }
     {
-        let class = class_for(self.alloc, self.catalogue, txn)?;
+        let class = class_for(self.catalogue, txn);
         match self.place_of(class) {
             None => Ok(Places { from: 0, end: 0 }),
             Some(place) => {

@@ -76,7 +76,7 @@ fn class_of(
     ensures { IfOk result (λ class. class.0 ≡ class_of catalogue.now submitted.now number) }
 {
     match submitted.txn(number) {
-        Some(txn) => class_for(alloc, catalogue, txn),
+        Some(txn) => Ok(class_for(catalogue, txn)),
         None => Ok(ClassNo(0)),
     }
 }

@@ -4,11 +4,8 @@ use Rattle.sdd_base.specs.declared.site.Site.{Site}
 use Rattle.sdd_base.specs.declared.site.Site.TheVariants.{U, D}
 use Rattle.sdd_base.specs.declared.number.DmNo.{DmNo}
 use Rattle.sdd_base.specs.declared.event.Event.TheVariants.{Deliver}
-use Rattle.sdd_catalog.specs.Catalogue.{Catalogue}
 use Rattle.sdd_wire.specs.declared.msg.Msg.{Msg}
-use Rattle.sdd_module.specs.SiteLog.{Setting}
 use Rattle.sdd_module.specs.SiteLog as site
-use Rattle.sdd_net.specs.Links.{Call}
 use Rattle.sdd_log.specs.Entries.{Given, Log, Mark}
 use Rattle.sdd_log.specs.Traffic.{is_down, takes_part}
 use Rattle.sdd_log.specs.Locals.{local_of, setting_of}
@@ -20,11 +17,11 @@ use Rattle.sdd_net.proofs.Directions.{link_parts}
 use Rattle.sdd_world.proofs.Keeping.{keeping_begins, kept_happened}
 use Rattle.sdd_world.proofs.Delivering.{beside, but_for, handed_calm}
 use Rattle.sdd_step.proofs.Delivering.{delivers_messages}
+use Rattle.sdd_world.specs.Members.{StandFor}
 
-module _ {C S N : Type 0} (cat : C → Catalogue) (stands_s : S → Site → Setting → site.Log → Type 0)
-    (stands_n : N → ℕ → ℕ → List (Call Msg) → Type 0) (Good : Given → Type 0) (w now : World C S N)
+module _ (w now : World)
     (g : Given) (log : Log) (a b : Site) (k : ℕ) (messages : List Msg)
-    (h : Arrives cat stands_s stands_n Good w now g log a b k messages) where
+    (h : Arrives w now g log a b k messages) where
   site_is : IsSiteOf g b
   site_is = (link_parts g.catalogue.tms g.catalogue.dms a b h.marked.possible.0).to
 
@@ -38,17 +35,17 @@ module _ {C S N : Type 0} (cat : C → Catalogue) (stands_s : S → Site → Set
   told = (site_is, subst (λ z. Spooled g log z U) (sym spool_is) h.marked.spooled)
 
   -- to a site that takes part
-  pub to_hand : takes_part b log ≡ true → Handing cat stands_s stands_n Good now g (Mark (Deliver a b k) ∷ log) b (from_one a messages)
+  pub to_hand : takes_part b log ≡ true → Handing now g (Mark (Deliver a b k) ∷ log) b (from_one a messages)
   to_hand part = record {
     parts = record {
       good = h.marked.parts.good;
       sound = h.marked.parts.sound;
       no_redeclares = h.marked.parts.no_redeclares;
-      catalogue_is = ap (λ v. cat v.catalogue) h.same ∙ h.marked.parts.catalogue_is;
+      catalogue_is = ap (λ v. v.catalogue.now) h.same ∙ h.marked.parts.catalogue_is;
       txns_are = ap (λ v. v.txns) h.same ∙ h.marked.parts.txns_are;
       given_is = ap (λ v. v.given.items) h.same ∙ h.marked.parts.given_is;
       history_is = ap (λ v. v.history) h.same ∙ h.marked.parts.history_is;
-      sites = λ x here. subst (λ z. stands_s z x (setting_of g x)
+      sites = λ x here. subst (λ z. StandFor z x (setting_of g x)
           (local_of g x (Mark (Deliver a b k) ∷ log))) (sym (ap (λ v. v.sites) h.same))
           (h.marked.parts.sites x here);
       net = h.net;
@@ -58,28 +55,27 @@ module _ {C S N : Type 0} (cat : C → Catalogue) (stands_s : S → Site → Set
     spooled = subst (λ z. Spooled g (Mark (Deliver a b k) ∷ log) z b) (sym spool_is) (beside g a b k log w.spool (but_for g log w.spool b h.marked.spooled));
   }
 
-  pub is_over : (w2 : World C S N) → takes_part b log ≡ true → HandedOn cat stands_s stands_n Good w2 g b
+  pub is_over : (w2 : World) → takes_part b log ≡ true → HandedOn w2 g b
       (from_one a []) (ahead_of g (Mark (Deliver a b k) ∷ log)) now.spool
-      → Happened cat stands_s stands_n Good w2 g log
-  is_over w2 part d = handed_calm cat stands_s stands_n Good w now w2 g log a b k h.marked part h.same d
+      → Happened w2 g log
+  is_over w2 part d = handed_calm w now w2 g log a b k h.marked part h.same d
 
-module _ {C S N : Type 0} (cat : C → Catalogue) (stands_s : S → Site → Setting → site.Log → Type 0)
-    (stands_n : N → ℕ → ℕ → List (Call Msg) → Type 0) (Good : Given → Type 0) (w now : World C S N)
+module _ (w now : World)
     (g : Given) (log : Log) (a b : Site) (d : DmNo) (k : ℕ) (messages : List Msg)
-    (h : Arrives cat stands_s stands_n Good w now g log a b k messages) (at : b ≡ D d)
+    (h : Arrives w now g log a b k messages) (at : b ≡ D d)
     (down : is_down d.0 log ≡ true) where
-  here_d : Arrives cat stands_s stands_n Good w now g log a (D d) k messages
-  here_d = subst (λ z. Arrives cat stands_s stands_n Good w now g log a z k messages) at h
+  here_d : Arrives w now g log a (D d) k messages
+  here_d = subst (λ z. Arrives w now g log a z k messages) at h
 
   -- to a module that is down
   pub is_keeping : Keeping g (Mark (Deliver a (D d) k) ∷ log) now.spool a d.0 messages
   is_keeping =
       subst (λ z. Keeping g (Mark (Deliver a (D d) k) ∷ log) z a d.0 messages) (sym (ap (λ v. v.spool) h.same))
-      (keeping_begins cat stands_s stands_n Good w g log a d.0 k messages here_d.marked down here_d.delivered_are)
+      (keeping_begins w g log a d.0 k messages here_d.marked down here_d.delivered_are)
 
-  pub is_kept : (w2 : World C S N) → w2 ≡ record now { spool = w2.spool }
+  pub is_kept : (w2 : World) → w2 ≡ record now { spool = w2.spool }
       → Keeping g (Mark (Deliver a (D d) k) ∷ log) w2.spool a d.0 []
-      → Happened cat stands_s stands_n Good w2 g log
+      → Happened w2 g log
   is_kept w2 same kept =
-      kept_happened cat stands_s stands_n Good w w2 now.net g log a d.0 k messages here_d.marked down here_d.delivered_are here_d.net
-      (same ∙ ap (λ (v : World C S N). record v { spool = w2.spool }) h.same) kept
+      kept_happened w w2 now.net g log a d.0 k messages here_d.marked down here_d.delivered_are here_d.net
+      (same ∙ ap (λ (v : World). record v { spool = w2.spool }) h.same) kept

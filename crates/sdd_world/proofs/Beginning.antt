@@ -5,11 +5,8 @@ use Rattle.std.specs.Prelude.{slice_index_or}
 use Rattle.sdd_base.specs.Numbers.{dm_no}
 use Rattle.sdd_base.specs.declared.site.Site.{Site}
 use Rattle.sdd_base.specs.declared.site.Site.TheVariants.{U}
-use Rattle.sdd_catalog.specs.Catalogue.{Catalogue}
 use Rattle.sdd_wire.specs.declared.msg.Msg.{Msg}
-use Rattle.sdd_module.specs.SiteLog.{Setting}
 use Rattle.sdd_module.specs.SiteLog as site
-use Rattle.sdd_net.specs.Links.{Call}
 use Rattle.sdd_spool.specs.Mailboxes.{empty_mailbox, kept_from, Mailbox, mailbox_at, place_of, queue_at}
 use Rattle.sdd_log.specs.Entries.{Given}
 use Rattle.sdd_log.specs.Locals.{beginning, setting_of}
@@ -18,6 +15,9 @@ use Rattle.sdd_step.proofs.Beginning.{next_at_first, rests_at_first}
 use Rattle.sdd_world.specs.declared.world.World.{World}
 use Rattle.sdd_world.specs.Standing.{IsSound, KeepsFor, Spooled, StandsFor}
 use Rattle.sdd_world.proofs.Keeping.{dm_within}
+use Rattle.sdd_world.specs.Members.{StandFor}
+use Rattle.sdd_world.specs.Carries.{Carries}
+use Rattle.sdd_facts.specs.Real.{IsGood}
 
 nothing_at : {A : Type 0} (n k : ℕ) → slice_index_or (replicate {A = List A} n []) k [] ≡ []
 nothing_at zero k = refl
@@ -54,29 +54,27 @@ spooled_none g tms dms t d = record {
       keeps_none g tms e (mailbox_at (empty_spool tms dms) e) t (one_of_all dms (e - 1) (empty_mailbox tms) _ (omega (arith, low, high, d))));
 }
 
-module _ {C S N : Type 0} (cat : C → Catalogue) (stands_s : S → Site → Setting → site.Log → Type 0)
-    (stands_n : N → ℕ → ℕ → List (Call Msg) → Type 0) (Good : Given → Type 0) where
-  -- nothing is recorded, kept or due
-  pub begins : (w : World C S N) (tms dms : ℕ) → w.history ≡ [] → w.marks ≡ 0 → w.given.items ≡ [] → w.spool ≡ empty_spool tms dms
-      → (g : Given) → Good g → IsSound g → cat w.catalogue ≡ g.catalogue → g.catalogue.tms ≡ tms → g.catalogue.dms ≡ dms → w.txns ≡ g.txns → g.events ≡ []
-      → ((at : Site) → IsSiteOf g at → stands_s w.sites at (setting_of g at) (beginning g at))
-      → stands_n w.net g.catalogue.tms g.catalogue.dms [] → StandsFor cat stands_s stands_n Good w g []
-  begins w tms dms h m v s g good sound c t d x e sites net = record {
-    calm = record {
-      parts = record {
-        good = good;
-        sound = sound;
-        no_redeclares = refl;
-        catalogue_is = c;
-        txns_are = x;
-        given_is = v ∙ sym e;
-        history_is = h;
-        sites = sites;
-        net = net;
-      };
-      rests = rests_at_first g;
-      marks_are = m;
-      spooled = subst (λ boxes. Spooled g [] boxes U) (sym s) (spooled_none g tms dms t d);
+-- nothing is recorded, kept or due
+pub begins : (w : World) (tms dms : ℕ) → w.history ≡ [] → w.marks ≡ 0 → w.given.items ≡ [] → w.spool ≡ empty_spool tms dms
+    → (g : Given) → IsGood g → IsSound g → w.catalogue.now ≡ g.catalogue → g.catalogue.tms ≡ tms → g.catalogue.dms ≡ dms → w.txns ≡ g.txns → g.events ≡ []
+    → ((at : Site) → IsSiteOf g at → StandFor w.sites at (setting_of g at) (beginning g at))
+    → Carries w.net g.catalogue.tms g.catalogue.dms [] → StandsFor w g []
+begins w tms dms h m v s g good sound c t d x e sites net = record {
+  calm = record {
+    parts = record {
+      good = good;
+      sound = sound;
+      no_redeclares = refl;
+      catalogue_is = c;
+      txns_are = x;
+      given_is = v ∙ sym e;
+      history_is = h;
+      sites = sites;
+      net = net;
     };
-    complete = next_at_first g e;
-  }
+    rests = rests_at_first g;
+    marks_are = m;
+    spooled = subst (λ boxes. Spooled g [] boxes U) (sym s) (spooled_none g tms dms t d);
+  };
+  complete = next_at_first g e;
+}

@@ -5,10 +5,8 @@ use Rattle.sdd_base.specs.Numbers.{dm_no}
 use Rattle.sdd_base.specs.declared.site.Site.{Site}
 use Rattle.sdd_base.specs.declared.site.Site.TheVariants.{U, D}
 use Rattle.sdd_base.specs.declared.event.Event.TheVariants.{Deliver}
-use Rattle.sdd_catalog.specs.Catalogue.{Catalogue}
 use Rattle.sdd_history.specs.declared.record.Rec.TheVariants.{Nothing as Noted}
 use Rattle.sdd_wire.specs.declared.msg.Msg.{Msg}
-use Rattle.sdd_module.specs.SiteLog.{Setting}
 use Rattle.sdd_module.specs.SiteLog as site
 use Rattle.sdd_net.specs.Links.{Call, Delivers, delivered, delivery, link}
 use Rattle.sdd_net.specs.declared.delivered.Delivered.{Delivered}
@@ -28,6 +26,9 @@ use Rattle.sdd_net.proofs.Directions.{same_is}
 use Rattle.sdd_step.specs.Resting.{IsFirst, IsLinkOf, Takes}
 use Rattle.sdd_step.proofs.Handing.{all_handed, and_right}
 use Rattle.sdd_step.proofs.Lowest.{first_of_one, none_of_one, takes_of_one}
+use Rattle.sdd_world.specs.Members.{StandFor}
+use Rattle.sdd_world.specs.Carries.{Carries}
+use Rattle.sdd_world.specs.Carries.{NetValue}
 
 -- the mailboxes after a delivery, but for that of the site to which it goes
 pub beside : (g : Given) (a b : Site) (k : ℕ) (log : Log) (boxes : List (Mailbox Msg)) → Spooled g log boxes b → Spooled g (Mark (Deliver a b k) ∷ log) boxes b
@@ -67,126 +68,124 @@ with_busy g log more boxes b s p q r = record {
       ] refl;
 }
 
-module _ {C S N : Type 0} (cat : C → Catalogue) (stands_s : S → Site → Setting → site.Log → Type 0)
-    (stands_n : N → ℕ → ℕ → List (Call Msg) → Type 0) (Good : Given → Type 0) where
-  -- in the loop that hands messages of one site over
-  pub one_first : (g : Given) (from to : Site) (q rest : List Msg) (m : Msg) → q ≡ m ∷ rest → IsLinkOf g from to → IsFirst g (from_one from q) from to m rest
-  one_first g from to q rest m e l = subst (λ z. IsFirst g (from_one from z) from to m rest) (sym e) (first_of_one g from to m rest l)
+-- in the loop that hands messages of one site over
+pub one_first : (g : Given) (from to : Site) (q rest : List Msg) (m : Msg) → q ≡ m ∷ rest → IsLinkOf g from to → IsFirst g (from_one from q) from to m rest
+one_first g from to q rest m e l = subst (λ z. IsFirst g (from_one from z) from to m rest) (sym e) (first_of_one g from to m rest l)
 
-  pub one_takes : (from : Site) (q rest : List Msg) (m : Msg) → q ≡ m ∷ rest → Takes (from_one from q) (from_one from rest) from rest
-  one_takes from q rest m e = subst (λ z. Takes (from_one from z) (from_one from rest) from rest) (sym e) (takes_of_one from m rest)
+pub one_takes : (from : Site) (q rest : List Msg) (m : Msg) → q ≡ m ∷ rest → Takes (from_one from q) (from_one from rest) from rest
+one_takes from q rest m e = subst (λ z. Takes (from_one from z) (from_one from rest) from rest) (sym e) (takes_of_one from m rest)
 
-  abbrev pub GivenLaw : N → Delivered Msg → Site → Site → ℕ → Type 0
-  GivenLaw old d a b k = (tms dms : ℕ) (calls : List (Call Msg)) → stands_n old tms dms calls → d ≡ delivery k (link a b calls)
+abbrev pub GivenLaw : NetValue → Delivered Msg → Site → Site → ℕ → Type 0
+GivenLaw old d a b k = (tms dms : ℕ) (calls : List (Call Msg)) → Carries old tms dms calls → d ≡ delivery k (link a b calls)
 
-  abbrev pub PutLaw : N → N → Call Msg → Type 0
-  PutLaw old new c = (tms dms : ℕ) (calls : List (Call Msg)) → stands_n old tms dms calls → stands_n new tms dms (c ∷ calls)
+abbrev pub PutLaw : NetValue → NetValue → Call Msg → Type 0
+PutLaw old new c = (tms dms : ℕ) (calls : List (Call Msg)) → Carries old tms dms calls → Carries new tms dms (c ∷ calls)
 
-  all_beside : (g : Given) (a b : Site) (k : ℕ) (log : Log) (boxes : List (Mailbox Msg))
-      → ((x y : Site) → delivered (link_of x y (Mark (Deliver a b k) ∷ log)).there ≡ delivered
-      (link_of x y log).there) → Spooled g log boxes U → Spooled g (Mark (Deliver a b k) ∷ log) boxes U
-  all_beside g a b k log boxes same s =
-      spooled_on g log (Mark (Deliver a b k) ∷ log) boxes U (λ d. refl)
-      (λ d apart x rest r. record {
-        count = r.count ∙ sym (same x (D (dm_no d)));
-        messages = λ i m p. sent_stays x (D (dm_no d)) (Delivers a b k) (calls_of log) (handed x (D (dm_no d)) log + i) m (r.messages i m p);
-      }) s
+all_beside : (g : Given) (a b : Site) (k : ℕ) (log : Log) (boxes : List (Mailbox Msg))
+    → ((x y : Site) → delivered (link_of x y (Mark (Deliver a b k) ∷ log)).there ≡ delivered
+    (link_of x y log).there) → Spooled g log boxes U → Spooled g (Mark (Deliver a b k) ∷ log) boxes U
+all_beside g a b k log boxes same s =
+    spooled_on g log (Mark (Deliver a b k) ∷ log) boxes U (λ d. refl)
+    (λ d apart x rest r. record {
+      count = r.count ∙ sym (same x (D (dm_no d)));
+      messages = λ i m p. sent_stays x (D (dm_no d)) (Delivers a b k) (calls_of log) (handed x (D (dm_no d)) log + i) m (r.messages i m p);
+    }) s
 
-  pub got_nothing : (w w2 : World C S N) (net : N) (g : Given) (log : Log) (a b : Site) (k : ℕ)
-      (d : Delivered Msg) → Marked cat stands_s stands_n Good w g log (Deliver a b k) → GivenLaw w.net d a b k
-      → PutLaw w.net net (Delivers a b k)
-      → d ≡ Nothing → w2 ≡ record w { net = net; history = w2.history }
-      → w2.history ≡ w.history ++ (w.marks, Noted) ∷ [] → Happened cat stands_s stands_n Good w2 g log
-  got_nothing w w2 net g log a b k d m t f e same note =
-      let f2 : PutLaw w.net w2.net (Delivers a b k) = subst (λ z. PutLaw w.net z (Delivers a b k)) (sym (ap (λ v. v.net) same)) f in
-      let same2 : w2 ≡ record w { net = w2.net; history = w2.history } =
-      same ∙ ap (λ z. record w { net = z; history = w2.history }) (sym (ap (λ v. v.net) same)) in
-      let is : delivery k (link_of a b log) ≡ Nothing = sym (t g.catalogue.tms g.catalogue.dms (calls_of log) m.parts.net) ∙ e in
-      marked_noted cat stands_s stands_n Good w w2 g log (Deliver a b k) m tt (delivers_nothing g a b k log m.marked is)
-      (same2 ∙ ap (λ x. record w { net = w2.net; history = w2.history; spool = x }) (sym (ap (λ v. v.spool) same2))) note
-      (f2 g.catalogue.tms g.catalogue.dms (calls_of log) m.parts.net)
-      (subst (λ x. Spooled g (Mark (Deliver a b k) ∷ log) x U) (sym (ap (λ v. v.spool) same2))
-      (all_beside g a b k log w.spool (nothing_same a b k log is) m.spooled))
+pub got_nothing : (w w2 : World) (net : NetValue) (g : Given) (log : Log) (a b : Site) (k : ℕ)
+    (d : Delivered Msg) → Marked w g log (Deliver a b k) → GivenLaw w.net d a b k
+    → PutLaw w.net net (Delivers a b k)
+    → d ≡ Nothing → w2 ≡ record w { net = net; history = w2.history }
+    → w2.history ≡ w.history ++ (w.marks, Noted) ∷ [] → Happened w2 g log
+got_nothing w w2 net g log a b k d m t f e same note =
+    let f2 : PutLaw w.net w2.net (Delivers a b k) = subst (λ z. PutLaw w.net z (Delivers a b k)) (sym (ap (λ v. v.net) same)) f in
+    let same2 : w2 ≡ record w { net = w2.net; history = w2.history } =
+    same ∙ ap (λ z. record w { net = z; history = w2.history }) (sym (ap (λ v. v.net) same)) in
+    let is : delivery k (link_of a b log) ≡ Nothing = sym (t g.catalogue.tms g.catalogue.dms (calls_of log) m.parts.net) ∙ e in
+    marked_noted w w2 g log (Deliver a b k) m tt (delivers_nothing g a b k log m.marked is)
+    (same2 ∙ ap (λ x. record w { net = w2.net; history = w2.history; spool = x }) (sym (ap (λ v. v.spool) same2))) note
+    (f2 g.catalogue.tms g.catalogue.dms (calls_of log) m.parts.net)
+    (subst (λ x. Spooled g (Mark (Deliver a b k) ∷ log) x U) (sym (ap (λ v. v.spool) same2))
+    (all_beside g a b k log w.spool (nothing_same a b k log is) m.spooled))
 
-  pub got_ack : (w w2 : World C S N) (g : Given) (log : Log) (a b : Site) (k : ℕ) (d : Delivered Msg)
-      → Marked cat stands_s stands_n Good w g log (Deliver a b k) → GivenLaw w.net d a b k
-      → PutLaw w.net w2.net (Delivers a b k)
-      → d ≡ Acked → w2 ≡ record w { net = w2.net } → Happened cat stands_s stands_n Good w2 g log
-  got_ack w w2 g log a b k d m t f e same =
-      let is : delivery k (link_of a b log) ≡ Acked = sym (t g.catalogue.tms g.catalogue.dms (calls_of log) m.parts.net) ∙ e in
-      marked_plain cat stands_s stands_n Good w w2 g log (Deliver a b k) m tt (delivers_ack g a b k log m.marked is)
-      (same ∙ ap (λ x. record w { net = w2.net; spool = x }) (sym (ap (λ v. v.spool) same)))
-      (f g.catalogue.tms g.catalogue.dms (calls_of log) m.parts.net)
-      (subst (λ x. Spooled g (Mark (Deliver a b k) ∷ log) x U) (sym (ap (λ v. v.spool) same))
-      (all_beside g a b k log w.spool (ack_same a b k log is) m.spooled))
+pub got_ack : (w w2 : World) (g : Given) (log : Log) (a b : Site) (k : ℕ) (d : Delivered Msg)
+    → Marked w g log (Deliver a b k) → GivenLaw w.net d a b k
+    → PutLaw w.net w2.net (Delivers a b k)
+    → d ≡ Acked → w2 ≡ record w { net = w2.net } → Happened w2 g log
+got_ack w w2 g log a b k d m t f e same =
+    let is : delivery k (link_of a b log) ≡ Acked = sym (t g.catalogue.tms g.catalogue.dms (calls_of log) m.parts.net) ∙ e in
+    marked_plain w w2 g log (Deliver a b k) m tt (delivers_ack g a b k log m.marked is)
+    (same ∙ ap (λ x. record w { net = w2.net; spool = x }) (sym (ap (λ v. v.spool) same)))
+    (f g.catalogue.tms g.catalogue.dms (calls_of log) m.parts.net)
+    (subst (λ x. Spooled g (Mark (Deliver a b k) ∷ log) x U) (sym (ap (λ v. v.spool) same))
+    (all_beside g a b k log w.spool (ack_same a b k log is) m.spooled))
 
-  sites_delivered : (w : World C S N) (g : Given) (log : Log) (a b : Site) (k : ℕ)
-      → Marked cat stands_s stands_n Good w g log (Deliver a b k) → (x : Site) → IsSiteOf g x
-      → stands_s w.sites x (setting_of g x) (local_of g x (Mark (Deliver a b k) ∷ log))
-  sites_delivered w g log a b k m x here = m.parts.sites x here
+sites_delivered : (w : World) (g : Given) (log : Log) (a b : Site) (k : ℕ)
+    → Marked w g log (Deliver a b k) → (x : Site) → IsSiteOf g x
+    → StandFor w.sites x (setting_of g x) (local_of g x (Mark (Deliver a b k) ∷ log))
+sites_delivered w g log a b k m x here = m.parts.sites x here
 
-  -- messages have come to a site
-  pub arrives : (w now : World C S N) (g : Given) (log : Log) (a b : Site) (k : ℕ) (d : Delivered Msg)
-      (messages : List Msg) → Marked cat stands_s stands_n Good w g log (Deliver a b k)
-      → GivenLaw w.net d a b k → PutLaw w.net now.net (Delivers a b k)
-      → d ≡ Messages messages → now ≡ record w { net = now.net } → Arrives cat stands_s stands_n Good w now g log a b k messages
-  arrives w now g log a b k d messages m t f e same = record {
-    marked = m;
-    delivered_are = sym (t g.catalogue.tms g.catalogue.dms (calls_of log) m.parts.net) ∙ e;
-    same = same;
-    net = f g.catalogue.tms g.catalogue.dms (calls_of log) m.parts.net;
-  }
+-- messages have come to a site
+pub arrives : (w now : World) (g : Given) (log : Log) (a b : Site) (k : ℕ) (d : Delivered Msg)
+    (messages : List Msg) → Marked w g log (Deliver a b k)
+    → GivenLaw w.net d a b k → PutLaw w.net now.net (Delivers a b k)
+    → d ≡ Messages messages → now ≡ record w { net = now.net } → Arrives w now g log a b k messages
+arrives w now g log a b k d messages m t f e same = record {
+  marked = m;
+  delivered_are = sym (t g.catalogue.tms g.catalogue.dms (calls_of log) m.parts.net) ∙ e;
+  same = same;
+  net = f g.catalogue.tms g.catalogue.dms (calls_of log) m.parts.net;
+}
 
-  -- once they are handed over, the event is done
-  pub handed_calm : (w w1 w2 : World C S N) (g : Given) (log : Log) (a b : Site) (k : ℕ)
-      → Marked cat stands_s stands_n Good w g log (Deliver a b k) → takes_part b log ≡ true
-      → w1 ≡ record w { net = w1.net }
-      → HandedOn cat stands_s stands_n Good w2 g b (from_one a []) (ahead_of g (Mark (Deliver a b k) ∷ log))
-      w1.spool → Happened cat stands_s stands_n Good w2 g log
-  handed_calm w w1 w2 g log a b k m part same d =
-      let h = d.handing in
-      let boxes : w2.spool ≡ w.spool = d.spool_is ∙ ap (λ v. v.spool) same in
-      record {
-        more = d.more;
-        calm = record {
-          parts = h.parts;
-          rests = record {
-            lawful = h.waits.lawful;
-            within = h.waits.within;
-            no_mark =
-                h.waits.no_mark;
-            no_site = h.waits.no_site;
-            handed_all =
-                all_handed g d.more b (from_one a []) h.waits (none_of_one a);
-          };
-          marks_are = h.marks_are;
-          spooled = subst (λ x. Spooled g d.more x U) (sym boxes)
-              (with_busy g log d.more w.spool b m.spooled part h.waits.part
-              (subst (λ x. Spooled g d.more x b) boxes h.spooled));
+-- once they are handed over, the event is done
+pub handed_calm : (w w1 w2 : World) (g : Given) (log : Log) (a b : Site) (k : ℕ)
+    → Marked w g log (Deliver a b k) → takes_part b log ≡ true
+    → w1 ≡ record w { net = w1.net }
+    → HandedOn w2 g b (from_one a []) (ahead_of g (Mark (Deliver a b k) ∷ log))
+    w1.spool → Happened w2 g log
+handed_calm w w1 w2 g log a b k m part same d =
+    let h = d.handing in
+    let boxes : w2.spool ≡ w.spool = d.spool_is ∙ ap (λ v. v.spool) same in
+    record {
+      more = d.more;
+      calm = record {
+        parts = h.parts;
+        rests = record {
+          lawful = h.waits.lawful;
+          within = h.waits.within;
+          no_mark =
+              h.waits.no_mark;
+          no_site = h.waits.no_site;
+          handed_all =
+              all_handed g d.more b (from_one a []) h.waits (none_of_one a);
         };
-        ahead_is = d.ahead_is;
-      }
+        marks_are = h.marks_are;
+        spooled = subst (λ x. Spooled g d.more x U) (sym boxes)
+            (with_busy g log d.more w.spool b m.spooled part h.waits.part
+            (subst (λ x. Spooled g d.more x b) boxes h.spooled));
+      };
+      ahead_is = d.ahead_is;
+    }
 
-  -- one more was handed over
-  pub handed_further : (w : World C S N) (g : Given) (b : Site) (kept : Site → List Msg) (first now : Ahead)
-      (boxes before : List (Mailbox Msg)) → now ≡ first → before ≡ boxes
-      → HandedOn cat stands_s stands_n Good w g b kept now before
-      → HandedOn cat stands_s stands_n Good w g b kept first boxes
-  handed_further w g b kept first now boxes before e f d = record { more = d.more; handing = d.handing; ahead_is = d.ahead_is ∙ e; spool_is = d.spool_is ∙ f }
+-- one more was handed over
+pub handed_further : (w : World) (g : Given) (b : Site) (kept : Site → List Msg) (first now : Ahead)
+    (boxes before : List (Mailbox Msg)) → now ≡ first → before ≡ boxes
+    → HandedOn w g b kept now before
+    → HandedOn w g b kept first boxes
+handed_further w g b kept first now boxes before e f d = record { more = d.more; handing = d.handing; ahead_is = d.ahead_is ∙ e; spool_is = d.spool_is ∙ f }
 
-  -- none is handed over yet
-  pub handed_none : (w : World C S N) (g : Given) (log : Log) (from to : Site) (messages queue : List Msg)
-      → messages ≡ queue → Handing cat stands_s stands_n Good w g log to (from_one from messages)
-      → HandedOn cat stands_s stands_n Good w g to (from_one from queue) (ahead_of g log) w.spool
-  handed_none w g log from to messages queue e h =
-      record {
-        more = log;
-        handing =
-            subst (λ q. Handing cat stands_s stands_n Good w g log to (from_one from q)) e h;
-        ahead_is =
-            refl;
-        spool_is = refl;
-      }
+-- none is handed over yet
+pub handed_none : (w : World) (g : Given) (log : Log) (from to : Site) (messages queue : List Msg)
+    → messages ≡ queue → Handing w g log to (from_one from messages)
+    → HandedOn w g to (from_one from queue) (ahead_of g log) w.spool
+handed_none w g log from to messages queue e h =
+    record {
+      more = log;
+      handing =
+          subst (λ q. Handing w g log to (from_one from q)) e h;
+      ahead_is =
+          refl;
+      spool_is = refl;
+    }
 
 pub handed_whole : {A : Type 0} (messages queue : List A) {items : List A} → items ≡ messages → queue ≡ items → messages ≡ queue
 handed_whole messages queue e f = sym (f ∙ e)

@@ -5,14 +5,11 @@ use Rattle.sdd_base.specs.Sites.{same_site}
 use Rattle.sdd_base.specs.Numbers.{dm_no}
 use Rattle.sdd_base.specs.declared.site.Site.{Site}
 use Rattle.sdd_base.specs.declared.site.Site.TheVariants.{U, T, D}
-use Rattle.sdd_catalog.specs.Catalogue.{Catalogue}
-use Rattle.sdd_lang.specs.declared.transaction.Txn.{Txn}
 use Rattle.sdd_history.specs.declared.record.Rec.{Rec}
 use Rattle.sdd_wire.specs.declared.msg.Msg.{Msg}
 use Rattle.sdd_wire.specs.declared.outcome.Outcome.{Outcome}
 use Rattle.sdd_module.specs.SiteLog.{Act, AreDue, Bases, Setting, log_after, records_of, sends_of}
 use Rattle.sdd_module.specs.SiteLog as site
-use Rattle.sdd_net.specs.Links.{Call}
 use Rattle.sdd_net.proofs.Directions.{link_parts, same_is, same_here}
 use Rattle.sdd_log.specs.Entries.{Given, Log, Hand, marks}
 use Rattle.sdd_log.specs.Traffic.{calls_of, handed, puts}
@@ -28,8 +25,13 @@ use Rattle.sdd_world.specs.declared.world.World.{World}
 use Rattle.sdd_world.specs.DueAt.{next_of}
 use Rattle.sdd_world.specs.Kinds.{AreLinked}
 use Rattle.sdd_world.specs.Following.{Followed, IsPast, MaySend}
-use Rattle.sdd_world.specs.Standing.{ahead_of, EndsBy, Facts, HandedOn, Handing, Spooled}
+use Rattle.sdd_world.specs.Standing.{ahead_of, EndsBy, HandedOn, Handing, Spooled}
 use Rattle.sdd_world.proofs.Parting.{ahead_acts, events_before, redeclares_acts, spooled_acts, spooled_on}
+use Rattle.sdd_world.specs.Members.{StandFor}
+use Rattle.sdd_world.specs.Carries.{Carries}
+use Rattle.sdd_world.specs.declared.sites.Sites.{Sites}
+use Rattle.sdd_facts.specs.Real.{fits}
+use Rattle.sdd_facts.proofs.AllFacts.{all_facts}
 
 pub due_same : (g : Given) (b : Site) (bases : Bases) (l : site.Log) (acts : List Act)
     → AreDue (next_of b (setting_of g b) bases) l acts → AreDue (next_in g b bases) l acts
@@ -54,12 +56,8 @@ own_hand g a b n m log = rw (same_here b) refl
 other_hand : (g : Given) (x a b : Site) (n : ℕ) (m : Msg) (log : Log) → same_site x b ≡ false → local_of g x (Hand a b n m ∷ log) ≡ local_of g x log
 other_hand g x a b n m log e = rw e refl
 
-module _ {C S N : Type 0} (cat : C → Catalogue) (stands_s : S → Site → Setting → site.Log → Type 0)
-    (stands_n : N → ℕ → ℕ → List (Call Msg) → Type 0) (Good : Given → Type 0)
-    (fits : Site → Setting → Bases → site.Log → Site → Msg → Type 0) (fits_submit : Site → Setting → Bases
-    → site.Log → ℕ → Txn → Type 0) (fits_tick : Site → Setting → site.Log → ℕ → Type 0)
-    (facts : Facts Good fits fits_submit fits_tick) (w : World C S N) (g : Given) (log : Log) (a b : Site) (m : Msg) (kept : Site → List Msg) (rest : List Msg)
-    (h : Handing cat stands_s stands_n Good w g log b kept) (f : IsFirst g kept a b m rest) where
+module _ (w : World) (g : Given) (log : Log) (a b : Site) (m : Msg) (kept : Site → List Msg) (rest : List Msg)
+    (h : Handing w g log b kept) (f : IsFirst g kept a b m rest) where
   abbrev handed_log : Log
   handed_log = Hand a b (suc (handed a b log)) m ∷ log
 
@@ -70,28 +68,28 @@ module _ {C S N : Type 0} (cat : C → Catalogue) (stands_s : S → Site → Set
   site_here = (link_parts g.catalogue.tms g.catalogue.dms a b f.linked).to
 
   pub hand_fits : fits b (setting_of g b) (base_of g handed_log) (local_of g b log) a m
-  hand_fits = facts.hand g h.parts.good log a b (suc (handed a b log)) m h.waits.lawful h.waits.within hand_next
+  hand_fits = all_facts.hand g h.parts.good log a b (suc (handed a b log)) m h.waits.lawful h.waits.within hand_next
 
-  pub hand_stands : stands_s w.sites b (setting_of g b) (local_of g b log)
+  pub hand_stands : StandFor w.sites b (setting_of g b) (local_of g b log)
   hand_stands = h.parts.sites b site_here
 
-  pub hand_asks : (setting : Setting) × (bases : Bases) × (l : site.Log) × stands_s w.sites b setting l × fits b setting bases l a m
+  pub hand_asks : (setting : Setting) × (bases : Bases) × (l : site.Log) × StandFor w.sites b setting l × fits b setting bases l a m
   hand_asks = (setting_of g b, base_of g handed_log, local_of g b log, hand_stands, hand_fits)
 
   pub events_order : All {X = ℕ × Rec} (λ e. e.0 ≤ w.marks) w.history
   events_order = rw (h.marks_are, h.parts.history_is) (events_before log)
 
   -- what the module of the site did
-  pub record Taken (s : S) (outcome : Outcome) : Type 0 where
+  pub record Taken (s : Sites) (outcome : Outcome) : Type 0 where
     pub acts : List Act
     pub due : AreDue (next_in g b (base_of g handed_log)) (site.Handed a m ∷ local_of g b log) acts
     pub records_are : outcome.recs ≡ records_of acts
     pub sends_are : outcome.out ≡ sends_of acts
-    pub after : stands_s s b (setting_of g b) (log_after acts (site.Handed a m ∷ local_of g b log))
+    pub after : StandFor s b (setting_of g b) (log_after acts (site.Handed a m ∷ local_of g b log))
 
-  pub taken : (s : S) (outcome : Outcome)
-      → ((setting : Setting) (bases : Bases) (l : site.Log) → stands_s w.sites b setting l → fits b setting bases l a m
-      → site.Does (next_of b setting bases) (site.Handed a m ∷ l) outcome.recs outcome.out (stands_s s b setting))
+  pub taken : (s : Sites) (outcome : Outcome)
+      → ((setting : Setting) (bases : Bases) (l : site.Log) → StandFor w.sites b setting l → fits b setting bases l a m
+      → site.Does (next_of b setting bases) (site.Handed a m ∷ l) outcome.recs outcome.out (StandFor s b setting))
       → Taken s outcome
   taken s outcome law =
       let d = law (setting_of g b) (base_of g handed_log) (local_of g b log) hand_stands hand_fits in
@@ -104,46 +102,46 @@ module _ {C S N : Type 0} (cat : C → Catalogue) (stands_s : S → Site → Set
       }
 
   -- it may be sent
-  pub may_send : (s : S) (outcome : Outcome) → Taken s outcome → MaySend stands_n (record w { sites = s }) b outcome
+  pub may_send : (s : Sites) (outcome : Outcome) → Taken s outcome → MaySend (record w { sites = s }) b outcome
   may_send s outcome t =
       let lawful : IsLawful g (after_acts b t.acts handed_log) = first_lawful g log b kept h.waits a m rest f t.acts t.due in (
         g.catalogue.tms,
         g.catalogue.dms,
         calls_of log,
         h.parts.net,
-        rw t.sends_are (are_linked g b (sends_of t.acts) (linked_acts g b t.acts handed_log (λ l act k e. facts.sends g h.parts.good l b act k e) lawful)),
+        rw t.sends_are (are_linked g b (sends_of t.acts) (linked_acts g b t.acts handed_log (λ l act k e. all_facts.sends g h.parts.good l b act k e) lawful)),
       )
 
-  linked_out : (s : S) (outcome : Outcome) → Taken s outcome → AreLinked g.catalogue.tms g.catalogue.dms b outcome.out
+  linked_out : (s : Sites) (outcome : Outcome) → Taken s outcome → AreLinked g.catalogue.tms g.catalogue.dms b outcome.out
   linked_out s outcome t =
       let lawful : IsLawful g (after_acts b t.acts handed_log) = first_lawful g log b kept h.waits a m rest f t.acts t.due in
-      rw t.sends_are (are_linked g b (sends_of t.acts) (linked_acts g b t.acts handed_log (λ l act k e. facts.sends g h.parts.good l b act k e) lawful))
+      rw t.sends_are (are_linked g b (sends_of t.acts) (linked_acts g b t.acts handed_log (λ l act k e. all_facts.sends g h.parts.good l b act k e) lawful))
 
   -- where there is no number for one of its messages, the limit ends the log
-  pub hand_ends : (s : S) (outcome : Outcome) → Taken s outcome → IsPast stands_n (record w { sites = s }) b outcome → EndsBy g
+  pub hand_ends : (s : Sites) (outcome : Outcome) → Taken s outcome → IsPast (record w { sites = s }) b outcome → EndsBy g
   hand_ends s outcome t past =
       let lawful : IsLawful g (after_acts b t.acts handed_log) = first_lawful g log b kept h.waits a m rest f t.acts t.due in
       ends_in_acts g b t.acts handed_log
       (ap (λ o. puts_past (calls_of log) b o) (sym t.sends_are) ∙ past g.catalogue.tms g.catalogue.dms (calls_of log) h.parts.net (linked_out s outcome t))
       (refl, h.waits.within) lawful
 
-  done_sites : (s : S) (outcome : Outcome) → (t : Taken s outcome)
-      → ((x : Site) (setting : Setting) (l : site.Log) → same_site x b ≡ false → stands_s w.sites x setting l → stands_s s x setting l)
-      → (x : Site) → IsSiteOf g x → stands_s s x (setting_of g x) (local_of g x (after_acts b t.acts handed_log))
+  done_sites : (s : Sites) (outcome : Outcome) → (t : Taken s outcome)
+      → ((x : Site) (setting : Setting) (l : site.Log) → same_site x b ≡ false → StandFor w.sites x setting l → StandFor s x setting l)
+      → (x : Site) → IsSiteOf g x → StandFor s x (setting_of g x) (local_of g x (after_acts b t.acts handed_log))
   done_sites s outcome t others x here =
-      elim (same_site x b) as (λ c. same_site x b ≡ c → stands_s s x (setting_of g x) (local_of g x (after_acts b t.acts handed_log))) [
-        | true ↦ λ p. here_at x b (same_is x b p) (λ z. stands_s s z (setting_of g z) (local_of g z (after_acts b t.acts handed_log)))
-            (at_log (stands_s s b (setting_of g b)) (local_of g b (after_acts b t.acts handed_log)) (log_after t.acts (site.Handed a m ∷ local_of g b log))
+      elim (same_site x b) as (λ c. same_site x b ≡ c → StandFor s x (setting_of g x) (local_of g x (after_acts b t.acts handed_log))) [
+        | true ↦ λ p. here_at x b (same_is x b p) (λ z. StandFor s z (setting_of g z) (local_of g z (after_acts b t.acts handed_log)))
+            (at_log (StandFor s b (setting_of g b)) (local_of g b (after_acts b t.acts handed_log)) (log_after t.acts (site.Handed a m ∷ local_of g b log))
             (own_acts g b t.acts handed_log ∙ ap (λ l. log_after t.acts l) (own_hand g a b (suc (handed a b log)) m log)) t.after)
-        | false ↦ λ p. at_log (stands_s s x (setting_of g x)) (local_of g x (after_acts b t.acts handed_log)) (local_of g x log)
+        | false ↦ λ p. at_log (StandFor s x (setting_of g x)) (local_of g x (after_acts b t.acts handed_log)) (local_of g x log)
             (other_acts g x b t.acts handed_log p ∙ other_hand g x a b (suc (handed a b log)) m log p)
             (others x (setting_of g x) (local_of g x log) p (h.parts.sites x here))
       ] refl
 
   -- it is recorded and sent
-  pub hand_done : (s : S) (outcome : Outcome) (w2 : World C S N) (less : Site → List Msg) → Taken s outcome → Takes kept less a rest
-      → ((x : Site) (setting : Setting) (l : site.Log) → same_site x b ≡ false → stands_s w.sites x setting l → stands_s s x setting l)
-      → Followed stands_n (record w { sites = s }) w2 b outcome → HandedOn cat stands_s stands_n Good w2 g b less (ahead_of g log) w.spool
+  pub hand_done : (s : Sites) (outcome : Outcome) (w2 : World) (less : Site → List Msg) → Taken s outcome → Takes kept less a rest
+      → ((x : Site) (setting : Setting) (l : site.Log) → same_site x b ≡ false → StandFor w.sites x setting l → StandFor s x setting l)
+      → Followed (record w { sites = s }) w2 b outcome → HandedOn w2 g b less (ahead_of g log) w.spool
   hand_done s outcome w2 less t k others d =
       let sent_all = d.net g.catalogue.tms g.catalogue.dms (calls_of log) h.parts.net (linked_out s outcome t) in
       let calls : calls_of (after_acts b t.acts handed_log) ≡ puts b outcome.out (calls_of log) =
@@ -155,17 +153,17 @@ module _ {C S N : Type 0} (cat : C → Catalogue) (stands_s : S → Site → Set
             good = h.parts.good;
             sound = h.parts.sound;
             no_redeclares = redeclares_acts b t.acts handed_log ∙ h.parts.no_redeclares;
-            catalogue_is = ap cat d.catalogue ∙ h.parts.catalogue_is;
+            catalogue_is = d.catalogue ∙ h.parts.catalogue_is;
             txns_are = d.txns ∙ h.parts.txns_are;
             given_is = ap (λ v. v.items) d.given ∙ h.parts.given_is;
             history_is = d.history ∙ ap (λ r. w.history ++ map (λ x. (w.marks, x)) r) t.records_are
                 ∙ ap (λ k. w.history ++ map (λ x. (k, x)) (records_of t.acts)) h.marks_are
                 ∙ ap (λ xs. xs ++ map (λ x. (marks log, x)) (records_of t.acts)) h.parts.history_is
                 ∙ sym (history_acts b t.acts handed_log);
-            sites = λ x here. subst (λ z. stands_s z x (setting_of g x)
+            sites = λ x here. subst (λ z. StandFor z x (setting_of g x)
                 (local_of g x (after_acts b t.acts handed_log))) (sym d.sites)
                 (done_sites s outcome t others x here);
-            net = subst (λ c. stands_n w2.net g.catalogue.tms g.catalogue.dms c) (sym calls) sent_all.1;
+            net = subst (λ c. Carries w2.net g.catalogue.tms g.catalogue.dms c) (sym calls) sent_all.1;
           };
           waits = hands_first g log b kept h.waits a m rest f t.acts less k t.due (ap (λ o. puts_past (calls_of log) b o) (sym t.sends_are) ∙ sent_all.0);
           marks_are = d.marks ∙ h.marks_are ∙ sym (marks_acts b t.acts handed_log);

@@ -8,11 +8,9 @@ use Rattle.sdd_base.specs.declared.site.Site.{Site}
 use Rattle.sdd_base.specs.declared.site.Site.TheVariants.{U, T, D}
 use Rattle.sdd_base.specs.declared.number.DmNo.{DmNo}
 use Rattle.sdd_base.specs.declared.event.Event.TheVariants.{Deliver}
-use Rattle.sdd_catalog.specs.Catalogue.{Catalogue}
 use Rattle.sdd_wire.specs.declared.msg.Msg.{Msg}
-use Rattle.sdd_module.specs.SiteLog.{Setting}
 use Rattle.sdd_module.specs.SiteLog as site
-use Rattle.sdd_net.specs.Links.{Call, delivery}
+use Rattle.sdd_net.specs.Links.{delivery}
 use Rattle.sdd_net.specs.declared.delivered.Delivered.TheVariants.{Messages}
 use Rattle.sdd_spool.specs.Mailboxes.{Mailbox, kept_from, mailbox_at}
 use Rattle.sdd_log.specs.Entries.{Given, Log, Mark}
@@ -31,6 +29,8 @@ use Rattle.sdd_spool.specs.Mailboxes.{IsSender, OnlyAt, Puts, number_of_t, IsWit
 use Rattle.sdd_step.specs.Resting.{IsLinkOf}
 use Rattle.sdd_step.proofs.Handing.{and_left, and_right}
 use Rattle.sdd_step.proofs.Lowest.{none_of_one}
+use Rattle.sdd_world.specs.Carries.{Carries}
+use Rattle.sdd_world.specs.Carries.{NetValue}
 
 -- the numbers of data modules
 
@@ -88,104 +88,102 @@ moved from x m rest old new f h =
 no_more : (a x : Site) → from_one a [] x ≡ []
 no_more a x = none_of_one a x
 
-module _ {C S N : Type 0} (cat : C → Catalogue) (stands_s : S → Site → Setting → site.Log → Type 0)
-    (stands_n : N → ℕ → ℕ → List (Call Msg) → Type 0) (Good : Given → Type 0) where
-  -- a message is put
-  pub put_one : (g : Given) (log : Log) (old new : List (Mailbox Msg)) (from : Site) (d : ℕ)
-      (q rest : List Msg) (m : Msg) → q ≡ m ∷ rest → Keeping g log old from d q
-      → Puts (mailbox_at old d) (mailbox_at new d) from m → length new ≡ length old → OnlyAt old new d → Keeping g log new from d rest
-  put_one g log old new from d q rest m e k p count only = record {
-    here = k.here;
-    linked = k.linked;
-    is_down = k.is_down;
-    box_down = p.down ∙ k.box_down;
-    senders = p.count ∙ k.senders;
-    kept = λ x.
-        let before : Remain log x (D (dm_no d)) (kept_from (mailbox_at old d) x ++ from_one from
-        (m ∷ rest) x) = subst (λ z. Remain log x (D (dm_no d))
-        (kept_from (mailbox_at old d) x ++ from_one from z x)) e (k.kept x) in
-        subst (λ z. Remain log x (D (dm_no d)) z)
-        (moved from x m rest (kept_from (mailbox_at old d) x) (kept_from (mailbox_at new d) x)
-        (λ s. subst (λ z. kept_from (mailbox_at new d) z ≡ kept_from (mailbox_at old d) z ++ m ∷ [])
-        (sym (same_is x from s)) p.here) (λ s. p.others x s)) before;
-    others = others_stay g log old new d count only k.others;
-  }
+-- a message is put
+pub put_one : (g : Given) (log : Log) (old new : List (Mailbox Msg)) (from : Site) (d : ℕ)
+    (q rest : List Msg) (m : Msg) → q ≡ m ∷ rest → Keeping g log old from d q
+    → Puts (mailbox_at old d) (mailbox_at new d) from m → length new ≡ length old → OnlyAt old new d → Keeping g log new from d rest
+put_one g log old new from d q rest m e k p count only = record {
+  here = k.here;
+  linked = k.linked;
+  is_down = k.is_down;
+  box_down = p.down ∙ k.box_down;
+  senders = p.count ∙ k.senders;
+  kept = λ x.
+      let before : Remain log x (D (dm_no d)) (kept_from (mailbox_at old d) x ++ from_one from
+      (m ∷ rest) x) = subst (λ z. Remain log x (D (dm_no d))
+      (kept_from (mailbox_at old d) x ++ from_one from z x)) e (k.kept x) in
+      subst (λ z. Remain log x (D (dm_no d)) z)
+      (moved from x m rest (kept_from (mailbox_at old d) x) (kept_from (mailbox_at new d) x)
+      (λ s. subst (λ z. kept_from (mailbox_at new d) z ≡ kept_from (mailbox_at old d) z ++ m ∷ [])
+      (sym (same_is x from s)) p.here) (λ s. p.others x s)) before;
+  others = others_stay g log old new d count only k.others;
+}
 
-  -- messages come for a module that is down
-  pub keeping_begins : (w : World C S N) (g : Given) (log : Log) (a : Site) (d : ℕ) (k : ℕ)
-      (messages : List Msg) → Marked cat stands_s stands_n Good w g log (Deliver a (D (dm_no d)) k)
-      → is_down d log ≡ true
-      → delivery k (link_of a (D (dm_no d)) log) ≡ Messages messages → Keeping g (Mark (Deliver a (D (dm_no d)) k) ∷ log) w.spool a d messages
-  keeping_begins w g log a d k messages m down is =
-      let here : IsSiteOf g (D (dm_no d)) = (link_parts g.catalogue.tms g.catalogue.dms a (D (dm_no d)) m.possible.0).to in
-      let box : KeepsFor g log d (mailbox_at w.spool d) = m.spooled.each d here refl in
-      record {
-        here = here;
-        linked = m.possible.0;
-        is_down = down;
-        box_down = box.down_is ∙ down;
-        senders = box.senders;
-        kept = λ x.
-            elim (same_site x a) as (λ c. same_site x a ≡ c
-            → Remain (Mark (Deliver a (D (dm_no d)) k) ∷ log) x (D (dm_no d))
-            (kept_from (mailbox_at w.spool d) x ++ (if c then messages else []))) [
-              | true ↦ λ s. subst (λ z. Remain (Mark (Deliver a (D (dm_no d)) k) ∷ log) z (D (dm_no d))
-                  (kept_from (mailbox_at w.spool d) z ++ messages)) (sym (same_is x a s))
-                  (remain_more a (D (dm_no d)) k log (kept_from (mailbox_at w.spool d) a) messages is (box.kept down a))
-              | false ↦ λ s. subst (λ z. Remain (Mark (Deliver a (D (dm_no d)) k) ∷ log) x (D (dm_no d)) z)
-                  (sym (append-nil (kept_from (mailbox_at w.spool d) x)))
-                  (remain_beside a (D (dm_no d)) k log x (D (dm_no d)) (kept_from (mailbox_at w.spool d) x)
-                  (and_left (same_site x a) (same_site (D (dm_no d)) (D (dm_no d))) s) (box.kept down x))
-            ] refl;
-        others = spooled_on g log (Mark (Deliver a (D (dm_no d)) k) ∷ log) w.spool (D (dm_no d)) (λ e. refl)
-            (λ e apart x rest r. remain_beside a (D (dm_no d)) k log x (D (dm_no e)) rest
-            (and_right (same_site x a) (same_site (D (dm_no e)) (D (dm_no d))) apart) r)
-            (record { count = m.spooled.count; each = λ e h apart. m.spooled.each e h refl });
-      }
+-- messages come for a module that is down
+pub keeping_begins : (w : World) (g : Given) (log : Log) (a : Site) (d : ℕ) (k : ℕ)
+    (messages : List Msg) → Marked w g log (Deliver a (D (dm_no d)) k)
+    → is_down d log ≡ true
+    → delivery k (link_of a (D (dm_no d)) log) ≡ Messages messages → Keeping g (Mark (Deliver a (D (dm_no d)) k) ∷ log) w.spool a d messages
+keeping_begins w g log a d k messages m down is =
+    let here : IsSiteOf g (D (dm_no d)) = (link_parts g.catalogue.tms g.catalogue.dms a (D (dm_no d)) m.possible.0).to in
+    let box : KeepsFor g log d (mailbox_at w.spool d) = m.spooled.each d here refl in
+    record {
+      here = here;
+      linked = m.possible.0;
+      is_down = down;
+      box_down = box.down_is ∙ down;
+      senders = box.senders;
+      kept = λ x.
+          elim (same_site x a) as (λ c. same_site x a ≡ c
+          → Remain (Mark (Deliver a (D (dm_no d)) k) ∷ log) x (D (dm_no d))
+          (kept_from (mailbox_at w.spool d) x ++ (if c then messages else []))) [
+            | true ↦ λ s. subst (λ z. Remain (Mark (Deliver a (D (dm_no d)) k) ∷ log) z (D (dm_no d))
+                (kept_from (mailbox_at w.spool d) z ++ messages)) (sym (same_is x a s))
+                (remain_more a (D (dm_no d)) k log (kept_from (mailbox_at w.spool d) a) messages is (box.kept down a))
+            | false ↦ λ s. subst (λ z. Remain (Mark (Deliver a (D (dm_no d)) k) ∷ log) x (D (dm_no d)) z)
+                (sym (append-nil (kept_from (mailbox_at w.spool d) x)))
+                (remain_beside a (D (dm_no d)) k log x (D (dm_no d)) (kept_from (mailbox_at w.spool d) x)
+                (and_left (same_site x a) (same_site (D (dm_no d)) (D (dm_no d))) s) (box.kept down x))
+          ] refl;
+      others = spooled_on g log (Mark (Deliver a (D (dm_no d)) k) ∷ log) w.spool (D (dm_no d)) (λ e. refl)
+          (λ e apart x rest r. remain_beside a (D (dm_no d)) k log x (D (dm_no e)) rest
+          (and_right (same_site x a) (same_site (D (dm_no e)) (D (dm_no d))) apart) r)
+          (record { count = m.spooled.count; each = λ e h apart. m.spooled.each e h refl });
+    }
 
-  -- all are put, and all mailboxes stand
-  kept_box : (g : Given) (log : Log) (boxes : List (Mailbox Msg)) (a : Site) (d : ℕ) → Keeping g log boxes a d [] → KeepsFor g log d (mailbox_at boxes d)
-  kept_box g log boxes a d k = record {
-    down_is = k.box_down ∙ sym k.is_down;
-    senders = k.senders;
-    kept = λ p x. subst (λ z. Remain log x (D (dm_no d)) z) (ap (λ z. kept_from (mailbox_at boxes d) x ++ z)
-        (no_more a x) ∙ append-nil (kept_from (mailbox_at boxes d) x)) (k.kept x);
-    empty = λ p x. (let no : true ≡ false = sym k.is_down ∙ p in cc);
-  }
+-- all are put, and all mailboxes stand
+kept_box : (g : Given) (log : Log) (boxes : List (Mailbox Msg)) (a : Site) (d : ℕ) → Keeping g log boxes a d [] → KeepsFor g log d (mailbox_at boxes d)
+kept_box g log boxes a d k = record {
+  down_is = k.box_down ∙ sym k.is_down;
+  senders = k.senders;
+  kept = λ p x. subst (λ z. Remain log x (D (dm_no d)) z) (ap (λ z. kept_from (mailbox_at boxes d) x ++ z)
+      (no_more a x) ∙ append-nil (kept_from (mailbox_at boxes d) x)) (k.kept x);
+  empty = λ p x. (let no : true ≡ false = sym k.is_down ∙ p in cc);
+}
 
-  pub all_kept : (g : Given) (log : Log) (boxes : List (Mailbox Msg)) (a : Site) (d : ℕ) → Keeping g log boxes a d [] → Spooled g log boxes U
-  all_kept g log boxes a d k = record {
-    count = k.others.count;
-    each = λ e here apart.
-        elim (same_site (D (dm_no e)) (D (dm_no d))) as (λ c. same_site (D (dm_no e)) (D (dm_no d)) ≡ c → KeepsFor g log e (mailbox_at boxes e)) [
-          | true ↦ λ s. let same : e ≡ d = eqb-true e d s in subst (λ z. KeepsFor g log z (mailbox_at boxes z)) (sym same) (kept_box g log boxes a d k)
-          | false ↦ λ s. k.others.each e here s
-        ] refl;
-  }
+pub all_kept : (g : Given) (log : Log) (boxes : List (Mailbox Msg)) (a : Site) (d : ℕ) → Keeping g log boxes a d [] → Spooled g log boxes U
+all_kept g log boxes a d k = record {
+  count = k.others.count;
+  each = λ e here apart.
+      elim (same_site (D (dm_no e)) (D (dm_no d))) as (λ c. same_site (D (dm_no e)) (D (dm_no d)) ≡ c → KeepsFor g log e (mailbox_at boxes e)) [
+        | true ↦ λ s. let same : e ≡ d = eqb-true e d s in subst (λ z. KeepsFor g log z (mailbox_at boxes z)) (sym same) (kept_box g log boxes a d k)
+        | false ↦ λ s. k.others.each e here s
+      ] refl;
+}
 
-  pub kept_happened : (w w2 : World C S N) (net : N) (g : Given) (log : Log) (a : Site) (d : ℕ) (k : ℕ)
-      (messages : List Msg) → Marked cat stands_s stands_n Good w g log (Deliver a (D (dm_no d)) k)
-      → is_down d log ≡ true
-      → delivery k (link_of a (D (dm_no d)) log) ≡ Messages messages
-      → stands_n net g.catalogue.tms g.catalogue.dms (calls_of (Mark (Deliver a (D (dm_no d)) k) ∷ log))
-      → w2 ≡ record w { net = net; spool = w2.spool }
-      → Keeping g (Mark (Deliver a (D (dm_no d)) k) ∷ log) w2.spool a d []
-      → Happened cat stands_s stands_n Good w2 g log
-  kept_happened w w2 net g log a d k messages m down is n same kept =
-      marked_plain cat stands_s stands_n Good w w2 g log (Deliver a (D (dm_no d)) k) m tt
-      (delivers_kept g a (D (dm_no d)) k log messages m.marked (ap not down) is)
-      (same ∙ ap (λ z. record w { net = z; spool = w2.spool }) (sym (ap (λ v. v.net) same)))
-      (subst (λ z. stands_n z g.catalogue.tms g.catalogue.dms (calls_of (Mark (Deliver a (D (dm_no d)) k) ∷ log))) (sym (ap (λ v. v.net) same)) n)
-      (all_kept g (Mark (Deliver a (D (dm_no d)) k) ∷ log) w2.spool a d kept)
+pub kept_happened : (w w2 : World) (net : NetValue) (g : Given) (log : Log) (a : Site) (d : ℕ) (k : ℕ)
+    (messages : List Msg) → Marked w g log (Deliver a (D (dm_no d)) k)
+    → is_down d log ≡ true
+    → delivery k (link_of a (D (dm_no d)) log) ≡ Messages messages
+    → Carries net g.catalogue.tms g.catalogue.dms (calls_of (Mark (Deliver a (D (dm_no d)) k) ∷ log))
+    → w2 ≡ record w { net = net; spool = w2.spool }
+    → Keeping g (Mark (Deliver a (D (dm_no d)) k) ∷ log) w2.spool a d []
+    → Happened w2 g log
+kept_happened w w2 net g log a d k messages m down is n same kept =
+    marked_plain w w2 g log (Deliver a (D (dm_no d)) k) m tt
+    (delivers_kept g a (D (dm_no d)) k log messages m.marked (ap not down) is)
+    (same ∙ ap (λ z. record w { net = z; spool = w2.spool }) (sym (ap (λ v. v.net) same)))
+    (subst (λ z. Carries z g.catalogue.tms g.catalogue.dms (calls_of (Mark (Deliver a (D (dm_no d)) k) ∷ log))) (sym (ap (λ v. v.net) same)) n)
+    (all_kept g (Mark (Deliver a (D (dm_no d)) k) ∷ log) w2.spool a d kept)
 
-  pub no_items : {A : Type 0} (xs : List A) (n : ℕ) → n ≡ length xs → n ≡ 0 → xs ≡ []
-  no_items [] n e f = refl
-  no_items (x ∷ xs) n e f = absurd (omega arith)
+pub no_items : {A : Type 0} (xs : List A) (n : ℕ) → n ≡ length xs → n ≡ 0 → xs ≡ []
+no_items [] n e f = refl
+no_items (x ∷ xs) n e f = absurd (omega arith)
 
-  pub all_put : (g : Given) (log : Log) (boxes : List (Mailbox Msg)) (a : Site) (d : ℕ) (queue : List Msg)
-      → Keeping g log boxes a d queue → (n : ℕ) → n ≡ length queue → n ≡ 0 → Keeping g log boxes a d []
-  all_put g log boxes a d queue k n e f = subst (λ q. Keeping g log boxes a d q) (no_items queue n e f) k
+pub all_put : (g : Given) (log : Log) (boxes : List (Mailbox Msg)) (a : Site) (d : ℕ) (queue : List Msg)
+    → Keeping g log boxes a d queue → (n : ℕ) → n ≡ length queue → n ≡ 0 → Keeping g log boxes a d []
+all_put g log boxes a d queue k n e f = subst (λ q. Keeping g log boxes a d q) (no_items queue n e f) k
 
-  pub same_again : (w now : World C S N) (boxes : List (Mailbox Msg)) → now ≡ record w { spool = now.spool }
-      → record now { spool = boxes } ≡ record w { spool = boxes }
-  same_again w now boxes e = ap (λ (v : World C S N). record v { spool = boxes }) e
+pub same_again : (w now : World) (boxes : List (Mailbox Msg)) → now ≡ record w { spool = now.spool }
+    → record now { spool = boxes } ≡ record w { spool = boxes }
+same_again w now boxes e = ap (λ (v : World). record v { spool = boxes }) e

@@ -8,9 +8,7 @@ use Rattle.sdd_base.specs.declared.site.Site.{Site}
 use Rattle.sdd_base.specs.declared.site.Site.TheVariants.{U, T, D}
 use Rattle.sdd_base.specs.declared.event.Event.{Event}
 use Rattle.sdd_base.specs.declared.event.Event.TheVariants.{Submit, Deliver, Lose, Repeat, Resend, Tick, Settle, Redeclare, Down, Up}
-use Rattle.sdd_catalog.specs.Catalogue.{Catalogue}
 use Rattle.sdd_wire.specs.declared.msg.Msg.{Msg}
-use Rattle.sdd_module.specs.SiteLog.{Setting}
 use Rattle.sdd_module.specs.SiteLog as site
 use Rattle.sdd_net.specs.Links.{Call, quiet, round}
 use Rattle.sdd_spool.specs.Mailboxes.{Mailbox}
@@ -29,6 +27,9 @@ use Rattle.sdd_step.proofs.Rounding.{each_of_round, no_events_quiet}
 use Rattle.sdd_world.specs.declared.world.World.{World}
 use Rattle.sdd_world.specs.Standing.{Before, Calm, Happened, IsSound, Marked, Parts, Rounding, Settling, Spooled, StandsFor}
 use Rattle.sdd_world.proofs.Parting.{spooled_on}
+use Rattle.sdd_world.specs.Members.{StandFor}
+use Rattle.sdd_world.specs.Carries.{Carries}
+use Rattle.sdd_facts.specs.Real.{IsGood}
 
 pub single : (g : Given) (e : Event) → IsPossible g e → IsSingle e
 single g (Submit n) p = tt
@@ -108,172 +109,170 @@ spool_more g e log boxes s = record {
 sound_more : (g : Given) (e : Event) → IsSound g → IsSound (with_event g e)
 sound_more g e s = record { few_tms = s.few_tms; few_dms = s.few_dms; one_force = s.one_force; txns_fit = s.txns_fit }
 
-module _ {C S N : Type 0} (cat : C → Catalogue) (stands_s : S → Site → Setting → site.Log → Type 0)
-    (stands_n : N → ℕ → ℕ → List (Call Msg) → Type 0) (Good : Given → Type 0) where
-  -- a round begins with its events
-  pub round_begins : (w : World C S N) (g : Given) (log : Log) (events : List Event)
-      → Settling cat stands_s stands_n Good w g log → quiet (all_links g) (calls_of log) ≡ false
-      → ((tms dms : ℕ) (calls : List (Call Msg)) → stands_n w.net tms dms calls
-      → events ≡ round (links tms dms) calls) → (more : Log)
-      × Rounding cat stands_s stands_n Good w g more events
-  round_begins w g log events s q f =
-      let e : events ≡ round (links g.catalogue.tms g.catalogue.dms) (calls_of log) = f g.catalogue.tms g.catalogue.dms (calls_of log) s.calm.parts.net in
-      let n : next g log ≡ Some (Round events) =
-      round_next g log s.waiting (free g log s.calm.rests) s.left_is s.settles q
-      ∙ ap (λ r. Some (Round r)) (sym e) in (
-        Round events ∷ log,
-        record {
-          calm = record {
-            parts = record {
-              good = s.calm.parts.good;
-              sound = s.calm.parts.sound;
-              no_redeclares = s.calm.parts.no_redeclares;
-              catalogue_is = s.calm.parts.catalogue_is;
-              txns_are = s.calm.parts.txns_are;
-              given_is = s.calm.parts.given_is;
-              history_is = s.calm.parts.history_is;
-              sites = s.calm.parts.sites;
-              net = s.calm.parts.net;
-            };
-            rests = rests_round g log events s.calm.rests n;
-            marks_are = s.calm.marks_are;
-            spooled = spool_round g events log w.spool s.calm.spooled;
+-- a round begins with its events
+pub round_begins : (w : World) (g : Given) (log : Log) (events : List Event)
+    → Settling w g log → quiet (all_links g) (calls_of log) ≡ false
+    → ((tms dms : ℕ) (calls : List (Call Msg)) → Carries w.net tms dms calls
+    → events ≡ round (links tms dms) calls) → (more : Log)
+    × Rounding w g more events
+round_begins w g log events s q f =
+    let e : events ≡ round (links g.catalogue.tms g.catalogue.dms) (calls_of log) = f g.catalogue.tms g.catalogue.dms (calls_of log) s.calm.parts.net in
+    let n : next g log ≡ Some (Round events) =
+    round_next g log s.waiting (free g log s.calm.rests) s.left_is s.settles q
+    ∙ ap (λ r. Some (Round r)) (sym e) in (
+      Round events ∷ log,
+      record {
+        calm = record {
+          parts = record {
+            good = s.calm.parts.good;
+            sound = s.calm.parts.sound;
+            no_redeclares = s.calm.parts.no_redeclares;
+            catalogue_is = s.calm.parts.catalogue_is;
+            txns_are = s.calm.parts.txns_are;
+            given_is = s.calm.parts.given_is;
+            history_is = s.calm.parts.history_is;
+            sites = s.calm.parts.sites;
+            net = s.calm.parts.net;
           };
-          waiting = s.waiting;
-          left_is = ap (λ v. (v.0, events)) s.left_is;
-          settles = s.settles;
-          possible = subst (λ es. AtEach (IsPossible g) es) (sym e)
-              (each_of_round (IsPossible g) g.catalogue.tms g.catalogue.dms (calls_of log)
-              (λ a b l. (l, (l, omega arith))));
-        },
-      )
-
-  pub round_some : (w : World C S N) (g : Given) (log : Log) (events : List Event)
-      → Settling cat stands_s stands_n Good w g log → quiet (all_links g) (calls_of log) ≡ false
-      → ((tms dms : ℕ) (calls : List (Call Msg)) → stands_n w.net tms dms calls → events ≡ round (links tms dms) calls) → 0 < length events
-  round_some w g log [] s q f =
-      let e : round (links g.catalogue.tms g.catalogue.dms) (calls_of log) ≡ [] = sym (f g.catalogue.tms g.catalogue.dms (calls_of log) s.calm.parts.net) in
-      let no : true ≡ false = sym (no_events_quiet g.catalogue.tms g.catalogue.dms (calls_of log) e) ∙ q in cc
-  round_some w g log (x ∷ events) s q f = omega arith
-
-  pub round_before : (w : World C S N) (g : Given) (log : Log) (events : List Event) (e : Event)
-      (rest : List Event) → Rounding cat stands_s stands_n Good w g log events → events ≡ e ∷ rest
-      → Before cat stands_s stands_n Good w g log e
-  round_before w g log events e rest r same =
-      let p : AtEach (IsPossible g) (e ∷ rest) = subst (λ es. AtEach (IsPossible g) es) same r.possible in
-      record {
-        calm = r.calm;
-        next_is = in_round g log r.waiting e rest (free g log r.calm.rests) (r.left_is ∙ ap (λ es. (r.waiting, es)) same);
-        possible = p.0;
-      }
-
-  pub round_after : (w w2 : World C S N) (g : Given) (log : Log) (events : List Event) (e : Event)
-      (rest : List Event) → Rounding cat stands_s stands_n Good w g log events → events ≡ e ∷ rest
-      → Happened cat stands_s stands_n Good w2 g log
-      → (more : Log) × Rounding cat stands_s stands_n Good w2 g more rest
-  round_after w w2 g log events e rest r same h =
-      let p : AtEach (IsPossible g) (e ∷ rest) = subst (λ es. AtEach (IsPossible g) es) same r.possible in (
-        h.more,
-        record {
-          calm = h.calm;
-          waiting = r.waiting;
-          left_is = ap (λ a. a.rest) h.ahead_is ∙ ap after_mark (r.left_is ∙ ap (λ es. (r.waiting, es)) same);
-          settles = r.settles;
-          possible = p.1;
-        },
-      )
-
-  pub one_mark : (w w2 : World C S N) (g : Given) (log : Log) → Calm cat stands_s stands_n Good w g log
-      → Happened cat stands_s stands_n Good w2 g log → w2.marks ≡ suc w.marks
-  one_mark w w2 g log c h = h.calm.marks_are ∙ ap (λ a. a.number) h.ahead_is ∙ ap (λ n. suc n) (sym c.marks_are)
-
-  pub round_ends : (w : World C S N) (g : Given) (log : Log) (events : List Event)
-      → Rounding cat stands_s stands_n Good w g log events → events ≡ []
-      → Settling cat stands_s stands_n Good w g log
-  round_ends w g log events r same = record { calm = r.calm; waiting = r.waiting; left_is = r.left_is ∙ ap (λ es. (r.waiting, es)) same; settles = r.settles }
-
-  pub settle_ends : (w : World C S N) (g : Given) (log : Log) → Settling cat stands_s stands_n Good w g log
-      → quiet (all_links g) (calls_of log) ≡ true → StandsFor cat stands_s stands_n Good w g log
-  settle_ends w g log s q = record { calm = s.calm; complete = settled g log s.waiting (free g log s.calm.rests) s.left_is s.settles q }
-
-  -- one event more is given
-  pub given_more : (w w2 : World C S N) (g : Given) (log : Log) (e : Event) → Good (with_event g e)
-      → Calm cat stands_s stands_n Good w g log → w2 ≡ record w { given = w2.given }
-      → w2.given.items ≡ w.given.items ++ e ∷ []
-      → Calm cat stands_s stands_n Good w2 (with_event g e) log
-  given_more w w2 g log e good c same pushed = record {
-    parts = record {
-      good = good;
-      sound = sound_more g e c.parts.sound;
-      no_redeclares = c.parts.no_redeclares;
-      catalogue_is = ap (λ v. cat v.catalogue) same ∙ c.parts.catalogue_is;
-      txns_are = ap (λ v. v.txns) same ∙ c.parts.txns_are;
-      given_is = pushed ∙ ap (λ xs. xs ++ e ∷ []) c.parts.given_is;
-      history_is = ap (λ v. v.history) same ∙ c.parts.history_is;
-      sites = λ x here. subst (λ z. stands_s z x (setting_of g x) (local_of g x log)) (sym (ap (λ v. v.sites) same)) (c.parts.sites x here);
-      net = subst (λ z. stands_n z g.catalogue.tms g.catalogue.dms (calls_of log)) (sym (ap (λ v. v.net) same)) c.parts.net;
-    };
-    rests = rests_more g e log c.rests;
-    marks_are = ap (λ v. v.marks) same ∙ c.marks_are;
-    spooled = subst (λ boxes. Spooled (with_event g e) log boxes U) (sym (ap (λ v. v.spool) same)) (spool_more g e log w.spool c.spooled);
-  }
-
-  pub step_before : (w w2 : World C S N) (g : Given) (log : Log) (e : Event) → Good (with_event g e)
-      → StandsFor cat stands_s stands_n Good w g log → IsPossible g e → w2 ≡ record w { given = w2.given }
-      → w2.given.items ≡ w.given.items ++ e ∷ []
-      → Before cat stands_s stands_n Good w2 (with_event g e) log e
-  step_before w w2 g log e good s p same pushed = record {
-    calm = given_more w w2 g log e good s.calm same pushed;
-    next_is = (one_more g e log (single g e p) s.calm.rests.lawful s.complete).0;
-    possible = still_possible g e e p;
-  }
-
-  pub step_after : (w w2 : World C S N) (g : Given) (log : Log) (e : Event)
-      → StandsFor cat stands_s stands_n Good w g log → IsPossible g e → Happened cat stands_s stands_n Good w2
-      (with_event g e) log
-      → (more : Log) × StandsFor cat stands_s stands_n Good w2 (with_event g e) more
-  step_after w w2 g log e s p h = (
-    h.more,
-    record {
-      calm = h.calm;
-      complete = none_left (with_event g e) h.more (free (with_event g e) h.more h.calm.rests)
-          (ap (λ a. a.rest) h.ahead_is ∙ (one_more g e log (single g e p) s.calm.rests.lawful s.complete).1);
-    },
-  )
-
-  pub settle_begins : (w w2 : World C S N) (g : Given) (log : Log) → Good (with_event g Settle)
-      → StandsFor cat stands_s stands_n Good w g log → w2 ≡ record w { given = w2.given }
-      → w2.given.items ≡ w.given.items ++ Settle ∷ []
-      → Settling cat stands_s stands_n Good w2 (with_event g Settle) log
-  settle_begins w w2 g log good s same pushed =
-      let l = one_settle g log s.calm.rests.lawful s.complete in
-      record { calm = given_more w w2 g log Settle good s.calm same pushed; waiting = l.0; left_is = l.1; settles = l.2 }
-
-  pub few : (w : World C S N) (g : Given) (log : Log) → Calm cat stands_s stands_n Good w g log → w.marks ≤ MAX_RUN_EVENTS
-  few w g log c = let f : marks log ≤ MAX_RUN_EVENTS = few_marks log c.rests.within in let e : w.marks ≡ marks log = c.marks_are in omega (arith, f, e)
-
-  -- an event has its number, where one is left
-  pub marked_next : (w w2 : World C S N) (g : Given) (log : Log) (e e2 : Event)
-      → Before cat stands_s stands_n Good w g log e → e ≡ e2 → w.marks ≢ MAX_RUN_EVENTS
-      → w2 ≡ record w { marks = w.marks + 1 } → Marked cat stands_s stands_n Good w2 g log e2
-  marked_next w w2 g log e e2 b is left same =
-      let parts : Parts cat stands_s stands_n Good w g log = b.calm.parts in
-      let f : w.marks ≤ MAX_RUN_EVENTS = few w g log b.calm in
-      let m : w.marks ≡ marks log = b.calm.marks_are in
-      record {
-        parts = record {
-          good = parts.good;
-          sound = parts.sound;
-          no_redeclares = parts.no_redeclares;
-          catalogue_is = ap (λ v. cat v.catalogue) same ∙ parts.catalogue_is;
-          txns_are = ap (λ v. v.txns) same ∙ parts.txns_are;
-          given_is = ap (λ v. v.given.items) same ∙ parts.given_is;
-          history_is = ap (λ v. v.history) same ∙ parts.history_is;
-          sites = λ x here. subst (λ z. stands_s z x (setting_of g x) (local_of g x log)) (sym (ap (λ v. v.sites) same)) (parts.sites x here);
-          net = subst (λ z. stands_n z g.catalogue.tms g.catalogue.dms (calls_of log)) (sym (ap (λ v. v.net) same)) parts.net;
+          rests = rests_round g log events s.calm.rests n;
+          marks_are = s.calm.marks_are;
+          spooled = spool_round g events log w.spool s.calm.spooled;
         };
-        marked = record { rests = b.calm.rests; next_is = b.next_is ∙ ap (λ x. Some (Mark x)) is; few = omega (arith, f, left, m) };
-        marks_are = let n : w2.marks ≡ w.marks + 1 = ap (λ v. v.marks) same in omega (arith, n, m);
-        spooled = subst (λ boxes. Spooled g log boxes U) (sym (ap (λ v. v.spool) same)) b.calm.spooled;
-        possible = subst (λ x. IsPossible g x) is b.possible;
-      }
+        waiting = s.waiting;
+        left_is = ap (λ v. (v.0, events)) s.left_is;
+        settles = s.settles;
+        possible = subst (λ es. AtEach (IsPossible g) es) (sym e)
+            (each_of_round (IsPossible g) g.catalogue.tms g.catalogue.dms (calls_of log)
+            (λ a b l. (l, (l, omega arith))));
+      },
+    )
+
+pub round_some : (w : World) (g : Given) (log : Log) (events : List Event)
+    → Settling w g log → quiet (all_links g) (calls_of log) ≡ false
+    → ((tms dms : ℕ) (calls : List (Call Msg)) → Carries w.net tms dms calls → events ≡ round (links tms dms) calls) → 0 < length events
+round_some w g log [] s q f =
+    let e : round (links g.catalogue.tms g.catalogue.dms) (calls_of log) ≡ [] = sym (f g.catalogue.tms g.catalogue.dms (calls_of log) s.calm.parts.net) in
+    let no : true ≡ false = sym (no_events_quiet g.catalogue.tms g.catalogue.dms (calls_of log) e) ∙ q in cc
+round_some w g log (x ∷ events) s q f = omega arith
+
+pub round_before : (w : World) (g : Given) (log : Log) (events : List Event) (e : Event)
+    (rest : List Event) → Rounding w g log events → events ≡ e ∷ rest
+    → Before w g log e
+round_before w g log events e rest r same =
+    let p : AtEach (IsPossible g) (e ∷ rest) = subst (λ es. AtEach (IsPossible g) es) same r.possible in
+    record {
+      calm = r.calm;
+      next_is = in_round g log r.waiting e rest (free g log r.calm.rests) (r.left_is ∙ ap (λ es. (r.waiting, es)) same);
+      possible = p.0;
+    }
+
+pub round_after : (w w2 : World) (g : Given) (log : Log) (events : List Event) (e : Event)
+    (rest : List Event) → Rounding w g log events → events ≡ e ∷ rest
+    → Happened w2 g log
+    → (more : Log) × Rounding w2 g more rest
+round_after w w2 g log events e rest r same h =
+    let p : AtEach (IsPossible g) (e ∷ rest) = subst (λ es. AtEach (IsPossible g) es) same r.possible in (
+      h.more,
+      record {
+        calm = h.calm;
+        waiting = r.waiting;
+        left_is = ap (λ a. a.rest) h.ahead_is ∙ ap after_mark (r.left_is ∙ ap (λ es. (r.waiting, es)) same);
+        settles = r.settles;
+        possible = p.1;
+      },
+    )
+
+pub one_mark : (w w2 : World) (g : Given) (log : Log) → Calm w g log
+    → Happened w2 g log → w2.marks ≡ suc w.marks
+one_mark w w2 g log c h = h.calm.marks_are ∙ ap (λ a. a.number) h.ahead_is ∙ ap (λ n. suc n) (sym c.marks_are)
+
+pub round_ends : (w : World) (g : Given) (log : Log) (events : List Event)
+    → Rounding w g log events → events ≡ []
+    → Settling w g log
+round_ends w g log events r same = record { calm = r.calm; waiting = r.waiting; left_is = r.left_is ∙ ap (λ es. (r.waiting, es)) same; settles = r.settles }
+
+pub settle_ends : (w : World) (g : Given) (log : Log) → Settling w g log
+    → quiet (all_links g) (calls_of log) ≡ true → StandsFor w g log
+settle_ends w g log s q = record { calm = s.calm; complete = settled g log s.waiting (free g log s.calm.rests) s.left_is s.settles q }
+
+-- one event more is given
+pub given_more : (w w2 : World) (g : Given) (log : Log) (e : Event) → IsGood (with_event g e)
+    → Calm w g log → w2 ≡ record w { given = w2.given }
+    → w2.given.items ≡ w.given.items ++ e ∷ []
+    → Calm w2 (with_event g e) log
+given_more w w2 g log e good c same pushed = record {
+  parts = record {
+    good = good;
+    sound = sound_more g e c.parts.sound;
+    no_redeclares = c.parts.no_redeclares;
+    catalogue_is = ap (λ v. v.catalogue.now) same ∙ c.parts.catalogue_is;
+    txns_are = ap (λ v. v.txns) same ∙ c.parts.txns_are;
+    given_is = pushed ∙ ap (λ xs. xs ++ e ∷ []) c.parts.given_is;
+    history_is = ap (λ v. v.history) same ∙ c.parts.history_is;
+    sites = λ x here. subst (λ z. StandFor z x (setting_of g x) (local_of g x log)) (sym (ap (λ v. v.sites) same)) (c.parts.sites x here);
+    net = subst (λ z. Carries z g.catalogue.tms g.catalogue.dms (calls_of log)) (sym (ap (λ v. v.net) same)) c.parts.net;
+  };
+  rests = rests_more g e log c.rests;
+  marks_are = ap (λ v. v.marks) same ∙ c.marks_are;
+  spooled = subst (λ boxes. Spooled (with_event g e) log boxes U) (sym (ap (λ v. v.spool) same)) (spool_more g e log w.spool c.spooled);
+}
+
+pub step_before : (w w2 : World) (g : Given) (log : Log) (e : Event) → IsGood (with_event g e)
+    → StandsFor w g log → IsPossible g e → w2 ≡ record w { given = w2.given }
+    → w2.given.items ≡ w.given.items ++ e ∷ []
+    → Before w2 (with_event g e) log e
+step_before w w2 g log e good s p same pushed = record {
+  calm = given_more w w2 g log e good s.calm same pushed;
+  next_is = (one_more g e log (single g e p) s.calm.rests.lawful s.complete).0;
+  possible = still_possible g e e p;
+}
+
+pub step_after : (w w2 : World) (g : Given) (log : Log) (e : Event)
+    → StandsFor w g log → IsPossible g e → Happened w2
+    (with_event g e) log
+    → (more : Log) × StandsFor w2 (with_event g e) more
+step_after w w2 g log e s p h = (
+  h.more,
+  record {
+    calm = h.calm;
+    complete = none_left (with_event g e) h.more (free (with_event g e) h.more h.calm.rests)
+        (ap (λ a. a.rest) h.ahead_is ∙ (one_more g e log (single g e p) s.calm.rests.lawful s.complete).1);
+  },
+)
+
+pub settle_begins : (w w2 : World) (g : Given) (log : Log) → IsGood (with_event g Settle)
+    → StandsFor w g log → w2 ≡ record w { given = w2.given }
+    → w2.given.items ≡ w.given.items ++ Settle ∷ []
+    → Settling w2 (with_event g Settle) log
+settle_begins w w2 g log good s same pushed =
+    let l = one_settle g log s.calm.rests.lawful s.complete in
+    record { calm = given_more w w2 g log Settle good s.calm same pushed; waiting = l.0; left_is = l.1; settles = l.2 }
+
+pub few : (w : World) (g : Given) (log : Log) → Calm w g log → w.marks ≤ MAX_RUN_EVENTS
+few w g log c = let f : marks log ≤ MAX_RUN_EVENTS = few_marks log c.rests.within in let e : w.marks ≡ marks log = c.marks_are in omega (arith, f, e)
+
+-- an event has its number, where one is left
+pub marked_next : (w w2 : World) (g : Given) (log : Log) (e e2 : Event)
+    → Before w g log e → e ≡ e2 → w.marks ≢ MAX_RUN_EVENTS
+    → w2 ≡ record w { marks = w.marks + 1 } → Marked w2 g log e2
+marked_next w w2 g log e e2 b is left same =
+    let parts : Parts w g log = b.calm.parts in
+    let f : w.marks ≤ MAX_RUN_EVENTS = few w g log b.calm in
+    let m : w.marks ≡ marks log = b.calm.marks_are in
+    record {
+      parts = record {
+        good = parts.good;
+        sound = parts.sound;
+        no_redeclares = parts.no_redeclares;
+        catalogue_is = ap (λ v. v.catalogue.now) same ∙ parts.catalogue_is;
+        txns_are = ap (λ v. v.txns) same ∙ parts.txns_are;
+        given_is = ap (λ v. v.given.items) same ∙ parts.given_is;
+        history_is = ap (λ v. v.history) same ∙ parts.history_is;
+        sites = λ x here. subst (λ z. StandFor z x (setting_of g x) (local_of g x log)) (sym (ap (λ v. v.sites) same)) (parts.sites x here);
+        net = subst (λ z. Carries z g.catalogue.tms g.catalogue.dms (calls_of log)) (sym (ap (λ v. v.net) same)) parts.net;
+      };
+      marked = record { rests = b.calm.rests; next_is = b.next_is ∙ ap (λ x. Some (Mark x)) is; few = omega (arith, f, left, m) };
+      marks_are = let n : w2.marks ≡ w.marks + 1 = ap (λ v. v.marks) same in omega (arith, n, m);
+      spooled = subst (λ boxes. Spooled g log boxes U) (sym (ap (λ v. v.spool) same)) b.calm.spooled;
+      possible = subst (λ x. IsPossible g x) is b.possible;
+    }

@@ -3,6 +3,7 @@ use Rattle.std.proofs.Common.{ℕ, ◌≡◌, ◌∙◌, ap, sym, Bool, true, fa
 use Rattle.std.specs.Prelude.{◌||◌}
 use Rattle.sdd_base.specs.declared.site.Site.{Site}
 use Rattle.sdd_wire.specs.declared.msg.Msg.{Msg}
+use Rattle.sdd_world.specs.Carries.{Carries, NetValue}
 use Rattle.sdd_net.specs.Links.{Call}
 use Rattle.sdd_net.specs.Nets.{is_link}
 use Rattle.sdd_log.specs.Traffic.{puts}
@@ -26,58 +27,57 @@ or_second false b e = e
 or_past : (a b : Bool) → a ≡ true → (a || b) ≡ true
 or_past a b e = rw e refl
 
-module _ {N : Type 0} (stands : N → ℕ → ℕ → List (Call Msg) → Type 0) where
-  one_linked : (old now : N) (at : Site) (out left rest : List (Site × Msg)) (x : Site × Msg) → (s : Sending stands old now at out left) → left ≡ x ∷ rest
-      → (tms dms : ℕ) → AreLinked tms dms at out → AreLinked tms dms at (x ∷ [])
-  one_linked old now at out left rest x s e tms dms h =
-      let parts : out ≡ s.sent ++ x ∷ rest = s.parts ∙ ap (λ l. s.sent ++ l) e in
-      let all : AreLinked tms dms at (s.sent ++ x ∷ rest) = rw parts at h in
-      (linked_at tms dms at s.sent x rest all, tt)
+one_linked : (old now : NetValue) (at : Site) (out left rest : List (Site × Msg)) (x : Site × Msg) → (s : Sending old now at out left) → left ≡ x ∷ rest
+    → (tms dms : ℕ) → AreLinked tms dms at out → AreLinked tms dms at (x ∷ [])
+one_linked old now at out left rest x s e tms dms h =
+    let parts : out ≡ s.sent ++ x ∷ rest = s.parts ∙ ap (λ l. s.sent ++ l) e in
+    let all : AreLinked tms dms at (s.sent ++ x ∷ rest) = rw parts at h in
+    (linked_at tms dms at s.sent x rest all, tt)
 
-  pub can_send : (old now : N) (at : Site) (out left rest : List (Site × Msg)) (x : Site × Msg) → Sending stands old now at out left → left ≡ x ∷ rest
-      → (tms : ℕ) × (dms : ℕ) × (calls : List (Call Msg)) × stands now tms dms calls × AreLinked tms dms at (x ∷ [])
-  can_send old now at out left rest x s e = (
-    s.some.0,
-    s.some.1,
-    puts at s.sent s.some.2,
-    (s.so_far s.some.0 s.some.1 s.some.2 s.some.3 s.some.4).1,
-    one_linked old now at out left rest x s e
-        s.some.0 s.some.1 s.some.4,
-  )
+pub can_send : (old now : NetValue) (at : Site) (out left rest : List (Site × Msg)) (x : Site × Msg) → Sending old now at out left → left ≡ x ∷ rest
+    → (tms : ℕ) × (dms : ℕ) × (calls : List (Call Msg)) × Carries now tms dms calls × AreLinked tms dms at (x ∷ [])
+can_send old now at out left rest x s e = (
+  s.some.0,
+  s.some.1,
+  puts at s.sent s.some.2,
+  (s.so_far s.some.0 s.some.1 s.some.2 s.some.3 s.some.4).1,
+  one_linked old now at out left rest x s e
+      s.some.0 s.some.1 s.some.4,
+)
 
-  pub sends_on : (old now new : N) (at : Site) (out left rest : List (Site × Msg)) (x : Site × Msg) → Sending stands old now at out left → left ≡ x ∷ rest
-      → ((tms dms : ℕ) (calls : List (Call Msg)) → stands now tms dms calls → AreLinked tms dms at (x ∷ [])
-      → (puts_past calls at (x ∷ []) ≡ false) × stands new tms dms (puts at (x ∷ []) calls))
-      → Sending stands old new at out rest
-  sends_on old now new at out left rest x s e f = record {
-    sent = s.sent ++ x ∷ [];
-    parts = s.parts ∙ ap (λ l. s.sent ++ l) e ∙ sym (append_assoc s.sent (x ∷ []) rest);
-    some = s.some;
-    so_far = λ tms dms calls h k.
-        let a = s.so_far tms dms calls h k in
-        let b = f tms dms (puts at s.sent calls) a.1 (one_linked old now at out left rest x s e tms dms k) in (
-          puts_past-append at s.sent (x ∷ []) calls ∙ or_first (puts_past calls at s.sent) (puts_past (puts at s.sent calls) at (x ∷ [])) a.0 b.0,
-          let same : puts at (s.sent ++ x ∷ []) calls ≡ puts at (x ∷ []) (puts at s.sent calls) = puts-append at s.sent (x ∷ []) calls in rw same b.1,
-        );
-  }
-
-  pub sends_past : (old now : N) (at : Site) (out left rest : List (Site × Msg)) (x : Site × Msg) → Sending stands old now at out left → left ≡ x ∷ rest
-      → ((tms dms : ℕ) (calls : List (Call Msg)) → stands now tms dms calls → AreLinked tms dms at (x ∷ []) → puts_past calls at (x ∷ []) ≡ true)
-      → (tms dms : ℕ) (calls : List (Call Msg)) → stands old tms dms calls → AreLinked tms dms at out → puts_past calls at out ≡ true
-  sends_past old now at out left rest x s e f tms dms calls h k =
+pub sends_on : (old now new : NetValue) (at : Site) (out left rest : List (Site × Msg)) (x : Site × Msg) → Sending old now at out left → left ≡ x ∷ rest
+    → ((tms dms : ℕ) (calls : List (Call Msg)) → Carries now tms dms calls → AreLinked tms dms at (x ∷ [])
+    → (puts_past calls at (x ∷ []) ≡ false) × Carries new tms dms (puts at (x ∷ []) calls))
+    → Sending old new at out rest
+sends_on old now new at out left rest x s e f = record {
+  sent = s.sent ++ x ∷ [];
+  parts = s.parts ∙ ap (λ l. s.sent ++ l) e ∙ sym (append_assoc s.sent (x ∷ []) rest);
+  some = s.some;
+  so_far = λ tms dms calls h k.
       let a = s.so_far tms dms calls h k in
-      let b : puts_past (puts at s.sent calls) at (x ∷ []) ≡ true =
-      f tms dms (puts at s.sent calls) a.1 (one_linked old now at out left rest x s e tms dms k) in
-      let parts : out ≡ (s.sent ++ x ∷ []) ++ rest = s.parts ∙ ap (λ l. s.sent ++ l) e ∙ sym (append_assoc s.sent (x ∷ []) rest) in
-      ap (λ l. puts_past calls at l) parts ∙ puts_past-append at (s.sent ++ x ∷ []) rest calls
-      ∙ or_past (puts_past calls at (s.sent ++ x ∷ [])) (puts_past (puts at (s.sent ++ x ∷ []) calls) at rest)
-      (puts_past-append at s.sent (x ∷ []) calls ∙ or_second (puts_past calls at s.sent) (puts_past (puts at s.sent calls) at (x ∷ [])) b)
+      let b = f tms dms (puts at s.sent calls) a.1 (one_linked old now at out left rest x s e tms dms k) in (
+        puts_past-append at s.sent (x ∷ []) calls ∙ or_first (puts_past calls at s.sent) (puts_past (puts at s.sent calls) at (x ∷ [])) a.0 b.0,
+        let same : puts at (s.sent ++ x ∷ []) calls ≡ puts at (x ∷ []) (puts at s.sent calls) = puts-append at s.sent (x ∷ []) calls in rw same b.1,
+      );
+}
 
-  -- all is sent
-  pub sent_all : (old now : N) (at : Site) (out left : List (Site × Msg)) → Sending stands old now at out left → left ≡ []
-      → (tms dms : ℕ) (calls : List (Call Msg)) → stands old tms dms calls → AreLinked tms dms at out
-      → (puts_past calls at out ≡ false) × stands now tms dms (puts at out calls)
-  sent_all old now at out left s e tms dms calls h k =
-      let a = s.so_far tms dms calls h k in
-      let same : out ≡ s.sent = s.parts ∙ ap (λ l. s.sent ++ l) e ∙ append-nil s.sent in
-      rw same a
+pub sends_past : (old now : NetValue) (at : Site) (out left rest : List (Site × Msg)) (x : Site × Msg) → Sending old now at out left → left ≡ x ∷ rest
+    → ((tms dms : ℕ) (calls : List (Call Msg)) → Carries now tms dms calls → AreLinked tms dms at (x ∷ []) → puts_past calls at (x ∷ []) ≡ true)
+    → (tms dms : ℕ) (calls : List (Call Msg)) → Carries old tms dms calls → AreLinked tms dms at out → puts_past calls at out ≡ true
+sends_past old now at out left rest x s e f tms dms calls h k =
+    let a = s.so_far tms dms calls h k in
+    let b : puts_past (puts at s.sent calls) at (x ∷ []) ≡ true =
+    f tms dms (puts at s.sent calls) a.1 (one_linked old now at out left rest x s e tms dms k) in
+    let parts : out ≡ (s.sent ++ x ∷ []) ++ rest = s.parts ∙ ap (λ l. s.sent ++ l) e ∙ sym (append_assoc s.sent (x ∷ []) rest) in
+    ap (λ l. puts_past calls at l) parts ∙ puts_past-append at (s.sent ++ x ∷ []) rest calls
+    ∙ or_past (puts_past calls at (s.sent ++ x ∷ [])) (puts_past (puts at (s.sent ++ x ∷ []) calls) at rest)
+    (puts_past-append at s.sent (x ∷ []) calls ∙ or_second (puts_past calls at s.sent) (puts_past (puts at s.sent calls) at (x ∷ [])) b)
+
+-- all is sent
+pub sent_all : (old now : NetValue) (at : Site) (out left : List (Site × Msg)) → Sending old now at out left → left ≡ []
+    → (tms dms : ℕ) (calls : List (Call Msg)) → Carries old tms dms calls → AreLinked tms dms at out
+    → (puts_past calls at out ≡ false) × Carries now tms dms (puts at out calls)
+sent_all old now at out left s e tms dms calls h k =
+    let a = s.so_far tms dms calls h k in
+    let same : out ≡ s.sent = s.parts ∙ ap (λ l. s.sent ++ l) e ∙ append-nil s.sent in
+    rw same a

@@ -6,7 +6,6 @@ use Rattle.sdd_base.specs.declared.number.TxnNo.{TxnNo}
 use Rattle.sdd_base.specs.declared.site.Site.{Site}
 use Rattle.sdd_base.specs.declared.site.Site.TheVariants.{U}
 use Rattle.sdd_base.specs.declared.event.Event.TheVariants.{Submit}
-use Rattle.sdd_catalog.specs.Catalogue.{Catalogue}
 use Rattle.sdd_lang.specs.declared.transaction.Txn.{Txn}
 use Rattle.sdd_lang.specs.Fits.{Fits}
 use Rattle.sdd_history.specs.declared.record.Rec.{Rec}
@@ -15,7 +14,6 @@ use Rattle.sdd_wire.specs.declared.msg.Msg.{Msg}
 use Rattle.sdd_wire.specs.declared.outcome.Outcome.{Outcome}
 use Rattle.sdd_module.specs.SiteLog.{Act, AreDue, Bases, Setting, Submits, log_after, records_of, sends_of}
 use Rattle.sdd_module.specs.SiteLog as site
-use Rattle.sdd_net.specs.Links.{Call}
 use Rattle.sdd_net.proofs.Directions.{same_is}
 use Rattle.sdd_spool.specs.Mailboxes.{Mailbox}
 use Rattle.sdd_log.specs.Entries.{Given, Log, Mark, history, marks}
@@ -34,10 +32,15 @@ use Rattle.sdd_world.specs.declared.world.World.{World}
 use Rattle.sdd_world.specs.DueAt.{next_of}
 use Rattle.sdd_world.specs.Kinds.{AreLinked}
 use Rattle.sdd_world.specs.Following.{Followed, IsPast, MaySend}
-use Rattle.sdd_world.specs.Standing.{EndsBy, Facts, Happened, Marked, Spooled}
+use Rattle.sdd_world.specs.Standing.{EndsBy, Happened, Marked, Spooled}
 use Rattle.sdd_world.proofs.Handing.{are_linked, at_log, due_same, here_at}
 use Rattle.sdd_world.proofs.Marking.{happened}
 use Rattle.sdd_world.proofs.Parting.{events_before, later, redeclares_acts, spooled_acts, spooled_on}
+use Rattle.sdd_world.specs.Members.{StandFor}
+use Rattle.sdd_world.specs.Carries.{Carries}
+use Rattle.sdd_world.specs.declared.sites.Sites.{Sites}
+use Rattle.sdd_facts.specs.Real.{fits_submit}
+use Rattle.sdd_facts.proofs.AllFacts.{all_facts}
 
 -- what is read at a place of a list is the member there
 pub read_at : {A : Type 0} (xs : List A) (i : ℕ) (x y : A) → slice_get xs i ≡ Some x → y ≡ get_or xs i y → slice_get xs i ≡ Some y
@@ -49,12 +52,8 @@ spool_submitted : (g : Given) (n : TxnNo) (log : Log) (boxes : List (Mailbox Msg
 spool_submitted g n log boxes s = spooled_on g log (submitted g n log) boxes U (λ d. refl)
     (λ d apart x rest r. record { count = r.count; messages = r.messages }) s
 
-module _ {C S N : Type 0} (cat : C → Catalogue) (stands_s : S → Site → Setting → site.Log → Type 0)
-    (stands_n : N → ℕ → ℕ → List (Call Msg) → Type 0) (Good : Given → Type 0)
-    (fits : Site → Setting → Bases → site.Log → Site → Msg → Type 0) (fits_submit : Site → Setting → Bases
-    → site.Log → ℕ → Txn → Type 0) (fits_tick : Site → Setting → site.Log → ℕ → Type 0)
-    (facts : Facts Good fits fits_submit fits_tick) (w : World C S N) (g : Given) (log : Log) (n : TxnNo)
-    (m : Marked cat stands_s stands_n Good w g log (Submit n)) where
+module _ (w : World) (g : Given) (log : Log) (n : TxnNo)
+    (m : Marked w g log (Submit n)) where
   abbrev home : Site
   home = home_in g n log
 
@@ -66,52 +65,52 @@ module _ {C S N : Type 0} (cat : C → Catalogue) (stands_s : S → Site → Set
   txn_read txn h = read_at g.txns (n.0 - 1) m.possible.0 txn m.possible.2 (h ∙ ap (λ xs. get_or xs (n.0 - 1) txn) m.parts.txns_are)
 
   -- and fits the catalogue
-  pub txn_fits : (txn : Txn) → txn_at g n.0 ≡ Some txn → Fits (cat w.catalogue) txn
+  pub txn_fits : (txn : Txn) → txn_at g n.0 ≡ Some txn → Fits (w.catalogue.now) txn
   txn_fits txn is = subst (λ c. Fits c txn) (sym m.parts.catalogue_is) (m.parts.sound.txns_fit n.0 txn is)
 
   lawful_here : IsLawful g (Mark (Submit n) ∷ log)
   lawful_here = (m.marked.next_is, m.marked.rests.lawful)
 
   home_here : IsSiteOf g home
-  home_here = facts.home g m.parts.good (Mark (Submit n) ∷ log) home n.0 lawful_here refl
+  home_here = all_facts.home g m.parts.good (Mark (Submit n) ∷ log) home n.0 lawful_here refl
 
   pub events_order : All {X = ℕ × Rec} (λ e. e.0 ≤ w.marks) w.history
   events_order = rw (m.marks_are, m.parts.history_is) (later (marks log) (suc (marks log)) (history log) (omega arith) (events_before log))
 
   module _ (txn : Txn) (is : txn_at g n.0 ≡ Some txn) where
-    pub home_is : (at : Site) → at ≡ home_of (cat w.catalogue) (Some txn) → at ≡ home
+    pub home_is : (at : Site) → at ≡ home_of (w.catalogue.now) (Some txn) → at ≡ home
     home_is at e =
         e ∙ ap (λ c. home_of c (Some txn)) (m.parts.catalogue_is ∙ sym m.parts.sound.one_force)
         ∙ ap (λ k. home_of (force_at g k).catalogue (Some txn)) (sym m.parts.no_redeclares)
         ∙ ap (λ o. home_of (force_at g (redeclares log)).catalogue o) (sym is)
 
     submit_fits : fits_submit home (setting_of g home) (base_of g submitted_log) (local_of g home log) n.0 txn
-    submit_fits = facts.submit g m.parts.good (Mark (Submit n) ∷ log) home n.0 txn lawful_here
+    submit_fits = all_facts.submit g m.parts.good (Mark (Submit n) ∷ log) home n.0 txn lawful_here
         (mark_within log (Submit n) m.marked.few, m.marked.rests.within) refl is
 
-    submit_stands : stands_s w.sites home (setting_of g home) (local_of g home log)
+    submit_stands : StandFor w.sites home (setting_of g home) (local_of g home log)
     submit_stands = m.parts.sites home home_here
 
     pub submit_asks : (at : Site) → at ≡ home → (setting : Setting) × (bases : Bases) × (l : site.Log)
-        × stands_s w.sites at setting l × fits_submit at setting bases l n.0 txn
+        × StandFor w.sites at setting l × fits_submit at setting bases l n.0 txn
     submit_asks at e =
-        subst (λ z. (setting : Setting) × (bases : Bases) × (l : site.Log) × stands_s w.sites z setting l × fits_submit z setting bases l n.0 txn) (sym e)
+        subst (λ z. (setting : Setting) × (bases : Bases) × (l : site.Log) × StandFor w.sites z setting l × fits_submit z setting bases l n.0 txn) (sym e)
         (setting_of g home, base_of g submitted_log, local_of g home log, submit_stands, submit_fits)
 
     -- what the module of the site did
-    pub record Taken (s : S) (outcome : Outcome) : Type 0 where
+    pub record Taken (s : Sites) (outcome : Outcome) : Type 0 where
       pub acts : List Act
       pub due : AreDue (next_in g home (base_of g submitted_log)) (Submits n.0 txn ∷ local_of g home log) acts
       pub records_are : outcome.recs ≡ Submission n ∷ records_of acts
       pub sends_are : outcome.out ≡ sends_of acts
-      pub after : stands_s s home (setting_of g home) (log_after acts (Submits n.0 txn ∷ local_of g home log))
+      pub after : StandFor s home (setting_of g home) (log_after acts (Submits n.0 txn ∷ local_of g home log))
 
-    abbrev pub SubmitLaw : S → Site → Outcome → Type 0
-    SubmitLaw s at outcome = (setting : Setting) (bases : Bases) (l : site.Log) → stands_s w.sites at setting l → fits_submit at setting bases l n.0 txn
+    abbrev pub SubmitLaw : Sites → Site → Outcome → Type 0
+    SubmitLaw s at outcome = (setting : Setting) (bases : Bases) (l : site.Log) → StandFor w.sites at setting l → fits_submit at setting bases l n.0 txn
         → (recs : List Rec) × (outcome.recs ≡ Submission n ∷ recs) × site.Does (next_of at setting bases)
-        (Submits n.0 txn ∷ l) recs outcome.out (stands_s s at setting)
+        (Submits n.0 txn ∷ l) recs outcome.out (StandFor s at setting)
 
-    pub taken : (s : S) (at : Site) (outcome : Outcome) → at ≡ home → SubmitLaw s at outcome → Taken s outcome
+    pub taken : (s : Sites) (at : Site) (outcome : Outcome) → at ≡ home → SubmitLaw s at outcome → Taken s outcome
     taken s at outcome e law =
         let mine : SubmitLaw s home outcome = subst (λ z. SubmitLaw s z outcome) e law in
         let d = mine (setting_of g home) (base_of g submitted_log) (local_of g home log) submit_stands submit_fits in
@@ -123,16 +122,16 @@ module _ {C S N : Type 0} (cat : C → Catalogue) (stands_s : S → Site → Set
           after = d.2.after;
         }
 
-    acts_lawful_here : (s : S) (outcome : Outcome) (t : Taken s outcome) → IsLawful g (after_acts home t.acts submitted_log)
+    acts_lawful_here : (s : Sites) (outcome : Outcome) (t : Taken s outcome) → IsLawful g (after_acts home t.acts submitted_log)
     acts_lawful_here s outcome t = acts_lawful g n log m.marked txn t.acts is (listed g.catalogue.tms g.catalogue.dms home home_here) t.due
 
-    linked_out : (s : S) (outcome : Outcome) → Taken s outcome → AreLinked g.catalogue.tms g.catalogue.dms home outcome.out
+    linked_out : (s : Sites) (outcome : Outcome) → Taken s outcome → AreLinked g.catalogue.tms g.catalogue.dms home outcome.out
     linked_out s outcome t =
         rw t.sends_are (are_linked g home (sends_of t.acts) (linked_acts g home t.acts submitted_log
-        (λ l act k e. facts.sends g m.parts.good l home act k e) (acts_lawful_here s outcome t)))
+        (λ l act k e. all_facts.sends g m.parts.good l home act k e) (acts_lawful_here s outcome t)))
 
     -- it may be sent
-    pub may_send : (s : S) (at : Site) (outcome : Outcome) → at ≡ home → Taken s outcome → MaySend stands_n (record w { sites = s }) at outcome
+    pub may_send : (s : Sites) (at : Site) (outcome : Outcome) → at ≡ home → Taken s outcome → MaySend (record w { sites = s }) at outcome
     may_send s at outcome e t = (
       g.catalogue.tms,
       g.catalogue.dms,
@@ -142,43 +141,43 @@ module _ {C S N : Type 0} (cat : C → Catalogue) (stands_s : S → Site → Set
     )
 
     -- where there is no number for one of its messages, the limit ends the log
-    pub submit_ends : (s : S) (at : Site) (outcome : Outcome) → at ≡ home → Taken s outcome → IsPast stands_n (record w { sites = s }) at outcome → EndsBy g
+    pub submit_ends : (s : Sites) (at : Site) (outcome : Outcome) → at ≡ home → Taken s outcome → IsPast (record w { sites = s }) at outcome → EndsBy g
     submit_ends s at outcome e t past =
         ends_in_acts g home t.acts submitted_log
         (ap (λ o. puts_past (calls_of log) home o) (sym t.sends_are)
-        ∙ subst (λ z. IsPast stands_n (record w { sites = s }) z outcome) e past g.catalogue.tms
+        ∙ subst (λ z. IsPast (record w { sites = s }) z outcome) e past g.catalogue.tms
         g.catalogue.dms (calls_of log) m.parts.net (linked_out s outcome t))
         (submitted_within g n log m.marked) (acts_lawful_here s outcome t)
 
-    done_sites : (s : S) (outcome : Outcome) → (t : Taken s outcome)
-        → ((x : Site) (setting : Setting) (l : site.Log) → same_site x home ≡ false → stands_s w.sites x setting l → stands_s s x setting l)
-        → (x : Site) → IsSiteOf g x → stands_s s x (setting_of g x) (local_of g x (after_acts home t.acts submitted_log))
+    done_sites : (s : Sites) (outcome : Outcome) → (t : Taken s outcome)
+        → ((x : Site) (setting : Setting) (l : site.Log) → same_site x home ≡ false → StandFor w.sites x setting l → StandFor s x setting l)
+        → (x : Site) → IsSiteOf g x → StandFor s x (setting_of g x) (local_of g x (after_acts home t.acts submitted_log))
     done_sites s outcome t others x here =
-        elim (same_site x home) as (λ c. same_site x home ≡ c → stands_s s x (setting_of g x) (local_of g x (after_acts home t.acts submitted_log))) [
-          | true ↦ λ p. here_at x home (same_is x home p) (λ z. stands_s s z (setting_of g z) (local_of g z (after_acts home t.acts submitted_log)))
-              (at_log (stands_s s home (setting_of g home))
+        elim (same_site x home) as (λ c. same_site x home ≡ c → StandFor s x (setting_of g x) (local_of g x (after_acts home t.acts submitted_log))) [
+          | true ↦ λ p. here_at x home (same_is x home p) (λ z. StandFor s z (setting_of g z) (local_of g z (after_acts home t.acts submitted_log)))
+              (at_log (StandFor s home (setting_of g home))
               (local_of g home (after_acts home t.acts submitted_log))
               (log_after t.acts (Submits n.0 txn ∷ local_of g home log))
               (own_acts g home t.acts submitted_log ∙ ap (λ l. log_after t.acts l) (submitted_local g n log m.marked txn is)) t.after)
-          | false ↦ λ p. at_log (stands_s s x (setting_of g x)) (local_of g x (after_acts home t.acts submitted_log)) (local_of g x log)
+          | false ↦ λ p. at_log (StandFor s x (setting_of g x)) (local_of g x (after_acts home t.acts submitted_log)) (local_of g x log)
               (other_acts g x home t.acts submitted_log p ∙ other_local g x home n.0 (Mark (Submit n) ∷ log) p)
               (others x (setting_of g x) (local_of g x log) p (m.parts.sites x here))
         ] refl
 
-    abbrev pub OthersLaw : S → Site → Type 0
-    OthersLaw s at = (x : Site) (setting : Setting) (l : site.Log) → same_site x at ≡ false → stands_s w.sites x setting l → stands_s s x setting l
+    abbrev pub OthersLaw : Sites → Site → Type 0
+    OthersLaw s at = (x : Site) (setting : Setting) (l : site.Log) → same_site x at ≡ false → StandFor w.sites x setting l → StandFor s x setting l
 
     -- it is recorded and sent
-    pub submit_done : (s : S) (w2 : World C S N) (at : Site) (outcome : Outcome) → at ≡ home → Taken s outcome → OthersLaw s at
-        → Followed stands_n (record w { sites = s }) w2 at outcome → Happened cat stands_s stands_n Good w2 g log
+    pub submit_done : (s : Sites) (w2 : World) (at : Site) (outcome : Outcome) → at ≡ home → Taken s outcome → OthersLaw s at
+        → Followed (record w { sites = s }) w2 at outcome → Happened w2 g log
     submit_done s w2 at outcome e t others_at followed_at =
         let others : OthersLaw s home = subst (λ z. OthersLaw s z) e others_at in
-        let f : Followed stands_n (record w { sites = s }) w2 home outcome =
-        subst (λ z. Followed stands_n (record w { sites = s }) w2 z outcome) e followed_at in
+        let f : Followed (record w { sites = s }) w2 home outcome =
+        subst (λ z. Followed (record w { sites = s }) w2 z outcome) e followed_at in
         let sent_all = f.net g.catalogue.tms g.catalogue.dms (calls_of log) m.parts.net (linked_out s outcome t) in
         let calls : calls_of (after_acts home t.acts submitted_log) ≡ puts home outcome.out (calls_of log) =
         calls_acts home t.acts submitted_log ∙ ap (λ o. puts home o (calls_of log)) (sym t.sends_are) in
-        happened cat stands_s stands_n Good w w2 g log (Submit n) (after_acts home t.acts submitted_log) m
+        happened w w2 g log (Submit n) (after_acts home t.acts submitted_log) m
         (record { catalogue = f.catalogue; txns = f.txns; given = f.given; marks = f.marks })
         (record {
           rests = submits_and_acts g n log m.marked txn t.acts is
@@ -192,10 +191,10 @@ module _ {C S N : Type 0} (cat : C → Catalogue) (stands_s : S → Site → Set
               ∙ ap (λ xs. xs ++ map (λ x. (suc (marks log), x)) (Submission n ∷ records_of t.acts)) m.parts.history_is
               ∙ sym (append_assoc (history log) ((suc (marks log), Submission n) ∷ []) (map (λ x. (suc (marks log), x)) (records_of t.acts)))
               ∙ sym (history_acts home t.acts submitted_log);
-          sites = λ x here. subst (λ z. stands_s z x (setting_of g x)
+          sites = λ x here. subst (λ z. StandFor z x (setting_of g x)
               (local_of g x (after_acts home t.acts submitted_log))) (sym f.sites)
               (done_sites s outcome t others x here);
-          net = subst (λ c. stands_n w2.net g.catalogue.tms g.catalogue.dms c) (sym calls) sent_all.1;
+          net = subst (λ c. Carries w2.net g.catalogue.tms g.catalogue.dms c) (sym calls) sent_all.1;
           spooled = subst (λ boxes. Spooled g (after_acts home t.acts submitted_log) boxes U) (sym f.spool)
               (spooled_acts g home t.acts submitted_log w.spool U (spool_submitted g n log w.spool m.spooled));
         })

@@ -5,12 +5,9 @@ use Rattle.sdd_base.specs.declared.number.TmNo.{TmNo}
 use Rattle.sdd_base.specs.declared.site.Site.{Site}
 use Rattle.sdd_base.specs.declared.site.Site.TheVariants.{U, T}
 use Rattle.sdd_base.specs.declared.event.Event.TheVariants.{Tick}
-use Rattle.sdd_catalog.specs.Catalogue.{Catalogue}
-use Rattle.sdd_lang.specs.declared.transaction.Txn.{Txn}
 use Rattle.sdd_wire.specs.declared.msg.Msg.{Msg}
-use Rattle.sdd_module.specs.SiteLog.{Bases, Setting, Ticked}
+use Rattle.sdd_module.specs.SiteLog.{Setting, Ticked}
 use Rattle.sdd_module.specs.SiteLog as site
-use Rattle.sdd_net.specs.Links.{Call}
 use Rattle.sdd_net.proofs.Directions.{same_here, same_is}
 use Rattle.sdd_spool.specs.Mailboxes.{Mailbox}
 use Rattle.sdd_log.specs.Entries.{Given, Log, Mark}
@@ -18,10 +15,14 @@ use Rattle.sdd_log.specs.Locals.{local_of, setting_of}
 use Rattle.sdd_step.specs.Resting.{IsSiteOf}
 use Rattle.sdd_step.proofs.Marking.{rests_marked, ticked_none, handed_still}
 use Rattle.sdd_world.specs.declared.world.World.{World}
-use Rattle.sdd_world.specs.Standing.{Facts, Happened, Marked, Spooled}
+use Rattle.sdd_world.specs.Standing.{Happened, Marked, Spooled}
 use Rattle.sdd_world.proofs.Handing.{at_log, here_at}
 use Rattle.sdd_world.proofs.Marking.{happened}
 use Rattle.sdd_world.proofs.Parting.{spooled_on}
+use Rattle.sdd_world.specs.Members.{StandFor}
+use Rattle.sdd_world.specs.declared.sites.Sites.{Sites}
+use Rattle.sdd_facts.specs.Real.{fits_tick}
+use Rattle.sdd_facts.proofs.AllFacts.{all_facts}
 
 own_tick : (g : Given) (t : TmNo) (n : ℕ) (log : Log) → local_of g (T t) (Mark (Tick t n) ∷ log) ≡ Ticked n ∷ local_of g (T t) log
 own_tick g t n log = rw (same_here (T t)) refl
@@ -33,37 +34,33 @@ spool_ticked : (g : Given) (t : TmNo) (n : ℕ) (log : Log) (boxes : List (Mailb
 spool_ticked g t n log boxes s = spooled_on g log (Mark (Tick t n) ∷ log) boxes U (λ d. refl)
     (λ d apart x rest r. record { count = r.count; messages = r.messages }) s
 
-module _ {C S N : Type 0} (cat : C → Catalogue) (stands_s : S → Site → Setting → site.Log → Type 0)
-    (stands_n : N → ℕ → ℕ → List (Call Msg) → Type 0) (Good : Given → Type 0)
-    (fits : Site → Setting → Bases → site.Log → Site → Msg → Type 0) (fits_submit : Site → Setting → Bases
-    → site.Log → ℕ → Txn → Type 0) (fits_tick : Site → Setting → site.Log → ℕ → Type 0)
-    (facts : Facts Good fits fits_submit fits_tick) (w : World C S N) (g : Given) (log : Log) (t : TmNo)
-    (n : ℕ) (m : Marked cat stands_s stands_n Good w g log (Tick t n)) where
+module _ (w : World) (g : Given) (log : Log) (t : TmNo)
+    (n : ℕ) (m : Marked w g log (Tick t n)) where
   tick_fits : fits_tick (T t) (setting_of g (T t)) (local_of g (T t) log) n
-  tick_fits = facts.tick g m.parts.good log t.0 n m.marked.rests.lawful m.marked.rests.within m.marked.next_is
+  tick_fits = all_facts.tick g m.parts.good log t.0 n m.marked.rests.lawful m.marked.rests.within m.marked.next_is
 
-  pub tick_asks : (setting : Setting) × (l : site.Log) × stands_s w.sites (T t) setting l × fits_tick (T t) setting l n
+  pub tick_asks : (setting : Setting) × (l : site.Log) × StandFor w.sites (T t) setting l × fits_tick (T t) setting l n
   tick_asks = (setting_of g (T t), local_of g (T t) log, m.parts.sites (T t) m.possible.0, tick_fits)
 
-  abbrev pub TickLaw : S → Type 0
-  TickLaw s = (setting : Setting) (l : site.Log) → stands_s w.sites (T t) setting l → fits_tick (T t) setting l n → stands_s s (T t) setting (Ticked n ∷ l)
+  abbrev pub TickLaw : Sites → Type 0
+  TickLaw s = (setting : Setting) (l : site.Log) → StandFor w.sites (T t) setting l → fits_tick (T t) setting l n → StandFor s (T t) setting (Ticked n ∷ l)
 
-  abbrev pub OthersLaw : S → Type 0
-  OthersLaw s = (x : Site) (setting : Setting) (l : site.Log) → same_site x (T t) ≡ false → stands_s w.sites x setting l → stands_s s x setting l
+  abbrev pub OthersLaw : Sites → Type 0
+  OthersLaw s = (x : Site) (setting : Setting) (l : site.Log) → same_site x (T t) ≡ false → StandFor w.sites x setting l → StandFor s x setting l
 
-  ticked_sites : (s : S) → TickLaw s → OthersLaw s → (x : Site) → IsSiteOf g x → stands_s s x (setting_of g x) (local_of g x (Mark (Tick t n) ∷ log))
+  ticked_sites : (s : Sites) → TickLaw s → OthersLaw s → (x : Site) → IsSiteOf g x → StandFor s x (setting_of g x) (local_of g x (Mark (Tick t n) ∷ log))
   ticked_sites s law others x here =
-      elim (same_site x (T t)) as (λ c. same_site x (T t) ≡ c → stands_s s x (setting_of g x) (local_of g x (Mark (Tick t n) ∷ log))) [
-        | true ↦ λ p. here_at x (T t) (same_is x (T t) p) (λ z. stands_s s z (setting_of g z) (local_of g z (Mark (Tick t n) ∷ log)))
-            (at_log (stands_s s (T t) (setting_of g (T t))) (local_of g (T t) (Mark (Tick t n) ∷ log)) (Ticked n ∷ local_of g (T t) log) (own_tick g t n log)
+      elim (same_site x (T t)) as (λ c. same_site x (T t) ≡ c → StandFor s x (setting_of g x) (local_of g x (Mark (Tick t n) ∷ log))) [
+        | true ↦ λ p. here_at x (T t) (same_is x (T t) p) (λ z. StandFor s z (setting_of g z) (local_of g z (Mark (Tick t n) ∷ log)))
+            (at_log (StandFor s (T t) (setting_of g (T t))) (local_of g (T t) (Mark (Tick t n) ∷ log)) (Ticked n ∷ local_of g (T t) log) (own_tick g t n log)
             (law (setting_of g (T t)) (local_of g (T t) log) (m.parts.sites (T t) m.possible.0) tick_fits))
-        | false ↦ λ p. at_log (stands_s s x (setting_of g x)) (local_of g x (Mark (Tick t n) ∷ log)) (local_of g x log) (other_tick g x t n log p)
+        | false ↦ λ p. at_log (StandFor s x (setting_of g x)) (local_of g x (Mark (Tick t n) ∷ log)) (local_of g x log) (other_tick g x t n log p)
             (others x (setting_of g x) (local_of g x log) p (m.parts.sites x here))
       ] refl
 
-  pub ticked : (s : S) → TickLaw s → OthersLaw s → Happened cat stands_s stands_n Good (record w { sites = s }) g log
+  pub ticked : (s : Sites) → TickLaw s → OthersLaw s → Happened (record w { sites = s }) g log
   ticked s law others =
-      happened cat stands_s stands_n Good w (record w { sites = s }) g log (Tick t n) (Mark (Tick t n) ∷ log) m
+      happened w (record w { sites = s }) g log (Tick t n) (Mark (Tick t n) ∷ log) m
       (record { catalogue = refl; txns = refl; given = refl; marks = refl })
       (record {
         rests = rests_marked g log (Tick t n) m.marked (ticked_none g log t n m.marked.rests.no_site) refl

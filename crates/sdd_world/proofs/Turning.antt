@@ -9,12 +9,9 @@ use Rattle.sdd_base.specs.declared.site.Site.TheVariants.{U, T, D}
 use Rattle.sdd_base.specs.declared.number.DmNo.{DmNo}
 use Rattle.sdd_base.specs.declared.event.Event.{Event}
 use Rattle.sdd_base.specs.declared.event.Event.TheVariants.{Down, Up}
-use Rattle.sdd_catalog.specs.Catalogue.{Catalogue}
 use Rattle.sdd_history.specs.declared.record.Rec.TheVariants.{Nothing as Noted}
 use Rattle.sdd_wire.specs.declared.msg.Msg.{Msg}
-use Rattle.sdd_module.specs.SiteLog.{Setting}
 use Rattle.sdd_module.specs.SiteLog as site
-use Rattle.sdd_net.specs.Links.{Call}
 use Rattle.sdd_spool.specs.Mailboxes.{Mailbox, kept_from, mailbox_at}
 use Rattle.sdd_log.specs.Entries.{Given, Log, Mark, Notes}
 use Rattle.sdd_log.specs.Traffic.{calls_of, is_down}
@@ -35,6 +32,8 @@ use Rattle.sdd_step.proofs.Handing.{all_handed}
 use Rattle.sdd_step.proofs.Delivering.{none_remains}
 use Rattle.sdd_step.proofs.Lowest.{Cut, cut_at_t}
 use Rattle.sdd_step.proofs.Turning.{comes_up, goes_down, is_down_already, isnt_down}
+use Rattle.sdd_world.specs.Members.{StandFor}
+use Rattle.sdd_world.specs.Carries.{Carries}
 
 -- the mailboxes as a module turns
 
@@ -146,87 +145,85 @@ not_true : (b : Bool) → not b ≡ true → b ≡ false
 not_true true e = cc
 not_true false e = refl
 
-module _ {C S N : Type 0} (cat : C → Catalogue) (stands_s : S → Site → Setting → site.Log → Type 0)
-    (stands_n : N → ℕ → ℕ → List (Call Msg) → Type 0) (Good : Given → Type 0) where
-  abbrev pub SpoolTurns : List (Mailbox Msg) → List (Mailbox Msg) → ℕ → Bool → Type 0
-  SpoolTurns old new d down = (mailbox_at new d ≡ record (mailbox_at old d) { down = down }) × (length new ≡ length old) × OnlyAt old new d
+abbrev pub SpoolTurns : List (Mailbox Msg) → List (Mailbox Msg) → ℕ → Bool → Type 0
+SpoolTurns old new d down = (mailbox_at new d ≡ record (mailbox_at old d) { down = down }) × (length new ≡ length old) × OnlyAt old new d
 
-  box_down : (w : World C S N) (g : Given) (log : Log) (e : Event) (d : DmNo)
-      → Marked cat stands_s stands_n Good w g log e → IsSiteOf g (D d)
-      → (mailbox_at w.spool d.0).down ≡ is_down d.0 log
-  box_down w g log e d m here = (m.spooled.each d.0 here refl).down_is
+box_down : (w : World) (g : Given) (log : Log) (e : Event) (d : DmNo)
+    → Marked w g log e → IsSiteOf g (D d)
+    → (mailbox_at w.spool d.0).down ≡ is_down d.0 log
+box_down w g log e d m here = (m.spooled.each d.0 here refl).down_is
 
-  same_note : (w w1 w2 : World C S N) → w1 ≡ record w { spool = w1.spool } → w2 ≡ record w1 {
-    history =
-        w2.history;
-  } → w2 ≡ record w { net = w2.net; history = w2.history; spool = w2.spool }
-  same_note w w1 w2 one two =
-      two ∙ ap (λ (v : World C S N). record v { history = w2.history }) one
-      ∙ ap (λ z. record w { net = z; history = w2.history; spool = w1.spool }) (sym (ap (λ v. v.net) two ∙ ap (λ v. v.net) one))
-      ∙ ap (λ z. record w { net = w2.net; history = w2.history; spool = z }) (sym (ap (λ v. v.spool) two))
+same_note : (w w1 w2 : World) → w1 ≡ record w { spool = w1.spool } → w2 ≡ record w1 {
+  history =
+      w2.history;
+} → w2 ≡ record w { net = w2.net; history = w2.history; spool = w2.spool }
+same_note w w1 w2 one two =
+    two ∙ ap (λ (v : World). record v { history = w2.history }) one
+    ∙ ap (λ z. record w { net = z; history = w2.history; spool = w1.spool }) (sym (ap (λ v. v.net) two ∙ ap (λ v. v.net) one))
+    ∙ ap (λ z. record w { net = w2.net; history = w2.history; spool = z }) (sym (ap (λ v. v.spool) two))
 
-  pub noted_too : (w w1 w2 : World C S N) → w1 ≡ record w { spool = w1.spool }
-      → w2.history ≡ w1.history ++ (w1.marks, Noted) ∷ [] → w2.history ≡ w.history ++ (w.marks, Noted) ∷ []
-  noted_too w w1 w2 one note = note ∙ ap (λ v. v.history ++ (v.marks, Noted) ∷ []) one
+pub noted_too : (w w1 w2 : World) → w1 ≡ record w { spool = w1.spool }
+    → w2.history ≡ w1.history ++ (w1.marks, Noted) ∷ [] → w2.history ≡ w.history ++ (w.marks, Noted) ∷ []
+noted_too w w1 w2 one note = note ∙ ap (λ v. v.history ++ (v.marks, Noted) ∷ []) one
 
-  turned_noted : (w w1 w2 : World C S N) (g : Given) (log : Log) (e : Event) (d : DmNo)
-      → Marked cat stands_s stands_n Good w g log e → IsSiteOf g (D d) → IsNoTick e
-      → Rests g (Notes ∷ Mark e ∷ log) → ((k : ℕ) → is_down k (Mark e ∷ log) ≡ is_down k log)
-      → mailbox_at w1.spool d.0 ≡ mailbox_at w.spool d.0 → ((x y : Site) (rest : List Msg)
-      → Remain log x y rest → Remain (Mark e ∷ log) x y rest) → calls_of (Mark e ∷ log) ≡ calls_of log
-      → length w1.spool ≡ length w.spool → OnlyAt w.spool w1.spool d.0 → w1 ≡ record w { spool = w1.spool }
-      → w2 ≡ record w1 { history = w2.history } → w2.history ≡ w1.history ++ (w1.marks, Noted) ∷ []
-      → Happened cat stands_s stands_n Good w2 g log
-  turned_noted w w1 w2 g log e d m here i r downs box remains calls count only one two note =
-      marked_noted cat stands_s stands_n Good w w2 g log e m i r (same_note w w1 w2 one two) (noted_too w w1 w2 one note)
-      (subst (λ c. stands_n w2.net g.catalogue.tms g.catalogue.dms c) (sym calls)
-      (subst (λ z. stands_n z g.catalogue.tms g.catalogue.dms (calls_of log))
-      (sym (ap (λ v. v.net) two ∙ ap (λ v. v.net) one)) m.parts.net))
-      (subst (λ z. Spooled g (Mark e ∷ log) z U) (sym (ap (λ v. v.spool) two))
-      (turn_same g log (Mark e ∷ log) w.spool w1.spool d here downs (λ k x rest s. remains x (D (dm_no k)) rest s) box count only m.spooled))
+turned_noted : (w w1 w2 : World) (g : Given) (log : Log) (e : Event) (d : DmNo)
+    → Marked w g log e → IsSiteOf g (D d) → IsNoTick e
+    → Rests g (Notes ∷ Mark e ∷ log) → ((k : ℕ) → is_down k (Mark e ∷ log) ≡ is_down k log)
+    → mailbox_at w1.spool d.0 ≡ mailbox_at w.spool d.0 → ((x y : Site) (rest : List Msg)
+    → Remain log x y rest → Remain (Mark e ∷ log) x y rest) → calls_of (Mark e ∷ log) ≡ calls_of log
+    → length w1.spool ≡ length w.spool → OnlyAt w.spool w1.spool d.0 → w1 ≡ record w { spool = w1.spool }
+    → w2 ≡ record w1 { history = w2.history } → w2.history ≡ w1.history ++ (w1.marks, Noted) ∷ []
+    → Happened w2 g log
+turned_noted w w1 w2 g log e d m here i r downs box remains calls count only one two note =
+    marked_noted w w2 g log e m i r (same_note w w1 w2 one two) (noted_too w w1 w2 one note)
+    (subst (λ c. Carries w2.net g.catalogue.tms g.catalogue.dms c) (sym calls)
+    (subst (λ z. Carries z g.catalogue.tms g.catalogue.dms (calls_of log))
+    (sym (ap (λ v. v.net) two ∙ ap (λ v. v.net) one)) m.parts.net))
+    (subst (λ z. Spooled g (Mark e ∷ log) z U) (sym (ap (λ v. v.spool) two))
+    (turn_same g log (Mark e ∷ log) w.spool w1.spool d here downs (λ k x rest s. remains x (D (dm_no k)) rest s) box count only m.spooled))
 
-  pub went_down : (w w2 : World C S N) (g : Given) (log : Log) (d : DmNo) (turned : Bool)
-      → Marked cat stands_s stands_n Good w g log (Down d) → turned ≡ not (mailbox_at w.spool d.0).down
-      → SpoolTurns w.spool w2.spool d.0 true
-      → turned ≡ true → w2 ≡ record w { spool = w2.spool } → Happened cat stands_s stands_n Good w2 g log
-  went_down w w2 g log d turned m t s e same =
-      let up : is_down d.0 log ≡ false = sym (box_down w g log (Down d) d m m.possible) ∙ not_true (mailbox_at w.spool d.0).down (sym t ∙ e) in
-      marked_plain cat stands_s stands_n Good w w2 g log (Down d) m tt (goes_down g d log m.marked up)
-      (same ∙ ap (λ z. record w { net = z; spool = w2.spool }) (sym (ap (λ v. v.net) same)))
-      (subst (λ z. stands_n z g.catalogue.tms g.catalogue.dms (calls_of log)) (sym (ap (λ v. v.net) same)) m.parts.net)
-      (down_spool g log w.spool w2.spool d m.possible up m.marked.rests.handed_all s.0 s.1 s.2 m.spooled)
+pub went_down : (w w2 : World) (g : Given) (log : Log) (d : DmNo) (turned : Bool)
+    → Marked w g log (Down d) → turned ≡ not (mailbox_at w.spool d.0).down
+    → SpoolTurns w.spool w2.spool d.0 true
+    → turned ≡ true → w2 ≡ record w { spool = w2.spool } → Happened w2 g log
+went_down w w2 g log d turned m t s e same =
+    let up : is_down d.0 log ≡ false = sym (box_down w g log (Down d) d m m.possible) ∙ not_true (mailbox_at w.spool d.0).down (sym t ∙ e) in
+    marked_plain w w2 g log (Down d) m tt (goes_down g d log m.marked up)
+    (same ∙ ap (λ z. record w { net = z; spool = w2.spool }) (sym (ap (λ v. v.net) same)))
+    (subst (λ z. Carries z g.catalogue.tms g.catalogue.dms (calls_of log)) (sym (ap (λ v. v.net) same)) m.parts.net)
+    (down_spool g log w.spool w2.spool d m.possible up m.marked.rests.handed_all s.0 s.1 s.2 m.spooled)
 
-  pub was_down : (w w1 w2 : World C S N) (g : Given) (log : Log) (d : DmNo) (turned : Bool)
-      → Marked cat stands_s stands_n Good w g log (Down d) → turned ≡ not (mailbox_at w.spool d.0).down
-      → SpoolTurns w.spool w1.spool d.0 true
-      → turned ≡ false → w1 ≡ record w { spool = w1.spool } → w2 ≡ record w1 { history = w2.history }
-      → w2.history ≡ w1.history ++ (w1.marks, Noted) ∷ [] → Happened cat stands_s stands_n Good w2 g log
-  was_down w w1 w2 g log d turned m t s e one two note =
-      let down : is_down d.0 log ≡ true = sym (box_down w g log (Down d) d m m.possible) ∙ not_false (mailbox_at w.spool d.0).down (sym t ∙ e) in
-      let box : mailbox_at w1.spool d.0 ≡ mailbox_at w.spool d.0 =
-      s.0 ∙ same_box (mailbox_at w.spool d.0) true (not_false (mailbox_at w.spool d.0).down (sym t ∙ e))
-      in
-      turned_noted w w1 w2 g log (Down d) d m m.possible tt (is_down_already g d log m.marked down)
-      (λ k. again_down k d log down) box (λ x y rest q. record {
-        count = q.count;
-        messages =
-            q.messages;
-      }) refl s.1 s.2 one two note
+pub was_down : (w w1 w2 : World) (g : Given) (log : Log) (d : DmNo) (turned : Bool)
+    → Marked w g log (Down d) → turned ≡ not (mailbox_at w.spool d.0).down
+    → SpoolTurns w.spool w1.spool d.0 true
+    → turned ≡ false → w1 ≡ record w { spool = w1.spool } → w2 ≡ record w1 { history = w2.history }
+    → w2.history ≡ w1.history ++ (w1.marks, Noted) ∷ [] → Happened w2 g log
+was_down w w1 w2 g log d turned m t s e one two note =
+    let down : is_down d.0 log ≡ true = sym (box_down w g log (Down d) d m m.possible) ∙ not_false (mailbox_at w.spool d.0).down (sym t ∙ e) in
+    let box : mailbox_at w1.spool d.0 ≡ mailbox_at w.spool d.0 =
+    s.0 ∙ same_box (mailbox_at w.spool d.0) true (not_false (mailbox_at w.spool d.0).down (sym t ∙ e))
+    in
+    turned_noted w w1 w2 g log (Down d) d m m.possible tt (is_down_already g d log m.marked down)
+    (λ k. again_down k d log down) box (λ x y rest q. record {
+      count = q.count;
+      messages =
+          q.messages;
+    }) refl s.1 s.2 one two note
 
-  pub wasnt_down : (w w1 w2 : World C S N) (g : Given) (log : Log) (d : DmNo) (turned : Bool)
-      → Marked cat stands_s stands_n Good w g log (Up d) → turned ≡ (mailbox_at w.spool d.0).down
-      → SpoolTurns w.spool w1.spool d.0 false
-      → turned ≡ false → w1 ≡ record w { spool = w1.spool } → w2 ≡ record w1 { history = w2.history }
-      → w2.history ≡ w1.history ++ (w1.marks, Noted) ∷ [] → Happened cat stands_s stands_n Good w2 g log
-  wasnt_down w w1 w2 g log d turned m t s e one two note =
-      let up : is_down d.0 log ≡ false = sym (box_down w g log (Up d) d m m.possible) ∙ sym t ∙ e in
-      let box : mailbox_at w1.spool d.0 ≡ mailbox_at w.spool d.0 = s.0 ∙ same_box (mailbox_at w.spool d.0) false (sym t ∙ e) in
-      turned_noted w w1 w2 g log (Up d) d m m.possible tt (isnt_down g d log m.marked up)
-      (λ k. again_up k d log up) box (λ x y rest q. record {
-        count = q.count;
-        messages =
-            q.messages;
-      }) refl s.1 s.2 one two note
+pub wasnt_down : (w w1 w2 : World) (g : Given) (log : Log) (d : DmNo) (turned : Bool)
+    → Marked w g log (Up d) → turned ≡ (mailbox_at w.spool d.0).down
+    → SpoolTurns w.spool w1.spool d.0 false
+    → turned ≡ false → w1 ≡ record w { spool = w1.spool } → w2 ≡ record w1 { history = w2.history }
+    → w2.history ≡ w1.history ++ (w1.marks, Noted) ∷ [] → Happened w2 g log
+wasnt_down w w1 w2 g log d turned m t s e one two note =
+    let up : is_down d.0 log ≡ false = sym (box_down w g log (Up d) d m m.possible) ∙ sym t ∙ e in
+    let box : mailbox_at w1.spool d.0 ≡ mailbox_at w.spool d.0 = s.0 ∙ same_box (mailbox_at w.spool d.0) false (sym t ∙ e) in
+    turned_noted w w1 w2 g log (Up d) d m m.possible tt (isnt_down g d log m.marked up)
+    (λ k. again_up k d log up) box (λ x y rest q. record {
+      count = q.count;
+      messages =
+          q.messages;
+    }) refl s.1 s.2 one two note
 
 pub boxed : (old mid new : List (Mailbox Msg)) (d : ℕ) → new ≡ mid
     → suc (kept_count (mailbox_at mid d)) ≡ kept_count (mailbox_at old d)
@@ -286,189 +283,187 @@ first_taken g b d (T n) m rest here e s h k =
     }
 first_taken g b d (D n) m rest here e s h k = absurd s
 
-module _ {C S N : Type 0} (cat : C → Catalogue) (stands_s : S → Site → Setting → site.Log → Type 0)
-    (stands_n : N → ℕ → ℕ → List (Call Msg) → Type 0) (Good : Given → Type 0) where
-  -- a module comes up
-  pub rises : (w w1 : World C S N) (g : Given) (log : Log) (d : DmNo) (turned : Bool)
-      → Marked cat stands_s stands_n Good w g log (Up d) → turned ≡ (mailbox_at w.spool d.0).down
-      → SpoolTurns cat stands_s stands_n Good w.spool w1.spool d.0 false
-      → turned ≡ true → w1 ≡ record w { spool = w1.spool } → Handing cat stands_s stands_n Good w1 g
-      (Mark (Up d) ∷ log) (D d) (kept_from (mailbox_at w1.spool d.0)) × Rising g w1.spool d.0
-  rises w w1 g log d turned m t s e same =
-      let box : KeepsFor g log d.0 (mailbox_at w.spool d.0) = m.spooled.each d.0 m.possible refl in
-      let down : is_down d.0 log ≡ true = sym box.down_is ∙ sym t ∙ e in
-      let kept : (x : Site) → kept_from (mailbox_at w1.spool d.0) x ≡ kept_from (mailbox_at w.spool d.0) x = λ x. ap (λ b. kept_from b x) s.0 in (
-        record {
-          parts = record {
-            good = m.parts.good;
-            sound = m.parts.sound;
-            no_redeclares = m.parts.no_redeclares;
-            catalogue_is = ap (λ v. cat v.catalogue) same ∙ m.parts.catalogue_is;
-            txns_are = ap (λ v. v.txns) same ∙ m.parts.txns_are;
-            given_is = ap (λ v. v.given.items) same ∙ m.parts.given_is;
-            history_is = ap (λ v. v.history) same ∙ m.parts.history_is;
-            sites = λ x here. subst (λ z. stands_s z x (setting_of g x) (local_of g x log)) (sym (ap (λ v. v.sites) same)) (m.parts.sites x here);
-            net = subst (λ z. stands_n z g.catalogue.tms g.catalogue.dms (calls_of log)) (sym (ap (λ v. v.net) same)) m.parts.net;
-          };
-          waits = comes_up g d log (kept_from (mailbox_at w1.spool d.0)) m.marked down
-              (λ x. subst (λ z. Remain log x (D (dm_no d.0)) z) (sym (kept x)) (box.kept down x));
-          marks_are = ap (λ v. v.marks) same ∙ m.marks_are;
-          spooled = turned_others g log (Mark (Up d) ∷ log) w.spool w1.spool d.0
-              (λ k n. other_downs k d.0 false (is_down k log) n) (λ k x rest r. record {
-                count =
-                    r.count;
-                messages = r.messages;
-              }) s.1 s.2 m.spooled;
-        },
-        record {
-          here = m.possible;
-          count = s.1 ∙ m.spooled.count;
-          box_up = ap (λ b. b.down) s.0;
-          senders = ap (λ b. length b.queues) s.0 ∙ box.senders;
-        },
-      )
+-- a module comes up
+pub rises : (w w1 : World) (g : Given) (log : Log) (d : DmNo) (turned : Bool)
+    → Marked w g log (Up d) → turned ≡ (mailbox_at w.spool d.0).down
+    → SpoolTurns w.spool w1.spool d.0 false
+    → turned ≡ true → w1 ≡ record w { spool = w1.spool } → Handing w1 g
+    (Mark (Up d) ∷ log) (D d) (kept_from (mailbox_at w1.spool d.0)) × Rising g w1.spool d.0
+rises w w1 g log d turned m t s e same =
+    let box : KeepsFor g log d.0 (mailbox_at w.spool d.0) = m.spooled.each d.0 m.possible refl in
+    let down : is_down d.0 log ≡ true = sym box.down_is ∙ sym t ∙ e in
+    let kept : (x : Site) → kept_from (mailbox_at w1.spool d.0) x ≡ kept_from (mailbox_at w.spool d.0) x = λ x. ap (λ b. kept_from b x) s.0 in (
+      record {
+        parts = record {
+          good = m.parts.good;
+          sound = m.parts.sound;
+          no_redeclares = m.parts.no_redeclares;
+          catalogue_is = ap (λ v. v.catalogue.now) same ∙ m.parts.catalogue_is;
+          txns_are = ap (λ v. v.txns) same ∙ m.parts.txns_are;
+          given_is = ap (λ v. v.given.items) same ∙ m.parts.given_is;
+          history_is = ap (λ v. v.history) same ∙ m.parts.history_is;
+          sites = λ x here. subst (λ z. StandFor z x (setting_of g x) (local_of g x log)) (sym (ap (λ v. v.sites) same)) (m.parts.sites x here);
+          net = subst (λ z. Carries z g.catalogue.tms g.catalogue.dms (calls_of log)) (sym (ap (λ v. v.net) same)) m.parts.net;
+        };
+        waits = comes_up g d log (kept_from (mailbox_at w1.spool d.0)) m.marked down
+            (λ x. subst (λ z. Remain log x (D (dm_no d.0)) z) (sym (kept x)) (box.kept down x));
+        marks_are = ap (λ v. v.marks) same ∙ m.marks_are;
+        spooled = turned_others g log (Mark (Up d) ∷ log) w.spool w1.spool d.0
+            (λ k n. other_downs k d.0 false (is_down k log) n) (λ k x rest r. record {
+              count =
+                  r.count;
+              messages = r.messages;
+            }) s.1 s.2 m.spooled;
+      },
+      record {
+        here = m.possible;
+        count = s.1 ∙ m.spooled.count;
+        box_up = ap (λ b. b.down) s.0;
+        senders = ap (λ b. length b.queues) s.0 ∙ box.senders;
+      },
+    )
 
-  -- a message is taken out of the mailbox
-  pub taken_out : (w w1 : World C S N) (g : Given) (log : Log) (d : DmNo) (from : Site) (m : Msg)
-      → Handing cat stands_s stands_n Good w g log (D d) (kept_from (mailbox_at w.spool d.0))
-      → Rising g w.spool d.0
-      → TakesFrom (mailbox_at w.spool d.0) (mailbox_at w1.spool d.0) from m
-      → length w1.spool ≡ length w.spool → OnlyAt w.spool w1.spool d.0 → w1 ≡ record w {
-        spool =
-            w1.spool;
-      }
-      → Handing cat stands_s stands_n Good w1 g log (D d) (kept_from (mailbox_at w.spool d.0)) × Rising g w1.spool d.0
-  taken_out w w1 g log d from m h r t count only same = (
-    record {
-      parts = record {
-        good = h.parts.good;
-        sound = h.parts.sound;
-        no_redeclares = h.parts.no_redeclares;
-        catalogue_is = ap (λ v. cat v.catalogue) same ∙ h.parts.catalogue_is;
-        txns_are = ap (λ v. v.txns) same ∙ h.parts.txns_are;
-        given_is = ap (λ v. v.given.items) same ∙ h.parts.given_is;
-        history_is = ap (λ v. v.history) same ∙ h.parts.history_is;
-        sites = λ x here. subst (λ z. stands_s z x (setting_of g x) (local_of g x log)) (sym (ap (λ v. v.sites) same)) (h.parts.sites x here);
-        net = subst (λ z. stands_n z g.catalogue.tms g.catalogue.dms (calls_of log)) (sym (ap (λ v. v.net) same)) h.parts.net;
-      };
-      waits = h.waits;
-      marks_are = ap (λ v. v.marks) same ∙ h.marks_are;
-      spooled = record {
-        count = count ∙ h.spooled.count;
-        each = λ e here apart. subst (λ b. KeepsFor g log e b)
-            (sym (only e (dm_within g (dm_no e) here).0 (apart_of e d.0 apart)))
-            (h.spooled.each e here apart);
-      };
-    },
-    record { here = r.here; count = count ∙ r.count; box_up = t.down ∙ r.box_up; senders = t.count ∙ r.senders },
-  )
-
-  pub first_kept : (g : Given) (boxes : List (Mailbox Msg)) (new : List (Mailbox Msg)) (d : DmNo)
-      (from : Site) (m : Msg) → Rising g boxes d.0 → TakesFrom (mailbox_at boxes d.0)
-      (mailbox_at new d.0) from m → IsLowest (mailbox_at boxes d.0) from
-      → IsFirst g (kept_from (mailbox_at boxes d.0)) from (D d) m (kept_from (mailbox_at new d.0) from)
-  first_kept g boxes new d from m r t l =
-      first_taken g (mailbox_at boxes d.0) d.0 from m (kept_from (mailbox_at new d.0) from) r.here r.senders
-      t.sender l t.here
-
-  pub less_kept : (boxes new : List (Mailbox Msg)) (d : DmNo) (from : Site) (m : Msg) → TakesFrom (mailbox_at boxes d.0) (mailbox_at new d.0) from m
-      → Takes (kept_from (mailbox_at boxes d.0)) (kept_from (mailbox_at new d.0)) from (kept_from (mailbox_at new d.0) from)
-  less_kept boxes new d from m t = record { here = refl; others = t.others }
-
-  -- one message that was kept is handed over
-  pub rising_on : (w : World C S N) (boxes : List (Mailbox Msg)) (w2 : World C S N) (g : Given) (log : Log)
-      (d : DmNo) (from : Site) (m : Msg) → Handing cat stands_s stands_n Good w g log (D d)
-      (kept_from (mailbox_at w.spool d.0)) → Rising g w.spool d.0
-      → TakesFrom (mailbox_at w.spool d.0) (mailbox_at boxes d.0) from m
-      → IsLowest (mailbox_at w.spool d.0) from → length boxes ≡ length w.spool → OnlyAt w.spool boxes d.0
-      → ((h : Given) (l : Log) (kept less : Site → List Msg) (rest : List Msg)
-      → Handing cat stands_s stands_n Good (record w { spool = boxes }) h l (D d) kept
-      → IsFirst h kept from (D d) m rest → Takes kept less from rest
-      → HandedOn cat stands_s stands_n Good w2 h (D d) less (ahead_of h l) boxes)
-      → (more : Log) × Handing cat stands_s stands_n Good w2 g more (D d)
-      (kept_from (mailbox_at w2.spool d.0)) × Rising g w2.spool d.0 × (ahead_of g more ≡ ahead_of g log)
-  rising_on w boxes w2 g log d from m h r t l count only hand =
-      let o = taken_out w (record w { spool = boxes }) g log d from m h r t count only refl in
-      let k = hand g log (kept_from (mailbox_at w.spool d.0)) (kept_from (mailbox_at boxes d.0))
-      (kept_from (mailbox_at boxes d.0) from) o.0 (first_kept g w.spool boxes d from m r t l)
-      (less_kept w.spool boxes d from m t) in (
-        k.more,
-        subst (λ b. Handing cat stands_s stands_n Good w2 g k.more (D d) (kept_from (mailbox_at b d.0))) (sym k.spool_is) k.handing,
-        subst (λ b. Rising g b d.0) (sym k.spool_is) o.1,
-        k.ahead_is,
-      )
-
-  parts_spool : (w : World C S N) (boxes : List (Mailbox Msg)) (g : Given) (log : Log)
-      → Parts cat stands_s stands_n Good w g log → Parts cat stands_s stands_n Good (record w {
-        spool =
-            boxes;
-      }) g log
-  parts_spool w boxes g log p = record {
-    good = p.good;
-    sound = p.sound;
-    no_redeclares = p.no_redeclares;
-    catalogue_is = p.catalogue_is;
-    txns_are = p.txns_are;
-    given_is = p.given_is;
-    history_is = p.history_is;
-    sites = p.sites;
-    net = p.net;
-  }
-
-  -- nothing is left to be handed over
-  pub none_left : (w : World C S N) (boxes : List (Mailbox Msg)) (g : Given) (log more : Log) (d : DmNo)
-      → Handing cat stands_s stands_n Good w g more (D d) (kept_from (mailbox_at w.spool d.0))
-      → Rising g w.spool d.0 → ahead_of g more ≡ ahead_of g log
-      → mailbox_at boxes d.0 ≡ mailbox_at w.spool d.0
-      → ((x : Site) → kept_from (mailbox_at w.spool d.0) x ≡ []) → length boxes ≡ length w.spool
-      → OnlyAt w.spool boxes d.0 → Risen cat stands_s stands_n Good (record w { spool = boxes }) g log d.0
-  none_left w boxes g log more d h r a same none count only = record {
-    more = more;
-    handing = record {
-      parts = parts_spool w boxes g more h.parts;
-      waits = subst (λ b. Waits g more (D d) (kept_from b)) (sym same) h.waits;
-      marks_are = h.marks_are;
-      spooled = record {
-        count = count ∙ h.spooled.count;
-        each = λ e here apart. subst (λ b. KeepsFor g more e b)
-            (sym (only e (dm_within g (dm_no e) here).0 (apart_of e d.0 apart)))
-            (h.spooled.each e here apart);
-      };
+-- a message is taken out of the mailbox
+pub taken_out : (w w1 : World) (g : Given) (log : Log) (d : DmNo) (from : Site) (m : Msg)
+    → Handing w g log (D d) (kept_from (mailbox_at w.spool d.0))
+    → Rising g w.spool d.0
+    → TakesFrom (mailbox_at w.spool d.0) (mailbox_at w1.spool d.0) from m
+    → length w1.spool ≡ length w.spool → OnlyAt w.spool w1.spool d.0 → w1 ≡ record w {
+      spool =
+          w1.spool;
+    }
+    → Handing w1 g log (D d) (kept_from (mailbox_at w.spool d.0)) × Rising g w1.spool d.0
+taken_out w w1 g log d from m h r t count only same = (
+  record {
+    parts = record {
+      good = h.parts.good;
+      sound = h.parts.sound;
+      no_redeclares = h.parts.no_redeclares;
+      catalogue_is = ap (λ v. v.catalogue.now) same ∙ h.parts.catalogue_is;
+      txns_are = ap (λ v. v.txns) same ∙ h.parts.txns_are;
+      given_is = ap (λ v. v.given.items) same ∙ h.parts.given_is;
+      history_is = ap (λ v. v.history) same ∙ h.parts.history_is;
+      sites = λ x here. subst (λ z. StandFor z x (setting_of g x) (local_of g x log)) (sym (ap (λ v. v.sites) same)) (h.parts.sites x here);
+      net = subst (λ z. Carries z g.catalogue.tms g.catalogue.dms (calls_of log)) (sym (ap (λ v. v.net) same)) h.parts.net;
     };
-    rising = record { here = r.here; count = count ∙ r.count; box_up = ap (λ b. b.down) same ∙ r.box_up; senders = ap (λ b. length b.queues) same ∙ r.senders };
-    ahead_is = a;
-    none = λ x. ap (λ b. kept_from b x) same ∙ none x;
-  }
-
-  -- once none is kept, the event is done
-  pub risen : (w w2 : World C S N) (g : Given) (log more : Log) (d : DmNo)
-      → Marked cat stands_s stands_n Good w g log (Up d) → Handing cat stands_s stands_n Good w2 g more (D d)
-      (kept_from (mailbox_at w2.spool d.0)) → Rising g w2.spool d.0 → ahead_of g more ≡ ahead_of g
-      (Mark (Up d) ∷ log)
-      → ((x : Site) → kept_from (mailbox_at w2.spool d.0) x ≡ []) → Happened cat stands_s stands_n Good w2 g log
-  risen w w2 g log more d m h r e none = record {
-    more = more;
-    calm = record {
-      parts = h.parts;
-      rests = record {
-        lawful = h.waits.lawful;
-        within = h.waits.within;
-        no_mark =
-            h.waits.no_mark;
-        no_site = h.waits.no_site;
-        handed_all =
-            all_handed g more (D d) (kept_from (mailbox_at w2.spool d.0)) h.waits none;
-      };
-      marks_are = h.marks_are;
-      spooled = by_site g more w2.spool d.0
-          (let up : is_down d.0 more ≡ false = not_true (is_down d.0 more) h.waits.part in
-          record { down_is = r.box_up ∙ sym up; senders = r.senders; kept = λ p x. (let no : true ≡ false = sym p ∙ up in cc); empty = λ p x. none x })
-          h.spooled;
+    waits = h.waits;
+    marks_are = ap (λ v. v.marks) same ∙ h.marks_are;
+    spooled = record {
+      count = count ∙ h.spooled.count;
+      each = λ e here apart. subst (λ b. KeepsFor g log e b)
+          (sym (only e (dm_within g (dm_no e) here).0 (apart_of e d.0 apart)))
+          (h.spooled.each e here apart);
     };
-    ahead_is = e;
-  }
+  },
+  record { here = r.here; count = count ∙ r.count; box_up = t.down ∙ r.box_up; senders = t.count ∙ r.senders },
+)
 
-  pub came_up : (w w1 w2 : World C S N) (g : Given) (log : Log) (d : DmNo)
-      → Marked cat stands_s stands_n Good w g log (Up d) → Risen cat stands_s stands_n Good w2 g
-      (Mark (Up d) ∷ log) d.0 → Happened cat stands_s stands_n Good w2 g log
-  came_up w w1 w2 g log d m r = risen w w2 g log r.more d m r.handing r.rising r.ahead_is r.none
+pub first_kept : (g : Given) (boxes : List (Mailbox Msg)) (new : List (Mailbox Msg)) (d : DmNo)
+    (from : Site) (m : Msg) → Rising g boxes d.0 → TakesFrom (mailbox_at boxes d.0)
+    (mailbox_at new d.0) from m → IsLowest (mailbox_at boxes d.0) from
+    → IsFirst g (kept_from (mailbox_at boxes d.0)) from (D d) m (kept_from (mailbox_at new d.0) from)
+first_kept g boxes new d from m r t l =
+    first_taken g (mailbox_at boxes d.0) d.0 from m (kept_from (mailbox_at new d.0) from) r.here r.senders
+    t.sender l t.here
+
+pub less_kept : (boxes new : List (Mailbox Msg)) (d : DmNo) (from : Site) (m : Msg) → TakesFrom (mailbox_at boxes d.0) (mailbox_at new d.0) from m
+    → Takes (kept_from (mailbox_at boxes d.0)) (kept_from (mailbox_at new d.0)) from (kept_from (mailbox_at new d.0) from)
+less_kept boxes new d from m t = record { here = refl; others = t.others }
+
+-- one message that was kept is handed over
+pub rising_on : (w : World) (boxes : List (Mailbox Msg)) (w2 : World) (g : Given) (log : Log)
+    (d : DmNo) (from : Site) (m : Msg) → Handing w g log (D d)
+    (kept_from (mailbox_at w.spool d.0)) → Rising g w.spool d.0
+    → TakesFrom (mailbox_at w.spool d.0) (mailbox_at boxes d.0) from m
+    → IsLowest (mailbox_at w.spool d.0) from → length boxes ≡ length w.spool → OnlyAt w.spool boxes d.0
+    → ((h : Given) (l : Log) (kept less : Site → List Msg) (rest : List Msg)
+    → Handing (record w { spool = boxes }) h l (D d) kept
+    → IsFirst h kept from (D d) m rest → Takes kept less from rest
+    → HandedOn w2 h (D d) less (ahead_of h l) boxes)
+    → (more : Log) × Handing w2 g more (D d)
+    (kept_from (mailbox_at w2.spool d.0)) × Rising g w2.spool d.0 × (ahead_of g more ≡ ahead_of g log)
+rising_on w boxes w2 g log d from m h r t l count only hand =
+    let o = taken_out w (record w { spool = boxes }) g log d from m h r t count only refl in
+    let k = hand g log (kept_from (mailbox_at w.spool d.0)) (kept_from (mailbox_at boxes d.0))
+    (kept_from (mailbox_at boxes d.0) from) o.0 (first_kept g w.spool boxes d from m r t l)
+    (less_kept w.spool boxes d from m t) in (
+      k.more,
+      subst (λ b. Handing w2 g k.more (D d) (kept_from (mailbox_at b d.0))) (sym k.spool_is) k.handing,
+      subst (λ b. Rising g b d.0) (sym k.spool_is) o.1,
+      k.ahead_is,
+    )
+
+parts_spool : (w : World) (boxes : List (Mailbox Msg)) (g : Given) (log : Log)
+    → Parts w g log → Parts (record w {
+      spool =
+          boxes;
+    }) g log
+parts_spool w boxes g log p = record {
+  good = p.good;
+  sound = p.sound;
+  no_redeclares = p.no_redeclares;
+  catalogue_is = p.catalogue_is;
+  txns_are = p.txns_are;
+  given_is = p.given_is;
+  history_is = p.history_is;
+  sites = p.sites;
+  net = p.net;
+}
+
+-- nothing is left to be handed over
+pub none_left : (w : World) (boxes : List (Mailbox Msg)) (g : Given) (log more : Log) (d : DmNo)
+    → Handing w g more (D d) (kept_from (mailbox_at w.spool d.0))
+    → Rising g w.spool d.0 → ahead_of g more ≡ ahead_of g log
+    → mailbox_at boxes d.0 ≡ mailbox_at w.spool d.0
+    → ((x : Site) → kept_from (mailbox_at w.spool d.0) x ≡ []) → length boxes ≡ length w.spool
+    → OnlyAt w.spool boxes d.0 → Risen (record w { spool = boxes }) g log d.0
+none_left w boxes g log more d h r a same none count only = record {
+  more = more;
+  handing = record {
+    parts = parts_spool w boxes g more h.parts;
+    waits = subst (λ b. Waits g more (D d) (kept_from b)) (sym same) h.waits;
+    marks_are = h.marks_are;
+    spooled = record {
+      count = count ∙ h.spooled.count;
+      each = λ e here apart. subst (λ b. KeepsFor g more e b)
+          (sym (only e (dm_within g (dm_no e) here).0 (apart_of e d.0 apart)))
+          (h.spooled.each e here apart);
+    };
+  };
+  rising = record { here = r.here; count = count ∙ r.count; box_up = ap (λ b. b.down) same ∙ r.box_up; senders = ap (λ b. length b.queues) same ∙ r.senders };
+  ahead_is = a;
+  none = λ x. ap (λ b. kept_from b x) same ∙ none x;
+}
+
+-- once none is kept, the event is done
+pub risen : (w w2 : World) (g : Given) (log more : Log) (d : DmNo)
+    → Marked w g log (Up d) → Handing w2 g more (D d)
+    (kept_from (mailbox_at w2.spool d.0)) → Rising g w2.spool d.0 → ahead_of g more ≡ ahead_of g
+    (Mark (Up d) ∷ log)
+    → ((x : Site) → kept_from (mailbox_at w2.spool d.0) x ≡ []) → Happened w2 g log
+risen w w2 g log more d m h r e none = record {
+  more = more;
+  calm = record {
+    parts = h.parts;
+    rests = record {
+      lawful = h.waits.lawful;
+      within = h.waits.within;
+      no_mark =
+          h.waits.no_mark;
+      no_site = h.waits.no_site;
+      handed_all =
+          all_handed g more (D d) (kept_from (mailbox_at w2.spool d.0)) h.waits none;
+    };
+    marks_are = h.marks_are;
+    spooled = by_site g more w2.spool d.0
+        (let up : is_down d.0 more ≡ false = not_true (is_down d.0 more) h.waits.part in
+        record { down_is = r.box_up ∙ sym up; senders = r.senders; kept = λ p x. (let no : true ≡ false = sym p ∙ up in cc); empty = λ p x. none x })
+        h.spooled;
+  };
+  ahead_is = e;
+}
+
+pub came_up : (w w1 w2 : World) (g : Given) (log : Log) (d : DmNo)
+    → Marked w g log (Up d) → Risen w2 g
+    (Mark (Up d) ∷ log) d.0 → Happened w2 g log
+came_up w w1 w2 g log d m r = risen w w2 g log r.more d m r.handing r.rising r.ahead_is r.none

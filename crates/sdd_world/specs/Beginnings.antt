@@ -4,6 +4,9 @@ use Rattle.sdd_base.specs.Kept.{Kept}
 use Rattle.sdd_base.specs.Numbers.{dm_no, tm_no}
 use Rattle.sdd_base.specs.declared.number.RelNo.{RelNo}
 use Rattle.sdd_base.specs.declared.site.Site.TheVariants.{T, D}
+use Rattle.sdd_lang.specs.declared.transaction.Txn.{Txn}
+use Rattle.sdd_log.specs.Entries.{Given}
+use Rattle.sdd_log.specs.Locals.{force_at, rows_of}
 use Rattle.sdd_catalog.specs.Catalogue.{Catalogue}
 use Rattle.sdd_protocol.specs.declared.entry.Entry.{Entry}
 use Rattle.sdd_lang.specs.Database.{Row}
@@ -31,3 +34,12 @@ BeginsT cat table n made = (s : Setting) → s.catalogue ≡ cat → s.site ≡ 
 -- data module n, made of these rows
 abbrev pub BeginsD : Catalogue → List (RelNo × Row) → ℕ → Kept dm_state.State → Type 0
 BeginsD cat rows n made = dm.Stands made (record { catalogue = cat; site = D (dm_no n); rows = rows }) []
+
+-- What is given is of a catalogue with its table and of these transactions, and has no events yet; and of these data
+-- modules each is the one of its number, made of the rows that are given for it.
+pub record IsBegun (g : Given) (cat : Catalogue) (table : List Entry) (txns : List Txn) (dms : List (Kept dm_state.State)) : Type 0 where
+  pub catalogue_is : g.catalogue ≡ cat
+  pub force_is : force_at g 0 ≡ record { catalogue = cat; table = table }
+  pub txns_are : txns ≡ g.txns
+  pub no_events : g.events ≡ []
+  pub made : AllBegin (λ n. BeginsD cat (rows_of g (D (dm_no n))) n) cat.dms dms

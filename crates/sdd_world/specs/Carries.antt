@@ -11,6 +11,10 @@ use Rattle.sdd_net.specs.Links.{Call, Puts}
 use Rattle.sdd_net.specs.Nets.{Directions, StandsFor}
 use Rattle.sdd_log.specs.Spelled.{call_as, delivered_as}
 
+-- what contracts see of a mail: whether it is live, and the network of spellings
+abbrev pub NetValue : Type 0
+NetValue = Kept (Directions (List ℕ))
+
 -- the calls with the messages' spellings
 abbrev pub in_bytes : List (Call Msg) → List (Call (List ℕ))
 in_bytes calls = map (call_as spelled) calls

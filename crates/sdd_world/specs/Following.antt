@@ -7,34 +7,34 @@ use Rattle.sdd_net.specs.Links.{Call}
 use Rattle.sdd_log.specs.Traffic.{puts}
 use Rattle.sdd_log.specs.Lawful.{puts_past}
 use Rattle.sdd_world.specs.declared.world.World.{World}
+use Rattle.sdd_world.specs.Carries.{Carries, NetValue}
 use Rattle.sdd_world.specs.Kinds.{AreLinked}
 
-module _ {C S N : Type 0} (stands_n : N → ℕ → ℕ → List (Call Msg) → Type 0) where
-  -- it may be sent
-  abbrev pub MaySend : World C S N → Site → Outcome → Type 0
-  MaySend w at outcome = (tms : ℕ) × (dms : ℕ) × (calls : List (Call Msg)) × stands_n w.net tms dms calls × AreLinked tms dms at outcome.out
+-- it may be sent
+abbrev pub MaySend : World → Site → Outcome → Type 0
+MaySend w at outcome = (tms : ℕ) × (dms : ℕ) × (calls : List (Call Msg)) × Carries w.net tms dms calls × AreLinked tms dms at outcome.out
 
-  -- it was recorded and sent, and the rest stayed
-  pub record Followed (old new : World C S N) (at : Site) (outcome : Outcome) : Type 0 where
-    pub catalogue : new.catalogue ≡ old.catalogue
-    pub txns : new.txns ≡ old.txns
-    pub given : new.given ≡ old.given
-    pub marks : new.marks ≡ old.marks
-    pub sites : new.sites ≡ old.sites
-    pub spool : new.spool ≡ old.spool
-    pub history : new.history ≡ old.history ++ map (λ r. (old.marks, r)) outcome.recs
-    pub net : (tms dms : ℕ) (calls : List (Call Msg)) → stands_n old.net tms dms calls → AreLinked tms dms at outcome.out
-        → (puts_past calls at outcome.out ≡ false) × stands_n new.net tms dms (puts at outcome.out calls)
+-- it was recorded and sent, and the rest stayed
+pub record Followed (old new : World) (at : Site) (outcome : Outcome) : Type 0 where
+  pub catalogue : new.catalogue.now ≡ old.catalogue.now
+  pub txns : new.txns ≡ old.txns
+  pub given : new.given ≡ old.given
+  pub marks : new.marks ≡ old.marks
+  pub sites : new.sites ≡ old.sites
+  pub spool : new.spool ≡ old.spool
+  pub history : new.history ≡ old.history ++ map (λ r. (old.marks, r)) outcome.recs
+  pub net : (tms dms : ℕ) (calls : List (Call Msg)) → Carries old.net tms dms calls → AreLinked tms dms at outcome.out
+      → (puts_past calls at outcome.out ≡ false) × Carries new.net tms dms (puts at outcome.out calls)
 
-  -- there is no number for one of its messages
-  abbrev pub IsPast : World C S N → Site → Outcome → Type 0
-  IsPast w at outcome = (tms dms : ℕ) (calls : List (Call Msg)) → stands_n w.net tms dms calls
-      → AreLinked tms dms at outcome.out → puts_past calls at outcome.out ≡ true
+-- there is no number for one of its messages
+abbrev pub IsPast : World → Site → Outcome → Type 0
+IsPast w at outcome = (tms dms : ℕ) (calls : List (Call Msg)) → Carries w.net tms dms calls
+    → AreLinked tms dms at outcome.out → puts_past calls at outcome.out ≡ true
 
 -- in the loop that sends: what was sent, and what is left
-pub record Sending {N : Type 0} (stands : N → ℕ → ℕ → List (Call Msg) → Type 0) (old now : N) (at : Site) (out left : List (Site × Msg)) : Type 0 where
+pub record Sending (old now : NetValue) (at : Site) (out left : List (Site × Msg)) : Type 0 where
   pub sent : List (Site × Msg)
   pub parts : out ≡ sent ++ left
-  pub some : (tms : ℕ) × (dms : ℕ) × (calls : List (Call Msg)) × stands old tms dms calls × AreLinked tms dms at out
-  pub so_far : (tms dms : ℕ) (calls : List (Call Msg)) → stands old tms dms calls → AreLinked tms dms at out
-      → (puts_past calls at sent ≡ false) × stands now tms dms (puts at sent calls)
+  pub some : (tms : ℕ) × (dms : ℕ) × (calls : List (Call Msg)) × Carries old tms dms calls × AreLinked tms dms at out
+  pub so_far : (tms dms : ℕ) (calls : List (Call Msg)) → Carries old tms dms calls → AreLinked tms dms at out
+      → (puts_past calls at sent ≡ false) × Carries now tms dms (puts at sent calls)

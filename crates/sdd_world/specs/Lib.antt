@@ -1,3 +1,4 @@
+use Rattle.sdd_world.specs.Carries.{Carries}
 pub mod AtSites
 pub mod Beginnings
 pub mod Carries

@@ -4,6 +4,7 @@ use Rattle.sdd_base.specs.declared.event.Event.{Event}
 use Rattle.sdd_base.specs.declared.event.Event.TheVariants.{Settle}
 use Rattle.sdd_log.specs.Entries.{Given, with_event}
 use Rattle.sdd_step.specs.Resting.{IsPossible}
+use Rattle.sdd_facts.specs.Real.{IsGood}
 
 abbrev pub is_settle : Event → Bool
 is_settle Settle = true
@@ -15,11 +16,11 @@ with_events g [] = g
 with_events g (e ∷ events) = with_events (with_event g e) events
 
 -- an event may come next: it is a settle, or what it names exists; and with it what is given is good
-pub record IsAllowed (Good : Given → Type 0) (g : Given) (e : Event) : Type 0 where
+pub record IsAllowed (IsGood : Given → Type 0) (g : Given) (e : Event) : Type 0 where
   pub possible : is_settle e ≡ false → IsPossible g e
-  pub good : Good (with_event g e)
+  pub good : IsGood (with_event g e)
 
 -- each event of a schedule may come behind those before it
 abbrev pub AreAllowed : (Given → Type 0) → Given → List Event → Type 0
-AreAllowed Good g [] = Unit {0}
-AreAllowed Good g (e ∷ events) = IsAllowed Good g e × AreAllowed Good (with_event g e) events
+AreAllowed IsGood g [] = Unit {0}
+AreAllowed IsGood g (e ∷ events) = IsAllowed IsGood g e × AreAllowed IsGood (with_event g e) events

@@ -1,29 +1,28 @@
 -- For which log a world stands, between events and within one.
 use Rattle.std.specs.Prelude.{ℕ, suc, ◌≤◌, ◌≡◌, true, false, List, [], ◌∷◌, ◌++◌, length, Some, None}
 use Rattle.sdd_base.specs.Sites.{same_site}
-use Rattle.sdd_base.specs.Numbers.{dm_no, tm_no}
+use Rattle.sdd_base.specs.Numbers.{dm_no}
 use Rattle.sdd_base.specs.declared.limits.TheConstants.{MAX_TMS, MAX_DMS}
 use Rattle.sdd_base.specs.declared.site.Site.{Site}
-use Rattle.sdd_base.specs.declared.site.Site.TheVariants.{U, T, D}
+use Rattle.sdd_base.specs.declared.site.Site.TheVariants.{U, D}
 use Rattle.sdd_base.specs.declared.event.Event.{Event}
-use Rattle.sdd_base.specs.declared.event.Event.TheVariants.{Deliver, Tick}
-use Rattle.sdd_catalog.specs.Catalogue.{Catalogue}
+use Rattle.sdd_base.specs.declared.event.Event.TheVariants.{Deliver}
 use Rattle.sdd_lang.specs.declared.transaction.Txn.{Txn}
 use Rattle.sdd_lang.specs.Fits.{Fits}
 use Rattle.sdd_wire.specs.declared.msg.Msg.{Msg}
-use Rattle.sdd_module.specs.SiteLog.{Act, Bases, Setting, sends_of_act}
-use Rattle.sdd_module.specs.SiteLog as site
 use Rattle.sdd_net.specs.declared.delivered.Delivered.TheVariants.{Messages}
-use Rattle.sdd_net.specs.Links.{Call, delivery}
+use Rattle.sdd_net.specs.Links.{delivery}
 use Rattle.sdd_spool.specs.Mailboxes.{Mailbox, kept_from, mailbox_at}
-use Rattle.sdd_log.specs.Entries.{Given, Log, Mark, Hand, Submitted, Does, history, marks}
+use Rattle.sdd_log.specs.Entries.{Given, Log, Mark, history, marks}
 use Rattle.sdd_log.specs.Traffic.{calls_of, is_down, link_of}
 use Rattle.sdd_log.specs.Locals.{force_at, local_of, redeclares, setting_of, txn_at}
 use Rattle.sdd_log.specs.Marks.{after_mark, left}
-use Rattle.sdd_log.specs.Snapshots.{base_of}
 use Rattle.sdd_log.specs.Due.{next}
-use Rattle.sdd_log.specs.Lawful.{EndsByLimit, IsLawful, IsWithin}
-use Rattle.sdd_step.specs.Resting.{AllLinked, AreSettles, AtEach, from_one, IsLinkOf, IsMarked, IsPossible, IsSiteOf, Remain, Rests, Waits}
+use Rattle.sdd_log.specs.Lawful.{EndsByLimit}
+use Rattle.sdd_step.specs.Resting.{AreSettles, AtEach, from_one, IsLinkOf, IsMarked, IsPossible, IsSiteOf, Remain, Rests, Waits}
+use Rattle.sdd_facts.specs.Real.{IsGood}
+use Rattle.sdd_world.specs.Carries.{Carries}
+use Rattle.sdd_world.specs.Members.{StandFor}
 use Rattle.sdd_world.specs.declared.world.World.{World}
 
 -- What is given is sound: the network isn't too large, the first list of classes is that of the catalogue, and the
@@ -33,21 +32,6 @@ pub record IsSound (g : Given) : Type 0 where
   pub few_dms : g.catalogue.dms ≤ MAX_DMS
   pub one_force : (force_at g 0).catalogue ≡ g.catalogue
   pub txns_fit : (n : ℕ) (txn : Txn) → txn_at g n ≡ Some txn → Fits g.catalogue txn
-
--- Of all that is given so: what the modules ask of messages, transactions and ticks holds of what is next on its lawful
--- logs, and what is put goes along links.
-pub record Facts (Good : Given → Type 0) (fits : Site → Setting → Bases → site.Log → Site → Msg → Type 0)
-    (fits_submit : Site → Setting → Bases → site.Log → ℕ → Txn → Type 0) (fits_tick : Site → Setting
-    → site.Log → ℕ → Type 0) : Type 0 where
-  pub hand : (g : Given) → Good g → (log : Log) (a b : Site) (n : ℕ) (m : Msg) → IsLawful g log → IsWithin log → next g log ≡ Some (Hand a b n m)
-      → fits b (setting_of g b) (base_of g (Hand a b n m ∷ log)) (local_of g b log) a m
-  pub submit : (g : Given) → Good g → (log : Log) (at : Site) (n : ℕ) (txn : Txn) → IsLawful g log
-      → IsWithin log → next g log ≡ Some (Submitted at n) → txn_at g n ≡ Some txn
-      → fits_submit at (setting_of g at) (base_of g (Submitted at n ∷ log)) (local_of g at log) n txn
-  pub home : (g : Given) → Good g → (log : Log) (at : Site) (n : ℕ) → IsLawful g log → next g log ≡ Some (Submitted at n) → IsSiteOf g at
-  pub tick : (g : Given) → Good g → (log : Log) (t n : ℕ) → IsLawful g log → IsWithin log → next g log ≡ Some (Mark (Tick (tm_no t) n))
-      → fits_tick (T (tm_no t)) (setting_of g (T (tm_no t))) (local_of g (T (tm_no t)) log) n
-  pub sends : (g : Given) → Good g → (log : Log) (at : Site) (act : Act) → IsLawful g log → next g log ≡ Some (Does at act) → AllLinked g at (sends_of_act act)
 
 -- the mailbox of a data module: it keeps what remains for a module that is down, and else nothing
 pub record KeepsFor (g : Given) (log : Log) (d : ℕ) (b : Mailbox Msg) : Type 0 where
@@ -78,47 +62,45 @@ pub record Rising (g : Given) (boxes : List (Mailbox Msg)) (d : ℕ) : Type 0 wh
   pub box_up : (mailbox_at boxes d).down ≡ false
   pub senders : length (mailbox_at boxes d).queues ≡ suc g.catalogue.tms
 
-module _ {C S N : Type 0} (cat : C → Catalogue) (stands_s : S → Site → Setting → site.Log → Type 0)
-    (stands_n : N → ℕ → ℕ → List (Call Msg) → Type 0) (Good : Given → Type 0) where
-  -- the parts of a world stand for a log
-  pub record Parts (w : World C S N) (g : Given) (log : Log) : Type 0 where
-    pub good : Good g
-    pub sound : IsSound g
-    pub no_redeclares : redeclares log ≡ 0
-    pub catalogue_is : cat w.catalogue ≡ g.catalogue
-    pub txns_are : w.txns ≡ g.txns
-    pub given_is : w.given.items ≡ g.events
-    pub history_is : w.history ≡ history log
-    pub sites : (at : Site) → IsSiteOf g at → stands_s w.sites at (setting_of g at) (local_of g at log)
-    pub net : stands_n w.net g.catalogue.tms g.catalogue.dms (calls_of log)
+-- the parts of a world stand for a log
+pub record Parts (w : World) (g : Given) (log : Log) : Type 0 where
+  pub good : IsGood g
+  pub sound : IsSound g
+  pub no_redeclares : redeclares log ≡ 0
+  pub catalogue_is : w.catalogue.now ≡ g.catalogue
+  pub txns_are : w.txns ≡ g.txns
+  pub given_is : w.given.items ≡ g.events
+  pub history_is : w.history ≡ history log
+  pub sites : (at : Site) → IsSiteOf g at → StandFor w.sites at (setting_of g at) (local_of g at log)
+  pub net : Carries w.net g.catalogue.tms g.catalogue.dms (calls_of log)
 
-  -- between events
-  pub record Calm (w : World C S N) (g : Given) (log : Log) : Type 0 where
-    pub parts : Parts w g log
-    pub rests : Rests g log
-    pub marks_are : w.marks ≡ marks log
-    pub spooled : Spooled g log w.spool U
+-- between events
+pub record Calm (w : World) (g : Given) (log : Log) : Type 0 where
+  pub parts : Parts w g log
+  pub rests : Rests g log
+  pub marks_are : w.marks ≡ marks log
+  pub spooled : Spooled g log w.spool U
 
-  -- an event is next
-  pub record Before (w : World C S N) (g : Given) (log : Log) (e : Event) : Type 0 where
-    pub calm : Calm w g log
-    pub next_is : next g log ≡ Some (Mark e)
-    pub possible : IsPossible g e
+-- an event is next
+pub record Before (w : World) (g : Given) (log : Log) (e : Event) : Type 0 where
+  pub calm : Calm w g log
+  pub next_is : next g log ≡ Some (Mark e)
+  pub possible : IsPossible g e
 
-  -- an event is next and has its number
-  pub record Marked (w : World C S N) (g : Given) (log : Log) (e : Event) : Type 0 where
-    pub parts : Parts w g log
-    pub marked : IsMarked g log e
-    pub marks_are : w.marks ≡ suc (marks log)
-    pub spooled : Spooled g log w.spool U
-    pub possible : IsPossible g e
+-- an event is next and has its number
+pub record Marked (w : World) (g : Given) (log : Log) (e : Event) : Type 0 where
+  pub parts : Parts w g log
+  pub marked : IsMarked g log e
+  pub marks_are : w.marks ≡ suc (marks log)
+  pub spooled : Spooled g log w.spool U
+  pub possible : IsPossible g e
 
-  -- within an event messages are to be handed to a site: of each site these
-  pub record Handing (w : World C S N) (g : Given) (log : Log) (b : Site) (kept : Site → List Msg) : Type 0 where
-    pub parts : Parts w g log
-    pub waits : Waits g log b kept
-    pub marks_are : w.marks ≡ marks log
-    pub spooled : Spooled g log w.spool b
+-- within an event messages are to be handed to a site: of each site these
+pub record Handing (w : World) (g : Given) (log : Log) (b : Site) (kept : Site → List Msg) : Type 0 where
+  pub parts : Parts w g log
+  pub waits : Waits g log b kept
+  pub marks_are : w.marks ≡ marks log
+  pub spooled : Spooled g log w.spool b
 
 -- what is left of the events and of the round, and the number of the event
 pub record Ahead : Type 0 where
@@ -134,56 +116,54 @@ after_event g log = record { rest = after_mark (left g.events log); number = suc
 abbrev pub EndsBy : Given → Type 0
 EndsBy g = (more : Log) × EndsByLimit g more
 
-module _ {C S N : Type 0} (cat : C → Catalogue) (stands_s : S → Site → Setting → site.Log → Type 0)
-    (stands_n : N → ℕ → ℕ → List (Call Msg) → Type 0) (Good : Given → Type 0) where
-  -- an event was carried out from the log: no more of it is due
-  pub record Happened (w : World C S N) (g : Given) (log : Log) : Type 0 where
-    pub more : Log
-    pub calm : Calm cat stands_s stands_n Good w g more
-    pub ahead_is : ahead_of g more ≡ after_event g log
+-- an event was carried out from the log: no more of it is due
+pub record Happened (w : World) (g : Given) (log : Log) : Type 0 where
+  pub more : Log
+  pub calm : Calm w g more
+  pub ahead_is : ahead_of g more ≡ after_event g log
 
-  -- messages were handed over, and these are left
-  pub record HandedOn (w : World C S N) (g : Given) (b : Site) (kept : Site → List Msg) (ahead : Ahead) (boxes : List (Mailbox Msg)) : Type 0 where
-    pub more : Log
-    pub handing : Handing cat stands_s stands_n Good w g more b kept
-    pub ahead_is : ahead_of g more ≡ ahead
-    pub spool_is : w.spool ≡ boxes
+-- messages were handed over, and these are left
+pub record HandedOn (w : World) (g : Given) (b : Site) (kept : Site → List Msg) (ahead : Ahead) (boxes : List (Mailbox Msg)) : Type 0 where
+  pub more : Log
+  pub handing : Handing w g more b kept
+  pub ahead_is : ahead_of g more ≡ ahead
+  pub spool_is : w.spool ≡ boxes
 
-  -- between events all that was given is carried out: the log is complete
-  pub record StandsFor (w : World C S N) (g : Given) (log : Log) : Type 0 where
-    pub calm : Calm cat stands_s stands_n Good w g log
-    pub complete : next g log ≡ None
+-- between events all that was given is carried out: the log is complete
+pub record StandsFor (w : World) (g : Given) (log : Log) : Type 0 where
+  pub calm : Calm w g log
+  pub complete : next g log ≡ None
 
-  -- between rounds, in a settle
-  pub record Settling (w : World C S N) (g : Given) (log : Log) : Type 0 where
-    pub calm : Calm cat stands_s stands_n Good w g log
-    pub waiting : List Event
-    pub left_is : left g.events log ≡ (waiting, [])
-    pub settles : AreSettles waiting
+-- between rounds, in a settle
+pub record Settling (w : World) (g : Given) (log : Log) : Type 0 where
+  pub calm : Calm w g log
+  pub waiting : List Event
+  pub left_is : left g.events log ≡ (waiting, [])
+  pub settles : AreSettles waiting
 
-  -- a round was carried out
-  abbrev pub Settles : World C S N → Given → Type 0
-  Settles w g = (more : Log) × Settling w g more
+-- a round was carried out
+abbrev pub Settles : World → Given → Type 0
+Settles w g = (more : Log) × Settling w g more
 
-  -- in a round these of its events are left
-  pub record Rounding (w : World C S N) (g : Given) (log : Log) (events : List Event) : Type 0 where
-    pub calm : Calm cat stands_s stands_n Good w g log
-    pub waiting : List Event
-    pub left_is : left g.events log ≡ (waiting, events)
-    pub settles : AreSettles waiting
-    pub possible : AtEach (IsPossible g) events
+-- in a round these of its events are left
+pub record Rounding (w : World) (g : Given) (log : Log) (events : List Event) : Type 0 where
+  pub calm : Calm w g log
+  pub waiting : List Event
+  pub left_is : left g.events log ≡ (waiting, events)
+  pub settles : AreSettles waiting
+  pub possible : AtEach (IsPossible g) events
 
-  -- messages have come to a site by a delivery in the world w
-  pub record Arrives (w now : World C S N) (g : Given) (log : Log) (a b : Site) (k : ℕ) (messages : List Msg) : Type 0 where
-    pub marked : Marked cat stands_s stands_n Good w g log (Deliver a b k)
-    pub delivered_are : delivery k (link_of a b log) ≡ Messages messages
-    pub same : now ≡ record w { net = now.net }
-    pub net : stands_n now.net g.catalogue.tms g.catalogue.dms (calls_of (Mark (Deliver a b k) ∷ log))
+-- messages have come to a site by a delivery in the world w
+pub record Arrives (w now : World) (g : Given) (log : Log) (a b : Site) (k : ℕ) (messages : List Msg) : Type 0 where
+  pub marked : Marked w g log (Deliver a b k)
+  pub delivered_are : delivery k (link_of a b log) ≡ Messages messages
+  pub same : now ≡ record w { net = now.net }
+  pub net : Carries now.net g.catalogue.tms g.catalogue.dms (calls_of (Mark (Deliver a b k) ∷ log))
 
-  -- all that was kept for a module is handed over
-  pub record Risen (now : World C S N) (g : Given) (log : Log) (d : ℕ) : Type 0 where
-    pub more : Log
-    pub handing : Handing cat stands_s stands_n Good now g more (D (dm_no d)) (kept_from (mailbox_at now.spool d))
-    pub rising : Rising g now.spool d
-    pub ahead_is : ahead_of g more ≡ ahead_of g log
-    pub none : (x : Site) → kept_from (mailbox_at now.spool d) x ≡ []
+-- all that was kept for a module is handed over
+pub record Risen (now : World) (g : Given) (log : Log) (d : ℕ) : Type 0 where
+  pub more : Log
+  pub handing : Handing now g more (D (dm_no d)) (kept_from (mailbox_at now.spool d))
+  pub rising : Rising g now.spool d
+  pub ahead_is : ahead_of g more ≡ ahead_of g log
+  pub none : (x : Site) → kept_from (mailbox_at now.spool d) x ≡ []

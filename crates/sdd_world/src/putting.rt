@@ -3,12 +3,13 @@ ghost use Rattle.sdd_net.specs.Links.{Call};
 ghost use Rattle.sdd_wire.specs.declared.msg.Msg.{Msg};
 ghost use Rattle.sdd_log.specs.Traffic.{puts};
 ghost use Rattle.sdd_log.specs.Lawful.{puts_past};
+ghost use Rattle.sdd_world.specs.Carries.{Carries};
 ghost use Rattle.sdd_world.specs.Kinds.{AreLinked};
 
 use crate::ends::WorldEnd;
+use crate::mail::Mail;
 use sdd_base::{NoMemory, Site};
 use sdd_history::{History, Recs};
-use crate::network::Network;
 use sdd_wire::{Msg, Outs};
 use std::collections::VecDeque;
 
@@ -24,15 +25,15 @@ pub fn record_all(history: &mut History, event: u32, recs: Recs) -> Result<(), N
 }
 
 /// Puts a message on its link, or ends where there is no number for it.
-pub fn send_one<N: Network>(net: &mut N, at: Site, to: Site, msg: Msg) -> Result<(), WorldEnd>
+pub fn send_one(net: &mut Mail, at: Site, to: Site, msg: Msg) -> Result<(), WorldEnd>
     requires { (tms : ℕ) × (dms : ℕ) × (calls : List (Call Msg))
-        × N.stands net.old tms dms calls × AreLinked tms dms at ((to, msg) ∷ []) }
+        × Carries net.old tms dms calls × AreLinked tms dms at ((to, msg) ∷ []) }
     ensures ok { IfOk result (λ _. (tms : ℕ) (dms : ℕ) (calls : List (Call Msg))
-        → N.stands net.old tms dms calls → AreLinked tms dms at ((to, msg) ∷ [])
+        → Carries net.old tms dms calls → AreLinked tms dms at ((to, msg) ∷ [])
         → (puts_past calls at ((to, msg) ∷ []) ≡ false)
-        × N.stands net.new tms dms (puts at ((to, msg) ∷ []) calls)) }
+        × Carries net.new tms dms (puts at ((to, msg) ∷ []) calls)) }
     ensures limit { IsErrOf result WorldEnd.Limit → (tms : ℕ) (dms : ℕ) (calls : List (Call Msg))
-        → N.stands net.old tms dms calls → AreLinked tms dms at ((to, msg) ∷ [])
+        → Carries net.old tms dms calls → AreLinked tms dms at ((to, msg) ∷ [])
         → puts_past calls at ((to, msg) ∷ []) ≡ true }
 {
     if net.sent(at, to) == u32::MAX {
@@ -43,14 +44,14 @@ pub fn send_one<N: Network>(net: &mut N, at: Site, to: Site, msg: Msg) -> Result
 }
 
 /// Puts messages on their links, in order, or ends at the first for which there is no number.
-pub fn send_all<N: Network>(net: &mut N, at: Site, out: Outs) -> Result<(), WorldEnd>
+pub fn send_all(net: &mut Mail, at: Site, out: Outs) -> Result<(), WorldEnd>
     requires { (tms : ℕ) × (dms : ℕ) × (calls : List (Call Msg))
-        × N.stands net.old tms dms calls × AreLinked tms dms at out }
+        × Carries net.old tms dms calls × AreLinked tms dms at out }
     ensures ok { IfOk result (λ _. (tms : ℕ) (dms : ℕ) (calls : List (Call Msg))
-        → N.stands net.old tms dms calls → AreLinked tms dms at out → (puts_past calls at out ≡ false)
-        × N.stands net.new tms dms (puts at out calls)) }
+        → Carries net.old tms dms calls → AreLinked tms dms at out → (puts_past calls at out ≡ false)
+        × Carries net.new tms dms (puts at out calls)) }
     ensures limit { IsErrOf result WorldEnd.Limit → (tms : ℕ) (dms : ℕ) (calls : List (Call Msg))
-        → N.stands net.old tms dms calls → AreLinked tms dms at out → puts_past calls at out ≡ true }
+        → Carries net.old tms dms calls → AreLinked tms dms at out → puts_past calls at out ≡ true }
 {
     let mut left = VecDeque::from_vec(out.into_vec());
     while let Some((to, msg)) = left.pop_front() {

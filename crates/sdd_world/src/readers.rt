@@ -1,74 +1,129 @@
 ghost use Rattle.std.specs.Prelude.{◌≡◌, ◌≤◌, [], ℕ, List, length, true, IfOk, IsTrue};
 ghost use Rattle.std.specs.Option.{option_copied};
 ghost use Rattle.sdd_base.specs.Sites.{number_of};
-ghost use Rattle.sdd_base.specs.declared.limits.TheConstants.{MAX_DMS, MAX_TMS};
 ghost use Rattle.sdd_base.specs.declared.site.Site.{Site};
-ghost use Rattle.sdd_base.specs.declared.site.Site.TheVariants.{D};
+ghost use Rattle.sdd_base.specs.declared.site.Site.TheVariants.{D, T, U};
 ghost use Rattle.sdd_catalog.specs.Catalogue.{has_copy};
 ghost use Rattle.sdd_copy.specs.Copies.{is_here, StandFor};
 ghost use Rattle.sdd_dm.specs.Copies.{dated};
 ghost use Rattle.sdd_dm.specs.Waiting.{IsAwaited};
 ghost use Rattle.sdd_wire.specs.declared.msg.Msg.{Msg};
 ghost use Rattle.sdd_net.specs.Links.{Call, quiet};
-ghost use Rattle.sdd_log.specs.Entries.{Given, Log, history};
+ghost use Rattle.sdd_log.specs.Entries.{Given, Log, history, marks};
 ghost use Rattle.sdd_log.specs.Traffic.{all_links, calls_of};
-ghost use Rattle.sdd_log.specs.Locals.{beginning, local_of, setting_of};
+ghost use Rattle.sdd_log.specs.Locals.{local_of, setting_of};
 ghost use Rattle.sdd_step.specs.Resting.{IsSiteOf};
+ghost use Rattle.sdd_facts.specs.Real.{IsGood};
+ghost use Rattle.sdd_world.specs.Beginnings.{IsBegun};
+ghost use Rattle.sdd_world.specs.Carries.{Carries};
+ghost use Rattle.sdd_world.specs.Members.{LivesD, LivesT, LivesU};
+ghost use Rattle.sdd_world.specs.Standings.{standing_of};
 ghost use Rattle.sdd_world.specs.Standing.{IsSound, StandsFor};
 
-use crate::lawful::Lawful;
 use crate::world::World;
+use crate::mail::Mail;
+use crate::making::txn_modules;
+use crate::sites::Sites;
 use sdd_attempt::Standing;
-use sdd_base::{ClassNo, Cond, DmNo, Event, Listed, NoMemory, Site, Ts, TxnNo};
+use sdd_base::{ClassNo, Cond, DmNo, Event, Listed, NoMemory, Site, TmNo, Ts, TxnNo};
+use sdd_catalog::Catalogue;
 use sdd_copy::Copies;
+use sdd_dm::DataModule;
 use sdd_history::History;
 use sdd_lang::Txn;
-use crate::network::Network;
-use crate::homes::Homes;
+use sdd_net::Net;
+use sdd_protocol::Table;
 use sdd_spool::Spool;
+use sdd_tm::TxnModule;
+use sdd_umod::UModule;
+use sdd_wire::Spelling;
 use std::alloc::Global;
 
-impl<C: Homes, S: Lawful, N: Network> World<C, S, N> {
-    /// A world before its first event.
+impl<'a> World<'a> {
+    /// A world before its first event, of data modules that `DataModule::new` made for this catalogue,
+    /// one for each D in order, each perhaps of rows of its own.
     ///
     /// # Errors
     ///
     /// Only for want of memory.
     pub fn new(
         alloc: Global,
-        catalogue: C,
+        catalogue: &'a Catalogue,
+        table: &'a Table,
         txns: Listed<Txn>,
-        tms: u32,
-        dms: u32,
-        sites: S,
-        net: N,
-    ) -> Result<World<C, S, N>, NoMemory>
-        requires few_tms { tms ≤ MAX_TMS }
-        requires few_dms { dms ≤ MAX_DMS }
-        ensures { IfOk result (λ world. (g : Given) → S.good g → IsSound g
-            → C.catalogue catalogue ≡ g.catalogue → g.catalogue.tms ≡ tms → g.catalogue.dms ≡ dms
-            → txns ≡ g.txns → g.events ≡ []
-            → ((at : Site) → IsSiteOf g at → S.stands sites at (setting_of g at) (beginning g at))
-            → N.stands net g.catalogue.tms g.catalogue.dms [] → StandsFor C.catalogue S.stands N.stands S.good world g []) }
+        modules: Vec<DataModule>,
+    ) -> Result<World<'a>, NoMemory>
+        ensures { IfOk result (λ world. (g : Given) → IsGood g → IsSound g
+            → IsBegun g catalogue.now table.now txns modules.items → StandsFor world g []) }
     {
-        let spool = Spool::new(alloc, tms, dms)?;
+        catalogue.known();
+        let u = UModule::new(alloc, catalogue)?;
+        let tms = txn_modules(alloc, catalogue, table)?;
+        let net = Mail::new(alloc, catalogue.tms(), catalogue.dms())?;
+        let spool = Spool::new(alloc, catalogue.tms(), catalogue.dms())?;
         Ok(World {
             catalogue,
             txns,
             given: Vec::new(alloc),
             history: History::new(alloc),
             marks: 0,
-            sites,
+            sites: Sites {
+                u,
+                tms,
+                dms: modules,
+            },
             net,
             spool,
         })
     }
 
+    /// How many events were carried out. Takes no memory.
+    pub fn events(&self) -> u32
+        ensures { (g : Given) (log : Log) → StandsFor self.now g log → result ≡ marks log }
+    {
+        self.marks
+    }
+
+    /// The module of U, lent. Takes no memory.
+    pub fn u_module(&self) -> &UModule<'a>
+        ensures { (g : Given) (log : Log) → StandsFor self.now g log
+            → LivesU result.now (setting_of g U) (local_of g U log) }
+    {
+        &self.sites.u
+    }
+
+    /// A transaction module, lent. Takes no memory.
+    pub fn txn_module(&self, tm: TmNo) -> &TxnModule<'a>
+        requires { (g : Given) × (log : Log) × IsSiteOf g (T tm) × StandsFor self.now g log }
+        ensures { (g : Given) (log : Log) → IsSiteOf g (T tm) → StandsFor self.now g log
+            → LivesT result.now (setting_of g (T tm)) (local_of g (T tm) log) }
+    {
+        &self.sites.tms[tm.0 as usize - 1]
+    }
+
+    /// A data module, lent. Takes no memory.
+    pub fn data_module(&self, dm: DmNo) -> &DataModule
+        requires { (g : Given) × (log : Log) × IsSiteOf g (D dm) × StandsFor self.now g log }
+        ensures { (g : Given) (log : Log) → IsSiteOf g (D dm) → StandsFor self.now g log
+            → LivesD result.now (setting_of g (D dm)) (local_of g (D dm) log) }
+    {
+        &self.sites.dms[dm.0 as usize - 1]
+    }
+
+    /// The net of spellings, lent. Takes no memory.
+    pub fn net(&self) -> &Net<Spelling>
+        requires { (g : Given) × (log : Log) × StandsFor self.now g log }
+        ensures { (g : Given) (log : Log) → StandsFor self.now g log
+            → Carries result.now g.catalogue.tms g.catalogue.dms (calls_of log) }
+    {
+        self.net.net()
+    }
+
     /// Whether no packet is in flight and nothing is unacknowledged. Takes no memory.
     pub fn quiet(&self) -> bool
-        requires { (tms : ℕ) × (dms : ℕ) × (calls : List (Call Msg)) × N.stands self.now.net tms dms calls }
+        requires { (tms : ℕ) × (dms : ℕ) × (calls : List (Call Msg)) × Carries self.now.net tms dms calls }
         ensures { (g : Given) (log : Log)
-            → N.stands self.now.net g.catalogue.tms g.catalogue.dms (calls_of log)
+            → Carries self.now.net g.catalogue.tms g.catalogue.dms (calls_of log)
             → result ≡ quiet (all_links g) (calls_of log) }
     {
         self.net.quiet()
@@ -76,14 +131,14 @@ impl<C: Homes, S: Lawful, N: Network> World<C, S, N> {
 
     /// The records, each with the number of its event. Takes no memory.
     pub fn history(&self) -> &History
-        ensures { (g : Given) (log : Log) → StandsFor C.catalogue S.stands N.stands S.good self.now g log → result.now ≡ history log }
+        ensures { (g : Given) (log : Log) → StandsFor self.now g log → result.now ≡ history log }
     {
         &self.history
     }
 
     /// The events that were given. Takes no memory.
     pub fn given(&self) -> &[Event]
-        ensures { (g : Given) (log : Log) → StandsFor C.catalogue S.stands N.stands S.good self.now g log → result.now ≡ g.events }
+        ensures { (g : Given) (log : Log) → StandsFor self.now g log → result.now ≡ g.events }
     {
         self.given.as_slice()
     }
@@ -91,10 +146,10 @@ impl<C: Homes, S: Lawful, N: Network> World<C, S, N> {
     /// How a site has a transaction. Takes no memory.
     pub fn standing(&self, at: Site, number: TxnNo) -> Standing
         requires { (g : Given) × (log : Log) × IsSiteOf g at
-            × StandsFor C.catalogue S.stands N.stands S.good self.now g log }
+            × StandsFor self.now g log }
         ensures { (g : Given) (log : Log) → IsSiteOf g at
-            → StandsFor C.catalogue S.stands N.stands S.good self.now g log
-            → result ≡ S.standing at (setting_of g at) (local_of g at log) number.0 }
+            → StandsFor self.now g log
+            → result ≡ standing_of at (setting_of g at) (local_of g at log) number.0 }
     {
         self.sites.standing(at, number)
     }
@@ -103,16 +158,16 @@ impl<C: Homes, S: Lawful, N: Network> World<C, S, N> {
     /// Takes no memory.
     pub fn copies(&self, dm: DmNo) -> &Copies
         requires { (g : Given) × (log : Log) × IsSiteOf g (D dm)
-            × StandsFor C.catalogue S.stands N.stands S.good self.now g log }
+            × StandsFor self.now g log }
         ensures live { (g : Given) (log : Log) → IsSiteOf g (D dm)
-            → StandsFor C.catalogue S.stands N.stands S.good self.now g log
+            → StandsFor self.now g log
             → IsTrue result.now.live }
         ensures stand { (g : Given) (log : Log) → IsSiteOf g (D dm)
-            → StandsFor C.catalogue S.stands N.stands S.good self.now g log
+            → StandsFor self.now g log
             → StandFor result.now.value
             (dated (setting_of g (D dm)) (local_of g (D dm) log)) }
         ensures here { (g : Given) (log : Log) → IsSiteOf g (D dm)
-            → StandsFor C.catalogue S.stands N.stands S.good self.now g log
+            → StandsFor self.now g log
             → (f : ℕ) → has_copy g.catalogue (number_of (D dm)) f ≡ true
             → is_here result.now.value f ≡ true }
     {
@@ -123,9 +178,9 @@ impl<C: Homes, S: Lawful, N: Network> World<C, S, N> {
     /// condition whose class hasn't passed its time. Takes no memory.
     pub fn waits(&self, dm: DmNo, class: ClassNo, ts: Ts) -> Option<&Cond>
         requires { (g : Given) × (log : Log) × IsSiteOf g (D dm)
-            × StandsFor C.catalogue S.stands N.stands S.good self.now g log }
+            × StandsFor self.now g log }
         ensures { (g : Given) (log : Log) → IsSiteOf g (D dm)
-            → StandsFor C.catalogue S.stands N.stands S.good self.now g log
+            → StandsFor self.now g log
             → class.0 ≤ length g.catalogue.classes
             → IsAwaited (setting_of g (D dm)) (local_of g (D dm) log) class.0 ts.0
             (option_copied result) }

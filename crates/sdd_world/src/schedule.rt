@@ -2,12 +2,12 @@ ghost use Rattle.std.specs.Prelude.{◌≡◌, IfOk, IsErrOf};
 ghost use Rattle.sdd_base.specs.declared.event.Event.TheVariants.{Settle};
 ghost use Rattle.sdd_log.specs.Entries.{Given, Log, with_event};
 ghost use Rattle.sdd_world.specs.Standing.{EndsBy, StandsFor};
+ghost use Rattle.sdd_facts.specs.Real.{IsGood};
 ghost use Rattle.sdd_world.specs.Schedules.{AreAllowed, IsAllowed, is_settle, with_events};
 
 use sdd_base::Event;
-use sdd_world::Network;
-use sdd_world::Homes;
-use sdd_world::{Lawful, World, WorldEnd};
+use crate::ends::WorldEnd;
+use crate::world::World;
 use std::collections::VecDeque;
 
 /// Whether an event is a settle.
@@ -18,20 +18,20 @@ fn is_settle(event: &Event) -> bool
 }
 
 /// Carries out one event of a schedule.
-fn carry_out_one<C: Homes, S: Lawful, N: Network>(
-    world: World<C, S, N>,
+fn carry_out_one<'a>(
+    world: World<'a>,
     event: &Event,
-) -> Result<World<C, S, N>, WorldEnd>
+) -> Result<World<'a>, WorldEnd>
     requires { (g : Given) × (log : Log)
-        × StandsFor C.catalogue S.stands N.stands S.good world g log
-        × IsAllowed S.good g event.now }
+        × StandsFor world g log
+        × IsAllowed IsGood g event.now }
     ensures log { IfOk result (λ next. (g : Given) (log : Log)
-        → StandsFor C.catalogue S.stands N.stands S.good world g log
-        → IsAllowed S.good g event.now → (more : Log)
-        × StandsFor C.catalogue S.stands N.stands S.good next (with_event g event.now) more) }
+        → StandsFor world g log
+        → IsAllowed IsGood g event.now → (more : Log)
+        × StandsFor next (with_event g event.now) more) }
     ensures limit { IsErrOf result WorldEnd.Limit → (g : Given) (log : Log)
-        → StandsFor C.catalogue S.stands N.stands S.good world g log
-        → IsAllowed S.good g event.now → EndsBy (with_event g event.now) }
+        → StandsFor world g log
+        → IsAllowed IsGood g event.now → EndsBy (with_event g event.now) }
 {
     if is_settle(event) {
         return world.settle();
@@ -47,20 +47,20 @@ fn carry_out_one<C: Homes, S: Lawful, N: Network>(
 /// # Errors
 ///
 /// At the first number that is missing, of events or of a link's messages, and for want of memory.
-pub fn carry_out<C: Homes, S: Lawful, N: Network>(
-    world: World<C, S, N>,
+pub fn carry_out<'a>(
+    world: World<'a>,
     events: Vec<Event>,
-) -> Result<World<C, S, N>, WorldEnd>
+) -> Result<World<'a>, WorldEnd>
     requires { (g : Given) × (log : Log)
-        × StandsFor C.catalogue S.stands N.stands S.good world g log
-        × AreAllowed S.good g events.items }
+        × StandsFor world g log
+        × AreAllowed IsGood g events.items }
     ensures log { IfOk result (λ last. (g : Given) (log : Log)
-        → StandsFor C.catalogue S.stands N.stands S.good world g log
-        → AreAllowed S.good g events.items → (more : Log)
-        × StandsFor C.catalogue S.stands N.stands S.good last (with_events g events.items) more) }
+        → StandsFor world g log
+        → AreAllowed IsGood g events.items → (more : Log)
+        × StandsFor last (with_events g events.items) more) }
     ensures limit { IsErrOf result WorldEnd.Limit → (g : Given) (log : Log)
-        → StandsFor C.catalogue S.stands N.stands S.good world g log
-        → AreAllowed S.good g events.items → EndsBy (with_events g events.items) }
+        → StandsFor world g log
+        → AreAllowed IsGood g events.items → EndsBy (with_events g events.items) }
 {
     let mut now = world;
     let mut left = VecDeque::from_vec(events);

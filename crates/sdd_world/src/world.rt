@@ -10,19 +10,21 @@ ghost use Rattle.sdd_log.specs.Entries.{Given, Log, history, with_event};
 ghost use Rattle.sdd_log.specs.Traffic.{all_links, calls_of, is_down, takes_part};
 ghost use Rattle.sdd_log.specs.Locals.{beginning, setting_of};
 ghost use Rattle.sdd_step.specs.Resting.{from_one, IsFirst, IsLinkOf, IsPossible, IsSiteOf, Takes};
+ghost use Rattle.sdd_facts.specs.Real.{IsGood};
 ghost use Rattle.sdd_world.specs.declared.world.World.{World};
 ghost use Rattle.sdd_world.specs.Following.{MaySend, Followed, IsPast};
 ghost use Rattle.sdd_world.specs.Standing.{ahead_of, Arrives, Before, Calm, EndsBy, HandedOn, Handing, Happened, IsSound, Keeping, Marked, Rising, Risen, Settles, Settling, Spooled, StandsFor};
 
 use crate::ends::WorldEnd;
-use crate::lawful::Lawful;
+use crate::homes::home;
+use crate::mail::Mail;
 use crate::putting::{record_all, send_all};
+use crate::sites::Sites;
 use sdd_base::{DmNo, Event, Listed, NoMemory, Site, TmNo, TxnNo};
+use sdd_catalog::Catalogue;
 use sdd_history::{History, Rec};
 use sdd_lang::Txn;
-use crate::network::Network;
 use sdd_net::{Delivered, Parcels};
-use crate::homes::Homes;
 use sdd_spool::Spool;
 use sdd_wire::{Msg, Outcome};
 use std::alloc::Global;
@@ -31,24 +33,24 @@ use std::collections::VecDeque;
 /// The modules of all sites, the network between them, the messages that are kept for modules
 /// that are down, and what was given and recorded.
 #[derive(Drop)]
-pub struct World<C, S, N> {
-    pub catalogue: C,
+pub struct World<'a> {
+    pub catalogue: &'a Catalogue,
     pub txns: Listed<Txn>,
     pub given: Vec<Event>,
     pub history: History,
     pub marks: u32,
-    pub sites: S,
-    pub net: N,
+    pub sites: Sites<'a>,
+    pub net: Mail,
     pub spool: Spool<Msg>,
 }
 
-impl<C: Homes, S: Lawful, N: Network> World<C, S, N> {
+impl<'a> World<'a> {
     /// Records and sends what a module gave.
     fn follow(&mut self, at: Site, outcome: Outcome) -> Result<(), WorldEnd>
-        requires sends { MaySend N.stands self.old at outcome }
+        requires sends { MaySend self.old at outcome }
         requires order { All (λ earlier. earlier.0 ≤ self.old.marks) self.old.history }
-        ensures ok { IfOk result (λ _. Followed N.stands self.old self.new at outcome) }
-        ensures limit { IsErrOf result WorldEnd.Limit → IsPast N.stands self.old at outcome }
+        ensures ok { IfOk result (λ _. Followed self.old self.new at outcome) }
+        ensures limit { IsErrOf result WorldEnd.Limit → IsPast self.old at outcome }
     {
         let Outcome { out, recs } = outcome;
         record_all(&mut self.history, self.marks, recs)?;
@@ -58,13 +60,13 @@ impl<C: Homes, S: Lawful, N: Network> World<C, S, N> {
     /// Hands a message to its site, of those that are to be handed to it the first.
     fn hand(&mut self, from: Site, to: Site, msg: Msg) -> Result<(), WorldEnd>
         requires { (g : Given) × (log : Log) × (kept : Site → List Msg) × (rest : List Msg)
-            × Handing C.catalogue S.stands N.stands S.good self.old g log to kept × IsFirst g kept from to msg rest }
+            × Handing self.old g log to kept × IsFirst g kept from to msg rest }
         ensures ok { IfOk result (λ _. (g : Given) (log : Log) (kept less : Site → List Msg)
-            (rest : List Msg) → Handing C.catalogue S.stands N.stands S.good self.old g log to kept
+            (rest : List Msg) → Handing self.old g log to kept
             → IsFirst g kept from to msg rest → Takes kept less from rest
-            → HandedOn C.catalogue S.stands N.stands S.good self.new g to less (ahead_of g log) self.old.spool) }
+            → HandedOn self.new g to less (ahead_of g log) self.old.spool) }
         ensures limit { IsErrOf result WorldEnd.Limit → (g : Given) (log : Log)
-            (kept : Site → List Msg) (rest : List Msg) → Handing C.catalogue S.stands N.stands S.good self.old g log to kept
+            (kept : Site → List Msg) (rest : List Msg) → Handing self.old g log to kept
             → IsFirst g kept from to msg rest → EndsBy g }
     {
         let outcome = self.sites.take(to, from, msg)?;
@@ -74,12 +76,12 @@ impl<C: Homes, S: Lawful, N: Network> World<C, S, N> {
     /// Hands messages of one site to another, in order.
     fn hand_all(&mut self, from: Site, to: Site, messages: Parcels<Msg>) -> Result<(), WorldEnd>
         requires { (g : Given) × (log : Log) × IsLinkOf g from to
-            × Handing C.catalogue S.stands N.stands S.good self.old g log to (from_one from messages) }
+            × Handing self.old g log to (from_one from messages) }
         ensures ok { IfOk result (λ _. (g : Given) (log : Log) → IsLinkOf g from to
-            → Handing C.catalogue S.stands N.stands S.good self.old g log to (from_one from messages)
-            → HandedOn C.catalogue S.stands N.stands S.good self.new g to (from_one from []) (ahead_of g log) self.old.spool) }
+            → Handing self.old g log to (from_one from messages)
+            → HandedOn self.new g to (from_one from []) (ahead_of g log) self.old.spool) }
         ensures limit { IsErrOf result WorldEnd.Limit → (g : Given) (log : Log) → IsLinkOf g from to
-            → Handing C.catalogue S.stands N.stands S.good self.old g log to (from_one from messages) → EndsBy g }
+            → Handing self.old g log to (from_one from messages) → EndsBy g }
     {
         let mut queue = VecDeque::from_vec(messages.into_vec());
         while let Some(msg) = queue.pop_front() {
@@ -99,9 +101,9 @@ impl<C: Homes, S: Lawful, N: Network> World<C, S, N> {
     }
 
     fn lose(&mut self, from: Site, to: Site, place: u32) -> Result<(), NoMemory>
-        requires { (g : Given) × (log : Log) × Marked C.catalogue S.stands N.stands S.good self.old g log (Lose from to place) }
-        ensures { OnOk result ((g : Given) (log : Log) → Marked C.catalogue S.stands N.stands S.good self.old g log (Lose from to place)
-            → Happened C.catalogue S.stands N.stands S.good self.new g log) }
+        requires { (g : Given) × (log : Log) × Marked self.old g log (Lose from to place) }
+        ensures { OnOk result ((g : Given) (log : Log) → Marked self.old g log (Lose from to place)
+            → Happened self.new g log) }
     {
         if self.net.lose(from, to, place) {
             return Ok(());
@@ -110,9 +112,9 @@ impl<C: Homes, S: Lawful, N: Network> World<C, S, N> {
     }
 
     fn repeat(&mut self, from: Site, to: Site, place: u32) -> Result<(), NoMemory>
-        requires { (g : Given) × (log : Log) × Marked C.catalogue S.stands N.stands S.good self.old g log (Repeat from to place) }
-        ensures { OnOk result ((g : Given) (log : Log) → Marked C.catalogue S.stands N.stands S.good self.old g log (Repeat from to place)
-            → Happened C.catalogue S.stands N.stands S.good self.new g log) }
+        requires { (g : Given) × (log : Log) × Marked self.old g log (Repeat from to place) }
+        ensures { OnOk result ((g : Given) (log : Log) → Marked self.old g log (Repeat from to place)
+            → Happened self.new g log) }
     {
         if self.net.repeat(from, to, place)? {
             return Ok(());
@@ -121,9 +123,9 @@ impl<C: Homes, S: Lawful, N: Network> World<C, S, N> {
     }
 
     fn resend(&mut self, from: Site, to: Site) -> Result<(), NoMemory>
-        requires { (g : Given) × (log : Log) × Marked C.catalogue S.stands N.stands S.good self.old g log (Resend from to) }
-        ensures { OnOk result ((g : Given) (log : Log) → Marked C.catalogue S.stands N.stands S.good self.old g log (Resend from to)
-            → Happened C.catalogue S.stands N.stands S.good self.new g log) }
+        requires { (g : Given) × (log : Log) × Marked self.old g log (Resend from to) }
+        ensures { OnOk result ((g : Given) (log : Log) → Marked self.old g log (Resend from to)
+            → Happened self.new g log) }
     {
         if self.net.resend(from, to)? {
             return Ok(());
@@ -166,13 +168,13 @@ impl<C: Homes, S: Lawful, N: Network> World<C, S, N> {
 
     /// Messages come to a site: they are handed over, or kept.
     fn receive(&mut self, from: Site, to: Site, messages: Parcels<Msg>) -> Result<(), WorldEnd>
-        requires { (g : Given) × (log : Log) × (w : World C S N) × (place : ℕ)
-            × Arrives C.catalogue S.stands N.stands S.good w self.old g log from to place messages }
-        ensures ok { IfOk result (λ _. (g : Given) (log : Log) (w : World C S N) (place : ℕ)
-            → Arrives C.catalogue S.stands N.stands S.good w self.old g log from to place messages
-            → Happened C.catalogue S.stands N.stands S.good self.new g log) }
-        ensures limit { IsErrOf result WorldEnd.Limit → (g : Given) (log : Log) (w : World C S N)
-            (place : ℕ) → Arrives C.catalogue S.stands N.stands S.good w self.old g log from to place messages → EndsBy g }
+        requires { (g : Given) × (log : Log) × (w : World) × (place : ℕ)
+            × Arrives w self.old g log from to place messages }
+        ensures ok { IfOk result (λ _. (g : Given) (log : Log) (w : World) (place : ℕ)
+            → Arrives w self.old g log from to place messages
+            → Happened self.new g log) }
+        ensures limit { IsErrOf result WorldEnd.Limit → (g : Given) (log : Log) (w : World)
+            (place : ℕ) → Arrives w self.old g log from to place messages → EndsBy g }
     {
         match self.down_module(to) {
             Some(dm) => Ok(self.keep_all(from, dm, messages)?),
@@ -181,11 +183,11 @@ impl<C: Homes, S: Lawful, N: Network> World<C, S, N> {
     }
 
     fn deliver(&mut self, from: Site, to: Site, place: u32) -> Result<(), WorldEnd>
-        requires { (g : Given) × (log : Log) × Marked C.catalogue S.stands N.stands S.good self.old g log (Deliver from to place) }
+        requires { (g : Given) × (log : Log) × Marked self.old g log (Deliver from to place) }
         ensures ok { IfOk result (λ _. (g : Given) (log : Log)
-            → Marked C.catalogue S.stands N.stands S.good self.old g log (Deliver from to place) → Happened C.catalogue S.stands N.stands S.good self.new g log) }
+            → Marked self.old g log (Deliver from to place) → Happened self.new g log) }
         ensures limit { IsErrOf result WorldEnd.Limit → (g : Given) (log : Log)
-            → Marked C.catalogue S.stands N.stands S.good self.old g log (Deliver from to place) → EndsBy g }
+            → Marked self.old g log (Deliver from to place) → EndsBy g }
     {
         match self.net.deliver(from, to, place)? {
             Delivered::Nothing => Ok(self.note()?),
@@ -195,9 +197,9 @@ impl<C: Homes, S: Lawful, N: Network> World<C, S, N> {
     }
 
     fn go_down(&mut self, dm: DmNo) -> Result<(), NoMemory>
-        requires { (g : Given) × (log : Log) × Marked C.catalogue S.stands N.stands S.good self.old g log (Down dm) }
-        ensures { OnOk result ((g : Given) (log : Log) → Marked C.catalogue S.stands N.stands S.good self.old g log (Down dm)
-            → Happened C.catalogue S.stands N.stands S.good self.new g log) }
+        requires { (g : Given) × (log : Log) × Marked self.old g log (Down dm) }
+        ensures { OnOk result ((g : Given) (log : Log) → Marked self.old g log (Down dm)
+            → Happened self.new g log) }
     {
         if self.spool.down(dm) {
             return Ok(());
@@ -208,13 +210,13 @@ impl<C: Homes, S: Lawful, N: Network> World<C, S, N> {
     /// Hands over what is kept for a module that came up: one message, with all that it makes due,
     /// after the other.
     fn hand_kept(&mut self, dm: DmNo) -> Result<(), WorldEnd>
-        requires { (g : Given) × (log : Log) × Handing C.catalogue S.stands N.stands S.good self.old g log (D dm)
+        requires { (g : Given) × (log : Log) × Handing self.old g log (D dm)
             (kept_from (mailbox_at self.old.spool dm.0)) × Rising g self.old.spool dm.0 }
-        ensures ok { IfOk result (λ _. (g : Given) (log : Log) → Handing C.catalogue S.stands N.stands S.good self.old g log (D dm)
+        ensures ok { IfOk result (λ _. (g : Given) (log : Log) → Handing self.old g log (D dm)
             (kept_from (mailbox_at self.old.spool dm.0)) → Rising g self.old.spool dm.0
-            → Risen C.catalogue S.stands N.stands S.good self.new g log dm.0) }
+            → Risen self.new g log dm.0) }
         ensures limit { IsErrOf result WorldEnd.Limit → (g : Given) (log : Log)
-            → Handing C.catalogue S.stands N.stands S.good self.old g log (D dm) (kept_from (mailbox_at self.old.spool dm.0))
+            → Handing self.old g log (D dm) (kept_from (mailbox_at self.old.spool dm.0))
             → Rising g self.old.spool dm.0 → EndsBy g }
     {
         while let Some((from, msg)) = self.spool.take(dm) {
@@ -224,11 +226,11 @@ impl<C: Homes, S: Lawful, N: Network> World<C, S, N> {
     }
 
     fn come_up(&mut self, dm: DmNo) -> Result<(), WorldEnd>
-        requires { (g : Given) × (log : Log) × Marked C.catalogue S.stands N.stands S.good self.old g log (Up dm) }
-        ensures ok { IfOk result (λ _. (g : Given) (log : Log) → Marked C.catalogue S.stands N.stands S.good self.old g log (Up dm)
-            → Happened C.catalogue S.stands N.stands S.good self.new g log) }
+        requires { (g : Given) × (log : Log) × Marked self.old g log (Up dm) }
+        ensures ok { IfOk result (λ _. (g : Given) (log : Log) → Marked self.old g log (Up dm)
+            → Happened self.new g log) }
         ensures limit { IsErrOf result WorldEnd.Limit → (g : Given) (log : Log)
-            → Marked C.catalogue S.stands N.stands S.good self.old g log (Up dm) → EndsBy g }
+            → Marked self.old g log (Up dm) → EndsBy g }
     {
         if !self.spool.up(dm) {
             return Ok(self.note()?);
@@ -237,32 +239,32 @@ impl<C: Homes, S: Lawful, N: Network> World<C, S, N> {
     }
 
     fn submit(&mut self, number: TxnNo) -> Result<(), WorldEnd>
-        requires { (g : Given) × (log : Log) × Marked C.catalogue S.stands N.stands S.good self.old g log (Submit number) }
+        requires { (g : Given) × (log : Log) × Marked self.old g log (Submit number) }
         ensures ok { IfOk result (λ _. (g : Given) (log : Log)
-            → Marked C.catalogue S.stands N.stands S.good self.old g log (Submit number) → Happened C.catalogue S.stands N.stands S.good self.new g log) }
+            → Marked self.old g log (Submit number) → Happened self.new g log) }
         ensures limit { IsErrOf result WorldEnd.Limit → (g : Given) (log : Log)
-            → Marked C.catalogue S.stands N.stands S.good self.old g log (Submit number) → EndsBy g }
+            → Marked self.old g log (Submit number) → EndsBy g }
     {
         let txn = &self.txns.as_slice()[number.0 as usize - 1];
-        let at = self.catalogue.home(txn)?;
+        let at = home(self.catalogue, txn);
         let outcome = self.sites.submit(at, number, txn)?;
         self.follow(at, outcome)
     }
 
     fn tick(&mut self, tm: TmNo, n: u32)
-        requires { (g : Given) × (log : Log) × Marked C.catalogue S.stands N.stands S.good self.old g log (Tick tm n) }
-        ensures { (g : Given) (log : Log) → Marked C.catalogue S.stands N.stands S.good self.old g log (Tick tm n) → Happened C.catalogue S.stands N.stands S.good self.new g log }
+        requires { (g : Given) × (log : Log) × Marked self.old g log (Tick tm n) }
+        ensures { (g : Given) (log : Log) → Marked self.old g log (Tick tm n) → Happened self.new g log }
     {
         self.sites.tick(tm, n);
     }
 
     /// Carries out one event, which is the next.
     fn happen(&mut self, event: &Event) -> Result<(), WorldEnd>
-        requires { (g : Given) × (log : Log) × Before C.catalogue S.stands N.stands S.good self.old g log event.now }
-        ensures ok { IfOk result (λ _. (g : Given) (log : Log) → Before C.catalogue S.stands N.stands S.good self.old g log event.now
-            → Happened C.catalogue S.stands N.stands S.good self.new g log) }
+        requires { (g : Given) × (log : Log) × Before self.old g log event.now }
+        ensures ok { IfOk result (λ _. (g : Given) (log : Log) → Before self.old g log event.now
+            → Happened self.new g log) }
         ensures limit { IsErrOf result WorldEnd.Limit → (g : Given) (log : Log)
-            → Before C.catalogue S.stands N.stands S.good self.old g log event.now → EndsBy g }
+            → Before self.old g log event.now → EndsBy g }
     {
         if self.marks == u32::MAX {
             return Err(WorldEnd::Limit);
@@ -286,13 +288,13 @@ impl<C: Homes, S: Lawful, N: Network> World<C, S, N> {
 
     /// Carries out a round.
     fn round(&mut self) -> Result<(), WorldEnd>
-        requires { (g : Given) × (log : Log) × Settling C.catalogue S.stands N.stands S.good self.old g log
+        requires { (g : Given) × (log : Log) × Settling self.old g log
             × (quiet (all_links g) (calls_of log) ≡ false) }
-        ensures ok { IfOk result (λ _. (g : Given) (log : Log) → Settling C.catalogue S.stands N.stands S.good self.old g log
-            → quiet (all_links g) (calls_of log) ≡ false → Settles C.catalogue S.stands N.stands S.good self.new g) }
+        ensures ok { IfOk result (λ _. (g : Given) (log : Log) → Settling self.old g log
+            → quiet (all_links g) (calls_of log) ≡ false → Settles self.new g) }
         ensures more { IfOk result (λ _. self.old.marks < self.new.marks) }
         ensures limit { IsErrOf result WorldEnd.Limit → (g : Given) (log : Log)
-            → Settling C.catalogue S.stands N.stands S.good self.old g log → quiet (all_links g) (calls_of log) ≡ false → EndsBy g }
+            → Settling self.old g log → quiet (all_links g) (calls_of log) ≡ false → EndsBy g }
     {
         let mut events = VecDeque::from_vec(self.net.round()?);
         while let Some(event) = events.pop_front() {
@@ -303,11 +305,11 @@ impl<C: Homes, S: Lawful, N: Network> World<C, S, N> {
 
     /// Carries out rounds until the world is quiet.
     fn settle_down(&mut self) -> Result<(), WorldEnd>
-        requires { (g : Given) × (log : Log) × Settling C.catalogue S.stands N.stands S.good self.old g log }
-        ensures ok { IfOk result (λ _. (g : Given) (log : Log) → Settling C.catalogue S.stands N.stands S.good self.old g log
-            → (more : Log) × StandsFor C.catalogue S.stands N.stands S.good self.new g more) }
+        requires { (g : Given) × (log : Log) × Settling self.old g log }
+        ensures ok { IfOk result (λ _. (g : Given) (log : Log) → Settling self.old g log
+            → (more : Log) × StandsFor self.new g more) }
         ensures limit { IsErrOf result WorldEnd.Limit → (g : Given) (log : Log)
-            → Settling C.catalogue S.stands N.stands S.good self.old g log → EndsBy g }
+            → Settling self.old g log → EndsBy g }
     {
         while !self.quiet() {
             self.round()?;
@@ -323,13 +325,13 @@ impl<C: Homes, S: Lawful, N: Network> World<C, S, N> {
     /// At the first number that is missing, of events or of a link's messages, and for want of
     /// memory; the world is gone then.
     pub fn step(mut self, event: &Event) -> Result<Self, WorldEnd>
-        requires { (g : Given) × (log : Log) × StandsFor C.catalogue S.stands N.stands S.good self g log × IsPossible g event.now
-            × S.good (with_event g event.now) }
-        ensures log { IfOk result (λ world. (g : Given) (log : Log) → StandsFor C.catalogue S.stands N.stands S.good self g log
-            → IsPossible g event.now → S.good (with_event g event.now)
-            → (more : Log) × StandsFor C.catalogue S.stands N.stands S.good world (with_event g event.now) more) }
+        requires { (g : Given) × (log : Log) × StandsFor self g log × IsPossible g event.now
+            × IsGood (with_event g event.now) }
+        ensures log { IfOk result (λ world. (g : Given) (log : Log) → StandsFor self g log
+            → IsPossible g event.now → IsGood (with_event g event.now)
+            → (more : Log) × StandsFor world (with_event g event.now) more) }
         ensures limit { IsErrOf result WorldEnd.Limit → (g : Given) (log : Log)
-            → StandsFor C.catalogue S.stands N.stands S.good self g log → IsPossible g event.now → S.good (with_event g event.now)
+            → StandsFor self g log → IsPossible g event.now → IsGood (with_event g event.now)
             → EndsBy (with_event g event.now) }
     {
         self.given.push(*event)?;
@@ -344,13 +346,13 @@ impl<C: Homes, S: Lawful, N: Network> World<C, S, N> {
     ///
     /// As of `step`.
     pub fn settle(mut self) -> Result<Self, WorldEnd>
-        requires { (g : Given) × (log : Log) × StandsFor C.catalogue S.stands N.stands S.good self g log
-            × S.good (with_event g Settle) }
-        ensures log { IfOk result (λ world. (g : Given) (log : Log) → StandsFor C.catalogue S.stands N.stands S.good self g log
-            → S.good (with_event g Settle)
-            → (more : Log) × StandsFor C.catalogue S.stands N.stands S.good world (with_event g Settle) more) }
+        requires { (g : Given) × (log : Log) × StandsFor self g log
+            × IsGood (with_event g Settle) }
+        ensures log { IfOk result (λ world. (g : Given) (log : Log) → StandsFor self g log
+            → IsGood (with_event g Settle)
+            → (more : Log) × StandsFor world (with_event g Settle) more) }
         ensures limit { IsErrOf result WorldEnd.Limit → (g : Given) (log : Log)
-            → StandsFor C.catalogue S.stands N.stands S.good self g log → S.good (with_event g Settle)
+            → StandsFor self g log → IsGood (with_event g Settle)
             → EndsBy (with_event g Settle) }
     {
         self.given.push(Event::Settle)?;

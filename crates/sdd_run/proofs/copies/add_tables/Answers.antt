@@ -8,18 +8,18 @@ use Rattle.sdd_run.proofs.Results.{after_ok}
 use Rattle.sdd_run.proofs.copies.add_tables.Goals as goal
 
 pub copies-copies-requires : goal.copies-copies-requires
-copies-copies-requires g c = let r = c.requires in (r.0, r.1, r.2, r.3.stands)
+copies-copies-requires c = let r = c.requires in (r.0, r.1, r.2, r.3.stands)
 
 pub add_copies-requires-clause-live : goal.add_copies-requires-clause-live
-add_copies-requires-clause-live g c = let r = c.requires in c.copies-copies.ensures.live r.0 r.1 r.2 r.3.stands
+add_copies-requires-clause-live c = let r = c.requires in c.copies-copies.ensures.live r.0 r.1 r.2 r.3.stands
 
 pub add_copies-requires-clause-here : goal.add_copies-requires-clause-here
-add_copies-requires-clause-here g c = λ f h.
+add_copies-requires-clause-here c = λ f h.
     let r = c.requires in
     c.copies-copies.ensures.here r.0 r.1 r.2 r.3.stands f (ap (λ cat. has_copy cat c.args.dm.0 f) r.3.catalogue_is ∙ h)
 
 pub returns : goal.returns
-returns g c =
+returns c =
     after_ok c.add_copies.result _ _ c.add_copies.ensures (λ made given log here s.
     made (dated (setting_of given (D c.args.dm)) (local_of given (D c.args.dm) log)) (c.copies-copies.ensures.stand given log here s.stands)
     ∙ ap (λ cat. c.args.tables.now.items ++ tables_in cat c.args.dm.0

@@ -8,18 +8,18 @@ use Rattle.sdd_run.proofs.Lists.{each_to}
 use Rattle.sdd_run.proofs.copies.tables.Goals as goal
 
 pub add_tables-requires : goal.add_tables-requires
-add_tables-requires g c =
+add_tables-requires c =
     let r = c.requires in
     (r.0, r.1, dm_of r.0 c.args.catalogue.now (dm_no c.loop-number.number) r.2.catalogue_is c.loop-number.auto.number (omega arith), r.2)
 
 pub loop-number-preserved : goal.loop-number-preserved
-loop-number-preserved g c = λ given log s.
+loop-number-preserved c = λ given log s.
     each_to (tables_at given log) c.loop-number.number c.loop-number.tables.items c.add_tables.new.tables.items
     c.loop-number.auto.number (c.in_ok-add_tables.ensures given log (dm_of given c.args.catalogue.now
     (dm_no c.loop-number.number) s.catalogue_is c.loop-number.auto.number (omega arith)) s)
     (c.loop-number.invariant given log s)
 
 pub returns : goal.returns
-returns g c = λ given log s.
+returns c = λ given log s.
     let all : c.loop-number.number - 1 ≡ c.args.catalogue.now.dms = omega arith in
     c.loop-number.invariant given log s ∙ ap (λ n. flat_map (tables_at given log) (numbers_to n)) (all ∙ ap (λ (k : Catalogue). k.dms) (sym s.catalogue_is))

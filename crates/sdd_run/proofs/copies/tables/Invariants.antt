@@ -7,7 +7,7 @@ use Rattle.sdd_run.specs.Worlds.{StandsOn}
 use Rattle.sdd_run.proofs.copies.tables.Given as goal
 
 abbrev pub invariant-loop-number : goal.invariant-loop-number
-invariant-loop-number g l = (given : Given) (log : Log)
-    → StandsOn g.C.Homes.catalogue g.S.Modules.stands g.N.Network.stands g.S.Lawful.good l.catalogue l.world
+invariant-loop-number l = (given : Given) (log : Log)
+    → StandsOn l.catalogue l.world
     given log
     → l.tables.items ≡ flat_map (tables_at given log) (numbers_to (l.number - 1))

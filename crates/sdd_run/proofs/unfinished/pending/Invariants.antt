@@ -4,9 +4,10 @@ use Rattle.sdd_log.specs.Entries.{Given, Log, history}
 use Rattle.sdd_run.specs.Pending.{pending_by}
 use Rattle.sdd_run.specs.Worlds.{StandsOn}
 use Rattle.sdd_run.proofs.unfinished.pending.Given as goal
+use Rattle.sdd_world.specs.Standings.{standing_of}
 
 abbrev pub invariant-loop-entry : goal.invariant-loop-entry
-invariant-loop-entry g l = (given : Given) (log : Log)
-    → StandsOn g.C.Homes.catalogue g.S.Modules.stands g.N.Network.stands g.S.Lawful.good l.catalogue l.world
+invariant-loop-entry l = (given : Given) (log : Log)
+    → StandsOn l.catalogue l.world
     given log
-    → l.found.items ≡ filter_map (pending_by g.S.Modules.standing given log (history log)) (take l.entry-index l.history)
+    → l.found.items ≡ filter_map (pending_by standing_of given log (history log)) (take l.entry-index l.history)

@@ -3,11 +3,10 @@ use Rattle.sdd_catalog.specs.Catalogue.{Catalogue}
 use Rattle.sdd_lang.specs.Fits.{Fits}
 use Rattle.sdd_log.specs.Due.{home_of as site_of}
 use Rattle.sdd_run.proofs.Homes.{no_txn, txn_read}
-use Rattle.sdd_run.proofs.Results.{of_ok}
 use Rattle.sdd_run.proofs.waits.home_of.Goals as goal
 
 pub home-requires : goal.home-requires
-home-requires g c =
+home-requires c =
     let r = c.requires in
     let p = r.2.calm.parts in
     let is = txn_read r.0 c.args.number.0 c.saturating_sub-place.result c.args.world.now.txns
@@ -16,16 +15,15 @@ home-requires g c =
     subst (λ (k : Catalogue). Fits k c.in-Some.txn.now) (sym p.catalogue_is) (p.sound.txns_fit c.args.number.0 c.in-Some.txn.now is)
 
 pub returns-in-Some : goal.returns-in-Some
-returns-in-Some g c =
-    of_ok c.home.result _ _ c.home.ensures (λ at e given log s.
+returns-in-Some c = λ given log s.
     let p = s.calm.parts in
     let is = txn_read given c.args.number.0 c.saturating_sub-place.result c.args.world.now.txns
     c.as_slice.result.now c.in-Some.txn.now p.txns_are c.as_slice.ensures c.saturating_sub-place.ensures
     c.in-Some.ensures.lookup.3.0 c.in-Some.ensures.lookup.1 in
-    e ∙ ap (λ (k : Catalogue). site_of k (Some c.in-Some.txn.now)) p.catalogue_is ∙ ap (site_of given.catalogue) (sym is))
+    c.home.ensures ∙ ap (λ (k : Catalogue). site_of k (Some c.in-Some.txn.now)) p.catalogue_is ∙ ap (site_of given.catalogue) (sym is)
 
 pub returns-in-None : goal.returns-in-None
-returns-in-None g c = λ given log s.
+returns-in-None c = λ given log s.
     sym (ap (site_of given.catalogue) (no_txn given c.args.number.0 c.saturating_sub-place.result
     c.args.world.now.txns c.as_slice.result.now s.calm.parts.txns_are c.as_slice.ensures
     c.saturating_sub-place.ensures c.in-None.ensures.lookup.3))

@@ -9,12 +9,12 @@ use Rattle.sdd_run.proofs.Outsiders.{no_waits}
 use Rattle.sdd_run.proofs.waits.waits.Goals as goal
 
 pub add_wait-requires : goal.add_wait-requires
-add_wait-requires g c =
+add_wait-requires c =
     let r = c.requires in
     (r.0, r.1, dm_of r.0 c.args.catalogue.now (dm_no c.loop-number.number) r.2.catalogue_is c.loop-number.auto.number (omega arith), r.2.stands)
 
 pub loop-number-preserved : goal.loop-number-preserved
-loop-number-preserved g c = λ given log s.
+loop-number-preserved c = λ given log s.
     let here = dm_of given c.args.catalogue.now (dm_no c.loop-number.number) s.catalogue_is c.loop-number.auto.number (omega arith) in
     let declared : c.args.class.0 ≤ length c.args.catalogue.now.classes = omega arith in
     picked_to (wait_at given log c.args.class.0 c.args.ts.0) c.loop-number.number c.loop-number.found.items c.add_wait.new.found.items
@@ -23,7 +23,7 @@ loop-number-preserved g c = λ given log s.
     (c.loop-number.invariant given log s)
 
 pub returns-then-class-classes : goal.returns-then-class-classes
-returns-then-class-classes g c = λ given log s.
+returns-then-class-classes c = λ given log s.
     let far : length c.args.catalogue.now.classes < c.args.class.0 = omega arith in
     let none : c.new-found.result.items ≡ [] = search rules in
     none ∙ sym (no_waits given c.args.class.0 c.args.ts.0
@@ -31,7 +31,7 @@ returns-then-class-classes g c = λ given log s.
     s.stands.calm.rests.lawful)
 
 pub returns : goal.returns
-returns g c = λ given log s.
+returns c = λ given log s.
     let all : c.loop-number.number - 1 ≡ c.args.catalogue.now.dms = omega arith in
     c.loop-number.invariant given log s ∙ ap (λ n. filter_map (wait_at given log c.args.class.0 c.args.ts.0)
     (numbers_to n)) (all ∙ ap (λ (k : Catalogue). k.dms) (sym s.catalogue_is))

@@ -3,17 +3,17 @@ use Rattle.sdd_world.proofs.Failing.{handed_on}
 use Rattle.sdd_world.proofs.putting.send_all.Goals as goal
 
 pub send_one-requires : goal.send_one-requires
-send_one-requires g c = can_send g.N.Network.stands c.args.net.now c.loop-to.net c.args.at c.args.out
+send_one-requires c = can_send c.args.net.now c.loop-to.net c.args.at c.args.out
     c.loop-to.left.items c.pop_front.new.self.items (c.in-Some.to, c.in-Some.msg) c.loop-to.invariant
     c.in-Some.ensures.items
 
 pub loop-to-preserved : goal.loop-to-preserved
-loop-to-preserved g c = sends_on g.N.Network.stands c.args.net.now c.loop-to.net c.send_one.new.net
+loop-to-preserved c = sends_on c.args.net.now c.loop-to.net c.send_one.new.net
     c.args.at c.args.out c.loop-to.left.items c.pop_front.new.self.items (c.in-Some.to, c.in-Some.msg)
     c.loop-to.invariant c.in-Some.ensures.items c.in_ok-send_one.ensures.ok
 
 pub returns-in_err-send_one-clause-limit : goal.returns-in_err-send_one-clause-limit
-returns-in_err-send_one-clause-limit g c = λ e.
-    sends_past g.N.Network.stands c.args.net.now c.loop-to.net c.args.at c.args.out c.loop-to.left.items
+returns-in_err-send_one-clause-limit c = λ e.
+    sends_past c.args.net.now c.loop-to.net c.args.at c.args.out c.loop-to.left.items
     c.pop_front.new.self.items (c.in-Some.to, c.in-Some.msg) c.loop-to.invariant c.in-Some.ensures.items
     (c.in_err-send_one.ensures.limit (handed_on c.from_residual.result c.in_err-send_one.field-0.0 c.from_residual.ensures.1 e))

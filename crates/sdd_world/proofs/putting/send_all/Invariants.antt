@@ -3,7 +3,7 @@ use Rattle.sdd_world.specs.Following.{Sending}
 use Rattle.sdd_world.proofs.putting.send_all.Given as goal
 
 abbrev pub invariant-loop-to : goal.invariant-loop-to
-invariant-loop-to g l = Sending g.N.Network.stands l.fn.net l.net l.at l.fn.out l.left.items
+invariant-loop-to l = Sending l.fn.net l.net l.at l.fn.out l.left.items
 
 abbrev pub decreases-loop-to : goal.decreases-loop-to
-decreases-loop-to g l = length l.left.items
+decreases-loop-to l = length l.left.items

@@ -6,18 +6,16 @@ use Rattle.sdd_world.proofs.Delivering.{arrives, got_ack, got_nothing}
 use Rattle.sdd_world.proofs.world.World.deliver.Goals as goal
 
 pub note-requires : goal.note-requires
-note-requires g c = let r = c.requires in order_of g.C.Homes.catalogue g.S.Modules.stands g.N.Network.stands
-    g.S.Lawful.good c.args.self.now r.0 r.1 (Deliver c.args.from c.args.to c.args.place) r.2
+note-requires c = let r = c.requires in order_of c.args.self.now r.0 r.1 (Deliver c.args.from c.args.to c.args.place) r.2
 
 pub receive-requires : goal.receive-requires
-receive-requires g c =
+receive-requires c =
     let r = c.requires in (
       r.0,
       r.1,
       c.args.self.now,
       c.args.place,
-      arrives g.C.Homes.catalogue g.S.Modules.stands
-          g.N.Network.stands g.S.Lawful.good c.args.self.now (record c.args.self.now {
+      arrives c.args.self.now (record c.args.self.now {
             net =
                 c.deliver.new.self;
           }) r.0 r.1 c.args.from c.args.to c.args.place c.in_ok-deliver.field-0
@@ -26,30 +24,30 @@ receive-requires g c =
     )
 
 pub returns-in_ok-note-in-Nothing-clause-ok : goal.returns-in_ok-note-in-Nothing-clause-ok
-returns-in_ok-note-in-Nothing-clause-ok g c = λ given log m.
-    got_nothing g.C.Homes.catalogue g.S.Modules.stands g.N.Network.stands g.S.Lawful.good c.args.self.now
+returns-in_ok-note-in-Nothing-clause-ok c = λ given log m.
+    got_nothing c.args.self.now
     c.note.new.self c.deliver.new.self given log c.args.from c.args.to c.args.place
     c.in_ok-deliver.field-0 m c.in_ok-deliver.ensures.given c.in_ok-deliver.ensures.ok c.in-Nothing.is
     c.in_ok-note-in-Nothing.ensures.same c.in_ok-note-in-Nothing.ensures.history
 
 pub returns-in-Acked-clause-ok : goal.returns-in-Acked-clause-ok
-returns-in-Acked-clause-ok g c = λ given log m.
-    got_ack g.C.Homes.catalogue g.S.Modules.stands g.N.Network.stands g.S.Lawful.good c.args.self.now
+returns-in-Acked-clause-ok c = λ given log m.
+    got_ack c.args.self.now
     (record c.args.self.now { net = c.deliver.new.self }) given log c.args.from c.args.to c.args.place
     c.in_ok-deliver.field-0 m c.in_ok-deliver.ensures.given c.in_ok-deliver.ensures.ok c.in-Acked.is refl
 
 pub returns-in-Messages-clause-ok : goal.returns-in-Messages-clause-ok
-returns-in-Messages-clause-ok g c = map_ok c.receive.result _ _ c.receive.ensures.ok (λ x f given log m.
+returns-in-Messages-clause-ok c = map_ok c.receive.result _ _ c.receive.ensures.ok (λ x f given log m.
     f given log c.args.self.now c.args.place
-    (arrives g.C.Homes.catalogue g.S.Modules.stands g.N.Network.stands g.S.Lawful.good c.args.self.now
+    (arrives c.args.self.now
     (record c.args.self.now { net = c.deliver.new.self }) given log c.args.from c.args.to c.args.place
     c.in_ok-deliver.field-0 c.in-Messages.messages m c.in_ok-deliver.ensures.given
     c.in_ok-deliver.ensures.ok c.in-Messages.is refl))
 
 pub returns-in-Messages-clause-limit : goal.returns-in-Messages-clause-limit
-returns-in-Messages-clause-limit g c = λ e given log m.
+returns-in-Messages-clause-limit c = λ e given log m.
     c.receive.ensures.limit e given log c.args.self.now c.args.place
-    (arrives g.C.Homes.catalogue g.S.Modules.stands g.N.Network.stands g.S.Lawful.good c.args.self.now
+    (arrives c.args.self.now
     (record c.args.self.now { net = c.deliver.new.self }) given log c.args.from c.args.to c.args.place
     c.in_ok-deliver.field-0 c.in-Messages.messages m c.in_ok-deliver.ensures.given
     c.in_ok-deliver.ensures.ok c.in-Messages.is refl)

@@ -7,24 +7,22 @@ use Rattle.sdd_world.proofs.Turning.{was_down, went_down}
 use Rattle.sdd_world.proofs.world.World.go_down.Goals as goal
 
 pub down-requires-clause-first : goal.down-requires-clause-first
-down-requires-clause-first g c = let r = c.requires in first_in r.0 r.1 c.args.self.now.spool c.args.dm _ r.2.possible r.2.spooled
+down-requires-clause-first c = let r = c.requires in first_in r.0 r.1 c.args.self.now.spool c.args.dm _ r.2.possible r.2.spooled
 
 pub down-requires-clause-last : goal.down-requires-clause-last
-down-requires-clause-last g c = let r = c.requires in last_in r.0 r.1 c.args.self.now.spool c.args.dm _ r.2.possible r.2.spooled
+down-requires-clause-last c = let r = c.requires in last_in r.0 r.1 c.args.self.now.spool c.args.dm _ r.2.possible r.2.spooled
 
 pub returns-then-down : goal.returns-then-down
-returns-then-down g c = λ given log m. went_down g.C.Homes.catalogue g.S.Modules.stands g.N.Network.stands
-    g.S.Lawful.good c.args.self.now (record c.args.self.now { spool = c.down.new.self }) given log c.args.dm
+returns-then-down c = λ given log m. went_down c.args.self.now (record c.args.self.now { spool = c.down.new.self }) given log c.args.dm
     c.down.result m c.down.ensures.turned
     (c.down.ensures.mailbox, c.down.ensures.count, c.down.ensures.others) c.if-down.true refl
 
 pub note-requires : goal.note-requires
-note-requires g c = let r = c.requires in order_of g.C.Homes.catalogue g.S.Modules.stands g.N.Network.stands
-    g.S.Lawful.good c.args.self.now r.0 r.1 (Down c.args.dm) r.2
+note-requires c = let r = c.requires in order_of c.args.self.now r.0 r.1 (Down c.args.dm) r.2
 
 pub returns : goal.returns
-returns g c = on_ok c.note.result _ _ _ c.note.ensures.same c.note.ensures.history (λ same noted given log m.
-    was_down g.C.Homes.catalogue g.S.Modules.stands g.N.Network.stands g.S.Lawful.good c.args.self.now
+returns c = on_ok c.note.result _ _ _ c.note.ensures.same c.note.ensures.history (λ same noted given log m.
+    was_down c.args.self.now
     (record c.args.self.now { spool = c.down.new.self }) c.note.new.self given log c.args.dm c.down.result
     m c.down.ensures.turned (c.down.ensures.mailbox, c.down.ensures.count, c.down.ensures.others)
     c.if-down.false refl same noted)

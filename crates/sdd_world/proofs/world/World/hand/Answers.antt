@@ -3,46 +3,37 @@ use Rattle.sdd_world.proofs.Handing.{events_order, hand_asks, hand_done, hand_en
 use Rattle.sdd_world.proofs.world.World.hand.Goals as goal
 
 pub take-requires : goal.take-requires
-take-requires g c = let r = c.requires in hand_asks g.C.Homes.catalogue g.S.Modules.stands
-    g.N.Network.stands g.S.Lawful.good g.S.Modules.fits g.S.Modules.fits_submit g.S.Modules.fits_tick
-    g.met.S.Lawful.facts c.args.self.now r.0 r.1 c.args.from c.args.to c.args.msg r.2 r.3 r.4 r.5
+take-requires c = let r = c.requires in hand_asks c.args.self.now r.0 r.1 c.args.from c.args.to c.args.msg r.2 r.3 r.4 r.5
 
 pub follow-requires-clause-sends : goal.follow-requires-clause-sends
-follow-requires-clause-sends g c =
+follow-requires-clause-sends c =
     let r = c.requires in
-    may_send g.C.Homes.catalogue g.S.Modules.stands g.N.Network.stands g.S.Lawful.good g.S.Modules.fits
-    g.S.Modules.fits_submit g.S.Modules.fits_tick g.met.S.Lawful.facts c.args.self.now r.0 r.1 c.args.from
+    may_send c.args.self.now r.0 r.1 c.args.from
     c.args.to c.args.msg r.2 r.3 r.4 r.5 c.take.new.self c.in_ok-outcome.outcome
-    (taken g.C.Homes.catalogue g.S.Modules.stands g.N.Network.stands g.S.Lawful.good g.S.Modules.fits
-    g.S.Modules.fits_submit g.S.Modules.fits_tick g.met.S.Lawful.facts c.args.self.now r.0 r.1 c.args.from
+    (taken c.args.self.now r.0 r.1 c.args.from
     c.args.to c.args.msg r.2 r.3 r.4 r.5 c.take.new.self c.in_ok-outcome.outcome
     c.in_ok-outcome.ensures.law)
 
 pub follow-requires-clause-order : goal.follow-requires-clause-order
-follow-requires-clause-order g c = let r =
-    c.requires in events_order g.C.Homes.catalogue g.S.Modules.stands g.N.Network.stands g.S.Lawful.good
-    g.S.Modules.fits g.S.Modules.fits_submit g.S.Modules.fits_tick g.met.S.Lawful.facts c.args.self.now r.0
+follow-requires-clause-order c = let r =
+    c.requires in events_order c.args.self.now r.0
     r.1 c.args.from c.args.to c.args.msg r.2 r.3 r.4 r.5
 
 pub returns-clause-ok : goal.returns-clause-ok
-returns-clause-ok g c = map_ok c.follow.result _ _ c.follow.ensures.ok (λ x f given log kept less rest h first k.
-    hand_done g.C.Homes.catalogue g.S.Modules.stands g.N.Network.stands g.S.Lawful.good g.S.Modules.fits
-    g.S.Modules.fits_submit g.S.Modules.fits_tick g.met.S.Lawful.facts c.args.self.now given log
+returns-clause-ok c = map_ok c.follow.result _ _ c.follow.ensures.ok (λ x f given log kept less rest h first k.
+    hand_done c.args.self.now given log
     c.args.from c.args.to c.args.msg kept rest h first c.take.new.self c.in_ok-outcome.outcome
     c.follow.new.self less
-    (taken g.C.Homes.catalogue g.S.Modules.stands g.N.Network.stands g.S.Lawful.good g.S.Modules.fits
-    g.S.Modules.fits_submit g.S.Modules.fits_tick g.met.S.Lawful.facts c.args.self.now given log
+    (taken c.args.self.now given log
     c.args.from c.args.to c.args.msg kept rest h first c.take.new.self c.in_ok-outcome.outcome
     c.in_ok-outcome.ensures.law)
     k c.in_ok-outcome.ensures.others f)
 
 pub returns-clause-limit : goal.returns-clause-limit
-returns-clause-limit g c = λ e given log kept rest h first.
-    hand_ends g.C.Homes.catalogue g.S.Modules.stands g.N.Network.stands g.S.Lawful.good g.S.Modules.fits
-    g.S.Modules.fits_submit g.S.Modules.fits_tick g.met.S.Lawful.facts c.args.self.now given log
+returns-clause-limit c = λ e given log kept rest h first.
+    hand_ends c.args.self.now given log
     c.args.from c.args.to c.args.msg kept rest h first c.take.new.self c.in_ok-outcome.outcome
-    (taken g.C.Homes.catalogue g.S.Modules.stands g.N.Network.stands g.S.Lawful.good g.S.Modules.fits
-    g.S.Modules.fits_submit g.S.Modules.fits_tick g.met.S.Lawful.facts c.args.self.now given log
+    (taken c.args.self.now given log
     c.args.from c.args.to c.args.msg kept rest h first c.take.new.self c.in_ok-outcome.outcome
     c.in_ok-outcome.ensures.law)
     (c.follow.ensures.limit e)

@@ -5,10 +5,10 @@ use Rattle.sdd_world.proofs.Turning.{boxed, first_kept, less_kept, none_left, ri
 use Rattle.sdd_world.proofs.world.World.hand_kept.Goals as goal
 
 pub hand-requires : goal.hand-requires
-hand-requires g c =
+hand-requires c =
     let i = c.loop-from.invariant.some in
     let e = c.in-Some.ensures in
-    let t = taken_out g.C.Homes.catalogue g.S.Modules.stands g.N.Network.stands g.S.Lawful.good
+    let t = taken_out
     c.loop-from.self (record c.loop-from.self { spool = c.take.new.self }) i.0 i.1 c.args.dm
     c.in-Some.from c.in-Some.msg i.2 i.3 e.message.0 e.count e.others refl in (
       i.0,
@@ -17,60 +17,59 @@ hand-requires g c =
       kept_from
           (mailbox_at c.take.new.self c.args.dm.0) c.in-Some.from,
       t.0,
-      first_kept g.C.Homes.catalogue
-          g.S.Modules.stands g.N.Network.stands g.S.Lawful.good i.0 c.loop-from.self.spool c.take.new.self
+      first_kept i.0 c.loop-from.self.spool c.take.new.self
           c.args.dm c.in-Some.from c.in-Some.msg i.3 e.message.0 e.message.1,
     )
 
 pub loop-from-smaller : goal.loop-from-smaller
-loop-from-smaller g c =
+loop-from-smaller c =
     let i = c.loop-from.invariant.some in
     let e = c.in-Some.ensures in
-    let t = taken_out g.C.Homes.catalogue g.S.Modules.stands g.N.Network.stands g.S.Lawful.good
+    let t = taken_out
     c.loop-from.self (record c.loop-from.self { spool = c.take.new.self }) i.0 i.1 c.args.dm
     c.in-Some.from c.in-Some.msg i.2 i.3 e.message.0 e.count e.others refl in
     let d = c.in_ok-hand.ensures.ok i.0 i.1 (kept_from (mailbox_at c.loop-from.self.spool c.args.dm.0))
     (kept_from (mailbox_at c.take.new.self c.args.dm.0))
     (kept_from (mailbox_at c.take.new.self c.args.dm.0) c.in-Some.from) t.0
-    (first_kept g.C.Homes.catalogue g.S.Modules.stands g.N.Network.stands g.S.Lawful.good i.0
+    (first_kept i.0
     c.loop-from.self.spool c.take.new.self c.args.dm c.in-Some.from c.in-Some.msg i.3 e.message.0
-    e.message.1) (less_kept g.C.Homes.catalogue g.S.Modules.stands g.N.Network.stands g.S.Lawful.good
+    e.message.1) (less_kept
     c.loop-from.self.spool c.take.new.self c.args.dm c.in-Some.from c.in-Some.msg e.message.0) in
     boxed c.loop-from.self.spool c.take.new.self c.hand.new.self.spool c.args.dm.0 d.spool_is e.message.0.fewer
 
 pub loop-from-preserved : goal.loop-from-preserved
-loop-from-preserved g c =
+loop-from-preserved c =
     let i = c.loop-from.invariant.some in
     let e = c.in-Some.ensures in
     record {
-      some = (let r = rising_on g.C.Homes.catalogue g.S.Modules.stands g.N.Network.stands g.S.Lawful.good
+      some = (let r = rising_on
           c.loop-from.self c.take.new.self c.hand.new.self i.0 i.1 c.args.dm c.in-Some.from c.in-Some.msg i.2
           i.3 e.message.0 e.message.1 e.count e.others c.in_ok-hand.ensures.ok in (i.0, r.0, r.1, r.2));
       so_far = λ given log h k.
           (let j = c.loop-from.invariant.so_far given log h k in
-          let r = rising_on g.C.Homes.catalogue g.S.Modules.stands g.N.Network.stands g.S.Lawful.good
+          let r = rising_on
           c.loop-from.self c.take.new.self c.hand.new.self given j.0 c.args.dm c.in-Some.from
           c.in-Some.msg j.1 j.2 e.message.0 e.message.1 e.count e.others c.in_ok-hand.ensures.ok in
           (r.0, r.1, r.2, r.3 ∙ j.3));
     }
 
 pub returns-in_err-hand-clause-limit : goal.returns-in_err-hand-clause-limit
-returns-in_err-hand-clause-limit g c = λ x given log h k.
+returns-in_err-hand-clause-limit c = λ x given log h k.
     let j = c.loop-from.invariant.so_far given log h k in
     let e = c.in-Some.ensures in
-    let t = taken_out g.C.Homes.catalogue g.S.Modules.stands g.N.Network.stands g.S.Lawful.good
+    let t = taken_out
     c.loop-from.self (record c.loop-from.self { spool = c.take.new.self }) given j.0 c.args.dm
     c.in-Some.from c.in-Some.msg j.1 j.2 e.message.0 e.count e.others refl in
     c.in_err-hand.ensures.limit (handed_on c.from_residual.result c.in_err-hand.field-0.0
     c.from_residual.ensures.1 x) given j.0 (kept_from (mailbox_at c.loop-from.self.spool c.args.dm.0))
     (kept_from (mailbox_at c.take.new.self c.args.dm.0) c.in-Some.from) t.0
-    (first_kept g.C.Homes.catalogue g.S.Modules.stands g.N.Network.stands g.S.Lawful.good given
+    (first_kept given
     c.loop-from.self.spool c.take.new.self c.args.dm c.in-Some.from c.in-Some.msg j.2 e.message.0
     e.message.1)
 
 pub returns-clause-ok : goal.returns-clause-ok
-returns-clause-ok g c = λ given log h k.
+returns-clause-ok c = λ given log h k.
     let j = c.loop-from.invariant.so_far given log h k in
     let e = c.in_default.ensures in
-    none_left g.C.Homes.catalogue g.S.Modules.stands g.N.Network.stands g.S.Lawful.good c.loop-from.self
+    none_left c.loop-from.self
     c.take.new.self given log j.0 c.args.dm j.1 j.2 j.3 e.message.0 e.message.1 e.count e.others

@@ -6,17 +6,15 @@ use Rattle.sdd_world.specs.Standing.{ahead_of, Handing, Rising}
 use Rattle.sdd_world.proofs.world.World.hand_kept.Given as goal
 
 abbrev pub invariant-loop-from : goal.invariant-loop-from
-invariant-loop-from g l = record {
-  some : (given : Given) × (log : Log) × Handing g.C.Homes.catalogue g.S.Modules.stands g.N.Network.stands
-      g.S.Lawful.good l.self given log (D l.dm) (kept_from (mailbox_at l.self.spool l.dm.0))
+invariant-loop-from l = record {
+  some : (given : Given) × (log : Log) × Handing l.self given log (D l.dm) (kept_from (mailbox_at l.self.spool l.dm.0))
       × Rising given l.self.spool l.dm.0;
-  so_far : (given : Given) (log : Log) → Handing g.C.Homes.catalogue g.S.Modules.stands g.N.Network.stands
-      g.S.Lawful.good l.fn.self given log (D l.dm) (kept_from (mailbox_at l.fn.self.spool l.dm.0))
+  so_far : (given : Given) (log : Log) → Handing l.fn.self given log (D l.dm) (kept_from (mailbox_at l.fn.self.spool l.dm.0))
       → Rising given l.fn.self.spool l.dm.0
-      → (more : Log) × Handing g.C.Homes.catalogue g.S.Modules.stands g.N.Network.stands g.S.Lawful.good
+      → (more : Log) × Handing
       l.self given more (D l.dm) (kept_from (mailbox_at l.self.spool l.dm.0))
       × Rising given l.self.spool l.dm.0 × (ahead_of given more ≡ ahead_of given log);
 }
 
 abbrev pub decreases-loop-from : goal.decreases-loop-from
-decreases-loop-from g l = kept_count (mailbox_at l.self.spool l.dm.0)
+decreases-loop-from l = kept_count (mailbox_at l.self.spool l.dm.0)

@@ -5,15 +5,15 @@ use Rattle.sdd_world.proofs.Rounds.{marked_next}
 use Rattle.sdd_world.proofs.world.World.happen.Goals as goal
 
 pub returns-in-Deliver-clause-ok : goal.returns-in-Deliver-clause-ok
-returns-in-Deliver-clause-ok g c = map_ok c.deliver.result _ _ c.deliver.ensures.ok (λ x f given log b.
-    f given log (marked_next g.C.Homes.catalogue g.S.Modules.stands g.N.Network.stands g.S.Lawful.good
+returns-in-Deliver-clause-ok c = map_ok c.deliver.result _ _ c.deliver.ensures.ok (λ x f given log b.
+    f given log (marked_next
     c.args.self.now (record c.args.self.now { marks = c.args.self.now.marks + 1 }) given log
     c.args.event.now
     (Deliver c.in-Deliver.from c.in-Deliver.to c.in-Deliver.place) b c.in-Deliver.is c.if-self.false refl))
 
 pub returns-in-Up-clause-ok : goal.returns-in-Up-clause-ok
-returns-in-Up-clause-ok g c = map_ok c.come_up.result _ _ c.come_up.ensures.ok (λ x f given log b.
-    f given log (marked_next g.C.Homes.catalogue g.S.Modules.stands g.N.Network.stands g.S.Lawful.good
+returns-in-Up-clause-ok c = map_ok c.come_up.result _ _ c.come_up.ensures.ok (λ x f given log b.
+    f given log (marked_next
     c.args.self.now (record c.args.self.now { marks = c.args.self.now.marks + 1 }) given log
     c.args.event.now
     (Up c.in-Up.dm) b c.in-Up.is c.if-self.false refl))

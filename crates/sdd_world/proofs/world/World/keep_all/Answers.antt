@@ -2,28 +2,26 @@ use Rattle.sdd_world.proofs.Keeping.{all_put, same_again, put_one}
 use Rattle.sdd_world.proofs.world.World.keep_all.Goals as goal
 
 pub loop-msg-preserved : goal.loop-msg-preserved
-loop-msg-preserved g c =
+loop-msg-preserved c =
     let i = c.loop-msg.invariant in
     let e = c.in_ok-put.ensures in
     record {
-      same = same_again g.C.Homes.catalogue g.S.Modules.stands g.N.Network.stands g.S.Lawful.good c.args.self.now c.loop-msg.self c.put.new.self i.same;
+      same = same_again c.args.self.now c.loop-msg.self c.put.new.self i.same;
       some = (
         i.some.0,
         i.some.1,
-        put_one g.C.Homes.catalogue g.S.Modules.stands g.N.Network.stands
-            g.S.Lawful.good i.some.0 i.some.1 c.loop-msg.self.spool c.put.new.self c.args.from c.args.dm.0
+        put_one i.some.0 i.some.1 c.loop-msg.self.spool c.put.new.self c.args.from c.args.dm.0
             c.loop-msg.queue.items c.pop_front.new.self.items c.in-Some.msg c.in-Some.ensures.items i.some.2
             e.mailbox e.count e.others,
       );
-      so_far = λ given log k. put_one g.C.Homes.catalogue g.S.Modules.stands g.N.Network.stands
-          g.S.Lawful.good given log c.loop-msg.self.spool c.put.new.self c.args.from c.args.dm.0
+      so_far = λ given log k. put_one given log c.loop-msg.self.spool c.put.new.self c.args.from c.args.dm.0
           c.loop-msg.queue.items c.pop_front.new.self.items c.in-Some.msg c.in-Some.ensures.items
           (i.so_far given log k) e.mailbox e.count e.others;
     }
 
 pub returns-clause-kept : goal.returns-clause-kept
-returns-clause-kept g c = λ given log k.
-    all_put g.C.Homes.catalogue g.S.Modules.stands g.N.Network.stands g.S.Lawful.good given log
+returns-clause-kept c = λ given log k.
+    all_put given log
     c.loop-msg.self.spool c.args.from c.args.dm.0 c.loop-msg.queue.items
     (c.loop-msg.invariant.so_far given log k) c.loop-msg.queue.len c.loop-msg.queue.ok.0
     c.in_default.ensures.cases.0

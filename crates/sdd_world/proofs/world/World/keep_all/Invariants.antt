@@ -4,7 +4,7 @@ use Rattle.sdd_world.specs.Standing.{Keeping}
 use Rattle.sdd_world.proofs.world.World.keep_all.Given as goal
 
 abbrev pub invariant-loop-msg : goal.invariant-loop-msg
-invariant-loop-msg g l = record {
+invariant-loop-msg l = record {
   same : l.self ≡ record l.fn.self { spool = l.self.spool };
   some : (given : Given) × (log : Log) × Keeping given log l.self.spool l.from l.dm.0 l.queue.items;
   so_far : (given : Given) (log : Log) → Keeping given log l.fn.self.spool l.from l.dm.0 l.fn.messages
@@ -12,4 +12,4 @@ invariant-loop-msg g l = record {
 }
 
 abbrev pub decreases-loop-msg : goal.decreases-loop-msg
-decreases-loop-msg g l = length l.queue.items
+decreases-loop-msg l = length l.queue.items

@@ -5,16 +5,14 @@ use Rattle.sdd_base.specs.declared.event.Event.TheVariants.{Lose}
 use Rattle.sdd_world.proofs.world.World.lose.Goals as goal
 
 pub returns-then-lose : goal.returns-then-lose
-returns-then-lose g c = λ given log m. lost g.C.Homes.catalogue g.S.Modules.stands g.N.Network.stands
-    g.S.Lawful.good c.args.self.now (record c.args.self.now { net = c.lose.new.self }) given log c.args.from
+returns-then-lose c = λ given log m. lost c.args.self.now (record c.args.self.now { net = c.lose.new.self }) given log c.args.from
     c.args.to c.args.place c.lose.result m c.lose.ensures.there c.lose.ensures.ok c.if-lose.true refl
 
 pub note-requires : goal.note-requires
-note-requires g c = let r = c.requires in order_of g.C.Homes.catalogue g.S.Modules.stands g.N.Network.stands
-    g.S.Lawful.good c.args.self.now r.0 r.1 (Lose c.args.from c.args.to c.args.place) r.2
+note-requires c = let r = c.requires in order_of c.args.self.now r.0 r.1 (Lose c.args.from c.args.to c.args.place) r.2
 
 pub returns : goal.returns
-returns g c = on_ok c.note.result _ _ _ c.note.ensures.same c.note.ensures.history (λ same noted given log m.
-    lost_nothing g.C.Homes.catalogue g.S.Modules.stands g.N.Network.stands g.S.Lawful.good c.args.self.now
+returns c = on_ok c.note.result _ _ _ c.note.ensures.same c.note.ensures.history (λ same noted given log m.
+    lost_nothing c.args.self.now
     c.note.new.self c.lose.new.self given log c.args.from c.args.to c.args.place c.lose.result m
     c.lose.ensures.there c.lose.ensures.ok c.if-lose.false same noted)

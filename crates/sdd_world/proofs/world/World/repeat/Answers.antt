@@ -5,18 +5,16 @@ use Rattle.sdd_base.specs.declared.event.Event.TheVariants.{Repeat}
 use Rattle.sdd_world.proofs.world.World.repeat.Goals as goal
 
 pub returns-then-branch : goal.returns-then-branch
-returns-then-branch g c = λ given log m. repeated g.C.Homes.catalogue g.S.Modules.stands g.N.Network.stands
-    g.S.Lawful.good c.args.self.now (record c.args.self.now { net = c.repeat.new.self }) given log
+returns-then-branch c = λ given log m. repeated c.args.self.now (record c.args.self.now { net = c.repeat.new.self }) given log
     c.args.from c.args.to c.args.place c.in_ok-repeat.field-0 m c.in_ok-repeat.ensures.there
     c.in_ok-repeat.ensures.ok c.if-branch.true refl
 
 pub note-requires : goal.note-requires
-note-requires g c = let r = c.requires in order_of g.C.Homes.catalogue g.S.Modules.stands g.N.Network.stands
-    g.S.Lawful.good c.args.self.now r.0 r.1 (Repeat c.args.from c.args.to c.args.place) r.2
+note-requires c = let r = c.requires in order_of c.args.self.now r.0 r.1 (Repeat c.args.from c.args.to c.args.place) r.2
 
 pub returns : goal.returns
-returns g c = on_ok c.note.result _ _ _ c.note.ensures.same c.note.ensures.history (λ same noted given log m.
-    repeated_nothing g.C.Homes.catalogue g.S.Modules.stands g.N.Network.stands g.S.Lawful.good
+returns c = on_ok c.note.result _ _ _ c.note.ensures.same c.note.ensures.history (λ same noted given log m.
+    repeated_nothing
     c.args.self.now c.note.new.self c.repeat.new.self given log c.args.from c.args.to c.args.place
     c.in_ok-repeat.field-0 m c.in_ok-repeat.ensures.there c.in_ok-repeat.ensures.ok c.if-branch.false same
     noted)

@@ -5,17 +5,15 @@ use Rattle.sdd_base.specs.declared.event.Event.TheVariants.{Resend}
 use Rattle.sdd_world.proofs.world.World.resend.Goals as goal
 
 pub returns-then-branch : goal.returns-then-branch
-returns-then-branch g c = λ given log m. resent g.C.Homes.catalogue g.S.Modules.stands g.N.Network.stands
-    g.S.Lawful.good c.args.self.now (record c.args.self.now { net = c.resend.new.self }) given log
+returns-then-branch c = λ given log m. resent c.args.self.now (record c.args.self.now { net = c.resend.new.self }) given log
     c.args.from c.args.to c.in_ok-resend.field-0 m c.in_ok-resend.ensures.some c.in_ok-resend.ensures.ok
     c.if-branch.true refl
 
 pub note-requires : goal.note-requires
-note-requires g c = let r = c.requires in order_of g.C.Homes.catalogue g.S.Modules.stands g.N.Network.stands
-    g.S.Lawful.good c.args.self.now r.0 r.1 (Resend c.args.from c.args.to) r.2
+note-requires c = let r = c.requires in order_of c.args.self.now r.0 r.1 (Resend c.args.from c.args.to) r.2
 
 pub returns : goal.returns
-returns g c = on_ok c.note.result _ _ _ c.note.ensures.same c.note.ensures.history (λ same noted given log m.
-    resent_nothing g.C.Homes.catalogue g.S.Modules.stands g.N.Network.stands g.S.Lawful.good c.args.self.now
+returns c = on_ok c.note.result _ _ _ c.note.ensures.same c.note.ensures.history (λ same noted given log m.
+    resent_nothing c.args.self.now
     c.note.new.self c.resend.new.self given log c.args.from c.args.to c.in_ok-resend.field-0 m
     c.in_ok-resend.ensures.some c.in_ok-resend.ensures.ok c.if-branch.false same noted)

@@ -4,72 +4,71 @@ use Rattle.sdd_world.proofs.Rounds.{no_items, one_mark, round_after, round_befor
 use Rattle.sdd_world.proofs.world.World.round.Goals as goal
 
 pub loop-event-init : goal.loop-event-init
-loop-event-init g c =
+loop-event-init c =
     let r = c.requires in
-    let b = round_begins g.C.Homes.catalogue g.S.Modules.stands g.N.Network.stands g.S.Lawful.good
+    let b = round_begins
     c.args.self.now r.0 r.1 c.from_vec-events.result.items r.2 r.3
     (λ tms dms calls h. c.from_vec-events.ensures.items ∙ c.in_ok-round.ensures tms dms calls h) in
     record {
       some = (r.0, b.0, b.1);
-      so_far = λ given log s q. round_begins g.C.Homes.catalogue g.S.Modules.stands g.N.Network.stands
-          g.S.Lawful.good c.args.self.now given log c.from_vec-events.result.items s q
+      so_far = λ given log s q. round_begins c.args.self.now given log c.from_vec-events.result.items s q
           (λ tms dms calls h. c.from_vec-events.ensures.items ∙ c.in_ok-round.ensures tms dms calls h);
       count = refl;
-      began = round_some g.C.Homes.catalogue g.S.Modules.stands g.N.Network.stands g.S.Lawful.good
+      began = round_some
           c.args.self.now r.0 r.1 c.from_vec-events.result.items r.2 r.3
           (λ tms dms calls h. c.from_vec-events.ensures.items ∙ c.in_ok-round.ensures tms dms calls h);
     }
 
 pub happen-requires : goal.happen-requires
-happen-requires g c = let i = c.loop-event.invariant.some in (
+happen-requires c = let i = c.loop-event.invariant.some in (
   i.0,
   i.1,
-  (round_before g.C.Homes.catalogue g.S.Modules.stands g.N.Network.stands g.S.Lawful.good
+  (round_before
       c.loop-event.self i.0 i.1 c.loop-event.events.items c.in-Some.event c.pop_front.new.self.items i.2
       c.in-Some.ensures.items),
 )
 
 pub loop-event-preserved : goal.loop-event-preserved
-loop-event-preserved g c =
+loop-event-preserved c =
     let i = c.loop-event.invariant.some in
     let h = c.in_ok-happen.ensures.ok i.0 i.1
-    (round_before g.C.Homes.catalogue g.S.Modules.stands g.N.Network.stands g.S.Lawful.good
+    (round_before
     c.loop-event.self i.0 i.1 c.loop-event.events.items c.in-Some.event c.pop_front.new.self.items i.2
     c.in-Some.ensures.items) in
-    let a = round_after g.C.Homes.catalogue g.S.Modules.stands g.N.Network.stands g.S.Lawful.good
+    let a = round_after
     c.loop-event.self c.happen.new.self i.0 i.1 c.loop-event.events.items c.in-Some.event
     c.pop_front.new.self.items i.2 c.in-Some.ensures.items h in
     record {
       some = (i.0, a.0, a.1);
       so_far = λ given log s q.
           (let k = c.loop-event.invariant.so_far given log s q in
-          round_after g.C.Homes.catalogue g.S.Modules.stands g.N.Network.stands g.S.Lawful.good
+          round_after
           c.loop-event.self c.happen.new.self given k.0 c.loop-event.events.items c.in-Some.event
           c.pop_front.new.self.items k.1 c.in-Some.ensures.items
           (c.in_ok-happen.ensures.ok given k.0
-          (round_before g.C.Homes.catalogue g.S.Modules.stands g.N.Network.stands g.S.Lawful.good
+          (round_before
           c.loop-event.self given k.0 c.loop-event.events.items c.in-Some.event c.pop_front.new.self.items
           k.1 c.in-Some.ensures.items)));
       count =
-          (let m = one_mark g.C.Homes.catalogue g.S.Modules.stands g.N.Network.stands g.S.Lawful.good c.loop-event.self c.happen.new.self i.0 i.1 i.2.calm h in
+          (let m = one_mark c.loop-event.self c.happen.new.self i.0 i.1 i.2.calm h in
           let l = ap length c.in-Some.ensures.items in
           omega (arith, m, l, c.loop-event.invariant.count));
       began = c.loop-event.invariant.began;
     }
 
 pub returns-in_err-happen-clause-limit : goal.returns-in_err-happen-clause-limit
-returns-in_err-happen-clause-limit g c = λ e given log s q.
+returns-in_err-happen-clause-limit c = λ e given log s q.
     let k = c.loop-event.invariant.so_far given log s q in
     c.in_err-happen.ensures.limit (handed_on c.from_residual-in_err-happen.result c.in_err-happen.field-0.0 c.from_residual-in_err-happen.ensures.1 e) given k.0
-    (round_before g.C.Homes.catalogue g.S.Modules.stands g.N.Network.stands g.S.Lawful.good
+    (round_before
     c.loop-event.self given k.0 c.loop-event.events.items c.in-Some.event c.pop_front.new.self.items k.1
     c.in-Some.ensures.items)
 
 pub returns-clause-ok : goal.returns-clause-ok
-returns-clause-ok g c = λ given log s q.
+returns-clause-ok c = λ given log s q.
     let k = c.loop-event.invariant.so_far given log s q in (
       k.0,
-      round_ends g.C.Homes.catalogue g.S.Modules.stands g.N.Network.stands g.S.Lawful.good
+      round_ends
           c.loop-event.self given k.0 c.loop-event.events.items k.1
           (no_items c.loop-event.events.items c.loop-event.events.len c.loop-event.events.ok.0
           c.in_default.ensures.cases.0),

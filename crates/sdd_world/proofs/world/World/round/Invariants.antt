@@ -6,14 +6,13 @@ use Rattle.sdd_world.specs.Standing.{Rounding, Settling}
 use Rattle.sdd_world.proofs.world.World.round.Given as goal
 
 abbrev pub invariant-loop-event : goal.invariant-loop-event
-invariant-loop-event g l = record {
-  some : (given : Given) × (log : Log) × Rounding g.C.Homes.catalogue g.S.Modules.stands g.N.Network.stands g.S.Lawful.good l.self given log l.events.items;
-  so_far : (given : Given) (log : Log) → Settling g.C.Homes.catalogue g.S.Modules.stands g.N.Network.stands
-      g.S.Lawful.good l.fn.self given log → quiet (all_links given) (calls_of log) ≡ false
-      → (more : Log) × Rounding g.C.Homes.catalogue g.S.Modules.stands g.N.Network.stands g.S.Lawful.good l.self given more l.events.items;
+invariant-loop-event l = record {
+  some : (given : Given) × (log : Log) × Rounding l.self given log l.events.items;
+  so_far : (given : Given) (log : Log) → Settling l.fn.self given log → quiet (all_links given) (calls_of log) ≡ false
+      → (more : Log) × Rounding l.self given more l.events.items;
   count : l.self.marks + length l.events.items ≡ l.fn.self.marks + length l.initial.events.items;
   began : 0 < length l.initial.events.items;
 }
 
 abbrev pub decreases-loop-event : goal.decreases-loop-event
-decreases-loop-event g l = length l.events.items
+decreases-loop-event l = length l.events.items

@@ -6,26 +6,24 @@ use Rattle.sdd_world.proofs.Rounds.{settle_begins}
 use Rattle.sdd_world.proofs.world.World.settle.Goals as goal
 
 pub settle_down-requires : goal.settle_down-requires
-settle_down-requires g c =
+settle_down-requires c =
     let r = c.requires in (
       with_event r.0 Settle,
       r.1,
-      settle_begins g.C.Homes.catalogue g.S.Modules.stands g.N.Network.stands
-          g.S.Lawful.good c.args.self (record c.args.self { given = c.push.new.self }) r.0 r.1 r.3 r.2 refl
+      settle_begins c.args.self (record c.args.self { given = c.push.new.self }) r.0 r.1 r.3 r.2 refl
           c.in_ok-push.ensures.items,
     )
 
 pub returns-in_err-settle_down-clause-limit : goal.returns-in_err-settle_down-clause-limit
-returns-in_err-settle_down-clause-limit g c = λ e given log s good.
+returns-in_err-settle_down-clause-limit c = λ e given log s good.
     c.in_err-settle_down.ensures.limit
     (handed_on c.from_residual-in_err-settle_down.result c.in_err-settle_down.field-0.0
     c.from_residual-in_err-settle_down.ensures.1 e)
-    (with_event given Settle) log (settle_begins g.C.Homes.catalogue g.S.Modules.stands g.N.Network.stands
-    g.S.Lawful.good c.args.self (record c.args.self { given = c.push.new.self }) given log good s refl
+    (with_event given Settle) log (settle_begins c.args.self (record c.args.self { given = c.push.new.self }) given log good s refl
     c.in_ok-push.ensures.items)
 
 pub returns-clause-log : goal.returns-clause-log
-returns-clause-log g c = λ given log s good.
+returns-clause-log c = λ given log s good.
     c.in_ok-settle_down.ensures.ok (with_event given Settle) log
-    (settle_begins g.C.Homes.catalogue g.S.Modules.stands g.N.Network.stands g.S.Lawful.good c.args.self
+    (settle_begins c.args.self
     (record c.args.self { given = c.push.new.self }) given log good s refl c.in_ok-push.ensures.items)

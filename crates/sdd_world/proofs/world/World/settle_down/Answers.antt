@@ -4,14 +4,14 @@ use Rattle.sdd_world.proofs.Rounds.{few, settle_ends}
 use Rattle.sdd_world.proofs.world.World.settle_down.Goals as goal
 
 pub loop-self-smaller : goal.loop-self-smaller
-loop-self-smaller g c =
+loop-self-smaller c =
     let i = c.loop-self.invariant.some in
     let m = c.in_ok-round.ensures.more in
-    let f = few g.C.Homes.catalogue g.S.Modules.stands g.N.Network.stands g.S.Lawful.good c.loop-self.self i.0 i.1 i.2.calm in
+    let f = few c.loop-self.self i.0 i.1 i.2.calm in
     omega (arith, m, f)
 
 pub loop-self-preserved : goal.loop-self-preserved
-loop-self-preserved g c =
+loop-self-preserved c =
     let i = c.loop-self.invariant.some in
     let a = c.in_ok-round.ensures.ok i.0 i.1 i.2 (sym (c.quiet.ensures i.0 i.1 i.2.calm.parts.net) ∙ c.loop-self-test.true) in
     record {
@@ -22,17 +22,17 @@ loop-self-preserved g c =
     }
 
 pub returns-in_err-round-clause-limit : goal.returns-in_err-round-clause-limit
-returns-in_err-round-clause-limit g c = λ e given log s.
+returns-in_err-round-clause-limit c = λ e given log s.
     let k = c.loop-self.invariant.so_far given log s in
     c.in_err-round.ensures.limit (handed_on c.from_residual.result c.in_err-round.field-0.0
     c.from_residual.ensures.1 e) given k.0 k.1 (sym (c.quiet.ensures given k.0 k.1.calm.parts.net)
     ∙ c.loop-self-test.true)
 
 pub returns-clause-ok : goal.returns-clause-ok
-returns-clause-ok g c = λ given log s.
+returns-clause-ok c = λ given log s.
     let k = c.loop-self.invariant.so_far given log s in (
       k.0,
-      settle_ends g.C.Homes.catalogue g.S.Modules.stands g.N.Network.stands g.S.Lawful.good
+      settle_ends
           c.loop-self.self given k.0 k.1 (sym (c.quiet.ensures given k.0 k.1.calm.parts.net)
           ∙ c.loop-self-test.false),
     )

@@ -3,90 +3,72 @@ use Rattle.sdd_world.proofs.Failing.{map_ok}
 use Rattle.sdd_world.proofs.Submitting.{events_order, home_is, may_send, submit_asks, submit_done, submit_ends, taken, txn_fits, txn_read}
 use Rattle.sdd_world.proofs.world.World.submit.Goals as goal
 
-pub home-requires : goal.home-requires
-home-requires g c =
+pub home-at-requires : goal.home-at-requires
+home-at-requires c =
     let r = c.requires in
-    txn_fits g.C.Homes.catalogue g.S.Modules.stands g.N.Network.stands g.S.Lawful.good g.S.Modules.fits
-    g.S.Modules.fits_submit g.S.Modules.fits_tick g.met.S.Lawful.facts c.args.self.now r.0 r.1
+    txn_fits c.args.self.now r.0 r.1
     c.args.number r.2 c.index-as_slice-number.result
-    (txn_read g.C.Homes.catalogue g.S.Modules.stands g.N.Network.stands g.S.Lawful.good g.S.Modules.fits
-    g.S.Modules.fits_submit g.S.Modules.fits_tick g.met.S.Lawful.facts c.args.self.now r.0 r.1
+    (txn_read c.args.self.now r.0 r.1
     c.args.number r.2 c.index-as_slice-number.result (c.index-as_slice-number.is
     ∙ ap (λ xs. get_or xs (c.args.number.0 - 1) c.index-as_slice-number.result) c.as_slice.ensures))
 
 pub submit-requires : goal.submit-requires
-submit-requires g c =
+submit-requires c =
     let r = c.requires in
-    let is = (txn_read g.C.Homes.catalogue g.S.Modules.stands g.N.Network.stands g.S.Lawful.good
-    g.S.Modules.fits g.S.Modules.fits_submit g.S.Modules.fits_tick g.met.S.Lawful.facts c.args.self.now
+    let is = (txn_read c.args.self.now
     r.0 r.1 c.args.number r.2 c.index-as_slice-number.result (c.index-as_slice-number.is
     ∙ ap (λ xs. get_or xs (c.args.number.0 - 1) c.index-as_slice-number.result) c.as_slice.ensures)) in
-    let here = home_is g.C.Homes.catalogue g.S.Modules.stands g.N.Network.stands g.S.Lawful.good
-    g.S.Modules.fits g.S.Modules.fits_submit g.S.Modules.fits_tick g.met.S.Lawful.facts c.args.self.now
-    r.0 r.1 c.args.number r.2 c.index-as_slice-number.result is c.in_ok-at.at c.in_ok-at.ensures in
-    submit_asks g.C.Homes.catalogue g.S.Modules.stands g.N.Network.stands g.S.Lawful.good g.S.Modules.fits
-    g.S.Modules.fits_submit g.S.Modules.fits_tick g.met.S.Lawful.facts c.args.self.now r.0 r.1
-    c.args.number r.2 c.index-as_slice-number.result is c.in_ok-at.at here
+    let here = home_is c.args.self.now
+    r.0 r.1 c.args.number r.2 c.index-as_slice-number.result is c.home-at.result c.home-at.ensures in
+    submit_asks c.args.self.now r.0 r.1
+    c.args.number r.2 c.index-as_slice-number.result is c.home-at.result here
 
 pub follow-requires-clause-sends : goal.follow-requires-clause-sends
-follow-requires-clause-sends g c =
+follow-requires-clause-sends c =
     let r = c.requires in
-    let is = (txn_read g.C.Homes.catalogue g.S.Modules.stands g.N.Network.stands g.S.Lawful.good
-    g.S.Modules.fits g.S.Modules.fits_submit g.S.Modules.fits_tick g.met.S.Lawful.facts c.args.self.now
+    let is = (txn_read c.args.self.now
     r.0 r.1 c.args.number r.2 c.index-as_slice-number.result (c.index-as_slice-number.is
     ∙ ap (λ xs. get_or xs (c.args.number.0 - 1) c.index-as_slice-number.result) c.as_slice.ensures)) in
-    let here = home_is g.C.Homes.catalogue g.S.Modules.stands g.N.Network.stands g.S.Lawful.good
-    g.S.Modules.fits g.S.Modules.fits_submit g.S.Modules.fits_tick g.met.S.Lawful.facts c.args.self.now
-    r.0 r.1 c.args.number r.2 c.index-as_slice-number.result is c.in_ok-at.at c.in_ok-at.ensures in
-    may_send g.C.Homes.catalogue g.S.Modules.stands g.N.Network.stands g.S.Lawful.good g.S.Modules.fits
-    g.S.Modules.fits_submit g.S.Modules.fits_tick g.met.S.Lawful.facts c.args.self.now r.0 r.1
-    c.args.number r.2 c.index-as_slice-number.result is c.submit.new.self c.in_ok-at.at
+    let here = home_is c.args.self.now
+    r.0 r.1 c.args.number r.2 c.index-as_slice-number.result is c.home-at.result c.home-at.ensures in
+    may_send c.args.self.now r.0 r.1
+    c.args.number r.2 c.index-as_slice-number.result is c.submit.new.self c.home-at.result
     c.in_ok-outcome.outcome here
-    (taken g.C.Homes.catalogue g.S.Modules.stands g.N.Network.stands g.S.Lawful.good g.S.Modules.fits
-    g.S.Modules.fits_submit g.S.Modules.fits_tick g.met.S.Lawful.facts c.args.self.now r.0 r.1
-    c.args.number r.2 c.index-as_slice-number.result is c.submit.new.self c.in_ok-at.at
+    (taken c.args.self.now r.0 r.1
+    c.args.number r.2 c.index-as_slice-number.result is c.submit.new.self c.home-at.result
     c.in_ok-outcome.outcome here c.in_ok-outcome.ensures.law)
 
 pub follow-requires-clause-order : goal.follow-requires-clause-order
-follow-requires-clause-order g c = let r =
-    c.requires in events_order g.C.Homes.catalogue g.S.Modules.stands g.N.Network.stands g.S.Lawful.good
-    g.S.Modules.fits g.S.Modules.fits_submit g.S.Modules.fits_tick g.met.S.Lawful.facts c.args.self.now r.0
+follow-requires-clause-order c = let r =
+    c.requires in events_order c.args.self.now r.0
     r.1 c.args.number r.2
 
 pub returns-clause-ok : goal.returns-clause-ok
-returns-clause-ok g c = map_ok c.follow.result _ _ c.follow.ensures.ok (λ x f given log m.
-    let is = (txn_read g.C.Homes.catalogue g.S.Modules.stands g.N.Network.stands g.S.Lawful.good
-    g.S.Modules.fits g.S.Modules.fits_submit g.S.Modules.fits_tick g.met.S.Lawful.facts c.args.self.now
+returns-clause-ok c = map_ok c.follow.result _ _ c.follow.ensures.ok (λ x f given log m.
+    let is = (txn_read c.args.self.now
     given log c.args.number m c.index-as_slice-number.result (c.index-as_slice-number.is
     ∙ ap (λ xs. get_or xs (c.args.number.0 - 1) c.index-as_slice-number.result) c.as_slice.ensures)) in
-    let here = home_is g.C.Homes.catalogue g.S.Modules.stands g.N.Network.stands g.S.Lawful.good
-    g.S.Modules.fits g.S.Modules.fits_submit g.S.Modules.fits_tick g.met.S.Lawful.facts c.args.self.now
-    given log c.args.number m c.index-as_slice-number.result is c.in_ok-at.at c.in_ok-at.ensures in
-    submit_done g.C.Homes.catalogue g.S.Modules.stands g.N.Network.stands g.S.Lawful.good g.S.Modules.fits
-    g.S.Modules.fits_submit g.S.Modules.fits_tick g.met.S.Lawful.facts c.args.self.now given log
-    c.args.number m c.index-as_slice-number.result is c.submit.new.self c.follow.new.self c.in_ok-at.at
+    let here = home_is c.args.self.now
+    given log c.args.number m c.index-as_slice-number.result is c.home-at.result c.home-at.ensures in
+    submit_done c.args.self.now given log
+    c.args.number m c.index-as_slice-number.result is c.submit.new.self c.follow.new.self c.home-at.result
     c.in_ok-outcome.outcome here
-    (taken g.C.Homes.catalogue g.S.Modules.stands g.N.Network.stands g.S.Lawful.good g.S.Modules.fits
-    g.S.Modules.fits_submit g.S.Modules.fits_tick g.met.S.Lawful.facts c.args.self.now given log
-    c.args.number m c.index-as_slice-number.result is c.submit.new.self c.in_ok-at.at
+    (taken c.args.self.now given log
+    c.args.number m c.index-as_slice-number.result is c.submit.new.self c.home-at.result
     c.in_ok-outcome.outcome here c.in_ok-outcome.ensures.law)
     c.in_ok-outcome.ensures.others f)
 
 pub returns-clause-limit : goal.returns-clause-limit
-returns-clause-limit g c = λ e given log m.
-    let is = (txn_read g.C.Homes.catalogue g.S.Modules.stands g.N.Network.stands g.S.Lawful.good
-    g.S.Modules.fits g.S.Modules.fits_submit g.S.Modules.fits_tick g.met.S.Lawful.facts c.args.self.now
+returns-clause-limit c = λ e given log m.
+    let is = (txn_read c.args.self.now
     given log c.args.number m c.index-as_slice-number.result (c.index-as_slice-number.is
     ∙ ap (λ xs. get_or xs (c.args.number.0 - 1) c.index-as_slice-number.result) c.as_slice.ensures)) in
-    let here = home_is g.C.Homes.catalogue g.S.Modules.stands g.N.Network.stands g.S.Lawful.good
-    g.S.Modules.fits g.S.Modules.fits_submit g.S.Modules.fits_tick g.met.S.Lawful.facts c.args.self.now
-    given log c.args.number m c.index-as_slice-number.result is c.in_ok-at.at c.in_ok-at.ensures in
-    submit_ends g.C.Homes.catalogue g.S.Modules.stands g.N.Network.stands g.S.Lawful.good g.S.Modules.fits
-    g.S.Modules.fits_submit g.S.Modules.fits_tick g.met.S.Lawful.facts c.args.self.now given log
-    c.args.number m c.index-as_slice-number.result is c.submit.new.self c.in_ok-at.at
+    let here = home_is c.args.self.now
+    given log c.args.number m c.index-as_slice-number.result is c.home-at.result c.home-at.ensures in
+    submit_ends c.args.self.now given log
+    c.args.number m c.index-as_slice-number.result is c.submit.new.self c.home-at.result
     c.in_ok-outcome.outcome here
-    (taken g.C.Homes.catalogue g.S.Modules.stands g.N.Network.stands g.S.Lawful.good g.S.Modules.fits
-    g.S.Modules.fits_submit g.S.Modules.fits_tick g.met.S.Lawful.facts c.args.self.now given log
-    c.args.number m c.index-as_slice-number.result is c.submit.new.self c.in_ok-at.at
+    (taken c.args.self.now given log
+    c.args.number m c.index-as_slice-number.result is c.submit.new.self c.home-at.result
     c.in_ok-outcome.outcome here c.in_ok-outcome.ensures.law)
     (c.follow.ensures.limit e)

@@ -3,7 +3,7 @@ use Rattle.sdd_wire.specs.Spelling.{spelled}
 use Rattle.sdd_world.specs.Carries.{in_bytes}
 use Rattle.sdd_world.proofs.InBytes.{stands_in}
 use Rattle.sdd_world.proofs.Quietness.{count_same}
-use Rattle.sdd_world.proofs.mail.MailNetwork.sent.Goals as goal
+use Rattle.sdd_world.proofs.mail.Mail.sent.Goals as goal
 
 pub returns : goal.returns
 returns c tms dms calls carries linked =

@@ -3,7 +3,7 @@ use Rattle.sdd_wire.specs.Spelling.{spelled}
 use Rattle.sdd_world.specs.Carries.{in_bytes}
 use Rattle.sdd_world.proofs.InBytes.{stands_in}
 use Rattle.sdd_world.proofs.Quietness.{unacked_same}
-use Rattle.sdd_world.proofs.mail.MailNetwork.resend.Goals as goal
+use Rattle.sdd_world.proofs.mail.Mail.resend.Goals as goal
 
 pub returns-clause-some : goal.returns-clause-some
 returns-clause-some c tms dms calls carries =

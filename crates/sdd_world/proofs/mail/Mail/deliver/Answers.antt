@@ -1,7 +1,7 @@
 use Rattle.sdd_net.specs.Links.{link, delivery}
 use Rattle.sdd_world.proofs.InBytes.{spells_in}
 use Rattle.sdd_world.proofs.Opened.{same_found}
-use Rattle.sdd_world.proofs.mail.MailNetwork.deliver.Goals as goal
+use Rattle.sdd_world.proofs.mail.Mail.deliver.Goals as goal
 
 pub open-requires : goal.open-requires
 open-requires c = (

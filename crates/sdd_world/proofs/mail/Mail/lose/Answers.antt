@@ -3,7 +3,7 @@ use Rattle.sdd_wire.specs.Spelling.{spelled}
 use Rattle.sdd_world.specs.Carries.{in_bytes}
 use Rattle.sdd_world.proofs.InBytes.{stands_in}
 use Rattle.sdd_world.proofs.Quietness.{packet_same}
-use Rattle.sdd_world.proofs.mail.MailNetwork.lose.Goals as goal
+use Rattle.sdd_world.proofs.mail.Mail.lose.Goals as goal
 
 pub returns-clause-there : goal.returns-clause-there
 returns-clause-there c tms dms calls carries =

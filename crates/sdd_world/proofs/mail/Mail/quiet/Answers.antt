@@ -1,7 +1,7 @@
 use Rattle.std.proofs.Common.{◌∙◌}
 use Rattle.sdd_world.specs.Carries.{in_bytes}
 use Rattle.sdd_world.proofs.InBytes.{stands_in, quiet_in}
-use Rattle.sdd_world.proofs.mail.MailNetwork.quiet.Goals as goal
+use Rattle.sdd_world.proofs.mail.Mail.quiet.Goals as goal
 
 pub returns : goal.returns
 returns c tms dms calls carries =

@@ -1,5 +1,5 @@
 use Rattle.sdd_world.proofs.InBytes.{room_in}
-use Rattle.sdd_world.proofs.mail.MailNetwork.send.Goals as goal
+use Rattle.sdd_world.proofs.mail.Mail.send.Goals as goal
 
 pub send-requires-clause-room : goal.send-requires-clause-room
 send-requires-clause-room c =
