@@ -5,7 +5,6 @@ ghost use Rattle.sdd_order.specs.Orders.{IsOrderable};
 ghost use Rattle.sdd_report.specs.Report.{report_text as text_of};
 ghost use Rattle.sdd_run.specs.Reports.{report_by};
 ghost use Rattle.sdd_run.specs.Worlds.{StandsOn};
-
 ghost use Rattle.sdd_world.specs.Standings.{standing_of};
 
 use crate::copies::tables;

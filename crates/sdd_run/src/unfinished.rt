@@ -4,7 +4,6 @@ ghost use Rattle.sdd_history.specs.Records.{History};
 ghost use Rattle.sdd_log.specs.Entries.{Given, Log};
 ghost use Rattle.sdd_run.specs.Pending.{pending_as, pending_by, pending_of, reason_of};
 ghost use Rattle.sdd_run.specs.Worlds.{AreCommitted, StandsOn};
-
 ghost use Rattle.sdd_world.specs.Standings.{standing_of};
 
 use crate::commits::committed;

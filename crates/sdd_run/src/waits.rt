@@ -93,10 +93,7 @@ fn why_so(
 }
 
 /// The site of a transaction, by its number.
-fn home_of(
-    world: &World<'_>,
-    number: TxnNo,
-) -> Site
+fn home_of(world: &World<'_>, number: TxnNo) -> Site
     requires { (g : Given) × (log : Log)
         × StandsFor world.now g log }
     ensures { (g : Given) (log : Log) → StandsFor world.now g log

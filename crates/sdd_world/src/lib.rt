@@ -4,15 +4,15 @@
 //! that it was given, or a call ends it exactly where the limit ends that log.
 #![tactic(auto)]
 
-mod making;
-mod schedule;
-mod sites;
-mod homes;
-mod opening;
-mod mail;
 mod ends;
+mod homes;
+mod mail;
+mod making;
+mod opening;
 mod putting;
 mod readers;
+mod schedule;
+mod sites;
 mod world;
 
 pub use ends::WorldEnd;

@@ -20,10 +20,10 @@ ghost use Rattle.sdd_world.specs.Members.{LivesD, LivesT, LivesU};
 ghost use Rattle.sdd_world.specs.Standings.{standing_of};
 ghost use Rattle.sdd_world.specs.Standing.{IsSound, StandsFor};
 
-use crate::world::World;
 use crate::mail::Mail;
 use crate::making::txn_modules;
 use crate::sites::Sites;
+use crate::world::World;
 use sdd_attempt::Standing;
 use sdd_base::{ClassNo, Cond, DmNo, Event, Listed, NoMemory, Site, TmNo, Ts, TxnNo};
 use sdd_catalog::Catalogue;

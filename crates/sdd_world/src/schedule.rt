@@ -5,9 +5,9 @@ ghost use Rattle.sdd_world.specs.Standing.{EndsBy, StandsFor};
 ghost use Rattle.sdd_facts.specs.Real.{IsGood};
 ghost use Rattle.sdd_world.specs.Schedules.{AreAllowed, IsAllowed, is_settle, with_events};
 
-use sdd_base::Event;
 use crate::ends::WorldEnd;
 use crate::world::World;
+use sdd_base::Event;
 use std::collections::VecDeque;
 
 /// Whether an event is a settle.
@@ -18,10 +18,7 @@ fn is_settle(event: &Event) -> bool
 }
 
 /// Carries out one event of a schedule.
-fn carry_out_one<'a>(
-    world: World<'a>,
-    event: &Event,
-) -> Result<World<'a>, WorldEnd>
+fn carry_out_one<'a>(world: World<'a>, event: &Event) -> Result<World<'a>, WorldEnd>
     requires { (g : Given) × (log : Log)
         × StandsFor world g log
         × IsAllowed IsGood g event.now }
@@ -47,10 +44,7 @@ fn carry_out_one<'a>(
 /// # Errors
 ///
 /// At the first number that is missing, of events or of a link's messages, and for want of memory.
-pub fn carry_out<'a>(
-    world: World<'a>,
-    events: Vec<Event>,
-) -> Result<World<'a>, WorldEnd>
+pub fn carry_out<'a>(world: World<'a>, events: Vec<Event>) -> Result<World<'a>, WorldEnd>
     requires { (g : Given) × (log : Log)
         × StandsFor world g log
         × AreAllowed IsGood g events.items }

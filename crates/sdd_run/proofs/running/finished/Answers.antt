@@ -12,8 +12,8 @@ carry_out-requires c =
       begun cat c.args.table.now c.args.work,
       [],
       (starts cat c.args.table.now c.args.work sound c.requires.valid c.as_slice.result.now c.args.work.txns c.in_ok-modules.modules.items
-    c.in_ok-world.world (let few = whole.few_tms in omega (arith, few)) (let few = whole.few_dms in omega (arith, few)) c.as_slice.ensures refl
-    c.in_ok-modules.ensures c.in_ok-world.ensures).stands,
+          c.in_ok-world.world (let few = whole.few_tms in omega (arith, few)) (let few = whole.few_dms in omega (arith, few)) c.as_slice.ensures refl
+          c.in_ok-modules.ensures c.in_ok-world.ensures).stands,
       all_allowed cat c.args.table.now c.args.work sound c.requires.valid c.requires.no_lists c.into_vec.result.items c.into_vec.ensures,
     )
 

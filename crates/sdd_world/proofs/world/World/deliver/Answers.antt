@@ -16,9 +16,9 @@ receive-requires c =
       c.args.self.now,
       c.args.place,
       arrives c.args.self.now (record c.args.self.now {
-            net =
-                c.deliver.new.self;
-          }) r.0 r.1 c.args.from c.args.to c.args.place c.in_ok-deliver.field-0
+        net =
+            c.deliver.new.self;
+      }) r.0 r.1 c.args.from c.args.to c.args.place c.in_ok-deliver.field-0
           c.in-Messages.messages r.2 c.in_ok-deliver.ensures.given c.in_ok-deliver.ensures.ok c.in-Messages.is
           refl,
     )
