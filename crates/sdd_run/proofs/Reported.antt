@@ -13,7 +13,7 @@ use Rattle.sdd_lang.specs.declared.transaction.Txn.{Txn}
 use Rattle.sdd_history.specs.Records.{History}
 use Rattle.sdd_make.specs.Summary.{summary_of, summary_text}
 use Rattle.sdd_make.specs.declared.summary.Summary.{Summary}
-use Rattle.sdd_log.specs.Entries.{Log, history}
+use Rattle.sdd_log.specs.Entries.{Log, history, marks}
 use Rattle.sdd_log.specs.Lawful.{EndsByLimit, IsTheLog}
 use Rattle.sdd_log.specs.Locals.{redeclares}
 use Rattle.sdd_order.specs.SerialOrder.{serial_order}
@@ -90,12 +90,12 @@ reported cat table work log sound valid tabled the_log none text is =
 
 -- the summary of the run: of counts that were made of its records
 pub summed_up : (cat : Catalogue) (table : List Entry) (work : Workload) (w : World) → IsTable cat table
-    → (r : IsRunOf cat table work w) (text : List ℕ) (counts : Summary) (txns : List Txn) (records : History) → text ≡ summary_text counts
-    → counts ≡ summary_of (length txns) records w.marks → txns ≡ work.txns → records ≡ history r.log → IsSummaryOn cat work text
-summed_up cat table work w tabled r text counts txns records told made txns_are records_are = record {
+    → (r : IsRunOf cat table work w) (text : List ℕ) (counts : Summary) (txns : List Txn) (records : History) (events : ℕ) → text ≡ summary_text counts
+    → counts ≡ summary_of (length txns) records events → txns ≡ work.txns → records ≡ history r.log → events ≡ marks r.log → IsSummaryOn cat work text
+summed_up cat table work w tabled r text counts txns records events told made txns_are records_are events_are = record {
   table = table;
   table_is = tabled;
   log = r.log;
   log_is = r.log_is;
-  text_is = told ∙ ap summary_text (made ∙ (λ i. summary_of (length (txns_are i)) (records_are i) (r.stands.stands.calm.marks_are i)));
+  text_is = told ∙ ap summary_text (made ∙ (λ i. summary_of (length (txns_are i)) (records_are i) (events_are i)));
 }

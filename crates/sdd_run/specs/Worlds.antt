@@ -3,31 +3,20 @@ use Rattle.std.specs.Prelude.{ℕ, ◌≡◌, List}
 use Rattle.std.specs.BTreeSet.{BTreeSet, contains}
 use Rattle.std.specs.List.{list_any}
 use Rattle.std.specs.Ordering.{nat_cmp}
-use Rattle.sdd_base.specs.declared.site.Site.{Site}
 use Rattle.sdd_catalog.specs.Catalogue.{Catalogue}
 use Rattle.sdd_history.specs.Records.{History}
-use Rattle.sdd_wire.specs.declared.msg.Msg.{Msg}
-use Rattle.sdd_module.specs.SiteLog.{Setting}
-use Rattle.sdd_module.specs.SiteLog as site
-use Rattle.sdd_net.specs.Links.{Call}
 use Rattle.sdd_protocol.specs.declared.entry.Entry.{Entry}
 use Rattle.sdd_script.specs.declared.workload.Workload.{Workload}
 use Rattle.sdd_log.specs.Entries.{Given, Log}
 use Rattle.sdd_log.specs.Lawful.{IsTheLog}
 use Rattle.sdd_log.specs.Locals.{redeclares}
-use Rattle.sdd_world.specs.Carries.{Carries}
-use Rattle.sdd_world.specs.Members.{StandFor}
 use Rattle.sdd_world.specs.Standing.{StandsFor}
 use Rattle.sdd_world.specs.declared.world.World.{World}
 use Rattle.sdd_run.specs.Pending.{commits}
 use Rattle.sdd_run.specs.Runs.{given_of}
-use Rattle.sdd_world.specs.declared.sites.Sites.{Sites}
-use Rattle.sdd_world.specs.Carries.{NetValue}
 
 -- a world stands for the log of what is given on this catalogue
-pub record StandsOn {C S N : Type 0} (cat : C → Catalogue) (StandFor : Sites → Site → Setting → site.Log
-    → Type 0) (Carries : NetValue → ℕ → ℕ → List (Call Msg) → Type 0) (Good : Given → Type 0)
-    (catalogue : Catalogue) (w : World) (g : Given) (log : Log) : Type 0 where
+pub record StandsOn (catalogue : Catalogue) (w : World) (g : Given) (log : Log) : Type 0 where
   pub catalogue_is : g.catalogue ≡ catalogue
   pub stands : StandsFor w g log
 

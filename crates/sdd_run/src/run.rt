@@ -51,6 +51,6 @@ pub fn run_summary(
     let transactions = work.txns.as_slice().len() as u32;
     let table = table(alloc, catalogue)?;
     let world = finished(alloc, catalogue, &table, work)?;
-    let summary = summary_of(transactions, world.history().as_slice(), world.marks);
+    let summary = summary_of(transactions, world.history().as_slice(), world.events());
     Ok(summary_text(alloc, &summary)?)
 }

@@ -35,7 +35,7 @@ pub fn report_on(
     let copies = tables(alloc, catalogue, world)?;
     let report = Report {
         catalogue,
-        txns: world.txns.as_slice(),
+        txns: world.transactions(),
         history,
         order: order.as_slice(),
         pending: left.as_slice(),

@@ -100,8 +100,8 @@ fn home_of(world: &World<'_>, number: TxnNo) -> Site
         → result ≡ site_of g.catalogue (txn_at g number.0) }
 {
     let place = number.0.saturating_sub(1);
-    match world.txns.as_slice().get(place as usize) {
-        Some(txn) => home(world.catalogue, txn),
+    match world.transactions().get(place as usize) {
+        Some(txn) => home(world.catalogue(), txn),
         None => Site::U,
     }
 }

@@ -77,6 +77,20 @@ impl<'a> World<'a> {
         })
     }
 
+    /// The catalogue, lent. Takes no memory.
+    pub fn catalogue(&self) -> &'a Catalogue
+        ensures { (g : Given) (log : Log) → StandsFor self.now g log → result.now ≡ g.catalogue }
+    {
+        self.catalogue
+    }
+
+    /// The transactions, lent. Takes no memory.
+    pub fn transactions(&self) -> &[Txn]
+        ensures { (g : Given) (log : Log) → StandsFor self.now g log → result.now ≡ g.txns }
+    {
+        self.txns.as_slice()
+    }
+
     /// How many events were carried out. Takes no memory.
     pub fn events(&self) -> u32
         ensures { (g : Given) (log : Log) → StandsFor self.now g log → result ≡ marks log }

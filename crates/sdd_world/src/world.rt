@@ -34,14 +34,14 @@ use std::collections::VecDeque;
 /// that are down, and what was given and recorded.
 #[derive(Drop)]
 pub struct World<'a> {
-    pub catalogue: &'a Catalogue,
-    pub txns: Listed<Txn>,
-    pub given: Vec<Event>,
-    pub history: History,
-    pub marks: u32,
-    pub sites: Sites<'a>,
-    pub net: Mail,
-    pub spool: Spool<Msg>,
+    pub(crate) catalogue: &'a Catalogue,
+    pub(crate) txns: Listed<Txn>,
+    pub(crate) given: Vec<Event>,
+    pub(crate) history: History,
+    pub(crate) marks: u32,
+    pub(crate) sites: Sites<'a>,
+    pub(crate) net: Mail,
+    pub(crate) spool: Spool<Msg>,
 }
 
 impl<'a> World<'a> {

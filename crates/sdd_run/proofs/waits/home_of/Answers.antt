@@ -1,4 +1,4 @@
-use Rattle.std.proofs.Common.{◌∙◌, ap, subst, sym, Some}
+use Rattle.std.proofs.Common.{◌∙◌, ap, refl, subst, sym, Some}
 use Rattle.sdd_catalog.specs.Catalogue.{Catalogue}
 use Rattle.sdd_lang.specs.Fits.{Fits}
 use Rattle.sdd_log.specs.Due.{home_of as site_of}
@@ -8,22 +8,22 @@ use Rattle.sdd_run.proofs.waits.home_of.Goals as goal
 pub home-requires : goal.home-requires
 home-requires c =
     let r = c.requires in
-    let p = r.2.calm.parts in
-    let is = txn_read r.0 c.args.number.0 c.saturating_sub-place.result c.args.world.now.txns
-    c.as_slice.result.now c.in-Some.txn.now p.txns_are c.as_slice.ensures c.saturating_sub-place.ensures
+    let is = txn_read r.0 c.args.number.0 c.saturating_sub-place.result r.0.txns
+    c.transactions.result.now c.in-Some.txn.now refl (c.transactions.ensures r.0 r.1 r.2) c.saturating_sub-place.ensures
     c.in-Some.ensures.lookup.3.0 c.in-Some.ensures.lookup.1 in
-    subst (λ (k : Catalogue). Fits k c.in-Some.txn.now) (sym p.catalogue_is) (p.sound.txns_fit c.args.number.0 c.in-Some.txn.now is)
+    subst (λ (k : Catalogue). Fits k c.in-Some.txn.now) (sym (c.catalogue.ensures r.0 r.1 r.2))
+    (r.2.calm.parts.sound.txns_fit c.args.number.0 c.in-Some.txn.now is)
 
 pub returns-in-Some : goal.returns-in-Some
 returns-in-Some c = λ given log s.
-    let p = s.calm.parts in
-    let is = txn_read given c.args.number.0 c.saturating_sub-place.result c.args.world.now.txns
-    c.as_slice.result.now c.in-Some.txn.now p.txns_are c.as_slice.ensures c.saturating_sub-place.ensures
+    let is = txn_read given c.args.number.0 c.saturating_sub-place.result given.txns
+    c.transactions.result.now c.in-Some.txn.now refl (c.transactions.ensures given log s) c.saturating_sub-place.ensures
     c.in-Some.ensures.lookup.3.0 c.in-Some.ensures.lookup.1 in
-    c.home.ensures ∙ ap (λ (k : Catalogue). site_of k (Some c.in-Some.txn.now)) p.catalogue_is ∙ ap (site_of given.catalogue) (sym is)
+    c.home.ensures ∙ ap (λ (k : Catalogue). site_of k (Some c.in-Some.txn.now)) (c.catalogue.ensures given log s)
+    ∙ ap (site_of given.catalogue) (sym is)
 
 pub returns-in-None : goal.returns-in-None
 returns-in-None c = λ given log s.
     sym (ap (site_of given.catalogue) (no_txn given c.args.number.0 c.saturating_sub-place.result
-    c.args.world.now.txns c.as_slice.result.now s.calm.parts.txns_are c.as_slice.ensures
+    given.txns c.transactions.result.now refl (c.transactions.ensures given log s)
     c.saturating_sub-place.ensures c.in-None.ensures.lookup.3))
