@@ -15,6 +15,7 @@ use Rattle.sdd_script.specs.Valid.{IsLink, IsSite, IsValidEvent}
 use Rattle.sdd_script.proofs.NoLists.{IsNoRedeclare}
 use Rattle.sdd_log.specs.Entries.{Given, with_event}
 use Rattle.sdd_step.specs.Resting.{IsPossible}
+use Rattle.sdd_facts.specs.Real.{IsGood}
 use Rattle.sdd_world.specs.Schedules.{AreAllowed, is_settle}
 use Rattle.sdd_run.proofs.Homes.{within}
 
@@ -50,15 +51,15 @@ possible g (Up d) h r s = within d.0 g.catalogue.dms h.0 h.1
 abbrev pub IsGoodAlong : (Given → Type 0) → Given → List Event → Type 0
 IsGoodAlong Good g all = (xs ys : List Event) → xs ++ ys ≡ all → Good (record g { events = xs })
 
-pub allowed : (Good : Given → Type 0) (g : Given) (es all : List Event) → g.events ++ es ≡ all
+pub allowed : (g : Given) (es all : List Event) → g.events ++ es ≡ all
     → All (IsValidEvent g.catalogue (length g.txns)) es → All IsNoRedeclare es
-    → IsGoodAlong Good g all → AreAllowed Good g es
-allowed Good g [] all e valid none good = tt
-allowed Good g (x ∷ es) all e valid none good =
+    → IsGoodAlong IsGood g all → AreAllowed g es
+allowed g [] all e valid none good = tt
+allowed g (x ∷ es) all e valid none good =
     let further : (g.events ++ x ∷ []) ++ es ≡ all = append_assoc g.events (x ∷ []) es ∙ e in (
       record {
         possible = possible g x (All-head (IsValidEvent g.catalogue (length g.txns)) x es valid) (All-head IsNoRedeclare x es none);
         good = good (g.events ++ x ∷ []) es further;
       },
-      allowed Good (with_event g x) es all further (All-tail (IsValidEvent g.catalogue (length g.txns)) x es valid) (All-tail IsNoRedeclare x es none) good,
+      allowed (with_event g x) es all further (All-tail (IsValidEvent g.catalogue (length g.txns)) x es valid) (All-tail IsNoRedeclare x es none) good,
     )

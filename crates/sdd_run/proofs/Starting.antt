@@ -1,5 +1,5 @@
 -- A new world of a workload stands for the empty log of what is given before its first event.
-use Rattle.std.proofs.Common.{ℕ, ◌-◌, ◌≡◌, ◌∙◌, ◌≤◌, List, [], false, refl, sym, subst}
+use Rattle.std.proofs.Common.{◌-◌, ◌≡◌, ◌∙◌, ◌≤◌, List, [], false, refl, sym, subst}
 use Rattle.std.specs.Prelude.{slice_get}
 use Rattle.sdd_base.specs.Kept.{Kept}
 use Rattle.sdd_base.specs.Numbers.{dm_no}
@@ -34,10 +34,10 @@ use Rattle.sdd_run.proofs.Homes.{within}
 
 module _ (cat : Catalogue) (table : List Entry) (work : Workload) (sound : IsSound cat) (valid : IsValid cat work) where
   -- the events of a valid workload without lists of classes are allowed
-  pub all_allowed : has_lists work ≡ false → (events : List Event) → events ≡ work.events → AreAllowed IsGood (begun cat table work) events
+  pub all_allowed : has_lists work ≡ false → (events : List Event) → events ≡ work.events → AreAllowed (begun cat table work) events
   all_allowed none events e =
-      subst (AreAllowed IsGood (begun cat table work)) (sym e)
-      (allowed IsGood (begun cat table work) work.events work.events refl valid.events
+      subst (AreAllowed (begun cat table work)) (sym e)
+      (allowed (begun cat table work) work.events work.events refl valid.events
       (no_redeclare cat work valid none) (good_along cat table work sound valid))
 
   -- the data modules, each of the rows that are given for it

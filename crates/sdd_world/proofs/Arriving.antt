@@ -5,7 +5,6 @@ use Rattle.sdd_base.specs.declared.site.Site.TheVariants.{U, D}
 use Rattle.sdd_base.specs.declared.number.DmNo.{DmNo}
 use Rattle.sdd_base.specs.declared.event.Event.TheVariants.{Deliver}
 use Rattle.sdd_wire.specs.declared.msg.Msg.{Msg}
-use Rattle.sdd_module.specs.SiteLog as site
 use Rattle.sdd_log.specs.Entries.{Given, Log, Mark}
 use Rattle.sdd_log.specs.Traffic.{is_down, takes_part}
 use Rattle.sdd_log.specs.Locals.{local_of, setting_of}

@@ -1,11 +1,10 @@
 -- Steps of a schedule.
-use Rattle.std.proofs.Common.{ℕ, ◌≡◌, ◌∙◌, sym, subst, ap, refl, true, List, [], ◌∷◌, Result, Ok, Err}
+use Rattle.std.proofs.Common.{◌≡◌, ◌∙◌, sym, subst, ap, refl, true, List, [], ◌∷◌, Result, Ok, Err}
 use Rattle.std.specs.Prelude.{IfOk, IsErrOf}
 use Rattle.sdd_base.specs.declared.event.Event.{Event}
 use Rattle.sdd_base.specs.declared.event.Event.TheVariants.{Submit, Deliver, Lose, Repeat, Resend, Tick, Settle, Redeclare, Down, Up}
 use Rattle.sdd_log.specs.Entries.{Given, Log, with_event}
 use Rattle.sdd_log.proofs.Grows.{lawful_grows, next_grows}
-use Rattle.sdd_module.specs.SiteLog as site
 use Rattle.sdd_world.specs.Standing.{EndsBy, StandsFor}
 use Rattle.sdd_world.specs.declared.ends.WorldEnd.{WorldEnd}
 use Rattle.sdd_world.specs.declared.ends.WorldEnd.TheVariants.{Limit}
@@ -44,9 +43,9 @@ ends_with_all g [] h = h
 ends_with_all g (e ∷ events) h = ends_with_all (with_event g e) events (ends_with_one g e h)
 
 -- the first event of a schedule that is left, and the others
-pub first_allowed : (IsGood : Given → Type 0) (g : Given) (events rest : List Event) (e : Event) → events ≡ e ∷ rest → AreAllowed IsGood g events
-    → IsAllowed IsGood g e × AreAllowed IsGood (with_event g e) rest
-first_allowed IsGood g events rest e is h = subst (AreAllowed IsGood g) is h
+pub first_allowed : (g : Given) (events rest : List Event) (e : Event) → events ≡ e ∷ rest → AreAllowed g events
+    → IsAllowed g e × AreAllowed (with_event g e) rest
+first_allowed g events rest e is h = subst (AreAllowed g) is h
 
 pub with_first : (g : Given) (events rest : List Event) (e : Event) → events ≡ e ∷ rest → with_events (with_event g e) rest ≡ with_events g events
 with_first g events rest e is = sym (ap (with_events g) is)
@@ -56,18 +55,15 @@ pub ends_from : (g now : Given) (events rest : List Event) (e : Event) (all : Gi
 ends_from g now events rest e all is same h = subst EndsBy (with_first now events rest e is ∙ same) (ends_with_all (with_event now e) rest h)
 
 -- a settle is carried out as the event that it is
-abbrev Stand : World → Given → Log → Type 0
-Stand = StandsFor
-
-pub settle_goes : (w : World) (e : Event) (res : Result (World) WorldEnd) → e ≡ Settle
-    → IfOk res (λ next. (g : Given) (log : Log) → Stand w g log → IsGood (with_event g Settle) → (more : Log) × Stand next (with_event g Settle) more)
-    → IfOk res (λ next. (g : Given) (log : Log) → Stand w g log → IsAllowed IsGood g e → (more : Log) × Stand next (with_event g e) more)
+pub settle_goes : (w : World) (e : Event) (res : Result World WorldEnd) → e ≡ Settle
+    → IfOk res (λ next. (g : Given) (log : Log) → StandsFor w g log → IsGood (with_event g Settle) → (more : Log) × StandsFor next (with_event g Settle) more)
+    → IfOk res (λ next. (g : Given) (log : Log) → StandsFor w g log → IsAllowed g e → (more : Log) × StandsFor next (with_event g e) more)
 settle_goes w e (Ok next) is law = λ g log s a.
-    subst (λ x. (more : Log) × Stand next (with_event g x) more) (sym is) (law g log s (subst (λ x. IsGood (with_event g x)) is a.good))
+    subst (λ x. (more : Log) × StandsFor next (with_event g x) more) (sym is) (law g log s (subst (λ x. IsGood (with_event g x)) is a.good))
 settle_goes w e (Err end) is law = tt
 
-pub settle_ends : (w : World) (e : Event) (res : Result (World) WorldEnd) → e ≡ Settle
-    → (IsErrOf res Limit → (g : Given) (log : Log) → Stand w g log → IsGood (with_event g Settle) → EndsBy (with_event g Settle))
-    → IsErrOf res Limit → (g : Given) (log : Log) → Stand w g log → IsAllowed IsGood g e → EndsBy (with_event g e)
+pub settle_ends : (w : World) (e : Event) (res : Result World WorldEnd) → e ≡ Settle
+    → (IsErrOf res Limit → (g : Given) (log : Log) → StandsFor w g log → IsGood (with_event g Settle) → EndsBy (with_event g Settle))
+    → IsErrOf res Limit → (g : Given) (log : Log) → StandsFor w g log → IsAllowed g e → EndsBy (with_event g e)
 settle_ends w e res is law err = λ g log s a.
     subst (λ x. EndsBy (with_event g x)) (sym is) (law err g log s (subst (λ x. IsGood (with_event g x)) is a.good))

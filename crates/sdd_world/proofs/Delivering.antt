@@ -7,7 +7,6 @@ use Rattle.sdd_base.specs.declared.site.Site.TheVariants.{U, D}
 use Rattle.sdd_base.specs.declared.event.Event.TheVariants.{Deliver}
 use Rattle.sdd_history.specs.declared.record.Rec.TheVariants.{Nothing as Noted}
 use Rattle.sdd_wire.specs.declared.msg.Msg.{Msg}
-use Rattle.sdd_module.specs.SiteLog as site
 use Rattle.sdd_net.specs.Links.{Call, Delivers, delivered, delivery, link}
 use Rattle.sdd_net.specs.declared.delivered.Delivered.{Delivered}
 use Rattle.sdd_net.specs.declared.delivered.Delivered.TheVariants.{Nothing, Acked, Messages}

@@ -9,7 +9,6 @@ use Rattle.sdd_base.specs.declared.site.Site.TheVariants.{U, T, D}
 use Rattle.sdd_base.specs.declared.number.DmNo.{DmNo}
 use Rattle.sdd_base.specs.declared.event.Event.TheVariants.{Deliver}
 use Rattle.sdd_wire.specs.declared.msg.Msg.{Msg}
-use Rattle.sdd_module.specs.SiteLog as site
 use Rattle.sdd_net.specs.Links.{delivery}
 use Rattle.sdd_net.specs.declared.delivered.Delivered.TheVariants.{Messages}
 use Rattle.sdd_spool.specs.Mailboxes.{Mailbox, kept_from, mailbox_at}

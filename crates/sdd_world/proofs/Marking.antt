@@ -8,7 +8,6 @@ use Rattle.sdd_base.specs.declared.event.Event.{Event}
 use Rattle.sdd_base.specs.declared.event.Event.TheVariants.{Submit, Deliver, Lose, Repeat, Resend, Tick, Settle, Redeclare, Down, Up}
 use Rattle.sdd_history.specs.declared.record.Rec.TheVariants.{Nothing as Noted}
 use Rattle.sdd_wire.specs.declared.msg.Msg.{Msg}
-use Rattle.sdd_module.specs.SiteLog as site
 use Rattle.sdd_net.specs.Links.{Call, Loses, Repeats, Resends, delivered, link, packet_at}
 use Rattle.sdd_net.specs.declared.packet.Packet.{Packet}
 use Rattle.sdd_spool.specs.Mailboxes.{Mailbox}

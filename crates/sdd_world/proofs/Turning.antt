@@ -11,7 +11,6 @@ use Rattle.sdd_base.specs.declared.event.Event.{Event}
 use Rattle.sdd_base.specs.declared.event.Event.TheVariants.{Down, Up}
 use Rattle.sdd_history.specs.declared.record.Rec.TheVariants.{Nothing as Noted}
 use Rattle.sdd_wire.specs.declared.msg.Msg.{Msg}
-use Rattle.sdd_module.specs.SiteLog as site
 use Rattle.sdd_spool.specs.Mailboxes.{Mailbox, kept_from, mailbox_at}
 use Rattle.sdd_log.specs.Entries.{Given, Log, Mark, Notes}
 use Rattle.sdd_log.specs.Traffic.{calls_of, is_down}

@@ -16,11 +16,11 @@ with_events g [] = g
 with_events g (e ∷ events) = with_events (with_event g e) events
 
 -- an event may come next: it is a settle, or what it names exists; and with it what is given is good
-pub record IsAllowed (IsGood : Given → Type 0) (g : Given) (e : Event) : Type 0 where
+pub record IsAllowed (g : Given) (e : Event) : Type 0 where
   pub possible : is_settle e ≡ false → IsPossible g e
   pub good : IsGood (with_event g e)
 
 -- each event of a schedule may come behind those before it
-abbrev pub AreAllowed : (Given → Type 0) → Given → List Event → Type 0
-AreAllowed IsGood g [] = Unit {0}
-AreAllowed IsGood g (e ∷ events) = IsAllowed IsGood g e × AreAllowed IsGood (with_event g e) events
+abbrev pub AreAllowed : Given → List Event → Type 0
+AreAllowed g [] = Unit {0}
+AreAllowed g (e ∷ events) = IsAllowed g e × AreAllowed (with_event g e) events

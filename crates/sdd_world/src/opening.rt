@@ -1,4 +1,4 @@
-ghost use Rattle.std.specs.Prelude.{◌≡◌, List, map, All, IfOk};
+ghost use Rattle.std.specs.Prelude.{◌≡◌, map, IfOk};
 ghost use Rattle.std.specs.List.{AllByRecursion};
 ghost use Rattle.sdd_net.specs.declared.delivered.Delivered.{Delivered as Handed};
 ghost use Rattle.sdd_wire.specs.declared.msg.Msg.{Msg as Message};

@@ -2,7 +2,6 @@ ghost use Rattle.std.specs.Prelude.{◌≡◌, IfOk, IsErrOf};
 ghost use Rattle.sdd_base.specs.declared.event.Event.TheVariants.{Settle};
 ghost use Rattle.sdd_log.specs.Entries.{Given, Log, with_event};
 ghost use Rattle.sdd_world.specs.Standing.{EndsBy, StandsFor};
-ghost use Rattle.sdd_facts.specs.Real.{IsGood};
 ghost use Rattle.sdd_world.specs.Schedules.{AreAllowed, IsAllowed, is_settle, with_events};
 
 use crate::ends::WorldEnd;
@@ -21,14 +20,14 @@ fn is_settle(event: &Event) -> bool
 fn carry_out_one<'a>(world: World<'a>, event: &Event) -> Result<World<'a>, WorldEnd>
     requires { (g : Given) × (log : Log)
         × StandsFor world g log
-        × IsAllowed IsGood g event.now }
+        × IsAllowed g event.now }
     ensures log { IfOk result (λ next. (g : Given) (log : Log)
         → StandsFor world g log
-        → IsAllowed IsGood g event.now → (more : Log)
+        → IsAllowed g event.now → (more : Log)
         × StandsFor next (with_event g event.now) more) }
     ensures limit { IsErrOf result WorldEnd.Limit → (g : Given) (log : Log)
         → StandsFor world g log
-        → IsAllowed IsGood g event.now → EndsBy (with_event g event.now) }
+        → IsAllowed g event.now → EndsBy (with_event g event.now) }
 {
     if is_settle(event) {
         return world.settle();
@@ -47,14 +46,14 @@ fn carry_out_one<'a>(world: World<'a>, event: &Event) -> Result<World<'a>, World
 pub fn carry_out<'a>(world: World<'a>, events: Vec<Event>) -> Result<World<'a>, WorldEnd>
     requires { (g : Given) × (log : Log)
         × StandsFor world g log
-        × AreAllowed IsGood g events.items }
+        × AreAllowed g events.items }
     ensures log { IfOk result (λ last. (g : Given) (log : Log)
         → StandsFor world g log
-        → AreAllowed IsGood g events.items → (more : Log)
+        → AreAllowed g events.items → (more : Log)
         × StandsFor last (with_events g events.items) more) }
     ensures limit { IsErrOf result WorldEnd.Limit → (g : Given) (log : Log)
         → StandsFor world g log
-        → AreAllowed IsGood g events.items → EndsBy (with_events g events.items) }
+        → AreAllowed g events.items → EndsBy (with_events g events.items) }
 {
     let mut now = world;
     let mut left = VecDeque::from_vec(events);

@@ -1,19 +1,17 @@
 ghost use Rattle.std.specs.Prelude.{◌≡◌, ◌<◌, ◌≤◌, All, ◌++◌, [], ◌∷◌, true, false, ℕ, List, Some, IfOk, OnOk, IsErrOf, MatchOption};
-ghost use Rattle.sdd_base.specs.declared.limits.TheConstants.{MAX_DMS, MAX_TMS};
 ghost use Rattle.sdd_base.specs.declared.site.Site.{Site};
 ghost use Rattle.sdd_base.specs.declared.site.Site.TheVariants.{U, D};
 ghost use Rattle.sdd_base.specs.declared.event.Event.TheVariants.{Submit, Deliver, Lose, Repeat, Resend, Tick, Settle, Down, Up};
 ghost use Rattle.sdd_wire.specs.declared.msg.Msg.{Msg};
-ghost use Rattle.sdd_net.specs.Links.{Call, quiet};
-ghost use Rattle.sdd_spool.specs.Mailboxes.{empty_mailbox, kept_from, mailbox_at};
+ghost use Rattle.sdd_net.specs.Links.{quiet};
+ghost use Rattle.sdd_spool.specs.Mailboxes.{kept_from, mailbox_at};
 ghost use Rattle.sdd_log.specs.Entries.{Given, Log, history, with_event};
 ghost use Rattle.sdd_log.specs.Traffic.{all_links, calls_of, is_down, takes_part};
-ghost use Rattle.sdd_log.specs.Locals.{beginning, setting_of};
 ghost use Rattle.sdd_step.specs.Resting.{from_one, IsFirst, IsLinkOf, IsPossible, IsSiteOf, Takes};
 ghost use Rattle.sdd_facts.specs.Real.{IsGood};
 ghost use Rattle.sdd_world.specs.declared.world.World.{World};
 ghost use Rattle.sdd_world.specs.Following.{MaySend, Followed, IsPast};
-ghost use Rattle.sdd_world.specs.Standing.{ahead_of, Arrives, Before, Calm, EndsBy, HandedOn, Handing, Happened, IsSound, Keeping, Marked, Rising, Risen, Settles, Settling, Spooled, StandsFor};
+ghost use Rattle.sdd_world.specs.Standing.{ahead_of, Arrives, Before, EndsBy, HandedOn, Handing, Happened, Keeping, Marked, Rising, Risen, Settles, Settling, Spooled, StandsFor};
 
 use crate::ends::WorldEnd;
 use crate::homes::home;
@@ -27,7 +25,6 @@ use sdd_lang::Txn;
 use sdd_net::{Delivered, Parcels};
 use sdd_spool::Spool;
 use sdd_wire::{Msg, Outcome};
-use std::alloc::Global;
 use std::collections::VecDeque;
 
 /// The modules of all sites, the network between them, the messages that are kept for modules

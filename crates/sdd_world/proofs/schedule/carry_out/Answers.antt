@@ -4,15 +4,14 @@ use Rattle.sdd_world.proofs.Failing.{handed_on}
 use Rattle.sdd_world.specs.Schedules.{AreAllowed, with_events}
 use Rattle.sdd_world.proofs.Carrying.{ends_from, first_allowed, with_first}
 use Rattle.sdd_world.proofs.schedule.carry_out.Goals as goal
-use Rattle.sdd_facts.specs.Real.{IsGood}
 
 pub loop-event-init : goal.loop-event-init
 loop-event-init c =
     let r = c.requires in
     let same = c.from_vec-left.ensures.items in
     record {
-      some = (r.0, r.1, r.2, subst (AreAllowed IsGood r.0) (sym same) r.3);
-      so_far = λ given log s a. (given, log, s, subst (AreAllowed IsGood given) (sym same) a, ap (with_events given) same);
+      some = (r.0, r.1, r.2, subst (AreAllowed r.0) (sym same) r.3);
+      so_far = λ given log s a. (given, log, s, subst (AreAllowed given) (sym same) a, ap (with_events given) same);
     }
 
 pub loop-event-preserved : goal.loop-event-preserved
@@ -21,13 +20,13 @@ loop-event-preserved c =
     let all = c.loop-event.left.items in
     let rest = c.pop_front.new.self.items in
     let e = c.in-Some.event in
-    let f = first_allowed IsGood i.0 all rest e c.in-Some.ensures.items i.3 in
+    let f = first_allowed i.0 all rest e c.in-Some.ensures.items i.3 in
     let h = c.in_ok-now.ensures.log i.0 i.1 i.2 f.0 in
     record {
       some = (with_event i.0 e, h.0, h.1, f.1);
       so_far = λ given log s a.
           (let k = c.loop-event.invariant.so_far given log s a in
-          let first = first_allowed IsGood k.0 all rest e c.in-Some.ensures.items k.3 in
+          let first = first_allowed k.0 all rest e c.in-Some.ensures.items k.3 in
           let next = c.in_ok-now.ensures.log k.0 k.1 k.2 first.0 in
           (with_event k.0 e, next.0, next.1, first.1, with_first k.0 all rest e c.in-Some.ensures.items ∙ k.4));
     }
@@ -38,6 +37,6 @@ returns-in_err-now-clause-limit c = λ err given log s a.
     let all = c.loop-event.left.items in
     let rest = c.pop_front.new.self.items in
     let e = c.in-Some.event in
-    let first = first_allowed IsGood k.0 all rest e c.in-Some.ensures.items k.3 in
+    let first = first_allowed k.0 all rest e c.in-Some.ensures.items k.3 in
     ends_from given k.0 all rest e (with_events given c.args.events.items) c.in-Some.ensures.items k.4
     (c.in_err-now.ensures.limit (handed_on c.from_residual.result c.in_err-now.field-0.0 c.from_residual.ensures.1 err) k.0 k.1 k.2 first.0)

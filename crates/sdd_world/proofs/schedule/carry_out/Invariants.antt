@@ -3,16 +3,15 @@ use Rattle.sdd_log.specs.Entries.{Given, Log}
 use Rattle.sdd_world.specs.Standing.{StandsFor}
 use Rattle.sdd_world.specs.Schedules.{AreAllowed, with_events}
 use Rattle.sdd_world.proofs.schedule.carry_out.Given as goal
-use Rattle.sdd_facts.specs.Real.{IsGood}
 
 abbrev pub invariant-loop-event : goal.invariant-loop-event
 invariant-loop-event l = record {
   some : (given : Given) × (log : Log) × StandsFor l.now given log
-      × AreAllowed IsGood given l.left.items;
+      × AreAllowed given l.left.items;
   so_far : (given : Given) (log : Log) → StandsFor l.fn.world given log
-      → AreAllowed IsGood given l.fn.events.items
+      → AreAllowed given l.fn.events.items
       → (now : Given) × (more : Log) × StandsFor l.now now more
-      × AreAllowed IsGood now l.left.items × (with_events now l.left.items ≡ with_events given l.fn.events.items);
+      × AreAllowed now l.left.items × (with_events now l.left.items ≡ with_events given l.fn.events.items);
 }
 
 abbrev pub decreases-loop-event : goal.decreases-loop-event

@@ -1,6 +1,4 @@
 use Rattle.std.proofs.Common.{refl}
-use Rattle.sdd_dm.specs.Due as dm
-use Rattle.sdd_dm.specs.Fits as dm_fits
 use Rattle.sdd_dm.specs.Stands as dm_stands
 use Rattle.sdd_tm.specs.Due as tm
 use Rattle.sdd_tm.specs.Fits as tm_fits

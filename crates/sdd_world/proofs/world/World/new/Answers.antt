@@ -1,4 +1,4 @@
-use Rattle.std.proofs.Common.{ap, refl, subst, sym}
+use Rattle.std.proofs.Common.{refl, sym}
 use Rattle.sdd_world.proofs.Beginning.{begins}
 use Rattle.sdd_world.proofs.Begun.{all_begun}
 use Rattle.sdd_world.proofs.world.World.new.Goals as goal
