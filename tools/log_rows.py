@@ -1,5 +1,6 @@
 """The workloads whose logs are written by write_log_rows.py: a name, the module of crates/sdd_rows/specs in
-which it stands, what it shows, its catalogue and the workload."""
+which it stands, what it shows, its catalogue and the workload; where its data modules are made of different
+rows, also the rows of each, in the place of the workload's."""
 
 ITEM = """[[relation]]
 name = "item"
@@ -50,6 +51,7 @@ TWO_WRITERS = of_items(3, 1, [("a", None, None, [1])], [("rd", 1, [("a", 1)], []
 TWO_COPIES = of_items(2, 2, [("a", None, None, [1, 2])], [("j", 1, [], ["a"]), ("k", 2, [], ["a"])])
 WRITER_OF_TWO = of_items(2, 1, two_fragments(1, 1), [("p", 1, [("a", 1)], ["b"]), ("q", 2, [("b", 1)], ["a", "b"])])
 TWO_OF_TWO = of_items(3, 1, two_fragments(1, 1), [("rd", 1, [("a", 1), ("b", 1)], []), ("j", 2, [], ["a"]), ("k", 3, [], ["a", "b"])])
+TWO_READERS = of_items(2, 3, [("a", None, None, [1, 2, 3])], [("rd", 1, [("a", 1)], []), ("re", 2, [("a", 3)], [])])
 THREE_RELATIONS = (
     "tms = 1\ndms = 3\n"
     + "".join(
@@ -124,5 +126,8 @@ ROWS = [
      PUT + "txn u T1\nquery 1.id from acct\ndone\nlist\nclass audit T1\nreads all D1\ndone\nsubmit p\nredeclare\nsubmit u\nsettle\nend\n"),
     ("down_and_up", "Downs", "a data module is down while a put comes, and applies it once it is up", ONE_CLASS, HELD_FOR_DOWN + "up D1\nend\n"),
     ("stays_down", "Downs", "while it is down it applies nothing", ONE_CLASS, HELD_FOR_DOWN + "end\n"),
+    ("different_rows", "Apart", "data modules are made of different rows: each reply is of the copies that were read", TWO_READERS,
+     "txn x T1\nquery 1.val from item\ndone\ntxn y T2\nquery 1.val from item\ndone\nsubmit x\nsettle\nsubmit y\nsettle\nend\n",
+     ("row item 1 5\n", "", "row item 1 6\n")),
     ("down_twice", "Downs", "an `up` where it is up and a `down` where it is down find nothing to do", ONE_CLASS, "up D1\ndown D1\ndown D1\nend\n"),
 ]

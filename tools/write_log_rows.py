@@ -201,8 +201,8 @@ def table(c):
     return [fields(edge=edge(e), block=b, protocol="P%d" % t.protocol.get(e, 1)) for e, b in zip(t.edges, t.blocks)]
 
 
-def written(name, shows, log):
-    """The definitions and equations of one log."""
+def written(name, shows, log, modules=None):
+    """The definitions and equations of one log, of the workload's rows or of those of each data module."""
     work = log.work
     count = len(log.entries)
     text = "" if shows is None else "-- %s\n\n" % shows
@@ -212,11 +212,11 @@ def written(name, shows, log):
     names = [whole_cat] if same else ["classes_of_%s_%d" % (name, k) for k in range(len(log.eras))]
     if not same:
         text += "".join("\n" + catalogue(era, n) for era, n in zip(log.eras, names))
-    rows = ["(%s, %s)" % (rel(r), row(x)) for r, x in work.rows]
+    each = [listed("(%s, %s)" % (rel(r), row(x)) for r, x in rows) for rows in modules or [work.rows] * log.whole.dms]
     txns = [fields(name="[]", tm=number("tm_no", t.tm), statements=listed(map(statement, t.stmts))) for t in work.txns]
     forces = ["(record {\n        catalogue = %s;\n        table =\n%s;\n      })" % (n, lines(table(era), 12)) for n, era in zip(names, log.eras)]
     text += "\nabbrev pub given_%s : Given\ngiven_%s = record {\n  catalogue = %s;\n  forces =\n%s;\n  rows = %s;\n  txns =\n%s;\n  events =\n%s;\n}\n" % (
-        name, name, whole_cat, lines(forces, 6), listed([listed(rows)] * log.whole.dms), lines(txns, 6), lines(map(event, work.events), 6))
+        name, name, whole_cat, lines(forces, 6), listed(each), lines(txns, 6), lines(map(event, work.events), 6))
     text += "\nabbrev pub log_of_%s : Log\nlog_of_%s = extended %d given_%s []\n" % (name, name, count, name)
     history = lines(["(%d, %s)" % (e, record(r)) for e, r in log.history()], 4)
     text += "\npub history_of_%s :\n    history log_of_%s ≡\n%s\nhistory_of_%s = refl\n" % (name, name, history, name)
@@ -270,9 +270,11 @@ def main():
         print("%d logs, %d entries, seeds %d to %d" % (len(parts), entries, first, seed - 1))
         return
     modules = {}
-    for name, module, shows, cat, work in ROWS:
+    for name, module, shows, cat, work, *apart in ROWS:
         c = model.parse_cat(cat)
-        text, count = written(name, shows, logs.the_log(c, model.parse_work(c, work), 18))
+        rows = [model.parse_work(c, part + "end\n").rows for part in apart[0]] if apart else None
+        log = logs.extend(logs.Log(c, model.parse_work(c, work), 18, rows))
+        text, count = written(name, shows, log, rows)
         modules.setdefault(module, []).append(text)
         print("%s.%s: %d entries" % (module, name, count))
     for module, parts in modules.items():
