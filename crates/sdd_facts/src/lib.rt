@@ -1,8 +1,8 @@
-//! What a world asks of a lawful log before it runs its modules: what is next to be handed over, to
-//! be given to a module, or to tick fits the module to which it goes.
+//! What the modules ask before each call of theirs: on every lawful log, what is next to be handed
+//! over, to be given to a module, or to tick fits the module to which it goes.
 //!
-//! The one contract to the layer above: all of it holds of the real modules (`law_facts` of
-//! `facts_laws`). It stands on the exchange of an attempt with a data module, which goes by turns
+//! The one contract to the layer above: all of it holds, so that a world can make the call
+//! (`law_facts` of `facts_laws`). It stands on the exchange of an attempt with a data module, which goes by turns
 //! (`dialogue_laws`), on the databases of snapshots and the changes of WRITEs (`effects_laws`), on
 //! the rows that are frozen, shipped and serve (`shipped_laws`, `served_laws`), and on bounds of
 //! clocks and times (`clocks_laws`).

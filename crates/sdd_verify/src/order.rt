@@ -66,18 +66,13 @@ fn named_on(
 }
 
 /// The class of a transaction; a number past the last has class 0.
-fn class_of(
-    alloc: Global,
-    catalogue: &Catalogue,
-    submitted: &Submitted,
-    number: TxnNo,
-) -> Result<ClassNo, NoMemory>
+fn class_of(catalogue: &Catalogue, submitted: &Submitted, number: TxnNo) -> ClassNo
     requires { All (Fits catalogue.now) submitted.now }
-    ensures { IfOk result (λ class. class.0 ≡ class_of catalogue.now submitted.now number) }
+    ensures { result.0 ≡ class_of catalogue.now submitted.now number }
 {
     match submitted.txn(number) {
-        Some(txn) => Ok(class_for(catalogue, txn)),
-        None => Ok(ClassNo(0)),
+        Some(txn) => class_for(catalogue, txn),
+        None => ClassNo(0),
     }
 }
 
@@ -104,7 +99,7 @@ fn is_in_turn(
 {
     let mut last: BTreeMap<u32, u32> = BTreeMap::new(alloc);
     'order: for number in order {
-        let class = class_of(alloc, catalogue, submitted, *number)?;
+        let class = class_of(catalogue, submitted, *number);
         if !may_stand_behind(last.get(&class.0), *number) {
             return Ok(false);
         }

@@ -1,7 +1,11 @@
 //! The running world: the modules of all sites and the network between them, driven by events.
 //!
 //! The one contract to the layer above: a world stands for the complete lawful log of the events
-//! that it was given, or a call ends it exactly where the limit ends that log.
+//! that it was given, one by one (`step`, `settle`) or as a schedule (`carry_out`), or the call ends
+//! it exactly where the limit ends that log.
+//!
+//! Below that, `Sites` hands each call to the module of one site, and the others stay; `home` tells
+//! the site of a transaction; on `Mail` messages travel as the bytes that spell them.
 #![tactic(auto)]
 
 mod ends;
