@@ -1,4 +1,5 @@
 pub mod FirstLines
+pub mod HasReport
 pub mod Moved
 pub mod Numbered
 pub mod OneList

@@ -5,5 +5,7 @@
 #![tactic(auto)]
 
 mod law;
+mod report_law;
 
 pub use law::law_verified;
+pub use report_law::law_has_report;
