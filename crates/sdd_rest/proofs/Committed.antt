@@ -1,6 +1,6 @@
 -- Where all is finished, every transaction that was submitted is committed, and nothing is pending.
 use Rattle.std.specs.List.{cons_option, list_any}
-use Rattle.std.specs.Prelude.{filter, filter_map, option_map, unwrap_or}
+use Rattle.std.specs.Prelude.{◌⊎◌, filter, filter_map, option_map, unwrap_or}
 use Rattle.std.proofs.Common.{ℕ, suc, zero, ◌++◌, ◌-◌, ◌==◌, ◌∙◌, ◌∷◌, ◌≡◌, ◌≤◌, Bool, List, None, Option, Some, [], ap, arith, false, if◌then◌else◌, inl, inr, length, refl, slice_get, subst, sym, true}
 use Rattle.std.proofs.Math.Decide.{dec_le}
 use Rattle.std.proofs.lemmas.Bool.{eqb-true}
@@ -20,7 +20,8 @@ use Rattle.sdd_lang.specs.declared.transaction.Txn.{Txn}
 use Rattle.sdd_module.specs.SiteLog.{Act, Did, Force, Records, Submits, in_force}
 use Rattle.sdd_order.specs.Numbers.{IsClass}
 use Rattle.sdd_order.specs.Places.{Stands}
-use Rattle.sdd_attempt.specs.Queues.{is_for}
+use Rattle.sdd_attempt.specs.Queues.{Queued, is_for, queue}
+use Rattle.sdd_laws.specs.Deeds.{IsSubmitted}
 use Rattle.sdd_laws.proofs.EraSets.{covered}
 use Rattle.sdd_laws.proofs.Lists.{first_passes}
 use Rattle.sdd_log.specs.Due.{home_of}
@@ -32,7 +33,7 @@ use Rattle.sdd_invariants.proofs.Fair.{all_new, home_fair}
 use Rattle.sdd_invariants.proofs.Lists.{member_there}
 use Rattle.sdd_invariants.proofs.Made.{permitted_before, place_of_act}
 use Rattle.sdd_invariants.proofs.Queues.{queue_is}
-use Rattle.sdd_invariants.specs.Steps.{home, is_committed, queued, submits_of}
+use Rattle.sdd_invariants.specs.Steps.{home, is_committed, queued, starts_of, submits_of}
 use Rattle.sdd_upheld.specs.Given.{AreNumbered}
 use Rattle.sdd_upheld.proofs.Classes.{IsForClass, at_home, force_there, further_back, home_by, home_setting, submit_local}
 use Rattle.sdd_upheld.proofs.Commits.{Told, commit_rec}
@@ -48,7 +49,7 @@ use Rattle.sdd_rest.specs.Quiet.{IsQuiet}
 
 -- the class of a transaction is one of the catalogue, and run at its module
 
-class_within : (cat : Catalogue) (txn : Txn) → IsClass cat (class_for cat txn)
+pub class_within : (cat : Catalogue) (txn : Txn) → IsClass cat (class_for cat txn)
 class_within cat txn = elim (dec_le 1 (class_for cat txn)) [
   | yes p ↦ (covered cat txn (class_for cat txn) refl p).class.to
   | no p ↦ omega (arith, p)
@@ -66,7 +67,7 @@ covers_home cat txn c e l =
           ap (λ k. (class_at cat k).tm.0) z ∙ eqb-true (class_at cat x).tm.0 txn.tm.0 q
     ] refl e
 
-home_is : (cat : Catalogue) (txn : Txn) (c : ℕ) → c ≡ class_for cat txn → home_by c txn ≡ home cat c
+pub home_is : (cat : Catalogue) (txn : Txn) (c : ℕ) → c ≡ class_for cat txn → home_by c txn ≡ home cat c
 home_is cat txn c e = elim (same_or_not c 0) [
   | inl p ↦ ap (λ k. home_by k txn) p ∙ ap (home cat) (sym p)
   | inr p ↦ (let same = covers_home cat txn c e (positive c p) in
@@ -165,6 +166,64 @@ all_committed g log h one none numbered done n k submitted =
     none_kept (queued c (at_home g c log)) (submits_of (home_setting g c) c (at_home g c log)) i.0
     (n, t.text) (sym q.is ∙ done.no_queue c (class_within g.catalogue t.text)) there in
     committed_there g log c n (if_left (is_committed c n (at_home g c log)) _ out)
+
+-- a transaction that was submitted is committed, or stands in the queue of its class
+
+some_kept : {A B : Type 0} (f : A → Option B) (xs : List A) (i : ℕ) (x : A) (y : B) → slice_get xs i ≡ Some x → f x ≡ Some y
+    → (j : ℕ) × (slice_get (filter_map f xs) j ≡ Some y)
+some_kept f [] i x y h e = cc
+some_kept f (z ∷ xs) zero x y h e =
+    let q : z ≡ x = cc in let r : f z ≡ Some y = subst (λ w. f w ≡ Some y) (sym q) e in (0, rw r refl)
+some_kept f (z ∷ xs) (suc i) x y h e =
+    let r = some_kept f xs i x y h e in
+    elim (f z) as (λ o. (j : ℕ) × (slice_get (cons_option o (filter_map f xs)) j ≡ Some y)) [ None ↦ r | Some w ↦ (suc r.0, r.1) ]
+
+pub record IsQueued (g : Given) (log : Log) (n : ℕ) : Type 0 where
+  pub text : Txn
+  pub text_is : txn_at g n ≡ Some text
+  pub place : ℕ
+  pub waiting : Queued
+  pub there : slice_get (queue (home_setting g (class_for g.catalogue text)) (class_for g.catalogue text) (at_home g (class_for g.catalogue text) log)) place
+      ≡ Some waiting
+  pub number_is : waiting.number ≡ n
+
+pub committed_or_queued : (g : Given) (log : Log) → IsPermitted g log → HasOneTable g → redeclares log ≡ 0
+    → AreNumbered g log → (n k : ℕ) → IsSubmitted (history log) n k → WasCommitted (history log) n ⊎ IsQueued g log n
+committed_or_queued g log permitted one none numbered n k submitted =
+    let s = submit_in g log n k permitted submitted in
+    let now : IsPermitted g (Submitted s.at n ∷ s.rest) = permitted_before g s.later (Submitted s.at n ∷ s.rest) (subst (IsPermitted g) s.is permitted) in
+    let x = given_at g s.rest s.at n now in
+    let t = text_of g log n k permitted numbered s in
+    let c : ℕ = class_for g.catalogue t.text in
+    let first : redeclares s.rest ≡ 0 = first_list log s.later s.rest (Submitted s.at n) none s.is in
+    let force : (force_at g (redeclares s.rest)).catalogue ≡ g.catalogue = ap (λ i. (force_at g i).catalogue) first ∙ one.same in
+    let class : class_for (force_at g (redeclares s.rest)).catalogue t.text ≡ c = ap (λ w. class_for w t.text) force in
+    let at : s.at ≡ home g.catalogue c =
+    x.at_is ∙ ap (home_of (force_at g (redeclares x.earlier)).catalogue) t.is
+    ∙ ap (λ i. home_of (force_at g i).catalogue (Some t.text)) (sym (ap redeclares x.is))
+    ∙ ap (λ w. home_of w (Some t.text)) force ∙ home_is g.catalogue t.text c refl in
+    let is : log ≡ s.later ++ Submitted (home g.catalogue c) n ∷ s.rest = s.is ∙ ap (λ a. s.later ++ Submitted a n ∷ s.rest) at in
+    let m = submit_local g c n t.text s.later s.rest t.is in
+    let local : at_home g c log ≡ m.0 ++ Submits n t.text ∷ at_home g c s.rest = ap (at_home g c) is ∙ m.1 in
+    let i = submitted_in (home_setting g c) c n t.text m.0 (at_home g c s.rest) (for_class g c s.rest t.text class) in
+    let there : slice_get (submits_of (home_setting g c) c (at_home g c log)) i.0 ≡ Some (n, t.text) =
+    subst (λ l. slice_get (submits_of (home_setting g c) c l) i.0 ≡ Some (n, t.text)) (sym local) i.1 in
+    let q = queue_is (home_setting g c) c (at_home g c log) (home_fair g c log permitted) (all_new g (home g.catalogue c) log permitted) in
+    let waiting : Queued = record { number = n; text = t.text; tries = starts_of c n (at_home g c log) } in
+    elim (is_committed c n (at_home g c log)) as (λ b. is_committed c n (at_home g c log) ≡ b → WasCommitted (history log) n ⊎ IsQueued g log n) [
+      | true ↦ λ e. inl (committed_there g log c n e)
+      | false ↦ λ e.
+          let out : queued c (at_home g c log) (n, t.text) ≡ Some waiting = rw e refl in
+          let r = some_kept (queued c (at_home g c log)) (submits_of (home_setting g c) c (at_home g c log)) i.0 (n, t.text) waiting there out in
+          inr (record {
+            text = t.text;
+            text_is = t.is;
+            place = r.0;
+            waiting = waiting;
+            there = ap (λ qs. slice_get qs r.0) q.is ∙ r.1;
+            number_is = refl;
+          })
+    ] refl
 
 -- what is found of what is left is nothing
 

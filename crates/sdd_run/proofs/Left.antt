@@ -8,6 +8,7 @@ use Rattle.std.proofs.lemmas.Option.{slice_get_past}
 use Rattle.sdd_base.specs.Numbers.{dm_no}
 use Rattle.sdd_base.specs.declared.event.Event.{Event}
 use Rattle.sdd_base.specs.declared.event.Event.TheVariants.{Lose}
+use Rattle.sdd_base.specs.declared.number.FragNo.{FragNo}
 use Rattle.sdd_base.specs.declared.number.RelNo.{RelNo}
 use Rattle.sdd_base.specs.declared.number.TxnNo.{TxnNo}
 use Rattle.sdd_base.specs.declared.site.Site.TheVariants.{U, D}
@@ -21,7 +22,9 @@ use Rattle.sdd_history.specs.Records.{History}
 use Rattle.sdd_history.specs.declared.record.Rec.{Rec}
 use Rattle.sdd_history.specs.declared.record.Rec.TheVariants.{Nothing}
 use Rattle.sdd_lang.specs.Database.{Item, Row}
+use Rattle.sdd_laws.specs.Copied.{AreAppliedAlike}
 use Rattle.sdd_laws.specs.Replay.{AreAllApplied, run}
+use Rattle.sdd_laws.proofs.SameCopies.{equal_copies}
 use Rattle.sdd_laws.specs.Snapshots as laws
 use Rattle.sdd_log.specs.Due.{due_by, note_if}
 use Rattle.sdd_log.specs.Entries.{Given, Log, Mark, Notes, history}
@@ -104,6 +107,28 @@ module _ (g : Given) (rows : List (RelNo × Row)) (log : Log) (sound : IsSound g
       (eras_of (noted log) none) d (length (history log)) Nothing
       (at_the_end log) f copied
       ∙ ap (contents f) (same_dated g.catalogue rows (history log) _ d)
+
+  -- a copy that is told of has what the history gives
+  told_rows : (copy : CopyTable) → Contains (tables_of g log) copy
+      → copy.rows ≡ map (λ e. e.1) (laws.copy_at g.catalogue rows (history log) copy.dm.0 (length (history log)) copy.frag.0)
+  told_rows copy there =
+      let at = Contains-from_flat_map (tables_at g log) (numbers_to g.catalogue.dms) copy there in
+      let xs = dated (setting_of g (D (dm_no at.0))) (local_of g (D (dm_no at.0)) log) in
+      let of = Contains-from_map (table_of at.0 xs) _ copy at.2 in
+      let copied = Contains-from_filter (has_copy g.catalogue at.0) (numbers_to (length g.catalogue.fragments)) of.0 of.1 in
+      subst (λ (t : CopyTable). t.rows ≡ map (λ e. e.1) (laws.copy_at g.catalogue rows (history log) t.dm.0 (length (history log)) t.frag.0))
+      (sym of.2) (ap (λ l. map (λ e. e.1) l) (contents_are at.0 of.0 copied.1))
+
+  -- two copies of a fragment at which the same is applied that changes it are equal
+  pub alike_in : (one two : CopyTable) → Contains (tables_of g log) one → Contains (tables_of g log) two → one.frag ≡ two.frag
+      → AreAppliedAlike (history log) one.frag.0 one.dm.0 (length (history log)) two.dm.0 (length (history log))
+      → one.rows ≡ two.rows
+  alike_in one two here there same alike =
+      let h = history log in
+      told_rows one here
+      ∙ ap (λ l. map (λ e. e.1) l) (equal_copies g.catalogue rows h one.frag.0 one.dm.0 (length h) two.dm.0 (length h) alike)
+      ∙ ap (λ (f : FragNo). map (λ e. e.1) (laws.copy_at g.catalogue rows h two.dm.0 (length h) f.0)) same
+      ∙ sym (told_rows two there)
 
   module _ (order : List TxnNo) (serial : IsSerial g.catalogue (history log) order) where
     left_at : (d f : ℕ) → has_copy g.catalogue d f ≡ true → AreAllApplied (history log) f d (length (history log))

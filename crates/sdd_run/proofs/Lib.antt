@@ -19,3 +19,8 @@ pub mod Reported
 pub mod Retold
 pub mod NonePending
 pub mod Settled
+pub mod OneReport
+pub mod Listed
+pub mod Lossless
+pub mod FreeAttempts
+pub mod FreeAnswered

@@ -12,11 +12,11 @@ use Rattle.sdd_order.specs.Attempts.{Committed, IsCommitted}
 use Rattle.sdd_order.specs.Orders.{IsAlong, IsSerial}
 use Rattle.sdd_run.specs.Standing.{times_in}
 
-times_more : (m : TxnNo) (rest : List TxnNo) (n : ℕ) → times_in n (m ∷ rest) ≡ cond (m.0 == n) 1 0 + times_in n rest
+pub times_more : (m : TxnNo) (rest : List TxnNo) (n : ℕ) → times_in n (m ∷ rest) ≡ cond (m.0 == n) 1 0 + times_in n rest
 times_more m rest n = sum_by-cons (λ (k : TxnNo). cond (k.0 == n) 1 0) m rest
 
 -- one that isn't there stands there at no place
-none_there : (order : List TxnNo) (n : ℕ) → ((m : TxnNo) → Contains order m → m.0 ≢ n) → times_in n order ≡ 0
+pub none_there : (order : List TxnNo) (n : ℕ) → ((m : TxnNo) → Contains order m → m.0 ≢ n) → times_in n order ≡ 0
 none_there [] n other = refl
 none_there (m ∷ rest) n other =
     times_more m rest n ∙ ap (λ b. cond b 1 0 + times_in n rest) (ne_eqb m.0 n (other m (Contains-here m rest)))

@@ -1,5 +1,5 @@
 -- The history of a run has a serial order, along which one plain database gives its replies.
-use Rattle.std.proofs.Common.{◌≡◌, List, length, refl}
+use Rattle.std.proofs.Common.{ℕ, suc, zero, ◌≡◌, ◌∷◌, List, Some, [], length, refl, slice_get, subst}
 use Rattle.std.specs.Prelude.{Contains}
 use Rattle.std.specs.List.{All, AllZip}
 use Rattle.std.proofs.lemmas.List.Elements.{All-weaker}
@@ -36,9 +36,24 @@ use Rattle.sdd_run.specs.Runs.{given_of}
 use Rattle.sdd_run.proofs.Beginning.{rows_given}
 use Rattle.sdd_run.proofs.Goods.{held, puts_held}
 use Rattle.sdd_run.proofs.Homes.{is_dm}
-use Rattle.sdd_run.proofs.Left.{left_in}
+use Rattle.sdd_graph.specs.Edges.{IsClassOf}
+use Rattle.sdd_module.specs.SiteLog.{Force}
+use Rattle.sdd_log.specs.Locals.{IsForce}
+use Rattle.sdd_laws.specs.Copied.{AreAppliedAlike}
+use Rattle.sdd_order.specs.Attempts.{Attempt, IsAttempt}
+use Rattle.sdd_rejections.specs.Few.{AreFewRejected}
+use Rattle.sdd_rejections.proofs.OfLogs.{few_rejected}
+use Rattle.sdd_waiting.specs.Free.{IsFree, IsFreeClass}
+use Rattle.sdd_run.specs.Free.{IsUndisturbed}
+use Rattle.sdd_run.proofs.FreeAttempts.{undisturbed}
+use Rattle.sdd_run.proofs.Left.{alike_in, left_in}
 use Rattle.sdd_run.proofs.Marked.{are_numbered}
 use Rattle.sdd_run.proofs.Submissions.{once}
+
+-- a list of one has nothing else
+only_force : (one f : Force) (k : ℕ) → slice_get (one ∷ []) k ≡ Some f → one ≡ f
+only_force one f zero e = cc
+only_force one f (suc k) e = cc
 
 module _ (cat : Catalogue) (table : List Entry) (work : Workload) (sound : IsSound cat) (valid : IsValid cat work) (tabled : IsTable cat table)
     (log : Log) (the_log : IsTheLog (given_of cat table work) log) (none : redeclares log ≡ 0) where
@@ -73,6 +88,27 @@ module _ (cat : Catalogue) (table : List Entry) (work : Workload) (sound : IsSou
 
   pub replayed : AllZip (IsReplyOf (history log)) (serial_order cat (history log)) (run cat work.rows work.txns (serial_order cat (history log))).0
   replayed = replies (given_of cat table work) work.rows (one_era cat) log (serial_order cat (history log)) sound fine permitted eras_are serial
+
+  pub few : AreFewRejected (history log)
+  few = few_rejected (given_of cat table work) log (one_era cat) sound permitted eras_are
+
+  free_class : (c : ℕ) → IsClassOf cat c → IsFree cat c → IsFreeClass (given_of cat table work) c
+  free_class c class free =
+      let force : Force = record { catalogue = cat; table = table } in
+      record {
+        class = class;
+        tabled = λ k f e. subst IsForce (only_force force f k e) (record { table = tabled });
+        free = λ k f e. subst (λ (x : Force). IsFree x.catalogue c) (only_force force f k e) free;
+      }
+
+  pub free_undisturbed : (a : Attempt) → IsAttempt (history log) a → IsClassOf cat a.class → IsFree cat a.class → IsUndisturbed (history log) a
+  free_undisturbed a started class free =
+      undisturbed (given_of cat table work) log (one_era cat) permitted starts a started (free_class a.class class free)
+
+  pub alike : (one two : CopyTable) → Contains (tables_of (given_of cat table work) log) one
+      → Contains (tables_of (given_of cat table work) log) two → one.frag ≡ two.frag
+      → AreAppliedAlike (history log) one.frag.0 one.dm.0 (length (history log)) two.dm.0 (length (history log)) → one.rows ≡ two.rows
+  alike = alike_in (given_of cat table work) work.rows log sound fine permitted (record { table = tabled }) refl none
 
   pub left : (copy : CopyTable) → Contains (tables_of (given_of cat table work) log) copy
       → AreAllApplied (history log) copy.frag.0 copy.dm.0 (length (history log))

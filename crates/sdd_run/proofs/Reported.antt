@@ -26,9 +26,9 @@ use Rattle.sdd_run.specs.Worlds.{IsRunOf}
 use Rattle.sdd_run.proofs.Beginning.{all_given}
 use Rattle.sdd_run.proofs.InTurn.{in_turn}
 use Rattle.sdd_run.proofs.Once.{each_once}
-use Rattle.sdd_run.proofs.Ordered.{left, orderable, replayed, serial, starts}
+use Rattle.sdd_run.proofs.Ordered.{alike, few, free_undisturbed, left, orderable, replayed, serial, starts}
 use Rattle.sdd_run.proofs.Retold.{retold}
-use Rattle.sdd_run.proofs.Settled.{settled}
+use Rattle.sdd_run.proofs.Settled.{applied, nothing_lost, quiet_behind, settled}
 use Rattle.sdd_upheld.specs.Given.{one_era}
 
 pub if_ok : {A E : Type 0} (res : Result A E) (P Q : A → Type 0) → ((x : A) → P x → Q x) → IfOk res P → IfOk res Q
@@ -85,7 +85,16 @@ reported cat table work log sound valid tabled the_log none text is =
       replies = given;
       told = is ∙ retold (report_of (given_of cat table work) log) _ fine.one_commit given;
       copies = left cat table work sound valid tabled log the_log none;
+      alike = alike cat table work sound valid tabled log the_log none;
+      free = free_undisturbed cat table work sound valid tabled log the_log none;
+      rejections = few cat table work sound valid tabled log the_log none;
+      nothing_lost = nothing_lost cat table work sound valid tabled log the_log none fine along
+          (starts cat table work sound valid tabled log the_log none).one_submit;
+      quiet = quiet_behind cat table work sound valid tabled log the_log none;
       settled = settled cat table work sound valid tabled log the_log none fine along;
+      left = λ links up copy there.
+          left cat table work sound valid tabled log the_log none copy there
+          (applied cat table work sound valid tabled log the_log none links up copy there);
     }
 
 -- the summary of the run: of counts that were made of its records

@@ -1,14 +1,23 @@
 -- A run that a settle ends leaves nothing undone, where no data module is down at its end.
-use Rattle.std.proofs.Common.{ℕ, ◌≡◌, List, length, refl, subst, sym}
-use Rattle.sdd_base.specs.Numbers.{txn_no}
+use Rattle.std.proofs.Common.{ℕ, ◌≡◌, List, None, ap, length, refl, subst, sym}
+use Rattle.std.specs.Prelude.{◌⊎◌, Contains}
+use Rattle.sdd_base.specs.Numbers.{dm_no, txn_no}
+use Rattle.sdd_base.specs.declared.event.Event.TheVariants.{Settle}
+use Rattle.sdd_base.specs.declared.site.Site.TheVariants.{D}
 use Rattle.sdd_base.specs.declared.number.TxnNo.{TxnNo}
-use Rattle.sdd_catalog.specs.Catalogue.{Catalogue}
+use Rattle.sdd_catalog.specs.Catalogue.{Catalogue, has_copy, numbers_to}
 use Rattle.sdd_catalog.specs.Rules.{IsSound}
 use Rattle.sdd_history.specs.Records.{History}
 use Rattle.sdd_history.specs.declared.record.Rec.TheVariants.{Commit}
-use Rattle.sdd_log.specs.Entries.{Log, history}
-use Rattle.sdd_log.specs.Lawful.{IsTheLog}
-use Rattle.sdd_log.specs.Locals.{redeclares}
+use Rattle.sdd_contents.proofs.Members.{Contains-from_filter, Contains-from_flat_map, Contains-from_map}
+use Rattle.sdd_dm.specs.Copies.{dated}
+use Rattle.sdd_laws.specs.Deeds.{IsSubmitted}
+use Rattle.sdd_laws.specs.Replay.{AreAllApplied}
+use Rattle.sdd_log.proofs.NewMarks.{lawful_permitted}
+use Rattle.sdd_log.specs.Due.{next}
+use Rattle.sdd_log.specs.Entries.{Given, Log, history, with_event}
+use Rattle.sdd_log.specs.Lawful.{IsLawful, IsTheLog}
+use Rattle.sdd_log.specs.Locals.{local_of, redeclares, setting_of}
 use Rattle.sdd_order.specs.Attempts.{Attempt, Committed, HasCommit, IsAttempt, IsCommitted}
 use Rattle.sdd_order.specs.Orders.{IsOrderable, IsSerial}
 use Rattle.sdd_order.specs.Places.{Stands}
@@ -20,14 +29,23 @@ use Rattle.sdd_script.specs.declared.workload.Workload.{Workload}
 use Rattle.sdd_world.specs.AtSites.{standing_at}
 use Rattle.sdd_world.specs.Standings.{standing_at_t, standing_at_u}
 use Rattle.sdd_upheld.specs.Given.{SubmitGiven}
-use Rattle.sdd_rest.proofs.Settled.{settle_ends, settled_is_committed}
+use Rattle.sdd_upheld.proofs.Numbered.{lawful_numbered}
+use Rattle.sdd_report.specs.declared.copies.CopyTable.{CopyTable}
+use Rattle.sdd_settling.proofs.Settled.{quiet_at_last}
+use Rattle.sdd_rest.proofs.Copies.{applied_at_copies}
+use Rattle.sdd_rest.proofs.Settled.{settled_is_committed, settled_is_finished, settled_is_quiet}
 use Rattle.sdd_rest.specs.Committed.{AllCommitted, WasCommitted}
 use Rattle.sdd_rest.specs.Premises.{HasOneTable}
+use Rattle.sdd_rest.specs.Settled.{IsAtEnd, IsSettled}
+use Rattle.sdd_run.specs.Copies.{table_of, tables_at, tables_of}
 use Rattle.sdd_run.specs.Reports.{report_of}
 use Rattle.sdd_run.specs.Runs.{given_of}
-use Rattle.sdd_run.specs.Settled.{EndsWithSettle, NoneIsDown, TellsAllCommitted}
+use Rattle.sdd_run.specs.Settled.{EndsQuiet, EndsWithSettle, LosesNothing, NoneIsDown, TellsAllCommitted}
 use Rattle.sdd_run.specs.Standing.{times_in}
+use Rattle.sdd_run.specs.Pending.{IsListed}
 use Rattle.sdd_run.proofs.Goods.{fits_given}
+use Rattle.sdd_run.proofs.Listed.{each_listed}
+use Rattle.sdd_run.proofs.Lossless.{in_one}
 use Rattle.sdd_run.proofs.Marked.{named}
 use Rattle.sdd_run.proofs.NonePending.{none_pending}
 use Rattle.sdd_run.proofs.Once.{each_once}
@@ -59,23 +77,62 @@ module _ (cat : Catalogue) (table : List Entry) (work : Workload) (sound : IsSou
   submit_given = record { once = once work.events valid.submitted; given = λ n there. named cat (length work.txns) n work.events valid.events there }
 
   module _ (log : Log) (the_log : IsTheLog (given_of cat table work) log) (none : redeclares log ≡ 0) where
-    all_committed : EndsWithSettle work.events → NoneIsDown cat log → AllCommitted (history log)
-    all_committed ends up =
-        settled_is_committed (given_of cat table work) log one_table submit_given
-        (settle_ends (given_of cat table work) log ends.before ends.is (record {
-          lawful =
-              the_log.lawful;
-          complete = the_log.complete;
-          one_list = none;
-          up = up;
-        }))
+    at_end : NoneIsDown cat log → IsAtEnd (given_of cat table work) log
+    at_end up = record { lawful = the_log.lawful; complete = the_log.complete; one_list = none; up = up }
 
-    pub settled : IsOrderable cat (history log) → IsSerial cat (history log) (serial_order cat (history log)) → EndsWithSettle work.events → NoneIsDown cat log
+    is_settled : EndsQuiet (given_of cat table work) log → NoneIsDown cat log → IsSettled (given_of cat table work) log
+    is_settled links up = record { at_end = at_end up; links = links }
+
+    -- behind a settle the links are quiet
+    pub quiet_behind : EndsWithSettle work.events → EndsQuiet (given_of cat table work) log
+    quiet_behind ends =
+        let g : Given = given_of cat table work in
+        let before : Given = record g { events = ends.before } in
+        let same : g ≡ with_event before Settle = ap (λ es. record g { events = es }) ends.is in
+        quiet_at_last before log (subst (λ x. IsLawful x log) same the_log.lawful)
+        (subst (λ x. next x log ≡ None) same the_log.complete)
+
+    all_committed : EndsQuiet (given_of cat table work) log → NoneIsDown cat log → AllCommitted (history log)
+    all_committed links up = settled_is_committed (given_of cat table work) log one_table submit_given (is_settled links up)
+
+    pub settled : IsOrderable cat (history log) → IsSerial cat (history log) (serial_order cat (history log))
+        → EndsQuiet (given_of cat table work) log → NoneIsDown cat log
         → TellsAllCommitted (report_of (given_of cat table work) log)
-    settled fine serial ends up =
-        let all = all_committed ends up in
+    settled fine serial links up =
+        let all = all_committed links up in
         record {
           committed = all;
           in_order = λ n place there. stands_once cat (history log) (serial_order cat (history log)) fine serial n (all n place there);
           none_pending = none_pending (standing_at standing_at_u standing_at_t) (given_of cat table work) log all;
         }
+
+    -- each transaction that was submitted is committed or listed
+    pub listed : (n place : ℕ) → IsSubmitted (history log) n place
+        → WasCommitted (history log) n ⊎ IsListed (report_of (given_of cat table work) log).pending n
+    listed =
+        each_listed (given_of cat table work) log (lawful_permitted (given_of cat table work) log submit_given.once the_log.lawful)
+        one_table none (lawful_numbered (given_of cat table work) log submit_given the_log.lawful)
+
+    -- and is so once
+    pub nothing_lost : IsOrderable cat (history log) → IsSerial cat (history log) (serial_order cat (history log))
+        → ((n j k : ℕ) → IsSubmitted (history log) n j → IsSubmitted (history log) n k → j ≡ k)
+        → LosesNothing (report_of (given_of cat table work) log)
+    nothing_lost fine serial one n place there =
+        in_one (standing_at standing_at_u standing_at_t) (given_of cat table work) log cat (serial_order cat (history log)) serial
+        (λ m w. stands_once cat (history log) (serial_order cat (history log)) fine serial m w) one n (listed n place there)
+
+    -- at each copy all is applied that changed its fragment
+    pub applied : EndsQuiet (given_of cat table work) log → NoneIsDown cat log
+        → (copy : CopyTable) → Contains (tables_of (given_of cat table work) log) copy
+        → AreAllApplied (history log) copy.frag.0 copy.dm.0 (length (history log))
+    applied links up copy there =
+        let g : Given = given_of cat table work in
+        let s = is_settled links up in
+        let h = settled_is_quiet g log submit_given.once s in
+        let done = settled_is_finished g log one_table submit_given.once s in
+        let at = Contains-from_flat_map (tables_at g log) (numbers_to cat.dms) copy there in
+        let xs = dated (setting_of g (D (dm_no at.0))) (local_of g (D (dm_no at.0)) log) in
+        let of = Contains-from_map (table_of at.0 xs) _ copy at.2 in
+        let copied = Contains-from_filter (has_copy cat at.0) (numbers_to (length cat.fragments)) of.0 of.1 in
+        subst (λ (t : CopyTable). AreAllApplied (history log) t.frag.0 t.dm.0 (length (history log)))
+        (sym of.2) (applied_at_copies g log of.0 at.0 h one_table none done.idle copied.1)

@@ -1,4 +1,5 @@
 pub mod Copies
+pub mod Free
 pub mod Pending
 pub mod Reports
 pub mod Runs

@@ -1,5 +1,5 @@
 -- What is pending when a run ends: the transactions that were submitted and aren't committed, and why.
-use Rattle.std.specs.Prelude.{ℕ, ◌==◌, Bool, false, not, if◌then◌else◌, List, filter_map, find, Option, Some, None}
+use Rattle.std.specs.Prelude.{ℕ, ◌==◌, ◌≡◌, Bool, false, not, if◌then◌else◌, List, filter_map, find, slice_get, Option, Some, None}
 use Rattle.std.specs.List.{list_any}
 use Rattle.std.specs.Option.{option_map}
 use Rattle.sdd_base.specs.Numbers.{dm_no}
@@ -82,3 +82,10 @@ pending_by tell g log all _ = None
 -- in order of submission
 abbrev pub pending_of : Telling → Given → Log → List Pending
 pending_of tell g log = filter_map (pending_by tell g log (history log)) (history log)
+
+-- transaction n is listed as pending
+pub record IsListed (left : List Pending) (n : ℕ) : Type 0 where
+  pub place : ℕ
+  pub one : Pending
+  pub there : slice_get left place ≡ Some one
+  pub txn_is : one.txn.0 ≡ n

@@ -6,10 +6,12 @@ use Rattle.sdd_protocol.specs.Protocols.{IsTable}
 use Rattle.sdd_protocol.specs.declared.entry.Entry.{Entry}
 use Rattle.sdd_script.specs.declared.workload.Workload.{Workload}
 use Rattle.sdd_make.specs.Summary.{summary_of, summary_text}
+use Rattle.sdd_graph.specs.Edges.{IsClassOf}
+use Rattle.sdd_laws.specs.Copied.{AreAppliedAlike}
 use Rattle.sdd_laws.specs.Replay.{AreAllApplied, IsReplyOf, run}
 use Rattle.sdd_log.specs.Entries.{Given, Log, history, marks}
 use Rattle.sdd_log.specs.Lawful.{EndsByLimit, IsTheLog}
-use Rattle.sdd_order.specs.Attempts.{Committed, IsCommitted}
+use Rattle.sdd_order.specs.Attempts.{Attempt, Committed, IsAttempt, IsCommitted}
 use Rattle.sdd_order.specs.Orders.{IsOrderable, IsSerial}
 use Rattle.sdd_order.specs.SerialOrder.{serial_order}
 use Rattle.sdd_report.specs.Committed.{names_of, order_line}
@@ -18,7 +20,10 @@ use Rattle.sdd_report.specs.Report.{after_replies, report_text}
 use Rattle.sdd_report.specs.Trace.{trace}
 use Rattle.sdd_report.specs.declared.copies.CopyTable.{CopyTable}
 use Rattle.sdd_run.specs.Copies.{rows_left, tables_of}
-use Rattle.sdd_run.specs.Settled.{EndsWithSettle, NoneIsDown, TellsAllCommitted}
+use Rattle.sdd_rejections.specs.Few.{AreFewRejected}
+use Rattle.sdd_waiting.specs.Free.{IsFree}
+use Rattle.sdd_run.specs.Free.{IsUndisturbed}
+use Rattle.sdd_run.specs.Settled.{EndsQuiet, EndsWithSettle, LosesNothing, NoneIsDown, TellsAllCommitted}
 use Rattle.sdd_run.specs.Standing.{IsSubmittedBefore, StandsBefore, times_in}
 use Rattle.sdd_run.specs.Reports.{report_of}
 
@@ -63,9 +68,24 @@ pub record IsReportOn (cat : Catalogue) (work : Workload) (text : List ℕ) : Ty
   pub copies : (copy : CopyTable) → Contains (tables_of (given_of cat table work) log) copy
       → AreAllApplied (history log) copy.frag.0 copy.dm.0 (length (history log))
       → copy.rows ≡ rows_left cat (run cat work.rows work.txns (serial_order cat (history log))).1 copy.frag.0
-  -- Where a settle is the last event and no data module is down at the end, each transaction that was submitted is
-  -- committed, so it stands in the order, and none is pending.
-  pub settled : EndsWithSettle work.events → NoneIsDown cat log → TellsAllCommitted (report_of (given_of cat table work) log)
+  -- Two copies of a fragment at which the same transactions are applied that change it list the same rows.
+  pub alike : (one two : CopyTable) → Contains (tables_of (given_of cat table work) log) one
+      → Contains (tables_of (given_of cat table work) log) two → one.frag ≡ two.frag
+      → AreAppliedAlike (history log) one.frag.0 one.dm.0 (length (history log)) two.dm.0 (length (history log)) → one.rows ≡ two.rows
+  -- No attempt of a class that lies on no simple cycle of the conflict graph waits or is rejected; and of each transaction
+  -- no more attempts are rejected than other transactions are committed.
+  pub free : (a : Attempt) → IsAttempt (history log) a → IsClassOf cat a.class → IsFree cat a.class → IsUndisturbed (history log) a
+  pub rejections : AreFewRejected (history log)
+  -- Each transaction that was submitted stands in the order once, or is listed as pending once, and none does both.
+  pub nothing_lost : LosesNothing (report_of (given_of cat table work) log)
+  -- Where a settle is the last event, the links are quiet at the end. Where they are, and no data module is down then, each
+  -- transaction that was submitted is committed, so it stands in the order, and none is pending; and each copy lists the
+  -- rows that this database is left with.
+  pub quiet : EndsWithSettle work.events → EndsQuiet (given_of cat table work) log
+  pub settled : EndsQuiet (given_of cat table work) log → NoneIsDown cat log → TellsAllCommitted (report_of (given_of cat table work) log)
+  pub left : EndsQuiet (given_of cat table work) log → NoneIsDown cat log
+      → (copy : CopyTable) → Contains (tables_of (given_of cat table work) log) copy
+      → copy.rows ≡ rows_left cat (run cat work.rows work.txns (serial_order cat (history log))).1 copy.frag.0
 
 -- A text is the summary of the run: it tells how many transactions there are, how many Commits, Rejects and Waits the
 -- one log of what is given has, and how many events.

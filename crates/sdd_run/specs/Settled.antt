@@ -1,16 +1,17 @@
 -- A run that a settle ends, and that leaves nothing undone.
-use Rattle.std.specs.Prelude.{ℕ, ◌≡◌, false, List, [], ◌∷◌, ◌++◌, refl}
+use Rattle.std.specs.Prelude.{ℕ, ◌+◌, ◌≡◌, false, true, List, [], ◌∷◌, ◌++◌, refl}
 use Rattle.sdd_base.specs.Numbers.{txn_no}
 use Rattle.sdd_base.specs.declared.event.Event.{Event}
 use Rattle.sdd_base.specs.declared.event.Event.TheVariants.{Settle, Submit}
 use Rattle.sdd_catalog.specs.Catalogue.{Catalogue}
 use Rattle.sdd_laws.specs.Deeds.{IsSubmitted}
-use Rattle.sdd_log.specs.Entries.{Log}
-use Rattle.sdd_log.specs.Traffic.{is_down}
+use Rattle.sdd_net.specs.Links.{quiet}
+use Rattle.sdd_log.specs.Entries.{Given, Log}
+use Rattle.sdd_log.specs.Traffic.{all_links, calls_of, is_down}
 use Rattle.sdd_order.specs.Numbers.{IsModule}
 use Rattle.sdd_report.specs.Report.{Report}
 use Rattle.sdd_rest.specs.Committed.{AllCommitted}
-use Rattle.sdd_run.specs.Standing.{times_in}
+use Rattle.sdd_run.specs.Standing.{times_in, times_pending}
 
 -- a settle is the last of the events
 pub record EndsWithSettle (events : List Event) : Type 0 where
@@ -20,6 +21,15 @@ pub record EndsWithSettle (events : List Event) : Type 0 where
 -- at the end of the log no data module is down
 abbrev pub NoneIsDown : Catalogue → Log → Type 0
 NoneIsDown cat log = (d : ℕ) → IsModule cat d → is_down d log ≡ false
+
+-- at the end of the log no packet is in flight, and all is acknowledged
+abbrev pub EndsQuiet : Given → Log → Type 0
+EndsQuiet g log = quiet (all_links g) (calls_of log) ≡ true
+
+-- a report that loses nothing: each transaction that was submitted stands in the order once and isn't pending, or is
+-- listed as pending once and doesn't stand in the order
+abbrev pub LosesNothing : Report → Type 0
+LosesNothing r = (n place : ℕ) → IsSubmitted r.history n place → times_in n r.order + times_pending n r.pending ≡ 1
 
 -- a report by which each transaction that was submitted is committed and stands in the order once, and none is pending
 pub record TellsAllCommitted (r : Report) : Type 0 where

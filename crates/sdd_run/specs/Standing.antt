@@ -1,15 +1,21 @@
 -- Where transactions stand in an order, and which of two was submitted first.
-use Rattle.std.specs.Prelude.{ℕ, ◌==◌, ◌<◌, ◌≡◌, List, [], ◌∷◌, ◌++◌, Contains, count_by, refl}
+use Rattle.std.specs.Prelude.{ℕ, ◌==◌, ◌<◌, ◌≡◌, List, [], ◌∷◌, ◌++◌, Contains, count_by, map, refl}
 use Rattle.std.proofs.Common.{lit<}
-use Rattle.sdd_base.specs.Numbers.{txn_no}
+use Rattle.sdd_base.specs.Numbers.{class_no, txn_no}
 use Rattle.sdd_base.specs.declared.number.TxnNo.{TxnNo}
 use Rattle.sdd_history.specs.Records.{History}
 use Rattle.sdd_laws.specs.Deeds.{IsSubmitted}
 use Rattle.sdd_order.specs.Attempts.{Committed}
+use Rattle.sdd_report.specs.declared.pending.Pending.{Pending}
+use Rattle.sdd_report.specs.declared.pending.Why.TheVariants.{Queued}
 
 -- how often a transaction stands in an order
 abbrev pub times_in : ℕ → List TxnNo → ℕ
 times_in n order = count_by (λ (m : TxnNo). m.0 == n) order
+
+-- how often a transaction is listed as pending
+abbrev pub times_pending : ℕ → List Pending → ℕ
+times_pending n left = times_in n (map (λ (p : Pending). p.txn) left)
 
 -- of two transactions the first stands in the order before the second
 pub record StandsBefore (order : List TxnNo) (n m : ℕ) : Type 0 where
@@ -32,3 +38,10 @@ turned = record { front = []; rest = txn_no 3 ∷ txn_no 1 ∷ []; is = refl; be
 
 pub once_there : times_in 3 (txn_no 2 ∷ txn_no 3 ∷ txn_no 1 ∷ []) ≡ 1
 once_there = refl
+
+-- worked: the second is listed once, and the first not
+pub listed_once : times_pending 2 (record { txn = txn_no 2; why = Queued (class_no 1) 1 } ∷ []) ≡ 1
+listed_once = refl
+
+pub not_listed : times_pending 1 (record { txn = txn_no 2; why = Queued (class_no 1) 1 } ∷ []) ≡ 0
+not_listed = refl

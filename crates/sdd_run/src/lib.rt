@@ -6,10 +6,12 @@
 
 mod commits;
 mod copies;
+mod law;
 mod run;
 mod running;
 mod telling;
 mod unfinished;
 mod waits;
 
+pub use law::{law_free_answered, law_one_report};
 pub use run::{run_report, run_summary};

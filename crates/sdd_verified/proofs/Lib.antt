@@ -1,5 +1,11 @@
+pub mod AllCounted
+pub mod AllSummed
+pub mod EachMarked
 pub mod FirstLines
+pub mod HasReport
+pub mod MadeSettles
 pub mod Moved
+pub mod NoneDown
 pub mod Numbered
 pub mod OneList
 pub mod Positions

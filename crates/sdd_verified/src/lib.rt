@@ -5,5 +5,9 @@
 #![tactic(auto)]
 
 mod law;
+mod report_law;
+mod summary_law;
 
 pub use law::law_verified;
+pub use report_law::law_has_report;
+pub use summary_law::{law_all_committed, law_made_all_committed};

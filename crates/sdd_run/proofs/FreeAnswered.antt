@@ -1,0 +1,130 @@
+-- A READ of a free class is answered in the event in which it is handed over.
+use Rattle.std.proofs.Common.{ℕ, ◌++◌, ◌≡◌, ◌≤◌, ◌∙◌, ◌∷◌, List, [], ap, append_assoc, arith, false, inl, inr, length, refl, subst, sym, true}
+use Rattle.std.specs.Prelude.{◌⊎◌}
+use Rattle.sdd_base.specs.declared.condition.Cond.{Cond}
+use Rattle.sdd_base.specs.declared.number.ClassNo.{ClassNo}
+use Rattle.sdd_base.specs.declared.number.DmNo.{DmNo}
+use Rattle.sdd_base.specs.declared.number.Ts.{Ts}
+use Rattle.sdd_base.specs.declared.number.TxnNo.{TxnNo}
+use Rattle.sdd_base.specs.declared.site.Site.{Site}
+use Rattle.sdd_base.specs.declared.site.Site.TheVariants.{D}
+use Rattle.sdd_base.specs.declared.usage.Use.{Use}
+use Rattle.sdd_catalog.specs.Rules.{IsSound}
+use Rattle.sdd_history.specs.declared.record.Rec.{Rec}
+use Rattle.sdd_history.specs.declared.record.Rec.TheVariants.{Answer}
+use Rattle.sdd_wire.specs.declared.msg.Msg.{Msg}
+use Rattle.sdd_wire.specs.declared.msg.Msg.TheVariants.{Read}
+use Rattle.sdd_module.specs.SiteLog.{Records}
+use Rattle.sdd_log.specs.Entries.{Does, Entry, Given, Hand, Log, Mark, Notes, Redeclares, Round, Submitted, history, marks}
+use Rattle.sdd_log.specs.Lawful.{IsLawful, IsTheLog}
+use Rattle.sdd_log.specs.Permitted.{AreSubmittedOnce, IsPermitted}
+use Rattle.sdd_log.proofs.NewMarks.{lawful_permitted}
+use Rattle.sdd_invariants.proofs.Made.{permitted_before}
+use Rattle.sdd_order.specs.Places.{Stands, event_at}
+use Rattle.sdd_upheld.proofs.Makers.{act_kind}
+use Rattle.sdd_upheld.proofs.Places.{event_there, stands_there}
+use Rattle.sdd_waiting.proofs.EventOver.{over_at_end, over_before}
+use Rattle.sdd_waiting.proofs.OfLawful.{answered_by_end}
+use Rattle.sdd_waiting.specs.Answers.{EndsAnEvent, IsAnsweredIn, IsEventOver, begins_event}
+use Rattle.sdd_waiting.specs.Free.{IsFreeClass}
+use Rattle.sdd_run.specs.Free.{IsAnsweredWithin}
+
+-- the entries behind a place, till the event there is over
+
+record IsTillOver (g : Given) (after rest : Log) : Type 0 where
+  pub front : Log
+  pub within : Log
+  pub is : after ≡ front ++ within
+  pub over : IsEventOver g (within ++ rest)
+  pub same : marks (within ++ rest) ≡ marks rest
+
+no_mark : (e : Entry) (log : Log) → begins_event e ≡ false → marks (e ∷ log) ≡ marks log
+no_mark (Mark e) log h = cc
+no_mark (Round es) log h = refl
+no_mark (Redeclares t) log h = cc
+no_mark (Hand a b k m) log h = refl
+no_mark (Submitted a k) log h = refl
+no_mark Notes log h = refl
+no_mark (Does a act) log h = refl
+
+till : (g : Given) (after rest : Log) → IsLawful g (after ++ rest) → (marks (after ++ rest) ≡ marks rest) ⊎ IsTillOver g after rest
+till g [] rest h = inl refl
+till g (e ∷ after) rest h =
+    elim (till g after rest h.1) [
+      | inl same ↦
+          (elim (begins_event e)
+              as (λ b. begins_event e ≡ b → (marks (e ∷ (after ++ rest)) ≡ marks rest) ⊎ IsTillOver g (e ∷ after) rest) [
+            | true ↦ λ b. inr (record { front = e ∷ []; within = after; is = refl; over = over_before g e (after ++ rest) h b; same = same })
+            | false ↦ λ b. inl (no_mark e (after ++ rest) b ∙ same)
+          ] refl)
+      | inr x ↦ inr (record { front = e ∷ x.front; within = x.within; is = ap (λ l. e ∷ l) x.is; over = x.over; same = x.same })
+    ]
+
+till_over : (g : Given) (after rest : Log) → IsLawful g (after ++ rest) → IsEventOver g (after ++ rest) → IsTillOver g after rest
+till_over g after rest h over = elim (till g after rest h) [
+  | inl same ↦ record { front = []; within = after; is = refl; over = over; same = same }
+  | inr x ↦ x
+]
+
+lawful_end : (g : Given) (front log : Log) → IsLawful g (front ++ log) → IsLawful g log
+lawful_end g [] log h = h
+lawful_end g (e ∷ front) log h = lawful_end g front log h.1
+
+marks_later : (later log : Log) → marks log ≤ marks (later ++ log)
+marks_later [] log = omega arith
+marks_later (Mark e ∷ later) log = let h = marks_later later log in omega (arith, h)
+marks_later (Round es ∷ later) log = marks_later later log
+marks_later (Redeclares t ∷ later) log = let h = marks_later later log in omega (arith, h)
+marks_later (Hand a b k m ∷ later) log = marks_later later log
+marks_later (Submitted a k ∷ later) log = marks_later later log
+marks_later (Notes ∷ later) log = marks_later later log
+marks_later (Does a act ∷ later) log = marks_later later log
+
+-- an Answer of a permitted log is one of the module where it stands
+answer_at : (g : Given) (c : ℕ) (d dm : DmNo) (txn : TxnNo) (attempt : ℕ) (sends : List (Site × Msg)) (log : Log)
+    → IsPermitted g (Does (D d) (Records c (Answer txn attempt dm) sends) ∷ log) → dm ≡ d
+answer_at g c d dm txn attempt sends log h = act_kind g (D d) (Records c (Answer txn attempt dm) sends) log h
+
+-- where an Answer stands between a hand and the end of its event, it has the number of that event
+answered_there : (g : Given) (log front later before entry_log rest : Log) (c : ℕ) (d dm : DmNo) (txn : TxnNo) (attempt : ℕ) (sends : List (Site × Msg))
+    → log ≡ front ++ (entry_log ++ rest)
+    → entry_log ≡ later ++ Does (D d) (Records c (Answer txn attempt dm) sends) ∷ before
+    → marks (entry_log ++ rest) ≡ marks rest → IsPermitted g log → IsAnsweredWithin (history log) d txn attempt (marks rest)
+answered_there g log front later before entry_log rest c d dm txn attempt sends whole is same h =
+    let rec : Rec = Answer txn attempt dm in
+    let entry : Entry = Does (D d) (Records c rec sends) in
+    let all : entry_log ++ rest ≡ later ++ entry ∷ (before ++ rest) = ap (λ l. l ++ rest) is ∙ append_assoc later (entry ∷ before) rest in
+    let there : log ≡ (front ++ later) ++ entry ∷ (before ++ rest) =
+    whole ∙ ap (λ l. front ++ l) all ∙ sym (append_assoc front later (entry ∷ (before ++ rest))) in
+    let now : IsPermitted g (entry ∷ (before ++ rest)) = permitted_before g (front ++ later) (entry ∷ (before ++ rest)) (subst (IsPermitted g) there h) in
+    let named : dm ≡ d = answer_at g c d dm txn attempt sends (before ++ rest) now in
+    let low = marks_later before rest in
+    let high = marks_later (later ++ entry ∷ []) (before ++ rest) in
+    let joined : marks ((later ++ entry ∷ []) ++ (before ++ rest)) ≡ marks rest =
+    ap marks (append_assoc later (entry ∷ []) (before ++ rest)) ∙ ap marks (sym all) ∙ same in
+    let event : marks (before ++ rest) ≡ marks rest = omega (arith, low, high, joined) in
+    record {
+      place = length (history (before ++ rest));
+      answered = subst (λ l. Stands (history l) (length (history (before ++ rest))) (Answer txn attempt d)) (sym there)
+          (subst (λ m. Stands (history ((front ++ later) ++ entry ∷ (before ++ rest))) (length (history (before ++ rest))) (Answer txn attempt m)) named
+          (stands_there (front ++ later) entry (before ++ rest) rec refl));
+      event_is = ap (λ l. event_at (history l) (length (history (before ++ rest)))) there
+          ∙ event_there (front ++ later) entry (before ++ rest) rec refl ∙ event;
+    }
+
+pub free_answered : (g : Given) (log : Log) → IsSound g.catalogue → AreSubmittedOnce g.events → IsTheLog g log
+    → (after before : Log) (from : Site) (number : ℕ) (d : DmNo) (ts : Ts) (class : ClassNo) (txn : TxnNo) (attempt : ℕ) (conds : List Cond) (uses : List Use)
+    → log ≡ after ++ Hand from (D d) number (Read ts class txn attempt conds uses) ∷ before → 1 ≤ d.0 → d.0 ≤ g.catalogue.dms
+    → IsFreeClass g class.0 → IsAnsweredWithin (history log) d txn attempt (marks before)
+free_answered g log sound once the_log after before from number d ts class txn attempt conds uses is lo hi free =
+    let rest : Log = Hand from (D d) number (Read ts class txn attempt conds uses) ∷ before in
+    let lawful : IsLawful g (after ++ rest) = subst (IsLawful g) is the_log.lawful in
+    let over : IsEventOver g (after ++ rest) = subst (IsEventOver g) is (over_at_end g log the_log) in
+    let t = till_over g after rest lawful over in
+    let whole : log ≡ t.front ++ (t.within ++ rest) = is ∙ ap (λ l. l ++ rest) t.is ∙ append_assoc t.front t.within rest in
+    let ends : EndsAnEvent g (t.within ++ rest) =
+    record { sound = sound; once = once; lawful = lawful_end g t.front (t.within ++ rest) (subst (IsLawful g) whole the_log.lawful); over = t.over } in
+    let a : IsAnsweredIn d class.0 txn attempt t.within =
+    answered_by_end g class.0 d from number t.within before ts class txn attempt conds uses free lo hi refl ends in
+    answered_there g log t.front a.later a.before t.within rest class.0 d a.dm txn attempt a.sends whole a.is t.same
+    (lawful_permitted g log once the_log.lawful)

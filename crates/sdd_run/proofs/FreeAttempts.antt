@@ -1,0 +1,81 @@
+-- An attempt of a free class neither waits nor is rejected.
+use Rattle.std.proofs.Common.{ℕ, ◌++◌, ◌≡◌, ◌∙◌, ◌∷◌, List, Some, ap, refl, subst, sym}
+use Rattle.sdd_base.specs.Numbers.{class_no, dm_no, time_at, txn_no}
+use Rattle.sdd_base.specs.declared.condition.Cond.{Cond}
+use Rattle.sdd_base.specs.declared.number.ClassNo.{ClassNo}
+use Rattle.sdd_base.specs.declared.number.DmNo.{DmNo}
+use Rattle.sdd_base.specs.declared.number.Ts.{Ts}
+use Rattle.sdd_base.specs.declared.number.TxnNo.{TxnNo}
+use Rattle.sdd_base.specs.declared.site.Site.{Site}
+use Rattle.sdd_base.specs.declared.site.Site.TheVariants.{D}
+use Rattle.sdd_base.specs.declared.usage.Use.{Use}
+use Rattle.sdd_history.specs.declared.record.Rec.{Rec}
+use Rattle.sdd_history.specs.declared.record.Rec.TheVariants.{Reject, Wait}
+use Rattle.sdd_wire.specs.declared.msg.Msg.{Msg}
+use Rattle.sdd_wire.specs.declared.msg.Msg.TheVariants.{Read}
+use Rattle.sdd_module.specs.SiteLog.{Act, Records, Setting}
+use Rattle.sdd_module.specs.SiteLog as site
+use Rattle.sdd_pipe.specs.Pipe.{head}
+use Rattle.sdd_log.specs.Entries.{Does, Entry, Given, Log, history}
+use Rattle.sdd_log.specs.Locals.{local_of, setting_of}
+use Rattle.sdd_log.specs.Permitted.{IsPermitted}
+use Rattle.sdd_log.proofs.EachLocal.{allowed_act}
+use Rattle.sdd_invariants.specs.Seen.{pipe_at}
+use Rattle.sdd_laws.specs.Eras.{Eras}
+use Rattle.sdd_laws.specs.Starts.{KeepsStarts}
+use Rattle.sdd_order.specs.Attempts.{Attempt, IsAttempt}
+use Rattle.sdd_order.specs.Places.{Stands}
+use Rattle.sdd_rejections.proofs.Writers.{one_class}
+use Rattle.sdd_upheld.proofs.Answered.{read_of_some}
+use Rattle.sdd_upheld.proofs.Applied.{IsDataIn, data_in}
+use Rattle.sdd_waiting.proofs.FreeClasses.{never_rejected, never_waits}
+use Rattle.sdd_waiting.proofs.Rejected.{rejected}
+use Rattle.sdd_waiting.proofs.Waited.{wait_due}
+use Rattle.sdd_waiting.specs.Free.{IsFreeClass}
+use Rattle.sdd_waiting.specs.Rejections.{IsRejectOf}
+use Rattle.sdd_waiting.specs.Waited.{IsWaitOf}
+use Rattle.sdd_run.specs.Free.{IsUndisturbed}
+
+wait_names : (c k : ℕ) (n m : TxnNo) (i j : ℕ) (d e : DmNo) (qs rs : List Cond) (s t : List (Site × Msg))
+    → Records c (Wait n i d qs) s ≡ Records k (Wait m j e rs) t → (n ≡ m) × (i ≡ j)
+wait_names c k n m i j d e qs rs s t h = let p : n ≡ m = cc in let q : i ≡ j = cc in (p, q)
+
+module _ (g : Given) (log : Log) (eras : Eras) (h : IsPermitted g log) (starting : KeepsStarts g.catalogue eras g.txns (history log))
+    (a : Attempt) (started : IsAttempt (history log) a) (free : IsFreeClass g a.class) where
+  -- the pipe at whose head the READ of the attempt stands is that of its class
+  of_its_class : (later before : Log) (e : Entry) (c d : ℕ) (ts : Ts) (of : ClassNo) (ds : List Cond) (us : List Use)
+      → IsPermitted g before → log ≡ later ++ e ∷ before
+      → head (pipe_at g c (dm_no d) before) ≡ Some (Read ts of (txn_no a.txn) a.number ds us) → a.class ≡ c
+  of_its_class later before e c d ts of ds us now is top =
+      let r = read_of_some g log later before e c a.txn a.number d ts of ds us now is top in
+      sym (one_class g.catalogue eras g.txns (history log) starting r.attempt a r.started started r.txn_is) ∙ r.class_is
+
+  no_wait : (d k : ℕ) (conds : List Cond) → Stands (history log) k (Wait (txn_no a.txn) a.number (dm_no d) conds) → ⊥
+  no_wait d k conds s =
+      let rec : Rec = Wait (txn_no a.txn) a.number (dm_no d) conds in
+      let x : IsDataIn g log k rec (dm_no d) = data_in g log k rec (dm_no d) h refl refl (λ e p. sym p) s in
+      let act : Act = Records x.class rec x.sends in
+      let entry : Entry = Does (D (dm_no d)) act in
+      let ds : Setting = setting_of g (D (dm_no d)) in
+      let l : site.Log = local_of g (D (dm_no d)) x.before in
+      let w : IsWaitOf ds l x.class act = wait_due ds l x.class rec x.sends (allowed_act g x.before entry x.permitted.0) refl in
+      let same = wait_names x.class x.class (txn_no a.txn) w.txn a.number w.attempt (dm_no d) _ conds _ x.sends _ w.act_is in
+      let top : head (pipe_at g x.class (dm_no d) x.before) ≡ Some (Read w.ts w.of (txn_no a.txn) a.number w.conds w.uses) =
+      w.head_is ∙ ap (λ y. Some (Read w.ts w.of y w.attempt w.conds w.uses)) (sym same.0)
+      ∙ ap (λ y. Some (Read w.ts w.of (txn_no a.txn) y w.conds w.uses)) (sym same.1) in
+      let class = of_its_class x.later x.before entry x.class d w.ts w.of w.conds w.uses x.permitted.1 x.is top in
+      never_waits g x.before x.class (dm_no d) rec x.sends (subst (IsFreeClass g) class free) x.permitted refl
+
+  no_reject : (d k class write : ℕ) → Stands (history log) k (Reject (txn_no a.txn) a.number (dm_no d) (class_no class) (time_at write)) → ⊥
+  no_reject d k by write s =
+      let rec : Rec = Reject (txn_no a.txn) a.number (dm_no d) (class_no by) (time_at write) in
+      let x : IsDataIn g log k rec (dm_no d) = data_in g log k rec (dm_no d) h refl refl (λ e p. sym p) s in
+      let entry : Entry = Does (D (dm_no d)) (Records x.class rec x.sends) in
+      let r : IsRejectOf g x.before (dm_no d) x.class (txn_no a.txn) a.number (class_no by) (time_at write) =
+      rejected g x.before (dm_no d) x.class (txn_no a.txn) a.number (dm_no d) (class_no by) (time_at write) x.sends x.permitted in
+      let class = of_its_class x.later x.before entry x.class d r.ts r.of r.conds r.uses x.permitted.1 x.is r.head_is in
+      never_rejected g x.before x.class (dm_no d) (txn_no a.txn) a.number (dm_no d) (class_no by) (time_at write) x.sends
+      (subst (IsFreeClass g) class free) x.permitted
+
+  pub undisturbed : IsUndisturbed (history log) a
+  undisturbed = record { no_wait = λ d k conds. no_wait d k conds; no_reject = λ d k by write. no_reject d k by write }

@@ -1,0 +1,238 @@
+-- Each transaction that was submitted and isn't committed is listed as pending.
+use Rattle.std.proofs.Common.{ℕ, suc, zero, ◌-◌, ◌==◌, ◌∙◌, ◌∷◌, ◌≡◌, ◌≤◌, Bool, List, None, Option, Some, [], ap, arith, false, if◌then◌else◌, inl, inr, map, not, refl, slice_get, subst, sym, true}
+use Rattle.std.specs.Prelude.{◌⊎◌, filter_map, is_some, position}
+use Rattle.std.specs.List.{cons_option, list_any}
+use Rattle.std.proofs.lemmas.Bool.{eqb-true}
+use Rattle.sdd_base.specs.Numbers.{tm_no, txn_no}
+use Rattle.sdd_base.specs.declared.number.TxnNo.{TxnNo}
+use Rattle.sdd_base.specs.declared.site.Site.{Site}
+use Rattle.sdd_base.specs.declared.site.Site.TheVariants.{T, U}
+use Rattle.sdd_catalog.specs.Catalogue.{Catalogue, class_at}
+use Rattle.sdd_graph.specs.Edges.{IsClassOf}
+use Rattle.sdd_history.specs.Records.{History}
+use Rattle.sdd_history.specs.declared.record.Rec.{Rec}
+use Rattle.sdd_history.specs.declared.record.Rec.TheVariants.{Answer, Apply, Arrive, Commit, Nothing, Pass, Reject, Start, Submit, Wait}
+use Rattle.sdd_script.proofs.WordCuts.{NonePasses}
+use Rattle.sdd_script.proofs.NamePlaces.{none_found}
+use Rattle.sdd_lang.specs.Classes.{class_for}
+use Rattle.sdd_attempt.specs.Attempts.{Attempt, active}
+use Rattle.sdd_attempt.specs.Lines.{Line}
+use Rattle.sdd_attempt.specs.Queues.{Queued, queue}
+use Rattle.sdd_attempt.specs.Standings.{or_standing, queued_at, standing_among, standing_by, standing_of, underway, waiting}
+use Rattle.sdd_attempt.specs.declared.standing.Standing.{Standing}
+use Rattle.sdd_attempt.specs.declared.standing.Standing.TheVariants as standings
+use Rattle.sdd_tm.specs.State.{ClassState, class_of}
+use Rattle.sdd_tm.specs.Views.{runs}
+use Rattle.sdd_umod.specs.Standing.{first_underway, is_awaiting_helds, lacking_site, standing_in}
+use Rattle.sdd_umod.specs.State as um
+use Rattle.sdd_laws.specs.Deeds.{IsSubmitted}
+use Rattle.sdd_log.specs.Due.{home_of}
+use Rattle.sdd_log.specs.Entries.{Given, Log, history}
+use Rattle.sdd_log.specs.Locals.{local_of, redeclares, setting_of, txn_at}
+use Rattle.sdd_log.specs.Permitted.{IsPermitted}
+use Rattle.sdd_order.specs.Numbers.{IsClass}
+use Rattle.sdd_order.specs.Places.{Stands, record_at}
+use Rattle.sdd_invariants.proofs.Bools.{same_number, same_or_not}
+use Rattle.sdd_invariants.specs.Steps.{home}
+use Rattle.sdd_sites.specs.AtSites.{standing_at}
+use Rattle.sdd_sites.specs.Standings.{standing_at_t, standing_at_u}
+use Rattle.sdd_upheld.specs.Given.{AreNumbered}
+use Rattle.sdd_upheld.proofs.Beginnings.{at_map}
+use Rattle.sdd_upheld.proofs.Classes.{at_home, home_setting}
+use Rattle.sdd_upheld.proofs.Homes.{positive}
+use Rattle.sdd_waiting.proofs.ClassSites.{in_runs}
+use Rattle.sdd_rest.proofs.Committed.{IsQueued, class_within, committed_or_queued, home_is}
+use Rattle.sdd_rest.proofs.Lists.{either, kept_there}
+use Rattle.sdd_rest.specs.Committed.{WasCommitted}
+use Rattle.sdd_rest.specs.Premises.{HasOneTable}
+use Rattle.sdd_report.specs.declared.pending.Pending.{Pending}
+use Rattle.sdd_report.specs.declared.pending.Why.{Why}
+use Rattle.sdd_report.specs.declared.pending.Why.TheVariants as reasons
+use Rattle.sdd_run.specs.Pending.{IsListed, commits, pending_as, pending_by, pending_of, reason_of, why_of}
+
+-- what a queue has stands at some place of it
+
+passes_none : {A : Type 0} (p : A → Bool) (xs : List A) (j : ℕ) (x : A) → NonePasses p xs → slice_get xs j ≡ Some x → p x ≡ true → ⊥
+passes_none p [] j x none e h = cc
+passes_none p (y ∷ xs) zero x none e h =
+    let q : y ≡ x = cc in let a : p y ≡ true = subst (λ z. p z ≡ true) (sym q) h in let b : p y ≡ false = none.0 in cc
+passes_none p (y ∷ xs) (suc j) x none e h = passes_none p xs j x none.1 e h
+
+position_there : {A : Type 0} (p : A → Bool) (xs : List A) (j : ℕ) (x : A) → slice_get xs j ≡ Some x → p x ≡ true → (k : ℕ) × (position p xs ≡ Some k)
+position_there p xs j x e h = elim (position p xs) as (λ o. position p xs ≡ o → (k : ℕ) × (position p xs ≡ Some k)) [
+  | None ↦ λ r. absurd (passes_none p xs j x (none_found p xs (ap is_some r)) e h)
+  | Some k ↦ λ r. (k, r)
+] refl
+
+-- so its site has it
+
+abbrev IsHere : Standing → Type 0
+IsHere standings.Absent = ⊥
+IsHere (standings.Queued class place) = Unit {0}
+IsHere (standings.Underway class ts at) = Unit {0}
+
+queued_here : (c : ℕ) (o : Option ℕ) (k : ℕ) → o ≡ Some k → IsHere (queued_at c o)
+queued_here c None k e = cc
+queued_here c (Some p) k e = tt
+
+other_number : (n m : ℕ) → (m == n) ≡ false → not (n == m) ≡ true
+other_number n m e = elim (same_or_not n m) [
+  | inl p ↦ (let a : (m == n) ≡ true = ap (λ k. m == k) p ∙ same_number m in cc)
+  | inr p ↦ ap not p
+]
+
+line_here : (c : ℕ) (qs : List Queued) (o : Option Attempt) (n j : ℕ) (q : Queued) → slice_get qs j ≡ Some q → q.number ≡ n → IsHere (standing_by c qs o n)
+line_here c qs None n j q there is =
+    let p = position_there (λ (x : Queued). x.number == n) qs j q there (ap (λ m. m == n) is ∙ same_number n) in
+    queued_here c (position (λ (x : Queued). x.number == n) qs) p.0 p.1
+line_here c qs (Some a) n j q there is =
+    elim (a.txn == n)
+        as (λ b. (a.txn == n) ≡ b → IsHere (if b then underway c a.ts a.exchange else queued_at c (position (λ (x : Queued). x.number == n) (waiting (Some a) qs)))) [
+      | true ↦ λ e. tt
+      | false ↦ λ e.
+          let other : not (q.number == a.txn) ≡ true = ap (λ m. not (m == a.txn)) is ∙ other_number n a.txn e in
+          let kept = kept_there (λ (x : Queued). not (x.number == a.txn)) qs j q there other in
+          let p = position_there (λ (x : Queued). x.number == n) (waiting (Some a) qs) kept.0 q kept.1 (ap (λ m. m == n) is ∙ same_number n) in
+          queued_here c (position (λ (x : Queued). x.number == n) (waiting (Some a) qs)) p.0 p.1
+    ] refl
+
+here_first : (s next : Standing) → IsHere s → IsHere (or_standing s next)
+here_first standings.Absent next h = absurd h
+here_first (standings.Queued class place) next h = tt
+here_first (standings.Underway class ts at) next h = tt
+
+here_next : (s next : Standing) → IsHere next → IsHere (or_standing s next)
+here_next standings.Absent next h = h
+here_next (standings.Queued class place) next h = tt
+here_next (standings.Underway class ts at) next h = tt
+
+among_here : (ls : List Line) (n j : ℕ) (l : Line) → slice_get ls j ≡ Some l → IsHere (standing_of l n) → IsHere (standing_among ls n)
+among_here [] n j l e h = cc
+among_here (x ∷ ls) n zero l e h =
+    let q : x ≡ l = cc in here_first (standing_of x n) (standing_among ls n) (subst (λ y. IsHere (standing_of y n)) (sym q) h)
+among_here (x ∷ ls) n (suc j) l e h = here_next (standing_of x n) (standing_among ls n) (among_here ls n j l e h)
+
+first_here : (site : Site) (s : Standing) → IsHere s → IsHere (first_underway site s)
+first_here site standings.Absent h = h
+first_here site (standings.Queued class place) h =
+    elim (place == 1) as (λ b. IsHere (if b then standings.Underway class None site else standings.Queued class (place - 1))) [ true ↦ tt | false ↦ tt ]
+first_here site (standings.Underway class ts at) h = tt
+
+at_u_here : (state : um.State) (n : ℕ) → IsHere (standing_of state.line n) → IsHere (standing_in state n)
+at_u_here state n h =
+    elim (is_awaiting_helds state)
+        as (λ b. IsHere (if b then first_underway (lacking_site state) (standing_of state.line n) else standing_of state.line n)) [
+      | true ↦ first_here (lacking_site state) (standing_of state.line n) h
+      | false ↦ h
+    ]
+
+here_u : (g : Given) (log : Log) (c n j : ℕ) (q : Queued) → c ≡ 0
+    → slice_get (queue (setting_of g U) c (local_of g U log)) j ≡ Some q → q.number ≡ n
+    → IsHere (standing_at standing_at_u standing_at_t U (setting_of g U) (local_of g U log) n)
+here_u g log c n j q zero_is there is =
+    let s = setting_of g U in
+    let l = local_of g U log in
+    at_u_here (um.state_of s l) n
+    (line_here 0 (queue s 0 l) (active s 0 l) n j q (subst (λ k. slice_get (queue s k l) j ≡ Some q) zero_is there) is)
+
+here_t : (g : Given) (log : Log) (c n j : ℕ) (q : Queued) → IsClassOf g.catalogue c
+    → slice_get (queue (setting_of g (T (tm_no (class_at g.catalogue c).tm.0))) c (local_of g (T (tm_no (class_at g.catalogue c).tm.0)) log)) j ≡ Some q
+    → q.number ≡ n
+    → IsHere (standing_at standing_at_u standing_at_t (T (tm_no (class_at g.catalogue c).tm.0)) (setting_of g (T (tm_no (class_at g.catalogue c).tm.0)))
+    (local_of g (T (tm_no (class_at g.catalogue c).tm.0)) log) n)
+here_t g log c n j q class there is =
+    let at : Site = T (tm_no (class_at g.catalogue c).tm.0) in
+    let l = local_of g at log in
+    let s = setting_of g at in
+    let r = in_runs g c class in
+    let there_state = at_map (class_of s l) (runs s) r.0 c r.1 in
+    let there_line = at_map (λ (k : ClassState). k.line) (map (class_of s l) (runs s)) r.0 (class_of s l c) there_state in
+    among_here (map (λ (k : ClassState). k.line) (map (class_of s l) (runs s))) n r.0 (class_of s l c).line there_line
+    (line_here c (queue s c l) (active s c l) n j q there is)
+
+here_at : (g : Given) (log : Log) (c n j : ℕ) (q : Queued) → IsClass g.catalogue c → slice_get (queue (home_setting g c) c (at_home g c log)) j ≡ Some q → q.number ≡ n
+    → IsHere (standing_at standing_at_u standing_at_t (home g.catalogue c) (home_setting g c) (at_home g c log) n)
+here_at g log c n j q within there is =
+    elim (c == 0)
+        as (λ b. (c == 0) ≡ b
+        → slice_get (queue (setting_of g (if b then U else T (tm_no (class_at g.catalogue c).tm.0))) c
+        (local_of g (if b then U else T (tm_no (class_at g.catalogue c).tm.0)) log)) j ≡ Some q
+        → IsHere (standing_at standing_at_u standing_at_t (if b then U else T (tm_no (class_at g.catalogue c).tm.0))
+        (setting_of g (if b then U else T (tm_no (class_at g.catalogue c).tm.0)))
+        (local_of g (if b then U else T (tm_no (class_at g.catalogue c).tm.0)) log) n)) [
+      | true ↦ λ z at. here_u g log c n j q (eqb-true c 0 z) at is
+      | false ↦ λ z at. here_t g log c n j q (record { from = positive c z; to = within }) at is
+    ] refl there
+
+-- and so there is a reason
+
+why_here : (g : Given) (log : Log) (s : Standing) → IsHere s → (w : Why) × (why_of g log s ≡ Some w)
+why_here g log standings.Absent h = absurd h
+why_here g log (standings.Queued class place) h = (reasons.Queued class place, refl)
+why_here g log (standings.Underway class None at) h = (reasons.Underway at, refl)
+why_here g log (standings.Underway class (Some ts) at) h = (_, refl)
+
+reason_here : (g : Given) (log : Log) (n : ℕ) → IsQueued g log n → (w : Why) × (reason_of (standing_at standing_at_u standing_at_t) g log n ≡ Some w)
+reason_here g log n x =
+    let c : ℕ = class_for g.catalogue x.text in
+    let at : home_of g.catalogue (txn_at g n) ≡ home g.catalogue c = ap (home_of g.catalogue) x.text_is ∙ home_is g.catalogue x.text c refl in
+    let h = here_at g log c n x.place x.waiting (class_within g.catalogue x.text) x.there x.number_is in
+    let w = why_here g log (standing_at standing_at_u standing_at_t (home g.catalogue c) (home_setting g c) (at_home g c log) n) h in
+    (w.0, ap (λ s. why_of g log (standing_at standing_at_u standing_at_t s (setting_of g s) (local_of g s log) n)) at ∙ w.1)
+
+-- some record commits it, or it is listed
+
+later_commit : (e : ℕ × Rec) (h : History) (n : ℕ) → WasCommitted h n → WasCommitted (e ∷ h) n
+later_commit e h n w = let c = w.commit in record {
+  place = suc w.place;
+  number = w.number;
+  commit = record { reply = c.reply; changes = c.changes; values = c.values; rows = c.rows; stands = c.stands };
+}
+
+was_committed : (h : History) (n : ℕ) → list_any (commits n) h ≡ true → WasCommitted h n
+was_committed [] n e = cc
+was_committed ((event, Commit txn attempt reply changes values rows) ∷ h) n e = elim (either (txn.0 == n) (list_any (commits n) h) e) [
+  | inl p ↦
+      (let same : Commit txn attempt reply changes values rows ≡ Commit (txn_no n) attempt reply changes values rows =
+      ap (λ k. Commit (txn_no k) attempt reply changes values rows) (eqb-true txn.0 n p) in
+      record { place = 0; number = attempt; commit = record { reply = reply; changes = changes; values = values; rows = rows; stands = ap (λ r. Some r) same } })
+  | inr p ↦ later_commit (event, Commit txn attempt reply changes values rows) h n (was_committed h n p)
+]
+was_committed ((event, Submit txn) ∷ h) n e = later_commit (event, Submit txn) h n (was_committed h n e)
+was_committed ((event, Start txn attempt class ts p2 uses) ∷ h) n e = later_commit (event, Start txn attempt class ts p2 uses) h n (was_committed h n e)
+was_committed ((event, Arrive txn attempt dm) ∷ h) n e = later_commit (event, Arrive txn attempt dm) h n (was_committed h n e)
+was_committed ((event, Wait txn attempt dm conds) ∷ h) n e = later_commit (event, Wait txn attempt dm conds) h n (was_committed h n e)
+was_committed ((event, Answer txn attempt dm) ∷ h) n e = later_commit (event, Answer txn attempt dm) h n (was_committed h n e)
+was_committed ((event, Reject txn attempt dm class ts) ∷ h) n e = later_commit (event, Reject txn attempt dm class ts) h n (was_committed h n e)
+was_committed ((event, Apply txn class dm ts) ∷ h) n e = later_commit (event, Apply txn class dm ts) h n (was_committed h n e)
+was_committed ((event, Pass class dm time) ∷ h) n e = later_commit (event, Pass class dm time) h n (was_committed h n e)
+was_committed ((event, Nothing) ∷ h) n e = later_commit (event, Nothing) h n (was_committed h n e)
+
+listed_at : (f : ℕ × Rec → Option Pending) (h : History) (n k : ℕ) (one : Pending) → Stands h k (Submit (txn_no n)) → ((event : ℕ) → f (event, Submit (txn_no n)) ≡ Some one)
+    → (j : ℕ) × (slice_get (filter_map f h) j ≡ Some one)
+listed_at f [] n k one e h = cc
+listed_at f ((event, r) ∷ rest) n zero one e h =
+    let q : r ≡ Submit (txn_no n) = cc in let p : f (event, r) ≡ Some one = subst (λ x. f (event, x) ≡ Some one) (sym q) (h event) in (0, rw p refl)
+listed_at f (x ∷ rest) n (suc k) one e h =
+    let i = listed_at f rest n k one e h in
+    elim (f x) as (λ o. (j : ℕ) × (slice_get (cons_option o (filter_map f rest)) j ≡ Some one)) [ None ↦ i | Some y ↦ (suc i.0, i.1) ]
+
+pub each_listed : (g : Given) (log : Log) → IsPermitted g log → HasOneTable g → redeclares log ≡ 0 → AreNumbered g log
+    → (n k : ℕ) → IsSubmitted (history log) n k
+    → WasCommitted (history log) n ⊎ IsListed (pending_of (standing_at standing_at_u standing_at_t) g log) n
+each_listed g log permitted one none numbered n k submitted =
+    elim (list_any (commits n) (history log)) as (λ b. list_any (commits n) (history log) ≡ b
+    → WasCommitted (history log) n ⊎ IsListed (pending_of (standing_at standing_at_u standing_at_t) g log) n) [
+      | true ↦ λ e. inl (was_committed (history log) n e)
+      | false ↦ λ e. elim (committed_or_queued g log permitted one none numbered n k submitted) [
+        | inl w ↦ inl w
+        | inr x ↦
+            let w = reason_here g log n x in
+            let left : Pending = record { txn = txn_no n; why = w.0 } in
+            let reason = w.1 in
+            let is : (event : ℕ) → pending_by (standing_at standing_at_u standing_at_t) g log (history log) (event, Submit (txn_no n)) ≡ Some left =
+            λ event. rw e (ap (pending_as (txn_no n)) reason) in
+            let i = listed_at (pending_by (standing_at standing_at_u standing_at_t) g log (history log)) (history log) n k left submitted is in
+            inr (record { place = i.0; one = left; there = i.1; txn_is = refl })
+      ]
+    ] refl

@@ -1,0 +1,173 @@
+-- Each transaction that was submitted stands in the order once, or is listed as pending once.
+use Rattle.std.proofs.Common.{ℕ, suc, zero, ◌+◌, ◌≡◌, ◌≢◌, ◌∙◌, ◌∷◌, Bool, List, None, Option, Some, [], ap, arith, cond, false, if◌then◌else◌, inl, inr, map, refl, slice_get, subst, sym, true}
+use Rattle.std.specs.Prelude.{◌⊎◌, Contains, filter_map, option_map}
+use Rattle.std.specs.List.{cons_option, list_any}
+use Rattle.std.proofs.lemmas.Bool.{eq-eqb, ne_eqb}
+use Rattle.sdd_base.specs.Numbers.{txn_no}
+use Rattle.sdd_base.specs.declared.number.TxnNo.{TxnNo}
+use Rattle.sdd_catalog.specs.Catalogue.{Catalogue}
+use Rattle.sdd_history.specs.Records.{History}
+use Rattle.sdd_history.specs.declared.record.Rec.{Rec}
+use Rattle.sdd_history.specs.declared.record.Rec.TheVariants.{Answer, Apply, Arrive, Commit, Nothing, Pass, Reject, Start, Submit, Wait}
+use Rattle.sdd_invariants.proofs.Bools.{not_both, same_number}
+use Rattle.sdd_laws.specs.Deeds.{IsSubmitted}
+use Rattle.sdd_log.specs.Entries.{Given, Log, history}
+use Rattle.sdd_order.specs.Attempts.{Committed, IsCommitted}
+use Rattle.sdd_order.specs.Orders.{IsSerial}
+use Rattle.sdd_order.specs.Places.{Stands}
+use Rattle.sdd_report.specs.declared.pending.Pending.{Pending}
+use Rattle.sdd_report.specs.declared.pending.Why.{Why}
+use Rattle.sdd_rest.proofs.Committed.{any_commit}
+use Rattle.sdd_rest.specs.Committed.{WasCommitted}
+use Rattle.sdd_run.specs.Pending.{IsListed, Telling, commits, pending_as, pending_by, pending_of, reason_of}
+use Rattle.sdd_run.specs.Standing.{times_in, times_pending}
+use Rattle.sdd_run.proofs.Once.{none_there, times_more}
+
+-- how often what is chosen of a history names a transaction
+
+abbrev named_in : List Pending → List TxnNo
+named_in ps = map (λ (p : Pending). p.txn) ps
+
+count_none : (f : ℕ × Rec → Option Pending) (h : History) (n : ℕ)
+    → ((k : ℕ) (e : ℕ × Rec) (p : Pending) → slice_get h k ≡ Some e → f e ≡ Some p → p.txn.0 ≢ n)
+    → times_pending n (filter_map f h) ≡ 0
+count_none f [] n other = refl
+count_none f (e ∷ h) n other =
+    let rest = count_none f h n (λ k x p. other (suc k) x p) in
+    elim (f e) as (λ o. f e ≡ o → times_pending n (cons_option o (filter_map f h)) ≡ 0) [
+      | None ↦ λ q. rest
+      | Some p ↦ λ q.
+          times_more p.txn (named_in (filter_map f h)) n
+          ∙ ap (λ b. cond b 1 0 + times_pending n (filter_map f h)) (ne_eqb p.txn.0 n (other 0 e p refl q))
+          ∙ (omega (arith, rest))
+    ] refl
+
+count_one : (f : ℕ × Rec → Option Pending) (h : History) (n k : ℕ) (e : ℕ × Rec) (p : Pending)
+    → slice_get h k ≡ Some e → f e ≡ Some p → p.txn.0 ≡ n
+    → ((j : ℕ) (x : ℕ × Rec) (q : Pending) → slice_get h j ≡ Some x → f x ≡ Some q → q.txn.0 ≡ n → j ≡ k)
+    → times_pending n (filter_map f h) ≡ 1
+count_one f [] n k e p there gives named one = cc
+count_one f (x ∷ h) n zero e p there gives named one =
+    let q : x ≡ e = cc in
+    let here : f x ≡ Some p = subst (λ z. f z ≡ Some p) (sym q) gives in
+    let rest = count_none f h n (λ j y r at is same. (let s = one (suc j) y r at is same in omega (arith, s))) in
+    subst (λ o. times_pending n (cons_option o (filter_map f h)) ≡ 1) (sym here)
+    (times_more p.txn (named_in (filter_map f h)) n
+    ∙ ap (λ b. cond b 1 0 + times_pending n (filter_map f h)) (eq-eqb p.txn.0 n named)
+    ∙ (omega (arith, rest)))
+count_one f (x ∷ h) n (suc k) e p there gives named one =
+    let rest = count_one f h n k e p there gives named (λ j y r at is same. (let s = one (suc j) y r at is same in omega (arith, s))) in
+    elim (f x) as (λ o. f x ≡ o → times_pending n (cons_option o (filter_map f h)) ≡ 1) [
+      | None ↦ λ q. rest
+      | Some r ↦ λ q.
+          times_more r.txn (named_in (filter_map f h)) n
+          ∙ ap (λ b. cond b 1 0 + times_pending n (filter_map f h)) (ne_eqb r.txn.0 n (λ same. (let s = one 0 x r refl q same in omega (arith, s))))
+          ∙ (omega (arith, rest))
+    ] refl
+
+record IsChosen (f : ℕ × Rec → Option Pending) (h : History) (p : Pending) : Type 0 where
+  pub place : ℕ
+  pub entry : ℕ × Rec
+  pub there : slice_get h place ≡ Some entry
+  pub gives : f entry ≡ Some p
+
+later_chosen : (f : ℕ × Rec → Option Pending) (e : ℕ × Rec) (h : History) (p : Pending) → IsChosen f h p → IsChosen f (e ∷ h) p
+later_chosen f e h p x = record { place = suc x.place; entry = x.entry; there = x.there; gives = x.gives }
+
+chosen_here : (f : ℕ × Rec → Option Pending) (x : ℕ × Rec) (h : History) (j : ℕ) (y p : Pending) → f x ≡ Some y
+    → ((i : ℕ) → slice_get (filter_map f h) i ≡ Some p → IsChosen f h p) → slice_get (y ∷ filter_map f h) j ≡ Some p → IsChosen f (x ∷ h) p
+chosen_here f x h zero y p q rest e =
+    let s : y ≡ p = cc in record { place = 0; entry = x; there = refl; gives = q ∙ ap (λ z. Some z) s }
+chosen_here f x h (suc j) y p q rest e = later_chosen f x h p (rest j e)
+
+chosen_from : (f : ℕ × Rec → Option Pending) (h : History) (j : ℕ) (p : Pending) → slice_get (filter_map f h) j ≡ Some p → IsChosen f h p
+chosen_from f [] j p e = cc
+chosen_from f (x ∷ h) j p e =
+    elim (f x) as (λ o. f x ≡ o → slice_get (cons_option o (filter_map f h)) j ≡ Some p → IsChosen f (x ∷ h) p) [
+      | None ↦ λ q r. later_chosen f x h p (chosen_from f h j p r)
+      | Some y ↦ λ q r. chosen_here f x h j y p q (λ i. chosen_from f h i p) r
+    ] refl e
+
+-- what is listed was submitted, and no record commits it
+
+named_so : (n : TxnNo) (o : Option Why) (p : Pending) → pending_as n o ≡ Some p → n ≡ p.txn
+named_so n None p e = cc
+named_so n (Some w) p e =
+    let made : Pending = record { txn = n; why = w } in
+    let s : made ≡ p = cc in
+    ap (λ (x : Pending). x.txn) s
+
+of_submit : (tell : Telling) (g : Given) (log : Log) (all : History) (e : ℕ × Rec) (p : Pending) → pending_by tell g log all e ≡ Some p
+    → (e.1 ≡ Submit p.txn) × (list_any (commits p.txn.0) all ≡ false)
+of_submit tell g log all (event, Submit n) p e =
+    elim (list_any (commits n.0) all)
+        as (λ b. list_any (commits n.0) all ≡ b → (if b then None else pending_as n (reason_of tell g log n.0)) ≡ Some p
+        → (Submit n ≡ Submit p.txn) × (list_any (commits p.txn.0) all ≡ false)) [
+      | true ↦ λ q r. cc
+      | false ↦ λ q r.
+          (let s = named_so n (reason_of tell g log n.0) p r in
+          (ap (λ m. Submit m) s, subst (λ (m : TxnNo). list_any (commits m.0) all ≡ false) s q))
+    ] refl e
+of_submit tell g log all (event, Start txn attempt class ts p2 uses) p e = cc
+of_submit tell g log all (event, Arrive txn attempt dm) p e = cc
+of_submit tell g log all (event, Wait txn attempt dm conds) p e = cc
+of_submit tell g log all (event, Answer txn attempt dm) p e = cc
+of_submit tell g log all (event, Reject txn attempt dm class ts) p e = cc
+of_submit tell g log all (event, Commit txn attempt reply changes values rows) p e = cc
+of_submit tell g log all (event, Apply txn class dm ts) p e = cc
+of_submit tell g log all (event, Pass class dm time) p e = cc
+of_submit tell g log all (event, Nothing) p e = cc
+
+commits_it : (all : History) (n : ℕ) → WasCommitted all n → list_any (commits n) all ≡ true
+commits_it all n w = any_commit all (commits n) n (λ e attempt reply changes values rows. same_number n) w
+
+stands_there : (h : History) (k : ℕ) (e : ℕ × Rec) (r : Rec) → slice_get h k ≡ Some e → e.1 ≡ r → Stands h k r
+stands_there h k e r there is = ap (option_map (λ (x : ℕ × Rec). x.1)) there ∙ ap (λ x. Some x) is
+
+module _ (tell : Telling) (g : Given) (log : Log) where
+  -- one that is committed isn't listed
+  not_listed : (n : ℕ) → WasCommitted (history log) n → times_pending n (pending_of tell g log) ≡ 0
+  not_listed n w =
+      count_none (pending_by tell g log (history log)) (history log) n (λ k e p there gives same.
+      not_both (list_any (commits p.txn.0) (history log))
+      (subst (λ m. list_any (commits m) (history log) ≡ true) (sym same) (commits_it (history log) n w))
+      (of_submit tell g log (history log) e p gives).1)
+
+  -- one that is listed is listed once, and isn't committed
+  listed_once : ((n j k : ℕ) → IsSubmitted (history log) n j → IsSubmitted (history log) n k → j ≡ k)
+      → (n : ℕ) → IsListed (pending_of tell g log) n → (times_pending n (pending_of tell g log) ≡ 1) × (list_any (commits n) (history log) ≡ false)
+  listed_once one n x =
+      let c = chosen_from (pending_by tell g log (history log)) (history log) x.place x.one x.there in
+      let submit = of_submit tell g log (history log) c.entry x.one c.gives in
+      let at : (j : ℕ) (e : ℕ × Rec) (q : Pending) → slice_get (history log) j ≡ Some e
+          → pending_by tell g log (history log) e ≡ Some q → q.txn.0 ≡ n → IsSubmitted (history log) n j =
+      λ j e q there gives same.
+          stands_there (history log) j e (Submit (txn_no n)) there
+          ((of_submit tell g log (history log) e q gives).0 ∙ ap (λ m. Submit (txn_no m)) same) in
+      (count_one (pending_by tell g log (history log)) (history log) n c.place c.entry x.one c.there c.gives x.txn_is
+      (λ j e q there gives same. one n j c.place (at j e q there gives same) (at c.place c.entry x.one c.there c.gives x.txn_is)),
+      subst (λ m. list_any (commits m) (history log) ≡ false) x.txn_is submit.1)
+
+  was_in : (t : Committed) (n : ℕ) → IsCommitted (history log) t → t.start.txn ≡ n → WasCommitted (history log) n
+  was_in t n c same = subst (WasCommitted (history log)) same (record {
+    place = t.place;
+    number = t.start.number;
+    commit = record { reply = t.reply; changes = t.changes; values = t.values; rows = t.rows; stands = c.committed };
+  })
+
+  -- so each transaction that was submitted stands in the order or in the list, and in one of them once
+  pub in_one : (cat : Catalogue) (order : List TxnNo) → IsSerial cat (history log) order
+      → ((n : ℕ) → WasCommitted (history log) n → times_in n order ≡ 1)
+      → ((n j k : ℕ) → IsSubmitted (history log) n j → IsSubmitted (history log) n k → j ≡ k)
+      → (n : ℕ) → WasCommitted (history log) n ⊎ IsListed (pending_of tell g log) n
+      → times_in n order + times_pending n (pending_of tell g log) ≡ 1
+  in_one cat order serial in_order one n (inl w) =
+      let a = in_order n w in let b = not_listed n w in omega (arith, a, b)
+  in_one cat order serial in_order one n (inr x) =
+      let l = listed_once one n x in
+      let a : times_in n order ≡ 0 =
+      none_there order n (λ m there same.
+      (let t = serial.committed m there in
+      not_both (list_any (commits n) (history log)) (commits_it (history log) n (was_in t.0 n t.1 (t.2 ∙ same))) l.1)) in
+      let b = l.0 in
+      omega (arith, a, b)

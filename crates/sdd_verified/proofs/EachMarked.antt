@@ -1,0 +1,226 @@
+-- In a complete log each transaction that its events submit is submitted.
+use Rattle.std.proofs.Common.{ℕ, ◌+◌, ◌++◌, ◌==◌, ◌≡◌, ◌≤◌, ◌∙◌, ◌∷◌, Bool, List, None, Option, Some, [], ap, arith, cond, false, inl, inr, length, refl, subst, sym, true}
+use Rattle.std.specs.Prelude.{◌⊎◌}
+use Rattle.std.proofs.lemmas.Bool.{eqb-true}
+use Rattle.sdd_base.specs.Numbers.{txn_no}
+use Rattle.sdd_base.specs.Words.{or_else}
+use Rattle.sdd_base.specs.declared.event.Event.{Event}
+use Rattle.sdd_base.specs.declared.event.Event.TheVariants.{Submit, Deliver, Lose, Repeat, Resend, Tick, Settle, Redeclare, Down, Up}
+use Rattle.sdd_base.specs.declared.number.TxnNo.{TxnNo}
+use Rattle.sdd_base.specs.declared.site.Site.{Site}
+use Rattle.sdd_history.specs.declared.record.Rec.TheVariants.{Submit as Submission}
+use Rattle.sdd_laws.specs.Deeds.{IsSubmitted}
+use Rattle.sdd_log.specs.Due.{due_by, hand_due, home_of, mark_due, next, note_if, site_due}
+use Rattle.sdd_log.specs.Entries.{Does, Entry, Given, Hand, Log, Mark, Notes, Redeclares, Round, Submitted, history}
+use Rattle.sdd_log.specs.Lawful.{IsLawful}
+use Rattle.sdd_log.specs.Locals.{force_at, redeclares, txn_at}
+use Rattle.sdd_log.specs.Marks.{from_event, left, mark_from, mark_of, next_mark}
+use Rattle.sdd_log.specs.Permitted.{one_if, submits_by, submits_in}
+use Rattle.sdd_log.specs.Traffic.{all_links, calls_of}
+use Rattle.sdd_log.proofs.NewMarks.{left_is, marked}
+use Rattle.sdd_net.specs.Links.{quiet, round}
+use Rattle.sdd_upheld.proofs.Places.{stands_there}
+
+-- of what a complete log leaves no event has a mark
+
+no_other : (a b : Option Entry) → or_else a b ≡ None → (a ≡ None) × (b ≡ None)
+no_other None b h = (refl, h)
+no_other (Some x) b h = cc
+
+pub record NoneIsDue (g : Given) (log : Log) : Type 0 where
+  pub mark : mark_due g log ≡ None
+  pub next : next_mark g log ≡ None
+
+pub none_due : (g : Given) (log : Log) → next g log ≡ None → NoneIsDue g log
+none_due g log h =
+    let a = no_other (mark_due g log) _ h in
+    let b = no_other (site_due g log) _ a.1 in
+    let c = no_other (hand_due g log) (next_mark g log) b.1 in
+    record { mark = a.0; next = c.1 }
+
+none_from : (g : Given) (log : Log) (q : Bool) (r ws : List Event) → mark_from g log q r ws ≡ None → from_event ws ≡ []
+none_from g log q r [] h = refl
+none_from g log true r (Settle ∷ ws) h = none_from g log true r ws h
+none_from g log false r (Settle ∷ ws) h = cc
+none_from g log true r (Redeclare ∷ ws) h = cc
+none_from g log false r (Redeclare ∷ ws) h = cc
+none_from g log q r (Submit k ∷ ws) h = cc
+none_from g log q r (Deliver a b k ∷ ws) h = cc
+none_from g log q r (Lose a b k ∷ ws) h = cc
+none_from g log q r (Repeat a b k ∷ ws) h = cc
+none_from g log q r (Resend a b ∷ ws) h = cc
+none_from g log q r (Tick t k ∷ ws) h = cc
+none_from g log q r (Down d ∷ ws) h = cc
+none_from g log q r (Up d ∷ ws) h = cc
+
+settles_submit_none : (n : ℕ) (ws : List Event) → from_event ws ≡ [] → submits_in n ws ≡ 0
+settles_submit_none n [] h = refl
+settles_submit_none n (Settle ∷ ws) h = let i = settles_submit_none n ws h in omega (arith, i)
+settles_submit_none n (Submit k ∷ ws) h = cc
+settles_submit_none n (Deliver a b k ∷ ws) h = cc
+settles_submit_none n (Lose a b k ∷ ws) h = cc
+settles_submit_none n (Repeat a b k ∷ ws) h = cc
+settles_submit_none n (Resend a b ∷ ws) h = cc
+settles_submit_none n (Tick t k ∷ ws) h = cc
+settles_submit_none n (Redeclare ∷ ws) h = cc
+settles_submit_none n (Down d ∷ ws) h = cc
+settles_submit_none n (Up d ∷ ws) h = cc
+
+none_left : (g : Given) (log : Log) (n : ℕ) (s : List Event × List Event) → mark_of g log s ≡ None → submits_in n s.0 ≡ 0
+none_left g log n (ws, []) h =
+    settles_submit_none n ws
+    (none_from g log (quiet (all_links g) (calls_of log)) (round (all_links g) (calls_of log)) ws h)
+none_left g log n (ws, e ∷ r) h = cc
+
+pub all_marked : (g : Given) (log : Log) (n : ℕ) → IsLawful g log → next g log ≡ None → marked n log ≡ submits_in n g.events
+all_marked g log n lawful complete =
+    let all = (left_is g n log lawful).all in
+    let none = none_left g log n (left g.events log) (none_due g log complete).next in
+    omega (arith, all, none)
+
+-- an event is a submit, or submits nothing
+
+sorted : (e : Event) → ((k : TxnNo) × (e ≡ Submit k)) ⊎ ((n : ℕ) → submits_by n e ≡ 0)
+sorted (Submit n) = inl (n, refl)
+sorted (Deliver a b k) = inr (λ n. refl)
+sorted (Lose a b k) = inr (λ n. refl)
+sorted (Repeat a b k) = inr (λ n. refl)
+sorted (Resend a b) = inr (λ n. refl)
+sorted (Tick t k) = inr (λ n. refl)
+sorted Settle = inr (λ n. refl)
+sorted Redeclare = inr (λ n. refl)
+sorted (Down d) = inr (λ n. refl)
+sorted (Up d) = inr (λ n. refl)
+
+-- where no `submit` is the last entry, that entry marks none
+not_last : (g : Given) (n : ℕ) (e : Entry) (log : Log) → mark_due g (e ∷ log) ≡ None → marked n (e ∷ log) ≡ marked n log
+not_last g n (Mark (Submit k)) log h = cc
+not_last g n (Mark (Deliver a b k)) log h = omega arith
+not_last g n (Mark (Lose a b k)) log h = omega arith
+not_last g n (Mark (Repeat a b k)) log h = omega arith
+not_last g n (Mark (Resend a b)) log h = omega arith
+not_last g n (Mark (Tick t k)) log h = omega arith
+not_last g n (Mark Settle) log h = omega arith
+not_last g n (Mark Redeclare) log h = omega arith
+not_last g n (Mark (Down d)) log h = omega arith
+not_last g n (Mark (Up d)) log h = omega arith
+not_last g n (Round es) log h = refl
+not_last g n (Redeclares t) log h = refl
+not_last g n (Hand a b k m) log h = refl
+not_last g n (Submitted a k) log h = refl
+not_last g n Notes log h = refl
+not_last g n (Does a act) log h = refl
+
+-- what is due by an event is no mark
+
+no_note : (b : Bool) (x : Event) → note_if b ≡ Some (Mark x) → ⊥
+no_note true x h = cc
+no_note false x h = cc
+
+no_mark_by : (g : Given) (e x : Event) (log : Log) → due_by g e log ≡ Some (Mark x) → ⊥
+no_mark_by g (Submit n) x log h = cc
+no_mark_by g (Deliver a b k) x log h = no_note _ x h
+no_mark_by g (Lose a b k) x log h = no_note _ x h
+no_mark_by g (Repeat a b k) x log h = no_note _ x h
+no_mark_by g (Resend a b) x log h = no_note _ x h
+no_mark_by g (Tick t k) x log h = cc
+no_mark_by g Settle x log h = cc
+no_mark_by g Redeclare x log h = cc
+no_mark_by g (Down d) x log h = no_note _ x h
+no_mark_by g (Up d) x log h = no_note _ x h
+
+no_mark_due : (g : Given) (x : Event) (log : Log) → mark_due g log ≡ Some (Mark x) → ⊥
+no_mark_due g x [] h = cc
+no_mark_due g x (Mark e ∷ log) h = no_mark_by g e x log h
+no_mark_due g x (Round es ∷ log) h = cc
+no_mark_due g x (Redeclares t ∷ log) h = cc
+no_mark_due g x (Hand a b k m ∷ log) h = cc
+no_mark_due g x (Submitted a k ∷ log) h = cc
+no_mark_due g x (Notes ∷ log) h = cc
+no_mark_due g x (Does a act ∷ log) h = cc
+
+first_none : (a b : Option Entry) (x : Entry) → (a ≡ Some x → ⊥) → or_else a b ≡ Some x → a ≡ None
+first_none None b x h e = refl
+first_none (Some y) b x h e = absurd (h e)
+
+before_mark : (g : Given) (log : Log) (e : Event) → next g log ≡ Some (Mark e) → mark_due g log ≡ None
+before_mark g log e h = first_none (mark_due g log) _ (Mark e) (no_mark_due g e log) h
+
+-- a transaction is given to its module behind the mark of its `submit`
+
+pub record IsGivenIn (log : Log) (n : ℕ) : Type 0 where
+  pub later : Log
+  pub at : Site
+  pub rest : Log
+  pub is : log ≡ later ++ Submitted at n ∷ rest
+
+given_later : (e : Entry) (log : Log) (n : ℕ) → IsGivenIn log n → IsGivenIn (e ∷ log) n
+given_later e log n x = record { later = e ∷ x.later; at = x.at; rest = x.rest; is = ap (λ l. e ∷ l) x.is }
+
+given_submit : (g : Given) (n : ℕ) (e : Entry) (k : TxnNo) (log : Log) → next g (Mark (Submit k) ∷ log) ≡ Some e
+    → 1 ≤ one_if (k.0 == n) + marked n log → (1 ≤ marked n log → IsGivenIn log n) → IsGivenIn (e ∷ Mark (Submit k) ∷ log) n
+given_submit g n e k log h m again =
+    let at : Site = home_of (force_at g (redeclares log)).catalogue (txn_at g k.0) in
+    let is : Submitted at k.0 ≡ e = cc in
+    elim (k.0 == n) as (λ b. (k.0 == n) ≡ b → 1 ≤ one_if b + marked n log → IsGivenIn (e ∷ Mark (Submit k) ∷ log) n) [
+      | true ↦ λ q w.
+          record {
+            later = [];
+            at = at;
+            rest = Mark (Submit k) ∷ log;
+            is = ap (λ x. x ∷ Mark (Submit k) ∷ log) (sym is ∙ ap (λ i. Submitted at i) (eqb-true k.0 n q));
+          }
+      | false ↦ λ q w. given_later e (Mark (Submit k) ∷ log) n (given_later (Mark (Submit k)) log n (again (omega (arith, w))))
+    ] refl m
+
+given_by : (g : Given) (n : ℕ) (e : Entry) (x : Event) (log : Log) → next g (Mark x ∷ log) ≡ Some e
+    → 1 ≤ submits_by n x + marked n log → (1 ≤ marked n log → IsGivenIn log n) → IsGivenIn (e ∷ Mark x ∷ log) n
+given_by g n e x log h m again = elim (sorted x) [
+  | inl s ↦
+      subst (λ (y : Event). IsGivenIn (e ∷ Mark y ∷ log) n) (sym s.1)
+      (given_submit g n e s.0 log (subst (λ (y : Event). next g (Mark y ∷ log) ≡ Some e) s.1 h)
+      (subst (λ (y : Event). 1 ≤ submits_by n y + marked n log) s.1 m) again)
+  | inr none ↦
+      let z = none n in
+      given_later e (Mark x ∷ log) n (given_later (Mark x) log n (again (omega (arith, m, z))))
+]
+
+each_given : (g : Given) (n : ℕ) (log : Log) → IsLawful g log → mark_due g log ≡ None → 1 ≤ marked n log → IsGivenIn log n
+each_given g n [] l d m = absurd (omega (arith, m))
+each_given g n (e ∷ []) l d m = let s : marked n (e ∷ []) ≡ 0 = not_last g n e [] d in absurd (omega (arith, m, s))
+each_given g n (e ∷ Mark x ∷ log) l d m =
+    let s : marked n (e ∷ Mark x ∷ log) ≡ submits_by n x + marked n log = not_last g n e (Mark x ∷ log) d in
+    given_by g n e x log l.0 (omega (arith, m, s)) (each_given g n log l.1.1 (before_mark g log x l.1.0))
+each_given g n (e ∷ Round es ∷ log) l d m =
+    let s : marked n (e ∷ Round es ∷ log) ≡ marked n log = not_last g n e (Round es ∷ log) d in
+    given_later e (Round es ∷ log) n (each_given g n (Round es ∷ log) l.1 refl (omega (arith, m, s)))
+each_given g n (e ∷ Redeclares t ∷ log) l d m =
+    let s : marked n (e ∷ Redeclares t ∷ log) ≡ marked n log = not_last g n e (Redeclares t ∷ log) d in
+    given_later e (Redeclares t ∷ log) n (each_given g n (Redeclares t ∷ log) l.1 refl (omega (arith, m, s)))
+each_given g n (e ∷ Hand a b k w ∷ log) l d m =
+    let s : marked n (e ∷ Hand a b k w ∷ log) ≡ marked n log = not_last g n e (Hand a b k w ∷ log) d in
+    given_later e (Hand a b k w ∷ log) n (each_given g n (Hand a b k w ∷ log) l.1 refl (omega (arith, m, s)))
+each_given g n (e ∷ Submitted a k ∷ log) l d m =
+    let s : marked n (e ∷ Submitted a k ∷ log) ≡ marked n log = not_last g n e (Submitted a k ∷ log) d in
+    given_later e (Submitted a k ∷ log) n (each_given g n (Submitted a k ∷ log) l.1 refl (omega (arith, m, s)))
+each_given g n (e ∷ Notes ∷ log) l d m =
+    let s : marked n (e ∷ Notes ∷ log) ≡ marked n log = not_last g n e (Notes ∷ log) d in
+    given_later e (Notes ∷ log) n (each_given g n (Notes ∷ log) l.1 refl (omega (arith, m, s)))
+each_given g n (e ∷ Does a act ∷ log) l d m =
+    let s : marked n (e ∷ Does a act ∷ log) ≡ marked n log = not_last g n e (Does a act ∷ log) d in
+    given_later e (Does a act ∷ log) n (each_given g n (Does a act ∷ log) l.1 refl (omega (arith, m, s)))
+
+pub record IsSubmittedIn (log : Log) (n : ℕ) : Type 0 where
+  pub place : ℕ
+  pub submitted : IsSubmitted (history log) n place
+
+pub each_submitted : (g : Given) (log : Log) (n : ℕ) → IsLawful g log → next g log ≡ None → 1 ≤ submits_in n g.events → IsSubmittedIn log n
+each_submitted g log n lawful complete some =
+    let all = all_marked g log n lawful complete in
+    let x = each_given g n log lawful (none_due g log complete).mark (omega (arith, some, all)) in
+    record {
+      place = length (history x.rest);
+      submitted =
+          subst (λ l. IsSubmitted (history l) n (length (history x.rest))) (sym x.is)
+          (stands_there x.later (Submitted x.at n) x.rest (Submission (txn_no n)) refl);
+    }

@@ -1,0 +1,90 @@
+-- Made input leaves nothing undone: it submits each of its transactions, takes no module down, and ends with a settle.
+use Rattle.std.proofs.Common.{ℕ, zero, suc, ◌+◌, ◌++◌, ◌/◌, ◌%◌, ◌<◌, ◌==◌, ◌≡◌, ◌≤◌, ◌∙◌, ◌∷◌, List, [], ap, arith, false, inl, inr, length, refl, subst, sym, true, append_assoc}
+use Rattle.std.specs.Prelude.{nat_lt}
+use Rattle.std.specs.List.{list_any}
+use Rattle.std.proofs.lemmas.Bool.{cases_eq, eq-eqb}
+use Rattle.sdd_base.specs.Numbers.{dm_no, tm_no, txn_no}
+use Rattle.sdd_base.specs.declared.event.Event.{Event}
+use Rattle.sdd_base.specs.declared.event.Event.TheVariants.{Settle, Submit}
+use Rattle.sdd_base.specs.declared.limits.TheConstants.{MAX_TXNS}
+use Rattle.sdd_base.specs.declared.site.Site.TheVariants.{D, T}
+use Rattle.sdd_catalog.specs.Rules.{IsSound, faults_of}
+use Rattle.sdd_log.specs.Permitted.{one_if, submits_by, submits_in}
+use Rattle.sdd_make.specs.Bank.{bank}
+use Rattle.sdd_make.specs.Draws.{draw, next, shown}
+use Rattle.sdd_make.specs.Turns.{arrival, deliveries, delivery, drawn_events, drawn_txn, events_of, turn, turns, turns_of, txns_of, workload_of}
+use Rattle.sdd_make.proofs.ValidEvents.{txns_count}
+use Rattle.sdd_make.proofs.ValidTxns.{choose}
+use Rattle.sdd_make.proofs.ValidWorkloads.{workload_valid}
+use Rattle.sdd_run.specs.Runs.{IsSummaryOn}
+use Rattle.sdd_verified.specs.Summaries.{SettleAll, TellsAllDone, takes_down}
+use Rattle.sdd_verified.proofs.AllSummed.{all_summed}
+
+submits_both : (n : ℕ) (xs ys : List Event) → submits_in n (xs ++ ys) ≡ submits_in n xs + submits_in n ys
+submits_both n [] ys = omega arith
+submits_both n (e ∷ xs) ys = let more = submits_both n xs ys in omega (arith, more)
+
+-- each transaction is submitted in its turn
+submits_own : (n k rest : ℕ) → k ≡ n → 1 ≤ one_if (k == n) + rest
+submits_own n k rest e = let q : one_if (k == n) ≡ 1 = ap one_if (eq-eqb k n e) in omega (arith, q)
+
+submits_turn : (n count i x : ℕ) → i ≤ n → n < i + count → 1 ≤ submits_in n (events_of (turns count i x).0)
+submits_turn n zero i x lo hi = absurd (omega (arith, lo, hi))
+submits_turn n (suc count) i x lo hi =
+    let y : ℕ = (drawn_txn i x).1 in
+    let z : ℕ = (turn i x).1 in
+    let both = submits_both n (drawn_events i y).0 (events_of (turns count (i + 1) z).0) in
+    elim (cases_eq i n) [
+      | inl e ↦
+          (let own : 1 ≤ submits_in n (drawn_events i y).0 = submits_own n i (submits_in n (deliveries (shown 4 (next y)) (next y)).0) e in
+          omega (arith, both, own))
+      | inr other ↦ (let later = submits_turn n count (i + 1) z (omega (arith, lo, other)) (omega (arith, hi)) in omega (arith, both, later))
+    ]
+
+-- no module is taken down
+
+abbrev IsUp : Event → Type 0
+IsUp e = takes_down e ≡ false
+
+delivery_up : (k : ℕ) → takes_down (delivery k) ≡ false
+delivery_up k =
+    let t : ℕ = (k % 9) / 3 + 1 in
+    let d : ℕ = k % 3 + 1 in
+    choose IsUp (nat_lt k 9) (arrival (T (tm_no t)) (D (dm_no d))) (arrival (D (dm_no d)) (T (tm_no t))) refl refl
+
+deliveries_up : (count x : ℕ) (rest : List Event) → list_any takes_down rest ≡ false
+    → list_any takes_down ((deliveries count x).0 ++ rest) ≡ false
+deliveries_up zero x rest h = h
+deliveries_up (suc count) x rest h = rw (delivery_up (draw 18 x).0) (deliveries_up count (draw 18 x).1 rest h)
+
+turns_up : (count i x : ℕ) (rest : List Event) → list_any takes_down rest ≡ false
+    → list_any takes_down (events_of (turns count i x).0 ++ rest) ≡ false
+turns_up zero i x rest h = h
+turns_up (suc count) i x rest h =
+    let y : ℕ = (drawn_txn i x).1 in
+    let z : ℕ = (turn i x).1 in
+    let more = turns_up count (i + 1) z rest h in
+    subst (λ es. list_any takes_down es ≡ false) (sym (append_assoc (drawn_events i y).0 (events_of (turns count (i + 1) z).0) rest))
+    (deliveries_up (shown 4 (next y)) (next y) (events_of (turns count (i + 1) z).0 ++ rest) more)
+
+made_settles : (seed n : ℕ) → SettleAll n (workload_of seed n).events
+made_settles seed n =
+    record {
+      submit_all = λ k lo hi.
+          (let there = submits_turn k n 1 seed lo (omega (arith, hi)) in
+          let both = submits_both k (events_of (turns_of seed n)) (Settle ∷ []) in
+          omega (arith, there, both));
+      none_down = turns_up n 1 seed (Settle ∷ []) refl;
+      ends = record { before = events_of (turns_of seed n); is = refl };
+    }
+
+bank_is_sound : IsSound bank
+unfolding faults_of
+bank_is_sound = record { valid = refl; same = refl }
+
+pub made_summed : (seed n : ℕ) (text : List ℕ) → n ≤ MAX_TXNS → IsSummaryOn bank (workload_of seed n) text → TellsAllDone n text
+made_summed seed n text few told =
+    let count : length (txns_of (turns_of seed n)) ≡ n = txns_count n 1 seed in
+    subst (λ m. TellsAllDone m text) count
+    (all_summed bank (workload_of seed n) text bank_is_sound (workload_valid seed n few) refl
+    (subst (λ m. SettleAll m (workload_of seed n).events) (sym count) (made_settles seed n)) told)

@@ -1,0 +1,166 @@
+-- Where no event takes a data module down, none is down at any time.
+use Rattle.std.proofs.Common.{ℕ, zero, suc, ◌++◌, ◌==◌, ◌≡◌, ◌∙◌, ◌∷◌, Bool, List, None, Option, Some, [], ap, cond, false, refl, subst, sym, true}
+use Rattle.std.specs.Prelude.{◌||◌, filter_map, flat_map, if◌then◌else◌, replicate}
+use Rattle.std.specs.List.{cons_option, list_any}
+use Rattle.sdd_base.specs.Words.{tail_of}
+use Rattle.sdd_base.specs.declared.event.Event.{Event}
+use Rattle.sdd_base.specs.declared.event.Event.TheVariants.{Submit, Deliver, Lose, Repeat, Resend, Tick, Settle, Redeclare, Down, Up}
+use Rattle.sdd_base.specs.declared.site.Site.{Site}
+use Rattle.sdd_invariants.proofs.Bools.{neither_left, neither_right}
+use Rattle.sdd_log.specs.Due.{next}
+use Rattle.sdd_log.specs.Entries.{Does, Entry, Given, Hand, Log, Mark, Notes, Redeclares, Round, Submitted}
+use Rattle.sdd_log.specs.Lawful.{IsLawful}
+use Rattle.sdd_log.specs.Marks.{after_mark, from_event, left, mark_from, mark_of}
+use Rattle.sdd_log.specs.Traffic.{all_links, calls_of, is_down, turned_by}
+use Rattle.sdd_net.specs.Links.{Call, in_flight, link, quiet, resends_now, round}
+use Rattle.sdd_settling.proofs.Marked.{next_is_of_events}
+use Rattle.sdd_wire.specs.declared.msg.Msg.{Msg}
+use Rattle.sdd_verified.specs.Summaries.{takes_down}
+
+-- events of which none takes a module down
+abbrev AreUp : List Event → Type 0
+AreUp [] = Unit {0}
+AreUp (e ∷ events) = (takes_down e ≡ false) × AreUp events
+
+pub are_up : (events : List Event) → list_any takes_down events ≡ false → AreUp events
+are_up [] h = tt
+are_up (e ∷ events) h = (
+  neither_left (takes_down e) (list_any takes_down events) h,
+  are_up events (neither_right (takes_down e) (list_any takes_down events) h),
+)
+
+both_up : (xs ys : List Event) → AreUp xs → AreUp ys → AreUp (xs ++ ys)
+both_up [] ys h k = k
+both_up (x ∷ xs) ys h k = (h.0, both_up xs ys h.1 k)
+
+-- those of a round are such
+
+copies_up : (n : ℕ) (e : Event) → takes_down e ≡ false → AreUp (replicate n e)
+copies_up zero e h = tt
+copies_up (suc n) e h = (h, copies_up n e h)
+
+resent_up : (ls : List (Site × Site)) (calls : List (Call Msg))
+    → AreUp (filter_map (λ l. cond (resends_now (link l.0 l.1 calls)) (Some (Resend l.0 l.1)) None) ls)
+resent_up [] calls = tt
+resent_up (l ∷ ls) calls =
+    elim (resends_now (link l.0 l.1 calls))
+        as (λ b. AreUp (cons_option (cond b (Some (Resend l.0 l.1)) None) (filter_map (λ l. cond (resends_now (link l.0 l.1 calls)) (Some (Resend l.0 l.1)) None) ls))) [
+      | true ↦ (refl, resent_up ls calls)
+      | false ↦ resent_up ls calls
+    ]
+
+delivered_up : (ls : List (Site × Site)) (calls : List (Call Msg))
+    → AreUp (flat_map (λ l. replicate (in_flight (link l.0 l.1 calls)) (Deliver l.0 l.1 1)) ls)
+delivered_up [] calls = tt
+delivered_up (l ∷ ls) calls = both_up _ _ (copies_up (in_flight (link l.0 l.1 calls)) (Deliver l.0 l.1 1) refl) (delivered_up ls calls)
+
+round_up : (ls : List (Site × Site)) (calls : List (Call Msg)) → AreUp (round ls calls)
+round_up ls calls = both_up _ _ (resent_up ls calls) (delivered_up ls calls)
+
+-- of what is left of the events, and of a round
+
+record AreLeftUp (s : List Event × List Event) : Type 0 where
+  pub events : AreUp s.0
+  pub of_round : AreUp s.1
+
+tail_up : (events : List Event) → AreUp events → AreUp (tail_of events)
+tail_up [] h = tt
+tail_up (e ∷ events) h = h.1
+
+from_up : (events : List Event) → AreUp events → AreUp (from_event events)
+from_up [] h = tt
+from_up (Settle ∷ events) h = from_up events h.1
+from_up (Submit n ∷ events) h = h
+from_up (Deliver a b k ∷ events) h = h
+from_up (Lose a b k ∷ events) h = h
+from_up (Repeat a b k ∷ events) h = h
+from_up (Resend a b ∷ events) h = h
+from_up (Tick t k ∷ events) h = h
+from_up (Redeclare ∷ events) h = h
+from_up (Down d ∷ events) h = h
+from_up (Up d ∷ events) h = h
+
+marked_up : (s : List Event × List Event) → AreLeftUp s → AreLeftUp (after_mark s)
+marked_up (events, []) h = record { events = tail_up (from_event events) (from_up events h.events); of_round = tt }
+marked_up (events, e ∷ of_round) h = record { events = h.events; of_round = h.of_round.1 }
+
+round_from : (g : Given) (log : Log) (q : Bool) (r ws es : List Event) → mark_from g log q r ws ≡ Some (Round es) → r ≡ es
+round_from g log q r [] es h = cc
+round_from g log true r (Settle ∷ ws) es h = round_from g log true r ws es h
+round_from g log false r (Settle ∷ ws) es h = cc
+round_from g log true r (Redeclare ∷ ws) es h = cc
+round_from g log false r (Redeclare ∷ ws) es h = cc
+round_from g log q r (Submit n ∷ ws) es h = cc
+round_from g log q r (Deliver a b k ∷ ws) es h = cc
+round_from g log q r (Lose a b k ∷ ws) es h = cc
+round_from g log q r (Repeat a b k ∷ ws) es h = cc
+round_from g log q r (Resend a b ∷ ws) es h = cc
+round_from g log q r (Tick t k ∷ ws) es h = cc
+round_from g log q r (Down d ∷ ws) es h = cc
+round_from g log q r (Up d ∷ ws) es h = cc
+
+begun_up : (g : Given) (log : Log) (es : List Event) (s : List Event × List Event) → mark_of g log s ≡ Some (Round es) → AreUp es
+begun_up g log es (ws, []) h =
+    subst AreUp (round_from g log (quiet (all_links g) (calls_of log)) (round (all_links g) (calls_of log)) ws es h)
+    (round_up (all_links g) (calls_of log))
+begun_up g log es (ws, e ∷ r) h = cc
+
+mark_from_up : (g : Given) (log : Log) (q : Bool) (r ws : List Event) (e : Event) → mark_from g log q r ws ≡ Some (Mark e) → AreUp ws
+    → takes_down e ≡ false
+mark_from_up g log q r [] e h u = cc
+mark_from_up g log true r (Settle ∷ ws) e h u = mark_from_up g log true r ws e h u.1
+mark_from_up g log false r (Settle ∷ ws) e h u = cc
+mark_from_up g log true r (Redeclare ∷ ws) e h u = cc
+mark_from_up g log false r (Redeclare ∷ ws) e h u = cc
+mark_from_up g log q r (Submit n ∷ ws) e h u = let p : Submit n ≡ e = cc in subst (λ x. takes_down x ≡ false) p refl
+mark_from_up g log q r (Deliver a b k ∷ ws) e h u = let p : Deliver a b k ≡ e = cc in subst (λ x. takes_down x ≡ false) p refl
+mark_from_up g log q r (Lose a b k ∷ ws) e h u = let p : Lose a b k ≡ e = cc in subst (λ x. takes_down x ≡ false) p refl
+mark_from_up g log q r (Repeat a b k ∷ ws) e h u = let p : Repeat a b k ≡ e = cc in subst (λ x. takes_down x ≡ false) p refl
+mark_from_up g log q r (Resend a b ∷ ws) e h u = let p : Resend a b ≡ e = cc in subst (λ x. takes_down x ≡ false) p refl
+mark_from_up g log q r (Tick t k ∷ ws) e h u = let p : Tick t k ≡ e = cc in subst (λ x. takes_down x ≡ false) p refl
+mark_from_up g log q r (Down d ∷ ws) e h u = let p : Down d ≡ e = cc in subst (λ x. takes_down x ≡ false) p u.0
+mark_from_up g log q r (Up d ∷ ws) e h u = let p : Up d ≡ e = cc in subst (λ x. takes_down x ≡ false) p refl
+
+mark_of_up : (g : Given) (log : Log) (s : List Event × List Event) (e : Event) → mark_of g log s ≡ Some (Mark e) → AreLeftUp s
+    → takes_down e ≡ false
+mark_of_up g log (ws, []) e h u = mark_from_up g log (quiet (all_links g) (calls_of log)) (round (all_links g) (calls_of log)) ws e h u.events
+mark_of_up g log (ws, x ∷ r) e h u = let p : x ≡ e = cc in subst (λ y. takes_down y ≡ false) p u.of_round.0
+
+left_up : (g : Given) (log : Log) → AreUp g.events → IsLawful g log → AreLeftUp (left g.events log)
+left_up g [] u h = record { events = u; of_round = tt }
+left_up g (Mark e ∷ log) u h = marked_up (left g.events log) (left_up g log u h.1)
+left_up g (Redeclares t ∷ log) u h = marked_up (left g.events log) (left_up g log u h.1)
+left_up g (Round es ∷ log) u h =
+    record {
+      events = (left_up g log u h.1).events;
+      of_round = begun_up g log es (left g.events log) (next_is_of_events g log (Round es) refl h.0);
+    }
+left_up g (Hand a b k m ∷ log) u h = left_up g log u h.1
+left_up g (Submitted a k ∷ log) u h = left_up g log u h.1
+left_up g (Notes ∷ log) u h = left_up g log u h.1
+left_up g (Does a act ∷ log) u h = left_up g log u h.1
+
+stays_up : (d : ℕ) (e : Event) (b : Bool) → takes_down e ≡ false → b ≡ false → turned_by d e b ≡ false
+stays_up d (Down m) b u h = cc
+stays_up d (Up m) b u h = elim (m.0 == d) as (λ x. (if x then false else b) ≡ false) [ true ↦ refl | false ↦ h ]
+stays_up d (Submit n) b u h = h
+stays_up d (Deliver x y k) b u h = h
+stays_up d (Lose x y k) b u h = h
+stays_up d (Repeat x y k) b u h = h
+stays_up d (Resend x y) b u h = h
+stays_up d (Tick t k) b u h = h
+stays_up d Settle b u h = h
+stays_up d Redeclare b u h = h
+
+pub none_down : (g : Given) (log : Log) (d : ℕ) → AreUp g.events → IsLawful g log → is_down d log ≡ false
+none_down g [] d u h = refl
+none_down g (Mark e ∷ log) d u h =
+    stays_up d e (is_down d log)
+    (mark_of_up g log (left g.events log) e (next_is_of_events g log (Mark e) refl h.0) (left_up g log u h.1))
+    (none_down g log d u h.1)
+none_down g (Round es ∷ log) d u h = none_down g log d u h.1
+none_down g (Redeclares t ∷ log) d u h = none_down g log d u h.1
+none_down g (Hand a b k m ∷ log) d u h = none_down g log d u h.1
+none_down g (Submitted a k ∷ log) d u h = none_down g log d u h.1
+none_down g (Notes ∷ log) d u h = none_down g log d u h.1
+none_down g (Does a act ∷ log) d u h = none_down g log d u h.1

@@ -1,0 +1,35 @@
+-- Schedules that leave nothing undone, and summaries that tell of as many Commits as transactions.
+use Rattle.std.specs.Prelude.{ℕ, ◌+◌, ◌≡◌, ◌≤◌, Bool, true, false, List, [], ◌∷◌, refl}
+use Rattle.std.specs.List.{list_any}
+use Rattle.sdd_base.specs.Numbers.{dm_no, txn_no}
+use Rattle.sdd_base.specs.declared.event.Event.{Event}
+use Rattle.sdd_base.specs.declared.event.Event.TheVariants.{Down, Settle, Submit}
+use Rattle.sdd_log.specs.Permitted.{submits_in}
+use Rattle.sdd_make.specs.Summary.{summary_text}
+use Rattle.sdd_make.specs.declared.summary.Summary.{Summary}
+use Rattle.sdd_run.specs.Settled.{EndsWithSettle}
+
+-- whether an event takes a data module down
+abbrev pub takes_down : Event → Bool
+takes_down (Down d) = true
+takes_down _ = false
+
+-- events that submit each of so many transactions, take no data module down, and end with a settle
+pub record SettleAll (txns : ℕ) (events : List Event) : Type 0 where
+  pub submit_all : (n : ℕ) → 1 ≤ n → n ≤ txns → 1 ≤ submits_in n events
+  pub none_down : list_any takes_down events ≡ false
+  pub ends : EndsWithSettle events
+
+-- a summary that tells that all of so many transactions are committed
+pub record TellsAllDone (txns : ℕ) (text : List ℕ) : Type 0 where
+  pub counts : Summary
+  pub text_is : text ≡ summary_text counts
+  pub transactions : counts.transactions ≡ txns
+  pub committed : counts.committed ≡ txns
+
+-- worked: of these events the first takes a module down
+pub one_down : list_any takes_down (Down (dm_no 1) ∷ Submit (txn_no 1) ∷ Settle ∷ []) ≡ true
+one_down = refl
+
+pub none_there : list_any takes_down (Submit (txn_no 1) ∷ Settle ∷ []) ≡ false
+none_there = refl
