@@ -52,7 +52,7 @@ pub const MAX_OUTPUT_COLUMNS: usize = 16;
 /// The most columns that an update assigns.
 pub const MAX_ASSIGNMENTS: usize = 16;
 
-/// The most rows of the answer of one query.
+/// The most rows of the answers of all queries of a transaction together.
 pub const MAX_REPLY_ROWS: usize = 4_096;
 
 /// The most events of a workload's schedule, a settle counted once.

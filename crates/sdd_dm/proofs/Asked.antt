@@ -67,6 +67,7 @@ asked_shown s st log from m reply c rows shows a = record {
   frozen = a.many ∙ shows.frozen;
   classes = λ k l. asked_class s st log from m reply c k rows shows a l;
   answered = answer_closes (suc (hands log)) from m reply (opens (Handed from m ∷ log)) a.opened;
+  pipes_live = shows.pipes_live;
   live = shows.live;
   copies = shows.copies;
   here = shows.here;

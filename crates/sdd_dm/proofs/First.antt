@@ -94,6 +94,7 @@ no_step n m c =
 abbrev first_state : Home → ℕ → Held → State
 first_state h n copies = record {
   home = h;
+  pipes_live = true;
   pipes = replicate n empty_digest;
   waits = replicate n false;
   copies = record { live = true; value = copies };
@@ -106,10 +107,10 @@ setting_of cat dm rows = record { catalogue = cat; site = D dm; rows = rows }
 pub first_shown : (cat : Catalogue) (dm : DmNo) (rows : List (RelNo × Row)) (n : ℕ) (st : State) → IsSound cat → IsDatabase cat (database_of cat rows)
     → n ≡ length cat.classes + 1
     → st.home ≡ home_of (setting_of cat dm rows) → st.pipes ≡ replicate n empty_digest → st.waits ≡ replicate n false → st.frozen ≡ replicate n None
-    → IsTrue st.copies.live → StandFor st.copies.value (map (first_row cat) (database_of cat rows))
+    → IsTrue st.pipes_live → IsTrue st.copies.live → StandFor st.copies.value (map (first_row cat) (database_of cat rows))
     → ((f : ℕ) → has_copy cat dm.0 f ≡ true → is_here st.copies.value f ≡ true)
     → Shows (setting_of cat dm rows) st []
-first_shown cat dm rows n st sound is many home pipes waits frozen live stand here =
+first_shown cat dm rows n st sound is many home pipes waits frozen pipes_live live stand here =
     let s : Setting = setting_of cat dm rows in
     let all : dated s [] ≡ first_rows s = ap (λ xs. first_rows s ++ xs) (flat_none (classes_of s)) ∙ append-nil (first_rows s) in
     record {
@@ -123,6 +124,7 @@ first_shown cat dm rows n st sound is many home pipes waits frozen live stand he
         frozen = ap (λ fs. slice_index_or fs c None) frozen ∙ at_replicate n c None;
       };
       answered = refl;
+      pipes_live = pipes_live;
       live = live;
       copies = subst (StandFor st.copies.value) (sym all) stand;
       here = here;

@@ -79,21 +79,22 @@ steps_fall st new p e same is =
     rw after (step_less st p.0.0 f.msg p.1 (waits_at st.waits p.0.0) f.known same f.head refl
     (ap (step_by st.pipes st.waits p.0.0 (waits_at st.waits p.0.0)) (sym f.head) ∙ f.step))
 
--- what stays: the copies live, and there are as many flags as pipes
+-- what stays: the copies and the pipes live, and there are as many flags as pipes
 
 pub record IsWhole (st : State) : Type 0 where
   pub live : IsTrue st.copies.live
+  pub pipes_live : IsTrue st.pipes_live
   pub flags : length st.waits ≡ length st.pipes
 
 abbrev taken_whole : (st : State) (c : ℕ) → IsWhole st → length (update c (λ w. false) st.waits) ≡ length (update c take_digest st.pipes)
 taken_whole st c w = length-update c (λ x. false) st.waits ∙ w.flags ∙ sym (length-update c take_digest st.pipes)
 
 stepped_whole : (st : State) (c : ℕ) (m : Msg) (step : Step) → IsWhole st → IsWhole (stepped st c m step)
-stepped_whole st c (Null class time) step w = record { live = w.live; flags = taken_whole st c w }
-stepped_whole st c (Write ts class txn changes) step w = record { live = refl; flags = taken_whole st c w }
-stepped_whole st c (Read ts class txn attempt conds uses) Processes w = record { live = w.live; flags = taken_whole st c w }
-stepped_whole st c (Read ts class txn attempt conds uses) (Refuses by write) w = record { live = w.live; flags = taken_whole st c w }
-stepped_whole st c (Read ts class txn attempt conds uses) (Waits ds) w = record { live = w.live; flags = length-update c (λ x. true) st.waits ∙ w.flags }
+stepped_whole st c (Null class time) step w = record { live = w.live; pipes_live = w.pipes_live; flags = taken_whole st c w }
+stepped_whole st c (Write ts class txn changes) step w = record { live = refl; pipes_live = w.pipes_live; flags = taken_whole st c w }
+stepped_whole st c (Read ts class txn attempt conds uses) Processes w = record { live = w.live; pipes_live = w.pipes_live; flags = taken_whole st c w }
+stepped_whole st c (Read ts class txn attempt conds uses) (Refuses by write) w = record { live = w.live; pipes_live = w.pipes_live; flags = taken_whole st c w }
+stepped_whole st c (Read ts class txn attempt conds uses) (Waits ds) w = record { live = w.live; pipes_live = w.pipes_live; flags = length-update c (λ x. true) st.waits ∙ w.flags }
 stepped_whole st c _ step w = w
 
 after_whole : (st : State) (c : ℕ) (o : Option Msg) (step : Step) → IsWhole st → IsWhole (state_after st c o step)
@@ -104,12 +105,12 @@ pub whole_on : (st new : State) (p : ClassNo × Step) → new ≡ state_after st
 whole_on st new p e w = subst IsWhole (sym e) (after_whole st p.0.0 (head_at st.pipes p.0.0) p.1 w)
 
 told_whole : (m : Msg) (st : State) → IsWhole st → IsWhole (state_told m st)
-told_whole (Reduce ts class u col values) st w = record { live = w.live; flags = w.flags }
-told_whole (Ship ts class) st w = record { live = w.live; flags = w.flags }
+told_whole (Reduce ts class u col values) st w = record { live = w.live; pipes_live = w.pipes_live; flags = w.flags }
+told_whole (Ship ts class) st w = record { live = w.live; pipes_live = w.pipes_live; flags = w.flags }
 told_whole _ st w = w
 
 handed_by : (o : Option ℕ) (m : Msg) (st : State) → IsWhole st → IsWhole (state_by o m st)
-handed_by (Some c) m st w = record { live = w.live; flags = w.flags ∙ sym (length-update c (put_digest m) st.pipes) }
+handed_by (Some c) m st w = record { live = w.live; pipes_live = w.pipes_live; flags = w.flags ∙ sym (length-update c (put_digest m) st.pipes) }
 handed_by None m st w = told_whole m st w
 
 pub whole_handed : (m : Msg) (st new : State) → new ≡ state_handed m st → IsWhole st → IsWhole new

@@ -8,6 +8,7 @@ pub mod First
 pub mod FirstDue
 pub mod Handed
 pub mod Left
+pub mod LowestClass
 pub mod Messages
 pub mod Prefix
 pub mod Ranks

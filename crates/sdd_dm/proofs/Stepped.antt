@@ -82,6 +82,7 @@ frozen_other s k c r sends log h = rw (other_number k c h) refl
 abbrev taken : ℕ → Kept Held → List (Option Frozen) → State → State
 taken c copies rows st = record {
   home = st.home;
+  pipes_live = st.pipes_live;
   pipes = update c take_digest st.pipes;
   waits = update c (λ w. false) st.waits;
   copies = copies;
@@ -119,6 +120,7 @@ taken_shown s st log c r sends copies rows shows l e same_opens live stand here 
   frozen = many ∙ shows.frozen;
   classes = λ k m. taken_class s st log c k r sends copies rows shows l m e (held k m);
   answered = same_opens ∙ shows.answered;
+  pipes_live = shows.pipes_live;
   live = live;
   copies = stand;
   here = λ f h. here f ∙ shows.here f h;
@@ -211,6 +213,7 @@ waiting_shown s st log c r sends shows l e f g h same_opens = record {
   frozen = shows.frozen;
   classes = λ k m. waiting_class s st log c k r sends shows l m e f g;
   answered = same_opens ∙ shows.answered;
+  pipes_live = shows.pipes_live;
   live = shows.live;
   copies = subst (StandFor st.copies.value) (sym (dated_kept s log c r sends h)) shows.copies;
   here = shows.here;

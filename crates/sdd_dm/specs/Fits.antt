@@ -1,5 +1,5 @@
 -- What a message has to meet when it is handed to a data module.
-use Rattle.std.specs.Prelude.{ℕ, ◌≤◌, ◌<◌, ◌^◌, ◌≡◌, ◌==◌, max, true, false, List, [], ◌∷◌, ◌++◌, map, fold, length, Option, Some, None, IfSome}
+use Rattle.std.specs.Prelude.{ℕ, ◌≤◌, ◌<◌, ◌^◌, ◌≡◌, max, true, false, List, [], ◌∷◌, ◌++◌, map, fold, length, Option, Some, None, IfSome}
 use Rattle.std.specs.List.{All, IsDistinct}
 use Rattle.std.specs.Ordering.{is_eq}
 use Rattle.sdd_base.specs.Sites.{number_of}
@@ -49,11 +49,23 @@ pub record FitsCond (s : Setting) (d : Cond) : Type 0 where
   pub is_class : IsClass s d.class.0
   pub early : IsEarly d.time.0
 
--- the numbers of a READ's uses differ
+-- numbers that ascend: each is above the one before it
+
+abbrev pub StartsAbove : ℕ → List ℕ → Type 0
+StartsAbove k [] = Unit {0}
+StartsAbove k (n ∷ ns) = k < n
+
+abbrev pub Ascend : List ℕ → Type 0
+Ascend [] = Unit {0}
+Ascend (n ∷ ns) = StartsAbove n ns × Ascend ns
+
+-- A READ's conditions ascend by class and its uses by number, so that the first condition that spoils it is that of the
+-- lowest class.
 pub record FitsRead (s : Setting) (log : Log) (from : Site) (class time : ℕ) (conds : List Cond) (uses : List Use) : Type 0 where
   pub piped : FitsPipe s log from class time
   pub conditions : All (FitsCond s) conds
-  pub numbers : IsDistinct ◌==◌ (map (λ u. u.number) uses)
+  pub classes_ascend : Ascend (map (λ d. d.class.0) conds)
+  pub uses_ascend : Ascend (map (λ u. u.number) uses)
   pub here : All (IsHere s) uses
 
 abbrev pub write_time_of : Msg → Option ℕ

@@ -59,6 +59,7 @@ pub record Shows (s : Setting) (st : State) (log : Log) : Type 0 where
   pub frozen : length st.frozen ≡ suc (length s.catalogue.classes)
   pub classes : (c : ℕ) → c ≤ length s.catalogue.classes → ShowsClass s st log c
   pub answered : opens log ≡ []
+  pub pipes_live : IsTrue st.pipes_live
   pub live : IsTrue st.copies.live
   pub copies : StandFor st.copies.value (dated s log)
   pub here : (f : ℕ) → has_copy s.catalogue (number_of s.site) f ≡ true → is_here st.copies.value f ≡ true

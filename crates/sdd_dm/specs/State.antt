@@ -21,9 +21,10 @@ use Rattle.sdd_dm.specs.Views.{Home, source_of}
 use Rattle.sdd_dm.specs.Due.{ask_for, done_for}
 
 -- its number with the site of each class, and by class from 0 on what is kept of the pipe, whether its head waits, and the
--- rows that are held; and the copies
+-- rows that are held; the copies; and whether the pipes are live
 pub record State : Type 0 where
   pub home : Home
+  pub pipes_live : Bool
   pub pipes : List Digest
   pub waits : List Bool
   pub copies : Kept Held

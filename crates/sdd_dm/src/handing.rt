@@ -1,5 +1,5 @@
 //! What a message does that is handed to the module.
-ghost use Rattle.std.specs.Prelude.{◌≡◌, ◌<◌, ℕ, OnOk, IfOk, length, Some, None};
+ghost use Rattle.std.specs.Prelude.{◌≡◌, ◌<◌, ℕ, OnOk, IfOk, IsTrue, length, Some, None};
 ghost use Rattle.std.specs.Option.{option_map};
 ghost use Rattle.sdd_space.specs.Frozen.{values_in};
 ghost use Rattle.sdd_pipe.specs.Pipes.{update};
@@ -17,7 +17,8 @@ impl Parts {
     /// Takes a message: a READ, WRITE or NULL goes to the pipe of its class, and a READ is recorded;
     /// a FETCH, REDUCE or SHIP is answered from the frozen rows.
     pub fn hand(&mut self, from: Site, msg: Msg, draft: &mut Draft) -> Result<(), NoMemory>
-        requires { (c : ℕ) → class_piped msg ≡ Some c → c < length self.old.pipes }
+        requires pipes_live { IsTrue self.old.pipes_live }
+        requires known { (c : ℕ) → class_piped msg ≡ Some c → c < length self.old.pipes }
         ensures state { OnOk result (self.new ≡ state_handed msg self.old) }
         ensures notes { OnOk result (draft.new ≡ notes_handed from msg self.old draft.old) }
     {

@@ -47,6 +47,7 @@ impl Model for Parts {
 
     ghost view = { λ p. record {
       home = record { dm = p.dm; sources = p.sources.items };
+      pipes_live = p.pipes.live;
       pipes = p.pipes.value;
       waits = p.waits.items;
       copies = p.copies;
@@ -91,6 +92,7 @@ impl Parts {
     /// Takes a message, and then lets the first head do what it may, until none may do something.
     pub fn work(&mut self, from: Site, msg: Msg) -> Result<Draft, NoMemory>
         requires live { IsTrue self.old.copies.live }
+        requires pipes_live { IsTrue self.old.pipes_live }
         requires flags { length self.old.waits ≡ length self.old.pipes }
         requires known { (c : ℕ) → class_piped msg ≡ Some c → c < length self.old.pipes }
         ensures worked { IfOk result (λ draft. Worked from msg self.old self.new draft) }

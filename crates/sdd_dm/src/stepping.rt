@@ -21,6 +21,7 @@ impl Parts {
     /// Does what the head of a class may do.
     pub fn perform(&mut self, class: ClassNo, step: Step, draft: &mut Draft) -> Result<(), NoMemory>
         requires live { IsTrue self.old.copies.live }
+        requires pipes_live { IsTrue self.old.pipes_live }
         requires known { class.0 < length self.old.pipes }
         requires step { step_at self.old.pipes self.old.waits class.0 ≡ Some step }
         ensures state { OnOk result (self.new
@@ -38,6 +39,7 @@ impl Parts {
     /// Processes the head of a class: a NULL passes, a WRITE is applied, a READ is answered.
     fn process(&mut self, class: ClassNo, draft: &mut Draft) -> Result<(), NoMemory>
         requires live { IsTrue self.old.copies.live }
+        requires pipes_live { IsTrue self.old.pipes_live }
         requires known { class.0 < length self.old.pipes }
         requires step { step_at self.old.pipes self.old.waits class.0 ≡ Some Processes }
         ensures state { OnOk result (self.new
@@ -102,6 +104,7 @@ impl Parts {
 
     /// Takes the head of a class off its pipe; what is next there doesn't wait.
     fn take(&mut self, class: ClassNo) -> Option<Msg>
+        requires pipes_live { IsTrue self.old.pipes_live }
         requires known { class.0 < length self.old.pipes }
         ensures head { result ≡ head_at self.old.pipes class.0 }
         ensures state { self.new ≡ head_taken class.0 self.old }
@@ -134,6 +137,7 @@ impl Parts {
         write: Ts,
         draft: &mut Draft,
     ) -> Result<(), NoMemory>
+        requires pipes_live { IsTrue self.old.pipes_live }
         requires known { class.0 < length self.old.pipes }
         requires step { step_at self.old.pipes self.old.waits class.0 ≡ Some (Refuses by write) }
         ensures state { OnOk result (self.new

@@ -67,7 +67,7 @@ few_homes g w c = site_small (c == 0) (tm_no (class_at g.catalogue c).tm.0) (tm_
 pub upheld_d : (g : Given) (log : Log) (a : Site) (d : DmNo) (n : ℕ) (m : Msg) → IsWhole g.catalogue → FitsGiven g
     → IsPermitted g (Hand a (D d) n m ∷ log) → IsUpheldD (setting_of g (D d)) (local_of g (D d) log) a m
 upheld_d g log a d n (Read ts class txn attempt conds uses) w good h =
-    let r = reads_are_readable g log a d n (Read ts class txn attempt conds uses) h good.sound in (r.numbers, r.here)
+    let r = reads_are_readable g log a d n (Read ts class txn attempt conds uses) h good.sound in (r.classes_ascend, r.uses_ascend, r.here)
 upheld_d g log a d n (Write ts class txn changes) w good h =
     let p = write_put g log a d n ts class txn changes good h.1 (allowed_hand g log (Hand a (D d) n (Write ts class txn changes)) h.0).there in
     (p.items, changes_fit g d changes good p)

@@ -39,8 +39,9 @@ d_fits g log a d n (Read ts class txn attempt conds uses) bases s l e h u = reco
   conditions = conds_fit (setting_of g (D d)) conds (read_within (setting_of g a) (D d) (local_of g a log)
       (handed a (D d) log) ts class txn attempt conds uses (fair_of g a log h.permitted.1 h.route.0) h.place)
       h.times.1;
-  numbers = u.0;
-  here = u.1;
+  classes_ascend = u.0;
+  uses_ascend = u.1;
+  here = u.2;
 }
 d_fits g log a d n (Write ts class txn changes) bases s l e h u = record {
   piped = pipe_fits g d log a n (Write ts class txn changes) class.0 ts.0 h (h.from_small h.route.0) refl (late ts.0 h.times.0);

@@ -2,6 +2,7 @@ pub mod AllFacts
 pub mod Answered
 pub mod Answering
 pub mod AnswersLow
+pub mod Ascending
 pub mod Asked
 pub mod Asking
 pub mod AsksFit

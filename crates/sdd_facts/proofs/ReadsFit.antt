@@ -1,5 +1,5 @@
--- What a READ says: its conditions are on classes of the catalogue, its uses have different numbers, and its module has copies
--- of their fragments.
+-- What a READ says: its conditions are on classes of the catalogue and ascend by class, its uses ascend by number, and its
+-- module has copies of their fragments.
 use Rattle.std.specs.List.{AllByRecursion, IsDistinct, cons_option, range_with_len}
 use Rattle.std.specs.Option.{option_eq, option_or}
 use Rattle.std.specs.Prelude.{filter_map}
@@ -39,6 +39,7 @@ use Rattle.sdd_log.specs.Entries as all
 use Rattle.sdd_log.specs.Locals.{local_of, setting_of}
 use Rattle.sdd_log.specs.Permitted.{IsPermitted}
 use Rattle.sdd_log.specs.Traffic.{handed}
+use Rattle.sdd_facts.proofs.Ascending.{condition_class, conditions_strict, strict_ascends}
 use Rattle.sdd_facts.proofs.Asking.{asks_no_read, strict_asked}
 use Rattle.sdd_facts.proofs.FirstSends.{IsFirstEach, IsFirstSend}
 use Rattle.sdd_facts.proofs.Modules.{sent_to_each}
@@ -74,22 +75,6 @@ conds_in_range f a (suc n) bound g l =
       | None ↦ λ e. i
       | Some q ↦ λ e. (let k = g a q e in omega (arith, l, k), i)
     ] refl
-
-cond_class : (j t : ℕ) (fs : List FragNo) (q : Cond) → cond_for j t fs ≡ Some q → q.class.0 ≡ j
-cond_class j t [] q e = cc
-cond_class j t (f ∷ fs) q e = let p : cond_of j t (f ∷ fs) ≡ q = cc in ap (λ (x : Cond). x.class.0) (sym p)
-
-either_class : (o p : Option Cond) (j : ℕ) (q : Cond) → ((x : Cond) → o ≡ Some x → x.class.0 ≡ j) → ((x : Cond) → p ≡ Some x → x.class.0 ≡ j)
-    → option_or o p ≡ Some q → q.class.0 ≡ j
-either_class None p j q f g e = g q e
-either_class (Some x) p j q f g e = let r : x ≡ q = cc in subst (λ (y : Cond). y.class.0 ≡ j) r (f x refl)
-
-condition_class : (f : ℕ → Bool) (entries : List line.Entry) (i own p2 j : ℕ) (q : Cond) → condition_on f entries i own p2 j ≡ Some q
-    → q.class.0 ≡ j
-condition_class f entries i own p2 j q e =
-    either_class (cond_for j own (asked_by P3 f entries i j)) (cond_for j p2 (asked_by P2 f entries i j)) j
-    q (λ x. cond_class j own (asked_by P3 f entries i j) x)
-    (λ x. cond_class j p2 (asked_by P2 f entries i j) x) e
 
 undeclared_in_range : (own : ℕ) (fs : List FragNo) (a n bound : ℕ) → a + n ≤ suc bound
     → AllByRecursion (IsOn bound) (map (λ c. cond_of c own fs) (range_with_len a n))
@@ -188,18 +173,6 @@ there_strict cat c d (u ∷ us) h =
       | [] ↦ there_strict cat c d us h.1
       | f ∷ fs ↦ (there_above cat c d u.number us h.0, there_strict cat c d us h.1)
     ]
-
-below_not : (a b : ℕ) → a < b → (a == b) ≡ false
-below_not a b l = elim (same_or_not a b) [ inl p ↦ absurd (omega (arith, p, l)) | inr p ↦ p ]
-
-apart_above : (k : ℕ) (ns : List ℕ) → AllGt k ns → AllByRecursion (λ y. (k == y) ≡ false) ns
-apart_above k [] h = tt
-apart_above k (n ∷ ns) h = (below_not k n h.0, apart_above k ns h.1)
-
-distinct_of : (ns : List ℕ) → IsStrict ns → IsDistinct ◌==◌ ns
-unfolding IsDistinct
-distinct_of [] h = tt
-distinct_of (n ∷ ns) h = IsDistinct-cons ◌==◌ n ns (apart_above n ns h.0) (distinct_of ns h.1)
 
 -- fragments of uses are of the catalogue, and the module has copies of those that are read there
 
@@ -320,7 +293,10 @@ start_fits g at d log class q sound l = record {
       (conditions_here g.catalogue (in_force (setting_of g at) log).table class
       (ascending (fragments_in (uses_of g.catalogue q.text))) (next_stamp (setting_of g at) log)
       (bound (setting_of g at) log) d.0);
-  numbers = distinct_of (numbers (filter_map (use_there g.catalogue class d.0)
+  classes_ascend = strict_ascends _ (conditions_strict g.catalogue (in_force (setting_of g at) log).table class
+      (ascending (fragments_in (uses_of g.catalogue q.text))) (next_stamp (setting_of g at) log)
+      (bound (setting_of g at) log) d.0);
+  uses_ascend = strict_ascends (numbers (filter_map (use_there g.catalogue class d.0)
       (uses_of g.catalogue q.text))) (there_strict g.catalogue class d.0 (uses_of g.catalogue q.text)
       (all_numbered g.catalogue 0 q.text.statements).1);
   here = All-from_recursion (IsHere (setting_of g (D d))) _

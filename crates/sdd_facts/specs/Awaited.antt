@@ -1,6 +1,6 @@
 -- What the messages of an exchange meet when they are handed over.
-use Rattle.std.specs.List.{All, IsDistinct, list_any}
-use Rattle.std.specs.Prelude.{ℕ, ◌==◌, ◌≡◌, List, None, Option, Some, false, map, not}
+use Rattle.std.specs.List.{All, list_any}
+use Rattle.std.specs.Prelude.{ℕ, ◌≡◌, List, None, Option, Some, false, map, not}
 use Rattle.sdd_base.specs.Sites.{number_of}
 use Rattle.sdd_base.specs.Words.{contains}
 use Rattle.sdd_base.specs.declared.condition.Cond.{Cond}
@@ -12,7 +12,7 @@ use Rattle.sdd_wire.specs.declared.msg.Msg.TheVariants.{Fetch, Read, Ready, Redu
 use Rattle.sdd_module.specs.SiteLog.{Log, Setting}
 use Rattle.sdd_attempt.specs.Attempts.{Attempt, active}
 use Rattle.sdd_attempt.specs.Fits.{AnswersRead, Awaits, AwaitsAt, FitsReady, fetches_use, is_shipping, reduces_use, uses_at}
-use Rattle.sdd_dm.specs.Fits.{FitsShip, FitsStep, IsClass, IsHere}
+use Rattle.sdd_dm.specs.Fits.{Ascend, FitsShip, FitsStep, IsClass, IsHere}
 
 -- ROWS are awaited, and are of uses that are read at their module alone
 pub record AwaitsRowsOf (a : Attempt) (from : Site) (ts : ℕ) (rows : List (ℕ × Row)) : Type 0 where
@@ -39,12 +39,13 @@ IsServable s log from (Reduce ts class u col values) = FitsStep s log from class
 IsServable s log from (Ship ts class) = FitsShip s log from class.0 ts.0
 IsServable s log from _ = Unit {0}
 
--- a READ is of a class of the catalogue, its conditions are on such classes, the numbers of its uses differ, and the module
--- has copies of their fragments
+-- a READ is of a class of the catalogue, its conditions are on such classes and ascend by class, its uses ascend by number,
+-- and the module has copies of their fragments
 pub record ReadFits (s : Setting) (class : ℕ) (conds : List Cond) (uses : List Use) : Type 0 where
   pub is_class : IsClass s class
   pub conditions : All (λ d. IsClass s d.class.0) conds
-  pub numbers : IsDistinct ◌==◌ (map (λ u. u.number) uses)
+  pub classes_ascend : Ascend (map (λ d. d.class.0) conds)
+  pub uses_ascend : Ascend (map (λ u. u.number) uses)
   pub here : All (IsHere s) uses
 
 abbrev pub IsReadable : Setting → Msg → Type 0

@@ -1,9 +1,9 @@
--- What is left to be shown of a message that is next to be handed over: of READs their uses, of WRITEs their changes, of
--- FETCH, REDUCE and SHIP that rows are held, of READY its counts, of VALUES, REDUCED and ROWS that they are awaited, and
--- of ROWS that they serve.
+-- What is left to be shown of a message that is next to be handed over: of READs the order of their conditions
+-- and uses, of WRITEs their changes, of FETCH, REDUCE and SHIP that rows are held, of READY its counts, of VALUES, REDUCED
+-- and ROWS that they are awaited, and of ROWS that they serve.
 use Rattle.std.specs.List.{All, IsDistinct}
 use Rattle.std.specs.Ordering.{is_eq}
-use Rattle.std.specs.Prelude.{◌==◌, ◌≡◌, map}
+use Rattle.std.specs.Prelude.{◌≡◌, map}
 use Rattle.sdd_base.specs.declared.site.Site.{Site}
 use Rattle.sdd_lang.specs.Database.{item_cmp}
 use Rattle.sdd_wire.specs.declared.msg.Msg.{Msg}
@@ -11,13 +11,14 @@ use Rattle.sdd_wire.specs.declared.msg.Msg.TheVariants.{Fetch, Read, Ready, Redu
 use Rattle.sdd_module.specs.SiteLog.{Bases, Setting}
 use Rattle.sdd_attempt.specs.Attempts.{active}
 use Rattle.sdd_attempt.specs.Fits.{AwaitsAt, FitsRows, fetches_use, reduces_use, uses_asked}
-use Rattle.sdd_dm.specs.Fits.{FitsChange, FitsShip, FitsStep, IsHere}
+use Rattle.sdd_dm.specs.Fits.{Ascend, FitsChange, FitsShip, FitsStep, IsHere}
 use Rattle.sdd_module.specs.SiteLog as site
 
 -- at a data module
 
 abbrev pub IsUpheldD : Setting → site.Log → Site → Msg → Type 0
-IsUpheldD s log from (Read ts class txn attempt conds uses) = IsDistinct ◌==◌ (map (λ u. u.number) uses) × All (IsHere s) uses
+IsUpheldD s log from (Read ts class txn attempt conds uses) =
+    Ascend (map (λ d. d.class.0) conds) × Ascend (map (λ u. u.number) uses) × All (IsHere s) uses
 IsUpheldD s log from (Write ts class txn changes) =
     IsDistinct (λ x y. is_eq (item_cmp x y)) (map (λ x. (x.frag.0, x.key)) changes) × All (FitsChange s) changes
 IsUpheldD s log from (Fetch ts class u col) = FitsStep s log from class.0 ts.0 u

@@ -9,6 +9,7 @@ use Rattle.std.proofs.lemmas.Bool.Decides.{Decides-eqb}
 use Rattle.std.proofs.lemmas.Cmp.{tied_itself}
 use Rattle.std.proofs.lemmas.List.Elements.{recursion_from_All, All-from_recursion}
 use Rattle.std.proofs.lemmas.Map.Keys.{sorted_head, sorted_tail}
+use Rattle.sdd_base.specs.declared.limits.TheConstants.{MAX_REPLY_ROWS}
 use Rattle.sdd_base.specs.Words.{ascending, contains}
 use Rattle.sdd_base.specs.declared.change.Change.{Change}
 use Rattle.sdd_base.specs.declared.number.FragNo.{FragNo}
@@ -76,7 +77,7 @@ effect_made cat db (Put rel row ∷ rest) answers changed s =
 effect_made cat db (Query out rels conds ∷ rest) answers changed s =
     let found : List Row = answer db out rels conds in
     let next = effect_made cat db rest (answers ++ found ∷ []) changed s in
-    elim (nat_lt 4096 (rows_in answers + length found)) as (λ b. AreMade (if b then failed TooMany else effect_from cat db rest (answers ++ found ∷ []) changed).changes) [ true ↦ no_changes | false ↦ next ]
+    elim (nat_lt MAX_REPLY_ROWS (rows_in answers + length found)) as (λ b. AreMade (if b then failed TooMany else effect_from cat db rest (answers ++ found ∷ []) changed).changes) [ true ↦ no_changes | false ↦ next ]
 effect_made cat db (Update rel sets conds ∷ rest) answers changed s =
     elim (with_updates cat sets changed (chosen db rel.0 conds)) as (λ o. with_updates cat sets changed (chosen db rel.0 conds) ≡ o → AreMade (elim o as (λ p. Effect) [ None ↦ failed Overflow | Some next ↦ effect_from cat db rest answers next ]).changes) [
       | None ↦ λ h. no_changes
@@ -221,7 +222,7 @@ effect_in cat sound ws db is (Put rel row ∷ rest) answers changed fits written
 effect_in cat sound ws db is (Query out rels conds ∷ rest) answers changed fits written all =
     let found : List Row = answer db out rels conds in
     let next = effect_in cat sound ws db is rest (answers ++ found ∷ []) changed fits.1 written.1 all in
-    elim (nat_lt 4096 (rows_in answers + length found)) as (λ b. EffectIn ws (if b then failed TooMany else effect_from cat db rest (answers ++ found ∷ []) changed)) [ true ↦ tt | false ↦ next ]
+    elim (nat_lt MAX_REPLY_ROWS (rows_in answers + length found)) as (λ b. EffectIn ws (if b then failed TooMany else effect_from cat db rest (answers ++ found ∷ []) changed)) [ true ↦ tt | false ↦ next ]
 effect_in cat sound ws db is (Update rel sets conds ∷ rest) answers changed fits written all =
     let frags : List ℕ = map (λ (f : FragNo). f.0) (fragments_for cat rel.0 (restrictions_of 1 conds)) in
     let of : AllByRecursion (InSet ws) frags = subst (AllByRecursion (InSet ws)) (append-nil frags) written.0 in

@@ -1,5 +1,6 @@
 -- A transaction statement by statement.
 use Rattle.std.proofs.Common.{ℕ, ◌≡◌, ◌+◌, ◌-◌, ◌≤◌, List, [], ◌∷◌, ◌++◌, length, arith}
+use Rattle.sdd_base.specs.declared.limits.TheConstants.{MAX_REPLY_ROWS}
 use Rattle.sdd_lang.specs.Database.{Row}
 use Rattle.sdd_lang.specs.Effect.{rows_in}
 
@@ -8,6 +9,6 @@ rows_in-append [] rows = omega arith
 rows_in-append (a ∷ answers) rows = omega (arith, rows_in-append answers rows)
 
 -- the room that is left after one more answer
-pub room_left : (room : ℕ) (answers : List (List Row)) (rows : List Row) → room + rows_in answers ≡ 4096 → length rows ≤ room
-    → (room - length rows) + rows_in (answers ++ rows ∷ []) ≡ 4096
+pub room_left : (room : ℕ) (answers : List (List Row)) (rows : List Row) → room + rows_in answers ≡ MAX_REPLY_ROWS → length rows ≤ room
+    → (room - length rows) + rows_in (answers ++ rows ∷ []) ≡ MAX_REPLY_ROWS
 room_left room answers rows e le = omega (arith, rows_in-append answers rows)

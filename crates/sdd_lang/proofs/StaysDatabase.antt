@@ -6,6 +6,7 @@ use Rattle.std.proofs.lemmas.List.{get_or-set_other, get_or_past}
 use Rattle.std.proofs.lemmas.List.Elements.{All-from_recursion, recursion_from_All, All-nil}
 use Rattle.std.proofs.lemmas.Bool.{cases_lt}
 use Rattle.std.proofs.lemmas.Bool.Decides.{Decides-eqb}
+use Rattle.sdd_base.specs.declared.limits.TheConstants.{MAX_REPLY_ROWS}
 use Rattle.sdd_base.specs.declared.change.Change.{Change}
 use Rattle.sdd_base.specs.declared.number.RelNo.{RelNo}
 use Rattle.sdd_base.specs.declared.value.Value.{Value}
@@ -193,7 +194,7 @@ effect_changes cat sound db is (Put rel row ∷ rest) answers changed fits held 
 effect_changes cat sound db is (Query out rels conds ∷ rest) answers changed fits held all =
     let found : List Row = answer db out rels conds in
     let next = effect_changes cat sound db is rest (answers ++ found ∷ []) changed fits.1 held.1 all in
-    elim (nat_lt 4096 (rows_in answers + length found)) as (λ b. ChangesItems cat (if b then failed TooMany else effect_from cat db rest (answers ++ found ∷ []) changed)) [ true ↦ tt | false ↦ next ]
+    elim (nat_lt MAX_REPLY_ROWS (rows_in answers + length found)) as (λ b. ChangesItems cat (if b then failed TooMany else effect_from cat db rest (answers ++ found ∷ []) changed)) [ true ↦ tt | false ↦ next ]
 effect_changes cat sound db is (Update rel sets conds ∷ rest) answers changed fits held all =
     elim (with_updates cat sets changed (chosen db rel.0 conds)) as (λ o. with_updates cat sets changed (chosen db rel.0 conds) ≡ o → ChangesItems cat (elim o as (λ p. Effect) [ None ↦ failed Overflow | Some next ↦ effect_from cat db rest answers next ])) [
       | None ↦ λ h. tt

@@ -1,5 +1,6 @@
 //! A transaction under way.
 ghost use Rattle.std.specs.Prelude.{◌≡◌, ◌<◌, ◌+◌, ◌^◌, nat_lt, not, [], ◌∷◌, ◌++◌, IfOk, OnOk, Some, None, cond, length, map, IsTrue};
+ghost use Rattle.sdd_base.specs.declared.limits.TheConstants.{MAX_REPLY_ROWS};
 ghost use Rattle.sdd_base.specs.declared.reply.Reply.TheVariants.{Rows};
 ghost use Rattle.sdd_lang.specs.Database.{key_in};
 ghost use Rattle.sdd_lang.specs.Effect.{with_change, with_updates, with_deletes, rows_in, change_of};
@@ -14,13 +15,10 @@ use crate::pending::Pending;
 use crate::source::Source;
 use crate::statement::Stmt;
 use crate::tuple::key_of;
-use sdd_base::{Answers, NoMemory, Parcel, RelNo, Reply, Row, RowList};
+use sdd_base::{Answers, MAX_REPLY_ROWS, NoMemory, Parcel, RelNo, Reply, Row, RowList};
 use sdd_catalog::Catalogue;
 use std::alloc::Global;
 use std::marker::Model;
-
-/// How many rows the answers of a transaction may have together.
-const MOST_ROWS: usize = 4096;
 
 /// What is known after some statements of a transaction.
 #[derive(Drop)]
@@ -35,6 +33,7 @@ pub(crate) struct Run {
 
 impl Model for Run {
     ghost use Rattle.std.specs.Prelude.{◌≡◌, ◌+◌};
+    ghost use Rattle.sdd_base.specs.declared.limits.TheConstants.{MAX_REPLY_ROWS};
     ghost use Rattle.sdd_lang.specs.Effect.{rows_in};
     ghost use Rattle.sdd_lang.specs.Run.{Run};
 
@@ -42,7 +41,7 @@ impl Model for Run {
 
     ghost view = { λ r. record { before = r.before; answers = r.answers.items; changed = r.changes } };
 
-    ghost invariant = { λ r. r.room + rows_in r.answers.items ≡ 4096 };
+    ghost invariant = { λ r. r.room + rows_in r.answers.items ≡ MAX_REPLY_ROWS };
 }
 
 impl Run {
@@ -52,7 +51,7 @@ impl Run {
         Run {
             before: 0,
             answers: Vec::new(alloc),
-            room: MOST_ROWS,
+            room: MAX_REPLY_ROWS,
             changes: Pending::new(alloc),
         }
     }
@@ -77,7 +76,7 @@ impl Run {
     ) -> Result<bool, NoMemory>
         requires { self.old.before + length rels.now < 2 ^ 32 }
         ensures found { IfOk result (λ fits. IsTrue fits → self.new ≡ record self.old { before = self.old.before + length rels.now; answers = self.old.answers ++ S.found source.now self.old.before out.now rels.now conds.now ∷ [] }) }
-        ensures many { IfOk result (λ fits. fits ≡ not (nat_lt 4096 (rows_in self.old.answers + length (S.found source.now self.old.before out.now rels.now conds.now)))) }
+        ensures many { IfOk result (λ fits. fits ≡ not (nat_lt MAX_REPLY_ROWS (rows_in self.old.answers + length (S.found source.now self.old.before out.now rels.now conds.now)))) }
     {
         match source.query(alloc, self.before, out, rels, conds, self.room)? {
             Some(rows) => {

@@ -68,6 +68,7 @@ impl Pipes {
     ///
     /// O(1), and O(log n) for each change of a WRITE, n being the fragments that the class changed.
     pub fn put(&mut self, class: ClassNo, msg: Msg) -> Result<(), NoMemory>
+        requires live { IsTrue self.old.live }
         requires known { class.0 < length self.old.value }
         ensures ok { OnOk result (self.new
             ≡ record { live = true; value = update class.0 (put_digest msg) self.old.value }) }
@@ -116,6 +117,7 @@ impl Pipes {
     /// The first unprocessed message of a class, which is processed by this: None exactly where
     /// there is none. O(1), and O(log n) for each change of a WRITE; takes no memory.
     pub fn take(&mut self, class: ClassNo) -> Option<Msg>
+        requires live { IsTrue self.old.live }
         requires known { class.0 < length self.old.value }
         ensures head { result ≡ head_of (pipe_at self.old.value class.0).unprocessed }
         ensures pipes { self.new

@@ -6,7 +6,7 @@ use Rattle.sdd_base.specs.Sites.{same_site}
 use Rattle.sdd_base.specs.declared.site.Site.{Site}
 use Rattle.sdd_base.specs.declared.site.Site.TheVariants.{U, T, D}
 use Rattle.sdd_spool.specs.Mailboxes.{empty_mailbox, IsBefore, IsLowest, IsWithin, number_of_t, place_of, Puts, queue_at, Takes, TakesFirst, total}
-use Rattle.std.specs.Prelude.{replicate, MatchOption, slice_get, slice_set, slice_index_or}
+use Rattle.std.specs.Prelude.{replicate, MatchOption, OnErr, Result, Ok, Err, slice_get, slice_set, slice_index_or}
 
 pub map_set : {A B : Type 0} (f : A → B) (xs : List A) (i : ℕ) (y : A) → map f (slice_set xs i y) ≡ slice_set (map f xs) i (f y)
 map_set f [] i y = refl
@@ -49,6 +49,16 @@ same_set (x ∷ xs) (suc i) y d e l = ap (λ zs. x ∷ zs) (same_set xs i y d e 
 length_map : {A B : Type 0} (f : A → B) (xs : List A) → length (map f xs) ≡ length xs
 length_map f [] = refl
 length_map f (x ∷ xs) = ap suc (length_map f xs)
+
+-- one list stays as it was
+pub all_stay : {A B : Type 0} (f : A → List B) (xs : List A) (i : ℕ) (x y : A) → i < length xs → x ≡ get_or xs i x → f y ≡ f x → map f (slice_set xs i y) ≡ map f xs
+all_stay f xs i x y l e g =
+    let here : slice_index_or (map f xs) i [] ≡ f x = map_index f xs i x [] l e in
+    map_set f xs i y ∙ same_set (map f xs) i (f y) [] (g ∙ sym here) (rw (length_map f xs) l)
+
+pub on_err : {P E T : Type 0} (r : Result T E) → P → OnErr r P
+on_err (Ok x) p = tt
+on_err (Err e) p = p
 
 -- what taking the first item of one list leaves
 abbrev pub Popped : {A M : Type 0} → (A → List M) → List A → List A → ℕ → Option M → Type 0

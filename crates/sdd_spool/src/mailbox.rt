@@ -1,4 +1,4 @@
-ghost use Rattle.std.specs.Prelude.{◌≡◌, ◌+◌, ◌<◌, ◌≤◌, ℕ, List, [], ◌∷◌, ◌++◌, length, map, slice_index_or, slice_set, IfOk, OnOk, MatchOption, true, Some};
+ghost use Rattle.std.specs.Prelude.{◌≡◌, ◌+◌, ◌<◌, ◌≤◌, ℕ, List, [], ◌∷◌, ◌++◌, length, map, slice_index_or, slice_set, IfOk, OnErr, OnOk, MatchOption, true, Some};
 ghost use Rattle.sdd_base.specs.declared.site.Site.{Site};
 ghost use Rattle.sdd_spool.specs.Mailboxes.{empty_mailbox, kept_from, place_of, IsSender, Puts, Takes, TakesFirst, IsLowest};
 
@@ -45,7 +45,8 @@ impl<M: Drop> Mailbox<M> {
     /// Puts a message behind those of its sender.
     pub fn put(&mut self, from: Site, msg: M) -> Result<(), NoMemory>
         requires { IsSender self.old from }
-        ensures { OnOk result (Puts self.old self.new from msg) }
+        ensures puts { OnOk result (Puts self.old self.new from msg) }
+        ensures same { OnErr result (self.new ≡ self.old) }
     {
         push_at(&mut self.queues, place_of(from), msg)
     }
@@ -89,6 +90,8 @@ fn push_at<M: Drop>(queues: &mut Vec<VecDeque<M>>, place: usize, msg: M) -> Resu
     ensures items { OnOk result (map (λ q. q.items) queues.new.items
         ≡ slice_set (map (λ q. q.items) queues.old.items) place
         (slice_index_or (map (λ q. q.items) queues.old.items) place [] ++ msg ∷ [])) }
+    ensures same { OnErr result (map (λ q. q.items) queues.new.items
+        ≡ map (λ q. q.items) queues.old.items) }
 {
     let queue = &mut queues[place];
     queue.push_back(msg)?;

@@ -1,4 +1,4 @@
-ghost use Rattle.std.specs.Prelude.{◌≡◌, ◌≤◌, [], length, not, replicate, true, false, IfOk, OnOk, MatchOption};
+ghost use Rattle.std.specs.Prelude.{◌≡◌, ◌≤◌, [], length, not, replicate, true, false, IfOk, OnErr, OnOk, MatchOption};
 ghost use Rattle.sdd_base.specs.declared.limits.TheConstants.{MAX_TMS, MAX_DMS};
 ghost use Rattle.sdd_base.specs.declared.site.Site.{Site};
 ghost use Rattle.sdd_spool.specs.Mailboxes.{empty_mailbox, kept_from, mailbox_at, IsSender, Puts, Takes, IsLowest, OnlyAt};
@@ -79,7 +79,8 @@ impl<M: Drop> Spool<M> {
         was_down
     }
 
-    /// Keeps a message for a module, behind those of its sender.
+    /// Keeps a message for a module, behind those of its sender. Out of memory the spool stays as it
+    /// was.
     pub fn put(&mut self, dm: DmNo, from: Site, msg: M) -> Result<(), NoMemory>
         requires first { 1 ≤ dm.0 }
         requires last { dm.0 ≤ length self.old }
@@ -88,6 +89,7 @@ impl<M: Drop> Spool<M> {
         ensures mailbox { OnOk result (Puts (mailbox_at self.old dm.0) (mailbox_at self.new dm.0) from msg) }
         ensures count { OnOk result (length self.new ≡ length self.old) }
         ensures others { OnOk result (OnlyAt self.old self.new dm.0) }
+        ensures same { OnErr result (self.new ≡ self.old) }
     {
         let mailbox = &mut self.boxes[dm.0 as usize - 1];
         mailbox.put(from, msg)

@@ -11,7 +11,7 @@ pub loop-draft-init : goal.loop-draft-init
 loop-draft-init c = record {
   worked = hand_worked c.args.from c.args.msg c.args.self.now c.args.self.now c.hand.new.self c.new-draft.result c.hand.new.draft refl
       c.in_ok-hand.ensures.state c.new-draft.ensures c.in_ok-hand.ensures.notes;
-  whole = whole_handed c.args.msg c.args.self.now c.hand.new.self c.in_ok-hand.ensures.state (record { live = c.requires.live; flags = c.requires.flags });
+  whole = whole_handed c.args.msg c.args.self.now c.hand.new.self c.in_ok-hand.ensures.state (record { live = c.requires.live; pipes_live = c.requires.pipes_live; flags = c.requires.flags });
 }
 
 pub loop-draft-smaller : goal.loop-draft-smaller
@@ -36,6 +36,9 @@ loop-draft-preserved c =
 
 pub perform-requires-clause-live : goal.perform-requires-clause-live
 perform-requires-clause-live c = (subst IsWhole (sym c.in_ok-class.ensures.same) c.loop-draft.invariant.whole).live
+
+pub perform-requires-clause-pipes_live : goal.perform-requires-clause-pipes_live
+perform-requires-clause-pipes_live c = (subst IsWhole (sym c.in_ok-class.ensures.same) c.loop-draft.invariant.whole).pipes_live
 
 pub perform-requires-clause-known : goal.perform-requires-clause-known
 perform-requires-clause-known c = (first_is c.first_step.new.self (c.in-Some.class, c.in-Some.step) (sym c.in_ok-class.ensures.step ∙ c.in-Some.is)).known

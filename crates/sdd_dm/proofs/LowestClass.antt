@@ -1,0 +1,54 @@
+-- Of conditions that ascend by class the first that spoils a READ is that of the lowest class.
+use Rattle.std.proofs.Common.{ℕ, zero, suc, ◌≤◌, ◌<◌, Bool, true, false, List, [], ◌∷◌, ◌≡◌, refl, ap, ◌∙◌, sym, subst, arith, map, Option, Some, None}
+use Rattle.std.specs.Prelude.{filter, slice_get, not}
+use Rattle.sdd_base.specs.Numbers.{time_at}
+use Rattle.sdd_base.specs.Words.{head_of}
+use Rattle.sdd_base.specs.declared.condition.Cond.{Cond}
+use Rattle.sdd_base.specs.declared.number.ClassNo.{ClassNo}
+use Rattle.sdd_base.specs.declared.number.Ts.{Ts}
+use Rattle.sdd_dm.specs.declared.step.Step.TheVariants.{Refuses}
+use Rattle.sdd_dm.specs.Due.{is_met, judge, judged, last_write_for, or_zero, spoils}
+use Rattle.sdd_dm.specs.Fits.{Ascend}
+use Rattle.sdd_dm.specs.Views.{View}
+
+abbrev classes_in : List Cond → List ℕ
+classes_in conds = map (λ (d : Cond). d.class.0) conds
+
+-- the first stands below all others
+first_below : (d : Cond) (conds : List Cond) (n : ℕ) (e : Cond) → Ascend (classes_in (d ∷ conds)) → slice_get conds n ≡ Some e → d.class.0 < e.class.0
+first_below d [] n e h there = cc
+first_below d (x ∷ conds) zero e h there = let p : x ≡ e = cc in subst (λ (y : Cond). d.class.0 < y.class.0) p h.0
+first_below d (x ∷ conds) (suc n) e h there =
+    let i = first_below x conds n e h.1 there in
+    let j : d.class.0 < x.class.0 = h.0 in
+    omega (arith, i, j)
+
+record IsFirst (p : Cond → Bool) (conds : List Cond) (e : Cond) : Type 0 where
+  first : Cond
+  is : head_of (filter p conds) ≡ Some first
+  low : first.class.0 ≤ e.class.0
+
+first_is_lowest : (p : Cond → Bool) (conds : List Cond) (n : ℕ) (e : Cond) → Ascend (classes_in conds) → slice_get conds n ≡ Some e → p e ≡ true
+    → IsFirst p conds e
+first_is_lowest p [] n e h there so = cc
+first_is_lowest p (x ∷ conds) zero e h there so =
+    let q : x ≡ e = cc in
+    let s : p x ≡ true = ap p q ∙ so in
+    record { first = x; is = rw s refl; low = subst (λ (y : Cond). x.class.0 ≤ y.class.0) q (omega arith) }
+first_is_lowest p (x ∷ conds) (suc n) e h there so =
+    let below = first_below x conds n e h there in
+    let i = first_is_lowest p conds n e h.1 there so in
+    elim (p x) as (λ b. p x ≡ b → IsFirst p (x ∷ conds) e) [
+      | true ↦ λ s. record { first = x; is = rw s refl; low = omega (arith, below) }
+      | false ↦ λ s. record { first = i.first; is = rw s i.is; low = i.low }
+    ] refl
+
+named : (d : Cond) (w : Ts) (by : ClassNo) (write : Ts) → Refuses d.class w ≡ Refuses by write → d.class ≡ by
+named d w by write e = cc
+
+pub lowest_is_named : (view : View) (conds : List Cond) (by : ClassNo) (write : Ts) (place : ℕ) (spoiler : Cond) → Ascend (map (λ d. d.class.0) conds)
+    → judge view conds ≡ Refuses by write → slice_get conds place ≡ Some spoiler → spoils view spoiler ≡ true → by.0 ≤ spoiler.class.0
+lowest_is_named view conds by write place spoiler h refused there so =
+    let i = first_is_lowest (spoils view) conds place spoiler h there so in
+    let is = ap (judged view (filter (λ d. not (is_met view d)) conds)) i.is in
+    subst (λ (c : ClassNo). c.0 ≤ spoiler.class.0) (named i.first (time_at (or_zero (last_write_for view i.first))) by write (sym is ∙ refused)) i.low

@@ -1,0 +1,84 @@
+-- The conditions of a READ ascend by class, and what ascends does so at each step.
+use Rattle.std.specs.List.{cons_option, range_with_len}
+use Rattle.std.specs.Option.{option_or}
+use Rattle.std.specs.Prelude.{filter_map}
+use Rattle.std.proofs.Common.{ℕ, ◌+◌, ◌<◌, ◌==◌, ◌∷◌, ◌≡◌, Bool, List, None, Option, Some, [], ap, arith, length, map, refl, subst, suc, sym, zero}
+use Rattle.sdd_base.specs.Numbers.{frag_no}
+use Rattle.sdd_base.specs.declared.condition.Cond.{Cond}
+use Rattle.sdd_base.specs.declared.number.FragNo.{FragNo}
+use Rattle.sdd_catalog.specs.Catalogue.{Catalogue}
+use Rattle.sdd_graph.specs.Graph.{fragments_of}
+use Rattle.sdd_protocol.specs.Conditions.{asked_by, cond_for, cond_of, condition_on, conditions, is_asked, undeclared_conditions}
+use Rattle.sdd_protocol.specs.declared.entry.Entry as line
+use Rattle.sdd_protocol.specs.declared.protocol.Protocol.TheVariants.{P2, P3}
+use Rattle.sdd_attempt.specs.Acts.{conditions_at}
+use Rattle.sdd_dm.specs.Fits.{Ascend, StartsAbove}
+use Rattle.sdd_invariants.proofs.Bools.{if_way}
+use Rattle.sdd_invariants.specs.Orders.{AllGt, IsStrict}
+
+cond_class : (j t : ℕ) (fs : List FragNo) (q : Cond) → cond_for j t fs ≡ Some q → q.class.0 ≡ j
+cond_class j t [] q e = cc
+cond_class j t (f ∷ fs) q e = let p : cond_of j t (f ∷ fs) ≡ q = cc in ap (λ (x : Cond). x.class.0) (sym p)
+
+either_class : (o p : Option Cond) (j : ℕ) (q : Cond) → ((x : Cond) → o ≡ Some x → x.class.0 ≡ j) → ((x : Cond) → p ≡ Some x → x.class.0 ≡ j)
+    → option_or o p ≡ Some q → q.class.0 ≡ j
+either_class None p j q f g e = g q e
+either_class (Some x) p j q f g e = let r : x ≡ q = cc in subst (λ (y : Cond). y.class.0 ≡ j) r (f x refl)
+
+pub condition_class : (f : ℕ → Bool) (entries : List line.Entry) (i own p2 j : ℕ) (q : Cond) → condition_on f entries i own p2 j ≡ Some q
+    → q.class.0 ≡ j
+condition_class f entries i own p2 j q e =
+    either_class (cond_for j own (asked_by P3 f entries i j)) (cond_for j p2 (asked_by P2 f entries i j)) j
+    q (λ x. cond_class j own (asked_by P3 f entries i j) x)
+    (λ x. cond_class j p2 (asked_by P2 f entries i j) x) e
+
+-- conditions made for ascending classes
+
+abbrev classes_in : List Cond → List ℕ
+classes_in conds = map (λ (d : Cond). d.class.0) conds
+
+made_above : (f : ℕ → Option Cond) (k a n : ℕ) → ((j : ℕ) (q : Cond) → f j ≡ Some q → q.class.0 ≡ j) → k < a
+    → AllGt k (classes_in (filter_map f (range_with_len a n)))
+made_above f k a zero g l = tt
+made_above f k a (suc n) g l =
+    let i = made_above f k (a + 1) n g (omega (arith, l)) in
+    elim (f a) as (λ o. f a ≡ o → AllGt k (classes_in (cons_option o (filter_map f (range_with_len (a + 1) n))))) [
+      | None ↦ λ e. i
+      | Some q ↦ λ e. (let c = g a q e in omega (arith, l, c), i)
+    ] refl
+
+made_strict : (f : ℕ → Option Cond) (a n : ℕ) → ((j : ℕ) (q : Cond) → f j ≡ Some q → q.class.0 ≡ j)
+    → IsStrict (classes_in (filter_map f (range_with_len a n)))
+made_strict f a zero g = tt
+made_strict f a (suc n) g =
+    let i = made_strict f (a + 1) n g in
+    elim (f a) as (λ o. f a ≡ o → IsStrict (classes_in (cons_option o (filter_map f (range_with_len (a + 1) n))))) [
+      | None ↦ λ e. i
+      | Some q ↦ λ e. (made_above f q.class.0 (a + 1) n g (let c = g a q e in omega (arith, c)), i)
+    ] refl
+
+every_above : (own : ℕ) (fs : List FragNo) (k a n : ℕ) → k < a → AllGt k (classes_in (map (λ c. cond_of c own fs) (range_with_len a n)))
+every_above own fs k a zero l = tt
+every_above own fs k a (suc n) l = (l, every_above own fs k (a + 1) n (omega (arith, l)))
+
+every_strict : (own : ℕ) (fs : List FragNo) (a n : ℕ) → IsStrict (classes_in (map (λ c. cond_of c own fs) (range_with_len a n)))
+every_strict own fs a zero = tt
+every_strict own fs a (suc n) = (every_above own fs a (a + 1) n (omega arith), every_strict own fs (a + 1) n)
+
+pub conditions_strict : (cat : Catalogue) (table : List line.Entry) (c : ℕ) (frags : List ℕ) (own p2 d : ℕ)
+    → IsStrict (map (λ (q : Cond). q.class.0) (conditions_at cat table c frags own p2 d))
+conditions_strict cat table c frags own p2 d =
+    if_way (λ conds. IsStrict (classes_in conds)) (c == 0) (undeclared_conditions cat own) (conditions cat table c d (map frag_no frags) own p2)
+    (every_strict own (map frag_no (fragments_of cat)) 1 (length cat.classes))
+    (made_strict (condition_on (is_asked cat c d (map frag_no frags)) table c own p2) 1 (length cat.classes)
+    (condition_class (is_asked cat c d (map frag_no frags)) table c own p2))
+
+-- what stands above all that comes before it stands above the one before it
+
+starts_above : (k : ℕ) (ns : List ℕ) → AllGt k ns → StartsAbove k ns
+starts_above k [] h = tt
+starts_above k (n ∷ ns) h = h.0
+
+pub strict_ascends : (ns : List ℕ) → IsStrict ns → Ascend ns
+strict_ascends [] h = tt
+strict_ascends (n ∷ ns) h = (starts_above n ns h.0, strict_ascends ns h.1)
