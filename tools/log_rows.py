@@ -61,6 +61,24 @@ THREE_RELATIONS = (
     + "".join('[[fragment]]\nname = "%s"\nrelation = "%s"\ncopies = [%d]\n' % (n, n, d) for n, d in (("r", 1), ("s", 2), ("t", 3)))
     + '[[class]]\nname = "jn"\ntm = 1\nreads = [{fragment = "r", at = 1}, {fragment = "s", at = 2}, {fragment = "t", at = 3}]\n'
 )
+READS_ANOTHER = of_items(3, 1, two_fragments(1, 1), [("rd", 1, [("a", 1)], []), ("j", 2, [("b", 1)], ["a"]), ("k", 3, [], ["a"])])
+TWO_OF_ONE = of_items(1, 1, two_fragments(1, 1), [("v", 1, [], ["b"]), ("w", 1, [], ["a"])])
+WRITER_OF_COPIES = of_items(1, 2, [("a", None, None, [1, 2])], [("j", 1, [], ["a"])])
+WRITER_AND_ITS_READER = of_items(1, 2, [("a", None, None, [1, 2])], [("j", 1, [], ["a"]), ("rd", 1, [("a", 1)], [])])
+DELETES_AND_PUTS = of_items(
+    3, 2, [("a", None, None, [1, 2])], [("own", 1, [("a", 1)], ["a"]), ("k", 2, [], ["a"]), ("rd", 3, [("a", 2)], [])]
+)
+ONE_WRITER = of_items(1, 1, [("a", None, None, [1])], [("own", 1, [], ["a"])])
+ONE_OF_THREE = of_items(3, 1, [("a", None, None, [1])], [("own", 1, [], ["a"])])
+TWO_PARTS = (
+    "tms = 1\ndms = 3\n"
+    + "".join(
+        '[[relation]]\nname = "%s"\ncolumns = [{name = "id", kind = "int"}, {name = "a", kind = "int"}]\nkey = "id"\n' % r for r in "rs"
+    )
+    + '[[fragment]]\nname = "r"\nrelation = "r"\ncopies = [1]\n[[fragment]]\nname = "s1"\nrelation = "s"\nto = 9\ncopies = [2]\n'
+    '[[fragment]]\nname = "s2"\nrelation = "s"\nfrom = 10\ncopies = [3]\n[[class]]\nname = "jn"\ntm = 1\n'
+    'reads = [{fragment = "r", at = 1}, {fragment = "s1", at = 2}, {fragment = "s2", at = 3}]\n'
+)
 
 WAITS_FOR_TWO = """txn x T1
 query 1.val from item%s
@@ -130,4 +148,49 @@ ROWS = [
      "txn x T1\nquery 1.val from item\ndone\ntxn y T2\nquery 1.val from item\ndone\nsubmit x\nsettle\nsubmit y\nsettle\nend\n",
      ("row item 1 5\n", "", "row item 1 6\n")),
     ("down_twice", "Downs", "an `up` where it is up and a `down` where it is down find nothing to do", ONE_CLASS, "up D1\ndown D1\ndown D1\nend\n"),
+    ("rejected_by_two", "Rejections", "a query comes after two later puts of each of two classes: the Reject names the greatest put of the lowest class",
+     TWO_WRITERS, "txn x T1\nquery 1.val from item\ndone\n"
+     + "".join("txn %s %s\nput item %d 5\ndone\n" % t for t in (("y1", "T2", 1), ("y2", "T2", 2), ("z1", "T3", 3), ("z2", "T3", 4)))
+     + "submit x\nsubmit y1\nsubmit y2\nsubmit z1\nsubmit z2\ndeliver T2 D1 1\ndeliver T2 D1 1\ndeliver T3 D1 1\ndeliver T3 D1 1\n"
+     "deliver T1 D1 1\ndeliver D1 T1 2\nend\n"),
+    ("passed_by_a_read", "Passed", "a class has passed a time by a query that was answered: the Wait lists the other class alone", READS_ANOTHER,
+     "txn r T2\nquery 1.val from item where 1.id >= 10\ndone\ntxn x T1\nquery 1.val from item where 1.id <= 9\ndone\nsubmit r\n"
+     "deliver T2 D1 1\nsubmit x\ndeliver T1 D1 1\ndeliver D1 T3 1\ndeliver T3 D1 2\nend\n"),
+    ("asks_two", "Passed", "a query that waits for two classes asks both", TWO_WRITERS,
+     "txn x T1\nquery 1.val from item\ndone\nsubmit x\ndeliver T1 D1 1\ndeliver D1 T2 1\ndeliver T2 D1 2\ndeliver D1 T3 1\ndeliver T3 D1 2\nend\n"),
+    ("asked_while_active", "Passed", "a class that is asked for an earlier time than its attempt's answers with the attempt's", EACH_READS_THE_OTHER,
+     "txn x T1\nquery 1.val from item where 1.id <= 9\ndone\ntxn y T2\nquery 1.val from item where 1.id >= 10\ndone\nsubmit x\nsubmit y\n"
+     "deliver T1 D1 1\ndeliver D1 T2 1\ndeliver T2 D1 1\ndeliver D1 T1 2\ndeliver T1 D1 2\ndeliver D1 T1 2\ndeliver D1 T1 3\n"
+     "deliver T1 D1 4\ndeliver T2 D1 2\nend\n"),
+    ("null_before_start", "Nulls", "a class that is asked while its attempt runs answers before its next attempt starts", EACH_READS_THE_OTHER,
+     "txn x T1\nquery 1.val from item where 1.id <= 9\nput item 11 1\ndone\ntxn y T2\nquery 1.val from item where 1.id >= 10\ndone\n"
+     "txn x2 T1\nput item 12 1\ndone\nsubmit x\nsubmit x2\nsubmit y\ndeliver T2 D1 1\ndeliver D1 T1 1\ndeliver T1 D1 1\n"
+     "deliver D1 T1 2\ndeliver T1 D1 2\ndeliver D1 T1 3\nsettle\nend\n"),
+    ("from_two_senders", "Hands", "a data module that is up again is handed the messages of the lower site first", TWO_COPIES,
+     "txn y T1\nput item 1 5\ndone\ntxn z T2\nput item 1 6\ndone\nsubmit y\nsubmit z\ndown D1\ndeliver T2 D1 1\ndeliver T1 D1 1\nup D1\nend\n"),
+    ("two_at_once", "Hands", "two puts come at once: the first is applied before the second is handed over; an acknowledgement tells the greatest "
+     "number up to which all came", TWO_OF_ONE,
+     "txn p T1\nput item 1 5\ndone\ntxn q T1\nput item 11 6\ndone\nsubmit p\nsubmit q\ndeliver T1 D1 2\ndeliver D1 T1 1\nlose T1 D1 1\n"
+     "resend T1 D1\ndeliver T1 D1 1\ndeliver D1 T1 1\nresend T1 D1\nend\n"),
+    ("deleted_and_put", "Dates", "a delete comes to a copy before the earlier put of the row, which stays deleted", DELETES_AND_PUTS,
+     "txn y T2\nput item 1 5\ndone\ntxn d T1\ndelete item where 1.id = 1\ndone\ntxn x T3\nquery 1.val from item\ndone\nsubmit y\n"
+     "deliver T2 D1 1\ntick T1 2\ndown D2\nsubmit d\nsettle\nup D2\ntick T3 9\nsubmit x\nsettle\nend\n"),
+    ("reduced_at_two", "Reduced", "a reducer step to two data modules counts its values twice", TWO_PARTS,
+     "row r 1 2\n" + "".join("row s %d 0\n" % k for k in (1, 2, 10))
+     + "txn g T1\nquery 1.id 2.a from r s where 1.a = 2.id\ndone\nsubmit g\nsettle\nend\n"),
+    ("released", "Released", "an undeclared update waits until a query is committed that was under way, and lets go of the transaction module "
+     "once both data modules are done, where a put waits", WRITER_AND_ITS_READER,
+     "txn u T1\nupdate item set 1.val += 1\ndone\ntxn x T1\nquery 1.val from item\ndone\ntxn y T1\nput item 1 5\ndone\nsubmit x\nsubmit u\n"
+     "deliver U T1 1\ndeliver T1 U 2\ndeliver T1 D1 1\ndeliver D1 T1 2\ndeliver T1 D1 2\ndeliver D1 T1 3\ndeliver T1 U 2\nsubmit y\n"
+     "deliver U D1 1\ndeliver D1 T1 3\ndeliver T1 D1 4\ndeliver D1 T1 3\ndeliver T1 D1 5\ndeliver U D2 1\ndeliver D2 T1 1\n"
+     "deliver D2 T1 1\ndeliver T1 D2 2\ndeliver T1 D2 3\ndeliver D1 U 2\ndeliver D2 U 2\ndeliver U D1 2\ndeliver U D2 2\ndeliver D1 U 3\n"
+     "deliver D2 U 3\ndeliver U D1 3\ndeliver U D2 3\ndeliver D1 U 4\ndeliver U T1 2\ndeliver D2 U 4\ndeliver U T1 2\nend\n"),
+    ("two_undeclared", "TwoUndeclared", "two undeclared queries, one after the other, and then a put", WRITER_OF_COPIES,
+     "txn u T1\nquery 1.val from item\ndone\ntxn v T1\nquery 1.id from item\ndone\ntxn y T1\nput item 1 5\ndone\nsubmit u\nsubmit v\n"
+     "settle\nsubmit y\nend\n"),
+    ("conditions_of_a_list", "Lists", "a query asks the classes of the list that is in force, from its greatest clock on", ONE_OF_THREE,
+     "txn u T1\nquery 1.val from item\ndone\ntxn x T1\nquery 1.id from item\ndone\nlist\nclass rd T1\nreads a D1\nclass j T2\nwrites a\n"
+     "class k T3\nwrites a\ndone\ntick T2 5\nredeclare\nsubmit x\ndeliver T1 D1 1\nend\n"),
+    ("undeclared_before_a_list", "Lists", "an undeclared query waits for the classes of all lists", ONE_WRITER,
+     "txn u T1\nquery 1.val from item\ndone\nlist\nclass rd T1\nreads a D1\ndone\nsubmit u\ndeliver U T1 1\ndeliver T1 U 2\ndeliver U D1 1\nend\n"),
 ]

@@ -53,15 +53,21 @@ halves op bound row =
           ∷ [];
     }
 
-abbrev two_texts : List Txn
-two_texts = halves Le 9 (row_of 11 1) ∷ halves Ge 10 (row_of 1 1) ∷ []
+-- the row that the second puts has this value
+abbrev two_texts : ℕ → List Txn
+two_texts value = halves Le 9 (row_of 11 1) ∷ halves Ge 10 (row_of 1 value) ∷ []
 
 -- along the serial order the run gives the replies that the Commits tell
-pub replies_along : (run crossing [] two_texts (serial_order crossing waits_for_other)).0
+pub replies_along : (run crossing [] (two_texts 1) (serial_order crossing waits_for_other)).0
     ≡ Rows ([] ∷ []) ∷ Rows (((Int (pos 1) ∷ []) ∷ []) ∷ []) ∷ []
 replies_along = refl
 
--- along the other order the second, which then runs first, sees nothing, and the first sees its row
-pub replies_turned : (run crossing [] two_texts (txn_no 2 ∷ txn_no 1 ∷ [])).0
+-- where the second puts another value than the first, the replies tell the order: in this one it sees the first's row
+pub replies_in_order : (run crossing [] (two_texts 2) (txn_no 1 ∷ txn_no 2 ∷ [])).0
     ≡ Rows ([] ∷ []) ∷ Rows (((Int (pos 1) ∷ []) ∷ []) ∷ []) ∷ []
+replies_in_order = refl
+
+-- in the other order it runs first and sees nothing, and the first sees its row
+pub replies_turned : (run crossing [] (two_texts 2) (txn_no 2 ∷ txn_no 1 ∷ [])).0
+    ≡ Rows ([] ∷ []) ∷ Rows (((Int (pos 2) ∷ []) ∷ []) ∷ []) ∷ []
 replies_turned = refl
