@@ -34,8 +34,8 @@ use Rattle.sdd_order.specs.Numbers.{IsClass}
 use Rattle.sdd_order.specs.Places.{Stands, record_at}
 use Rattle.sdd_invariants.proofs.Bools.{same_number, same_or_not}
 use Rattle.sdd_invariants.specs.Steps.{home}
-use Rattle.sdd_sites.specs.AtSites.{standing_at}
-use Rattle.sdd_sites.specs.Standings.{standing_at_t, standing_at_u}
+use Rattle.sdd_world.specs.AtSites.{standing_at}
+use Rattle.sdd_world.specs.Standings.{standing_at_t, standing_at_u}
 use Rattle.sdd_upheld.specs.Given.{AreNumbered}
 use Rattle.sdd_upheld.proofs.Beginnings.{at_map}
 use Rattle.sdd_upheld.proofs.Classes.{at_home, home_setting}
