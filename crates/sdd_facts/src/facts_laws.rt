@@ -20,7 +20,6 @@ ghost use Rattle.sdd_step.specs.Resting.{AllLinked, IsSiteOf};
 ghost use Rattle.sdd_invariants.specs.Traffic.{puts_to};
 ghost use Rattle.sdd_facts.specs.Facts.{Facts};
 ghost use Rattle.sdd_facts.specs.Given.{IsFit};
-ghost use Rattle.sdd_facts.specs.Real.{IsGood, fits, fits_submit, fits_tick};
 ghost use Rattle.sdd_facts.specs.Routes.{IsRouted};
 ghost use Rattle.sdd_facts.specs.Upheld.{IsUpheldD, IsUpheldR};
 
@@ -78,8 +77,8 @@ pub fn law_sends()
         → AllLinked given at (sends_of_act act) }
 {}
 
-/// What a world asks of its modules' messages, transactions, ticks and sends holds of the real
-/// modules' on the lawful logs of what is given so.
+/// What the modules ask of messages, transactions and ticks, and that what they send goes along
+/// links, holds of what is next on the lawful logs of what is given so.
 pub fn law_facts()
     ensures { Facts }
 {}
