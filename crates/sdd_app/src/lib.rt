@@ -23,9 +23,10 @@ mod made_input;
 mod run;
 mod serially;
 mod status;
-mod tell;
+mod telling;
 mod workload_answer;
 mod workload_file;
 
 pub use run::run_sdd1;
 pub use status::Status;
+pub use telling::tell;

@@ -16,7 +16,7 @@ use crate::judging::verify_answer;
 use crate::listing::{Listing, listing_answer};
 use crate::made_input::make_answer;
 use crate::status::Status;
-use crate::tell::tell;
+use crate::telling::tell;
 use crate::workload_answer::{plain_answer, run_answer};
 use sdd_base::{Shelf, Sink, write_text};
 use std::alloc::Global;

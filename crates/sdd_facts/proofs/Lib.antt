@@ -37,6 +37,7 @@ pub mod Kept
 pub mod Limits
 pub mod Linking
 pub mod Listed
+pub mod LowClocks
 pub mod LowLists
 pub mod Modules
 pub mod Near

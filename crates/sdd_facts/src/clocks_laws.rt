@@ -1,10 +1,12 @@
 ghost use Rattle.std.specs.Prelude.{◌≡◌, ◌≤◌, ◌<◌, ◌*◌, ◌+◌, ◌^◌, ℕ, length, slice_get, suc, Some};
+ghost use Rattle.sdd_base.specs.declared.limits.TheConstants.{MAX_EVENTS};
 ghost use Rattle.sdd_base.specs.declared.site.Site.{Site};
 ghost use Rattle.sdd_wire.specs.declared.msg.Msg.{Msg};
+ghost use Rattle.sdd_order.specs.Attempts.{attempts};
 ghost use Rattle.sdd_module.specs.SiteLog.{Each, Setting, hands, submits};
 ghost use Rattle.sdd_module.specs.SiteLog as site;
 ghost use Rattle.sdd_attempt.specs.Clocks.{clock};
-ghost use Rattle.sdd_log.specs.Entries.{Given, Log};
+ghost use Rattle.sdd_log.specs.Entries.{Given, Log, history};
 ghost use Rattle.sdd_log.specs.Lawful.{IsLawful, IsWithin};
 ghost use Rattle.sdd_log.specs.Locals.{local_of};
 ghost use Rattle.sdd_invariants.specs.AtU.{starts};
@@ -48,4 +50,12 @@ pub fn law_early()
         → IsSmall given → IsLawful given log → IsWithin log
         → slice_get (puts_to to (local_of given from log)) place ≡ Some msg
         → AllLt (2 ^ 60) (times_of msg) }
+{}
+
+/// Where the schedule has no more events than a workload's may have, and the run no more attempts
+/// than `law_few_attempts` of `sdd_rejections` allows, clocks stay below 2^39.
+pub fn law_low_clocks()
+    ensures { (given : Given) (log : Log) (at : Site) → IsSmall given → IsLawful given log
+        → length given.events ≤ MAX_EVENTS → length (attempts (history log)) ≤ 2 ^ 22
+        → (clock at (local_of given at log)).ticks < 2 ^ 39 }
 {}

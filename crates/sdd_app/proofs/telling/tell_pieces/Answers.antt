@@ -1,7 +1,7 @@
 use Rattle.std.proofs.Common.{◌≡◌, ◌-◌, ◌+◌, length, take, flat_map, arith}
 use Rattle.std.proofs.lemmas.List.{take_all}
 use Rattle.sdd_app.proofs.Told.{took_all, took_front, flat_map_at, flat_next, more_taken, piece_more}
-use Rattle.sdd_app.proofs.tell.tell_pieces.Goals as goal
+use Rattle.sdd_app.proofs.telling.tell_pieces.Goals as goal
 
 pub pieces-preserved : goal.pieces-preserved
 pieces-preserved g c =
