@@ -69,6 +69,7 @@ DELETES_AND_PUTS = of_items(
     3, 2, [("a", None, None, [1, 2])], [("own", 1, [("a", 1)], ["a"]), ("k", 2, [], ["a"]), ("rd", 3, [("a", 2)], [])]
 )
 ONE_WRITER = of_items(1, 1, [("a", None, None, [1])], [("own", 1, [], ["a"])])
+ONE_OF_TWO = of_items(2, 1, [("a", None, None, [1])], [("own", 1, [], ["a"])])
 ONE_OF_THREE = of_items(3, 1, [("a", None, None, [1])], [("own", 1, [], ["a"])])
 TWO_PARTS = (
     "tms = 1\ndms = 3\n"
@@ -188,6 +189,9 @@ ROWS = [
     ("two_undeclared", "TwoUndeclared", "two undeclared queries, one after the other, and then a put", WRITER_OF_COPIES,
      "txn u T1\nquery 1.val from item\ndone\ntxn v T1\nquery 1.id from item\ndone\ntxn y T1\nput item 1 5\ndone\nsubmit u\nsubmit v\n"
      "settle\nsubmit y\nend\n"),
+    ("released_without_classes", "NoClasses", "a module that runs no class is let go: its clock goes on from the timestamp, and tells in the next HELD", ONE_OF_TWO,
+     "txn u T1\nquery 1.val from item\ndone\ntxn v T1\nquery 1.id from item\ndone\ntick T1 9\nsubmit u\nsettle\ntick T2 1\nsubmit v\n"
+     "deliver U T1 1\ndeliver U T2 1\ndeliver T1 U 2\ndeliver T2 U 2\nend\n"),
     ("conditions_of_a_list", "Lists", "a query asks the classes of the list that is in force, from its greatest clock on", ONE_OF_THREE,
      "txn u T1\nquery 1.val from item\ndone\ntxn x T1\nquery 1.id from item\ndone\nlist\nclass rd T1\nreads a D1\nclass j T2\nwrites a\n"
      "class k T3\nwrites a\ndone\ntick T2 5\nredeclare\nsubmit x\ndeliver T1 D1 1\nend\n"),

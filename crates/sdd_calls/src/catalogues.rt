@@ -1,43 +1,17 @@
-//! Catalogues and their parts, and the spelling of workloads.
-use crate::read::{catalogue, wanting, workload};
+//! Catalogues that are built of their parts, that a further class extends, and whose classes retire.
+use crate::read::{catalogue, wanting};
 use anyhow::{Result, anyhow};
-use sdd_base::Parcel;
-use sdd_catalog::{Catalogue, Parts};
-use sdd_script::write_workload;
+use sdd_base::{Listed, Name, Parcel};
+use sdd_catalog::{Catalogue, ClassPart, Parts, ReadPart};
+use sdd_eras::{extend, retire};
 use std::alloc::Global;
-use std::io::Write;
 use std::rt::Files;
 
-pub fn tell_catalogues<R: Files + AllocGlobal, W: Write>(rt: &R, out: &mut W) -> Result<()> {
-    tell_parts(rt, out, "own.toml")?;
-    tell_parts(rt, out, "low_and_all.toml")?;
-    tell_parts(rt, out, "join.toml")?;
-    tell_spelling(rt, out)
-}
-
-fn tell_spelling<R: Files + AllocGlobal, W: Write>(rt: &R, out: &mut W) -> Result<()> {
-    let cat = catalogue(rt, "owners.toml")?;
-    let work = workload(rt, "every_line.work", &cat)?;
-    let text = write_workload(rt.alloc(), &cat, &work).map_err(wanting)?;
-    let (rows, txns) = (work.rows.as_slice().len(), work.txns.as_slice().len());
-    let events = work.events.as_slice().len();
-    writeln!(
-        out,
-        "read_workload: {rows} rows, {txns} transactions, {events} events"
-    )?;
-    writeln!(out, "write_workload:")?;
-    out.write_all(text.as_slice())?;
-    Ok(())
-}
-
-/// Tells what is counted in the parts, and whether the catalogue made of them and a copy have the same.
-fn tell_parts<R: Files + AllocGlobal, W: Write>(rt: &R, out: &mut W, name: &str) -> Result<()> {
-    let cat = catalogue(rt, name)?;
+pub fn is_built_again<R: Files + AllocGlobal>(rt: &R) -> Result<bool> {
+    let cat = catalogue(rt, "own.toml")?;
     let parts = cat.parts().map_err(wanting)?;
-    let again = has_parts(&built(rt.alloc(), &parts)?, &parts)?;
-    let copied = has_parts(&cat.copy().map_err(wanting)?, &parts)?;
-    writeln!(out, "parts of {name}: built again {again}, copied {copied}")?;
-    Ok(())
+    let copy = cat.copy().map_err(wanting)?;
+    Ok(has_parts(&copy, &parts)? && has_parts(&built(rt.alloc(), &parts)?, &parts)?)
 }
 
 fn has_parts(cat: &Catalogue, parts: &Parts) -> Result<bool> {
@@ -47,6 +21,68 @@ fn has_parts(cat: &Catalogue, parts: &Parts) -> Result<bool> {
 fn built(alloc: Global, parts: &Parts) -> Result<Catalogue> {
     match Catalogue::build(alloc, parts) {
         Ok(cat) => Ok(cat),
-        Err(error) => Err(anyhow!("{error:?}")),
+        Err(_) => Err(anyhow!("parts of no catalogue")),
+    }
+}
+
+/// A class `audit` comes behind the one that is there.
+pub fn is_extended<R: Files + AllocGlobal>(rt: &R) -> Result<bool> {
+    let cat = catalogue(rt, "own.toml")?;
+    let further = further(rt.alloc(), "audit")?;
+    match extend(rt.alloc(), &cat, &further) {
+        Ok(extended) => has_audit(&extended),
+        Err(_) => Ok(false),
+    }
+}
+
+fn has_audit(cat: &Catalogue) -> Result<bool> {
+    let parts = cat.parts().map_err(wanting)?;
+    match parts.classes.as_slice() {
+        [first, last] => Ok(first.name.as_str() == "own" && last.name.as_str() == "audit"),
+        _ => Ok(false),
+    }
+}
+
+/// There is a class `own`.
+pub fn is_refused<R: Files + AllocGlobal>(rt: &R) -> Result<bool> {
+    let cat = catalogue(rt, "own.toml")?;
+    let further = further(rt.alloc(), "own")?;
+    Ok(extend(rt.alloc(), &cat, &further).is_err())
+}
+
+/// The class reads and writes nothing any more.
+pub fn is_retired<R: Files + AllocGlobal>(rt: &R) -> Result<bool> {
+    let cat = catalogue(rt, "own.toml")?;
+    let retired = retire(rt.alloc(), &cat, cat.classes()).map_err(wanting)?;
+    let parts = retired.parts().map_err(wanting)?;
+    match parts.classes.as_slice() {
+        [own] => Ok(own.reads.as_slice().is_empty() && own.writes.as_slice().is_empty()),
+        _ => Ok(false),
+    }
+}
+
+/// A class that reads the fragment `all` at D1.
+fn further(alloc: Global, name: &str) -> Result<Vec<ClassPart>> {
+    let reads = Listed::from_vec(vec![in alloc; read(alloc)?]?);
+    let name = named(alloc, name)?;
+    let writes = Listed::from_vec(Vec::new(alloc));
+    let part = ClassPart {
+        name,
+        tm: 1,
+        reads,
+        writes,
+    };
+    Ok(vec![in alloc; part]?)
+}
+
+fn read(alloc: Global) -> Result<ReadPart> {
+    let fragment = named(alloc, "all")?;
+    Ok(ReadPart { fragment, at: 1 })
+}
+
+fn named(alloc: Global, text: &str) -> Result<Name> {
+    match Name::new(alloc, text).map_err(wanting)? {
+        Some(name) => Ok(name),
+        None => Err(anyhow!("no name")),
     }
 }

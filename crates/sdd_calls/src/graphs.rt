@@ -1,49 +1,47 @@
-//! The blocks of graphs: each line of `graphs.txt` has the count of nodes, and the edges as `0-1`.
+//! The blocks of graphs.
 ghost use Rattle.std.specs.Prelude.{◌<◌, ◌↔◌, IsTrue, All};
 
 use crate::read::wanting;
-use anyhow::{Context, Result, ensure};
+use anyhow::{Result, ensure};
 use sdd_blocks::blocks;
 use std::alloc::Global;
-use std::fs;
-use std::io::Write;
-use std::rt::Files;
 
-pub fn tell_graphs<R: Files + AllocGlobal, W: Write>(rt: &R, out: &mut W) -> Result<()> {
-    let text = fs::read_to_string(rt, "graphs.txt")?;
-    for line in text.as_str().lines() {
-        let numbers = blocks_of(rt.alloc(), line)?;
-        writeln!(out, "blocks({line}): {:?}", numbers.as_slice())?;
-    }
-    tell_ring(rt.alloc(), out, 999)?;
-    tell_ring(rt.alloc(), out, 1000)
+/// Two triangles, an edge between them, and one that is there twice.
+pub fn two_blocks(alloc: Global) -> Result<bool> {
+    let edges = [(0, 1), (1, 2), (2, 0), (2, 3), (3, 4), (3, 4)];
+    let numbers = checked(alloc, &edges, 5)?;
+    Ok(numbers.as_slice() == [1, 1, 1, 0, 2, 2].as_slice())
 }
 
-/// The least and the greatest number of a block, of so many edges of a ring.
-fn tell_ring<W: Write>(alloc: Global, out: &mut W, count: u32) -> Result<()> {
-    let edges = ring(alloc, count)?;
-    let numbers = checked(alloc, &edges, 1000)?;
-    let least = numbers.iter().copied().min();
-    let greatest = numbers.iter().copied().max();
-    writeln!(
-        out,
-        "blocks({count} edges of a ring): {least:?} to {greatest:?}"
-    )?;
-    Ok(())
+/// The conflict graph of 64 classes that each read and write one fragment.
+pub fn one_block(alloc: Global) -> Result<bool> {
+    let edges = all_joined(alloc)?;
+    let numbers = checked(alloc, &edges, 128)?;
+    Ok(numbers.iter().all(|number| *number == 1))
 }
 
-fn blocks_of(alloc: Global, line: &str) -> Result<Vec<u32>> {
-    let (nodes, words) = line.split_once(':').context("no graph")?;
+fn all_joined(alloc: Global) -> Result<Vec<(u32, u32)>> {
     let mut edges = Vec::new(alloc);
-    for word in words.split_whitespace() {
-        edges.push(edge(word)?)?;
+    for class in 0..64u32 {
+        edges = joined(edges, class)?;
     }
-    checked(alloc, &edges, nodes.parse::<u32>()?)
+    Ok(edges)
 }
 
-fn edge(word: &str) -> Result<(u32, u32)> {
-    let (from, to) = word.split_once('-').context("no edge")?;
-    Ok((from.parse::<u32>()?, to.parse::<u32>()?))
+/// The edges of a class: its own, those to the writes of later classes, and those from its read.
+fn joined(edges: Vec<(u32, u32)>, class: u32) -> Result<Vec<(u32, u32)>> {
+    let mut edges = edges;
+    let write = class.saturating_add(64);
+    edges.push((class, write))?;
+    for other in 64..128u32 {
+        if write < other {
+            edges.push((write, other))?;
+        }
+        if write != other {
+            edges.push((class, other))?;
+        }
+    }
+    Ok(edges)
 }
 
 fn checked(alloc: Global, edges: &[(u32, u32)], nodes: u32) -> Result<Vec<u32>> {
@@ -62,14 +60,4 @@ fn is_within(edge: (u32, u32), nodes: u32) -> bool
     ensures { IsTrue result ↔ ((edge.0 < nodes) × (edge.1 < nodes)) }
 {
     edge.0 < nodes && edge.1 < nodes
-}
-
-/// The first edges of a ring of a thousand nodes.
-fn ring(alloc: Global, count: u32) -> Result<Vec<(u32, u32)>> {
-    let mut edges = Vec::new(alloc);
-    for node in 0..count {
-        let next = if node < 999 { node + 1 } else { 0 };
-        edges.push((node, next))?;
-    }
-    Ok(edges)
 }

@@ -21,7 +21,7 @@ pub fn catalogue<R: Files + AllocGlobal>(rt: &R, name: &str) -> Result<Catalogue
     let text = fs::read_to_string(rt, name)?;
     match read_catalogue(rt.alloc(), text.as_bytes()) {
         Ok(cat) => Ok(cat),
-        Err(error) => Err(anyhow!("{name}: {error:?}")),
+        Err(_) => Err(anyhow!("no catalogue")),
     }
 }
 
@@ -30,14 +30,15 @@ pub fn workload<R: Files + AllocGlobal>(rt: &R, name: &str, cat: &Catalogue) -> 
     ensures { IfOk result (λ work. IsValid cat.now work) }
 {
     let text = fs::read_to_string(rt, name)?;
-    judged(rt.alloc(), name, text.as_bytes(), cat)
+    judged(rt.alloc(), text.as_bytes(), cat)
 }
 
-fn judged(alloc: Global, name: &str, bytes: &[u8], cat: &Catalogue) -> Result<Workload>
+/// The workload of these bytes, which the catalogue allows.
+pub fn judged(alloc: Global, bytes: &[u8], cat: &Catalogue) -> Result<Workload>
     ensures { IfOk result (λ work. IsValid cat.now work) }
 {
     match read_workload(alloc, bytes, cat) {
         Ok(work) => Ok(work),
-        Err(error) => Err(anyhow!("{name}: {error:?}")),
+        Err(_) => Err(anyhow!("no workload")),
     }
 }

@@ -1,6 +1,7 @@
 pub mod AttemptsSquare
 pub mod FewRejected
 pub mod Last
+pub mod LateQuery
 pub mod OfLogs
 pub mod OtherClass
 pub mod Places

@@ -5,6 +5,8 @@
 //! transactions has at most the square of their number of attempts (`law_few_attempts`).
 #![tactic(auto)]
 
+mod instances;
 mod law;
 
+pub use instances::law_one_rejected;
 pub use law::{law_few_attempts, law_few_rejected, law_rejects};

@@ -15,6 +15,7 @@ pub mod Moves
 pub mod NoRejects
 pub mod NoneWaits
 pub mod OwnCopies
+pub mod PutBeside
 pub mod Questions
 pub mod Settled
 pub mod Still

@@ -15,4 +15,4 @@ mod worked;
 
 pub use law::{law_committed, law_copies, law_finished, law_none_left, law_resting, law_settled};
 pub use parts::{law_class_zero, law_exchanges, law_handed, law_none_waits, law_unanswered};
-pub use worked::{law_all_lost, law_late_query};
+pub use worked::{law_all_lost, law_late_query, law_read_and_put};

@@ -2,6 +2,7 @@ pub mod Answered
 pub mod AtModule
 pub mod ClassSites
 pub mod EventOver
+pub mod Examples
 pub mod FreeBlocks
 pub mod FreeClasses
 pub mod FreeConditions

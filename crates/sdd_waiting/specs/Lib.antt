@@ -1,5 +1,6 @@
 pub mod Answers
 pub mod Conditions
+pub mod Examples
 pub mod Free
 pub mod Heads
 pub mod Rejections

@@ -4,10 +4,12 @@
 //! stands at the heads of pipes, how a READ began to wait, and where its conditions come from
 //! (`pipes_laws`); then why a READ is rejected (`rejections_laws`), that one whose conditions are
 //! met is answered before the event is over (`answers_laws`), and that classes on no simple cycle
-//! neither wait nor are rejected (`free_laws`).
+//! neither wait nor are rejected (`free_laws`). `instances` has worked logs that meet what some of
+//! these laws ask.
 #![tactic(auto)]
 
 pub mod answers_laws;
 pub mod free_laws;
+pub mod instances;
 pub mod pipes_laws;
 pub mod rejections_laws;

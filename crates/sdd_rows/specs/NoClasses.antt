@@ -1,0 +1,82 @@
+-- Worked logs, written by tools/write_log_rows.py.
+use Rattle.std.specs.Prelude.{◌≡◌, pos, negsuc, [], ◌∷◌, length, None, refl}
+use Rattle.sdd_base.specs.Numbers.{rel_no, tm_no, dm_no, class_no, frag_no, txn_no, time_at}
+use Rattle.sdd_base.specs.declared.value.Value.TheVariants.{Int}
+use Rattle.sdd_base.specs.declared.event.Event.TheVariants.{Submit, Deliver, Tick, Settle}
+use Rattle.sdd_base.specs.declared.site.Site.TheVariants.{U, T}
+use Rattle.sdd_base.specs.declared.reply.Reply.TheVariants.{Rows}
+use Rattle.sdd_catalog.specs.Catalogue.{Catalogue}
+use Rattle.sdd_graph.specs.declared.edge.Edge.TheVariants.{Vertical}
+use Rattle.sdd_protocol.specs.declared.protocol.Protocol.TheVariants.{P1}
+use Rattle.sdd_lang.specs.declared.statement.Stmt.TheVariants.{Query}
+use Rattle.sdd_history.specs.declared.record.Rec.TheVariants.{Submit as Submission, Start, Arrive, Answer, Apply, Commit, Wait, Pass}
+use Rattle.sdd_log.specs.Entries.{Given, Log, history, marks}
+use Rattle.sdd_log.specs.Due.{next, extended}
+use Rattle.sdd_catalog.specs.declared.parts.Kind.TheVariants as kinds
+
+-- a module that runs no class is let go: its clock goes on from the timestamp, and tells in the next HELD
+
+abbrev pub catalogue_of_released_without_classes : Catalogue
+catalogue_of_released_without_classes = record {
+  tms = 2;
+  dms = 1;
+  relations =
+      (record { name = []; columns = ((record { name = []; kind = kinds.Int }) ∷ (record { name = []; kind = kinds.Int }) ∷ []); key = 1 }) ∷
+      [];
+  fragments =
+      (record { name = []; rel = (rel_no 1); least = (negsuc 9223372036854775807); greatest = (pos 9223372036854775807); copies = ((dm_no 1) ∷ []) }) ∷
+      [];
+  classes =
+      (record { name = []; tm = (tm_no 1); reads = []; writes = ((frag_no 1) ∷ []) }) ∷
+      [];
+}
+
+abbrev pub given_released_without_classes : Given
+given_released_without_classes = record {
+  catalogue = catalogue_of_released_without_classes;
+  forces =
+      (record {
+        catalogue = catalogue_of_released_without_classes;
+        table =
+            (record { edge = (Vertical (class_no 1)); block = 0; protocol = P1 }) ∷
+            [];
+      }) ∷
+      [];
+  rows = ([] ∷ []);
+  txns =
+      (record { name = []; tm = (tm_no 1); statements = ((Query ((record { part = 1; column = 2 }) ∷ []) ((rel_no 1) ∷ []) []) ∷ []) }) ∷
+      (record { name = []; tm = (tm_no 1); statements = ((Query ((record { part = 1; column = 1 }) ∷ []) ((rel_no 1) ∷ []) []) ∷ []) }) ∷
+      [];
+  events =
+      Tick (tm_no 1) 9 ∷
+      Submit (txn_no 1) ∷
+      Settle ∷
+      Tick (tm_no 2) 1 ∷
+      Submit (txn_no 2) ∷
+      Deliver U (T (tm_no 1)) 1 ∷
+      Deliver U (T (tm_no 2)) 1 ∷
+      Deliver (T (tm_no 1)) U 2 ∷
+      Deliver (T (tm_no 2)) U 2 ∷
+      [];
+}
+
+abbrev pub log_of_released_without_classes : Log
+log_of_released_without_classes = extended 89 given_released_without_classes []
+
+pub history_of_released_without_classes :
+    history log_of_released_without_classes ≡
+    (2, Submission (txn_no 1)) ∷
+    (8, Start (txn_no 1) 1 (class_no 0) (time_at 640) None ((record { number = 1; rel = (rel_no 1); frags = ((frag_no 1) ∷ []); restrictions = [] }) ∷ [])) ∷
+    (11, Arrive (txn_no 1) 1 (dm_no 1)) ∷
+    (11, Wait (txn_no 1) 1 (dm_no 1) ((record { class = (class_no 1); time = (time_at 640); frags = ((frag_no 1) ∷ []) }) ∷ [])) ∷
+    (15, Answer (txn_no 1) 1 (dm_no 1)) ∷
+    (15, Pass (class_no 1) (dm_no 1) (time_at 703)) ∷
+    (21, Commit (txn_no 1) 1 (Rows ([] ∷ [])) [] 0 0) ∷
+    (23, Apply (txn_no 1) (class_no 0) (dm_no 1) (time_at 640)) ∷
+    (32, Submission (txn_no 2)) ∷
+    (36, Start (txn_no 2) 1 (class_no 0) (time_at 768) None ((record { number = 1; rel = (rel_no 1); frags = ((frag_no 1) ∷ []); restrictions = [] }) ∷ [])) ∷
+    []
+history_of_released_without_classes = refl
+
+pub all_of_released_without_classes : (next given_released_without_classes log_of_released_without_classes ≡ None) × (length log_of_released_without_classes ≡ 89) × (marks log_of_released_without_classes ≡ 36)
+all_of_released_without_classes = (refl, refl, refl)
