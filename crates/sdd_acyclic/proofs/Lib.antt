@@ -3,6 +3,7 @@ pub mod Barriers
 pub mod ByRank
 pub mod Covers
 pub mod Crossings
+pub mod DecidedLinks
 pub mod Deeds
 pub mod Levels
 pub mod Orderly

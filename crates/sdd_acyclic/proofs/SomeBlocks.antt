@@ -1,5 +1,5 @@
--- Every graph has block numbers: it can't be that it has none. Which edges are linked isn't decided here, so that this is
--- said with two negations; a contradiction may use it.
+-- Block numbers of a graph, where it is decided which edges are linked. Where it isn't, it can't be that a graph has none:
+-- this is said with two negations, and a contradiction may use it.
 use Rattle.std.proofs.Common.{ℕ, zero, suc, ◌+◌, ◌<◌, ◌≤◌, ◌≡◌, ◌≢◌, List, [], ◌∷◌, ◌++◌, length, get_or, set, replicate, Some, refl, sym, ap, ◌∙◌, subst, ◌⊎◌, inl, inr, arith}
 use Rattle.std.specs.Prelude.{slice_get}
 use Rattle.std.proofs.lemmas.Bool.{cases_eq, cases_lt}
@@ -224,15 +224,20 @@ module _ (edges : List (ℕ × ℕ)) where
             in_order = numbered.in_order;
           }
 
+-- block numbers, where it is decided which edges are linked
+pub blocks_by : (edges : List (ℕ × ℕ)) → ((k : ℕ) → k < length edges → (j : ℕ) → j < length edges → Decided (Linked edges j k))
+    → (blocks : List ℕ) × AreBlocks edges blocks
+blocks_by edges d =
+    let marks = items_below (IsMark edges) (length edges) (λ k l. mark_of edges k l (d k l)) in
+    let all = some_numbers edges marks (length edges) (omega arith) in (
+      all.numbers,
+      blocks_are edges marks all.numbers
+          (all_numbered marks.items all.given all.numbers all.last (length edges) all.are marks.one_each),
+    )
+
 -- it can't be that a graph has no block numbers
 pub some_blocks : (edges : List (ℕ × ℕ)) → NotNot ((blocks : List ℕ) × AreBlocks edges blocks)
 some_blocks edges none =
     each_below (λ k. (j : ℕ) → j < length edges → Decided (Linked edges j k))
-    (λ k. each_below (λ j. Decided (Linked edges j k)) (λ j. decided) (length edges)) (length edges) (λ d.
-    let marks = items_below (IsMark edges) (length edges) (λ k l. mark_of edges k l (d k l)) in
-    let all = some_numbers edges marks (length edges) (omega arith) in
-    none (
-      all.numbers,
-      blocks_are edges marks all.numbers
-          (all_numbered marks.items all.given all.numbers all.last (length edges) all.are marks.one_each),
-    ))
+    (λ k. each_below (λ j. Decided (Linked edges j k)) (λ j. decided) (length edges)) (length edges)
+    (λ d. none (blocks_by edges d))

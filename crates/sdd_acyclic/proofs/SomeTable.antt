@@ -1,4 +1,4 @@
--- Every catalogue has a protocol table: it can't be that it has none.
+-- Every catalogue has a protocol table.
 use Rattle.std.proofs.Common.{ℕ, suc, ◌≡◌, List, [], ◌∷◌, length, map, refl, sym, ap, ◌∙◌, arith}
 use Rattle.std.specs.Prelude.{All}
 use Rattle.std.specs.List.{AllByRecursion}
@@ -13,6 +13,7 @@ use Rattle.sdd_protocol.specs.Protocols.{IsTable}
 use Rattle.sdd_protocol.specs.declared.entry.Entry.{Entry}
 use Rattle.sdd_protocol.proofs.MadeTable.{is_table}
 use Rattle.sdd_protocol.proofs.Tables.{edges_of, blocks_of}
+use Rattle.sdd_acyclic.proofs.DecidedLinks.{each_has_blocks}
 use Rattle.sdd_acyclic.proofs.SomeBlocks.{NotNot, some_blocks}
 
 -- the entries of edges with their blocks
@@ -56,3 +57,7 @@ table_by cat blocks are =
 pub some_table : (cat : Catalogue) → NotNot ((entries : List Entry) × IsTable cat entries)
 some_table cat none =
     some_blocks (map ends (conflict_graph cat)) (λ b. none (entries_by b.0 (conflict_graph cat) b.0, table_by cat b.0 b.1))
+
+pub each_table : (cat : Catalogue) → (entries : List Entry) × IsTable cat entries
+each_table cat =
+    let b = each_has_blocks (map ends (conflict_graph cat)) in (entries_by b.0 (conflict_graph cat) b.0, table_by cat b.0 b.1)

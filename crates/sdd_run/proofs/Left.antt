@@ -109,7 +109,7 @@ module _ (g : Given) (rows : List (RelNo × Row)) (log : Log) (sound : IsSound g
       ∙ ap (contents f) (same_dated g.catalogue rows (history log) _ d)
 
   -- a copy that is told of has what the history gives
-  told_rows : (copy : CopyTable) → Contains (tables_of g log) copy
+  pub told_rows : (copy : CopyTable) → Contains (tables_of g log) copy
       → copy.rows ≡ map (λ e. e.1) (laws.copy_at g.catalogue rows (history log) copy.dm.0 (length (history log)) copy.frag.0)
   told_rows copy there =
       let at = Contains-from_flat_map (tables_at g log) (numbers_to g.catalogue.dms) copy there in

@@ -57,10 +57,10 @@ only_force one f (suc k) e = cc
 
 module _ (cat : Catalogue) (table : List Entry) (work : Workload) (sound : IsSound cat) (valid : IsValid cat work) (tabled : IsTable cat table)
     (log : Log) (the_log : IsTheLog (given_of cat table work) log) (none : redeclares log ≡ 0) where
-  permitted : IsPermitted (given_of cat table work) log
+  pub permitted : IsPermitted (given_of cat table work) log
   permitted = lawful_permitted (given_of cat table work) log (once work.events valid.submitted) the_log.lawful
 
-  fine : HasSoundData (given_of cat table work) work.rows
+  pub fine : HasSoundData (given_of cat table work) work.rows
   fine = record {
     txns_fit = All-weaker (IsValidTxn cat) (Fits cat) (λ t v. v.fits) work.txns valid.txns;
     txns_held = All-weaker (IsValidTxn cat) (λ (t : Txn). All PutsHeld t.statements)
@@ -70,7 +70,7 @@ module _ (cat : Catalogue) (table : List Entry) (work : Workload) (sound : IsSou
     alike = λ d here. rows_given cat table work (dm_no d) (is_dm cat (dm_no d) here.0 here.1);
   }
 
-  eras_are : AreErasOf (given_of cat table work) log (one_era cat)
+  pub eras_are : AreErasOf (given_of cat table work) log (one_era cat)
   eras_are = of_one_era (given_of cat table work) log (record { table = tabled }) refl none
 
   pub starts : KeepsStarts cat (one_era cat) work.txns (history log)

@@ -1,5 +1,6 @@
 pub mod AllCounted
 pub mod AllSummed
+pub mod CleanCopies
 pub mod EachMarked
 pub mod FirstLines
 pub mod HasReport
@@ -8,7 +9,10 @@ pub mod Moved
 pub mod NoneDown
 pub mod Numbered
 pub mod OneList
+pub mod PendingLines
 pub mod Positions
 pub mod ReportLines
 pub mod Reported
 pub mod Submitting
+pub mod TextLines
+pub mod ValuesKept

@@ -32,13 +32,13 @@ use Rattle.sdd_verify.proofs.VerifiedReports.{name_line}
 
 -- numbers
 
-record IsNumber (text : List ℕ) : Type 0 where
-  first : ℕ
-  rest : List ℕ
-  is : text ≡ first ∷ rest
-  most : first ≤ 57
-  least : 48 ≤ first
-  line : HasNoNewline text
+pub record IsNumber (text : List ℕ) : Type 0 where
+  pub first : ℕ
+  pub rest : List ℕ
+  pub is : text ≡ first ∷ rest
+  pub most : first ≤ 57
+  pub least : 48 ≤ first
+  pub line : HasNoNewline text
 
 glyph_is : (d : ℕ) → d < 10 → digit_glyph false d ≡ 48 + d
 glyph_is d lt = grind (arith, nat_tests)
@@ -70,19 +70,19 @@ digits_from (suc k) n acc h =
       | false ↦ digits_from k (n / 10) (g ∷ acc) here.line
     ]
 
-decimal_is : (n : ℕ) → IsNumber (decimal n)
+pub decimal_is : (n : ℕ) → IsNumber (decimal n)
 unfolding digits
 decimal_is n = digits_from 63 n [] tt
 
-number_line : (n : ℕ) → HasNoNewline (decimal n)
+pub number_line : (n : ℕ) → HasNoNewline (decimal n)
 number_line n = (decimal_is n).line
 
-spaced_line : (word : List ℕ) → HasNoNewline word → HasNoNewline (spaced word)
+pub spaced_line : (word : List ℕ) → HasNoNewline word → HasNoNewline (spaced word)
 spaced_line word h = (λ e. omega (arith, e), h)
 
 -- names
 
-named_by : {A : Type 0} (name : A → List ℕ) (members : List A) (i : ℕ) (o : Option A)
+pub named_by : {A : Type 0} (name : A → List ℕ) (members : List A) (i : ℕ) (o : Option A)
     → slice_get members i ≡ o → All (λ m. IsName (name m)) members → HasNoNewline (option_map_or name o [])
 named_by name members i None is named = tt
 named_by {A} name members i (Some m) is named = name_line (name m) (found_member (λ (k : A). IsName (name k)) members i m named is)
@@ -90,10 +90,10 @@ named_by {A} name members i (Some m) is named = name_line (name m) (found_member
 module _ (cat : Catalogue) (txns : List Txn)
     (classes_named : All (λ (k : Class). IsName k.name) cat.classes)
     (txns_named : All (λ (t : Txn). IsName t.name) txns) where
-  txn_line : (n : ℕ) → HasNoNewline (txn_name txns n)
+  pub txn_line : (n : ℕ) → HasNoNewline (txn_name txns n)
   txn_line n = named_by (λ (t : Txn). t.name) txns (n - 1) (slice_get txns (n - 1)) refl txns_named
 
-  class_line : (c : ℕ) → HasNoNewline (class_word cat c)
+  pub class_line : (c : ℕ) → HasNoNewline (class_word cat c)
   class_line c =
       let named = named_by (λ (k : Class). k.name) cat.classes (c - 1) (slice_get cat.classes (c - 1)) refl classes_named in
       let dash : HasNoNewline (codes "-") = search rules in
@@ -102,7 +102,7 @@ module _ (cat : Catalogue) (txns : List Txn)
   attempt_line : (n attempt : ℕ) → HasNoNewline (attempt_word txns n attempt)
   attempt_line n attempt = no_newline-append (txn_name txns n) (35 ∷ decimal attempt) (txn_line n) (λ e. omega (arith, e), number_line attempt)
 
-  class_time_line : (c time : ℕ) → HasNoNewline (class_time cat c time)
+  pub class_time_line : (c time : ℕ) → HasNoNewline (class_time cat c time)
   class_time_line c time = no_newline-append (spaced (class_word cat c)) (spaced (decimal time))
       (spaced_line (class_word cat c) (class_line c)) (spaced_line (decimal time) (number_line time))
 
@@ -110,7 +110,7 @@ module _ (cat : Catalogue) (txns : List Txn)
   time_line None = search rules
   time_line (Some time) = number_line time.0
 
-  module_line : (d : ℕ) → HasNoNewline (spaced (module_word d))
+  pub module_line : (d : ℕ) → HasNoNewline (spaced (module_word d))
   module_line d = spaced_line (module_word d) (λ e. omega (arith, e), number_line d)
 
   conds_line : (conds : List Cond) → HasNoNewline (cond_words cat conds)

@@ -83,7 +83,7 @@ only_one cat (suc k) = refl
 era_is : (cat : Catalogue) (event : ℕ) → in_force cat (one_era cat) event ≡ cat
 era_is cat event = ap (λ (e : ℕ × Catalogue). e.1) (only_one cat (begun (one_era cat) event - 1))
 
-names_of_txns : (cat : Catalogue) (txns : List Txn) → All (IsValidTxn cat) txns → All (λ (t : Txn). IsName t.name) txns
+pub names_of_txns : (cat : Catalogue) (txns : List Txn) → All (IsValidTxn cat) txns → All (λ (t : Txn). IsName t.name) txns
 names_of_txns cat [] valid = All-nil (λ (t : Txn). IsName t.name)
 names_of_txns cat (t ∷ txns) valid =
     All-cons (λ (u : Txn). IsName u.name) t txns (All-head (IsValidTxn cat) t txns valid).named

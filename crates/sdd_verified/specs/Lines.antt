@@ -1,0 +1,14 @@
+-- Lines of a report that tell of pending transactions.
+use Rattle.std.specs.Prelude.{ℕ, Bool, false, true, List, [], ◌∷◌, ◌≡◌, codes, nat_eq, refl}
+use Rattle.std.specs.List.{starts_with}
+
+-- a line that begins with `pending `
+abbrev pub tells_pending : List ℕ → Bool
+tells_pending line = starts_with nat_eq line (codes "pending ")
+
+-- worked
+pub pending_told : tells_pending (codes "pending pay underway D1") ≡ true
+pending_told = refl
+
+pub end_told : tells_pending (codes "end") ≡ false
+end_told = refl
