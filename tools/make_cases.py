@@ -256,6 +256,10 @@ def runs(outside, case):
     shelf_fails, out_fails = case.number("shelf-fails", 0), case.number("out-fails", 0)
     if not case.each:
         yield 0, outside.answer(case, case.files, shelf_fails, out_fails)
+    elif case.each.startswith("cut-byte "):
+        name = case.each[9:]
+        for k in range(len(case.files[name]) + 1):
+            yield k, outside.answer(case, dict(case.files, **{name: case.files[name][:k]}), shelf_fails, out_fails)
     elif case.each.startswith("cut "):
         name = case.each[4:]
         data = case.files[name]

@@ -2,7 +2,7 @@
 ghost use Rattle.std.specs.Prelude.{◌≡◌, IsTrue};
 
 use crate::case::{Case, Taking};
-use crate::text::{Text, front};
+use crate::text::Text;
 use anyhow::{Result, anyhow};
 use sdd_app::{Status, run_sdd1};
 use sdd_base::{Bytes, CallNos, Files, MemShelf, MemSink, ShelfFile};
@@ -11,7 +11,7 @@ use std::alloc::Global;
 /// How one run differs from what its case says. A call's number 0 is that of none.
 #[derive(Clone, Copy)]
 pub struct Run<'a> {
-    /// The file that is cut, and behind how many lines.
+    /// The file that is cut, and how many bytes of it are left.
     pub cut: Option<(&'a str, usize)>,
     pub shelf_fails: u64,
     pub out_fails: u64,
@@ -66,9 +66,10 @@ fn files(alloc: Global, texts: &[Text], cut: Option<(&str, usize)>) -> Result<Fi
 }
 
 fn file(alloc: Global, text: &Text, cut: Option<(&str, usize)>) -> Result<ShelfFile> {
+    let all = text.bytes.as_slice();
     let bytes = match cut {
-        Some((name, lines)) if text.name.as_str() == name => front(text.bytes.as_slice(), lines),
-        _ => text.bytes.as_slice(),
+        Some((name, count)) if text.name.as_str() == name => &all[..count.min(all.len())],
+        _ => all,
     };
     Ok(ShelfFile {
         name: Bytes::from_vec(Vec::from_slice(alloc, text.name.as_bytes())?),

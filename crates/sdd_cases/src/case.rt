@@ -13,6 +13,8 @@ pub enum Each {
     Alone,
     /// Each run has one more line of the file.
     Cut(String),
+    /// Each run has one more byte of the file.
+    CutByte(String),
     /// In each run the next call of the shelf fails.
     ShelfCall,
     /// In each run the next call of the sink for the text fails.
@@ -93,12 +95,18 @@ impl Case {
         match value {
             "shelf-call" => Ok(Each::ShelfCall),
             "out-call" => Ok(Each::OutCall),
-            _ => {
-                let name = value.strip_prefix("cut ").context("no such runs")?;
-                self.file(name).context("no such file")?;
-                Ok(Each::Cut(String::from_str(alloc, name)?))
-            }
+            _ => match value.split_once(' ') {
+                Some(("cut", name)) => Ok(Each::Cut(self.name_of(alloc, name)?)),
+                Some(("cut-byte", name)) => Ok(Each::CutByte(self.name_of(alloc, name)?)),
+                _ => bail!("no such runs"),
+            },
         }
+    }
+
+    /// The name of a file that is there.
+    fn name_of(&self, alloc: Global, name: &str) -> Result<String> {
+        self.file(name).context("no such file")?;
+        Ok(String::from_str(alloc, name)?)
     }
 
     /// The file of a name.

@@ -16,6 +16,7 @@
 //! | `out-room N`, `err-room N` | that sink takes N bytes in all |
 //! | `out-fails N`, `err-fails N` | the Nth call of that sink fails |
 //! | `each cut NAME` | one run for each front of whole lines of that file, from none to all |
+//! | `each cut-byte NAME` | one run for each front of that file, from no byte to all |
 //! | `each shelf-call` | one run for each call of the shelf, which fails, and one where none does |
 //! | `each out-call` | the same of the sink for the text |
 //!

@@ -2,6 +2,7 @@
 use crate::answer::{Answer, Run, call};
 use crate::case::{Case, Each};
 use crate::printed::{put_answer, put_name, put_numbers};
+use crate::text::front;
 use anyhow::{Result, bail};
 use sdd_app::Status;
 use std::alloc::Global;
@@ -40,15 +41,15 @@ fn tell_each<W: Write>(alloc: Global, case: &Case, out: &mut W) -> Result<()> {
     bail!("a case of too many runs")
 }
 
-/// The number of the first run: of no lines, or of the first call.
+/// The number of the first run: of no lines or bytes, or of the first call.
 fn first(case: &Case) -> usize {
     match &case.each {
-        Each::Alone | Each::Cut(_) => 0,
+        Each::Alone | Each::Cut(_) | Each::CutByte(_) => 0,
         Each::ShelfCall | Each::OutCall => 1,
     }
 }
 
-/// What differs in a run: the number of lines or of the call.
+/// What differs in a run: the number of lines or bytes, or of the call.
 fn nth(case: &Case, number: usize) -> Run<'_> {
     let mut run = Run {
         cut: None,
@@ -57,11 +58,20 @@ fn nth(case: &Case, number: usize) -> Run<'_> {
     };
     match &case.each {
         Each::Alone => {}
-        Each::Cut(name) => run.cut = Some((name.as_str(), number)),
+        Each::Cut(name) => run.cut = Some((name.as_str(), length_of(case, name.as_str(), number))),
+        Each::CutByte(name) => run.cut = Some((name.as_str(), number)),
         Each::ShelfCall => run.shelf_fails = number as u64,
         Each::OutCall => run.out_fails = number as u64,
     }
     run
+}
+
+/// How many bytes the first lines of a file have.
+fn length_of(case: &Case, name: &str, lines: usize) -> usize {
+    match case.file(name) {
+        None => 0,
+        Some(text) => front(text.bytes.as_slice(), lines).len(),
+    }
 }
 
 /// Whether the file was whole, or no call failed.
@@ -71,6 +81,10 @@ fn is_last(case: &Case, number: usize, answer: &Answer) -> bool {
         Each::Cut(name) => match case.file(name.as_str()) {
             None => true,
             Some(text) => text.lines() <= number,
+        },
+        Each::CutByte(name) => match case.file(name.as_str()) {
+            None => true,
+            Some(text) => text.bytes.len() <= number,
         },
         Each::ShelfCall => answer.status != Status::ReadFault,
         Each::OutCall => answer.status != Status::WriteFault,
