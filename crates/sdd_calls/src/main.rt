@@ -54,13 +54,21 @@ fn tell_graphs<W: Write>(alloc: Global, out: &mut W) -> Result<()> {
 fn tell_messages<W: Write>(alloc: Global, out: &mut W) -> Result<()> {
     tell(out, "encode", messages::is_spelled(alloc)?)?;
     tell(out, "decode", messages::is_read(alloc)?)?;
-    tell(out, "decode what is no message", messages::break_there(alloc)?)
+    tell(
+        out,
+        "decode what is no message",
+        messages::break_there(alloc)?,
+    )
 }
 
 fn tell_catalogues<R: Files + AllocGlobal, W: Write>(rt: &R, out: &mut W) -> Result<()> {
     tell(out, "parts and build", catalogues::is_built_again(rt)?)?;
     tell(out, "extend", catalogues::is_extended(rt)?)?;
-    tell(out, "extend by a name that is there", catalogues::is_refused(rt)?)?;
+    tell(
+        out,
+        "extend by a name that is there",
+        catalogues::is_refused(rt)?,
+    )?;
     tell(out, "retire", catalogues::is_retired(rt)?)?;
     tell(out, "check_advice", advices::are_judged(rt)?)
 }

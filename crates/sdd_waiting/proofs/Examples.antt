@@ -1,6 +1,6 @@
 -- What the laws say of the worked logs of specs/Examples: an undeclared query beside a put, and a query that is rejected in
 -- the event in which it comes.
-use Rattle.std.proofs.Common.{ℕ, ◌+◌, ◌++◌, ◌<◌, ◌==◌, ◌∷◌, ◌≡◌, ◌≢◌, ◌≤◌, ◌⊎◌, List, Some, [], absurd, arith, inl, inr, lit<, lit≤, refl, subst, take, true}
+use Rattle.std.proofs.Common.{ℕ, ◌+◌, ◌++◌, ◌<◌, ◌==◌, ◌∷◌, ◌≡◌, ◌≢◌, ◌≤◌, ◌⊎◌, List, Some, [], arith, inl, inr, lit<, lit≤, refl, subst, take, true}
 use Rattle.sdd_base.specs.Numbers.{class_no, dm_no, time_at, tm_no, txn_no}
 use Rattle.sdd_base.specs.declared.site.Site.{Site}
 use Rattle.sdd_base.specs.declared.site.Site.TheVariants.{D, T, U}
@@ -43,13 +43,16 @@ two_once n = elim (same_or_not 1 n) [
   | inr e ↦ rw e (let h = one_at_most (2 == n) in omega arith)
 ]
 
+last_two_once : (n : ℕ) → one_if (2 == n) + (one_if (3 == n) + 0) ≤ 1
+last_two_once n = elim (same_or_not 2 n) [
+  | inl e ↦ subst (λ k. one_if (2 == k) + (one_if (3 == k) + 0) ≤ 1) e (lit≤ tt)
+  | inr e ↦ rw e (let h = one_at_most (3 == n) in omega arith)
+]
+
 three_once : (n : ℕ) → one_if (1 == n) + (one_if (2 == n) + (one_if (3 == n) + 0)) ≤ 1
 three_once n = elim (same_or_not 1 n) [
   | inl e ↦ subst (λ k. one_if (1 == k) + (one_if (2 == k) + (one_if (3 == k) + 0)) ≤ 1) e (lit≤ tt)
-  | inr e ↦ rw e (elim (same_or_not 2 n) [
-    | inl f ↦ subst (λ k. one_if (2 == k) + (one_if (3 == k) + 0) ≤ 1) f (lit≤ tt)
-    | inr f ↦ rw f (let h = one_at_most (3 == n) in omega arith)
-  ])
+  | inr e ↦ rw e (let h = last_two_once n in omega (arith, h))
 ]
 
 put_first_once : AreSubmittedOnce given_put_first.events

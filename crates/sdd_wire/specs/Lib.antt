@@ -1,3 +1,4 @@
+pub mod AllKinds
 pub mod Examples
 pub mod Fits
 pub mod Piped
