@@ -65,7 +65,7 @@ class Explorer:
         self.catalogue, self.load = read_catalogue(catalogue), read_load(workload)
         if not self.load.submitted():
             raise BadInput("%s: it submits nothing" % workload)
-        quick = self.observed([[x for x in self.load.events if x != "settle"] + ["settle"]])[0]
+        quick = self.observed([self.load.events + ["settle"]])[0]
         self.undeclared = any(x.cls == "-" for x in quick.transactions.values())
         self.links = links_of(self.catalogue, self.load, self.undeclared)
 

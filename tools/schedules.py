@@ -3,8 +3,8 @@
     load = read_load("examples/bridge/workload")
     events = drawn(load, links_of(catalogue, load), random.Random(1), Manner())
 
-A schedule keeps what the workload submits, and its ticks, downs, ups, settles and further lists of
-classes, in their order. Its deliveries, losses, repetitions and resends are replaced by others.
+A schedule keeps what the workload submits, and the ticks, downs, ups, settles and further lists of
+classes between, in their order. Its deliveries, losses, repetitions and resends are replaced by others.
 """
 import random
 from typing import NamedTuple
@@ -18,7 +18,7 @@ TAIL = 40                   # rounds behind the last submission, before the sett
 
 class Load(NamedTuple):
     head: list              # the lines before the events
-    events: list            # those of the events that stay
+    events: list            # those of the events that stay, without the settles behind the last one
     sites: dict             # transaction -> its transaction module
 
     def text(self, events):
@@ -50,7 +50,10 @@ def read_load(path):
         head.append(line)
     if "end" not in events:
         raise BadInput("%s: no line `end`: is this a workload?" % path)
-    return Load(head, [x for x in events if x.split(" ")[0] in KEPT], sites)
+    kept = [x for x in events if x.split(" ")[0] in KEPT]
+    while kept and kept[-1] == "settle":
+        kept.pop()
+    return Load(head, kept, sites)
 
 
 def links_of(catalogue, load, undeclared):
@@ -63,16 +66,24 @@ def links_of(catalogue, load, undeclared):
     return [x for a, b in pairs for x in ((a, b), (b, a))]
 
 
-def event_on(link, rng, manner):
-    """What happens next on a link: mostly its first packet arrives, sometimes a later one overtakes it."""
-    if manner.faults and rng.random() < manner.faults:
-        return rng.choice(["lose %s %s 1", "repeat %s %s 1", "resend %s %s", "resend %s %s"]) % link
-    return "deliver %s %s %d" % (link + (1 if rng.random() < 0.9 else 2,))
+FORMS = [                   # of 20 packets that arrive two overtake the one before them
+    ("deliver %s %s 1", 18, 0), ("deliver %s %s 2", 2, 0), ("lose %s %s 1", 0, 5), ("repeat %s %s 1", 0, 5), ("resend %s %s", 0, 10)]
+
+
+def choices(links, rng, manner):
+    """The events that may come next and their weights. Some links are slower than others, which ones is drawn too."""
+    events, weights = [], []
+    for link in links:
+        pace = rng.choice([1, 2, 2, 4])
+        for form, usual, fault in FORMS:
+            events.append(form % link)
+            weights.append(pace * (usual * (1 - manner.faults) + fault * manner.faults))
+    return events, weights
 
 
 def drawn(load, links, rng, manner):
-    """One schedule. Some links are slower than others, which ones is drawn too."""
-    weights = [rng.choice([1, 2, 2, 4]) for _ in links]
+    """One schedule."""
+    possible, weights = choices(links, rng, manner)
     count = max(1, len(load.submitted()))
     room = MOST_EVENTS - len(load.events) - 1
     tail = min(TAIL * len(links), room // 2)
@@ -81,10 +92,8 @@ def drawn(load, links, rng, manner):
     for line in load.events:
         events.append(line)
         if line.startswith("submit "):
-            taken = rng.choices(links, weights, k=rng.randint(0, int(2 * between)))
-            events += [event_on(link, rng, manner) for link in taken]
-    events += [event_on(link, rng, manner) for link in rng.choices(links, weights, k=tail)]
-    return events + ["settle"]
+            events += rng.choices(possible, weights, k=rng.randint(0, int(2 * between)))
+    return events + rng.choices(possible, weights, k=tail) + ["settle"]
 
 
 class Walks:
@@ -117,10 +126,9 @@ class Walks:
 
 def enumerated(load, links, flying, most):
     """All schedules in which packets arrive in their order on each link; None where they are more than `most`."""
-    submits = load.events[:-1]
-    if load.events[-1:] != ["settle"] or any(not x.startswith("submit ") for x in submits):
+    if any(not x.startswith("submit ") for x in load.events):
         return None
-    walks = Walks(submits, links, flying)
+    walks = Walks(load.events, links, flying)
     if min(walks.estimate(random.Random(k), 10 * most) for k in range(5)) > 3 * most:
         return None
     whole, front, looks = [], [([], 0)], 0
