@@ -219,7 +219,7 @@ def event_data(programs, catalogue, workload, known, seconds=MOST_SECONDS):
     transactions = [dict(zip(("name", "at"), x[0].split(" ")[1:]), lines=x[1:-1]) for x in parts.transactions]
     return {"first": first, "lines": lines, "records": reported.records, "order": reported.order,
             "replies": reported.replies, "pending": reported.pending, "transactions": transactions, "events": parts.events,
-            **known, "classes": known["classes"] + list(list_classes(parts))}
+            "copies": [(" ".join(x), rows) for x, rows in reported.copies.items()], **known, "classes": known["classes"] + list(list_classes(parts))}
 
 
 def run_data(programs, catalogue, workload, name):

@@ -95,8 +95,9 @@ function classRow(view, site, told, cls) {
   if (active) row.append(element("span", "attempt", `${active.txn} @${active.time}`), element("span", "faint", `${active.phase}; waits for ${active.lacks.join(" ")}`));
   else if (site === "U" && told.phase !== "idle") row.append(element("span", "faint", `${told.phase}; waits for ${(told.lacks || []).join(" ")}`));
   else row.append(element("span", "faint", "idle"));
-  rest.slice(0, 4).forEach(name => row.append(element("span", "queued", name)));
-  if (rest.length > 4) row.append(element("span", "faint", "+" + (rest.length - 4)));
+  const key = "queue " + cls, most = view.opened.has(key) ? rest.length : 4;
+  rest.slice(0, most).forEach(name => row.append(element("span", "queued", name)));
+  if (rest.length > most) row.append(button("+" + (rest.length - most), "more", () => view.open(key)));
   return row;
 }
 

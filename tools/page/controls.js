@@ -93,7 +93,7 @@ Object.assign(Play.prototype, {
     form.append(this.formsOfStatements());
     form.onsubmit = event => event.preventDefault();
     this.form = form;
-    this.draw();
+    this.view.draw();
     text.focus();
     return null;
   },

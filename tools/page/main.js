@@ -48,9 +48,9 @@ class View {
     drawOrder(this);
     drawTrace(this);
     drawGraph(this);
+    this.play?.draw();
     drawPast(this);
     drawMap(this);
-    this.play?.draw();
     if (focused !== undefined) document.querySelector(`[data-packet="${focused}"]`)?.focus();
   }
 }

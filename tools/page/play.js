@@ -38,7 +38,7 @@ class Play {
     if (this.isBusy) return null;
     const before = this.view.event, told = await this.ask(request);
     if (!told) return null;
-    this.say("", false);
+    this.told = "";
     this.take(told);
     const count = this.view.run.count, isSettle = request.line === "settle" || request.line === "redeclare";
     if (request.do === "event") this.view.go(isSettle ? Math.min(before + 1, count) : count);
@@ -60,7 +60,7 @@ class Play {
   say(text, isBad) {
     this.told = text;
     this.isBad = isBad;
-    this.draw();
+    this.view.draw();
   }
 
   act(verb, id) {
@@ -85,7 +85,7 @@ class Play {
         if (await this.change({do: "back", ...cutAt(run, event)})) await act();
       },
     };
-    this.draw();
+    this.view.draw();
     return null;
   }
 
@@ -118,7 +118,7 @@ class Play {
     const line = element("div", this.isBad ? "bad" : "", this.question ? this.question.text : this.told);
     line.id = "told";
     if (!this.question) return line;
-    const no = () => { this.question = null; this.draw(); };
+    const no = () => { this.question = null; this.view.draw(); };
     line.append(" ", button("go on from here", "", this.question.yes), " ", button("cancel", "", no));
     return line;
   }
