@@ -1,0 +1,2 @@
+def inside_text(cat, work):
+    raise NotImplementedError
