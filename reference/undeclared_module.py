@@ -14,14 +14,15 @@ class UndeclaredModule:
         self.dms, self.clock, self.line = cat.dms, Clock(0), Line(cat, 0, bases)
         tms = range(1, cat.tms + 1)
         self.holds, self.helds, self.releases = ({t: 0 for t in tms} for _ in range(3))
-        self.commits = self.time = self.dones = 0       # of the last commit its timestamp, and the DONEs for it
+        self.commits = self.time = 0
+        self.dones = []         # the data modules that applied the last commit, which has this time
 
     def handed(self, site, message):
         self.clock.handed(message)
         if message.kind == "HELD":
             self.helds[site.number] += 1
         if message.kind == "DONE" and message.time == self.time:
-            self.dones += 1
+            self.dones.append(site.number)
         self.line.handed(site, message)
 
     def submit(self, number, txn):
@@ -30,12 +31,12 @@ class UndeclaredModule:
     def act(self):
         act = self.line.act()
         if act and act[0]:
-            self.commits, self.time, self.dones = self.commits + 1, act[0].time, 0
+            self.commits, self.time, self.dones = self.commits + 1, act[0].time, []
         return act or self.release() or self.start() or self.hold()
 
     def release(self):
         for t, count in self.releases.items():
-            if count < self.commits and (self.dones == self.dms or is_broken("early-release")):
+            if count < self.commits and (len(self.dones) == self.dms or is_broken("early-release")):
                 self.releases[t] += 1
                 return None, [(Site("T", t), Message("RELEASE", time=self.time))]
         return None
