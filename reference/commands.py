@@ -51,8 +51,7 @@ def text_of(words, read):
     if key == "verify" and len(names) == 3:
         cat = read_catalogue(read(names[0]))
         work = read_workload(cat, read(names[1]))
-        class_of = run(cat, work).class_submitted if work.lists else None
-        return verdict_text(cat, work, read(names[2]), class_of)
+        return verdict_text(cat, work, read(names[2]))
     if key == "make" and len(names) == 2:
         seed, count = number_between(names[0], 0, 2**31 - 1), number_between(names[1], 0, 2048)
         if None not in (seed, count):

@@ -3,20 +3,20 @@
 What the report tells otherwise isn't judged. Definition: docs/FORMATS.md, "What `verify` prints";
 crates/sdd_verify/specs/Verdict.antt.
 """
-from .plain import class_for, reply_lines, serial
+from .plain import reply_lines, serial
+from .redeclare import classes_submitted
 from .words import MAX_FILE_BYTES
 
 
-def verdict(cat, work, report, class_of=None):
-    """None, or the number of the first line at fault; `class_of` gives a transaction's class by its number."""
+def verdict(cat, work, report):
+    """None, or the number of the first line at fault."""
     if len(report) > MAX_FILE_BYTES:
         return 0
     lines = report.split(b"\n")[:-1]
     at = next((k for k, line in enumerate(lines) if line == b"order" or line.startswith(b"order ")), None)
     if at is None:
         return len(lines) + 1
-    class_of = class_of or (lambda n: class_for(cat, work.txns[n - 1]))
-    order = order_on(work, lines[at], class_of)
+    order = order_on(work, lines[at], classes_submitted(cat, work))
     if order is None:
         return at + 1
     txns = [work.txns[n - 1] for n in order]
@@ -31,7 +31,7 @@ def verdict(cat, work, report, class_of=None):
     return None
 
 
-def order_on(work, line, class_of):
+def order_on(work, line, classes):
     """The numbers of the transactions on an order line, or None where it names one that may not stand there."""
     submitted = work.submitted()
     number = {work.txns[n - 1].name.encode(): n for n in submitted}
@@ -40,12 +40,12 @@ def order_on(work, line, class_of):
         return None
     last = {}                   # class -> the place, in the order of submission, of its last transaction so far
     for n in order:
-        if last.get(class_of(n), -1) > submitted.index(n):
+        if last.get(classes[n], -1) > submitted.index(n):
             return None
-        last[class_of(n)] = submitted.index(n)
+        last[classes[n]] = submitted.index(n)
     return order
 
 
-def verdict_text(cat, work, report, class_of=None):
-    line = verdict(cat, work, report, class_of)
+def verdict_text(cat, work, report):
+    line = verdict(cat, work, report)
     return "yes\n" if line is None else "no %d\n" % line
