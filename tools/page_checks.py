@@ -4,7 +4,8 @@ import re
 
 from replay import Reader
 
-EACH = 400                  # runs with more events are compared at some of them, and drawn at all
+EACH = 300                  # of a run with more events that many are drawn; the flights are compared at all
+BATCH = 500
 MOST_SHOWN = 6              # packets of a lane
 SHOW = """(() => {
   const texts = (node, what) => [...node.querySelectorAll(what)].map(x => x.textContent);
@@ -31,6 +32,11 @@ SHOW = """(() => {
   told.wide = document.documentElement.scrollWidth > innerWidth;
   return told;
 })()"""
+FLIGHTS = """Array.from({length: %d}, () => {
+  const line = view.run.lines[tried.event];
+  tried.apply(line);
+  return (line.put || []).map(([a, b]) => tried.flight(a + ">" + b).map(id => labelOf(view.run, view.run.packets[id])));
+})"""
 OPEN_ALL = "(() => { let more; while ((more = document.querySelector('#map .more, #order .more'))) more.click(); })()"
 
 
@@ -60,32 +66,37 @@ class Check:
     def whole(self):
         opened = self.page.tell("Math.round(performance.getEntriesByType('navigation')[0].domContentLoadedEventEnd)")
         self.compare()
-        few = len(self.lines) <= EACH
-        step = 1 if few else max(7, len(self.lines) // 60)
+        few, step = len(self.lines) <= EACH, max(1, len(self.lines) // EACH)
         for line in self.lines:
             self.reader.apply(line)
+            event = line["event"]
             if few:
                 self.page.press("ArrowRight")
-            if line["event"] % step == 0 or line["event"] == len(self.lines):
-                self.forward(step, few)
+            elif event % step == 0 or event == len(self.lines):
+                self.page.tell("view.go(%d)" % event)
+            else:
+                continue
+            shown = self.compare()
+            if event % (step * 7) == 0:
+                self.seen[event] = shown
+        if not few:
+            self.all_flights()
         self.end()
         self.backward()
         if self.page.faults():
             raise Wrong("a script failed: " + self.page.faults()[0])
         return "%d events, opened in %d ms" % (len(self.lines), opened)
 
-    def forward(self, step, by_keys):
-        """All events up to this one are drawn, and this one is compared."""
-        event = self.reader.event
-        if not by_keys:
-            odd = self.page.tell("""(() => { for (let k = view.event + 1; k <= %d; k++) {
-                view.go(k);
-                if (/undefined|NaN|\\[object/.test(document.body.innerText)) return k;
-            } })()""" % event)
-            same("the first event with a word of a script", odd, None)
-        shown = self.compare()
-        if event % (step * 5) == 0:
-            self.seen[event] = shown
+    def all_flights(self):
+        """The flights that each event changes, without drawing them."""
+        reader = Reader(self.data["first"])
+        self.page.tell("window.tried = view.run.stateAt(0); 0")
+        for first in range(0, len(self.lines), BATCH):
+            lines, want = self.lines[first:first + BATCH], []
+            for line in lines:
+                reader.apply(line)
+                want.append([[reader.label((a, b), x) for x in reader.flight[a, b]] for a, b, _ in line.get("put", [])])
+            same("in flight behind event %d" % first, self.page.tell(FLIGHTS % len(lines)), want)
 
     def compare(self):
         shown, event = self.page.tell(SHOW), self.reader.event

@@ -11,6 +11,7 @@ Where there is no Chromium the script says so, and ends with status 0. Programs 
 finds them.
 """
 import os
+import random
 import sys
 import tempfile
 import time
@@ -21,11 +22,45 @@ from make_workload import write_workload
 from page import SHOWN, add_programs, assembled, name_of
 from page_checks import Wrong, check_page
 from page_clicks import check_clicks
-from random_run import random_run
+from random_calls import run_call
 from report import BadInput
 from states import find_programs, run_data
 
 EXAMPLES = os.path.join(os.path.dirname(os.path.abspath(__file__)), "..", "examples")
+ODD_CATALOGUE = """tms = 1
+dms = 1
+[[relation]]
+name = "toString"
+columns = [{name = "text", kind = "text"}, {name = "key", kind = "int"}]
+key = "key"
+[[fragment]]
+name = "hasOwnProperty"
+relation = "toString"
+copies = [1]
+[[class]]
+name = "constructor"
+tm = 1
+reads = [{fragment = "hasOwnProperty", at = 1}]
+writes = ["hasOwnProperty"]
+[[class]]
+name = "A2345678901234567890123456789012"
+tm = 1
+"""
+ODD_WORKLOAD = """row toString "</script><b>bold</b>" 9223372036854775807
+row toString "a \\"quoted\\" \\\\ text" -9223372036854775808
+row toString "%s" 9007199254740993
+txn valueOf T1
+query 1.text 1.key from toString
+put toString "<!--\u2028 \U0001f600" 9007199254740992
+delete toString where 1.key = 9007199254740993
+done
+submit valueOf
+deliver T1 D1 1
+repeat D1 T1 2
+lose D1 T1 1
+settle
+end
+""" % ("long " * 51)
 
 
 def example_files():
@@ -36,13 +71,13 @@ def example_files():
             yield name, files
 
 
-def random_files(folder, seeds):
-    for seed in seeds:
-        files = [os.path.join(folder, "%s%d" % (x, seed)) for x in ("catalogue", "workload")]
-        for path, text in zip(files, random_run(seed)):
-            with open(path, "w", encoding="utf-8", newline="") as f:
-                f.write(text)
-        yield "seed %d" % seed, files
+def written(folder, name, *texts):
+    """The paths of a catalogue and a workload."""
+    files = [os.path.join(folder, x + name) for x in ("catalogue-", "workload-")]
+    for path, text in zip(files, texts):
+        with open(path, "wb") as f:
+            f.write(text)
+    return files
 
 
 class Tests:
@@ -72,11 +107,14 @@ class Tests:
 
     def pages(self):
         for name, files in example_files():
-            self.page(name, files, [(1600, 1000, False), (1280, 800, True)])
+            self.page(name, files, [(1600, 1000, False), (1280, 800, True)] if name != "bank" else [(1600, 1000, True)])
+        odd = written(self.folder, "odd", ODD_CATALOGUE.encode(), ODD_WORKLOAD.encode())
+        self.page("names and texts that are no markup", odd, [(1280, 800, False)])
 
     def random(self):
-        for name, files in random_files(self.folder, self.seeds):
-            self.page(name, files, [(1600, 1000, False)])
+        for seed in self.seeds:
+            drawn = run_call(random.Random(seed)).files
+            self.page("seed %d" % seed, written(self.folder, str(seed), drawn["cat"], drawn["work"]), [(1600, 1000, False)])
 
     def large(self):
         self.page("16 by 16 sites", write_workload(self.folder, "classes", 100), [(1600, 1000, False)])

@@ -84,12 +84,12 @@ Object.assign(Play.prototype, {
     Object.assign(text, {id: "txn-text", rows: 4, cols: 90, spellcheck: false, placeholder: this.exampleStatement()});
     Object.assign(row, {id: "row-text", size: 40, placeholder: this.exampleRow(), disabled: this.view.run.data.events.length > 0});
     const line = (...parts) => { const made = element("div"); made.append(...parts); form.append(made); };
-    const act = (label, made) => { const b = button(label, "", made); b.type = "button"; return b; };
+    const act = (id, label, made) => Object.assign(button(label, "", made), {id, type: "button"});
     line("txn ", name, " ", at, element("span", "faint", " its statements, one a line:"));
     line(text);
-    line(act("add and submit", () => this.addTransaction(name.value, at.value, text.value, true)), " ",
-      act("add", () => this.addTransaction(name.value, at.value, text.value, false)), " ", act("close", () => this.closeForm()));
-    line(row, " ", act("add an initial row", () => this.addRow(row)), element("span", "faint", " only before the first event"));
+    line(act("add-submit", "add and submit", () => this.addTransaction(name.value, at.value, text.value, true)), " ",
+      act("add", "add", () => this.addTransaction(name.value, at.value, text.value, false)), " ", act("close", "close", () => this.closeForm()));
+    line(row, " ", act("add-row", "add an initial row", () => this.addRow(row)), element("span", "faint", " only before the first event"));
     form.append(this.formsOfStatements());
     form.onsubmit = event => event.preventDefault();
     this.form = form;
