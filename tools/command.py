@@ -21,6 +21,21 @@ def parser(text):
     return argparse.ArgumentParser(description=text, formatter_class=argparse.RawDescriptionHelpFormatter, usage=argparse.SUPPRESS)
 
 
+class Words(argparse.ArgumentParser):
+    """As `argparse` has it; --help prints what the script says at its head."""
+
+    def __init__(self, told):
+        super().__init__(description=told, formatter_class=argparse.RawDescriptionHelpFormatter, usage=argparse.SUPPRESS)
+
+    def error(self, message):
+        refuse("%s; --help tells the words" % message)
+
+
+def refuse(what):
+    print("%s: %s" % (os.path.basename(sys.argv[0]), what), file=sys.stderr)
+    sys.exit(REFUSED)
+
+
 def count(word):
     """A whole number from 0 on, as a word of a command line."""
     number = int(word)
