@@ -1,0 +1,161 @@
+"""Reads the definitions and lemmas of the repository: what stands where, and what names what."""
+import os
+import re
+
+ROOT = os.path.normpath(os.path.join(os.path.dirname(os.path.abspath(__file__)), ".."))
+SIGNATURE = re.compile(r"(?:(?:pub|abbrev|unfoldable|opaque|private)\s+)*(?:(data|record)\s+)?([^\s:(){},.=]+)(?=[\s:({])")
+NOT_NAMES = {"use", "module", "where", "unfolding", "open", "mod", "let", "in", "syntax", "infix", "infixl", "infixr", "tactic", "pub"}
+WORD = re.compile(r"[^\s(){}\[\];,=λ→:×∧∨]+")
+IMPORT = re.compile(r"^\s*(?:pub\s+)?(?:ghost\s+)?use\s+Rattle\.(\w+)\.([\w.]+?)\.\{([^}]*)\}", re.M)
+
+
+class Part:
+    """A definition or lemma with its lines, and the words in them."""
+
+    def __init__(self, crate, kind, module, name, path, line):
+        self.crate, self.kind, self.module, self.name, self.path, self.line = crate, kind, module, name, path, line
+        self.lines, self.comment, self.uses = [], [], set()
+
+    @property
+    def key(self):
+        return self.crate, self.kind, self.module, self.name
+
+    @property
+    def place(self):
+        return "%s:%d" % (os.path.relpath(self.path, os.path.join(ROOT, "crates")), self.line)
+
+
+def imports_of(text):
+    """What a file's imports call: local name to (crate, kind, module, name)."""
+    found = {}
+    for crate, path, names in IMPORT.findall(text):
+        kind, _, module = path.partition(".")
+        for name in names.split(","):
+            name, _, other = name.strip().partition(" as ")
+            if name:
+                found[(other or name).strip()] = crate, kind, module, name.strip()
+    return found
+
+
+def is_signature(line, here):
+    """The name that a line at the left edge declares, or None: its equations begin with the same name."""
+    found = SIGNATURE.match(line)
+    if not found or line[:1] in (" ", "-", "}", "{", "(", "|", "\t") or found[2] in NOT_NAMES:
+        return None
+    if found[1]:
+        return found[2]
+    rest = line[found.end(2):].lstrip()
+    is_typed = rest.startswith(":") or re.match(r"(\{[^}]*\}\s*|\([^)]*\)\s*)*:\s", rest)
+    return found[2] if is_typed or found[2] not in here and line.startswith(("pub ", "abbrev ")) else None
+
+
+class Nesting:
+    """How far the definitions of the innermost open module are indented."""
+
+    def __init__(self):
+        self.stack, self.is_opening = [0], False
+
+    def at(self, line):
+        """Takes the next line that isn't blank; returns whether a definition can begin on it."""
+        indent = len(line) - len(line.lstrip())
+        while not self.is_opening and indent < self.stack[-1]:
+            self.stack.pop()
+        begins = indent == self.stack[-1] and not self.is_opening
+        if self.is_opening or begins and line.lstrip().startswith("module "):
+            self.is_opening = not line.rstrip().endswith("where")
+            if not self.is_opening:
+                self.stack.append(self.stack[-1] + 2)
+            return False
+        return begins
+
+
+def parts_of(crate, kind, module, path, text):
+    """The definitions of a file, in order."""
+    parts, comment, here, nesting = [], [], set(), Nesting()
+    for number, line in enumerate(text.split("\n"), 1):
+        short = line.strip()
+        if short.startswith("--"):
+            comment.append(short[2:].strip())
+            continue
+        if not short or short.startswith("use ") or short.startswith("pub use "):
+            comment = []
+            continue
+        name = is_signature(short, here) if nesting.at(line) else None
+        if name and name not in here:
+            parts.append(Part(crate, kind, module, name, path, number))
+            parts[-1].comment = comment
+            here.add(name)
+        if parts:
+            parts[-1].lines.append(line)
+        comment = []
+    return parts
+
+
+def read_crate(crate):
+    """All parts of a crate's specs/ and proofs/, each with what it names."""
+    found = []
+    for kind in ("specs", "proofs"):
+        folder = os.path.join(ROOT, "crates", crate, kind)
+        for at, folders, names in os.walk(folder):
+            folders.sort()
+            for name in sorted(names):
+                if not name.endswith(".antt") or name == "Lib.antt":
+                    continue
+                path = os.path.join(at, name)
+                with open(path, encoding="utf-8") as it:
+                    text = it.read()
+                module = os.path.relpath(path, folder)[: -len(".antt")].replace(os.sep, ".")
+                parts, calls = parts_of(crate, kind, module, path, text), imports_of(text)
+                here = {it.name: it.key for it in parts}
+                for it in parts:
+                    for word in WORD.findall("\n".join(it.lines)):
+                        head = word.split(".")[0]
+                        key = here.get(head) or calls.get(head) or here.get(word) or calls.get(word)
+                        if key and key != it.key:
+                            it.uses.add(key)
+                found += parts
+    return found
+
+
+def crates():
+    with open(os.path.join(ROOT, "crates.txt"), encoding="utf-8") as it:
+        lines = [line.partition("#")[0].strip() for line in it]
+    return [line.partition(":")[0].split()[0] for line in lines if line]
+
+
+def read_all():
+    """Every part by its key; a name that is passed on by `pub use` is found under the place where it is declared."""
+    parts = {}
+    for crate in crates():
+        for it in read_crate(crate):
+            parts[it.key] = it
+    by_name = {}
+    for key in parts:
+        by_name.setdefault((key[0], key[3]), []).append(key)
+    for it in parts.values():
+        it.uses = {key if key in parts else by_name.get((key[0], key[3]), [key])[0] for key in it.uses}
+        it.uses = {key for key in it.uses if key in parts}
+    return parts
+
+
+def cited_by_code():
+    """The keys that contracts in src/ name."""
+    found = set()
+    for crate in crates():
+        for at, _, names in os.walk(os.path.join(ROOT, "crates", crate, "src")):
+            for name in names:
+                if name.endswith(".rt"):
+                    with open(os.path.join(at, name), encoding="utf-8") as it:
+                        found |= set(imports_of(it.read()).values())
+    return found
+
+
+def reached(parts, seeds):
+    """All that seeds rest on, themselves too."""
+    found, open_ = set(), [it for it in seeds if it in parts]
+    while open_:
+        key = open_.pop()
+        if key not in found:
+            found.add(key)
+            open_ += [it for it in parts[key].uses if it not in found]
+    return found
