@@ -1,6 +1,7 @@
 -- A list that is joined of pieces: where an item of a piece stands, and what a change of a piece changes.
 use Rattle.std.proofs.Common.{ℕ, zero, suc, ◌+◌, ◌-◌, ◌<◌, List, [], ◌∷◌, ◌++◌, length, get_or, take, drop, ◌≡◌, refl, ap, ◌∙◌, arith, sym, append-nil, append_assoc, length-append}
-use Rattle.std.specs.Prelude.{slice_get, slice_set, Result, Ok, Err, OnErr, Option, Some, None, IfSome, IsSome, OnSome}
+use Rattle.std.specs.Prelude.{replicate, slice_get, slice_set, Result, Ok, Err, OnErr, Option, Some, None, IfSome, IsSome, OnSome}
+use Rattle.std.proofs.lemmas.List.{replicate-append-replicate}
 use Rattle.std.proofs.lemmas.Option.{slice_get_read}
 use Rattle.std.specs.List.{flat_map, remove}
 use Rattle.std.proofs.Math.Seq.{drop-nil}
@@ -122,6 +123,13 @@ module _ {X A : Type 0} (f : X → List A) where
       flat_map-append f (take i ps) (drop (suc i) ps)
       ∙ ap (λ ys. flat_map f (take i ps) ++ (ys ++ flat_map f (drop (suc i) ps))) (sym none)
       ∙ sym (split_at ps i p l e)
+
+-- so many of one event, and as many more
+pub times_more : {A : Type 0} (start before now : List A) (x : A) (n m k : ℕ) → before ≡ start ++ replicate n x → now ≡ before ++ replicate m x → k ≡ n + m
+    → now ≡ start ++ replicate k x
+times_more start before now x n m k e f g =
+    f ∙ ap (λ ys. ys ++ replicate m x) e ∙ append_assoc start (replicate n x) (replicate m x)
+    ∙ ap (λ ys. start ++ ys) (replicate-append-replicate n m x ∙ ap (λ j. replicate j x) (sym g))
 
 -- what holds whether or not a result is an error
 pub on_err : {T E : Type 0} (r : Result T E) {A : Type 0} → A → OnErr r A

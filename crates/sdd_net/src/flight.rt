@@ -1,10 +1,10 @@
-ghost use Rattle.std.specs.Prelude.{◌≡◌, ◌↔◌, ◌-◌, ◌≤◌, ◌<◌, [], ◌∷◌, ◌++◌, length, slice_get, true, false, Some, None, IsTrue, IfOk, OnOk, OnErr, OnSome};
+ghost use Rattle.std.specs.Prelude.{◌≡◌, ◌↔◌, ◌-◌, ◌≤◌, ◌<◌, [], ◌∷◌, ◌++◌, length, replicate, slice_get, true, false, Some, None, IsTrue, IfOk, OnOk, OnErr, OnSome};
 ghost use Rattle.sdd_base.specs.Words.{is_empty};
 ghost use Rattle.sdd_net.specs.Links.{without_at};
 
 use crate::packet::Packet;
 use crate::pieces::Pieces;
-use sdd_base::{NoMemory, Parcel};
+use sdd_base::{Event, NoMemory, Parcel};
 use std::alloc::Global;
 use std::marker::Model;
 
@@ -48,11 +48,12 @@ impl<M: Parcel> Flight<M> {
         self.live
     }
 
-    /// How many packets are in flight. Takes constant time.
-    pub fn len(&self) -> usize
-        ensures { result ≡ length self.now.value }
+    /// Adds an event to a list as often as packets are in flight.
+    pub fn add_for_each(&self, events: &mut Vec<Event>, event: Event) -> Result<(), NoMemory>
+        ensures { OnOk result (
+            events.new.items ≡ events.old.items ++ replicate (length self.now.value) event) }
     {
-        self.packets.len()
+        self.packets.add_for_each(events, event)
     }
 
     /// Whether nothing is in flight. Takes constant time.

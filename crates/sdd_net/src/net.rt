@@ -7,6 +7,7 @@ ghost use Rattle.sdd_net.specs.Nets.{StandsFor, HasLink, Does, IsLiveAt, sent_on
 use crate::channel::Channel;
 use crate::channels::{deliver_at, put_at, repeat_at, resend_at, take_at};
 use crate::delivered::Delivered;
+use crate::pieces::add_times;
 use crate::placed_link::{PlacedLink, place_all};
 use crate::sites::{all_links, index_of, is_link, pair_count};
 use sdd_base::{Event, MAX_DMS, MAX_LINK_MESSAGES, MAX_TMS, NoMemory, Parcel, Site};
@@ -251,11 +252,12 @@ impl<M: Parcel> Net<M> {
         }
         let back = self.channel(link.back);
         let (from, to) = (link.from, link.to);
+        let delivery = Event::Deliver { from, to, place: 1 };
         if !there.resends_now(back) {
-            return add_deliveries(deliveries, from, to, there.flight.len());
+            return there.flight.add_for_each(deliveries, delivery);
         }
         resends.push(Event::Resend { from, to })?;
-        add_deliveries(deliveries, from, to, there.sender.unacked() as usize)
+        add_times(deliveries, delivery, there.sender.unacked() as usize)
     }
 
     fn channel(&self, at: usize) -> &Channel<M>
@@ -283,22 +285,6 @@ fn joined(first: Vec<Event>, second: Vec<Event>) -> Result<Vec<Event>, NoMemory>
     let mut all = first;
     all.extend_from_slice(&second)?;
     Ok(all)
-}
-
-/// Adds so many deliveries of the first packet.
-fn add_deliveries(
-    events: &mut Vec<Event>,
-    from: Site,
-    to: Site,
-    count: usize,
-) -> Result<(), NoMemory>
-    ensures { OnOk result (
-        events.new.items ≡ events.old.items ++ replicate count (Event.Deliver from to 1)) }
-{
-    for _ in 0..count {
-        events.push(Event::Deliver { from, to, place: 1 })?;
-    }
-    Ok(())
 }
 
 /// So many channels on which nothing was done.

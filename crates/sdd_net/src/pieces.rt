@@ -1,9 +1,9 @@
-ghost use Rattle.std.specs.Prelude.{◌≡◌, ◌↔◌, ◌+◌, ◌<◌, ◌≤◌, [], ◌∷◌, ◌++◌, length, take, slice_get, slice_index_or, None, Some, IfOk, IfSome, IfNone, IsSome, OnOk, OnErr, OnSome};
+ghost use Rattle.std.specs.Prelude.{◌≡◌, ◌↔◌, ◌+◌, ◌<◌, ◌≤◌, [], ◌∷◌, ◌++◌, length, replicate, take, slice_get, slice_index_or, None, Some, IfOk, IfSome, IfNone, IsSome, OnOk, OnErr, OnSome};
 ghost use Rattle.std.specs.List.{flat_map, remove};
 ghost use Rattle.sdd_base.specs.Words.{is_empty};
 ghost use Rattle.sdd_net.specs.Links.{without_at};
 
-use sdd_base::NoMemory;
+use sdd_base::{Event, NoMemory};
 use std::alloc::Global;
 use std::collections::VecDeque;
 use std::marker::Model;
@@ -19,18 +19,15 @@ const PIECE_LEN: usize = 512;
 #[derive(Drop, Debug)]
 pub struct Pieces<T> {
     pieces: Vec<VecDeque<T>>,
-    len: usize,
 }
 
 impl<T> Model for Pieces<T> {
-    ghost use Rattle.std.specs.Prelude.{◌≡◌, List, length};
+    ghost use Rattle.std.specs.Prelude.{List};
     ghost use Rattle.std.specs.List.{flat_map};
 
     ghost Value = { List T };
 
     ghost view = { λ p. flat_map (λ q. q.items) p.pieces.items };
-
-    ghost invariant = { λ p. p.len ≡ length (flat_map (λ q. q.items) p.pieces.items) };
 }
 
 impl<T: Drop> Pieces<T> {
@@ -40,22 +37,25 @@ impl<T: Drop> Pieces<T> {
     {
         Pieces {
             pieces: Vec::new(alloc),
-            len: 0,
         }
-    }
-
-    /// How many items there are. Takes constant time.
-    pub fn len(&self) -> usize
-        ensures { result ≡ length self.now }
-    {
-        self.len
     }
 
     /// Whether there is no item. Takes constant time.
     pub fn is_empty(&self) -> bool
         ensures { result ≡ is_empty self.now }
     {
-        self.len == 0
+        match self.get(0) {
+            Some(_) => false,
+            None => true,
+        }
+    }
+
+    /// Adds an event to a list as often as there are items.
+    pub fn add_for_each(&self, events: &mut Vec<Event>, event: Event) -> Result<(), NoMemory>
+        ensures { OnOk result (
+            events.new.items ≡ events.old.items ++ replicate (length self.now) event) }
+    {
+        add_for_each(self.pieces.as_slice(), events, event)
     }
 
     /// Puts an item at the end, in constant time but for growth.
@@ -64,14 +64,8 @@ impl<T: Drop> Pieces<T> {
     pub fn push(&mut self, item: T) -> Result<(), NoMemory>
         ensures ok { OnOk result (self.new ≡ self.old ++ item ∷ []) }
     {
-        // More items than a number counts find no memory either.
-        let Some(len) = self.len.checked_add(1) else {
-            return Err(NoMemory);
-        };
         let at = open_piece(&mut self.pieces)?;
-        push_at(&mut self.pieces, at, item)?;
-        self.len = len;
-        Ok(())
+        push_at(&mut self.pieces, at, item)
     }
 
     /// The item at a place, counted from 0.
@@ -101,7 +95,6 @@ impl<T: Drop> Pieces<T> {
         };
         let item = take_at(&mut self.pieces, at, within);
         drop_empty(&mut self.pieces, at);
-        self.len -= 1;
         item
     }
 }
@@ -124,6 +117,31 @@ fn find<T>(pieces: &[VecDeque<T>], place: usize) -> Option<(usize, usize)>
         rest -= held;
     }
     None
+}
+
+/// Adds an event to a list as often as the pieces have items.
+fn add_for_each<T>(
+    pieces: &[VecDeque<T>],
+    events: &mut Vec<Event>,
+    event: Event,
+) -> Result<(), NoMemory>
+    ensures { OnOk result (events.new.items
+        ≡ events.old.items ++ replicate (length (flat_map (λ q. q.items) pieces.now)) event) }
+{
+    for at in 0..pieces.len() {
+        add_times(events, event, pieces[at].len())?;
+    }
+    Ok(())
+}
+
+/// Adds an event to a list so many times.
+pub fn add_times(events: &mut Vec<Event>, event: Event, count: usize) -> Result<(), NoMemory>
+    ensures { OnOk result (events.new.items ≡ events.old.items ++ replicate count event) }
+{
+    for _ in 0..count {
+        events.push(event)?;
+    }
+    Ok(())
 }
 
 /// The place of the last piece, or of a new one behind it where that is full.
