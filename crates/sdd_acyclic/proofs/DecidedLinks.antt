@@ -9,7 +9,7 @@ use Rattle.std.proofs.lemmas.Option.{same_Some, slice_get_within}
 use Rattle.sdd_blocks.specs.Blocks.{AreBlocks, Linked, ShareACycle}
 use Rattle.sdd_blocks.specs.Blocks.Linked.{last, more}
 use Rattle.sdd_blocks.specs.Graph.{Differ, Has, IsSimpleCycle, IsWalk, Joins, Step, edges_of, nodes_of}
-use Rattle.sdd_acyclic.proofs.SomeBlocks.{Decided, blocks_by}
+use Rattle.sdd_acyclic.proofs.BlocksBy.{Decided, blocks_by}
 
 -- what is decided of numbers and lists
 

@@ -1,7 +1,7 @@
 -- The run of a workload without further lists has a report, or the limit ends it.
 use Rattle.std.proofs.Common.{ℕ, ◌≡◌, List, false, inl, inr, refl}
 use Rattle.std.specs.Prelude.{◌⊎◌}
-use Rattle.sdd_acyclic.proofs.SomeTable.{each_table}
+use Rattle.sdd_acyclic.proofs.EachTable.{each_table}
 use Rattle.sdd_catalog.specs.Catalogue.{Catalogue}
 use Rattle.sdd_catalog.specs.Rules.{IsSound}
 use Rattle.sdd_ending.proofs.Ends.{run_ends}
