@@ -18,7 +18,7 @@ of_both : (f : ℕ) (xs ys : Dated) → of_fragment f (xs ++ ys) ≡ of_fragment
 of_both f [] ys = refl
 of_both f (x ∷ xs) ys =
     elim (x.1.frag.0 == f)
-        as (λ b. cond b (x ∷ of_fragment f (xs ++ ys)) (of_fragment f (xs ++ ys)) ≡ cond b (x ∷ of_fragment f xs) (of_fragment f xs) ++ of_fragment f ys) [
+    as (λ b. cond b (x ∷ of_fragment f (xs ++ ys)) (of_fragment f (xs ++ ys)) ≡ cond b (x ∷ of_fragment f xs) (of_fragment f xs) ++ of_fragment f ys) [
       | true ↦ ap (λ l. x ∷ l) (of_both f xs ys)
       | false ↦ of_both f xs ys
     ]
@@ -28,8 +28,8 @@ of_first : (cat : Catalogue) (f : ℕ) (db : Database) → of_fragment f (map (f
 of_first cat f [] = refl
 of_first cat f (e ∷ db) =
     elim (fragment_of cat e.0.0 e.0.1 == f)
-        as (λ b. cond b (first_row cat e ∷ of_fragment f (map (first_row cat) db)) (of_fragment f (map (first_row cat) db))
-        ≡ map (first_row cat) (cond b (e ∷ rows_in_fragment cat db f) (rows_in_fragment cat db f))) [
+    as (λ b. cond b (first_row cat e ∷ of_fragment f (map (first_row cat) db)) (of_fragment f (map (first_row cat) db))
+    ≡ map (first_row cat) (cond b (e ∷ rows_in_fragment cat db f) (rows_in_fragment cat db f))) [
       | true ↦ ap (λ l. first_row cat e ∷ l) (of_first cat f db)
       | false ↦ of_first cat f db
     ]

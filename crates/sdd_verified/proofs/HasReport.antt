@@ -29,7 +29,9 @@ has_report cat work sound valid lists =
       | inl the_log ↦
           (let none : redeclares ends.0 ≡ 0 =
           one_list (given_of cat table work) ends.0 (no_lists work.events (no_redeclare cat work valid lists)) the_log.lawful in
-          inl (report_text (report_of (given_of cat table work) ends.0),
-          reported cat table work ends.0 sound valid entries.1 the_log none (report_text (report_of (given_of cat table work) ends.0)) refl))
+          inl (
+            report_text (report_of (given_of cat table work) ends.0),
+            reported cat table work ends.0 sound valid entries.1 the_log none (report_text (report_of (given_of cat table work) ends.0)) refl,
+          ))
       | inr limit ↦ inr (record { table = table; table_is = entries.1; log = ends.0; ends = limit })
     ]
