@@ -21,7 +21,7 @@ use Rattle.sdd_acyclic.proofs.Deeds.{facts, bounds_rise, barriers, answer_at}
 use Rattle.sdd_acyclic.proofs.Orderly.{orderly}
 use Rattle.sdd_acyclic.proofs.Over.{precedes_over, precedes_from_over, facts_over}
 use Rattle.sdd_topological.proofs.Paths.{path_as}
-use Rattle.sdd_acyclic.proofs.SomeTable.{some_table}
+use Rattle.sdd_acyclic.proofs.EachTable.{each_table}
 use Rattle.sdd_acyclic.proofs.Splits.{waits}
 
 module _ {K : Type 0} (D : Deeds K) (starts : Starts D) (applies : Applies D) (era : K → ℕ) (apart : ErasApart D era) where
@@ -59,7 +59,7 @@ module _ {K : Type 0} (D : Deeds K) (starts : Starts D) (applies : Applies D) (e
       -- the transactions of one era have no cycle
       of_one_era : (n : ℕ) → IsOrderly (λ (a b : Ranked (λ (x : Txn D). era x.no) n). Precedes (system D) a.item b.item)
       of_one_era n x m p =
-          some_table (force n) (λ t.
+          let t = each_table (force n) in
           let S = of_era D era n in
           let is_facts = facts_over (λ r. r.txn) S (facts_over (λ r. r.item) (system D) (facts D starts applies)) in
           let rises : (a b : Declared S) → S.class a.txn ≡ S.class b.txn → S.ts a.txn ≤ S.ts b.txn → S.p2 a.txn ≤ S.p2 b.txn =
@@ -73,7 +73,7 @@ module _ {K : Type 0} (D : Deeds K) (starts : Starts D) (applies : Applies D) (e
                 (barriers D starts applies zero).barrier u.item a.item b.item c l h (precedes_from_over (λ r. r.item) (system D) b a q);
           } in
           orderly_with_barriers S is_barriers is_declared x m
-          (path_as (λ a b. Precedes (system D) a.item b.item) (Precedes S) (λ a b. precedes_over (λ r. r.item) (system D) a b) x m x p))
+          (path_as (λ a b. Precedes (system D) a.item b.item) (Precedes S) (λ a b. precedes_over (λ r. r.item) (system D) a b) x m x p)
 
       pub orderly_in_eras : IsOrderly (Precedes (system D))
       orderly_in_eras = orderly_by_rank (Precedes (system D)) (λ x. era x.no) era_rises of_one_era

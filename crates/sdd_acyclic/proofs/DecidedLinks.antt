@@ -9,7 +9,7 @@ use Rattle.std.proofs.lemmas.Option.{same_Some, slice_get_within}
 use Rattle.sdd_blocks.specs.Blocks.{AreBlocks, Linked, ShareACycle}
 use Rattle.sdd_blocks.specs.Blocks.Linked.{last, more}
 use Rattle.sdd_blocks.specs.Graph.{Differ, Has, IsSimpleCycle, IsWalk, Joins, Step, edges_of, nodes_of}
-use Rattle.sdd_acyclic.proofs.SomeBlocks.{Decided, blocks_by}
+use Rattle.sdd_acyclic.proofs.BlocksBy.{Decided, blocks_by}
 
 -- what is decided of numbers and lists
 
@@ -86,7 +86,7 @@ some_steps n top (suc count) P d =
     let after : (e t : ℕ) → Decided (SomeSteps n top count (λ steps. P (step e t ∷ steps))) =
     λ e t. some_steps n top count (λ steps. P (step e t ∷ steps)) (λ steps. d (step e t ∷ steps)) in
     elim (some_below n (λ e. (t : ℕ) × (t < top) × SomeSteps n top count (λ steps. P (step e t ∷ steps)))
-        (λ e. some_below top (λ t. SomeSteps n top count (λ steps. P (step e t ∷ steps))) (after e))) [
+    (λ e. some_below top (λ t. SomeSteps n top count (λ steps. P (step e t ∷ steps))) (after e))) [
       | inl q ↦
           (let e = q.2 in
           let r = e.2 in
@@ -191,9 +191,9 @@ module _ (edges : List (ℕ × ℕ)) where
   share : (j k : ℕ) → Decided (ShareACycle edges j k)
   share j k =
       let some = some_below (top edges) (λ start. (count : ℕ) × (count < suc (length edges)) × SomeSteps (length edges) (top edges) count (Shares j k start))
-          (λ start. some_below (suc (length edges)) (λ count. SomeSteps (length edges) (top edges) count (Shares j k start))
-          (λ count. some_steps (length edges) (top edges) count (Shares j k start)
-          (λ steps. both (cycle start steps) (both (has (edges_of steps) j) (has (edges_of steps) k))))) in
+      (λ start. some_below (suc (length edges)) (λ count. SomeSteps (length edges) (top edges) count (Shares j k start))
+      (λ count. some_steps (length edges) (top edges) count (Shares j k start)
+      (λ steps. both (cycle start steps) (both (has (edges_of steps) j) (has (edges_of steps) k))))) in
       elim some [
         | inl p ↦
             (let q = p.2 in
@@ -201,14 +201,14 @@ module _ (edges : List (ℕ × ℕ)) where
             let s = r.3 in
             inl (record { start = p.0; steps = r.0; cycle = s.0; first = s.1.0; second = s.1.1 }))
         | inr none ↦ inr (λ c. none (
-            c.start,
-            start_small c.start c.steps c.cycle,
-            (
-              length c.steps,
-              few_steps c.start c.steps c.cycle,
-              (c.steps, walk_small c.start c.start c.steps c.cycle.closed, refl, (c.cycle, (c.first, c.second))),
-            ),
-          ))
+          c.start,
+          start_small c.start c.steps c.cycle,
+          (
+            length c.steps,
+            few_steps c.start c.steps c.cycle,
+            (c.steps, walk_small c.start c.start c.steps c.cycle.closed, refl, (c.cycle, (c.first, c.second))),
+          ),
+        ))
       ]
 
   -- chains over edges below a number

@@ -1,4 +1,8 @@
 ghost use Rattle.sdd_acyclic.specs.Theorems.{ProtocolsLeaveNoCycle, ForestsLeaveNoCycle};
+ghost use Rattle.sdd_catalog.specs.Catalogue.{Catalogue};
+ghost use Rattle.sdd_protocol.specs.Protocols.{IsTable};
+ghost use Rattle.sdd_protocol.specs.declared.entry.Entry.{Entry};
+ghost use Rattle.std.specs.Prelude.{List};
 
 /// A law: transactions of which each reader sees, of the writers of each block of the conflict graph,
 /// exactly those below one time, and which run undeclared ones alone, have no cycle of precedence.
@@ -13,4 +17,9 @@ pub fn law_protocols_leave_no_cycle()
 #[tactic(auto, using(crate::proofs::Theorems::forests_leave_no_cycle))]
 pub fn law_forests_leave_no_cycle()
     ensures { ForestsLeaveNoCycle }
+{}
+
+/// A law: every catalogue has a protocol table. Takes no memory.
+pub fn law_each_table()
+    ensures { (cat : Catalogue) → (entries : List Entry) × IsTable cat entries }
 {}

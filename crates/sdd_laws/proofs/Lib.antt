@@ -1,4 +1,5 @@
 pub mod Acyclic
+pub mod AgreeingCopies
 pub mod Applied
 pub mod Copied
 pub mod Counts

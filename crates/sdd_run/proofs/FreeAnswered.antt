@@ -53,7 +53,7 @@ till g (e ∷ after) rest h =
     elim (till g after rest h.1) [
       | inl same ↦
           (elim (begins_event e)
-              as (λ b. begins_event e ≡ b → (marks (e ∷ (after ++ rest)) ≡ marks rest) ⊎ IsTillOver g (e ∷ after) rest) [
+          as (λ b. begins_event e ≡ b → (marks (e ∷ (after ++ rest)) ≡ marks rest) ⊎ IsTillOver g (e ∷ after) rest) [
             | true ↦ λ b. inr (record { front = e ∷ []; within = after; is = refl; over = over_before g e (after ++ rest) h b; same = same })
             | false ↦ λ b. inl (no_mark e (after ++ rest) b ∙ same)
           ] refl)

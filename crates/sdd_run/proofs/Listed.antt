@@ -87,7 +87,7 @@ line_here c qs None n j q there is =
     queued_here c (position (λ (x : Queued). x.number == n) qs) p.0 p.1
 line_here c qs (Some a) n j q there is =
     elim (a.txn == n)
-        as (λ b. (a.txn == n) ≡ b → IsHere (if b then underway c a.ts a.exchange else queued_at c (position (λ (x : Queued). x.number == n) (waiting (Some a) qs)))) [
+    as (λ b. (a.txn == n) ≡ b → IsHere (if b then underway c a.ts a.exchange else queued_at c (position (λ (x : Queued). x.number == n) (waiting (Some a) qs)))) [
       | true ↦ λ e. tt
       | false ↦ λ e.
           let other : not (q.number == a.txn) ≡ true = ap (λ m. not (m == a.txn)) is ∙ other_number n a.txn e in
@@ -121,7 +121,7 @@ first_here site (standings.Underway class ts at) h = tt
 at_u_here : (state : um.State) (n : ℕ) → IsHere (standing_of state.line n) → IsHere (standing_in state n)
 at_u_here state n h =
     elim (is_awaiting_helds state)
-        as (λ b. IsHere (if b then first_underway (lacking_site state) (standing_of state.line n) else standing_of state.line n)) [
+    as (λ b. IsHere (if b then first_underway (lacking_site state) (standing_of state.line n) else standing_of state.line n)) [
       | true ↦ first_here (lacking_site state) (standing_of state.line n) h
       | false ↦ h
     ]
@@ -154,12 +154,12 @@ here_at : (g : Given) (log : Log) (c n j : ℕ) (q : Queued) → IsClass g.catal
     → IsHere (standing_at standing_at_u standing_at_t (home g.catalogue c) (home_setting g c) (at_home g c log) n)
 here_at g log c n j q within there is =
     elim (c == 0)
-        as (λ b. (c == 0) ≡ b
-        → slice_get (queue (setting_of g (if b then U else T (tm_no (class_at g.catalogue c).tm.0))) c
-        (local_of g (if b then U else T (tm_no (class_at g.catalogue c).tm.0)) log)) j ≡ Some q
-        → IsHere (standing_at standing_at_u standing_at_t (if b then U else T (tm_no (class_at g.catalogue c).tm.0))
-        (setting_of g (if b then U else T (tm_no (class_at g.catalogue c).tm.0)))
-        (local_of g (if b then U else T (tm_no (class_at g.catalogue c).tm.0)) log) n)) [
+    as (λ b. (c == 0) ≡ b
+    → slice_get (queue (setting_of g (if b then U else T (tm_no (class_at g.catalogue c).tm.0))) c
+    (local_of g (if b then U else T (tm_no (class_at g.catalogue c).tm.0)) log)) j ≡ Some q
+    → IsHere (standing_at standing_at_u standing_at_t (if b then U else T (tm_no (class_at g.catalogue c).tm.0))
+    (setting_of g (if b then U else T (tm_no (class_at g.catalogue c).tm.0)))
+    (local_of g (if b then U else T (tm_no (class_at g.catalogue c).tm.0)) log) n)) [
       | true ↦ λ z at. here_u g log c n j q (eqb-true c 0 z) at is
       | false ↦ λ z at. here_t g log c n j q (record { from = positive c z; to = within }) at is
     ] refl there

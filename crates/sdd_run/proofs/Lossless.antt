@@ -101,8 +101,8 @@ of_submit : (tell : Telling) (g : Given) (log : Log) (all : History) (e : ℕ ×
     → (e.1 ≡ Submit p.txn) × (list_any (commits p.txn.0) all ≡ false)
 of_submit tell g log all (event, Submit n) p e =
     elim (list_any (commits n.0) all)
-        as (λ b. list_any (commits n.0) all ≡ b → (if b then None else pending_as n (reason_of tell g log n.0)) ≡ Some p
-        → (Submit n ≡ Submit p.txn) × (list_any (commits p.txn.0) all ≡ false)) [
+    as (λ b. list_any (commits n.0) all ≡ b → (if b then None else pending_as n (reason_of tell g log n.0)) ≡ Some p
+    → (Submit n ≡ Submit p.txn) × (list_any (commits p.txn.0) all ≡ false)) [
       | true ↦ λ q r. cc
       | false ↦ λ q r.
           (let s = named_so n (reason_of tell g log n.0) p r in
@@ -140,13 +140,14 @@ module _ (tell : Telling) (g : Given) (log : Log) where
       let c = chosen_from (pending_by tell g log (history log)) (history log) x.place x.one x.there in
       let submit = of_submit tell g log (history log) c.entry x.one c.gives in
       let at : (j : ℕ) (e : ℕ × Rec) (q : Pending) → slice_get (history log) j ≡ Some e
-          → pending_by tell g log (history log) e ≡ Some q → q.txn.0 ≡ n → IsSubmitted (history log) n j =
+      → pending_by tell g log (history log) e ≡ Some q → q.txn.0 ≡ n → IsSubmitted (history log) n j =
       λ j e q there gives same.
-          stands_there (history log) j e (Submit (txn_no n)) there
-          ((of_submit tell g log (history log) e q gives).0 ∙ ap (λ m. Submit (txn_no m)) same) in
-      (count_one (pending_by tell g log (history log)) (history log) n c.place c.entry x.one c.there c.gives x.txn_is
-      (λ j e q there gives same. one n j c.place (at j e q there gives same) (at c.place c.entry x.one c.there c.gives x.txn_is)),
-      subst (λ m. list_any (commits m) (history log) ≡ false) x.txn_is submit.1)
+      stands_there (history log) j e (Submit (txn_no n)) there
+      ((of_submit tell g log (history log) e q gives).0 ∙ ap (λ m. Submit (txn_no m)) same) in (
+        count_one (pending_by tell g log (history log)) (history log) n c.place c.entry x.one c.there c.gives x.txn_is
+            (λ j e q there gives same. one n j c.place (at j e q there gives same) (at c.place c.entry x.one c.there c.gives x.txn_is)),
+        subst (λ m. list_any (commits m) (history log) ≡ false) x.txn_is submit.1,
+      )
 
   was_in : (t : Committed) (n : ℕ) → IsCommitted (history log) t → t.start.txn ≡ n → WasCommitted (history log) n
   was_in t n c same = subst (WasCommitted (history log)) same (record {

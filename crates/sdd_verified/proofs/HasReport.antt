@@ -1,7 +1,7 @@
 -- The run of a workload without further lists has a report, or the limit ends it.
 use Rattle.std.proofs.Common.{ℕ, ◌≡◌, List, false, inl, inr, refl}
 use Rattle.std.specs.Prelude.{◌⊎◌}
-use Rattle.sdd_acyclic.proofs.SomeTable.{each_table}
+use Rattle.sdd_acyclic.proofs.EachTable.{each_table}
 use Rattle.sdd_catalog.specs.Catalogue.{Catalogue}
 use Rattle.sdd_catalog.specs.Rules.{IsSound}
 use Rattle.sdd_ending.proofs.Ends.{run_ends}
@@ -29,7 +29,9 @@ has_report cat work sound valid lists =
       | inl the_log ↦
           (let none : redeclares ends.0 ≡ 0 =
           one_list (given_of cat table work) ends.0 (no_lists work.events (no_redeclare cat work valid lists)) the_log.lawful in
-          inl (report_text (report_of (given_of cat table work) ends.0),
-          reported cat table work ends.0 sound valid entries.1 the_log none (report_text (report_of (given_of cat table work) ends.0)) refl))
+          inl (
+            report_text (report_of (given_of cat table work) ends.0),
+            reported cat table work ends.0 sound valid entries.1 the_log none (report_text (report_of (given_of cat table work) ends.0)) refl,
+          ))
       | inr limit ↦ inr (record { table = table; table_is = entries.1; log = ends.0; ends = limit })
     ]

@@ -44,7 +44,7 @@ resent_up : (ls : List (Site × Site)) (calls : List (Call Msg))
 resent_up [] calls = tt
 resent_up (l ∷ ls) calls =
     elim (resends_now (link l.0 l.1 calls))
-        as (λ b. AreUp (cons_option (cond b (Some (Resend l.0 l.1)) None) (filter_map (λ l. cond (resends_now (link l.0 l.1 calls)) (Some (Resend l.0 l.1)) None) ls))) [
+    as (λ b. AreUp (cons_option (cond b (Some (Resend l.0 l.1)) None) (filter_map (λ l. cond (resends_now (link l.0 l.1 calls)) (Some (Resend l.0 l.1)) None) ls))) [
       | true ↦ (refl, resent_up ls calls)
       | false ↦ resent_up ls calls
     ]

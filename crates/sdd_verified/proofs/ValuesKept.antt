@@ -107,7 +107,7 @@ module _ (P : Value → Type 0) (ints : (n : ℤ) → P (Int n)) where
       let same : slice_set row (n - 1) value ≡ next = cc in subst Holds same (set_holds row (n - 1) value k s)
   assigned_holds old row next (Add n by) h k s e =
       elim (added (column old n) by)
-          as (λ o. added (column old n) by ≡ o → elim o as (λ p. Option Row) [ None ↦ None | Some value ↦ Some (slice_set row (n - 1) value) ] ≡ Some next → Holds next) [
+      as (λ o. added (column old n) by ≡ o → elim o as (λ p. Option Row) [ None ↦ None | Some value ↦ Some (slice_set row (n - 1) value) ] ≡ Some next → Holds next) [
         | None ↦ λ p q. cc
         | Some value ↦ λ p q.
             (let same : slice_set row (n - 1) value ≡ next = cc in
@@ -119,7 +119,7 @@ module _ (P : Value → Type 0) (ints : (n : ℤ) → P (Int n)) where
   all_assigned old row next [] h k s e = let same : row ≡ next = cc in subst Holds same k
   all_assigned old row next (a ∷ sets) h k s e =
       elim (assigned old row a)
-          as (λ o. assigned old row a ≡ o → elim o as (λ p. Option Row) [ None ↦ None | Some step ↦ assigned_all old step sets ] ≡ Some next → Holds next) [
+      as (λ o. assigned old row a ≡ o → elim o as (λ p. Option Row) [ None ↦ None | Some step ↦ assigned_all old step sets ] ≡ Some next → Holds next) [
         | None ↦ λ p q. cc
         | Some step ↦ λ p q. all_assigned old step next sets h (assigned_holds old row step a h k s.0 p) s.1 q
       ] refl e
@@ -139,7 +139,7 @@ module _ (P : Value → Type 0) (ints : (n : ℤ) → P (Int n)) where
   updates_hold cat sets s cs next [] all of e = let same : cs ≡ next = cc in subst Changing same all
   updates_hold cat sets s cs next (f ∷ es) all of e =
       elim (replaced sets f.1)
-          as (λ o. replaced sets f.1 ≡ o → elim o as (λ p. Option Changed) [ None ↦ None | Some row ↦ with_updates cat sets (with_change cat cs f.0.0 f.0.1 (Some row)) es ] ≡ Some next → Changing next) [
+      as (λ o. replaced sets f.1 ≡ o → elim o as (λ p. Option Changed) [ None ↦ None | Some row ↦ with_updates cat sets (with_change cat cs f.0.0 f.0.1 (Some row)) es ] ≡ Some next → Changing next) [
         | None ↦ λ p q. cc
         | Some row ↦ λ p q.
             updates_hold cat sets s (with_change cat cs f.0.0 f.0.1 (Some row)) next es
@@ -229,7 +229,7 @@ module _ (P : Value → Type 0) (ints : (n : ℤ) → P (Int n)) where
       ]
   effect_from_keeps cat db h (Update rel sets conds ∷ rest) answers cs w a all =
       elim (with_updates cat sets cs (chosen db rel.0 conds))
-          as (λ o. with_updates cat sets cs (chosen db rel.0 conds) ≡ o → Keeps (elim o as (λ p. Effect) [ None ↦ failed Overflow | Some next ↦ effect_from cat db rest answers next ])) [
+      as (λ o. with_updates cat sets cs (chosen db rel.0 conds) ≡ o → Keeps (elim o as (λ p. Effect) [ None ↦ failed Overflow | Some next ↦ effect_from cat db rest answers next ])) [
         | None ↦ λ e. record { reply = tt; changes = tt }
         | Some next ↦ λ e.
             effect_from_keeps cat db h rest answers next w.1 a

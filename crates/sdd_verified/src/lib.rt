@@ -1,7 +1,9 @@
 //! The report on a run is verified, so that what judges reports finds no fault in it.
 //!
-//! The one contract to the layer above: `law_verified`, which joins the report on a run of `sdd_run` to
-//! the verdict of `sdd_verify`.
+//! The contracts to the layer above are laws: `law_verified`, which joins the report on a run of
+//! `sdd_run` to the verdict of `sdd_verify`; `law_has_report`, that there is one, or the limit ends the
+//! run; `law_pending_lines`, which of its lines tell of pending transactions; and of summaries
+//! `law_all_committed` and `law_made_all_committed`.
 #![tactic(auto)]
 
 mod law;

@@ -1,5 +1,4 @@
--- Block numbers of a graph, where it is decided which edges are linked. Where it isn't, it can't be that a graph has none:
--- this is said with two negations, and a contradiction may use it.
+-- Block numbers of a graph, where it is decided which of its edges are linked.
 use Rattle.std.proofs.Common.{ℕ, zero, suc, ◌+◌, ◌<◌, ◌≤◌, ◌≡◌, ◌≢◌, List, [], ◌∷◌, ◌++◌, length, get_or, set, replicate, Some, refl, sym, ap, ◌∙◌, subst, ◌⊎◌, inl, inr, arith}
 use Rattle.std.specs.Prelude.{slice_get}
 use Rattle.std.proofs.lemmas.Bool.{cases_eq, cases_lt}
@@ -11,22 +10,8 @@ use Rattle.sdd_blocks.specs.Numbered.{AreNumbered}
 use Rattle.sdd_blocks.proofs.Linked.{linked_first, linked_second, linked_on, linked_back}
 use Rattle.sdd_blocks.proofs.Numbering.{IsNumberingAt, no_numbers_yet, number_given, number_made, all_numbered}
 
-abbrev pub NotNot : Type 0 → Type 0
-NotNot A = (A → ⊥) → ⊥
-
 abbrev pub Decided : Type 0 → Type 0
 Decided A = A ⊎ (A → ⊥)
-
-decided : {A : Type 0} → NotNot (Decided A)
-decided n = n (inr (λ a. n (inl a)))
-
--- what can't fail at any number can't fail at one of the first n
-each_below : (P : ℕ → Type 0) → ((k : ℕ) → NotNot (P k)) → (n : ℕ)
-    → NotNot ((k : ℕ) → k < n → P k)
-each_below P h zero none = none (λ k l. absurd (omega arith))
-each_below P h (suc n) none =
-    each_below P h n (λ below. h n (λ here. none (λ k l.
-    elim (cases_lt k n) [ inl m ↦ below k m | inr m ↦ let e : n ≡ k = omega arith in subst P e here ])))
 
 -- a list with an item for each of the first n numbers
 pub record ItemsBelow (P : ℕ → ℕ → Type 0) (n : ℕ) : Type 0 where
@@ -234,10 +219,3 @@ blocks_by edges d =
       blocks_are edges marks all.numbers
           (all_numbered marks.items all.given all.numbers all.last (length edges) all.are marks.one_each),
     )
-
--- it can't be that a graph has no block numbers
-pub some_blocks : (edges : List (ℕ × ℕ)) → NotNot ((blocks : List ℕ) × AreBlocks edges blocks)
-some_blocks edges none =
-    each_below (λ k. (j : ℕ) → j < length edges → Decided (Linked edges j k))
-    (λ k. each_below (λ j. Decided (Linked edges j k)) (λ j. decided) (length edges)) (length edges)
-    (λ d. none (blocks_by edges d))

@@ -14,7 +14,6 @@ use Rattle.sdd_protocol.specs.declared.entry.Entry.{Entry}
 use Rattle.sdd_protocol.proofs.MadeTable.{is_table}
 use Rattle.sdd_protocol.proofs.Tables.{edges_of, blocks_of}
 use Rattle.sdd_acyclic.proofs.DecidedLinks.{each_has_blocks}
-use Rattle.sdd_acyclic.proofs.SomeBlocks.{NotNot, some_blocks}
 
 -- the entries of edges with their blocks
 abbrev entries_by : List ℕ → List Edge → List ℕ → List Entry
@@ -53,10 +52,6 @@ table_by cat blocks are =
       same_blocks = blocks_are blocks edges blocks long ∙ sym (take_all (length edges) blocks (omega arith));
       protocols = All-from_recursion (λ (x : Entry). x.protocol ≡ protocol_by blocks x.edge x.block) entries (protocols_are blocks edges blocks);
     })
-
-pub some_table : (cat : Catalogue) → NotNot ((entries : List Entry) × IsTable cat entries)
-some_table cat none =
-    some_blocks (map ends (conflict_graph cat)) (λ b. none (entries_by b.0 (conflict_graph cat) b.0, table_by cat b.0 b.1))
 
 pub each_table : (cat : Catalogue) → (entries : List Entry) × IsTable cat entries
 each_table cat =

@@ -1,0 +1,52 @@
+-- Copies of modules that began with different rows are equal too, where these rows agree on the fragment.
+use Rattle.std.proofs.Common.{ℕ, ◌++◌, ◌==◌, ◌≡◌, ◌∙◌, ◌∷◌, List, [], ap, cond, false, map, refl, sym, true}
+use Rattle.std.specs.Prelude.{filter, flat_map}
+use Rattle.sdd_base.specs.declared.number.RelNo.{RelNo}
+use Rattle.sdd_catalog.specs.Catalogue.{Catalogue, fragment_of}
+use Rattle.sdd_copy.specs.Contents.{Dated, of_fragment, rows_left}
+use Rattle.sdd_history.specs.Records.{History}
+use Rattle.sdd_lang.specs.Agree.{rows_in_fragment}
+use Rattle.sdd_lang.specs.Database.{Database, Row, database_of}
+use Rattle.sdd_order.specs.Attempts.{Committed, committed}
+use Rattle.sdd_laws.specs.Agreeing.{AgreeOnFragment}
+use Rattle.sdd_laws.specs.Copied.{AreAppliedAlike}
+use Rattle.sdd_laws.specs.Snapshots.{copy_at, dated, first_row, first_rows, is_applied}
+use Rattle.sdd_laws.proofs.SameCopies.{equal_copies}
+
+-- the changes of a fragment in two lists
+of_both : (f : ℕ) (xs ys : Dated) → of_fragment f (xs ++ ys) ≡ of_fragment f xs ++ of_fragment f ys
+of_both f [] ys = refl
+of_both f (x ∷ xs) ys =
+    elim (x.1.frag.0 == f)
+    as (λ b. cond b (x ∷ of_fragment f (xs ++ ys)) (of_fragment f (xs ++ ys)) ≡ cond b (x ∷ of_fragment f xs) (of_fragment f xs) ++ of_fragment f ys) [
+      | true ↦ ap (λ l. x ∷ l) (of_both f xs ys)
+      | false ↦ of_both f xs ys
+    ]
+
+-- of first rows they are those of the fragment's entries
+of_first : (cat : Catalogue) (f : ℕ) (db : Database) → of_fragment f (map (first_row cat) db) ≡ map (first_row cat) (rows_in_fragment cat db f)
+of_first cat f [] = refl
+of_first cat f (e ∷ db) =
+    elim (fragment_of cat e.0.0 e.0.1 == f)
+    as (λ b. cond b (first_row cat e ∷ of_fragment f (map (first_row cat) db)) (of_fragment f (map (first_row cat) db))
+    ≡ map (first_row cat) (cond b (e ∷ rows_in_fragment cat db f) (rows_in_fragment cat db f))) [
+      | true ↦ ap (λ l. first_row cat e ∷ l) (of_first cat f db)
+      | false ↦ of_first cat f db
+    ]
+
+-- one module's copy, were it begun with the other rows
+begun_alike : (cat : Catalogue) (mine other : List (RelNo × Row)) (h : History) (f d k : ℕ) → AgreeOnFragment cat mine other f
+    → copy_at cat mine h d k f ≡ copy_at cat other h d k f
+begun_alike cat mine other h f d k agree =
+    let more : Dated = flat_map dated (filter (λ (t : Committed). is_applied h d k t.start.txn) (committed h)) in
+    let first : of_fragment f (first_rows cat mine) ≡ of_fragment f (first_rows cat other) =
+    of_first cat f (database_of cat mine) ∙ ap (map (first_row cat)) agree ∙ sym (of_first cat f (database_of cat other)) in
+    ap rows_left
+    (of_both f (first_rows cat mine) more
+    ∙ ap (λ l. l ++ of_fragment f more) first
+    ∙ sym (of_both f (first_rows cat other) more))
+
+pub agreeing_copies : (cat : Catalogue) (mine other : List (RelNo × Row)) (h : History) (f a j b k : ℕ) → AgreeOnFragment cat mine other f
+    → AreAppliedAlike h f a j b k → copy_at cat mine h a j f ≡ copy_at cat other h b k f
+agreeing_copies cat mine other h f a j b k agree alike =
+    begun_alike cat mine other h f a j agree ∙ equal_copies cat other h f a j b k alike
