@@ -5,7 +5,7 @@ use Rattle.sdd_base.specs.Numbers.{class_no, dm_no, time_at, tm_no, txn_no}
 use Rattle.sdd_base.specs.declared.site.Site.{Site}
 use Rattle.sdd_base.specs.declared.site.Site.TheVariants.{D, T, U}
 use Rattle.sdd_catalog.specs.Rules.{IsSound, faults_of}
-use Rattle.sdd_history.specs.declared.record.Rec.TheVariants.{Answer, Reject as Rejected}
+use Rattle.sdd_history.specs.declared.record.Rec.TheVariants.{Reject as Rejected}
 use Rattle.sdd_wire.specs.declared.msg.Msg.{Msg}
 use Rattle.sdd_wire.specs.declared.msg.Msg.TheVariants.{Read, Ready, Reject, Write}
 use Rattle.sdd_module.specs.SiteLog.{Records}
@@ -25,7 +25,7 @@ use Rattle.sdd_waiting.proofs.OfLawful.{answered_or_rejected}
 use Rattle.sdd_waiting.proofs.UndeclaredReads.{holds_none, not_rejected}
 use Rattle.sdd_waiting.proofs.Worked.{made_lawful, one_at_most}
 use Rattle.sdd_waiting.specs.Answers.{EndsAnEvent, IsAnsweredIn, IsRejectedAfter, IsRejectedIn}
-use Rattle.sdd_waiting.specs.Examples.{beside_put, changes_of_put, conds_of_query, conds_of_spoilt, given_put_first, given_put_later, given_spoilt, in_its_event, one_writer, put_attempt, put_commits, put_first, put_handed, query_queued, read_handed, three_classes, uses_of_query, uses_of_spoilt}
+use Rattle.sdd_waiting.specs.Examples.{changes_of_put, conds_of_query, conds_of_spoilt, given_put_first, given_put_later, given_spoilt, in_its_event, one_writer, put_attempt, put_commits, put_first, put_handed, query_queued, read_handed, three_classes, uses_of_query, uses_of_spoilt}
 
 pub writer_is_sound : IsSound one_writer
 unfolding faults_of

@@ -1,6 +1,6 @@
 -- Worked logs. An undeclared query and a put beside it: the put is applied before the query comes, or comes while the query
 -- waits. And a query that is rejected in the event in which it comes.
-use Rattle.std.specs.Prelude.{ℕ, ◌++◌, ◌∷◌, ◌≡◌, List, None, Some, [], drop, negsuc, pos, refl, take}
+use Rattle.std.specs.Prelude.{ℕ, ◌++◌, ◌∷◌, List, Some, [], negsuc, pos, refl, take}
 use Rattle.sdd_base.specs.Numbers.{class_no, dm_no, frag_no, rel_no, time_at, tm_no, txn_no}
 use Rattle.sdd_base.specs.declared.change.Change.{Change}
 use Rattle.sdd_base.specs.declared.condition.Cond.{Cond}

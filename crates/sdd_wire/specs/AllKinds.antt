@@ -4,7 +4,6 @@ use Rattle.sdd_base.specs.Numbers.{class_no, frag_no, rel_no, time_at, txn_no}
 use Rattle.sdd_base.specs.declared.change.Change.{Change}
 use Rattle.sdd_base.specs.declared.condition.Cond.{Cond}
 use Rattle.sdd_base.specs.declared.restriction.Op.TheVariants.{Eq, Ne, Lt, Le, Gt, Ge}
-use Rattle.sdd_base.specs.declared.restriction.Restriction.{Restriction}
 use Rattle.sdd_base.specs.declared.usage.Use.{Use}
 use Rattle.sdd_base.specs.declared.value.Value.TheVariants.{Int, Text}
 use Rattle.sdd_wire.specs.declared.msg.Msg.TheVariants.{Read, Ready, Reject, Fetch, Values, Reduce, Reduced, Ship, Rows, Write, Null, Ask, Hold, Held}
