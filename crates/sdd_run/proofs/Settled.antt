@@ -20,6 +20,7 @@ use Rattle.sdd_script.specs.declared.workload.Workload.{Workload}
 use Rattle.sdd_sites.specs.AtSites.{standing_at}
 use Rattle.sdd_sites.specs.Standings.{standing_at_t, standing_at_u}
 use Rattle.sdd_upheld.specs.Given.{SubmitGiven}
+use Rattle.sdd_rest.proofs.OneList.{one_list, up_in_one}
 use Rattle.sdd_rest.proofs.Settled.{settle_ends, settled_is_committed}
 use Rattle.sdd_rest.specs.Committed.{AllCommitted, WasCommitted}
 use Rattle.sdd_rest.specs.Premises.{HasOneTable}
@@ -61,12 +62,12 @@ module _ (cat : Catalogue) (table : List Entry) (work : Workload) (sound : IsSou
   module _ (log : Log) (the_log : IsTheLog (given_of cat table work) log) (none : redeclares log ≡ 0) where
     all_committed : EndsWithSettle work.events → NoneIsDown cat log → AllCommitted (history log)
     all_committed ends up =
-        settled_is_committed (given_of cat table work) log one_table submit_given
+        settled_is_committed (given_of cat table work) log (one_list (given_of cat table work) log one_table none) submit_given
         (settle_ends (given_of cat table work) log ends.before ends.is (record {
           lawful =
               the_log.lawful;
           complete = the_log.complete;
-          one_list = none;
+          up_before = up_in_one (given_of cat table work) log none;
           up = up;
         }))
 
