@@ -8,6 +8,7 @@ use Rattle.sdd_base.specs.Numbers.{tm_no, txn_no}
 use Rattle.sdd_base.specs.Words.{head_of}
 use Rattle.sdd_base.specs.declared.change.Change.{Change}
 use Rattle.sdd_base.specs.declared.event.Event.TheVariants.{Submit as Submitting}
+use Rattle.sdd_base.specs.declared.number.TmNo.{TmNo}
 use Rattle.sdd_base.specs.declared.reply.Reply.{Reply}
 use Rattle.sdd_base.specs.declared.site.Site.{Site}
 use Rattle.sdd_base.specs.declared.site.Site.TheVariants.{T}
@@ -21,9 +22,10 @@ use Rattle.sdd_module.specs.SiteLog.{Act, Did, Force, Records, Submits, in_force
 use Rattle.sdd_order.specs.Numbers.{IsClass}
 use Rattle.sdd_order.specs.Places.{Stands}
 use Rattle.sdd_attempt.specs.Queues.{Queued, is_for, queue}
-use Rattle.sdd_laws.specs.Deeds.{IsSubmitted}
 use Rattle.sdd_laws.proofs.EraSets.{covered}
 use Rattle.sdd_laws.proofs.Lists.{first_passes}
+use Rattle.sdd_laws.specs.Deeds.{IsSubmitted}
+use Rattle.sdd_laws.specs.Eras.{IsEraOf}
 use Rattle.sdd_log.specs.Due.{home_of}
 use Rattle.sdd_log.specs.Entries.{Does, Given, Log, Mark, Submitted, history}
 use Rattle.sdd_log.specs.Locals.{force_at, local_of, redeclares, setting_of, txn_at}
@@ -41,17 +43,17 @@ use Rattle.sdd_upheld.proofs.Homes.{positive}
 use Rattle.sdd_upheld.proofs.Locals.{commit_act_in, submitted_in}
 use Rattle.sdd_upheld.proofs.Places.{stands_there}
 use Rattle.sdd_upheld.proofs.Submissions.{IsSubmitIn, given_at, submit_in}
-use Rattle.sdd_rest.proofs.NoneWaits.{first_list}
+use Rattle.sdd_rest.proofs.SinceRedeclare.{redeclares_back}
 use Rattle.sdd_rest.specs.Committed.{AllCommitted, IsNotLeft, WasCommitted}
 use Rattle.sdd_rest.specs.Finished.{IsFinished}
-use Rattle.sdd_rest.specs.Premises.{HasOneTable}
-use Rattle.sdd_rest.specs.Quiet.{IsQuiet}
+use Rattle.sdd_rest.specs.Premises.{HasOneTable, HasSoundLists}
+use Rattle.sdd_rest.proofs.OneList.{one_list}
 
--- the class of a transaction is one of the catalogue, and run at its module
+-- the class of a transaction by the list in force is one of the whole catalogue, and run at the transaction's module
 
-pub class_within : (cat : Catalogue) (txn : Txn) → IsClass cat (class_for cat txn)
-class_within cat txn = elim (dec_le 1 (class_for cat txn)) [
-  | yes p ↦ (covered cat txn (class_for cat txn) refl p).class.to
+class_within : (cat era : Catalogue) → IsEraOf cat era → (txn : Txn) → IsClass cat (class_for era txn)
+class_within cat era h txn = elim (dec_le 1 (class_for era txn)) [
+  | yes p ↦ (let to = (covered era txn (class_for era txn) refl p).class.to in let few = h.classes in omega (arith, to, few))
   | no p ↦ omega (arith, p)
 ]
 
@@ -67,8 +69,28 @@ covers_home cat txn c e l =
           ap (λ k. (class_at cat k).tm.0) z ∙ eqb-true (class_at cat x).tm.0 txn.tm.0 q
     ] refl e
 
-pub home_is : (cat : Catalogue) (txn : Txn) (c : ℕ) → c ≡ class_for cat txn → home_by c txn ≡ home cat c
-home_is cat txn c e = elim (same_or_not c 0) [
+home_is : (cat era : Catalogue) → IsEraOf cat era → (txn : Txn) (c : ℕ) → c ≡ class_for era txn → home_by c txn ≡ home cat c
+home_is cat era h txn c e = elim (same_or_not c 0) [
+  | inl p ↦ ap (λ k. home_by k txn) p ∙ ap (home cat) (sym p)
+  | inr p ↦ (let from = positive c p in
+      let class = (covered era txn c e from).class in
+      let same : (class_at era c).tm.0 ≡ txn.tm.0 = covers_home era txn c e from in
+      let whole : (class_at cat c).tm.0 ≡ txn.tm.0 = ap (λ (t : TmNo). t.0) (sym (h.home c class.from class.to)) ∙ same in
+      let here : home_by c txn ≡ T txn.tm = rw p refl in
+      let there : home cat c ≡ T (tm_no (class_at cat c).tm.0) = rw p refl in
+      here ∙ ap (λ n. T (tm_no n)) (sym whole) ∙ sym there)
+]
+
+-- by the list of the whole catalogue
+
+pub class_within_own : (cat : Catalogue) (txn : Txn) → IsClass cat (class_for cat txn)
+class_within_own cat txn = elim (dec_le 1 (class_for cat txn)) [
+  | yes p ↦ (covered cat txn (class_for cat txn) refl p).class.to
+  | no p ↦ omega (arith, p)
+]
+
+pub home_is_own : (cat : Catalogue) (txn : Txn) (c : ℕ) → c ≡ class_for cat txn → home_by c txn ≡ home cat c
+home_is_own cat txn c e = elim (same_or_not c 0) [
   | inl p ↦ ap (λ k. home_by k txn) p ∙ ap (home cat) (sym p)
   | inr p ↦ (let same = covers_home cat txn c e (positive c p) in
       let here : home_by c txn ≡ T txn.tm = rw p refl in
@@ -140,31 +162,58 @@ text_of g log n k h numbered s =
     let m = member_there (n - 1) g.txns (omega (arith, from, to, same)) in
     record { text = m.0; is = m.1 }
 
-pub all_committed : (g : Given) (log : Log) → IsQuiet g log → HasOneTable g → redeclares log ≡ 0
-    → AreNumbered g log → IsFinished g log → AllCommitted (history log)
-all_committed g log h one none numbered done n k submitted =
-    let s = submit_in g log n k h.permitted submitted in
-    let now : IsPermitted g (Submitted s.at n ∷ s.rest) = permitted_before g s.later (Submitted s.at n ∷ s.rest) (subst (IsPermitted g) s.is h.permitted) in
+-- a submitted transaction came to the module of its class, by the list in force then
+pub record IsAtHome (g : Given) (log : Log) (n : ℕ) : Type 0 where
+  pub text : Txn
+  pub text_is : txn_at g n ≡ Some text
+  pub class : ℕ
+  pub class_is : IsClass g.catalogue class
+  pub list : ℕ
+  pub was_in_force : list ≤ redeclares log
+  pub by_list : class ≡ class_for (force_at g list).catalogue text
+  pub place : ℕ
+  pub there : slice_get (submits_of (home_setting g class) class (at_home g class log)) place ≡ Some (n, text)
+
+pub submitted_at_home : (g : Given) (log : Log) → IsPermitted g log → HasSoundLists g log → AreNumbered g log
+    → (n k : ℕ) → IsSubmitted (history log) n k → IsAtHome g log n
+submitted_at_home g log h lists numbered n k submitted =
+    let s = submit_in g log n k h submitted in
+    let now : IsPermitted g (Submitted s.at n ∷ s.rest) = permitted_before g s.later (Submitted s.at n ∷ s.rest) (subst (IsPermitted g) s.is h) in
     let x = given_at g s.rest s.at n now in
-    let t = text_of g log n k h.permitted numbered s in
-    let c : ℕ = class_for g.catalogue t.text in
-    let first : redeclares s.rest ≡ 0 = first_list log s.later s.rest (Submitted s.at n) none s.is in
-    let force : (force_at g (redeclares s.rest)).catalogue ≡ g.catalogue = ap (λ i. (force_at g i).catalogue) first ∙ one.same in
-    let class : class_for (force_at g (redeclares s.rest)).catalogue t.text ≡ c = ap (λ w. class_for w t.text) force in
+    let t = text_of g log n k h numbered s in
+    let era : Catalogue = (force_at g (redeclares s.rest)).catalogue in
+    let back = redeclares_back s.later (Submitted s.at n ∷ s.rest) in
+    let all : redeclares log ≡ redeclares (s.later ++ Submitted s.at n ∷ s.rest) = ap redeclares s.is in
+    let of : IsEraOf g.catalogue era = (lists (redeclares s.rest) (omega (arith, back, all))).era in
+    let c : ℕ = class_for era t.text in
     let at : s.at ≡ home g.catalogue c =
     x.at_is ∙ ap (home_of (force_at g (redeclares x.earlier)).catalogue) t.is
     ∙ ap (λ i. home_of (force_at g i).catalogue (Some t.text)) (sym (ap redeclares x.is))
-    ∙ ap (λ w. home_of w (Some t.text)) force ∙ home_is g.catalogue t.text c refl in
+    ∙ home_is g.catalogue era of t.text c refl in
     let is : log ≡ s.later ++ Submitted (home g.catalogue c) n ∷ s.rest = s.is ∙ ap (λ a. s.later ++ Submitted a n ∷ s.rest) at in
     let m = submit_local g c n t.text s.later s.rest t.is in
     let local : at_home g c log ≡ m.0 ++ Submits n t.text ∷ at_home g c s.rest = ap (at_home g c) is ∙ m.1 in
-    let i = submitted_in (home_setting g c) c n t.text m.0 (at_home g c s.rest) (for_class g c s.rest t.text class) in
-    let there : slice_get (submits_of (home_setting g c) c (at_home g c log)) i.0 ≡ Some (n, t.text) =
-    subst (λ l. slice_get (submits_of (home_setting g c) c l) i.0 ≡ Some (n, t.text)) (sym local) i.1 in
-    let q = queue_is (home_setting g c) c (at_home g c log) (home_fair g c log h.permitted) (all_new g (home g.catalogue c) log h.permitted) in
-    let out : queued c (at_home g c log) (n, t.text) ≡ None =
-    none_kept (queued c (at_home g c log)) (submits_of (home_setting g c) c (at_home g c log)) i.0
-    (n, t.text) (sym q.is ∙ done.no_queue c (class_within g.catalogue t.text)) there in
+    let i = submitted_in (home_setting g c) c n t.text m.0 (at_home g c s.rest) (for_class g c s.rest t.text refl) in
+    record {
+      text = t.text;
+      text_is = t.is;
+      class = c;
+      class_is = class_within g.catalogue era of t.text;
+      list = redeclares s.rest;
+      was_in_force = omega (arith, back, all);
+      by_list = refl;
+      place = i.0;
+      there = subst (λ l. slice_get (submits_of (home_setting g c) c l) i.0 ≡ Some (n, t.text)) (sym local) i.1;
+    }
+
+pub all_committed : (g : Given) (log : Log) → IsPermitted g log → HasSoundLists g log → AreNumbered g log → IsFinished g log → AllCommitted (history log)
+all_committed g log h lists numbered done n k submitted =
+    let x = submitted_at_home g log h lists numbered n k submitted in
+    let c = x.class in
+    let q = queue_is (home_setting g c) c (at_home g c log) (home_fair g c log h) (all_new g (home g.catalogue c) log h) in
+    let out : queued c (at_home g c log) (n, x.text) ≡ None =
+    none_kept (queued c (at_home g c log)) (submits_of (home_setting g c) c (at_home g c log)) x.place
+    (n, x.text) (sym q.is ∙ done.no_queue c x.class_is) x.there in
     committed_there g log c n (if_left (is_committed c n (at_home g c log)) _ out)
 
 -- a transaction that was submitted is committed, or stands in the queue of its class
@@ -190,34 +239,23 @@ pub record IsQueued (g : Given) (log : Log) (n : ℕ) : Type 0 where
 pub committed_or_queued : (g : Given) (log : Log) → IsPermitted g log → HasOneTable g → redeclares log ≡ 0
     → AreNumbered g log → (n k : ℕ) → IsSubmitted (history log) n k → WasCommitted (history log) n ⊎ IsQueued g log n
 committed_or_queued g log permitted one none numbered n k submitted =
-    let s = submit_in g log n k permitted submitted in
-    let now : IsPermitted g (Submitted s.at n ∷ s.rest) = permitted_before g s.later (Submitted s.at n ∷ s.rest) (subst (IsPermitted g) s.is permitted) in
-    let x = given_at g s.rest s.at n now in
-    let t = text_of g log n k permitted numbered s in
-    let c : ℕ = class_for g.catalogue t.text in
-    let first : redeclares s.rest ≡ 0 = first_list log s.later s.rest (Submitted s.at n) none s.is in
-    let force : (force_at g (redeclares s.rest)).catalogue ≡ g.catalogue = ap (λ i. (force_at g i).catalogue) first ∙ one.same in
-    let class : class_for (force_at g (redeclares s.rest)).catalogue t.text ≡ c = ap (λ w. class_for w t.text) force in
-    let at : s.at ≡ home g.catalogue c =
-    x.at_is ∙ ap (home_of (force_at g (redeclares x.earlier)).catalogue) t.is
-    ∙ ap (λ i. home_of (force_at g i).catalogue (Some t.text)) (sym (ap redeclares x.is))
-    ∙ ap (λ w. home_of w (Some t.text)) force ∙ home_is g.catalogue t.text c refl in
-    let is : log ≡ s.later ++ Submitted (home g.catalogue c) n ∷ s.rest = s.is ∙ ap (λ a. s.later ++ Submitted a n ∷ s.rest) at in
-    let m = submit_local g c n t.text s.later s.rest t.is in
-    let local : at_home g c log ≡ m.0 ++ Submits n t.text ∷ at_home g c s.rest = ap (at_home g c) is ∙ m.1 in
-    let i = submitted_in (home_setting g c) c n t.text m.0 (at_home g c s.rest) (for_class g c s.rest t.text class) in
-    let there : slice_get (submits_of (home_setting g c) c (at_home g c log)) i.0 ≡ Some (n, t.text) =
-    subst (λ l. slice_get (submits_of (home_setting g c) c l) i.0 ≡ Some (n, t.text)) (sym local) i.1 in
+    let x = submitted_at_home g log permitted (one_list g log one none) numbered n k submitted in
+    let from = x.was_in_force in
+    let first : x.list ≡ 0 = omega (arith, from, none) in
+    let c : ℕ = class_for g.catalogue x.text in
+    let class : x.class ≡ c = x.by_list ∙ ap (λ i. class_for (force_at g i).catalogue x.text) first ∙ ap (λ w. class_for w x.text) one.same in
+    let there : slice_get (submits_of (home_setting g c) c (at_home g c log)) x.place ≡ Some (n, x.text) =
+    subst (λ i. slice_get (submits_of (home_setting g i) i (at_home g i log)) x.place ≡ Some (n, x.text)) class x.there in
     let q = queue_is (home_setting g c) c (at_home g c log) (home_fair g c log permitted) (all_new g (home g.catalogue c) log permitted) in
-    let waiting : Queued = record { number = n; text = t.text; tries = starts_of c n (at_home g c log) } in
+    let waiting : Queued = record { number = n; text = x.text; tries = starts_of c n (at_home g c log) } in
     elim (is_committed c n (at_home g c log)) as (λ b. is_committed c n (at_home g c log) ≡ b → WasCommitted (history log) n ⊎ IsQueued g log n) [
       | true ↦ λ e. inl (committed_there g log c n e)
       | false ↦ λ e.
-          let out : queued c (at_home g c log) (n, t.text) ≡ Some waiting = rw e refl in
-          let r = some_kept (queued c (at_home g c log)) (submits_of (home_setting g c) c (at_home g c log)) i.0 (n, t.text) waiting there out in
+          let out : queued c (at_home g c log) (n, x.text) ≡ Some waiting = rw e refl in
+          let r = some_kept (queued c (at_home g c log)) (submits_of (home_setting g c) c (at_home g c log)) x.place (n, x.text) waiting there out in
           inr (record {
-            text = t.text;
-            text_is = t.is;
+            text = x.text;
+            text_is = x.text_is;
             place = r.0;
             waiting = waiting;
             there = ap (λ qs. slice_get qs r.0) q.is ∙ r.1;

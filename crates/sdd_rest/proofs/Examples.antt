@@ -31,7 +31,8 @@ use Rattle.sdd_rest.proofs.Settled.{settle_ends, settled_is_committed, settled_i
 use Rattle.sdd_rest.specs.Committed.{AllCommitted}
 use Rattle.sdd_rest.specs.Examples.{all_lost, crossing_with, given_all_lost, given_late_query, late_query, log_of_all_lost, log_of_late_query}
 use Rattle.sdd_rest.specs.Finished.{IsFinished}
-use Rattle.sdd_rest.specs.Premises.{HasOneTable}
+use Rattle.sdd_rest.proofs.OneList.{one_list, up_in_one}
+use Rattle.sdd_rest.specs.Premises.{HasOneTable, HasSoundLists}
 use Rattle.sdd_rest.specs.Settled.{IsAtEnd, IsSettled}
 
 extended_lawful : (n : ℕ) (g : Given) (log : Log) → IsLawful g log → IsLawful g (extended n g log)
@@ -43,10 +44,20 @@ extended_lawful (suc n) g log h =
     ] refl
 
 pub late_query_ends : IsAtEnd given_late_query log_of_late_query
-late_query_ends = record { lawful = extended_lawful 52 given_late_query [] tt; complete = refl; one_list = refl; up = λ d m. refl }
+late_query_ends = record {
+  lawful = extended_lawful 52 given_late_query [] tt;
+  complete = refl;
+  up_before = up_in_one given_late_query log_of_late_query refl;
+  up = λ d m. refl;
+}
 
 pub all_lost_ends : IsAtEnd given_all_lost log_of_all_lost
-all_lost_ends = record { lawful = extended_lawful 100 given_all_lost [] tt; complete = refl; one_list = refl; up = λ d m. refl }
+all_lost_ends = record {
+  lawful = extended_lawful 100 given_all_lost [] tt;
+  complete = refl;
+  up_before = up_in_one given_all_lost log_of_all_lost refl;
+  up = λ d m. refl;
+}
 
 -- the transactions, the rows and the protocol table
 
@@ -134,20 +145,26 @@ all_lost_submits = crossing_submits given_all_lost.events (λ n. omega arith)
 
 -- so they are settled, all is finished, and both transactions are committed
 
+late_query_lists : HasSoundLists given_late_query log_of_late_query
+late_query_lists = one_list given_late_query log_of_late_query (crossing_table given_late_query.events) refl
+
 pub late_query_settled : IsSettled given_late_query log_of_late_query
 late_query_settled = settle_ends given_late_query log_of_late_query late_query refl late_query_ends
 
 pub late_query_finished : IsFinished given_late_query log_of_late_query
-late_query_finished = settled_is_finished given_late_query log_of_late_query (crossing_table given_late_query.events) late_query_submits.once late_query_settled
+late_query_finished = settled_is_finished given_late_query log_of_late_query late_query_lists late_query_submits.once late_query_settled
 
 pub late_query_committed : AllCommitted (history log_of_late_query)
-late_query_committed = settled_is_committed given_late_query log_of_late_query (crossing_table given_late_query.events) late_query_submits late_query_settled
+late_query_committed = settled_is_committed given_late_query log_of_late_query late_query_lists late_query_submits late_query_settled
+
+all_lost_lists : HasSoundLists given_all_lost log_of_all_lost
+all_lost_lists = one_list given_all_lost log_of_all_lost (crossing_table given_all_lost.events) refl
 
 pub all_lost_settled : IsSettled given_all_lost log_of_all_lost
 all_lost_settled = settle_ends given_all_lost log_of_all_lost all_lost refl all_lost_ends
 
 pub all_lost_finished : IsFinished given_all_lost log_of_all_lost
-all_lost_finished = settled_is_finished given_all_lost log_of_all_lost (crossing_table given_all_lost.events) all_lost_submits.once all_lost_settled
+all_lost_finished = settled_is_finished given_all_lost log_of_all_lost all_lost_lists all_lost_submits.once all_lost_settled
 
 pub all_lost_committed : AllCommitted (history log_of_all_lost)
-all_lost_committed = settled_is_committed given_all_lost log_of_all_lost (crossing_table given_all_lost.events) all_lost_submits all_lost_settled
+all_lost_committed = settled_is_committed given_all_lost log_of_all_lost all_lost_lists all_lost_submits all_lost_settled

@@ -1,4 +1,5 @@
--- Where nothing goes on, no READ waits, so every message is processed and no attempt is under way.
+-- Where nothing goes on, no READ waits, so every message is processed and no attempt is under way; if all was idle wherever
+-- a further list of classes was put in force. Then each READ that waits has conditions of the list in force.
 use Rattle.std.specs.List.{list_all}
 use Rattle.std.proofs.Common.{ℕ, ◌+◌, ◌++◌, ◌==◌, ◌∙◌, ◌∷◌, ◌≡◌, ◌≤◌, Bool, List, None, Some, [], ap, arith, false, if◌then◌else◌, inl, inr, length, refl, slice_get, subst, suc, sym, true}
 use Rattle.sdd_base.specs.Numbers.{dm_no, time_at}
@@ -48,7 +49,7 @@ use Rattle.sdd_quiet.specs.WaitGraph.{Fits, WaitGraph}
 use Rattle.sdd_quiet.specs.WaitGraphs.{HasDiagonal, wait_graph, wait_protocol}
 use Rattle.sdd_quiet.specs.Waiting.{IsStamped, IsTimestamp, WaitingRead, WaitsOn, holder, reader, wait_time}
 use Rattle.sdd_upheld.proofs.Homes.{home_small}
-use Rattle.sdd_waiting.proofs.FromTable.{conditions_of}
+use Rattle.sdd_waiting.proofs.FromTable.{conditions_at_put}
 use Rattle.sdd_waiting.proofs.StuckHeads.{head_stuck}
 use Rattle.sdd_waiting.specs.Conditions.{AllDiagonalsIn, AreConditionsOf, IsDiagonalIn, IsFromTable}
 use Rattle.sdd_waiting.specs.Heads.{IsStuck}
@@ -58,8 +59,9 @@ use Rattle.sdd_rest.proofs.Lists.{not_all, no_head}
 use Rattle.sdd_rest.proofs.Still.{d_still}
 use Rattle.sdd_rest.proofs.WaitedFor.{next_head, next_reader}
 use Rattle.sdd_rest.specs.Finished.{IsIdle}
-use Rattle.sdd_rest.specs.Premises.{HasOneTable}
 use Rattle.sdd_rest.specs.Quiet.{IsQuiet, at_home, at_module}
+use Rattle.sdd_rest.specs.Premises.{IsIdleAtRedeclares, IsSoundList}
+use Rattle.sdd_rest.proofs.SinceRedeclare.{since_redeclare}
 use Rattle.sdd_rest.specs.Waiting.{IsBelow, IsHolder, IsReader}
 
 -- a READ that waits has a condition that isn't met
@@ -108,21 +110,21 @@ record IsWaiting (g : Given) (log : Log) (r : WaitingRead) : Type 0 where
   from : AreConditionsOf g log r.class r.ts conds
   ticks_are : r.ticks ≡ suc (clock (home g.catalogue r.class) (local_of g (home g.catalogue r.class) from.before)).ticks
   p2_is : r.p2 ≡ bound (setting_of g (home g.catalogue r.class)) (local_of g (home g.catalogue r.class) from.before)
+  since : redeclares from.before ≡ redeclares log
 
 waiting_number : (g : Given) (log : Log) (c ts : ℕ) (conds : List Cond) → (c == 0) ≡ false
-    → IsReader g log c ts conds → (from : AreConditionsOf g log c ts conds)
+    → IsReader g log c ts conds → (from : AreConditionsOf g log c ts conds) → redeclares from.before ≡ redeclares log
     → IsWaiting g log (read_number g log c ts conds from)
-waiting_number g log c ts conds z r from = record { conds = conds; declared = z; reader = r; from = from; ticks_are = refl; p2_is = refl }
+waiting_number g log c ts conds z r from since = record { conds = conds; declared = z; reader = r; from = from; ticks_are = refl; p2_is = refl; since = since }
 
-conditions : (g : Given) (log : Log) (c ts : ℕ) (conds : List Cond) → IsQuiet g log → (c == 0) ≡ false
-    → IsReader g log c ts conds → AreConditionsOf g log c ts conds
-conditions g log c ts conds h z r =
-    conditions_of g log c (dm_no r.d) (length (pipe c (at_module g r.d log)).processed)
-    (time_at ts) r.of r.txn r.attempt conds r.uses h.permitted (λ e. differ c 0 z e)
-    (head_there (pipe c (at_module g r.d log)) (Read (time_at ts) r.of r.txn r.attempt conds r.uses)
-    r.head_is)
+conditions : (g : Given) (log : Log) (c ts : ℕ) (conds : List Cond) → IsQuiet g log → IsSound g.catalogue → IsIdleAtRedeclares g log → (c == 0) ≡ false
+    → IsReader g log c ts conds → (from : AreConditionsOf g log c ts conds) × (redeclares from.before ≡ redeclares log)
+conditions g log c ts conds h sound marks z r =
+    let p = head_put g c (dm_no r.d) log (Read (time_at ts) r.of r.txn r.attempt conds r.uses) h.permitted r.head_is in
+    let f = conditions_at_put g log c (dm_no r.d) (time_at ts) r.of r.txn r.attempt conds r.uses (λ e. differ c 0 z e) p in
+    (f.0, ap redeclares f.1 ∙ since_redeclare g log c r.d (time_at ts) r.of r.txn r.attempt conds r.uses h.permitted sound r.class_is r.module_is marks r.head_is p)
 
-stamped : (g : Given) (log : Log) → HasOneTable g → (r : WaitingRead) → IsWaiting g log r → IsStamped r
+stamped : (g : Given) (log : Log) → IsSoundList g (redeclares log) → (r : WaitingRead) → IsWaiting g log r → IsStamped r
 stamped g log one r w =
     let s = setting_of g (home g.catalogue r.class) in
     let lb = local_of g (home g.catalogue r.class) w.from.before in
@@ -135,8 +137,8 @@ stamped g log one r w =
 
 -- the diagonal of a condition
 
-abbrev graph_of : Given → WaitGraph
-graph_of g = wait_graph (force_at g 0).catalogue (force_at g 0).table
+abbrev graph_of : Given → Log → WaitGraph
+graph_of g log = wait_graph (force_at g (redeclares log)).catalogue (force_at g (redeclares log)).table
 
 record IsAlong (G : WaitGraph) (i j time own p2 : ℕ) : Type 0 where
   by_own : Bool
@@ -185,26 +187,13 @@ wait_by false r = refl
 time_along : (G : WaitGraph) (i j time : ℕ) (r : WaitingRead) (a : IsAlong G i j time r.ts r.p2) → time ≡ wait_time a.diagonal.diagonal.own r
 time_along G i j time r a = a.time_is ∙ wait_by a.by_own r ∙ ap (λ b. wait_time b r) (sym a.diagonal.own_is)
 
-redeclares_up : (e : Entry) (log : Log) → redeclares log ≤ redeclares (e ∷ log)
-redeclares_up (Redeclares t) log = omega arith
-redeclares_up _ log = omega arith
-
-redeclares_grow : (later log : Log) → redeclares log ≤ redeclares (later ++ log)
-redeclares_grow [] log = omega arith
-redeclares_grow (e ∷ later) log = let i = redeclares_grow later log in let j = redeclares_up e (later ++ log) in omega (arith, i, j)
-
-pub first_list : (log later before : Log) (e : Entry) → redeclares log ≡ 0 → log ≡ later ++ e ∷ before → redeclares before ≡ 0
-first_list log later before e none is =
-    let i = redeclares_up e before in let j = redeclares_grow later (e ∷ before) in let all = ap redeclares is in omega (arith, i, j, all, none)
-
 cond_along : (g : Given) (log : Log) (c ts : ℕ) (conds : List Cond)
-    (from : AreConditionsOf g log c ts conds) (k : ℕ) (q : Cond) → redeclares log ≡ 0
+    (from : AreConditionsOf g log c ts conds) (k : ℕ) (q : Cond) → redeclares from.before ≡ redeclares log
     → slice_get conds k ≡ Some q
-    → IsAlong (graph_of g) c q.class.0 q.time.0 ts (bound (setting_of g (home g.catalogue c)) (local_of g (home g.catalogue c) from.before))
-cond_along g log c ts conds from k q none e =
+    → IsAlong (graph_of g log) c q.class.0 q.time.0 ts (bound (setting_of g (home g.catalogue c)) (local_of g (home g.catalogue c) from.before))
+cond_along g log c ts conds from k q since e =
     let p2 : ℕ = bound (setting_of g (home g.catalogue c)) (local_of g (home g.catalogue c) from.before) in
-    let first = first_list log from.later from.before _ none from.is in
-    along (force_at g 0).catalogue (force_at g 0).table c ts p2 q (subst (λ n. IsFromTable (force_at g n).table c ts p2 q) first (from.from_table k q e))
+    along (force_at g (redeclares log)).catalogue (force_at g (redeclares log)).table c ts p2 q (subst (λ n. IsFromTable (force_at g n).table c ts p2 q) since (from.from_table k q e))
 
 -- a WRITE's time is that of a Start
 
@@ -227,7 +216,7 @@ write_stamp g log j d w of txn changes sound h e =
           omega (arith, small);
     }
 
-module _ (g : Given) (log : Log) (h : IsQuiet g log) (one : HasOneTable g) (none : redeclares log ≡ 0) where
+module _ (g : Given) (log : Log) (h : IsQuiet g log) (one : IsSoundList g (redeclares log)) (marks : IsIdleAtRedeclares g log) where
   -- a READ of class 0 holds nothing back
   holder_declared : (j t : ℕ) → (j == 0) ≡ false → IsClass g.catalogue j → (k : IsHolder g log j t) → (k.class == 0) ≡ false
   holder_declared j t z l k = elim (same_or_not k.class 0) [
@@ -245,46 +234,46 @@ module _ (g : Given) (log : Log) (h : IsQuiet g log) (one : HasOneTable g) (none
         absurd (omega (arith, below, own, held)))
   ]
 
-  fits : Fits (graph_of g)
-  fits = table_fits (force_at g 0).catalogue (force_at g 0).table one.table.table
+  fits : Fits (graph_of g log)
+  fits = table_fits (force_at g (redeclares log)).catalogue (force_at g (redeclares log)).table one.table.table
 
-  class_of_writer : (i j : ℕ) (own : Bool) → HasDiagonal (graph_of g) i j own → ((j == 0) ≡ false) × IsClass g.catalogue j
+  class_of_writer : (i j : ℕ) (own : Bool) → HasDiagonal (graph_of g log) i j own → ((j == 0) ≡ false) × IsClass g.catalogue j
   class_of_writer i j own d =
       let w = (fits.diagonal d.place d.diagonal d.at).writer in
       let from = w.from in
       let to = w.to in
-      let size : length (force_at g 0).catalogue.classes ≡ length g.catalogue.classes = ap (λ (x : Catalogue). length x.classes) one.same in
+      let size = one.era.classes in
       let same = d.writer_is in
       (not_zero j (omega (arith, from, same)), omega (arith, to, same, size))
 
-  waits_on : (r : WaitingRead) → IsWaiting g log r → WaitsOn (graph_of g) (IsWaiting g log) r
+  waits_on : (r : WaitingRead) → IsWaiting g log r → WaitsOn (graph_of g log) (IsWaiting g log) r
   waits_on r w =
       let u = unmet g log r.class r.ts w.conds w.reader h in
       let x : Cond = u.cond in
-      let a0 = cond_along g log r.class r.ts w.conds w.from u.place x none u.there in
-      let a : IsAlong (graph_of g) r.class x.class.0 x.time.0 r.ts r.p2 =
-      subst (λ p. IsAlong (graph_of g) r.class x.class.0 x.time.0 r.ts p) (sym w.p2_is) a0 in
+      let a0 = cond_along g log r.class r.ts w.conds w.from u.place x w.since u.there in
+      let a : IsAlong (graph_of g log) r.class x.class.0 x.time.0 r.ts r.p2 =
+      subst (λ p. IsAlong (graph_of g log) r.class x.class.0 x.time.0 r.ts p) (sym w.p2_is) a0 in
       let d = a.diagonal in
       let c = class_of_writer r.class x.class.0 a.by_own d in
-      let time = time_along (graph_of g) r.class x.class.0 x.time.0 r a in
+      let time = time_along (graph_of g log) r.class x.class.0 x.time.0 r a in
       let below = next_head g log r.class r.ts w.conds w.reader u.place x h one.fits u.there c.0 c.1 u.unmet in
       elim (next_reader g log x.class.0 x.time.0 h c.1 below) [
-        | inl e ↦ (let from = conditions g log x.class.0 e.ts e.conds h c.0 e.reader in
+        | inl e ↦ (let from = conditions g log x.class.0 e.ts e.conds h one.fits.sound marks c.0 e.reader in
             let l = e.below in
-            reader d.place d.diagonal d.at d.reader_is (read_number g log x.class.0 e.ts e.conds from)
-            (waiting_number g log x.class.0 e.ts e.conds c.0 e.reader from) (sym d.writer_is)
+            reader d.place d.diagonal d.at d.reader_is (read_number g log x.class.0 e.ts e.conds from.0)
+            (waiting_number g log x.class.0 e.ts e.conds c.0 e.reader from.0 from.1) (sym d.writer_is)
             (omega (arith, l, time)))
         | inr k ↦ (let z = holder_declared x.class.0 x.time.0 c.0 c.1 k in
-            let from = conditions g log k.class k.ts k.conds h z k.reader in
-            let q : WaitingRead = read_number g log k.class k.ts k.conds from in
-            let b : IsAlong (graph_of g) q.class k.cond.class.0 k.cond.time.0 q.ts q.p2 =
-            cond_along g log k.class k.ts k.conds from k.place k.cond none k.there in
-            let held_time = time_along (graph_of g) q.class k.cond.class.0 k.cond.time.0 q b in
+            let from = conditions g log k.class k.ts k.conds h one.fits.sound marks z k.reader in
+            let q : WaitingRead = read_number g log k.class k.ts k.conds from.0 in
+            let b : IsAlong (graph_of g log) q.class k.cond.class.0 k.cond.time.0 q.ts q.p2 =
+            cond_along g log k.class k.ts k.conds from.0 k.place k.cond from.1 k.there in
+            let held_time = time_along (graph_of g log) q.class k.cond.class.0 k.cond.time.0 q b in
             let o = b.diagonal in
             let low = k.held in
             let high = k.below in
             holder d.place d.diagonal d.at d.reader_is q
-            (waiting_number g log k.class k.ts k.conds z k.reader from) o.place o.diagonal o.at
+            (waiting_number g log k.class k.ts k.conds z k.reader from.0 from.1) o.place o.diagonal o.at
             o.reader_is (o.writer_is ∙ k.names ∙ sym d.writer_is)
             k.write (write_stamp g log x.class.0 k.reader.d k.write k.of k.txn k.changes one.fits.sound
             h.permitted k.write_is) (omega (arith, low, held_time)) (omega (arith, high, time)))
@@ -292,8 +281,8 @@ module _ (g : Given) (log : Log) (h : IsQuiet g log) (one : HasOneTable g) (none
 
   none_declared : (c ts : ℕ) (conds : List Cond) → (c == 0) ≡ false → ¬ IsReader g log c ts conds
   none_declared c ts conds z r =
-      let from = conditions g log c ts conds h z r in
-      none_waits (graph_of g) fits (IsWaiting g log) (stamped g log one) waits_on (read_number g log c ts conds from) (waiting_number g log c ts conds z r from)
+      let from = conditions g log c ts conds h one.fits.sound marks z r in
+      none_waits (graph_of g log) fits (IsWaiting g log) (stamped g log one) waits_on (read_number g log c ts conds from.0) (waiting_number g log c ts conds z r from.0 from.1)
 
   none_undeclared : (ts : ℕ) (conds : List Cond) → ¬ IsReader g log 0 ts conds
   none_undeclared ts conds r =

@@ -8,6 +8,7 @@ use Rattle.sdd_base.specs.declared.event.Event.TheVariants.{Up}
 use Rattle.sdd_base.specs.declared.number.RelNo.{RelNo}
 use Rattle.sdd_base.specs.declared.site.Site.TheVariants.{D}
 use Rattle.sdd_catalog.specs.Catalogue.{Catalogue, has_copy}
+use Rattle.sdd_catalog.specs.Rules.{IsSound}
 use Rattle.sdd_copy.specs.Contents.{contents}
 use Rattle.sdd_dm.specs.Copies.{dated}
 use Rattle.sdd_history.specs.Records.{History}
@@ -20,15 +21,16 @@ use Rattle.sdd_order.specs.Precedence.{is_apply}
 use Rattle.sdd_laws.specs.Snapshots as laws
 use Rattle.sdd_log.specs.Due.{mark_due, note_if}
 use Rattle.sdd_log.specs.Entries.{Given, Log, Mark, Notes, history, marks}
-use Rattle.sdd_log.specs.Locals.{local_of, redeclares, setting_of}
+use Rattle.sdd_log.specs.Locals.{local_of, setting_of}
 use Rattle.sdd_log.specs.Permitted.{IsPermitted, by_event, by_mark}
 use Rattle.sdd_log.specs.Traffic.{is_down}
-use Rattle.sdd_upheld.specs.Given.{HasSoundData, one_era}
+use Rattle.sdd_upheld.specs.Given.{HasSoundData}
 use Rattle.sdd_upheld.specs.Made.{IsMadeAt}
-use Rattle.sdd_upheld.proofs.OneEra.{of_one_era}
 use Rattle.sdd_upheld.proofs.SameCopies.{same_copy}
 use Rattle.sdd_upheld.proofs.Touched.{copy_module}
-use Rattle.sdd_rest.specs.Premises.{HasOneTable}
+use Rattle.sdd_rest.proofs.ErasOf.{are_eras_of}
+use Rattle.sdd_rest.specs.Eras.{eras_of}
+use Rattle.sdd_rest.specs.Premises.{HasSoundLists}
 use Rattle.sdd_rest.specs.Quiet.{IsQuiet}
 
 -- a record of nothing behind a history tells nothing of transactions
@@ -70,13 +72,12 @@ noted_permitted g log d up h =
 abbrev noted_made : (log : Log) (d : ℕ) → IsMadeAt (noted d log) (length (history log)) Nothing
 noted_made log d = record { later = []; entry = Notes; before = Mark (Up (dm_no d)) ∷ log; is = refl; makes = refl; place_is = refl }
 
-pub own_copy : (g : Given) (rows : List (RelNo × Row)) (log : Log) (f d : ℕ) → IsQuiet g log → HasOneTable g
-    → redeclares log ≡ 0 → HasSoundData g rows → has_copy g.catalogue d f ≡ true
+pub own_copy : (g : Given) (rows : List (RelNo × Row)) (log : Log) (f d : ℕ) → IsSound g.catalogue → IsQuiet g log → HasSoundLists g log
+    → HasSoundData g rows → has_copy g.catalogue d f ≡ true
     → contents f (dated (setting_of g (D (dm_no d))) (local_of g (D (dm_no d)) log)) ≡ laws.copy_at g.catalogue rows (history log) d (length (history log)) f
-own_copy g rows log f d h one none fine copied =
-    let sound = one.fits.sound in
+own_copy g rows log f d sound h lists fine copied =
     let up : is_down d log ≡ false = h.up d (copy_module g.catalogue sound d f copied) in
-    same_copy g rows (one_era g.catalogue) (noted d log) sound fine (noted_permitted g log d up h.permitted)
-    (of_one_era g (noted d log) one.table one.same none) d (length (history log)) Nothing
+    same_copy g rows (eras_of g log) (noted d log) sound fine (noted_permitted g log d up h.permitted)
+    (are_eras_of g (noted d log) lists) d (length (history log)) Nothing
     (noted_made log d) f copied
     ∙ copy_same g.catalogue rows (history log) (suc (marks log)) d f

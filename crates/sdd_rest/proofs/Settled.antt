@@ -1,10 +1,11 @@
 -- A complete log at whose end the links are quiet is one at which nothing goes on; and it is, where a settle is the last.
-use Rattle.std.proofs.Common.{ℕ, false, true, ◌++◌, ◌∷◌, ◌≡◌, List, [], ap, subst}
+use Rattle.std.proofs.Common.{ℕ, false, true, ◌++◌, ◌∷◌, ◌≡◌, List, [], ap, arith, subst}
 use Rattle.sdd_base.specs.declared.event.Event.{Event}
 use Rattle.sdd_base.specs.declared.event.Event.TheVariants.{Settle}
 use Rattle.sdd_net.specs.Links.{quiet}
 use Rattle.sdd_order.specs.Numbers.{IsModule}
 use Rattle.sdd_log.specs.Entries.{Given, Log, history, with_event}
+use Rattle.sdd_log.specs.Locals.{redeclares}
 use Rattle.sdd_log.specs.Permitted.{AreSubmittedOnce}
 use Rattle.sdd_log.specs.Traffic.{all_links, calls_of, is_down}
 use Rattle.sdd_log.proofs.NewMarks.{lawful_permitted}
@@ -16,10 +17,11 @@ use Rattle.sdd_upheld.proofs.Numbered.{lawful_numbered}
 use Rattle.sdd_upheld.specs.Given.{SubmitGiven}
 use Rattle.sdd_rest.proofs.Committed.{all_committed}
 use Rattle.sdd_rest.proofs.Finished.{finished}
+use Rattle.sdd_rest.proofs.IdleAtRedeclares.{idle_at_redeclares}
 use Rattle.sdd_rest.proofs.NoneWaits.{is_idle}
 use Rattle.sdd_rest.specs.Committed.{AllCommitted}
 use Rattle.sdd_rest.specs.Finished.{IsFinished}
-use Rattle.sdd_rest.specs.Premises.{HasOneTable}
+use Rattle.sdd_rest.specs.Premises.{HasSoundLists}
 use Rattle.sdd_rest.specs.Quiet.{IsQuiet}
 use Rattle.sdd_rest.specs.Settled.{IsAtEnd, IsSettled}
 
@@ -35,15 +37,16 @@ settled_is_quiet g log once s =
     let o = complete_parts g log s.at_end.complete in
     record { permitted = lawful_permitted g log once s.at_end.lawful; links = s.links; up = s.at_end.up; no_act = o.no_site; no_hand = o.no_hand }
 
-pub settled_is_finished : (g : Given) (log : Log) → HasOneTable g → AreSubmittedOnce g.events → IsSettled g log → IsFinished g log
-settled_is_finished g log one once s =
+pub settled_is_finished : (g : Given) (log : Log) → HasSoundLists g log → AreSubmittedOnce g.events → IsSettled g log → IsFinished g log
+settled_is_finished g log lists once s =
     let h = settled_is_quiet g log once s in
-    finished g log h one.fits.sound (is_idle g log h one s.at_end.one_list)
+    let last = lists (redeclares log) (omega arith) in
+    finished g log h last.fits.sound (is_idle g log h last (idle_at_redeclares g log once s.at_end.lawful lists s.at_end.up_before))
 
-pub settled_is_committed : (g : Given) (log : Log) → HasOneTable g → SubmitGiven g → IsSettled g log → AllCommitted (history log)
-settled_is_committed g log one given s =
-    all_committed g log (settled_is_quiet g log given.once s) one s.at_end.one_list
-    (lawful_numbered g log given s.at_end.lawful) (settled_is_finished g log one given.once s)
+pub settled_is_committed : (g : Given) (log : Log) → HasSoundLists g log → SubmitGiven g → IsSettled g log → AllCommitted (history log)
+settled_is_committed g log lists given s =
+    all_committed g log (settled_is_quiet g log given.once s).permitted lists
+    (lawful_numbered g log given s.at_end.lawful) (settled_is_finished g log lists given.once s)
 
 -- where a settle is the last of the events
 pub settle_ends : (g : Given) (log : Log) (events : List Event) → g.events ≡ events ++ Settle ∷ [] → IsAtEnd g log → IsSettled g log

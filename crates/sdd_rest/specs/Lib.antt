@@ -1,5 +1,6 @@
 pub mod Asked
 pub mod Committed
+pub mod Eras
 pub mod Examples
 pub mod Finished
 pub mod Going

@@ -22,30 +22,46 @@ ghost use Rattle.sdd_dm.specs.Copies.{dated};
 ghost use Rattle.sdd_laws.specs.Replay.{AreAllApplied, run};
 ghost use Rattle.sdd_laws.specs.Snapshots.{copy_at, items_of};
 ghost use Rattle.sdd_log.specs.Entries.{Given, Log, history};
+ghost use Rattle.sdd_log.specs.Lawful.{IsLawful};
 ghost use Rattle.sdd_log.specs.Locals.{local_of, redeclares, setting_of};
 ghost use Rattle.sdd_log.specs.Permitted.{AreSubmittedOnce};
 ghost use Rattle.sdd_log.specs.Traffic.{all_links, calls_of, is_down};
 ghost use Rattle.sdd_step.specs.Resting.{Rests};
-ghost use Rattle.sdd_upheld.specs.Given.{AreNumbered, HasSoundData, SubmitGiven};
+ghost use Rattle.sdd_upheld.specs.Given.{AreErasOf, AreNumbered, HasSoundData, SubmitGiven};
 ghost use Rattle.sdd_rest.specs.Committed.{AllCommitted, IsNotLeft, WasCommitted};
+ghost use Rattle.sdd_rest.specs.Eras.{eras_of};
 ghost use Rattle.sdd_rest.specs.Finished.{IsFinished, IsIdle};
-ghost use Rattle.sdd_rest.specs.Premises.{HasOneTable};
+ghost use Rattle.sdd_rest.specs.Premises.{HasSoundLists, IsIdleAtRedeclares, IsSoundList, IsUpAtRedeclares};
 ghost use Rattle.sdd_rest.specs.Quiet.{IsQuiet};
 ghost use Rattle.sdd_rest.specs.Settled.{IsAtEnd, IsSettled};
 
 /// A law: where nothing goes on, each message of each pipe is processed and no attempt is under way;
-/// no transaction waits in a queue, and no transaction module is on hold.
+/// no transaction waits in a queue, and no transaction module is on hold. This takes that all was idle
+/// where the lists of classes were put in force, of which `law_idle_at_redeclares` speaks.
 pub fn law_finished()
-    ensures idle { (given : Given) (log : Log) → IsQuiet given log → HasOneTable given
-        → redeclares log ≡ 0 → IsIdle given log }
-    ensures finished { (given : Given) (log : Log) → IsQuiet given log → HasOneTable given
-        → redeclares log ≡ 0 → IsFinished given log }
+    ensures idle { (given : Given) (log : Log) → IsQuiet given log
+        → IsSoundList given (redeclares log) → IsIdleAtRedeclares given log → IsIdle given log }
+    ensures finished { (given : Given) (log : Log) → IsQuiet given log
+        → IsSoundList given (redeclares log) → IsIdleAtRedeclares given log → IsFinished given log }
 {}
 
-/// A law: then every transaction that was submitted is committed.
+/// A law: wherever a lawful log put a further list of classes in force nothing went on and all was
+/// idle, if no data module was down there.
+pub fn law_idle_at_redeclares()
+    ensures { (given : Given) (log : Log) → AreSubmittedOnce given.events → IsLawful given log
+        → HasSoundLists given log → IsUpAtRedeclares given log → IsIdleAtRedeclares given log }
+{}
+
+/// A law: the lists of classes that a log put in force are its eras.
+pub fn law_eras_of_log()
+    ensures { (given : Given) (log : Log) → HasSoundLists given log
+        → AreErasOf given log (eras_of given log) }
+{}
+
+/// A law: where nothing goes on, every transaction that was submitted is committed.
 pub fn law_committed()
-    ensures { (given : Given) (log : Log) → IsQuiet given log → HasOneTable given
-        → redeclares log ≡ 0 → AreNumbered given log → AllCommitted (history log) }
+    ensures { (given : Given) (log : Log) → IsQuiet given log → HasSoundLists given log
+        → IsIdleAtRedeclares given log → AreNumbered given log → AllCommitted (history log) }
 {}
 
 /// A law: so no entry of the history is left, that is submits what isn't committed; and a test that
@@ -64,15 +80,16 @@ pub fn law_none_left()
 /// runs the transactions along a serial order.
 pub fn law_copies()
     ensures applied { (given : Given) (log : Log) (f d : ℕ) → IsQuiet given log
-        → HasOneTable given → redeclares log ≡ 0 → has_copy given.catalogue d f ≡ true
+        → HasSoundLists given log → IsIdleAtRedeclares given log
+        → has_copy given.catalogue d f ≡ true
         → AreAllApplied (history log) f d (length (history log)) }
     ensures own { (given : Given) (rows : List (RelNo × Row)) (log : Log) (f d : ℕ)
-        → IsQuiet given log → HasOneTable given → redeclares log ≡ 0
+        → IsQuiet given log → HasSoundLists given log
         → HasSoundData given rows → has_copy given.catalogue d f ≡ true
         → contents f (dated (setting_of given (D (dm_no d))) (local_of given (D (dm_no d)) log))
         ≡ copy_at given.catalogue rows (history log) d (length (history log)) f }
     ensures serial { (given : Given) (rows : List (RelNo × Row)) (log : Log) (order : List TxnNo)
-        (f d : ℕ) → IsQuiet given log → HasOneTable given → redeclares log ≡ 0
+        (f d : ℕ) → IsQuiet given log → HasSoundLists given log → IsIdleAtRedeclares given log
         → HasSoundData given rows → IsSerial given.catalogue (history log) order
         → has_copy given.catalogue d f ≡ true
         → rows_in_fragment given.catalogue (run given.catalogue rows given.txns order).1 f
@@ -94,9 +111,9 @@ pub fn law_resting()
 pub fn law_settled()
     ensures quiet { (given : Given) (log : Log) → AreSubmittedOnce given.events
         → IsSettled given log → IsQuiet given log }
-    ensures finished { (given : Given) (log : Log) → HasOneTable given
+    ensures finished { (given : Given) (log : Log) → HasSoundLists given log
         → AreSubmittedOnce given.events → IsSettled given log → IsFinished given log }
-    ensures committed { (given : Given) (log : Log) → HasOneTable given → SubmitGiven given
+    ensures committed { (given : Given) (log : Log) → HasSoundLists given log → SubmitGiven given
         → IsSettled given log → AllCommitted (history log) }
     ensures behind_settle { (given : Given) (log : Log) (events : List Event)
         → given.events ≡ events ++ Settle ∷ [] → IsAtEnd given log → IsSettled given log }

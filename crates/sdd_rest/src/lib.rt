@@ -5,14 +5,17 @@
 //! under way, no transaction waits in a queue, and every transaction that was submitted is committed
 //! (`law_finished`, `law_committed`); then each copy is what a serial run leaves (`law_copies`). Where
 //! no module is down, such is every log between events at which the links are quiet (`law_resting`),
-//! and every complete one behind a settle (`law_settled`). It is said of one list of classes: of logs
-//! in which no further one is put in force.
+//! and every complete one behind a settle (`law_settled`). Logs may put any number of lists of classes
+//! in force: wherever one is, nothing goes on before it (`law_idle_at_redeclares`).
 #![tactic(auto)]
 
 mod law;
 mod parts;
 mod worked;
 
-pub use law::{law_committed, law_copies, law_finished, law_none_left, law_resting, law_settled};
+pub use law::{
+    law_committed, law_copies, law_eras_of_log, law_finished, law_idle_at_redeclares,
+    law_none_left, law_resting, law_settled,
+};
 pub use parts::{law_class_zero, law_exchanges, law_handed, law_none_waits, law_unanswered};
 pub use worked::{law_all_lost, law_late_query, law_read_and_put};

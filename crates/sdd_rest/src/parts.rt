@@ -22,7 +22,7 @@ ghost use Rattle.sdd_invariants.specs.Traffic.{hands_from, puts_to};
 ghost use Rattle.sdd_facts.specs.Fitting.{FitsGiven};
 ghost use Rattle.sdd_rest.specs.Asked.{IsUnanswered};
 ghost use Rattle.sdd_rest.specs.Going.{IsGoing};
-ghost use Rattle.sdd_rest.specs.Premises.{HasOneTable};
+ghost use Rattle.sdd_rest.specs.Premises.{IsIdleAtRedeclares, IsSoundList};
 ghost use Rattle.sdd_rest.specs.Quiet.{IsQuiet, at_home};
 ghost use Rattle.sdd_rest.specs.Waiting.{IsReader};
 
@@ -70,9 +70,9 @@ pub fn law_class_zero()
         → slice_get conds place ≡ Some cond → cond.time.0 ≡ ts.0 }
 {}
 
-/// A law: where nothing goes on, no READ waits.
+/// A law: where nothing goes on, no READ waits: each has conditions of the list of classes in force.
 pub fn law_none_waits()
-    ensures { (given : Given) (log : Log) → IsQuiet given log → HasOneTable given
-        → redeclares log ≡ 0 → (class ts : ℕ) (conds : List Cond)
+    ensures { (given : Given) (log : Log) → IsQuiet given log
+        → IsSoundList given (redeclares log) → IsIdleAtRedeclares given log → (class ts : ℕ) (conds : List Cond)
         → IsReader given log class ts conds → ⊥ }
 {}

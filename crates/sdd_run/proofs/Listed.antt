@@ -41,7 +41,7 @@ use Rattle.sdd_upheld.proofs.Beginnings.{at_map}
 use Rattle.sdd_upheld.proofs.Classes.{at_home, home_setting}
 use Rattle.sdd_upheld.proofs.Homes.{positive}
 use Rattle.sdd_waiting.proofs.ClassSites.{in_runs}
-use Rattle.sdd_rest.proofs.Committed.{IsQueued, class_within, committed_or_queued, home_is}
+use Rattle.sdd_rest.proofs.Committed.{IsQueued, class_within_own, committed_or_queued, home_is_own}
 use Rattle.sdd_rest.proofs.Lists.{either, kept_there}
 use Rattle.sdd_rest.specs.Committed.{WasCommitted}
 use Rattle.sdd_rest.specs.Premises.{HasOneTable}
@@ -175,8 +175,8 @@ why_here g log (standings.Underway class (Some ts) at) h = (_, refl)
 reason_here : (g : Given) (log : Log) (n : ℕ) → IsQueued g log n → (w : Why) × (reason_of (standing_at standing_at_u standing_at_t) g log n ≡ Some w)
 reason_here g log n x =
     let c : ℕ = class_for g.catalogue x.text in
-    let at : home_of g.catalogue (txn_at g n) ≡ home g.catalogue c = ap (home_of g.catalogue) x.text_is ∙ home_is g.catalogue x.text c refl in
-    let h = here_at g log c n x.place x.waiting (class_within g.catalogue x.text) x.there x.number_is in
+    let at : home_of g.catalogue (txn_at g n) ≡ home g.catalogue c = ap (home_of g.catalogue) x.text_is ∙ home_is_own g.catalogue x.text c refl in
+    let h = here_at g log c n x.place x.waiting (class_within_own g.catalogue x.text) x.there x.number_is in
     let w = why_here g log (standing_at standing_at_u standing_at_t (home g.catalogue c) (home_setting g c) (at_home g c log) n) h in
     (w.0, ap (λ s. why_of g log (standing_at standing_at_u standing_at_t s (setting_of g s) (local_of g s log) n)) at ∙ w.1)
 

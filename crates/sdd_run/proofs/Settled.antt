@@ -34,8 +34,9 @@ use Rattle.sdd_report.specs.declared.copies.CopyTable.{CopyTable}
 use Rattle.sdd_settling.proofs.Settled.{quiet_at_last}
 use Rattle.sdd_rest.proofs.Copies.{applied_at_copies}
 use Rattle.sdd_rest.proofs.Settled.{settled_is_committed, settled_is_finished, settled_is_quiet}
+use Rattle.sdd_rest.proofs.OneList.{one_list, up_in_one}
 use Rattle.sdd_rest.specs.Committed.{AllCommitted, WasCommitted}
-use Rattle.sdd_rest.specs.Premises.{HasOneTable}
+use Rattle.sdd_rest.specs.Premises.{HasOneTable, HasSoundLists}
 use Rattle.sdd_rest.specs.Settled.{IsAtEnd, IsSettled}
 use Rattle.sdd_run.specs.Copies.{table_of, tables_at, tables_of}
 use Rattle.sdd_run.specs.Reports.{report_of}
@@ -77,8 +78,11 @@ module _ (cat : Catalogue) (table : List Entry) (work : Workload) (sound : IsSou
   submit_given = record { once = once work.events valid.submitted; given = λ n there. named cat (length work.txns) n work.events valid.events there }
 
   module _ (log : Log) (the_log : IsTheLog (given_of cat table work) log) (none : redeclares log ≡ 0) where
+    lists : HasSoundLists (given_of cat table work) log
+    lists = one_list (given_of cat table work) log one_table none
+
     at_end : NoneIsDown cat log → IsAtEnd (given_of cat table work) log
-    at_end up = record { lawful = the_log.lawful; complete = the_log.complete; one_list = none; up = up }
+    at_end up = record { lawful = the_log.lawful; complete = the_log.complete; up_before = up_in_one (given_of cat table work) log none; up = up }
 
     is_settled : EndsQuiet (given_of cat table work) log → NoneIsDown cat log → IsSettled (given_of cat table work) log
     is_settled links up = record { at_end = at_end up; links = links }
@@ -93,7 +97,7 @@ module _ (cat : Catalogue) (table : List Entry) (work : Workload) (sound : IsSou
         (subst (λ x. next x log ≡ None) same the_log.complete)
 
     all_committed : EndsQuiet (given_of cat table work) log → NoneIsDown cat log → AllCommitted (history log)
-    all_committed links up = settled_is_committed (given_of cat table work) log one_table submit_given (is_settled links up)
+    all_committed links up = settled_is_committed (given_of cat table work) log lists submit_given (is_settled links up)
 
     pub settled : IsOrderable cat (history log) → IsSerial cat (history log) (serial_order cat (history log))
         → EndsQuiet (given_of cat table work) log → NoneIsDown cat log
@@ -129,10 +133,10 @@ module _ (cat : Catalogue) (table : List Entry) (work : Workload) (sound : IsSou
         let g : Given = given_of cat table work in
         let s = is_settled links up in
         let h = settled_is_quiet g log submit_given.once s in
-        let done = settled_is_finished g log one_table submit_given.once s in
+        let done = settled_is_finished g log lists submit_given.once s in
         let at = Contains-from_flat_map (tables_at g log) (numbers_to cat.dms) copy there in
         let xs = dated (setting_of g (D (dm_no at.0))) (local_of g (D (dm_no at.0)) log) in
         let of = Contains-from_map (table_of at.0 xs) _ copy at.2 in
         let copied = Contains-from_filter (has_copy cat at.0) (numbers_to (length cat.fragments)) of.0 of.1 in
         subst (λ (t : CopyTable). AreAllApplied (history log) t.frag.0 t.dm.0 (length (history log)))
-        (sym of.2) (applied_at_copies g log of.0 at.0 h one_table none done.idle copied.1)
+        (sym of.2) (applied_at_copies g log of.0 at.0 sound h lists done.idle copied.1)

@@ -241,3 +241,9 @@ conditions_of g log c d k ts of txn attempt conds uses h n e =
     let i = in_pipe g c d log h in
     let there : slice_get (class_puts g c d log) k ≡ Some m = subst (λ ms. slice_get ms k ≡ Some m) (sym i.1) (in_left (all_of (pipe_at g c d log)) i.0 k m e) in
     conditions_by g log c d ts of txn attempt conds uses n (origin g c d log k m h there)
+
+-- and by the act that put the READ
+pub conditions_at_put : (g : Given) (log : Log) (c : ℕ) (d : DmNo) (ts : Ts) (of : ClassNo) (txn : TxnNo) (attempt : ℕ) (conds : List Cond) (uses : List Use)
+    → c ≢ 0 → (p : IsPutAt g log c d (Read ts of txn attempt conds uses)) → (from : AreConditionsOf g log c ts.0 conds) × (from.before ≡ p.before)
+unfolding conditions_by
+conditions_at_put g log c d ts of txn attempt conds uses n p = (conditions_by g log c d ts of txn attempt conds uses n p, refl)

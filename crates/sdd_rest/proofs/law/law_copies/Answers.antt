@@ -1,13 +1,19 @@
+use Rattle.std.proofs.Common.{arith}
+use Rattle.sdd_log.specs.Locals.{redeclares}
 use Rattle.sdd_rest.proofs.Copies.{applied_at_copies, serial_copies}
 use Rattle.sdd_rest.proofs.NoneWaits.{is_idle}
 use Rattle.sdd_rest.proofs.OwnCopies.{own_copy}
 use Rattle.sdd_rest.proofs.law.law_copies.Goals as goal
 
 pub returns-clause-applied : goal.returns-clause-applied
-returns-clause-applied g = λ given log f d h one none. applied_at_copies given log f d h one none (is_idle given log h one none)
+returns-clause-applied g = λ given log f d h lists idle.
+    let last = lists (redeclares log) (omega arith) in
+    applied_at_copies given log f d last.fits.sound h lists (is_idle given log h last idle)
 
 pub returns-clause-own : goal.returns-clause-own
-returns-clause-own g = own_copy
+returns-clause-own g = λ given rows log f d h lists. own_copy given rows log f d (lists (redeclares log) (omega arith)).fits.sound h lists
 
 pub returns-clause-serial : goal.returns-clause-serial
-returns-clause-serial g = λ given rows log order f d h one none. serial_copies given rows log order f d h one none (is_idle given log h one none)
+returns-clause-serial g = λ given rows log order f d h lists idle.
+    let last = lists (redeclares log) (omega arith) in
+    serial_copies given rows log order f d last.fits.sound h lists (is_idle given log h last idle)

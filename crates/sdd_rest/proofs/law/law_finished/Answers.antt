@@ -6,4 +6,4 @@ pub returns-clause-idle : goal.returns-clause-idle
 returns-clause-idle g = is_idle
 
 pub returns-clause-finished : goal.returns-clause-finished
-returns-clause-finished g = λ given log h one none. finished given log h one.fits.sound (is_idle given log h one none)
+returns-clause-finished g = λ given log h last idle. finished given log h last.fits.sound (is_idle given log h last idle)
