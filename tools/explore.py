@@ -14,6 +14,8 @@ transaction: its name without the digits at its end.
     attempts/commit   1 where no read was rejected
     waits/attempt     how often a read of an attempt had to wait at a data module
     waited            how long such a read waited: the median, and the worst
+    queued            how long it took from the submission to the first attempt: transactions of one class
+                      run one after the other
     to commit         how long it took from the submission to the commit: the median, and the worst
     rows, values      what was shipped for the committed attempt, on the average
 

@@ -4,7 +4,7 @@
 """
 import re
 
-COLUMNS = ["attempts", "attempts/commit", "waits/attempt", "waited: median", "worst", "to commit: median", "worst", "rows", "values"]
+COLUMNS = ["attempts", "attempts/commit", "waits/attempt", "waited: median", "worst", "queued: median", "to commit: median", "worst", "rows", "values"]
 ALL = "all"
 
 
@@ -13,7 +13,7 @@ class Figures:
 
     def __init__(self):
         self.attempts = self.commits = self.waits = self.values = self.rows = 0
-        self.waited, self.latencies, self.kinds = [], [], set()
+        self.waited, self.queued, self.latencies, self.kinds = [], [], [], set()
 
     def take(self, told, unit):
         self.attempts += told.attempts
@@ -24,12 +24,13 @@ class Figures:
             self.values += told.values
             self.rows += told.rows
             self.latencies.append(told.latency() / unit)
+            self.queued.append((told.started - told.submitted) / unit)
 
     def cells(self):
         per = lambda x, of, form: form % (x / of) if of else "-"  # noqa: E731
         return [str(self.attempts), per(self.attempts, self.commits, "%.2f"), per(self.waits, self.attempts, "%.2f"),
                 shown(median(self.waited)), shown(max(self.waited, default=None)),
-                shown(median(self.latencies)), shown(max(self.latencies, default=None)),
+                shown(median(self.queued)), shown(median(self.latencies)), shown(max(self.latencies, default=None)),
                 per(self.rows, self.commits, "%.1f"), per(self.values, self.commits, "%.1f")]
 
 
@@ -128,13 +129,13 @@ def print_comparison(designs, by, unit):
     for k, design in enumerate(designs, 1):
         print("%d  %s" % (k, said_of(design, unit)))
     print()
-    heads = ["attempts/commit", "waits/attempt", "waited: median", "worst", "to commit: median", "worst", "rows"]
+    heads = COLUMNS[1:9]
     rows = [[by] + heads]
     names = [x for x in designs[0].figures if x != ALL]
     names += [x for x in designs[1].figures if x not in names]
     names = [x for x in names if x != ALL] + [ALL]
     for name in names:
         both = [x.figures[name].cells() if name in x.figures else ["-"] * len(COLUMNS) for x in designs]
-        rows.append([name] + ["%s -> %s" % (a, b) if a != b else a for a, b in list(zip(*both))[1:8]])
+        rows.append([name] + ["%s -> %s" % (a, b) if a != b else a for a, b in list(zip(*both))[1:9]])
     print_table(rows)
     print_drains(designs, unit)

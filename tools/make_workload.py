@@ -19,21 +19,12 @@ readers    as `classes`, where each reads all fragments at 16 data modules, and 
 import os
 from typing import Callable, NamedTuple
 
+from applications import smallbank, tatp, tpcc, ycsb
 from command import count, parser, start
+from drawing import Random
 from report import BadInput
 
 BANK = os.path.join(os.path.dirname(os.path.abspath(__file__)), "..", "crates", "sdd1", "data", "bank.toml")
-
-
-class Random:
-    """The drawn numbers: a linear congruence, of which the upper 15 bits are taken."""
-
-    def __init__(self, seed):
-        self.x = seed
-
-    def draw(self, below):
-        self.x = (self.x * 1103515245 + 12345) % 2**31
-        return self.x // 65536 % below
 
 
 def relation(name, columns):
@@ -161,11 +152,33 @@ MEASURED = {                # what tools/benchmark.py measures
 }
 
 
-def write_workload(folder, kind, n=None, seed=1):
+APPLICATIONS = {"smallbank": (smallbank, 1000), "tatp": (tatp, 2048), "tpcc": (tpcc, 2048), "ycsb": (ycsb, 2048)}    # with the most of N
+USUAL_OF_APPLICATIONS = 60
+
+
+def lines_of(kind, n, seed, design):
+    """The lines of the catalogue and of the workload without its end."""
+    if kind in APPLICATIONS:
+        application, most = APPLICATIONS[kind]
+        if design is not None and design not in application.DESIGNS:
+            raise BadInput("%s has no design %s; it has %s" % (kind, design, ", ".join(application.DESIGNS)))
+        n = USUAL_OF_APPLICATIONS if n is None else n
+    elif kind not in MEASURED:
+        raise BadInput("%s is no kind; the kinds are %s" % (kind, ", ".join(list(MEASURED) + list(APPLICATIONS))))
+    elif design is not None:
+        raise BadInput("%s has no designs" % kind)
+    else:
+        n, most = MEASURED[kind].usual if n is None else n, MEASURED[kind].most
+    if n > most:
+        raise BadInput("of %s N is at most %d" % (kind, most))
+    if kind in MEASURED:
+        return MEASURED[kind].make(n, seed)
+    return application.make(n, seed, design or list(application.DESIGNS)[-1])
+
+
+def write_workload(folder, kind, n=None, seed=1, design=None):
     """The paths of the two files that are written; the folder is made where there is none."""
-    if kind not in MEASURED:
-        raise BadInput("%s is no kind; the kinds are %s" % (kind, ", ".join(MEASURED)))
-    catalogue, lines = MEASURED[kind].make(MEASURED[kind].usual if n is None else n, seed)
+    catalogue, lines = lines_of(kind, n, seed, design)
     os.makedirs(folder, exist_ok=True)
     paths = [os.path.join(folder, x) for x in ("catalogue.toml", "workload")]
     for path, text in zip(paths, (catalogue, lines + ["end"])):
@@ -176,17 +189,15 @@ def write_workload(folder, kind, n=None, seed=1):
 
 def main():
     asked = parser(__doc__)
-    asked.add_argument("kind", metavar="KIND", choices=list(MEASURED))
+    asked.add_argument("kind", metavar="KIND")
     asked.add_argument("n", metavar="N", nargs="?", type=count)
     asked.add_argument("--seed", type=count, default=1, help="where the drawn numbers begin, below 2^31")
+    asked.add_argument("--design", metavar="NAME", help="of an application: one of its designs")
     asked.add_argument("--into", metavar="FOLDER", required=True)
     asked = asked.parse_args()
-    most = MEASURED[asked.kind].most
-    if asked.n is not None and asked.n > most:
-        raise BadInput("of %s N is at most %d" % (asked.kind, most))
     if asked.seed >= 2**31:
         raise BadInput("SEED is below 2^31")
-    write_workload(asked.into, asked.kind, asked.n, asked.seed)
+    write_workload(asked.into, asked.kind, asked.n, asked.seed, asked.design)
 
 
 if __name__ == "__main__":

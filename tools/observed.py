@@ -18,7 +18,7 @@ class Told:
     """What a report tells of one transaction."""
 
     def __init__(self, submitted):
-        self.cls, self.submitted, self.committed, self.attempts = None, submitted, None, 0
+        self.cls, self.submitted, self.started, self.committed, self.attempts = None, submitted, None, None, 0
         self.waits, self.values, self.rows = [], 0, 0
 
     def latency(self):
@@ -62,6 +62,7 @@ def take_submit(told, _, event, words):
 def take_start(told, _, event, words):
     mine = told[words[0].partition("#")[0]]
     mine.cls, mine.attempts = words[1], mine.attempts + 1
+    mine.started = event if mine.started is None else mine.started
 
 
 def take_wait(_, begun, event, words):

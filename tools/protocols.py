@@ -6,6 +6,7 @@ import re
 
 from report import BadInput
 
+MOST = 24                   # of more pairs of a reader and a writer these are told
 NAME = r"([A-Za-z][A-Za-z0-9_]*)"
 READ = re.compile("%s reads %s at (D\\d+) writer %s (P[123]) block (\\d+|-)" % (NAME, NAME, NAME))
 
@@ -34,15 +35,13 @@ def joined(protocols):
     return made
 
 
-def line_of(reader, writer, protocol, fragments):
-    return "%s waits for %s by %s (%s)" % (reader, writer, protocol, ", ".join(fragments))
-
-
 def print_protocols(protocols):
     print("\nprotocol table: %s" % counted(protocols))
-    for (reader, writer, protocol), fragments in joined(protocols).items():
-        if protocol != "P1":
-            print("  " + line_of(reader, writer, protocol, fragments))
+    waiting = [x for x in joined(protocols).items() if x[0][2] != "P1"]
+    for (reader, writer, protocol), fragments in waiting[:MOST]:
+        print("  %s waits for %s by %s (%s)" % (reader, writer, protocol, ", ".join(fragments)))
+    if len(waiting) > MOST:
+        print("  .. and %d more" % (len(waiting) - MOST))
 
 
 def print_changes(first, second):
@@ -50,10 +49,11 @@ def print_changes(first, second):
     print("\nprotocol table: %s -> %s" % (counted(first), counted(second)))
     gone = {x: p for x, p in first.items() if x not in second}
     new = {x: p for x, p in second.items() if x not in first}
-    for (reader, writer, protocol), fragments in joined(gone).items():
-        print("  - %s reads %s, writer %s: %s" % (reader, ", ".join(fragments), writer, protocol))
-    for (reader, writer, protocol), fragments in joined(new).items():
-        print("  + %s reads %s, writer %s: %s" % (reader, ", ".join(fragments), writer, protocol))
+    for sign, pairs in (("-", list(joined(gone).items())), ("+", list(joined(new).items()))):
+        for (reader, writer, protocol), fragments in pairs[:MOST]:
+            print("  %s %s reads %s, writer %s: %s" % (sign, reader, ", ".join(fragments), writer, protocol))
+        if len(pairs) > MOST:
+            print("  %s .. and %d more" % (sign, len(pairs) - MOST))
     for reader, fragment, writer in first:
         before, after = first[reader, fragment, writer], second.get((reader, fragment, writer))
         if after is not None and after != before:

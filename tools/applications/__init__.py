@@ -1,0 +1,1 @@
+"""Known applications, each as a catalogue in several designs and a generator of its transactions."""
