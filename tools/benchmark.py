@@ -14,20 +14,20 @@ The workloads are those of tools/make_workload.py and crates/sdd1/data: `small` 
 most that was in use at once. An event is one of the run: those of a settle are counted, by an event
 behind it that finds nothing. A call that takes longer than --seconds (600) is ended and told.
 """
-import argparse
 import hashlib
 import os
-import shlex
 import subprocess
 import sys
 import tempfile
 import threading
 from typing import NamedTuple
 
-from make_workload import USUAL, write_workload
+from command import parser, parts_of, start
+from make_workload import MEASURED, write_workload
 from program import CRATE
+from report import BadInput
 
-CALLS = [("small", "run")] + [(kind, "run") for kind in USUAL] + [("scans", "plain"), ("replies", "plain")]
+CALLS = [("small", "run")] + [(kind, "run") for kind in MEASURED] + [("scans", "plain"), ("replies", "plain")]
 COUNTER = "lose T1 D1 1\n"
 HEAD = ["workload", "command", "events", "seconds", "MB", "events/s"]
 
@@ -48,7 +48,7 @@ def files_of(kind, folder, part):
             text = f.read()
         paths[1] = os.path.join(folder, "workload")
     else:
-        paths = write_workload(folder, kind, max(1, USUAL[kind] // part))
+        paths = write_workload(folder, kind, max(1, MEASURED[kind].usual // part))
         with open(paths[1], encoding="utf-8") as f:
             text = f.read()
     with open(paths[1], "w", encoding="utf-8") as f:
@@ -63,7 +63,7 @@ def measure(command, words, seconds, folder):
         try:
             started = subprocess.Popen(command + words, stdout=f, stderr=subprocess.PIPE, start_new_session=True)
         except OSError as fault:
-            sys.exit("benchmark.py: %s doesn't run: %s" % (command[0], fault.strerror))
+            raise BadInput("%s doesn't run: %s" % (command[0], fault.strerror.lower())) from None
         late = threading.Timer(seconds, started.kill)
         late.start()
         told = started.stderr.read().decode(errors="replace").strip()
@@ -111,25 +111,25 @@ def built():
     try:
         subprocess.run(["rt", "run"], cwd=CRATE, stdout=subprocess.DEVNULL, check=False)
     except OSError as fault:
-        sys.exit("benchmark.py: rt doesn't run: %s" % fault.strerror)
+        raise BadInput("rt doesn't run: %s" % fault.strerror.lower()) from None
     program = os.path.join(CRATE, "out", "sdd1")
     if not os.path.exists(program):
-        sys.exit("benchmark.py: `rt run` left no program; give one by --program")
+        raise BadInput("`rt run` left no program; give one by --program")
     return [program]
 
 
 def main():
-    asked = argparse.ArgumentParser(description=__doc__, formatter_class=argparse.RawDescriptionHelpFormatter, usage=argparse.SUPPRESS)
+    asked = parser(__doc__)
     asked.add_argument("--program", metavar="COMMAND", help="a built `sdd1`")
     asked.add_argument("--reference", metavar="COMMAND", help="a program that takes the same words")
-    asked.add_argument("--only", metavar="KIND", nargs="+", choices=[x for x, _ in CALLS], help="these workloads alone")
+    asked.add_argument("--only", metavar="KIND", nargs="+", choices=list(dict(CALLS)), help="these workloads alone")
     asked.add_argument("--part", metavar="N", type=int, default=1, help="an Nth of each workload")
     asked.add_argument("--seconds", metavar="N", type=int, default=600, help="the most that a call may take")
     asked = asked.parse_args()
     if asked.part < 1 or asked.seconds < 1:
-        sys.exit("benchmark.py: --part and --seconds are 1 or more")
-    program = shlex.split(asked.program) if asked.program else built()
-    reference = shlex.split(asked.reference) if asked.reference else None
+        raise BadInput("--part and --seconds are 1 or more")
+    program = built() if asked.program is None else parts_of(asked.program)
+    reference = None if asked.reference is None else parts_of(asked.reference)
     rows = [HEAD + (["time: ratio", "MB: ratio", "same text"] if reference else [])]
     for kind, command in CALLS:
         if asked.only and kind not in asked.only:
@@ -146,4 +146,4 @@ def main():
 
 
 if __name__ == "__main__":
-    main()
+    start(main)

@@ -17,16 +17,14 @@ A cycle means that no serial order gives these reads. The script also refuses a 
 twice, a read of one that nobody appended, and two reads of an item of which neither begins the other.
 It prints what it found, a line each, and ends with status 1; or one line with the counts, and ends with 0.
 """
-import argparse
 import re
 import sys
 
+from command import parser, start
+from report import BadInput
+
 TOKEN = re.compile(r'[\s,]*([\[\](){}]|"(?:[^"\\]|\\.)*"|[^\s,\[\](){}"]+)')
 CLOSING = {"[": "]", "(": ")", "{": "}"}
-
-
-class BadHistory(Exception):
-    """What is wrong with the file, in one line."""
 
 
 def edn(text):
@@ -67,7 +65,7 @@ def read_history(path):
         with sys.stdin if path == "-" else open(path, encoding="utf-8") as f:
             lines = f.read().split("\n")
     except (OSError, UnicodeDecodeError) as fault:
-        raise BadHistory("%s: %s" % (path, getattr(fault, "strerror", None) or "not UTF-8")) from None
+        raise BadInput("%s: %s" % (path, getattr(fault, "strerror", None) or "not UTF-8")) from None
     for number, line in enumerate(lines, 1):
         if not line.strip():
             continue
@@ -77,9 +75,9 @@ def read_history(path):
                 name = told.get(":name", "op %s" % told.get(":index", number))
                 made.append(Transaction(name, told[":process"], told[":value"]))
         except (ValueError, KeyError, TypeError, IndexError, AttributeError):
-            raise BadHistory("%s: line %d: no operation of a history" % (path, number)) from None
+            raise BadInput("%s: line %d: no operation of a history" % (path, number)) from None
     if not made:
-        raise BadHistory("%s: no transaction in it" % path)
+        raise BadInput("%s: no transaction in it" % path)
     return made
 
 
@@ -201,13 +199,10 @@ def told(graph, cycle):
 
 
 def main():
-    asked = argparse.ArgumentParser(description=__doc__, formatter_class=argparse.RawDescriptionHelpFormatter, usage=argparse.SUPPRESS)
+    asked = parser(__doc__)
     asked.add_argument("history", metavar="HISTORY")
     asked = asked.parse_args()
-    try:
-        graph = Graph(read_history(asked.history))
-    except BadHistory as fault:
-        sys.exit("check_history.py: %s" % fault)
+    graph = Graph(read_history(asked.history))
     faults = list(graph.faults)
     cycle = graph.cycle()
     if cycle:
@@ -220,4 +215,4 @@ def main():
 
 
 if __name__ == "__main__":
-    sys.exit(main())
+    start(main)

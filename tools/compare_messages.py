@@ -13,11 +13,13 @@ difference is printed, and a last line 'N same (M read), K different'.
 import os
 import random
 import re
-import shlex
 import struct
 import subprocess
 import sys
 import tempfile
+
+from command import count, parser, run_outside, start
+from report import BadInput
 
 TOP = os.path.realpath(os.path.join(os.path.dirname(os.path.abspath(__file__)), ".."))
 CRATES = ["sdd_base", "sdd_history", "sdd_wire"]
@@ -284,9 +286,10 @@ def answers_here(top, lines):
         names.append("%06d" % first)
         with open(os.path.join(cases, names[-1]), "w") as out:
             out.write("".join(line + "\n" for line in lines[first:first + BATCH]))
-    ran = subprocess.run(["rt", "try", "--cases", cases], cwd=crate, capture_output=True, text=True)
+    ran = run_outside(["rt", "try", "--cases", cases], cwd=crate)
+    text, errors = ran.stdout.decode(errors="replace"), ran.stderr.decode(errors="replace")
     found, name = {}, None
-    for line in ran.stdout.splitlines():
+    for line in text.splitlines():
         head = re.fullmatch(r"== (\d{6})", line)
         if head:
             name = head.group(1)
@@ -295,17 +298,29 @@ def answers_here(top, lines):
             found[name].append(line)
     answers = [line for name in names for line in found.get(name, [])]
     if len(answers) != len(lines):
-        sys.exit("the program answered %d of %d lines:\n%s%s" % (len(answers), len(lines), ran.stdout[-2000:], ran.stderr[-2000:]))
+        print(text[-2000:] + errors[-2000:], file=sys.stderr)
+        raise BadInput("the program answered %d of %d lines" % (len(answers), len(lines)))
     return answers
 
 
+def wanted_of(reference, lines):
+    """The reference's line for each message."""
+    done = run_outside(reference, input="".join(line + "\n" for line in lines).encode())
+    wanted = done.stdout.decode(errors="replace").splitlines()
+    if done.returncode or len(wanted) != len(lines):
+        raise BadInput("%s: status %d, %d lines for %d messages" % (reference, done.returncode, len(wanted), len(lines)))
+    return wanted
+
+
 def main():
-    reference = shlex.split(sys.argv[1])
-    count = int(sys.argv[2])
-    rng = random.Random(int(sys.argv[3]) if len(sys.argv) > 3 else 0)
-    lines = [made(rng).hex() for _ in range(count)]
-    asked = subprocess.run(reference, input="".join(line + "\n" for line in lines), capture_output=True, text=True, check=True)
-    wanted = asked.stdout.splitlines()
+    asked = parser(__doc__)
+    asked.add_argument("reference", metavar="REFERENCE")
+    asked.add_argument("count", metavar="COUNT", type=count)
+    asked.add_argument("seed", metavar="SEED", nargs="?", type=count, default=0)
+    asked = asked.parse_args()
+    rng = random.Random(asked.seed)
+    lines = [made(rng).hex() for _ in range(asked.count)]
+    wanted = wanted_of(asked.reference, lines)
     with tempfile.TemporaryDirectory() as top:
         answers = answers_here(top, lines)
     same = 0
@@ -315,8 +330,9 @@ def main():
         else:
             print("%s\n  wanted %s\n  got    %s" % (line, want, got))
     read = sum(not want.startswith("bad") for want in wanted)
-    print("%d same (%d read), %d different" % (same, read, count - same))
-    sys.exit(same != count)
+    print("%d same (%d read), %d different" % (same, read, asked.count - same))
+    return int(same != asked.count)
 
 
-main()
+if __name__ == "__main__":
+    start(main)

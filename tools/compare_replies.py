@@ -1,21 +1,20 @@
 #!/usr/bin/env python3
 """Compares what `plain` prints with a reference program, on random workloads of the bank.
 
-    tools/compare_replies.py REFERENCE COUNT [SEED]
+    tools/compare_replies.py REFERENCE COUNT [SEED] [--program COMMAND]
 
 REFERENCE is a command that takes the words of `sdd1` (as `plain CAT WORK`) and prints what `sdd1`
 should. COUNT workloads are made from SEED (0 where it isn't given): rows, transactions of every kind
 of statement, and events; in a third of them some words are changed, so that most of these have a
-fault. The program is run unproved, by `rt try`, which builds it once. Each difference of output,
+fault. Each difference of output,
 error line or status is printed, and a last line 'N same, M different'.
 """
 import os
 import random
-import re
-import shlex
-import subprocess
-import sys
 import tempfile
+
+from command import count, parser, run_outside, start
+from program import Program, add_program
 
 CRATE = os.path.join(os.path.dirname(os.path.abspath(__file__)), "..", "crates", "sdd1")
 CATALOGUE = os.path.join(CRATE, "data", "bank.toml")
@@ -102,52 +101,29 @@ def workload(seed):
     return "".join(line + "\n" for line in lines).encode()
 
 
-def told(errors):
-    """of each case its name, its status and what it wrote to standard error, which stands before its line"""
-    said = ""
-    for line in errors.split("\n"):
-        case = re.match(r"case=(\S+) .*?status=(\d+)", line)
-        if case:
-            yield case.group(1), int(case.group(2)), said
-            said = ""
-        else:
-            said += line + "\n"
-
-
-def main(reference, count, first):
-    same = different = 0
+def main():
+    asked = parser(__doc__)
+    asked.add_argument("reference", metavar="REFERENCE")
+    asked.add_argument("count", metavar="COUNT", type=count)
+    asked.add_argument("seed", metavar="SEED", nargs="?", type=count, default=0)
+    add_program(asked)
+    asked = asked.parse_args()
+    different = 0
     with tempfile.TemporaryDirectory() as room:
-        cases = os.path.join(room, "cases")
-        os.mkdir(cases)
-        want = {}
-        for k in range(count):
-            name = "c%05d" % k
-            path = os.path.join(cases, name)
+        paths, want = [os.path.join(room, "c%05d" % k) for k in range(asked.count)], []
+        for k, path in enumerate(paths):
             with open(path, "wb") as f:
-                f.write(workload(first + k))
-            done = subprocess.run(shlex.split(reference) + ["plain", CATALOGUE, path], stdout=subprocess.PIPE, stderr=subprocess.PIPE)
-            want[name] = (done.returncode, done.stdout, done.stderr.decode())
-        tried = subprocess.run(
-            ["rt", "try", "--cases", cases, "--data", "bank.toml=" + CATALOGUE, "--", "plain", "bank.toml", "{}"],
-            cwd=CRATE, stdout=subprocess.PIPE, stderr=subprocess.PIPE)
-        got = {}
-        for piece in re.split(rb"^== (?=c[0-9]{5}$)", tried.stdout, flags=re.M)[1:]:
-            name, _, text = piece.partition(b"\n")
-            got[name.decode()] = text
-        for name, status, line in told(tried.stderr.decode(errors="replace")):
-            if want[name] == (status, got.get(name, b""), line):
-                same += 1
-            else:
-                different += 1
-                print("%s (seed %d): reference status %d %s" % (name, first + int(name[1:]), want[name][0], want[name][2]))
-        if same + different < count:
-            print(tried.stderr.decode(errors="replace")[-1500:])
-            different = count - same
-    print("%d same, %d different" % (same, different))
+                f.write(workload(asked.seed + k))
+            done = run_outside(asked.reference, ["plain", CATALOGUE, path])
+            want.append((done.returncode, done.stdout.decode(errors="replace"), done.stderr.decode(errors="replace")))
+        got = Program(asked.program).ask_all(["plain", CATALOGUE, "{}"], paths)
+    for k, (one, other) in enumerate(zip(want, got)):
+        if one != tuple(other):
+            different += 1
+            print("seed %d: status %d %r, where the reference has %d %r" % (asked.seed + k, other.status, other.error, one[0], one[2]))
+    print("%d same, %d different" % (asked.count - different, different))
     return 1 if different else 0
 
 
 if __name__ == "__main__":
-    if len(sys.argv) not in (3, 4):
-        sys.exit(__doc__)
-    sys.exit(main(sys.argv[1], int(sys.argv[2]), int(sys.argv[3]) if len(sys.argv) == 4 else 0))
+    start(main)

@@ -13,10 +13,11 @@ different, E events'.
 """
 import os
 import random
-import shlex
 import subprocess
-import sys
 import tempfile
+
+from command import count, parser, run_outside, start
+from report import BadInput
 
 LONGEST = 120  # seconds for one run of a program
 
@@ -118,7 +119,10 @@ def workload(rng, relations, tms, dms):
 
 
 def outcome(command, room):
-    done = subprocess.run(command, cwd=room, stdout=subprocess.PIPE, stderr=subprocess.PIPE, timeout=LONGEST)
+    try:
+        done = run_outside(command, ["run", "catalogue.toml", "workload"], cwd=room, timeout=LONGEST)
+    except subprocess.TimeoutExpired:
+        raise BadInput("%s: a run takes over %d s" % (command, LONGEST)) from None
     return done.returncode, done.stdout.decode(errors="replace"), done.stderr.decode(errors="replace")
 
 
@@ -138,10 +142,15 @@ def last_event(text):
     return int(numbers[-1]) if numbers else 0
 
 
-def main(program, reference, count, first):
+def main():
+    asked = parser(__doc__)
+    for name in ("program", "reference"):
+        asked.add_argument(name, metavar=name.upper())
+    asked.add_argument("count", metavar="COUNT", type=count)
+    asked.add_argument("seed", metavar="SEED", nargs="?", type=count, default=0)
+    asked = asked.parse_args()
     same = different = events = 0
-    commands = [shlex.split(command) + ["run", "catalogue.toml", "workload"] for command in (program, reference)]
-    for seed in range(first, first + count):
+    for seed in range(asked.seed, asked.seed + asked.count):
         rng = random.Random(seed)
         text, relations, tms, dms = catalogue(rng)
         with tempfile.TemporaryDirectory() as room:
@@ -149,7 +158,7 @@ def main(program, reference, count, first):
                 f.write(text)
             with open(os.path.join(room, "workload"), "w") as f:
                 f.write(workload(rng, relations, tms, dms))
-            got, wanted = (outcome(command, room) for command in commands)
+            got, wanted = (outcome(command, room) for command in (asked.program, asked.reference))
         events += last_event(wanted[1])
         if got == wanted:
             same += 1
@@ -161,6 +170,4 @@ def main(program, reference, count, first):
 
 
 if __name__ == "__main__":
-    if len(sys.argv) not in (4, 5):
-        sys.exit(__doc__)
-    sys.exit(main(sys.argv[1], sys.argv[2], int(sys.argv[3]), int(sys.argv[4]) if len(sys.argv) == 5 else 0))
+    start(main)

@@ -8,15 +8,15 @@ the report of its workload, or the advice on its catalogue where it has no workl
 and tools/graph_picture.py draw `picture.svg` and, where `dot` of Graphviz is installed, `graph.svg`. With --check nothing is written, and each file that would
 change is told; `graph.svg` is left out then, since it depends on the version of `dot` and its fonts.
 """
-import argparse
 import os
 import shutil
 import subprocess
 import sys
 import tempfile
 
+from command import parser, start
 from make_workload import write_workload
-from program import run_program
+from program import add_program, run_program
 from report import BadInput
 
 TOOLS = os.path.dirname(os.path.abspath(__file__))
@@ -67,28 +67,25 @@ def same(a, b):
 
 
 def main():
-    asked = argparse.ArgumentParser(description=__doc__, formatter_class=argparse.RawDescriptionHelpFormatter, usage=argparse.SUPPRESS)
-    asked.add_argument("--program", metavar="COMMAND", help="a built `sdd1`")
+    asked = parser(__doc__)
+    add_program(asked)
     names = sorted(x for x in os.listdir(EXAMPLES) if os.path.isdir(os.path.join(EXAMPLES, x)))
     asked.add_argument("--only", metavar="NAME", nargs="+", choices=names, help="these examples alone")
     asked.add_argument("--check", action="store_true", help="compare, and write nothing")
     asked = asked.parse_args()
     different = 0
-    try:
-        for name in asked.only or names:
-            with tempfile.TemporaryDirectory(prefix="examples-") as folder:
-                for file in make(name, asked.program, folder, asked.check):
-                    there = os.path.join(EXAMPLES, name, file)
-                    if not same(os.path.join(folder, file), there):
-                        different += 1
-                        print("%s/%s %s" % (name, file, "differs" if asked.check else "is new"))
-                        if not asked.check:
-                            shutil.copyfile(os.path.join(folder, file), there)
-    except (BadInput, OSError) as fault:
-        sys.exit("make_examples.py: %s" % fault)
+    for name in asked.only or names:
+        with tempfile.TemporaryDirectory(prefix="examples-") as folder:
+            new = [x for x in make(name, asked.program, folder, asked.check)
+                   if not same(os.path.join(folder, x), os.path.join(EXAMPLES, name, x))]
+            for file in new:
+                print("%s/%s %s" % (name, file, "differs" if asked.check else "is new"))
+                if not asked.check:
+                    shutil.copyfile(os.path.join(folder, file), os.path.join(EXAMPLES, name, file))
+        different += len(new)
     print("%d examples, %d files %s" % (len(asked.only or names), different, "differ" if asked.check else "written"))
     return 1 if asked.check and different else 0
 
 
 if __name__ == "__main__":
-    sys.exit(main())
+    start(main)

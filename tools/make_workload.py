@@ -16,12 +16,12 @@ replies    N queries that answer 4,096 rows each
 classes    N transactions in the queues of 64 classes, with one fragment for each two of them
 readers    as `classes`, where each reads all fragments at 16 data modules, and asks its writers there
 """
-import argparse
 import os
-import sys
+from typing import Callable, NamedTuple
 
-MOST = {"bank": 2048, "flood": 120000, "scatter": 120000, "resends": 4000, "scans": 2048, "replies": 2048, "classes": 2048, "readers": 2048}
-USUAL = {"bank": 2048, "flood": 100000, "scatter": 100000, "resends": 200, "scans": 100, "replies": 200, "classes": 2048, "readers": 2048}
+from command import count, parser, start
+from report import BadInput
+
 BANK = os.path.join(os.path.dirname(os.path.abspath(__file__)), "..", "crates", "sdd1", "data", "bank.toml")
 
 
@@ -143,12 +143,30 @@ def readers(n, _):
     return catalogue, lines + ["submit t%d" % k for k in range(n)] + ["settle"]
 
 
-KINDS = {"bank": bank, "flood": flood, "scatter": scatter, "resends": resends, "scans": scans, "replies": replies, "classes": classes, "readers": readers}
+class Kind(NamedTuple):
+    make: Callable          # of N and SEED: the lines of a catalogue and those of a workload without its end
+    usual: int              # N where none is given
+    most: int
+
+
+MEASURED = {                # what tools/benchmark.py measures
+    "bank": Kind(bank, 2048, 2048),
+    "flood": Kind(flood, 100000, 120000),
+    "scatter": Kind(scatter, 100000, 120000),
+    "resends": Kind(resends, 200, 4000),
+    "scans": Kind(scans, 100, 2048),
+    "replies": Kind(replies, 200, 2048),
+    "classes": Kind(classes, 2048, 2048),
+    "readers": Kind(readers, 2048, 2048),
+}
 
 
 def write_workload(folder, kind, n=None, seed=1):
-    """The paths of the two files that are written."""
-    catalogue, lines = KINDS[kind](USUAL[kind] if n is None else n, seed)
+    """The paths of the two files that are written; the folder is made where there is none."""
+    if kind not in MEASURED:
+        raise BadInput("%s is no kind; the kinds are %s" % (kind, ", ".join(MEASURED)))
+    catalogue, lines = MEASURED[kind].make(MEASURED[kind].usual if n is None else n, seed)
+    os.makedirs(folder, exist_ok=True)
     paths = [os.path.join(folder, x) for x in ("catalogue.toml", "workload")]
     for path, text in zip(paths, (catalogue, lines + ["end"])):
         with open(path, "w", encoding="utf-8") as f:
@@ -157,20 +175,19 @@ def write_workload(folder, kind, n=None, seed=1):
 
 
 def main():
-    asked = argparse.ArgumentParser(description=__doc__, formatter_class=argparse.RawDescriptionHelpFormatter, usage=argparse.SUPPRESS)
-    asked.add_argument("kind", metavar="KIND", choices=list(KINDS))
-    asked.add_argument("n", metavar="N", nargs="?", type=int)
-    asked.add_argument("--seed", type=int, default=1, help="where the drawn numbers begin, below 2^31")
+    asked = parser(__doc__)
+    asked.add_argument("kind", metavar="KIND", choices=list(MEASURED))
+    asked.add_argument("n", metavar="N", nargs="?", type=count)
+    asked.add_argument("--seed", type=count, default=1, help="where the drawn numbers begin, below 2^31")
     asked.add_argument("--into", metavar="FOLDER", required=True)
     asked = asked.parse_args()
-    n = USUAL[asked.kind] if asked.n is None else asked.n
-    if not 0 <= n <= MOST[asked.kind] or not 0 <= asked.seed < 2**31:
-        sys.exit("make_workload.py: of %s N is at most %d, and SEED is below 2^31" % (asked.kind, MOST[asked.kind]))
-    try:
-        write_workload(asked.into, asked.kind, n, asked.seed)
-    except OSError as fault:
-        sys.exit("make_workload.py: %s" % fault)
+    most = MEASURED[asked.kind].most
+    if asked.n is not None and asked.n > most:
+        raise BadInput("of %s N is at most %d" % (asked.kind, most))
+    if asked.seed >= 2**31:
+        raise BadInput("SEED is below 2^31")
+    write_workload(asked.into, asked.kind, asked.n, asked.seed)
 
 
 if __name__ == "__main__":
-    main()
+    start(main)

@@ -1,44 +1,32 @@
 #!/usr/bin/env python3
 """Prints what the program tells of each catalogue in crates/sdd1/data.
 
-    tools/show_catalogues.py [PROGRAM]
+    tools/show_catalogues.py [--program COMMAND]
 
 For each catalogue its counts (`check`), its conflict graph (`graph`) and its protocol table (`table`).
-PROGRAM is a built `sdd1`, as crates/sdd1/out/sdd1 after `rt run` in crates/sdd1; without it the
-program is run unproved, by `rt try`, which builds it once for each command.
+COMMAND is a built `sdd1`; without it crates/sdd1/out/sdd1 is taken, where it is newer than all sources,
+and else `rt try`, which builds the program once for each of the three commands.
 """
 import glob
 import os
-import shutil
-import subprocess
-import sys
-import tempfile
 
-CRATE = os.path.join(os.path.dirname(os.path.abspath(__file__)), "..", "crates", "sdd1")
-CATALOGUES = sorted(glob.glob(os.path.join(CRATE, "data", "*.toml")))
+from command import parser, start
+from program import CRATE, Program, add_program, text_of_outcome
+
 COMMANDS = ["check", "graph", "table"]
 
 
-def show(program):
-    for catalogue in CATALOGUES:
+def main():
+    asked = parser(__doc__)
+    add_program(asked)
+    program = Program(asked.parse_args().program)
+    catalogues = sorted(glob.glob(os.path.join(CRATE, "data", "*.toml")))
+    told = {command: program.ask_all([command, "{}"], catalogues) for command in COMMANDS}
+    for k, catalogue in enumerate(catalogues):
         for command in COMMANDS:
-            print("$ sdd1 %s %s" % (command, os.path.basename(catalogue)), flush=True)
-            subprocess.run([program, command, catalogue], check=True)
-
-
-def show_unproved():
-    with tempfile.TemporaryDirectory() as room:
-        for catalogue in CATALOGUES:
-            shutil.copy(catalogue, room)
-        for command in COMMANDS:
-            print("$ sdd1 %s" % command, flush=True)
-            subprocess.run(["rt", "try", "--cases", room, "--", command, "{}"], cwd=CRATE, check=True)
+            print("$ sdd1 %s %s" % (command, os.path.basename(catalogue)))
+            print(text_of_outcome(told[command][k], [command]), end="")
 
 
 if __name__ == "__main__":
-    if len(sys.argv) > 2:
-        sys.exit(__doc__)
-    if len(sys.argv) == 2:
-        show(sys.argv[1])
-    else:
-        show_unproved()
+    start(main)

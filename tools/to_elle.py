@@ -18,12 +18,12 @@ class, the first one the workload's rows, and the last ones are reads of copies 
 tools/check_history.py judges the history. Nothing in it tells of timestamps, but that the versions of
 a row that was read stand in the order in which a copy lets one replace the other.
 """
-import argparse
 import json
 import sys
 from typing import NamedTuple
 
 from catalogue import read_catalogue
+from command import parser, start
 from report import BadInput, Reply, read_report
 from workload import effect, read_workload, reads
 
@@ -204,21 +204,21 @@ def history(run):
 
 
 def main():
-    asked = argparse.ArgumentParser(description=__doc__, formatter_class=argparse.RawDescriptionHelpFormatter, usage=argparse.SUPPRESS)
+    asked = parser(__doc__)
     for name in ("report", "workload", "catalogue"):
         asked.add_argument(name, metavar=name.upper())
     asked.add_argument("--into", metavar="FILE", help="the history's file; without it standard output")
     asked = asked.parse_args()
-    try:
-        catalogue = read_catalogue(asked.catalogue)
-        first, transactions = read_workload(asked.workload, catalogue)
-        run = Run(read_report(asked.report), transactions, first, catalogue)
-        text = "".join(x + "\n" for x in history(run))
-        with open(asked.into, "w", encoding="utf-8") if asked.into else sys.stdout as out:
+    catalogue = read_catalogue(asked.catalogue)
+    first, transactions = read_workload(asked.workload, catalogue)
+    run = Run(read_report(asked.report), transactions, first, catalogue)
+    text = "".join(x + "\n" for x in history(run))
+    if asked.into is None:
+        sys.stdout.write(text)
+    else:
+        with open(asked.into, "w", encoding="utf-8") as out:
             out.write(text)
-    except (BadInput, OSError) as fault:
-        sys.exit("to_elle.py: %s" % fault)
 
 
 if __name__ == "__main__":
-    main()
+    start(main)

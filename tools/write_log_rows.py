@@ -12,7 +12,6 @@ losses, repetitions, undeclared transactions, reducers, further lists of classes
 are written to one FILE, which is for a check by hand and stays out of the repository; logs of more than N
 entries (220 where it isn't given) are left out.
 """
-import argparse
 import os
 import re
 import sys
@@ -20,7 +19,9 @@ import sys
 sys.dont_write_bytecode = True
 HERE = os.path.dirname(os.path.abspath(__file__))
 sys.path.insert(0, HERE)
+from command import parser, start  # noqa: E402
 from log_rows import ROWS  # noqa: E402
+from report import BadInput  # noqa: E402
 
 OPERATORS = {"=": "Eq", "!=": "Ne", "<": "Lt", "<=": "Le", ">": "Gt", ">=": "Ge"}
 IMPORTS = [
@@ -244,15 +245,20 @@ def imported(body):
 
 
 def main():
-    parser = argparse.ArgumentParser()
-    parser.add_argument("--reference", required=True)
-    parser.add_argument("--out", default=os.path.join(HERE, "..", "crates", "sdd_rows", "specs"))
-    parser.add_argument("--random", nargs=2, type=int, metavar=("FIRST", "COUNT"))
-    parser.add_argument("--file")
-    parser.add_argument("--longest", type=int, default=220)
-    options = parser.parse_args()
+    asked = parser(__doc__)
+    asked.add_argument("--reference", required=True, metavar="FOLDER")
+    asked.add_argument("--out", metavar="FOLDER", default=os.path.join(HERE, "..", "crates", "sdd_rows", "specs"))
+    asked.add_argument("--random", nargs=2, type=int, metavar=("FIRST", "COUNT"))
+    asked.add_argument("--file")
+    asked.add_argument("--longest", type=int, default=220, metavar="N")
+    options = asked.parse_args()
+    if options.random and not options.file:
+        raise BadInput("--random needs --file")
     sys.path.insert(0, options.reference)
-    from laws import gen, log as logs, model
+    try:
+        from laws import gen, log as logs, model
+    except ImportError as fault:
+        raise BadInput("%s: %s" % (options.reference, fault)) from None
 
     if options.random:
         first, wanted = options.random
@@ -282,4 +288,4 @@ def main():
 
 
 if __name__ == "__main__":
-    main()
+    start(main)
