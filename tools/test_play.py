@@ -10,14 +10,12 @@ import http.client
 import json
 import os
 import socket
-import sys
 import threading
 
-from command import Words, refuse
+from command import parser, start
 from game import Game
 from page import add_programs
 from play import Server
-from report import BadInput
 from states import find_programs
 
 EXAMPLE = os.path.join(os.path.dirname(os.path.abspath(__file__)), "..", "examples", "rejected_read")
@@ -153,13 +151,10 @@ class Tests:
 
 
 def main():
-    asked = Words(__doc__)
+    asked = parser(__doc__)
     add_programs(asked)
     asked = asked.parse_args()
-    try:
-        tests = Tests(find_programs(asked.program, asked.inside))
-    except BadInput as fault:
-        refuse(fault)
+    tests = Tests(find_programs(asked.program, asked.inside))
     tests.all()
     tests.server.shutdown()
     print("%d tried, %d wrong" % (tests.tried, tests.bad))
@@ -167,4 +162,4 @@ def main():
 
 
 if __name__ == "__main__":
-    sys.exit(main())
+    start(main)
