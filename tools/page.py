@@ -19,8 +19,9 @@ import json
 import os
 import re
 
-from command import Words, refuse
-from report import BadInput, text_of
+from command import parser, start
+from program import add_program
+from report import text_of
 from states import find_programs, run_data
 
 PARTS = os.path.join(os.path.dirname(os.path.abspath(__file__)), "page")
@@ -62,12 +63,12 @@ def name_of(workload):
 
 
 def add_programs(asked):
-    asked.add_argument("--program", metavar="COMMAND", help="a built `sdd1`")
+    add_program(asked)
     asked.add_argument("--inside", metavar="COMMAND", help="a built `sdd1_inside`")
 
 
 def main():
-    asked = Words(__doc__)
+    asked = parser(__doc__)
     asked.add_argument("catalogue", metavar="CATALOGUE")
     asked.add_argument("workload", metavar="WORKLOAD")
     asked.add_argument("--into", metavar="FILE", required=True, help="the page's file")
@@ -75,16 +76,11 @@ def main():
     add_programs(asked)
     asked = asked.parse_args()
     title = asked.title or name_of(asked.workload)
-    try:
-        data = run_data(find_programs(asked.program, asked.inside), asked.catalogue, asked.workload, title)
-        page, _ = assembled(title, data, SHOWN + ["start.js"], ["style.css"])
-        with open(asked.into, "w", encoding="utf-8") as f:
-            f.write(page)
-    except BadInput as fault:
-        refuse(fault)
-    except OSError as fault:
-        refuse("%s: %s" % (asked.into, fault.strerror.lower()))
+    data = run_data(find_programs(asked.program, asked.inside), asked.catalogue, asked.workload, title)
+    page, _ = assembled(title, data, SHOWN + ["start.js"], ["style.css"])
+    with open(asked.into, "w", encoding="utf-8") as f:
+        f.write(page)
 
 
 if __name__ == "__main__":
-    main()
+    start(main)

@@ -2,11 +2,13 @@
 import json
 import os
 import threading
+import time
 
 from game import Game
+from make_workload import write_workload
 from page_checks import Wrong, same
 from play import Server
-from states import read_parts
+from states import read_parts, spelled
 
 CLICKED = ["rejected_read", "held_write", "lost_packet", "undeclared"]
 
@@ -93,13 +95,12 @@ class Served:
         if os.path.exists(path):
             os.remove(path)
         self.click("#save")
-        self.page.wait("document.getElementById('told').textContent.startsWith('Saved')")
-        for _ in range(200):
-            if os.path.exists(path):
-                break
-            threading.Event().wait(0.05)
-        with open(path, encoding="utf-8", newline="") as f:
-            return f.read()
+        end = time.monotonic() + 20
+        while not os.path.exists(path):
+            if time.monotonic() > end:
+                raise Wrong("no file was saved")
+            time.sleep(0.05)
+        return text_of(path)
 
 
 def text_of(path):
@@ -167,8 +168,8 @@ def earlier(browser, programs, folder, catalogue, workload):
         served.page.press("u")
         served.settle()
         same("the schedule after undo", served.events(), want)
-        served.page.tell("location.reload()")
-        served.page.wait("typeof view === 'object' && view && !view.play.isBusy && view.run.count > 0")
+        served.page.tell("window.isOld = true; location.reload()")
+        served.page.wait("!window.isOld && typeof view === 'object' && view && !view.play.isBusy && view.run.count > 0")
         same("the schedule after a reload", served.events(), want)
         same("the address", "token" in served.page.tell("location.href"), False)
 
@@ -201,12 +202,10 @@ def refusals(browser, programs, folder, catalogue, workload):
 
 def matrix(browser, programs, folder):
     """A packet of a cell is chosen and delivered."""
-    from make_workload import write_workload
     catalogue, workload = write_workload(folder, "classes", 3)
     with open(workload, encoding="utf-8") as f:
         parts = read_parts(f.read())
     parts.events.clear()
-    from states import spelled
     with open(workload, "w", encoding="utf-8") as f:
         f.write(spelled(parts))
     with Served(browser, programs, catalogue, workload, folder) as served:

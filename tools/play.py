@@ -18,7 +18,7 @@ import secrets
 import sys
 import threading
 
-from command import Words, refuse
+from command import parser, start
 from game import Game
 from page import SHOWN, add_programs, assembled, name_of
 from report import BadInput
@@ -111,28 +111,23 @@ class Handler(http.server.BaseHTTPRequestHandler):
 
 
 def main():
-    asked = Words(__doc__)
+    asked = parser(__doc__)
     asked.add_argument("catalogue", metavar="CATALOGUE")
     asked.add_argument("workload", metavar="WORKLOAD", nargs="?")
     asked.add_argument("--port", metavar="NUMBER", type=int, default=0, help="where it listens; without it a port that is free")
     add_programs(asked)
     asked = asked.parse_args()
     if not 0 <= asked.port < 65536:
-        refuse("--port is a number below 65536")
+        raise BadInput("--port is a number below 65536")
+    name = name_of(asked.workload) if asked.workload else "play"
+    game = Game(find_programs(asked.program, asked.inside), asked.catalogue, asked.workload, name)
     try:
-        name = name_of(asked.workload) if asked.workload else "play"
-        game = Game(find_programs(asked.program, asked.inside), asked.catalogue, asked.workload, name)
         server = Server(game, asked.port)
-    except BadInput as fault:
-        refuse(fault)
     except OSError as fault:
-        refuse("port %d: %s" % (asked.port, fault.strerror.lower()))
+        raise BadInput("port %d: %s" % (asked.port, fault.strerror.lower())) from None
     print(server.address(), flush=True)
-    try:
-        server.serve_forever()
-    except KeyboardInterrupt:
-        print()
+    server.serve_forever()
 
 
 if __name__ == "__main__":
-    main()
+    start(main)

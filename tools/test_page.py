@@ -12,12 +12,11 @@ finds them.
 """
 import os
 import random
-import sys
 import tempfile
 import time
 
 from browser import Browser, Fault, find_browser
-from command import Words, refuse
+from command import count, parser, start
 from make_workload import write_workload
 from page import SHOWN, add_programs, assembled, name_of
 from page_checks import Wrong, check_page
@@ -125,27 +124,25 @@ class Tests:
 
 
 def main():
-    asked, parts = Words(__doc__), ["pages", "random", "large", "clicks"]
+    asked, parts = parser(__doc__), ["pages", "random", "large", "clicks"]
     add_programs(asked)
-    asked.add_argument("--random", metavar="N", type=int, default=50, help="how many random runs")
-    asked.add_argument("--seed", metavar="K", type=int, default=0, help="the first seed")
+    asked.add_argument("--random", metavar="N", type=count, default=50, help="how many random runs")
+    asked.add_argument("--seed", metavar="K", type=count, default=0, help="the first seed")
     asked.add_argument("--browser", metavar="COMMAND", help="Chromium, where it isn't found by its name")
     asked.add_argument("--only", metavar="PART", nargs="+", choices=parts, default=parts, help="these parts alone: " + " ".join(parts))
     asked = asked.parse_args()
     if not find_browser(asked.browser):
         if asked.browser:
-            refuse("no program %s" % asked.browser)
-        return print("skipped: there is no Chromium here (apt-get install chromium)")
+            raise BadInput("no program %s" % asked.browser)
+        print("skipped: there is no Chromium here (apt-get install chromium)")
+        return 0
     with tempfile.TemporaryDirectory(prefix="test-page-") as folder, Browser(folder, asked.browser) as browser:
-        try:
-            tests = Tests(asked, folder, browser)
-            for part in asked.only:
-                getattr(tests, part)()
-        except BadInput as fault:
-            refuse(fault)
+        tests = Tests(asked, folder, browser)
+        for part in asked.only:
+            getattr(tests, part)()
     print("%d tried, %d events in pages, %d wrong" % (tests.tried, tests.events, tests.bad))
     return 1 if tests.bad else 0
 
 
 if __name__ == "__main__":
-    sys.exit(main())
+    start(main)

@@ -92,7 +92,7 @@ function classRow(view, site, told, cls) {
   const row = element("div", "class-row"), active = (told.active || []).find(x => x.class === cls);
   const queue = view.state.queue(cls), rest = active ? queue.slice(1) : queue;
   row.append(element("b", "", className(cls)));
-  if (active) row.append(element("span", "attempt", `${active.txn} @${active.time}`), element("span", "faint", `${active.phase}; waits for ${active.lacks.join(" ")}`));
+  if (active) row.append(element("span", "attempt", `${active.txn} @${active.time}`), element("span", "faint", `${active.phase}; waits for ${(active.lacks || []).join(" ")}`));
   else if (site === "U" && told.phase !== "idle") row.append(element("span", "faint", `${told.phase}; waits for ${(told.lacks || []).join(" ")}`));
   else row.append(element("span", "faint", "idle"));
   const key = "queue " + cls, most = view.opened.has(key) ? rest.length : 4;

@@ -94,7 +94,8 @@ class Play {
     const answer = await fetch("/save", {method: "POST", headers, body: "{}"});
     if (!answer.ok) return this.say("The server didn't give the workload.", true);
     const link = element("a");
-    link.href = URL.createObjectURL(await answer.blob());
+    const bytes = new Blob([await answer.arrayBuffer()], {type: "application/octet-stream"});   // a text would be saved as workload.txt
+    link.href = URL.createObjectURL(bytes);
     link.download = "workload";
     link.click();
     setTimeout(() => URL.revokeObjectURL(link.href), 10000);

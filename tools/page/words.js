@@ -110,8 +110,8 @@ function sayHeld(view, line, say) {
 
 function saySites(line, say) {
   const users = (line.sites || []).find(site => site.at === "U");
-  if (users?.phase === "holding") say("", `U waits until every other site holds still; missing: ${users.lacks.join(" ")}.`);
-  if (users?.phase === "writing") say("", `U waits until its changes are applied everywhere; missing: ${users.lacks.join(" ")}.`);
+  if (users?.phase === "holding") say("", `U waits until every other site holds still; missing: ${(users.lacks || []).join(" ")}.`);
+  if (users?.phase === "writing") say("", `U waits until its changes are applied everywhere; missing: ${(users.lacks || []).join(" ")}.`);
   for (const site of line.sites || []) {
     if (site.hold && site.owes) say("", `${site.at} is on hold: what runs there comes to its end, and nothing new starts.`);
   }
