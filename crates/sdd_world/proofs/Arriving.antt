@@ -15,7 +15,6 @@ use Rattle.sdd_world.specs.Standing.{Arrives, ahead_of, Keeping, HandedOn, Handi
 use Rattle.sdd_net.proofs.Directions.{link_parts}
 use Rattle.sdd_world.proofs.Keeping.{keeping_begins, kept_happened}
 use Rattle.sdd_world.proofs.Delivering.{beside, but_for, handed_calm}
-use Rattle.sdd_step.proofs.Delivering.{delivers_messages}
 use Rattle.sdd_world.specs.Members.{StandFor}
 
 module _ (w now : World)
