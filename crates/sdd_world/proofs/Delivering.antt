@@ -24,7 +24,7 @@ use Rattle.sdd_world.proofs.Parting.{spooled_on}
 use Rattle.sdd_net.proofs.Directions.{same_is}
 use Rattle.sdd_step.proofs.Handing.{all_handed, and_right}
 use Rattle.sdd_step.proofs.Lowest.{first_of_one, none_of_one, takes_of_one}
-use Rattle.sdd_world.specs.Members.{StandFor}
+use Rattle.sdd_world.specs.Modules.{StandFor}
 use Rattle.sdd_world.specs.Carries.{Carries, NetValue}
 
 -- the mailboxes after a delivery, but for that of the site to which it goes

@@ -28,7 +28,7 @@ use Rattle.sdd_step.proofs.Handing.{all_handed}
 use Rattle.sdd_step.proofs.Delivering.{none_remains}
 use Rattle.sdd_step.proofs.Lowest.{Cut, cut_at_t}
 use Rattle.sdd_step.proofs.Turning.{comes_up, goes_down, is_down_already, isnt_down}
-use Rattle.sdd_world.specs.Members.{StandFor}
+use Rattle.sdd_world.specs.Modules.{StandFor}
 use Rattle.sdd_world.specs.Carries.{Carries}
 
 -- the mailboxes as a module turns

@@ -5,7 +5,7 @@ pub mod Carries
 pub mod DueAt
 pub mod Following
 pub mod Kinds
-pub mod Members
+pub mod Modules
 pub mod Schedules
 pub mod Standing
 pub mod Standings

@@ -16,7 +16,7 @@ ghost use Rattle.sdd_step.specs.Resting.{IsSiteOf};
 ghost use Rattle.sdd_facts.specs.Real.{IsGood};
 ghost use Rattle.sdd_world.specs.Beginnings.{IsBegun};
 ghost use Rattle.sdd_world.specs.Carries.{Carries};
-ghost use Rattle.sdd_world.specs.Members.{LivesD, LivesT, LivesU};
+ghost use Rattle.sdd_world.specs.Modules.{LivesD, LivesT, LivesU};
 ghost use Rattle.sdd_world.specs.Standings.{standing_of};
 ghost use Rattle.sdd_world.specs.Standing.{IsSound, StandsFor};
 
