@@ -1,4 +1,3 @@
-use Rattle.sdd_world.specs.Carries.{Carries}
 pub mod AtSites
 pub mod Beginnings
 pub mod Carries
