@@ -1,4 +1,4 @@
--- All that a world asks: what is next on a lawful log fits the module to which it goes.
+-- All that the modules ask: what is next on a lawful log fits the module to which it goes.
 use Rattle.std.proofs.Common.{ℕ, ◌<◌, ◌==◌, ◌^◌, ◌∷◌, ◌≡◌, Bool, Some, arith, false, if◌then◌else◌, subst, true}
 use Rattle.sdd_base.specs.Numbers.{tm_no}
 use Rattle.sdd_base.specs.declared.event.Event.TheVariants.{Tick}
@@ -22,7 +22,7 @@ use Rattle.sdd_facts.proofs.Put.{databases}
 use Rattle.sdd_facts.specs.Facts.{Facts}
 use Rattle.sdd_facts.proofs.Early.{clock_below}
 use Rattle.sdd_facts.specs.Given.{IsFit}
-use Rattle.sdd_facts.specs.Real.{IsGood, fits, fits_submit, fits_tick}
+use Rattle.sdd_facts.specs.Real.{IsGood, fits, fits_submit}
 use Rattle.sdd_facts.proofs.FitsAtD.{d_fits}
 use Rattle.sdd_facts.proofs.FitsAtT.{t_fits, u_fits}
 use Rattle.sdd_facts.proofs.Handing.{is_handed}

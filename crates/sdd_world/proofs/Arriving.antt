@@ -15,8 +15,7 @@ use Rattle.sdd_world.specs.Standing.{Arrives, ahead_of, Keeping, HandedOn, Handi
 use Rattle.sdd_net.proofs.Directions.{link_parts}
 use Rattle.sdd_world.proofs.Keeping.{keeping_begins, kept_happened}
 use Rattle.sdd_world.proofs.Delivering.{beside, but_for, handed_calm}
-use Rattle.sdd_step.proofs.Delivering.{delivers_messages}
-use Rattle.sdd_world.specs.Members.{StandFor}
+use Rattle.sdd_world.specs.Modules.{StandFor}
 
 module _ (w now : World)
     (g : Given) (log : Log) (a b : Site) (k : ℕ) (messages : List Msg)

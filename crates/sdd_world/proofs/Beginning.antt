@@ -14,7 +14,7 @@ use Rattle.sdd_step.proofs.Beginning.{next_at_first, rests_at_first}
 use Rattle.sdd_world.specs.declared.world.World.{World}
 use Rattle.sdd_world.specs.Standing.{IsSound, KeepsFor, Spooled, StandsFor}
 use Rattle.sdd_world.proofs.Keeping.{dm_within}
-use Rattle.sdd_world.specs.Members.{StandFor}
+use Rattle.sdd_world.specs.Modules.{StandFor}
 use Rattle.sdd_world.specs.Carries.{Carries}
 use Rattle.sdd_facts.specs.Real.{IsGood}
 

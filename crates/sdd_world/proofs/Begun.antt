@@ -22,7 +22,7 @@ use Rattle.sdd_log.specs.Entries.{Given}
 use Rattle.sdd_log.specs.Locals.{beginning, rows_of, setting_of}
 use Rattle.sdd_step.specs.Resting.{IsSiteOf}
 use Rattle.sdd_world.specs.Beginnings.{AllBegin, BeginsD, BeginsT, IsBegun, There}
-use Rattle.sdd_world.specs.Members.{LivesD, LivesT, LivesU}
+use Rattle.sdd_world.specs.Modules.{LivesD, LivesT, LivesU}
 
 -- what the one that is found has, as what holds of it at its site
 found_at : {V : Type 0} (P : V → Type 0) (q : Standing V) (o : Option V) (s : Setting) (log : site.Log) → ((v : V) → P v → q v s log) → There P o → At q o s log

@@ -14,7 +14,7 @@ use Rattle.sdd_spool.specs.Mailboxes.{Mailbox, mailbox_at}
 use Rattle.sdd_log.specs.Entries.{Given, Log, Mark}
 use Rattle.sdd_log.specs.Traffic.{calls_of, handed, is_down, link_of, takes_part}
 use Rattle.sdd_log.specs.Locals.{local_of, setting_of}
-use Rattle.sdd_step.specs.Resting.{from_one, IsSiteOf}
+use Rattle.sdd_step.specs.Resting.{from_one, IsSiteOf, IsFirst, IsLinkOf, Takes}
 use Rattle.sdd_step.proofs.Delivering.{ack_same, delivers_ack, delivers_nothing, nothing_same, remain_beside}
 use Rattle.sdd_step.proofs.Links.{sent_stays}
 use Rattle.sdd_world.specs.declared.world.World.{World}
@@ -22,12 +22,10 @@ use Rattle.sdd_world.proofs.Marking.{marked_noted, marked_plain}
 use Rattle.sdd_world.specs.Standing.{Ahead, Arrives, ahead_of, HandedOn, Handing, Happened, KeepsFor, Marked, Spooled}
 use Rattle.sdd_world.proofs.Parting.{spooled_on}
 use Rattle.sdd_net.proofs.Directions.{same_is}
-use Rattle.sdd_step.specs.Resting.{IsFirst, IsLinkOf, Takes}
 use Rattle.sdd_step.proofs.Handing.{all_handed, and_right}
 use Rattle.sdd_step.proofs.Lowest.{first_of_one, none_of_one, takes_of_one}
-use Rattle.sdd_world.specs.Members.{StandFor}
-use Rattle.sdd_world.specs.Carries.{Carries}
-use Rattle.sdd_world.specs.Carries.{NetValue}
+use Rattle.sdd_world.specs.Modules.{StandFor}
+use Rattle.sdd_world.specs.Carries.{Carries, NetValue}
 
 -- the mailboxes after a delivery, but for that of the site to which it goes
 pub beside : (g : Given) (a b : Site) (k : ℕ) (log : Log) (boxes : List (Mailbox Msg)) → Spooled g log boxes b → Spooled g (Mark (Deliver a b k) ∷ log) boxes b

@@ -7,8 +7,7 @@ use Rattle.sdd_base.specs.Sites.{same_site}
 use Rattle.sdd_base.specs.declared.site.Site.{Site}
 use Rattle.sdd_net.specs.declared.packet.Packet.{Packet}
 use Rattle.sdd_net.specs.declared.packet.Packet.TheVariants.{Message, Ack}
-use Rattle.sdd_net.specs.Links.{Call, Puts, Delivers, Loses, Repeats, Resends, Link, link, on_link, turned, put, deliver, lose, repeat, resend}
-use Rattle.sdd_net.specs.Links.{arrives, packet_at, with_packet, without_packet, with_flight, delivered, delivery, given_by, newly_delivered}
+use Rattle.sdd_net.specs.Links.{Call, Puts, Delivers, Loses, Repeats, Resends, Link, link, on_link, turned, put, deliver, lose, repeat, resend, arrives, packet_at, with_packet, without_packet, with_flight, delivered, delivery, given_by, newly_delivered}
 use Rattle.sdd_world.specs.Carries.{AllPut, AllDelivered}
 
 module _ {M : Type 0} (P : M → Type 0) where

@@ -23,9 +23,8 @@ use Rattle.sdd_world.specs.declared.world.World.{World}
 use Rattle.sdd_world.specs.Standing.{Happened, Marked, Spooled}
 use Rattle.sdd_world.proofs.Parting.{events_before, later, same_ahead, spooled_on}
 use Rattle.sdd_world.proofs.Handing.{at_log}
-use Rattle.sdd_world.specs.Members.{StandFor}
-use Rattle.sdd_world.specs.Carries.{Carries}
-use Rattle.sdd_world.specs.Carries.{NetValue}
+use Rattle.sdd_world.specs.Modules.{StandFor}
+use Rattle.sdd_world.specs.Carries.{Carries, NetValue}
 
 note_some : {M : Type 0} (o : Option (Packet M)) → is_some o ≡ true → note_if (is_none o) ≡ None
 note_some None e = cc

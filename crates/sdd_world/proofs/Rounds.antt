@@ -26,7 +26,7 @@ use Rattle.sdd_step.proofs.Rounding.{each_of_round, no_events_quiet}
 use Rattle.sdd_world.specs.declared.world.World.{World}
 use Rattle.sdd_world.specs.Standing.{Before, Calm, Happened, IsSound, Marked, Parts, Rounding, Settling, Spooled, StandsFor}
 use Rattle.sdd_world.proofs.Parting.{spooled_on}
-use Rattle.sdd_world.specs.Members.{StandFor}
+use Rattle.sdd_world.specs.Modules.{StandFor}
 use Rattle.sdd_world.specs.Carries.{Carries}
 use Rattle.sdd_facts.specs.Real.{IsGood}
 

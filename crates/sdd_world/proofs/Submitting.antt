@@ -36,7 +36,7 @@ use Rattle.sdd_world.specs.Standing.{EndsBy, Happened, Marked, Spooled}
 use Rattle.sdd_world.proofs.Handing.{are_linked, at_log, due_same, here_at}
 use Rattle.sdd_world.proofs.Marking.{happened}
 use Rattle.sdd_world.proofs.Parting.{events_before, later, redeclares_acts, spooled_acts, spooled_on}
-use Rattle.sdd_world.specs.Members.{StandFor}
+use Rattle.sdd_world.specs.Modules.{StandFor}
 use Rattle.sdd_world.specs.Carries.{Carries}
 use Rattle.sdd_world.specs.declared.sites.Sites.{Sites}
 use Rattle.sdd_facts.specs.Real.{fits_submit}

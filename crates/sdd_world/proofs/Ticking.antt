@@ -19,7 +19,7 @@ use Rattle.sdd_world.specs.Standing.{Happened, Marked, Spooled}
 use Rattle.sdd_world.proofs.Handing.{at_log, here_at}
 use Rattle.sdd_world.proofs.Marking.{happened}
 use Rattle.sdd_world.proofs.Parting.{spooled_on}
-use Rattle.sdd_world.specs.Members.{StandFor}
+use Rattle.sdd_world.specs.Modules.{StandFor}
 use Rattle.sdd_world.specs.declared.sites.Sites.{Sites}
 use Rattle.sdd_facts.specs.Real.{fits_tick}
 use Rattle.sdd_facts.proofs.AllFacts.{all_facts}

@@ -22,7 +22,7 @@ use Rattle.sdd_log.specs.Lawful.{EndsByLimit}
 use Rattle.sdd_step.specs.Resting.{AreSettles, AtEach, from_one, IsLinkOf, IsMarked, IsPossible, IsSiteOf, Remain, Rests, Waits}
 use Rattle.sdd_facts.specs.Real.{IsGood}
 use Rattle.sdd_world.specs.Carries.{Carries}
-use Rattle.sdd_world.specs.Members.{StandFor}
+use Rattle.sdd_world.specs.Modules.{StandFor}
 use Rattle.sdd_world.specs.declared.world.World.{World}
 
 -- What is given is sound: the network isn't too large, the first list of classes is that of the catalogue, and the

@@ -16,7 +16,7 @@ ghost use Rattle.sdd_step.specs.Resting.{IsSiteOf};
 ghost use Rattle.sdd_facts.specs.Real.{IsGood};
 ghost use Rattle.sdd_world.specs.Beginnings.{IsBegun};
 ghost use Rattle.sdd_world.specs.Carries.{Carries};
-ghost use Rattle.sdd_world.specs.Members.{LivesD, LivesT, LivesU};
+ghost use Rattle.sdd_world.specs.Modules.{LivesD, LivesT, LivesU};
 ghost use Rattle.sdd_world.specs.Standings.{standing_of};
 ghost use Rattle.sdd_world.specs.Standing.{IsSound, StandsFor};
 
@@ -112,7 +112,7 @@ impl<'a> World<'a> {
         ensures { (g : Given) (log : Log) → IsSiteOf g (T tm) → StandsFor self.now g log
             → LivesT result.now (setting_of g (T tm)) (local_of g (T tm) log) }
     {
-        &self.sites.tms[tm.0 as usize - 1]
+        self.sites.txn_module(tm)
     }
 
     /// A data module, lent. Takes no memory.
@@ -121,7 +121,7 @@ impl<'a> World<'a> {
         ensures { (g : Given) (log : Log) → IsSiteOf g (D dm) → StandsFor self.now g log
             → LivesD result.now (setting_of g (D dm)) (local_of g (D dm) log) }
     {
-        &self.sites.dms[dm.0 as usize - 1]
+        self.sites.data_module(dm)
     }
 
     /// The net of spellings, lent. Takes no memory.

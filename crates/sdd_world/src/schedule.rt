@@ -18,16 +18,11 @@ fn is_settle(event: &Event) -> bool
 
 /// Carries out one event of a schedule.
 fn carry_out_one<'a>(world: World<'a>, event: &Event) -> Result<World<'a>, WorldEnd>
-    requires { (g : Given) × (log : Log)
-        × StandsFor world g log
-        × IsAllowed g event.now }
-    ensures log { IfOk result (λ next. (g : Given) (log : Log)
-        → StandsFor world g log
-        → IsAllowed g event.now → (more : Log)
-        × StandsFor next (with_event g event.now) more) }
+    requires { (g : Given) × (log : Log) × StandsFor world g log × IsAllowed g event.now }
+    ensures log { IfOk result (λ next. (g : Given) (log : Log) → StandsFor world.entry g log
+        → IsAllowed g event.now → (more : Log) × StandsFor next (with_event g event.now) more) }
     ensures limit { IsErrOf result WorldEnd.Limit → (g : Given) (log : Log)
-        → StandsFor world g log
-        → IsAllowed g event.now → EndsBy (with_event g event.now) }
+        → StandsFor world.entry g log → IsAllowed g event.now → EndsBy (with_event g event.now) }
 {
     if is_settle(event) {
         return world.settle();
@@ -44,16 +39,13 @@ fn carry_out_one<'a>(world: World<'a>, event: &Event) -> Result<World<'a>, World
 ///
 /// At the first number that is missing, of events or of a link's messages, and for want of memory.
 pub fn carry_out<'a>(world: World<'a>, events: Vec<Event>) -> Result<World<'a>, WorldEnd>
-    requires { (g : Given) × (log : Log)
-        × StandsFor world g log
-        × AreAllowed g events.items }
-    ensures log { IfOk result (λ last. (g : Given) (log : Log)
-        → StandsFor world g log
-        → AreAllowed g events.items → (more : Log)
-        × StandsFor last (with_events g events.items) more) }
+    requires { (g : Given) × (log : Log) × StandsFor world g log × AreAllowed g events.items }
+    ensures log { IfOk result (λ last. (g : Given) (log : Log) → StandsFor world.entry g log
+        → AreAllowed g events.items
+        → (more : Log) × StandsFor last (with_events g events.items) more) }
     ensures limit { IsErrOf result WorldEnd.Limit → (g : Given) (log : Log)
-        → StandsFor world g log
-        → AreAllowed g events.items → EndsBy (with_events g events.items) }
+        → StandsFor world.entry g log → AreAllowed g events.items
+        → EndsBy (with_events g events.items) }
 {
     let mut now = world;
     let mut left = VecDeque::from_vec(events);

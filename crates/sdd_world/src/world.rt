@@ -324,11 +324,11 @@ impl<'a> World<'a> {
     pub fn step(mut self, event: &Event) -> Result<Self, WorldEnd>
         requires { (g : Given) × (log : Log) × StandsFor self g log × IsPossible g event.now
             × IsGood (with_event g event.now) }
-        ensures log { IfOk result (λ world. (g : Given) (log : Log) → StandsFor self g log
+        ensures log { IfOk result (λ world. (g : Given) (log : Log) → StandsFor self.entry g log
             → IsPossible g event.now → IsGood (with_event g event.now)
             → (more : Log) × StandsFor world (with_event g event.now) more) }
         ensures limit { IsErrOf result WorldEnd.Limit → (g : Given) (log : Log)
-            → StandsFor self g log → IsPossible g event.now → IsGood (with_event g event.now)
+            → StandsFor self.entry g log → IsPossible g event.now → IsGood (with_event g event.now)
             → EndsBy (with_event g event.now) }
     {
         self.given.push(*event)?;
@@ -345,11 +345,11 @@ impl<'a> World<'a> {
     pub fn settle(mut self) -> Result<Self, WorldEnd>
         requires { (g : Given) × (log : Log) × StandsFor self g log
             × IsGood (with_event g Settle) }
-        ensures log { IfOk result (λ world. (g : Given) (log : Log) → StandsFor self g log
+        ensures log { IfOk result (λ world. (g : Given) (log : Log) → StandsFor self.entry g log
             → IsGood (with_event g Settle)
             → (more : Log) × StandsFor world (with_event g Settle) more) }
         ensures limit { IsErrOf result WorldEnd.Limit → (g : Given) (log : Log)
-            → StandsFor self g log → IsGood (with_event g Settle)
+            → StandsFor self.entry g log → IsGood (with_event g Settle)
             → EndsBy (with_event g Settle) }
     {
         self.given.push(Event::Settle)?;

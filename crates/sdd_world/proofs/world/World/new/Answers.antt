@@ -1,22 +1,28 @@
-use Rattle.std.proofs.Common.{refl, sym}
+use Rattle.std.proofs.Common.{◌∙◌, [], ap, refl, subst, sym}
+use Rattle.sdd_catalog.specs.Catalogue.{Catalogue}
+use Rattle.sdd_world.specs.Carries.{Carries}
 use Rattle.sdd_world.proofs.Beginning.{begins}
 use Rattle.sdd_world.proofs.Begun.{all_begun}
 use Rattle.sdd_world.proofs.world.World.new.Goals as goal
 
 pub returns : goal.returns
 returns c = λ g good sound begun.
+    let tms_are = ap (λ (k : Catalogue). k.tms) begun.catalogue_is in
+    let dms_are = ap (λ (k : Catalogue). k.dms) begun.catalogue_is in
     begins
     (record {
       catalogue = c.args.catalogue;
       txns = c.args.txns;
-      given = c.new.result;
-      history = c.new-2.result;
+      given = c.new-4.result;
+      history = c.new-5.result;
       marks = 0;
       sites = record { u = c.in_ok-u.u; tms = c.in_ok-tms.tms; dms = c.args.modules };
       net = c.in_ok-net.net;
       spool = c.in_ok-spool.spool;
     })
-    _ _ c.new-2.ensures refl c.new.ensures.items c.in_ok-spool.ensures g good sound (sym begun.catalogue_is)
-    _ _ begun.txns_are begun.no_events
-    (all_begun c.args.catalogue.now c.args.table.now c.args.txns c.in_ok-u.u c.in_ok-tms.tms.items c.args.modules.items c.in_ok-u.ensures c.in_ok-tms.ensures g begun)
-    _
+    c.tms-2.result c.dms-2.result c.new-5.ensures refl c.new-4.ensures.items c.in_ok-spool.ensures g good sound (sym begun.catalogue_is)
+    (tms_are ∙ sym c.tms-2.ensures) (dms_are ∙ sym c.dms-2.ensures) begun.txns_are begun.no_events
+    (all_begun c.args.catalogue.now c.args.table.now c.args.txns c.in_ok-u.u c.in_ok-tms.tms.items c.args.modules.items c.in_ok-u.ensures
+    c.in_ok-tms.ensures g begun)
+    (subst (λ n. Carries c.in_ok-net.net n g.catalogue.dms []) (c.tms.ensures ∙ sym tms_are)
+    (subst (λ n. Carries c.in_ok-net.net c.tms.result n []) (c.dms.ensures ∙ sym dms_are) c.in_ok-net.ensures))

@@ -1,4 +1,4 @@
--- For which logs the modules of a system stand, and of what they are made.
+-- For which logs the modules of all sites stand.
 use Rattle.sdd_base.specs.declared.site.Site.{Site}
 use Rattle.sdd_module.specs.SiteLog.{Setting}
 use Rattle.sdd_module.specs.SiteLog as site
