@@ -6,7 +6,7 @@ use Rattle.sdd_laws.specs.Starts.{KeepsStarts}
 use Rattle.sdd_log.specs.Entries.{Given, history, marks}
 use Rattle.sdd_log.specs.Locals.{redeclares}
 use Rattle.sdd_log.specs.Permitted.{submits_in}
-use Rattle.sdd_make.specs.Summary.{is_commit, summary_of}
+use Rattle.sdd_make.specs.Summary.{summary_of}
 use Rattle.sdd_order.specs.Attempts.{HasCommit}
 use Rattle.sdd_order.specs.Numbers.{IsFrom1To}
 use Rattle.sdd_order.specs.Orders.{IsOrderable, IsSerial}

@@ -1,6 +1,6 @@
--- What holds of all numbers, and of each value of the rows and transactions that are given, holds of the values in every
+-- What holds of all numbers of 64 bits, and of each value of the rows and transactions that are given, holds of the values in every
 -- copy that a log leaves.
-use Rattle.std.proofs.Common.{ℕ, ◌++◌, ◌==◌, ◌≡◌, ◌∷◌, ℤ, Bool, List, None, Option, Some, [], cond, false, if◌then◌else◌, length, map, nat_lt, refl, subst, sym, true}
+use Rattle.std.proofs.Common.{ℕ, ◌++◌, ◌==◌, ◌≡◌, ◌∷◌, ℤ, List, None, Option, Some, [], cond, false, if◌then◌else◌, map, nat_lt, refl, true}
 use Rattle.std.specs.Prelude.{Contains, filter, filter_map, flat_map, unwrap_or}
 use Rattle.std.specs.List.{AllByRecursion, cons_option}
 use Rattle.std.specs.Ordering.{int_cmp, is_eq}
@@ -15,9 +15,10 @@ use Rattle.sdd_base.specs.declared.value.Value.TheVariants.{Int}
 use Rattle.sdd_catalog.specs.Catalogue.{Catalogue}
 use Rattle.sdd_catalog.specs.Rules.{IsSound}
 use Rattle.sdd_contents.proofs.Members.{Contains-from_filter}
-use Rattle.sdd_copy.specs.Contents.{Dated, contents, keys_in, latest, newer, of_fragment, row_left, row_with, rows_left}
+use Rattle.sdd_copy.specs.Contents.{Dated, contents, keys_in, latest, newer, of_fragment, row_left, row_with}
 use Rattle.sdd_lang.proofs.StaysDatabase.{rows_make_database}
-use Rattle.sdd_lang.specs.Database.{Database, Item, Row, database_of}
+use Rattle.sdd_lang.specs.Database.{Database, Row, database_of}
+use Rattle.sdd_lang.specs.Update.{in_range}
 use Rattle.sdd_lang.specs.declared.transaction.Txn.{Txn}
 use Rattle.sdd_laws.proofs.Orders.{agrees, listed}
 use Rattle.sdd_laws.proofs.Recorded.{are_recorded, ledger}
@@ -40,7 +41,7 @@ use Rattle.sdd_verified.proofs.ValuesKept.{Changes, Hold, Holds, Leaves, Stored,
 at_each : {A : Type 0} (P : A → Type 0) (xs : List A) → AllByRecursion P xs → (x : A) → Contains xs x → P x
 at_each P xs h x there = All-contains P xs x (All-from_recursion P xs h) there
 
-module _ (P : Value → Type 0) (ints : (n : ℤ) → P (Int n)) where
+module _ (P : Value → Type 0) (ints : (n : ℤ) → in_range n ≡ true → P (Int n)) where
   -- what dated changes leave
 
   abbrev pub AreLeft : Dated → Type 0

@@ -1,5 +1,5 @@
 -- In a complete log each transaction that its events submit is submitted.
-use Rattle.std.proofs.Common.{ℕ, ◌+◌, ◌++◌, ◌==◌, ◌≡◌, ◌≤◌, ◌∙◌, ◌∷◌, Bool, List, None, Option, Some, [], ap, arith, cond, false, inl, inr, length, refl, subst, sym, true}
+use Rattle.std.proofs.Common.{ℕ, ◌+◌, ◌++◌, ◌==◌, ◌≡◌, ◌≤◌, ◌∙◌, ◌∷◌, Bool, List, None, Option, Some, [], ap, arith, false, inl, inr, length, refl, subst, sym, true}
 use Rattle.std.specs.Prelude.{◌⊎◌}
 use Rattle.std.proofs.lemmas.Bool.{eqb-true}
 use Rattle.sdd_base.specs.Numbers.{txn_no}

@@ -5,8 +5,6 @@ use Rattle.sdd_acyclic.proofs.EachTable.{each_table}
 use Rattle.sdd_catalog.specs.Catalogue.{Catalogue}
 use Rattle.sdd_catalog.specs.Rules.{IsSound}
 use Rattle.sdd_ending.proofs.Ends.{run_ends}
-use Rattle.sdd_log.specs.Entries.{Log}
-use Rattle.sdd_log.specs.Lawful.{EndsByLimit, IsTheLog}
 use Rattle.sdd_log.specs.Locals.{redeclares}
 use Rattle.sdd_protocol.specs.declared.entry.Entry.{Entry}
 use Rattle.sdd_report.specs.Report.{report_text}

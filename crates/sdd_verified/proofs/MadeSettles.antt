@@ -1,15 +1,15 @@
 -- Made input leaves nothing undone: it submits each of its transactions, takes no module down, and ends with a settle.
-use Rattle.std.proofs.Common.{ℕ, zero, suc, ◌+◌, ◌++◌, ◌/◌, ◌%◌, ◌<◌, ◌==◌, ◌≡◌, ◌≤◌, ◌∙◌, ◌∷◌, List, [], ap, arith, false, inl, inr, length, refl, subst, sym, true, append_assoc}
+use Rattle.std.proofs.Common.{ℕ, zero, suc, ◌+◌, ◌++◌, ◌/◌, ◌%◌, ◌<◌, ◌==◌, ◌≡◌, ◌≤◌, ◌∷◌, List, [], ap, arith, false, inl, inr, length, refl, subst, sym, append_assoc}
 use Rattle.std.specs.Prelude.{nat_lt}
 use Rattle.std.specs.List.{list_any}
 use Rattle.std.proofs.lemmas.Bool.{cases_eq, eq-eqb}
-use Rattle.sdd_base.specs.Numbers.{dm_no, tm_no, txn_no}
+use Rattle.sdd_base.specs.Numbers.{dm_no, tm_no}
 use Rattle.sdd_base.specs.declared.event.Event.{Event}
-use Rattle.sdd_base.specs.declared.event.Event.TheVariants.{Settle, Submit}
+use Rattle.sdd_base.specs.declared.event.Event.TheVariants.{Settle}
 use Rattle.sdd_base.specs.declared.limits.TheConstants.{MAX_TXNS}
 use Rattle.sdd_base.specs.declared.site.Site.TheVariants.{D, T}
 use Rattle.sdd_catalog.specs.Rules.{IsSound, faults_of}
-use Rattle.sdd_log.specs.Permitted.{one_if, submits_by, submits_in}
+use Rattle.sdd_log.specs.Permitted.{one_if, submits_in}
 use Rattle.sdd_make.specs.Bank.{bank}
 use Rattle.sdd_make.specs.Draws.{draw, next, shown}
 use Rattle.sdd_make.specs.Turns.{arrival, deliveries, delivery, drawn_events, drawn_txn, events_of, turn, turns, turns_of, txns_of, workload_of}

@@ -1,14 +1,13 @@
 -- Where no event takes a data module down, none is down at any time.
-use Rattle.std.proofs.Common.{ℕ, zero, suc, ◌++◌, ◌==◌, ◌≡◌, ◌∙◌, ◌∷◌, Bool, List, None, Option, Some, [], ap, cond, false, refl, subst, sym, true}
-use Rattle.std.specs.Prelude.{◌||◌, filter_map, flat_map, if◌then◌else◌, replicate}
+use Rattle.std.proofs.Common.{ℕ, zero, suc, ◌++◌, ◌==◌, ◌≡◌, ◌∷◌, Bool, List, None, Some, [], cond, false, refl, subst, true}
+use Rattle.std.specs.Prelude.{filter_map, flat_map, if◌then◌else◌, replicate}
 use Rattle.std.specs.List.{cons_option, list_any}
 use Rattle.sdd_base.specs.Words.{tail_of}
 use Rattle.sdd_base.specs.declared.event.Event.{Event}
 use Rattle.sdd_base.specs.declared.event.Event.TheVariants.{Submit, Deliver, Lose, Repeat, Resend, Tick, Settle, Redeclare, Down, Up}
 use Rattle.sdd_base.specs.declared.site.Site.{Site}
 use Rattle.sdd_invariants.proofs.Bools.{neither_left, neither_right}
-use Rattle.sdd_log.specs.Due.{next}
-use Rattle.sdd_log.specs.Entries.{Does, Entry, Given, Hand, Log, Mark, Notes, Redeclares, Round, Submitted}
+use Rattle.sdd_log.specs.Entries.{Does, Given, Hand, Log, Mark, Notes, Redeclares, Round, Submitted}
 use Rattle.sdd_log.specs.Lawful.{IsLawful}
 use Rattle.sdd_log.specs.Marks.{after_mark, from_event, left, mark_from, mark_of}
 use Rattle.sdd_log.specs.Traffic.{all_links, calls_of, is_down, turned_by}

@@ -43,6 +43,10 @@ pub record IsNumber (text : List ℕ) : Type 0 where
 glyph_is : (d : ℕ) → d < 10 → digit_glyph false d ≡ 48 + d
 glyph_is d lt = grind (arith, nat_tests)
 
+-- a digit is no space
+pub glyph_apart : (n : ℕ) → digit_glyph false (n % 10) ≢ 32
+glyph_apart n e = let small : n % 10 < 10 = omega arith in let glyph = glyph_is (n % 10) small in omega (arith, glyph, e)
+
 digit_first : (n : ℕ) (acc : List ℕ) → HasNoNewline acc → IsNumber (digit_glyph false (n % 10) ∷ acc)
 digit_first n acc h =
     let small : n % 10 < 10 = omega arith in

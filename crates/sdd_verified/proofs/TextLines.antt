@@ -20,6 +20,7 @@ use Rattle.sdd_catalog.specs.declared.resolved.Class.{Class}
 use Rattle.sdd_catalog.specs.declared.resolved.Fragment.{Fragment}
 use Rattle.sdd_history.specs.declared.record.Rec.{Rec}
 use Rattle.sdd_lang.specs.Database.{Row}
+use Rattle.sdd_lang.specs.Update.{in_range}
 use Rattle.sdd_lang.specs.declared.transaction.Txn.{Txn}
 use Rattle.sdd_report.specs.Committed.{Told, names_of, numbers_end, order_line, shipped_line, shipped_of, told_of}
 use Rattle.sdd_report.specs.Copies.{copies_lines, copy_lines, place_words}
@@ -58,11 +59,11 @@ counted_both [] ys = omega arith
 counted_both (x ∷ xs) ys =
     let a = counted_more x (xs ++ ys) in let b = counted_more x xs in let c = counted_both xs ys in omega (arith, a, b, c)
 
-are_both : (xs ys : List (List ℕ)) → AreLines xs → AreLines ys → AreLines (xs ++ ys)
+pub are_both : (xs ys : List (List ℕ)) → AreLines xs → AreLines ys → AreLines (xs ++ ys)
 are_both [] ys h k = k
 are_both (x ∷ xs) ys h k = (h.0, are_both xs ys h.1 k)
 
-spelled_both : (xs ys : List (List ℕ)) → spelled_lines xs ++ spelled_lines ys ≡ spelled_lines (xs ++ ys)
+pub spelled_both : (xs ys : List (List ℕ)) → spelled_lines xs ++ spelled_lines ys ≡ spelled_lines (xs ++ ys)
 spelled_both [] ys = refl
 spelled_both (x ∷ xs) ys =
     append_assoc x (10 ∷ spelled_lines xs) (spelled_lines ys) ∙ ap (λ (l : List ℕ). x ++ 10 ∷ l) (spelled_both xs ys)
@@ -109,11 +110,11 @@ other_words a b e h k = subst (Tells 0) (append_assoc a b (10 ∷ [])) (other_li
 abbrev pub IsClean : Value → Type 0
 IsClean v = HasNoNewline (value_bytes v)
 
-pub ints_clean : (n : ℤ) → IsClean (Int n)
-ints_clean (pos n) = number_line n
-ints_clean (negsuc n) = (λ e. omega (arith, e), number_line (suc n))
+pub ints_clean : (n : ℤ) → in_range n ≡ true → IsClean (Int n)
+ints_clean (pos n) fits = number_line n
+ints_clean (negsuc n) fits = (λ e. omega (arith, e), number_line (suc n))
 
-values_line : (row : Row) → Holds IsClean ints_clean row → HasNoNewline (flat_map (λ v. 32 ∷ value_bytes v) row)
+pub values_line : (row : Row) → Holds IsClean ints_clean row → HasNoNewline (flat_map (λ v. 32 ∷ value_bytes v) row)
 values_line [] h = tt
 values_line (v ∷ row) h =
     no_newline-append (32 ∷ value_bytes v) (flat_map (λ v. 32 ∷ value_bytes v) row) (spaced_line (value_bytes v) h.0) (values_line row h.1)
@@ -211,7 +212,7 @@ module _ (cat : Catalogue) (txns : List Txn)
   names_are [] = tt
   names_are (n ∷ order) = (txn_line cat txns classes_named txns_named n.0, names_are order)
 
-  spaced_names : (names : List (List ℕ)) → AllByRecursion HasNoNewline names → HasNoNewline (flat_map spaced names)
+  pub spaced_names : (names : List (List ℕ)) → AllByRecursion HasNoNewline names → HasNoNewline (flat_map spaced names)
   spaced_names [] h = tt
   spaced_names (name ∷ names) h = no_newline-append (spaced name) (flat_map spaced names) (spaced_line name h.0) (spaced_names names h.1)
 
@@ -245,12 +246,12 @@ module _ (cat : Catalogue) (txns : List Txn)
 
   -- the pending ones
 
-  site_line : (site : Site) → HasNoNewline (site_word site)
+  pub site_line : (site : Site) → HasNoNewline (site_word site)
   site_line U = search rules
   site_line (T tm) = (λ e. omega (arith, e), number_line tm.0)
   site_line (D dm) = (λ e. omega (arith, e), number_line dm.0)
 
-  why_line : (why : Why) → HasNoNewline (why_words cat why)
+  pub why_line : (why : Why) → HasNoNewline (why_words cat why)
   why_line (Queued class place) =
       no_newline-append (codes "queued") (class_time cat class.0 place) (search rules) (class_time_line cat txns classes_named txns_named class.0 place)
   why_line (Waits waiting) =
@@ -281,7 +282,7 @@ module _ (cat : Catalogue) (txns : List Txn)
 
   -- the copies
 
-  fragment_line : (f : ℕ) → HasNoNewline (fragment_name cat f)
+  pub fragment_line : (f : ℕ) → HasNoNewline (fragment_name cat f)
   fragment_line f = named_by (λ (p : Fragment). p.name) cat.fragments (f - 1) (slice_get cat.fragments (f - 1)) refl fragments_named
 
   copy_tells : (table : CopyTable) → Hold IsClean ints_clean table.rows → Tells 0 (copy_lines cat table)

@@ -1,12 +1,11 @@
--- What holds of all numbers, and of each value of the rows and statements that are given, holds of the values that a plain
+-- What holds of all numbers of 64 bits, and of each value of the rows and statements that are given, holds of the values that a plain
 -- database answers, changes and is left with.
-use Rattle.std.proofs.Common.{ℕ, zero, suc, ◌+◌, ◌++◌, ◌-◌, ◌&&◌, ◌==◌, ◌≡◌, ◌∙◌, ◌∷◌, ℤ, pos, ◌+ℤ◌, Bool, List, None, Option, Some, [], ap, cond, false, if◌then◌else◌, length, map, nat_lt, refl, slice_index_or, slice_set, subst, sym, true}
-use Rattle.std.specs.Prelude.{filter, filter_map, flat_map, fold}
+use Rattle.std.proofs.Common.{ℕ, zero, suc, ◌+◌, ◌++◌, ◌-◌, ◌&&◌, ◌==◌, ◌≡◌, ◌∷◌, ℤ, pos, ◌+ℤ◌, Bool, List, None, Option, Some, [], cond, false, if◌then◌else◌, length, map, nat_lt, refl, slice_index_or, slice_set, subst, true}
+use Rattle.std.specs.Prelude.{filter, flat_map, fold}
 use Rattle.std.specs.BTreeMap.{is_at}
 use Rattle.std.specs.BTreeSet.{insert_key}
 use Rattle.std.specs.List.{AllByRecursion, cons_option}
 use Rattle.std.specs.Ordering.{match_ordering}
-use Rattle.std.specs.declared.cmp.Ordering.{Ordering}
 use Rattle.std.specs.declared.cmp.Ordering.TheVariants.{Less, Equal, Greater}
 use Rattle.sdd_base.specs.Order.{column, row_cmp}
 use Rattle.sdd_base.specs.declared.change.Change.{Change}
@@ -27,14 +26,14 @@ use Rattle.sdd_lang.specs.declared.transaction.Txn.{Txn}
 use Rattle.sdd_lang.specs.Condition.{Tuple, meets_all, part_of, value_at}
 use Rattle.sdd_lang.specs.Database.{Database, Item, Row, database_of, item_cmp, key_in, rows_of, with_row}
 use Rattle.sdd_lang.specs.Effect.{Changed, change_of, effect, effect_from, failed, rows_in, with_change, with_deletes, with_updates}
-use Rattle.sdd_lang.specs.Query.{answer, distinct, product, projection, selection}
+use Rattle.sdd_lang.specs.Query.{answer, product, projection, selection}
 use Rattle.sdd_lang.specs.Serial.{after_changes, changed_by, item_of, serial, set_to}
 use Rattle.sdd_lang.specs.Update.{added, assigned, assigned_all, chosen, in_range, replaced}
 use Rattle.sdd_lang.proofs.SortedEntries.{each_inserted, each_left, item_cmp_exact}
 use Rattle.sdd_replay.specs.Ledger.{Ledger, changes}
 use Rattle.sdd_replay.specs.Replayed.{Gives}
 
-both_hold : {A : Type 0} (P : A → Type 0) (xs ys : List A) → AllByRecursion P xs → AllByRecursion P ys → AllByRecursion P (xs ++ ys)
+pub both_hold : {A : Type 0} (P : A → Type 0) (xs ys : List A) → AllByRecursion P xs → AllByRecursion P ys → AllByRecursion P (xs ++ ys)
 both_hold P [] ys h k = k
 both_hold P (x ∷ xs) ys h k = (h.0, both_hold P xs ys h.1 k)
 
@@ -43,7 +42,7 @@ kept_hold P p [] h = tt
 kept_hold P p (x ∷ xs) h =
     elim (p x) as (λ b. AllByRecursion P (cond b (x ∷ filter p xs) (filter p xs))) [ true ↦ (h.0, kept_hold P p xs h.1) | false ↦ kept_hold P p xs h.1 ]
 
-module _ (P : Value → Type 0) (ints : (n : ℤ) → P (Int n)) where
+module _ (P : Value → Type 0) (ints : (n : ℤ) → in_range n ≡ true → P (Int n)) where
   abbrev pub Holds : Row → Type 0
   Holds row = AllByRecursion P row
 
@@ -85,7 +84,7 @@ module _ (P : Value → Type 0) (ints : (n : ℤ) → P (Int n)) where
   -- values of rows
 
   value_holds : (row : Row) (i : ℕ) → Holds row → P (slice_index_or row i (Int (pos 0)))
-  value_holds [] i h = ints (pos 0)
+  value_holds [] i h = ints (pos 0) refl
   value_holds (v ∷ row) zero h = h.0
   value_holds (v ∷ row) (suc i) h = value_holds row i h.1
 
@@ -97,10 +96,10 @@ module _ (P : Value → Type 0) (ints : (n : ℤ) → P (Int n)) where
   added_holds : (v w : Value) (by : ℤ) → added v by ≡ Some w → P v → P w
   added_holds (Text t) w by e h = let same : Text t ≡ w = cc in subst P same h
   added_holds (Int n) w by e h =
-      elim (in_range (n +ℤ by)) as (λ b. cond b (Some (Int (n +ℤ by))) None ≡ Some w → P w) [
-        | true ↦ λ k. (let same : Int (n +ℤ by) ≡ w = cc in subst P same (ints (n +ℤ by)))
-        | false ↦ λ k. cc
-      ] e
+      elim (in_range (n +ℤ by)) as (λ b. in_range (n +ℤ by) ≡ b → cond b (Some (Int (n +ℤ by))) None ≡ Some w → P w) [
+        | true ↦ λ fits k. (let same : Int (n +ℤ by) ≡ w = cc in subst P same (ints (n +ℤ by) fits))
+        | false ↦ λ fits k. cc
+      ] refl e
 
   assigned_holds : (old row next : Row) (a : Assign) → Holds old → Holds row → Assigns a → assigned old row a ≡ Some next → Holds next
   assigned_holds old row next (To n value) h k s e =

@@ -1,5 +1,5 @@
 -- Lines of a report that tell of pending transactions.
-use Rattle.std.specs.Prelude.{ℕ, Bool, false, true, List, [], ◌∷◌, ◌≡◌, codes, nat_eq, refl}
+use Rattle.std.specs.Prelude.{ℕ, Bool, false, true, List, ◌≡◌, codes, nat_eq, refl}
 use Rattle.std.specs.List.{starts_with}
 
 -- a line that begins with `pending `

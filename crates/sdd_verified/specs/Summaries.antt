@@ -1,5 +1,5 @@
 -- Schedules that leave nothing undone, and summaries that tell of as many Commits as transactions.
-use Rattle.std.specs.Prelude.{ℕ, ◌+◌, ◌≡◌, ◌≤◌, Bool, true, false, List, [], ◌∷◌, refl}
+use Rattle.std.specs.Prelude.{ℕ, ◌≡◌, ◌≤◌, Bool, true, false, List, [], ◌∷◌, refl}
 use Rattle.std.specs.List.{list_any}
 use Rattle.sdd_base.specs.Numbers.{dm_no, txn_no}
 use Rattle.sdd_base.specs.declared.event.Event.{Event}

@@ -10,8 +10,10 @@ mod law;
 mod pending_law;
 mod report_law;
 mod summary_law;
+mod text_law;
 
 pub use law::law_verified;
 pub use pending_law::law_pending_lines;
 pub use report_law::law_has_report;
 pub use summary_law::{law_all_committed, law_made_all_committed};
+pub use text_law::law_one_text;

@@ -1,0 +1,97 @@
+-- What holds of all numbers of 64 bits, and of each value that a workload allows, holds of the values in the replies and in
+-- the copies that a report on its run tells.
+use Rattle.std.proofs.Common.{ℕ, ◌-◌, ◌≡◌, ◌∷◌, ℤ, List, None, Option, Some, [], false, length, refl, subst, sym, true}
+use Rattle.std.specs.Prelude.{Contains}
+use Rattle.std.specs.List.{All, AllByRecursion, cons_option}
+use Rattle.std.proofs.lemmas.List.Elements.{All-head, All-tail, recursion_from_All}
+use Rattle.sdd_base.specs.declared.number.RelNo.{RelNo}
+use Rattle.sdd_base.specs.declared.number.TxnNo.{TxnNo}
+use Rattle.sdd_base.specs.declared.value.Value.{Value}
+use Rattle.sdd_base.specs.declared.value.Value.TheVariants.{Int}
+use Rattle.sdd_catalog.specs.Catalogue.{Catalogue}
+use Rattle.sdd_catalog.specs.Rules.{IsSound}
+use Rattle.sdd_lang.specs.Database.{Row, database_of}
+use Rattle.sdd_lang.specs.Update.{in_range}
+use Rattle.sdd_lang.specs.declared.assign.Assign.{Assign}
+use Rattle.sdd_lang.specs.declared.assign.Assign.TheVariants.{To, Add}
+use Rattle.sdd_lang.specs.declared.statement.Stmt.{Stmt}
+use Rattle.sdd_lang.specs.declared.statement.Stmt.TheVariants.{Put, Query, Update, Delete}
+use Rattle.sdd_lang.specs.declared.transaction.Txn.{Txn}
+use Rattle.sdd_laws.specs.Deeds.{txn_at}
+use Rattle.sdd_laws.specs.Replay.{run, texts_of}
+use Rattle.sdd_log.specs.Entries.{Given, history}
+use Rattle.sdd_log.specs.Locals.{redeclares}
+use Rattle.sdd_net.proofs.Lists.{All-at}
+use Rattle.sdd_order.specs.SerialOrder.{serial_order}
+use Rattle.sdd_report.specs.declared.copies.CopyTable.{CopyTable}
+use Rattle.sdd_run.specs.Copies.{tables_of}
+use Rattle.sdd_run.specs.Runs.{IsReportOn, given_of}
+use Rattle.sdd_run.proofs.Left.{told_rows}
+use Rattle.sdd_run.proofs.Ordered.{eras_are, fine, permitted}
+use Rattle.sdd_script.proofs.NoLists.{no_redeclare}
+use Rattle.sdd_script.specs.Redeclaring.{has_lists}
+use Rattle.sdd_script.specs.Valid.{AssignsValue, HoldsValues, IsValid, IsValidRow, IsValidTxn, IsValue}
+use Rattle.sdd_script.specs.declared.workload.Workload.{Workload}
+use Rattle.sdd_upheld.specs.Given.{one_era}
+use Rattle.sdd_verified.proofs.CleanCopies.{copy_holds}
+use Rattle.sdd_verified.proofs.OneList.{no_lists, one_list}
+use Rattle.sdd_verified.proofs.ValuesKept.{Assigns, Answers, Hold, Holds, Writes, WritesAll, first_holds, serial_answers}
+
+module _ (P : Value → Type 0) (ints : (n : ℤ) → in_range n ≡ true → P (Int n)) (given : (v : Value) → IsValue v → P v) where
+  row_given : (row : Row) → AllByRecursion IsValue row → Holds P ints row
+  row_given [] h = tt
+  row_given (v ∷ row) h = (given v h.0, row_given row h.1)
+
+  sets_given : (sets : List Assign) → AllByRecursion AssignsValue sets → AllByRecursion (Assigns P ints) sets
+  sets_given [] h = tt
+  sets_given (To n value ∷ sets) h = (given value h.0, sets_given sets h.1)
+  sets_given (Add n by ∷ sets) h = (tt, sets_given sets h.1)
+
+  writes_given : (statements : List Stmt) → AllByRecursion HoldsValues statements → AllByRecursion (Writes P ints) statements
+  writes_given [] h = tt
+  writes_given (Put rel row ∷ rest) h = (row_given row (recursion_from_All IsValue row h.0), writes_given rest h.1)
+  writes_given (Query out rels conds ∷ rest) h = (tt, writes_given rest h.1)
+  writes_given (Update rel sets conds ∷ rest) h = (sets_given sets (recursion_from_All AssignsValue sets h.0.0), writes_given rest h.1)
+  writes_given (Delete rel conds ∷ rest) h = (tt, writes_given rest h.1)
+
+  rows_given : (cat : Catalogue) (rows : List (RelNo × Row)) → All (IsValidRow cat) rows → AllByRecursion (λ (r : RelNo × Row). Holds P ints r.1) rows
+  rows_given cat [] v = tt
+  rows_given cat (r ∷ rows) v =
+      (row_given r.1 (recursion_from_All IsValue r.1 (All-head (IsValidRow cat) r rows v).values), rows_given cat rows (All-tail (IsValidRow cat) r rows v))
+
+  -- the transactions of an order
+
+  text_onto : (o : Option Txn) (rest : List Txn) → ((t : Txn) → o ≡ Some t → WritesAll P ints t)
+      → AllByRecursion (WritesAll P ints) rest → AllByRecursion (WritesAll P ints) (cons_option o rest)
+  text_onto None rest h k = k
+  text_onto (Some t) rest h k = (h t refl, k)
+
+  texts_given : (txns : List Txn) → ((n : ℕ) (t : Txn) → txn_at txns n ≡ Some t → WritesAll P ints t) → (order : List TxnNo)
+      → AllByRecursion (WritesAll P ints) (texts_of txns order)
+  texts_given txns h [] = tt
+  texts_given txns h (n ∷ order) = text_onto (txn_at txns n.0) (texts_of txns order) (λ t e. h n.0 t e) (texts_given txns h order)
+
+  module _ (cat : Catalogue) (work : Workload) (text : List ℕ) (sound : IsSound cat) (valid : IsValid cat work)
+      (lists : has_lists work ≡ false) (r : IsReportOn cat work text) where
+    none : redeclares r.log ≡ 0
+    none = one_list (given_of cat r.table work) r.log (no_lists work.events (no_redeclare cat work valid lists)) r.log_is.lawful
+
+    writes : (n : ℕ) (t : Txn) → txn_at work.txns n ≡ Some t → WritesAll P ints t
+    writes n t e =
+        let v = All-at (IsValidTxn cat) work.txns (n - 1) t e valid.txns in
+        writes_given t.statements (recursion_from_All HoldsValues t.statements v.values)
+
+    pub answers_given : AllByRecursion (Answers P ints) (run cat work.rows work.txns (serial_order cat (history r.log))).0
+    answers_given =
+        serial_answers P ints cat (database_of cat work.rows) (texts_of work.txns (serial_order cat (history r.log)))
+        (first_holds P ints cat work.rows (rows_given cat work.rows valid.rows)) (texts_given work.txns writes (serial_order cat (history r.log)))
+
+    pub copied_given : (table : CopyTable) → Contains (tables_of (given_of cat r.table work) r.log) table → Hold P ints table.rows
+    copied_given table there =
+        let g : Given = given_of cat r.table work in
+        let goods = fine cat r.table work sound valid r.table_is r.log r.log_is none in
+        let may = permitted cat r.table work sound valid r.table_is r.log r.log_is none in
+        subst (Hold P ints) (sym (told_rows g work.rows r.log sound goods may (record { table = r.table_is }) refl none table there))
+        (copy_holds P ints g work.rows (one_era cat) r.log sound goods may
+        (eras_are cat r.table work sound valid r.table_is r.log r.log_is none) (serial_order cat (history r.log)) r.serial
+        (rows_given cat work.rows valid.rows) writes table.dm.0 (length (history r.log)) table.frag.0)

@@ -1,0 +1,35 @@
+-- What the text of a report gives back.
+use Rattle.std.specs.Prelude.{ℕ, ◌≡◌, List, map}
+use Rattle.sdd_catalog.specs.Catalogue.{Catalogue}
+use Rattle.sdd_lang.specs.Database.{Row}
+use Rattle.sdd_lang.specs.declared.transaction.Txn.{Txn}
+use Rattle.sdd_laws.specs.Replay.{run}
+use Rattle.sdd_log.specs.Entries.{history}
+use Rattle.sdd_order.specs.SerialOrder.{serial_order}
+use Rattle.sdd_report.specs.Committed.{names_of}
+use Rattle.sdd_report.specs.Copies.{place_words}
+use Rattle.sdd_report.specs.Names.{txn_name}
+use Rattle.sdd_report.specs.declared.copies.CopyTable.{CopyTable}
+use Rattle.sdd_report.specs.declared.pending.Pending.{Pending}
+use Rattle.sdd_run.specs.Reports.{report_of}
+use Rattle.sdd_run.specs.Runs.{IsReportOn, given_of}
+use Rattle.sdd_script.specs.declared.workload.Workload.{Workload}
+
+-- the names of the pending transactions
+abbrev pub pending_names : List Txn → List Pending → List (List ℕ)
+pending_names txns left = map (λ (p : Pending). txn_name txns p.txn.0) left
+
+-- the copies, each with the words for its module and its fragment
+abbrev pub copies_told : Catalogue → List CopyTable → List (List ℕ × List Row)
+copies_told cat copies = map (λ (t : CopyTable). (place_words cat t.dm.0 t.frag.0, t.rows)) copies
+
+-- two reports tell the same: the names of the committed transactions in their order, the replies along it, the names of
+-- the pending ones, and the copies
+pub record TellAlike (cat : Catalogue) (work other : Workload) (text : List ℕ) (one : IsReportOn cat work text) (two : IsReportOn cat other text) : Type 0 where
+  pub order : names_of work.txns (serial_order cat (history one.log)) ≡ names_of other.txns (serial_order cat (history two.log))
+  pub replies : (run cat work.rows work.txns (serial_order cat (history one.log))).0
+      ≡ (run cat other.rows other.txns (serial_order cat (history two.log))).0
+  pub pending : pending_names work.txns (report_of (given_of cat one.table work) one.log).pending
+      ≡ pending_names other.txns (report_of (given_of cat two.table other) two.log).pending
+  pub copies : copies_told cat (report_of (given_of cat one.table work) one.log).copies
+      ≡ copies_told cat (report_of (given_of cat two.table other) two.log).copies
