@@ -3,7 +3,7 @@ from typing import NamedTuple
 
 import random_input as inputs
 from reference.commands import answer
-from reference.spelling import catalogue_text, workload_text
+from spelling import catalogue_text, workload_text
 
 COMMANDS = ["check", "graph", "table", "plain", "run", "make", "control", "verify", "advise"]
 STRANGE = ["", " ", "0", "-0", "007", "-1", "+1", "9223372036854775807", "9223372036854775808", "-9223372036854775808",
