@@ -7,6 +7,8 @@ crates/sdd_graph/specs/Graph.antt, sdd_blocks/specs/Blocks.antt, sdd_protocol/sp
 from collections import Counter
 from typing import NamedTuple
 
+from .breaking import is_broken
+
 MOST_EDGES_TO_LIST = 14
 
 
@@ -105,8 +107,14 @@ def protocol_table(cat):
     edges = conflict_graph(cat)
     blocks = blocks_of(edges)
     vertical = {e.i: block for e, block in zip(edges, blocks) if e.kind == "vertical"}
-    return [Entry(e, block, "P1" if not block else "P3" if block == vertical[e.i] else "P2")
-            for e, block in zip(edges, blocks)]
+    return [Entry(e, block, protocol_of(block, vertical[e.i])) for e, block in zip(edges, blocks)]
+
+
+def protocol_of(block, vertical):
+    """The protocol of a diagonal in a block, where its reader's vertical edge is in this one."""
+    if block == 0 or is_broken("all-p1"):
+        return "P1"
+    return "P3" if block == vertical and not is_broken("p2-for-p3") else "P2"
 
 
 class Cond(NamedTuple):

@@ -5,8 +5,9 @@
 
 Of each example the program COMMAND (a built `sdd1`; without it `rt try`, minutes for each example) gives
 the report of its workload, or the advice on its catalogue where it has no workload; tools/picture.py
-and tools/graph_picture.py draw `picture.svg` and, where `dot` of Graphviz is installed, `graph.svg`. With --check nothing is written, and each file that would
-change is told; `graph.svg` is left out then, since it depends on the version of `dot` and its fonts.
+and tools/graph_picture.py draw `picture.svg` and, where `dot` of Graphviz is installed, `graph.svg`. With
+--check nothing is written, and each file that would change is told; `graph.svg` is left out then, since it
+depends on the version of `dot` and its fonts. The folder examples/broken is that of tools/make_broken.py.
 """
 import os
 import shutil
@@ -68,7 +69,7 @@ def same(a, b):
 def main():
     asked = parser(__doc__)
     add_program(asked)
-    names = sorted(x for x in os.listdir(EXAMPLES) if os.path.isdir(os.path.join(EXAMPLES, x)))
+    names = sorted(x for x in os.listdir(EXAMPLES) if os.path.exists(os.path.join(EXAMPLES, x, "catalogue.toml")))
     asked.add_argument("--only", metavar="NAME", nargs="+", choices=names, help="these examples alone")
     asked.add_argument("--check", action="store_true", help="compare, and write nothing")
     asked = asked.parse_args()

@@ -1,12 +1,12 @@
 #!/usr/bin/env python3
 """Writes the committed transactions of a run as a history for a checker of isolation levels.
 
-    tools/to_elle.py REPORT WORKLOAD CATALOGUE [--into FILE]
+    tools/to_elle.py REPORT WORKLOAD CATALOGUE [--along-order] [--into FILE]
 
 The history is in the list-append form of Elle, as EDN, one operation a line. An item is a row of a
 relation by its key, "account/1"; its versions are a list, to which each transaction that changes the
 row appends its number (that of its `txn` line; 0 is the row that stands in the workload). A process is a
-class, the first one the workload's rows, and the last ones are reads of copies at the end.
+class, the first one the workload's rows; each class reads all copies at the end.
 
 - What a transaction read: of each row that its conditions on keys leave to it, the versions that were
   applied at the module where it reads the row before it was answered there, as the report's records tell.
@@ -16,7 +16,9 @@ class, the first one the workload's rows, and the last ones are reads of copies 
 - What is in the copies: a read of each copy at which every change of its fragment is applied, made so.
 
 tools/check_history.py judges the history. Nothing in it tells of timestamps, but that the versions of
-a row that was read stand in the order in which a copy lets one replace the other.
+a row that was read stand in the order in which a copy lets one replace the other. Nor does it tell the
+serial order of the report; with --along-order all transactions are of one process, in that order, so that
+the order is judged too.
 """
 import json
 import sys
@@ -149,7 +151,7 @@ class Run:
         return ((items[0], (NOBODY,)),)
 
     def final_reads(self):
-        """Of each copy at which all changes of its fragment are applied: its name and its reads."""
+        """The reads of each copy at which all changes of its fragment are applied."""
         for (site, fragment), rows in self.report.copies.items():
             f = self.catalogue.fragments[fragment]
             items = [x for x in self.versions if f.has(*x)]
@@ -159,7 +161,7 @@ class Run:
             key = self.catalogue.relations[f.relation].key
             told = {row[key]: row for row in rows}
             extra = [(f.relation, k) for k in told if (f.relation, k) not in self.versions]
-            yield "copy %s %s" % (site, fragment), [self.final_read(x, told.get(x[1])) for x in items + extra]
+            yield from [self.final_read(x, told.get(x[1])) for x in items + extra]
 
     def final_read(self, item, row):
         """The versions of an item, up to the one that is the row that a copy has."""
@@ -183,19 +185,22 @@ def operation(index, kind, process, name, steps):
         index, kind, process, json.dumps(name), " ".join(steps))
 
 
-def history(run):
+def history(run, along_order=False):
     """The lines of the history: an invoke where a transaction first starts, an ok where it commits."""
     first = [micro("append", item, FIRST_ROWS) for item, v in run.versions.items() if v[0].writer == FIRST_ROWS]
     events = [(-2, "invoke", "rows", first, "rows"), (-1, "ok", "rows", first, "rows")]
     for x in run.committed.values():
+        place = run.report.order.index(x.name)
+        begin, end, process = (place, place, "order") if along_order else (x.begin, x.end, x.process)
         appends = [micro("append", item, x.number) for item in x.changes]
         both = x.reads + x.told
-        events.append((x.begin, "invoke", x.process, [micro("r", item, None) for item, _ in both] + appends, x.name))
-        events.append((x.end, "ok", x.process, [micro("r", *read) for read in both] + appends, x.name))
+        events.append((begin, "invoke", process, [micro("r", item, None) for item, _ in both] + appends, x.name))
+        events.append((end, "ok", process, [micro("r", *read) for read in both] + appends, x.name))
     last = len(run.report.records)
-    for name, final in run.final_reads():
-        events.append((last, "invoke", name, [micro("r", item, None) for item, _ in final], name))
-        events.append((last, "ok", name, [micro("r", *read) for read in final], name))
+    final = list(run.final_reads())
+    for process in list(dict.fromkeys(x[2] for x in events[2:])):
+        events.append((last, "invoke", process, [micro("r", item, None) for item, _ in final], "copies"))
+        events.append((last, "ok", process, [micro("r", *read) for read in final], "copies"))
     events.sort(key=lambda x: x[0])
     processes = {}
     for _, _, process, _, _ in events:
@@ -207,12 +212,13 @@ def main():
     asked = parser(__doc__)
     for name in ("report", "workload", "catalogue"):
         asked.add_argument(name, metavar=name.upper())
+    asked.add_argument("--along-order", action="store_true")
     asked.add_argument("--into", metavar="FILE", help="the history's file; without it standard output")
     asked = asked.parse_args()
     catalogue = read_catalogue(asked.catalogue)
     first, transactions = read_workload(asked.workload, catalogue)
     run = Run(read_report(asked.report), transactions, first, catalogue)
-    text = "".join(x + "\n" for x in history(run))
+    text = "".join(x + "\n" for x in history(run, asked.along_order))
     if asked.into is None:
         sys.stdout.write(text)
     else:
