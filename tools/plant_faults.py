@@ -9,7 +9,6 @@ judged first: a fault that is told there is a false alarm. Then N faults of each
 planted, one in a report, and judged. A table is printed, and with --show each fault that wasn't found. The
 status is 1 where there was a false alarm, or a fault wasn't found.
 """
-import importlib
 import os
 import random
 import tempfile
@@ -39,12 +38,12 @@ class Case(NamedTuple):
 
 def cases(program, folder, seed, number):
     """True reports, one design after the other."""
-    designs = [(x, d) for x in APPLICATIONS for d in importlib.import_module("applications." + x).DESIGNS]
+    designs = [(x, design) for x, (application, _) in APPLICATIONS.items() for design in application.DESIGNS]
     for k in range(number):
         kind, design = designs[k % len(designs)]
         paths = write_workload(folder, kind, SIZE, (seed * 1000 + k) % 2**31, design)
         catalogue, load = read_catalogue(paths[0]), read_load(paths[1])
-        events = drawn(load, links_of(catalogue, load, False), random.Random("%d %d" % (seed, k)), Manner(3, 0.02))
+        events = drawn(load, links_of(catalogue, load, design == "audit"), random.Random("%d %d" % (seed, k)), Manner(3, 0.02))
         if k % 3 == 2:
             events = events[:len(events) // 2]
         with open(paths[1], "w", encoding="utf-8") as f:
