@@ -3,9 +3,11 @@
 
     tools/check_history.py HISTORY
 
-HISTORY is what tools/to_elle.py writes, or any history in Elle's list-append form, an operation a line
-(`-` is standard input). Of the operations of type :ok it takes the reads and appends of each item, and
-the process. The nodes of the graph are these transactions; an edge leads
+HISTORY is what tools/to_elle.py writes (`-` is standard input): an operation a line, as EDN, in the form
+of Elle's list-append histories, with :type, :process, :value and, if there is one, :name. It was tried on
+such histories alone. Of the operations of type :ok it takes the reads and appends of each item, and the
+process. Of one of type :info nobody knows whether it happened: its appends are taken where somebody read one
+of them. One of type :fail didn't happen. The nodes of the graph are these transactions; an edge leads
 
     ww   from who appended a version of an item to who appended the next one,
     wr   from who appended the version that is the last of a read to the reader,
@@ -13,8 +15,11 @@ the process. The nodes of the graph are these transactions; an edge leads
     so   from a transaction to the next one of its process.
 
 The order of an item's versions is that of the longest list that was read; what nobody read stands behind.
-A cycle means that no serial order gives these reads. The script also refuses a version that is appended
-twice, a read of one that nobody appended, and two reads of an item of which neither begins the other.
+A cycle means that no serial order gives these reads. Faults are also a version that is appended twice, a
+read of one that nobody appended or that was appended by a transaction that failed, two reads of an item of
+which neither begins the other, and a transaction that doesn't see its own append, or sees it beforehand.
+What is judged is serializability, not strict serializability: that an operation ended before another one began
+counts for nothing but in one process.
 It prints what it found, a line each, and ends with status 1; or one line with the counts, and ends with 0.
 """
 import re
@@ -53,14 +58,50 @@ def edn(text):
 
 
 class Transaction:
-    def __init__(self, name, process, steps):
-        self.name, self.process = name, process
-        self.reads = [(item, versions or ()) for kind, item, versions in steps if kind == ":r"]
-        self.appends = [(item, version) for kind, item, version in steps if kind == ":append"]
+    def __init__(self, name, process, steps, kind=":ok"):
+        self.name, self.process, self.steps = name, process, steps
+        self.reads = [(item, versions or ()) for step, item, versions in steps if step == ":r" and kind == ":ok"]
+        self.appends = [(item, version) for step, item, version in steps if step == ":append"]
+
+    def own_faults(self):
+        """Where it doesn't see what it appended itself, or sees it before that."""
+        if not self.reads:
+            return
+        mine = {}                                   # item -> its own appends so far
+        for kind, item, value in self.steps:
+            if kind == ":append":
+                mine.setdefault(item, []).append(value)
+                continue
+            own, seen = mine.get(item, []), list(value or ())
+            if seen[len(seen) - len(own):] != own:
+                yield "%s reads versions %s of %s behind its own append of %s" % (self.name, seen, item, own[-1])
+            elif {(item, x) for x in seen[:len(seen) - len(own)]} & set(self.appends):
+                yield "%s reads its own append to %s before it" % (self.name, item)
+
+
+class History:
+    """The operations of a file, by what became of them."""
+
+    def __init__(self):
+        self.done, self.failed, self.unknown = [], [], []
+
+    def transactions(self):
+        """Those that happened: an unknown one did where somebody read what it appended."""
+        read = {(item, x) for t in self.done for item, versions in t.reads for x in versions}
+        return self.done + [t for t in self.unknown if not read.isdisjoint(t.appends)]
+
+    def add(self, told, number):
+        name = told.get(":name", "op %s" % told.get(":index", number))
+        if told[":type"] == ":ok":
+            self.done.append(Transaction(name, told[":process"], told[":value"]))
+        elif told[":type"] == ":fail":
+            self.failed.append(Transaction(name, None, told[":value"] or (), ":fail"))
+        elif told[":type"] == ":info":
+            self.unknown.append(Transaction(name, None, told[":value"] or (), ":info"))
 
 
 def read_history(path):
-    made = []
+    made = History()
     try:
         with sys.stdin if path == "-" else open(path, encoding="utf-8") as f:
             lines = f.read().split("\n")
@@ -70,13 +111,10 @@ def read_history(path):
         if not line.strip():
             continue
         try:
-            told = edn(line)
-            if told[":type"] == ":ok":
-                name = told.get(":name", "op %s" % told.get(":index", number))
-                made.append(Transaction(name, told[":process"], told[":value"]))
+            made.add(edn(line), number)
         except (ValueError, KeyError, TypeError, IndexError, AttributeError):
             raise BadInput("%s: line %d: no operation of a history" % (path, number)) from None
-    if not made:
+    if not made.done:
         raise BadInput("%s: no transaction in it" % path)
     return made
 
@@ -84,8 +122,10 @@ def read_history(path):
 class Graph:
     """The direct serialization graph, and what was found wrong while it was made."""
 
-    def __init__(self, transactions):
-        self.transactions, self.faults = transactions, []
+    def __init__(self, history):
+        self.transactions = transactions = history.transactions()
+        self.aborted = {x: t.name for t in history.failed for x in t.appends}
+        self.faults = [x for t in transactions for x in t.own_faults()]
         self.edges = [{} for _ in transactions]     # to -> why
         self.writer = {}                            # item, version -> place of a transaction
         self.readers = {}                           # item -> reads of it, with the place of the transaction
@@ -104,9 +144,10 @@ class Graph:
             self.add_item(item, behind.get(item, []))
         last = {}
         for k, t in enumerate(transactions):
-            if t.process in last:
-                self.add(last[t.process], k, "so")
-            last[t.process] = k
+            if t.process is not None:
+                if t.process in last:
+                    self.add(last[t.process], k, "so")
+                last[t.process] = k
 
     def add(self, a, b, why):
         if a != b:
@@ -120,7 +161,8 @@ class Graph:
             name = self.transactions[k].name
             strange = [x for x in versions if (item, x) not in self.writer]
             if strange:
-                self.faults.append("%s reads version %s of %s, which nobody appended" % (name, strange[0], item))
+                who = "nobody" if (item, strange[0]) not in self.aborted else self.aborted[item, strange[0]] + ", which failed,"
+                self.faults.append("%s reads version %s of %s, which %s appended" % (name, strange[0], item, who))
             elif versions != longest[:len(versions)]:
                 self.faults.append("%s reads versions %s of %s, and another transaction %s" % (name, list(versions), item, list(longest)))
             else:

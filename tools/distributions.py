@@ -77,6 +77,11 @@ def note_of(figures, times, waits):
     return "%.2f an attempt, %s" % (figures.waits / figures.attempts, middle) if waits and figures.attempts else middle
 
 
+def short(path):
+    """The file with the folder in which it lies."""
+    return "/".join(path.split("/")[-2:])
+
+
 def picture(designs, by, unit):
     names = list(dict.fromkeys(x for design in designs for x in design.figures))
     panels = []
@@ -88,7 +93,7 @@ def picture(designs, by, unit):
     shapes = []
     for k, design in enumerate(designs):
         shapes.append(svg.shape("rect", ("first", "second")[k], x=10 + 400 * k, y=8, width=10, height=10))
-        shapes.append(svg.label(26 + 400 * k, 17, "%s, %d schedules" % (design.name[-50:], design.runs)))
+        shapes.append(svg.label(26 + 400 * k, 17, "%s, %d schedules" % (short(design.name), design.runs)))
     for panel, _ in panels:
         shapes += panel.head(unit, bottom)
     for k, name in enumerate(names):

@@ -5,9 +5,13 @@
 
 Of each example the program COMMAND (a built `sdd1`; without it `rt try`, minutes for each example) gives
 the report of its workload, or the advice on its catalogue where it has no workload; tools/picture.py
-and tools/graph_picture.py draw `picture.svg` and, where `dot` of Graphviz is installed, `graph.svg`. With
---check nothing is written, and each file that would change is told; `graph.svg` is left out then, since it
-depends on the version of `dot` and its fonts. The folder examples/broken is that of tools/make_broken.py.
+and tools/graph_picture.py draw `picture.svg` and, where `dot` of Graphviz is installed, `graph.svg`.
+Of the known applications catalogue and workload are made too, the catalogue of the first design
+(`first.toml`), and `waits.svg` by tools/explore.py, which compares the two.
+
+With --check nothing is written, and each file that would change is told; `graph.svg` is left out then,
+since it depends on the version of `dot` and its fonts, and `waits.svg`, since it takes long. The folder
+examples/broken is that of tools/make_broken.py.
 """
 import os
 import shutil
@@ -16,17 +20,21 @@ import sys
 import tempfile
 
 from command import parser, start
-from make_workload import write_workload
+from make_workload import APPLICATIONS, write_workload
 from program import add_program, run_program
 from report import BadInput
 
 TOOLS = os.path.dirname(os.path.abspath(__file__))
 EXAMPLES = os.path.join(TOOLS, "..", "examples")
-WINDOWS = {"bank": ["--from", "3000", "--to", "3080"]}      # the examples of which a part is drawn
+WINDOWS = {                 # the examples of which a part is drawn
+    "bank": ["--from", "3000", "--to", "3080"], "smallbank": ["--from", "60", "--to", "160"], "tatp": ["--from", "60", "--to", "160"],
+    "tpcc": ["--from", "60", "--to", "160"], "ycsb": ["--from", "60", "--to", "160"],
+}
+MADE = {"bank": 300, "smallbank": 40, "tatp": 40, "tpcc": 40, "ycsb": 40}       # the made ones, with their transactions
 
 
 def draw(script, words):
-    done = subprocess.run([sys.executable, os.path.join(TOOLS, script)] + words, stderr=subprocess.PIPE)
+    done = subprocess.run([sys.executable, os.path.join(TOOLS, script)] + words, stdout=subprocess.DEVNULL, stderr=subprocess.PIPE)
     if done.returncode:
         raise BadInput(done.stderr.decode(errors="replace").strip())
 
@@ -44,9 +52,11 @@ def make(name, program, folder, check):
     mine = os.path.join(EXAMPLES, name)
     catalogue, workload = os.path.join(mine, "catalogue.toml"), os.path.join(mine, "workload")
     made, more = ["report", "picture.svg"], ["--program", program] if program else []
-    if name == "bank":
-        catalogue, workload = write_workload(folder, "bank", 300)
+    if name in MADE:
+        catalogue, workload = write_workload(folder, name, MADE[name])
         made += ["catalogue.toml", "workload"]
+    if name in APPLICATIONS:
+        made += compare_designs(name, program, folder, check)
     if os.path.exists(workload):
         report = write(folder, "report", run_program(program, ["run", catalogue, workload]))
         draw("picture.py", [report, catalogue, workload, "--into", os.path.join(folder, "picture.svg")] + more + WINDOWS.get(name, []))
@@ -57,6 +67,19 @@ def make(name, program, folder, check):
         draw("graph_picture.py", [catalogue, "--into", os.path.join(folder, "graph.svg")] + more)
         made.append("graph.svg")
     return made
+
+
+def compare_designs(name, program, folder, check):
+    """Makes the catalogue of the first design, and the picture that compares it with the last one."""
+    files, application = [], APPLICATIONS[name][0]
+    for design in ("first", application.USUAL):
+        files += write_workload(os.path.join(folder, design), name, 80, design=design)
+    shutil.copyfile(files[0], os.path.join(folder, "first.toml"))
+    if check:
+        return ["first.toml"]
+    words = ["--pace", "6", "--picture", os.path.join(folder, "waits.svg")] + (["--program", program] if program else [])
+    draw("explore.py", files + words)
+    return ["first.toml", "waits.svg"]
 
 
 def same(a, b):

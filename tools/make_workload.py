@@ -173,7 +173,7 @@ def lines_of(kind, n, seed, design):
         raise BadInput("of %s N is at most %d" % (kind, most))
     if kind in MEASURED:
         return MEASURED[kind].make(n, seed)
-    return application.make(n, seed, design or list(application.DESIGNS)[-1])
+    return application.make(n, seed, design or application.USUAL)
 
 
 def write_workload(folder, kind, n=None, seed=1, design=None):

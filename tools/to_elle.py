@@ -13,7 +13,9 @@ class, the first one the workload's rows; each class reads all copies at the end
 - What it replied: the transaction is run again on these versions, by tools/workload.py. Where that
   isn't the reply of the report, the history has further reads, of versions that give that reply; or
   of version -1, which nobody appends, where none do. So a wrong reply leaves its trace in the history.
-- What is in the copies: a read of each copy at which every change of its fragment is applied, made so.
+- What is in the copies: a read of each copy at which every change of its fragment is applied. Where a row
+  isn't the one that was applied there last, also where some change isn't applied yet, the history has two
+  reads of it: of what was applied there, and of the versions that end with this row (-1 where none does).
 
 tools/check_history.py judges the history. Nothing in it tells of timestamps, but that the versions of
 a row that was read stand in the order in which a copy lets one replace the other. Nor does it tell the
@@ -151,28 +153,45 @@ class Run:
         return ((items[0], (NOBODY,)),)
 
     def final_reads(self):
-        """The reads of each copy at which all changes of its fragment are applied."""
-        for (site, fragment), rows in self.report.copies.items():
-            f = self.catalogue.fragments[fragment]
-            items = [x for x in self.versions if f.has(*x)]
-            writers = {v.writer for x in items for v in self.versions[x]} - {FIRST_ROWS}
-            if not writers <= {n for _, n in self.applied.get(site, [])}:
-                continue
-            key = self.catalogue.relations[f.relation].key
-            told = {row[key]: row for row in rows}
-            extra = [(f.relation, k) for k in told if (f.relation, k) not in self.versions]
-            yield from [self.final_read(x, told.get(x[1])) for x in items + extra]
+        """Of each copy its name and its reads: all of them where all changes are applied, else those of wrong rows."""
+        for f in self.catalogue.fragments.values():
+            for site in f.copies:
+                if (site, f.name) not in self.report.copies:
+                    raise BadInput("the report has no copy %s %s" % (site, f.name))
+                yield "copy %s %s" % (site, f.name), self.copy_reads(site, f, self.report.copies[site, f.name])
 
-    def final_read(self, item, row):
-        """The versions of an item, up to the one that is the row that a copy has."""
-        versions = self.versions.get(item, [])
-        whole = tuple(x.writer for x in versions)
-        if (versions[-1].row if versions else None) == row:
-            return item, whole
-        for k in range(len(versions) - 1, -1, -1):
-            if (versions[k - 1].row if k else None) == row:
-                return item, whole[:k]
-        return item, (NOBODY,)
+    def copy_reads(self, site, fragment, rows):
+        key = self.catalogue.relations[fragment.relation].key
+        told = {}
+        for row in rows:
+            told.setdefault((fragment.relation, row[key]), []).append(row)
+        items = [x for x in self.versions if fragment.has(*x)]
+        items += [x for x in told if not fragment.has(*x) or x not in self.versions]
+        applied = {n for _, n in self.applied.get(site, [])} | {FIRST_ROWS}
+        complete = all(v.writer in applied for x in items for v in self.versions.get(x, []))
+        made = []
+        for item in items:
+            shown = [x for x in self.versions.get(item, []) if x.writer in applied]
+            right = [shown[-1].row] if shown and shown[-1].row is not None else []
+            if not fragment.has(*item) or told.get(item, []) != right:
+                made += self.wrong_row(item, shown, told.get(item, []))
+            elif complete:
+                made.append((item, writers_of(shown)))
+        return made
+
+    def wrong_row(self, item, shown, rows):
+        """Two reads of which one is of what was applied at a copy, the other of what the copy has."""
+        first = shown == self.versions.get(item, [])[:len(shown)]
+        made = [(item, writers_of(shown))] if first else []
+        for k in range(len(shown) - 1, -1, -1):
+            before = [shown[k - 1].row] if k and shown[k - 1].row is not None else []
+            if first and before == rows:
+                return made + [(item, writers_of(shown[:k]))]
+        return made + [(item, (NOBODY,))]
+
+
+def writers_of(versions):
+    return tuple(x.writer for x in versions)
 
 
 def micro(kind, item, value):
@@ -197,10 +216,12 @@ def history(run, along_order=False):
         events.append((begin, "invoke", process, [micro("r", item, None) for item, _ in both] + appends, x.name))
         events.append((end, "ok", process, [micro("r", *read) for read in both] + appends, x.name))
     last = len(run.report.records)
-    final = list(run.final_reads())
-    for process in list(dict.fromkeys(x[2] for x in events[2:])):
-        events.append((last, "invoke", process, [micro("r", item, None) for item, _ in final], "copies"))
-        events.append((last, "ok", process, [micro("r", *read) for read in final], "copies"))
+    for name, final in run.final_reads():
+        if not final:
+            continue
+        process = "order" if along_order else name
+        events.append((last, "invoke", process, [micro("r", item, None) for item, _ in final], name))
+        events.append((last, "ok", process, [micro("r", *read) for read in final], name))
     events.sort(key=lambda x: x[0])
     processes = {}
     for _, _, process, _, _ in events:

@@ -1,7 +1,7 @@
 """What the applications share: catalogues in short, and workloads whose submissions lie apart.
 
-An application is a module with `DESIGNS`, a table from the name of a design to what makes it, of which the
-last one is taken where none is named; `make(n, seed, design)` gives the lines of a catalogue and of a workload.
+An application is a module with `DESIGNS`, a table from the name of a design to what makes it; `USUAL`, the
+design that is taken where none is named; and `make(n, seed, design)`, the lines of a catalogue and of a workload.
 """
 
 

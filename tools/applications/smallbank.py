@@ -63,20 +63,41 @@ def add_tellers(made):
         made.add_class("teller_" + branch, tm, both, both)
 
 
-def apart():
+def apart(modules=2, copies=((1,), (2,))):
     """As `steps`; and both accounts of a customer are columns of one row."""
-    made = Catalogue(2, 2)
+    made = Catalogue(modules, 2)
     made.relation("account", "id name$")
     made.relation("balance", "id savings checking")
     made.fragment("names", "account", [1, 2])
-    made.halves("balance", CUT, ("north", [1]), ("south", [2]))
+    made.halves("balance", CUT, ("north", list(copies[0])), ("south", list(copies[1])))
     for tm, branch, fragment in ((1, "n", "north"), (2, "s", "south")):
-        made.add_class("balance_" + branch, tm, "names@%d %s" % (tm, fragment))
-        made.add_class("teller_" + branch, tm, fragment, fragment)
+        here = "%s@%d" % (fragment, tm)
+        made.add_class("balance_" + branch, tm, "names@%d %s" % (tm, here))
+        made.add_class("teller_" + branch, tm, here, fragment)
     return made
 
 
-DESIGNS = {"first": first, "branches": branches, "steps": steps, "apart": apart}
+def audit():
+    """As `apart`; and every twentieth transaction is an audit of all balances at T3, for which there is no class."""
+    return apart(3)
+
+
+def audit_class():
+    """As `audit`, with a class for it."""
+    made = apart(3)
+    made.add_class("audit", 3, "north south")
+    return made
+
+
+def audit_copy():
+    """As `audit_class`; D1 has a copy of the south, so that an audit reads at one module."""
+    made = apart(3, ((1,), (1, 2)))
+    made.add_class("audit", 3, "north@1 south@1")
+    return made
+
+
+DESIGNS = {"first": first, "branches": branches, "steps": steps, "apart": apart, "audit": audit, "audit_class": audit_class, "audit_copy": audit_copy}
+USUAL = "apart"
 
 
 class Accounts:
@@ -116,7 +137,7 @@ def steps_of(kind, accounts, a, b, amount):
 
 def make(n, seed, design):
     catalogue, random = DESIGNS[design](), Random(seed)
-    accounts, work = Accounts(design == "apart"), Workload(catalogue, seed)
+    accounts, work = Accounts(design.startswith(("apart", "audit"))), Workload(catalogue, seed)
     customers = [k for low in (1, CUT) for k in range(low, low + CUSTOMERS)]
     for k in customers:
         work.row("account", k, "c%d" % k)
@@ -125,7 +146,9 @@ def make(n, seed, design):
     for relation, sum_ in () if accounts.joined else (("savings", 1000), ("checking", 500)):
         for k in customers:
             work.row(relation, k, sum_)
-    for _ in range(n):
+    for number in range(n):
+        if design.startswith("audit") and number % 20 == 10:
+            work.transaction("audit", 3, ["query 1.id 1.savings 1.checking from balance"])
         kind, a, step, amount = random.weighted(MIX), random.choice(customers), random.draw(CUSTOMERS - 1), 1 + random.draw(50)
         base = 1 if a < CUT else CUT
         b = base + (a - base + 1 + step) % CUSTOMERS
@@ -141,7 +164,7 @@ def place(work, design, kind, mine, other):
     (a, first_steps), (b, more) = mine, other
     if not more or home(a) == home(b) or design == "first":
         work.transaction(kind, home(a), first_steps + more)
-    elif design in ("steps", "apart"):
+    elif design != "branches":
         work.transaction(kind, home(a), first_steps)
         work.transaction("credit", home(b), more)
     else:

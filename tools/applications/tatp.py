@@ -66,6 +66,7 @@ def merged():
 
 
 DESIGNS = {"first": first, "owners": owners, "merged": merged}
+USUAL = "merged"
 
 
 def add_rows(work, design, random):

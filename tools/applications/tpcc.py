@@ -74,17 +74,27 @@ def writers():
 ORDERING = "district stock orders neworder orderline"
 
 
-def owners():
+def by_owner(modules, readers):
     """What payments change are other relations than what orders change; each has one class."""
-    made = Catalogue(4, 2)
+    made = Catalogue(modules, 2)
     tables(made, BY_OWNER)
     both = lambda names: of(1, names) + " " + of(2, names)  # noqa: E731
+    for w in (1, 2):
+        made.add_class("status_%d" % w, readers, of(w, "customer orders orderline balance credit"))
+        made.add_class("level_%d" % w, readers, of(w, "district orderline stock"))
     made.add_class("ordering", 1, "items " + both("warehouse customer " + ORDERING), both(ORDERING + " credit"))
     made.add_class("paying", 2, both("warehouse customer taking balance"), both("taking balance history"))
-    for w in (1, 2):
-        made.add_class("status_%d" % w, 3, of(w, "customer orders orderline balance credit"))
-        made.add_class("level_%d" % w, 4, of(w, "district orderline stock"))
     return made
+
+
+def owners():
+    """Readers have a module of their own."""
+    return by_owner(3, 3)
+
+
+def beside():
+    """As `owners`; readers are at the module of those who change what they read."""
+    return by_owner(2, 1)
 
 
 def queued():
@@ -97,14 +107,15 @@ def queued():
     return made
 
 
-DESIGNS = {"first": first, "writers": writers, "owners": owners, "queued": queued}
+DESIGNS = {"first": first, "writers": writers, "owners": owners, "queued": queued, "beside": beside}
+USUAL = "beside"
 
 
 class Shop:
     """Draws transactions, and knows what the clients know: the orders of each district."""
 
     def __init__(self, seed, design):
-        self.random, self.design, self.split = Random(seed), design, design in ("owners", "queued")
+        self.random, self.design, self.split = Random(seed), design, design in ("owners", "queued", "beside")
         self.catalogue = DESIGNS[design]()
         self.work = Workload(self.catalogue, seed)
         self.orders, self.open, self.payments = {}, {}, 0      # of each district all orders, and those to deliver
@@ -147,7 +158,7 @@ class Shop:
             return 3 if remote and self.design == "writers" else home
         if kind == "payment":
             return 2
-        return {"status": 3, "level": 4}.get(kind, 1) if self.design == "owners" else 1
+        return 3 if self.design == "owners" and kind in ("status", "level") else 1
 
     def neworder(self):
         d = self.district()

@@ -60,6 +60,7 @@ def one_scanner():
 
 
 DESIGNS = {"first": first, "routed": routed, "scanner": one_scanner}
+USUAL = "scanner"
 
 
 def make(n, seed, design):

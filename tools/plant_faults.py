@@ -1,0 +1,114 @@
+#!/usr/bin/env python3
+"""Plants faults in true reports, and counts how many to_elle.py and check_history.py find.
+
+    tools/plant_faults.py [--each N] [--seed SEED] [--show] [--program COMMAND]
+
+The reports are of runs of the known applications (tools/applications) in all their designs, under drawn
+schedules; every third run ends early, so that transactions are pending and copies differ. Each true report is
+judged first: a fault that is told there is a false alarm. Then N faults of each of ten kinds (30) are
+planted, one in a report, and judged. A table is printed, and with --show each fault that wasn't found. The
+status is 1 where there was a false alarm, or a fault wasn't found.
+"""
+import os
+import random
+import tempfile
+from typing import NamedTuple
+
+from catalogue import Catalogue, read_catalogue
+from check_history import Graph, read_history
+from command import count, parser, start
+from make_workload import APPLICATIONS, write_workload
+from planting import KINDS
+from program import Program, add_program
+from report import BadInput, read_report
+from schedules import Manner, drawn, links_of, read_load
+from to_elle import Run, history
+from workload import read_workload
+
+SIZE = 30                   # transactions of a run
+
+
+class Case(NamedTuple):
+    name: str
+    catalogue: Catalogue
+    first: dict             # the rows of the workload
+    transactions: dict
+    text: str               # the report
+
+
+def cases(program, folder, seed, number):
+    """True reports, one design after the other."""
+    designs = [(x, design) for x, (application, _) in APPLICATIONS.items() for design in application.DESIGNS]
+    for k in range(number):
+        kind, design = designs[k % len(designs)]
+        paths = write_workload(folder, kind, SIZE, (seed * 1000 + k) % 2**31, design)
+        catalogue, load = read_catalogue(paths[0]), read_load(paths[1])
+        events = drawn(load, links_of(catalogue, load, design == "audit"), random.Random("%d %d" % (seed, k)), Manner(3, 0.02))
+        if k % 3 == 2:
+            events = events[:len(events) // 2]
+        with open(paths[1], "w", encoding="utf-8") as f:
+            f.write(load.text(events))
+        first, transactions = read_workload(paths[1], catalogue)
+        yield Case("%s %s %d" % (kind, design, k), catalogue, first, transactions, program.text(["run"] + paths))
+
+
+def judged(case, text, folder):
+    """What is found wrong with a report, as lines; a report that is refused has one too."""
+    path = os.path.join(folder, "judged")
+    try:
+        with open(path, "w", encoding="utf-8") as f:
+            f.write(text)
+        run = Run(read_report(path), case.transactions, case.first, case.catalogue)
+        with open(path, "w", encoding="utf-8") as f:
+            f.write("".join(x + "\n" for x in history(run)))
+        graph = Graph(read_history(path))
+    except BadInput as fault:
+        return ["refused: %s" % fault]
+    return graph.faults + (["cycle"] if graph.cycle() else [])
+
+
+def plant(case, kind, rng, folder):
+    """A report with a fault of the kind, or None where it has no place for one."""
+    path = os.path.join(folder, "true")
+    with open(path, "w", encoding="utf-8") as f:
+        f.write(case.text)
+    report = read_report(path)
+    run = Run(report, case.transactions, case.first, case.catalogue)
+    text = KINDS[kind](case.text.split("\n"), report, run, rng)
+    return None if text is None or "\n".join(text) == case.text else "\n".join(text)
+
+
+def main():
+    asked = parser(__doc__)
+    asked.add_argument("--each", metavar="N", type=count, default=30, help="faults of each kind (30)")
+    asked.add_argument("--seed", type=count, default=1, help="where the drawn numbers begin (1)")
+    asked.add_argument("--show", action="store_true", help="print each fault that wasn't found")
+    add_program(asked)
+    asked = asked.parse_args()
+    program, rng = Program(asked.program), random.Random(asked.seed)
+    planted, found, reports, alarms = dict.fromkeys(KINDS, 0), dict.fromkeys(KINDS, 0), 0, 0
+    with tempfile.TemporaryDirectory(prefix="faults-") as folder:
+        for case in cases(program, folder, asked.seed, 4 * max(asked.each, 1)):
+            reports += 1
+            wrong = judged(case, case.text, folder)
+            alarms += bool(wrong)
+            for x in wrong if asked.show else ():
+                print("false alarm in %s: %s" % (case.name, x))
+            for kind in KINDS:
+                text = plant(case, kind, rng, folder) if planted[kind] < asked.each else None
+                if text is not None:
+                    planted[kind] += 1
+                    told = judged(case, text, folder)
+                    found[kind] += bool(told)
+                    if not told and asked.show:
+                        print("not found in %s: %s" % (case.name, kind))
+    print("| planted | faults | found |\n|---|---|---|")
+    for kind in KINDS:
+        print("| %s | %d | %d |" % (kind, planted[kind], found[kind]))
+    print("| all | %d | %d |" % (sum(planted.values()), sum(found.values())))
+    print("\n%d true reports, %d false alarms" % (reports, alarms))
+    return 1 if alarms or sum(found.values()) < sum(planted.values()) else 0
+
+
+if __name__ == "__main__":
+    start(main)
