@@ -172,6 +172,15 @@ def earlier(browser, programs, folder, catalogue, workload):
         served.page.wait("!window.isOld && typeof view === 'object' && view && !view.play.isBusy && view.run.count > 0")
         same("the schedule after a reload", served.events(), want)
         same("the address", "token" in served.page.tell("location.href"), False)
+        served.page.press("Home")
+        served.choose("#unsubmitted", "close")
+        served.click("#submit")
+        served.click("#told button")
+        served.page.wait("view.run.data.events.length === 1 && !view.play.isBusy")
+        same("the schedule from the beginning on", served.events(), ["submit close"])
+        served.click("#anew")
+        same("the schedule that begins anew", served.events(), [])
+        same("what can be submitted", served.page.tell("[...document.querySelectorAll('#unsubmitted option')].map(x => x.textContent)"), ["sell", "close"])
 
 
 def refusals(browser, programs, folder, catalogue, workload):

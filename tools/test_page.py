@@ -6,7 +6,8 @@
 Parts: `pages` opens the pages of examples/, `random` those of N random runs (50 without --random), from
 seed K on, and `large` one of 16 by 16 sites. Each goes through all events, compares what is shown with
 what the text of the events says, goes back, and compares what is shown at the end with the report.
-`clicks` makes schedules with the mouse, which must be the workloads of examples, byte for byte.
+`clicks` makes schedules with the mouse, which must be the workloads of examples, byte for byte. `pictures`,
+which has to be named, writes those of docs/pictures anew.
 Where there is no Chromium the script says so, and ends with status 0. Programs are found as tools/page.py
 finds them.
 """
@@ -26,6 +27,7 @@ from report import BadInput
 from states import find_programs, run_data
 
 EXAMPLES = os.path.join(os.path.dirname(os.path.abspath(__file__)), "..", "examples")
+PICTURES = os.path.join(EXAMPLES, "..", "docs", "pictures")
 ODD_CATALOGUE = """tms = 1
 dms = 1
 [[relation]]
@@ -79,17 +81,30 @@ def written(folder, name, *texts):
     return files
 
 
+def pictured(folder):
+    """The pictures of the documents: run, event, size and what is selected."""
+    examples = dict(example_files())
+    choose = "const x = view.run.packets.find(x => view.state.flight(x.link).includes(x.id) && x.n); view.select({packet: x.id, link: x.link, n: x.n})"
+    yield "rejected_read", examples["rejected_read"], 4, (1180, 720, False), "0"
+    yield "lost_packet", examples["lost_packet"], 7, (1180, 720, True), "{ %s }" % choose
+    yield "many_sites", write_workload(folder, "classes", 100), 300, (1180, 820, False), "0"
+
+
 class Tests:
     def __init__(self, asked, folder, browser):
         self.programs, self.folder, self.browser = find_programs(asked.program, asked.inside), folder, browser
         self.seeds, self.bad, self.tried, self.events = range(asked.seed, asked.seed + asked.random), 0, 0, 0
 
-    def page(self, name, files, sizes):
-        """Tries the page of a run; the time that it takes to open."""
-        data = run_data(self.programs, *files, name_of(files[1]))
+    def written_page(self, name, data):
         path = os.path.join(self.folder, "page.html")
         with open(path, "w", encoding="utf-8") as f:
             f.write(assembled(name, data, SHOWN + ["start.js"], ["style.css"])[0])
+        return path
+
+    def page(self, name, files, sizes):
+        """Tries the page of a run; the time that it takes to open."""
+        data = run_data(self.programs, *files, name_of(files[1]))
+        path = self.written_page(name, data)
         for width, height, dark in sizes:
             self.tell(name, lambda: check_page(self.browser, path, data, (width, height, dark)))
         self.events += len(data["lines"])
@@ -118,18 +133,25 @@ class Tests:
     def large(self):
         self.page("16 by 16 sites", write_workload(self.folder, "classes", 100), [(1600, 1000, False)])
 
+    def pictures(self):
+        for name, files, event, size, select in pictured(self.folder):
+            page = self.browser.open("file://" + self.written_page(name, run_data(self.programs, *files, name)) + "#e=%d" % event, *size)
+            page.tell(select)
+            page.picture(os.path.join(PICTURES, name + ".png"))
+            page.close()
+
     def clicks(self):
         for name, check in check_clicks(self.browser, self.programs, self.folder, dict(example_files())):
             self.tell("clicks of " + name, check)
 
 
 def main():
-    asked, parts = parser(__doc__), ["pages", "random", "large", "clicks"]
+    asked, parts = parser(__doc__), ["pages", "random", "large", "clicks", "pictures"]
     add_programs(asked)
     asked.add_argument("--random", metavar="N", type=count, default=50, help="how many random runs")
     asked.add_argument("--seed", metavar="K", type=count, default=0, help="the first seed")
     asked.add_argument("--browser", metavar="COMMAND", help="Chromium, where it isn't found by its name")
-    asked.add_argument("--only", metavar="PART", nargs="+", choices=parts, default=parts, help="these parts alone: " + " ".join(parts))
+    asked.add_argument("--only", metavar="PART", nargs="+", choices=parts, default=parts[:-1], help="these parts alone: " + " ".join(parts))
     asked = asked.parse_args()
     if not find_browser(asked.browser):
         if asked.browser:

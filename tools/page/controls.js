@@ -21,20 +21,20 @@ Object.assign(Play.prototype, {
     if (this.listsLeft()) add("redeclare", "redeclare", () => this.event("redeclare"), "puts the next list of classes in force");
     add("undo", "undo", () => this.change({do: "undo"}), "takes the last change back (u)", !this.canUndo);
     add("redo", "redo", () => this.change({do: "redo"}), "(y)", !this.canRedo);
+    add("anew", "begin anew", () => this.change({do: "back", keep: 0, spelled: []}), "takes all events away; undo brings them back", !this.view.run.count);
     add("save", "save the workload", () => this.save(), "a file that `sdd1 run` takes");
     box.append(element("span", "faint", "Click a packet to deliver, lose or repeat it (d l r; a double click delivers). Click the site before a lane to resend."));
     return box;
   },
 
+  // The transactions that aren't submitted at the moment that is shown.
   unsubmitted() {
-    const done = new Set(this.view.run.data.events.filter(line => line.startsWith("submit ")).map(line => line.slice(7)));
-    return [...this.view.run.transactions.keys()].filter(name => !done.has(name));
+    const {run, event} = this.view, done = new Set();
+    for (const line of run.lines.slice(0, event)) if (line.do.startsWith("submit ")) done.add(line.do.slice(7));
+    return [...run.transactions.keys()].filter(name => !done.has(name));
   },
 
-  listsLeft() {
-    const used = this.view.run.data.events.filter(line => line === "redeclare").length;
-    return used < Math.max(0, ...this.view.run.lists.values());
-  },
+  listsLeft() { return this.view.state.list < Math.max(0, ...this.view.run.lists.values()); },
 
   linkButton(from, to, link) {
     const open = link ? link.sent - link.acked : 0;

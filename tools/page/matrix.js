@@ -49,7 +49,9 @@ function rowHead(view, site, line) {
   let queued = 0;
   for (const cls of view.run.classes) if (view.run.home.get(cls) === site) queued += view.state.queue(cls).length;
   const active = (told.active || []).length;
-  head.append(element("span", "small", ` clock ${told.clock}, ${active} run, ${queued - active} wait`));
+  const text = `clock ${told.clock}, ${active} run, ${queued - active} wait`;
+  head.append(element("span", "small wide", " " + text));
+  head.title = text;
   if (told.hold) head.append(element("b", "state", " HOLD"));
   return head;
 }

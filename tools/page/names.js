@@ -36,7 +36,7 @@ function conditionWords(run, told, to) {
   if (!told.conds.length) return `It has no condition: ${to} answers it at once.`;
   const passed = joined(shortened(told.conds.map(([cls, time]) => `${className(cls)} has passed ${time}`), 3));
   if (told.class === "-") return `${to} may answer once ${passed}.`;
-  return `${to} may answer once ${passed}, and must reject it if a later change of ${told.conds.length > 1 ? "these" : "it"} was applied before.`;
+  return `${to} may answer once ${passed}, and must reject it if a later change of ${told.conds.length > 1 ? "these classes" : told.conds[0][0]} was applied before.`;
 }
 
 const MESSAGES = {

@@ -9,10 +9,10 @@ function drawPast(view) {
   const box = byId("past"), run = view.run, span = Math.min(run.count + 1, SPAN);
   const first = Math.max(0, Math.min(view.event - Math.floor(span * 0.62), run.count + 1 - span));
   const packets = packetsBetween(view, first), lanes = lanesOf(view, packets), step = Math.max(16, Math.min(32, innerHeight * 0.2 / lanes.length));
-  const width = box.clientWidth || 1000, height = lanes.length * step + 26;
+  const width = box.clientWidth || 1000, height = lanes.length * step + 30;
   const scene = {view, first, last: first + span, lanes, width, height};
   scene.x = event => 46 + (width - 60) * (event - first) / span;
-  scene.y = site => 20 + lanes.indexOf(site) * step;
+  scene.y = site => 26 + lanes.indexOf(site) * step;
   const drawing = shape("svg", {width, height});
   drawing.append(...groundOf(scene));
   for (const packet of packets) drawing.append(...wayOf(scene, packet));
