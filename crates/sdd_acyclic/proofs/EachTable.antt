@@ -1,6 +1,5 @@
 -- Every catalogue has a protocol table.
-use Rattle.std.proofs.Common.{ℕ, suc, ◌≡◌, List, [], ◌∷◌, length, map, refl, sym, ap, ◌∙◌, arith}
-use Rattle.std.specs.Prelude.{All}
+use Rattle.std.proofs.Common.{ℕ, ◌≡◌, List, [], ◌∷◌, length, map, refl, sym, ap, ◌∙◌, arith}
 use Rattle.std.specs.List.{AllByRecursion}
 use Rattle.std.proofs.lemmas.List.{take_all, length-map}
 use Rattle.std.proofs.lemmas.List.Elements.{All-from_recursion}
@@ -8,7 +7,7 @@ use Rattle.sdd_blocks.specs.Blocks.{AreBlocks}
 use Rattle.sdd_catalog.specs.Catalogue.{Catalogue}
 use Rattle.sdd_graph.specs.Graph.{conflict_graph, ends}
 use Rattle.sdd_graph.specs.declared.edge.Edge.{Edge}
-use Rattle.sdd_protocol.specs.Entries.{protocol_by, entry_by, AreEntries}
+use Rattle.sdd_protocol.specs.Entries.{protocol_by, entry_by}
 use Rattle.sdd_protocol.specs.Protocols.{IsTable}
 use Rattle.sdd_protocol.specs.declared.entry.Entry.{Entry}
 use Rattle.sdd_protocol.proofs.MadeTable.{is_table}

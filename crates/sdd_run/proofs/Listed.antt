@@ -1,13 +1,12 @@
 -- Each transaction that was submitted and isn't committed is listed as pending.
-use Rattle.std.proofs.Common.{ℕ, suc, zero, ◌-◌, ◌==◌, ◌∙◌, ◌∷◌, ◌≡◌, ◌≤◌, Bool, List, None, Option, Some, [], ap, arith, false, if◌then◌else◌, inl, inr, map, not, refl, slice_get, subst, sym, true}
+use Rattle.std.proofs.Common.{ℕ, suc, zero, ◌-◌, ◌==◌, ◌∙◌, ◌∷◌, ◌≡◌, Bool, List, None, Option, Some, [], ap, false, if◌then◌else◌, inl, inr, map, not, refl, slice_get, subst, sym, true}
 use Rattle.std.specs.Prelude.{◌⊎◌, filter_map, is_some, position}
 use Rattle.std.specs.List.{cons_option, list_any}
 use Rattle.std.proofs.lemmas.Bool.{eqb-true}
 use Rattle.sdd_base.specs.Numbers.{tm_no, txn_no}
-use Rattle.sdd_base.specs.declared.number.TxnNo.{TxnNo}
 use Rattle.sdd_base.specs.declared.site.Site.{Site}
 use Rattle.sdd_base.specs.declared.site.Site.TheVariants.{T, U}
-use Rattle.sdd_catalog.specs.Catalogue.{Catalogue, class_at}
+use Rattle.sdd_catalog.specs.Catalogue.{class_at}
 use Rattle.sdd_graph.specs.Edges.{IsClassOf}
 use Rattle.sdd_history.specs.Records.{History}
 use Rattle.sdd_history.specs.declared.record.Rec.{Rec}
@@ -31,7 +30,7 @@ use Rattle.sdd_log.specs.Entries.{Given, Log, history}
 use Rattle.sdd_log.specs.Locals.{local_of, redeclares, setting_of, txn_at}
 use Rattle.sdd_log.specs.Permitted.{IsPermitted}
 use Rattle.sdd_order.specs.Numbers.{IsClass}
-use Rattle.sdd_order.specs.Places.{Stands, record_at}
+use Rattle.sdd_order.specs.Places.{Stands}
 use Rattle.sdd_invariants.proofs.Bools.{same_number, same_or_not}
 use Rattle.sdd_invariants.specs.Steps.{home}
 use Rattle.sdd_world.specs.AtSites.{standing_at}

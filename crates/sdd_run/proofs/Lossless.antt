@@ -1,6 +1,6 @@
 -- Each transaction that was submitted stands in the order once, or is listed as pending once.
-use Rattle.std.proofs.Common.{ℕ, suc, zero, ◌+◌, ◌≡◌, ◌≢◌, ◌∙◌, ◌∷◌, Bool, List, None, Option, Some, [], ap, arith, cond, false, if◌then◌else◌, inl, inr, map, refl, slice_get, subst, sym, true}
-use Rattle.std.specs.Prelude.{◌⊎◌, Contains, filter_map, option_map}
+use Rattle.std.proofs.Common.{ℕ, suc, zero, ◌+◌, ◌≡◌, ◌≢◌, ◌∙◌, ◌∷◌, List, None, Option, Some, [], ap, arith, cond, false, if◌then◌else◌, inl, inr, map, refl, slice_get, subst, sym, true}
+use Rattle.std.specs.Prelude.{◌⊎◌, filter_map, option_map}
 use Rattle.std.specs.List.{cons_option, list_any}
 use Rattle.std.proofs.lemmas.Bool.{eq-eqb, ne_eqb}
 use Rattle.sdd_base.specs.Numbers.{txn_no}

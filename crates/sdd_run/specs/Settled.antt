@@ -1,15 +1,22 @@
 -- A run that a settle ends, and that leaves nothing undone.
-use Rattle.std.specs.Prelude.{ℕ, ◌+◌, ◌≡◌, false, true, List, [], ◌∷◌, ◌++◌, refl}
-use Rattle.sdd_base.specs.Numbers.{txn_no}
+use Rattle.std.specs.Prelude.{ℕ, ◌+◌, ◌==◌, ◌≡◌, false, true, List, [], ◌∷◌, ◌++◌, refl}
+use Rattle.std.proofs.Common.{ap}
+use Rattle.std.proofs.lemmas.Bool.{false≢true}
+use Rattle.sdd_base.specs.Numbers.{class_no, txn_no}
 use Rattle.sdd_base.specs.declared.event.Event.{Event}
 use Rattle.sdd_base.specs.declared.event.Event.TheVariants.{Settle, Submit}
+use Rattle.sdd_base.specs.declared.number.TxnNo.{TxnNo}
 use Rattle.sdd_catalog.specs.Catalogue.{Catalogue}
+use Rattle.sdd_history.specs.declared.record.Rec.TheVariants.{Submit as Submission}
 use Rattle.sdd_laws.specs.Deeds.{IsSubmitted}
 use Rattle.sdd_net.specs.Links.{quiet}
 use Rattle.sdd_log.specs.Entries.{Given, Log}
 use Rattle.sdd_log.specs.Traffic.{all_links, calls_of, is_down}
+use Rattle.sdd_order.specs.Examples.{crossing}
 use Rattle.sdd_order.specs.Numbers.{IsModule}
 use Rattle.sdd_report.specs.Report.{Report}
+use Rattle.sdd_report.specs.declared.pending.Pending.{Pending}
+use Rattle.sdd_report.specs.declared.pending.Why.TheVariants.{Queued}
 use Rattle.sdd_rest.specs.Committed.{AllCommitted}
 use Rattle.sdd_run.specs.Standing.{times_in, times_pending}
 
@@ -40,3 +47,30 @@ pub record TellsAllCommitted (r : Report) : Type 0 where
 -- worked: a submit and a settle
 pub ends_with_settle : EndsWithSettle (Submit (txn_no 1) ∷ Settle ∷ [])
 ends_with_settle = record { before = Submit (txn_no 1) ∷ []; is = refl }
+
+-- worked: transaction 1 is submitted, and a report tells so much of it
+
+abbrev telling : List TxnNo → List Pending → Report
+telling order left = record {
+  catalogue = crossing;
+  txns = [];
+  history = (1, Submission (txn_no 1)) ∷ [];
+  order = order;
+  pending = left;
+  copies = [];
+}
+
+abbrev waiting : Pending
+waiting = record { txn = txn_no 1; why = Queued (class_no 1) 1 }
+
+-- one that tells nothing of it loses it
+pub lost : LosesNothing (telling [] []) → ⊥
+lost h = false≢true (ap (λ z. z == 1) (h 1 0 refl))
+
+-- and one that lists it as committed and as pending isn't right either
+pub told_twice : LosesNothing (telling (txn_no 1 ∷ []) (waiting ∷ [])) → ⊥
+told_twice h = false≢true (ap (λ z. z == 1) (h 1 0 refl))
+
+-- where it is submitted once it is listed once
+pub listed_alone : times_in 1 (telling [] (waiting ∷ [])).order + times_pending 1 (telling [] (waiting ∷ [])).pending ≡ 1
+listed_alone = refl

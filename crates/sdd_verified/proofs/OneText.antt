@@ -1,11 +1,10 @@
 -- Two reports that have one text tell the same.
-use Rattle.std.proofs.Common.{ℕ, suc, ◌+◌, ◌-◌, ◌++◌, ◌<◌, ◌≤◌, ◌≡◌, ◌∙◌, ◌∷◌, Bool, List, None, Option, Some, [], ap, append_assoc, arith, false, length, map, nat_lt, refl, subst, sym, true}
-use Rattle.std.specs.Prelude.{Contains, codes, slice_get}
+use Rattle.std.proofs.Common.{ℕ, suc, ◌+◌, ◌-◌, ◌++◌, ◌≤◌, ◌≡◌, ◌∙◌, ◌∷◌, Bool, List, None, Option, Some, [], ap, append_assoc, arith, false, length, nat_lt, refl, subst, sym, true}
+use Rattle.std.specs.Prelude.{codes, slice_get}
 use Rattle.std.specs.List.{All, AllByRecursion, AllZip}
 use Rattle.std.specs.Option.{option_map_or}
 use Rattle.std.proofs.lemmas.Bool.{lt-ltb}
 use Rattle.std.proofs.lemmas.List.{append_cancel_right, length-map}
-use Rattle.sdd_base.proofs.Membership.{Contains-here, Contains-later}
 use Rattle.sdd_base.specs.Name.{IsName}
 use Rattle.sdd_base.specs.declared.number.TxnNo.{TxnNo}
 use Rattle.sdd_base.specs.declared.reply.Reply.{Reply}
@@ -15,14 +14,12 @@ use Rattle.sdd_base.specs.declared.value.Value.TheVariants.{Int, Text}
 use Rattle.sdd_catalog.specs.Catalogue.{Catalogue}
 use Rattle.sdd_catalog.specs.Naming.{AreNamed}
 use Rattle.sdd_catalog.specs.Rules.{IsSound}
-use Rattle.sdd_catalog.specs.declared.resolved.Class.{Class}
-use Rattle.sdd_history.specs.Records.{History}
 use Rattle.sdd_history.specs.declared.record.Rec.{Rec}
 use Rattle.sdd_lang.specs.declared.transaction.Txn.{Txn}
 use Rattle.sdd_laws.specs.Replay.{IsReplyOf, run}
 use Rattle.sdd_log.specs.Entries.{history}
 use Rattle.sdd_order.specs.SerialOrder.{serial_order}
-use Rattle.sdd_report.specs.Committed.{Told, names_of, order_line, shipped_of, told_of}
+use Rattle.sdd_report.specs.Committed.{Told, names_of, order_line, told_of}
 use Rattle.sdd_report.specs.Copies.{copies_lines}
 use Rattle.sdd_report.specs.Names.{spaced, txn_name}
 use Rattle.sdd_report.specs.Pending.{pending_lines}
@@ -44,16 +41,16 @@ use Rattle.sdd_words.specs.Words.{HasNoSpace, IsPlain}
 use Rattle.sdd_verified.proofs.GivenValues.{answers_given, copied_given}
 use Rattle.sdd_verified.proofs.PartsBack.{AllPass, AreAllValues, AreAnswers, FirstFails, IsTold, copies_back, fails_on, ints_told, is_pending, is_reply, is_shipped, order_back, parted, pending_back, replies_back}
 use Rattle.sdd_verified.proofs.PendingLines.{all_by_member, clean}
-use Rattle.sdd_verified.proofs.ReportLines.{decimal_is, line_of, lines_in}
+use Rattle.sdd_verified.proofs.ReportLines.{decimal_is, lines_in}
 use Rattle.sdd_verified.proofs.Reported.{names_of_txns}
 use Rattle.sdd_verified.proofs.SpelledParts.{Spells, all_pending_spell, all_shipped_spell, copies_spell, end_spells, order_spells, replies_spell, spells_both, trace_spells}
 use Rattle.sdd_verified.proofs.TextLines.{IsClean, ints_clean, names_are}
-use Rattle.sdd_verified.proofs.ValuesKept.{Answers, Hold}
-use Rattle.sdd_verified.specs.Parts.{all_pending_words, all_shipped_words, copies_words, copy_words, order_words, pending_words, queries_words, replies_words, rows_words, shipped_words}
+use Rattle.sdd_verified.proofs.ValuesKept.{Hold}
+use Rattle.sdd_verified.specs.Parts.{all_pending_words, all_shipped_words, copies_words, copy_words, order_words, queries_words, replies_words, rows_words, shipped_words}
 use Rattle.sdd_verified.specs.Tellings.{TellAlike}
 
 -- a line that begins with a digit
-abbrev is_numbered : List ℕ → Bool
+abbrev pub is_numbered : List ℕ → Bool
 is_numbered [] = false
 is_numbered (c ∷ line) = nat_lt c 58
 
@@ -71,9 +68,11 @@ rows_reply (row ∷ rows) rest h = (refl, rows_reply rows rest h)
 queries_reply : (number : ℕ) (answers : List (List (List Value))) (rest : List (List ℕ)) → AllPass is_reply rest
     → AllPass is_reply (queries_words number answers ++ rest)
 queries_reply number [] rest h = h
-queries_reply number (rows ∷ answers) rest h =
-    (refl, subst (AllPass is_reply) (sym (append_assoc (rows_words rows) (queries_words (number + 1) answers) rest))
-    (rows_reply rows (queries_words (number + 1) answers ++ rest) (queries_reply (number + 1) answers rest h)))
+queries_reply number (rows ∷ answers) rest h = (
+  refl,
+  subst (AllPass is_reply) (sym (append_assoc (rows_words rows) (queries_words (number + 1) answers) rest))
+      (rows_reply rows (queries_words (number + 1) answers ++ rest) (queries_reply (number + 1) answers rest h)),
+)
 
 replies_reply : (names : List (List ℕ)) (replies : List Reply) → AllPass is_reply (replies_words names replies)
 replies_reply [] replies = tt
@@ -156,7 +155,7 @@ module _ (cat : Catalogue) (work : Workload) (text : List ℕ) (sound : IsSound 
   abbrev tells : Report
   tells = report_of (given_of cat r.table work) r.log
 
-  txns_named : All (λ (t : Txn). IsName t.name) work.txns
+  pub txns_named : All (λ (t : Txn). IsName t.name) work.txns
   txns_named = names_of_txns cat work.txns valid.txns
 
   abbrev happened : List (List ℕ)
@@ -180,19 +179,19 @@ module _ (cat : Catalogue) (work : Workload) (text : List ℕ) (sound : IsSound 
       let f = named.fragments in
       let shipped_text = all_shipped_spell cat work.txns c f txns_named (history r.log) order in
       let copies_text = copies_spell cat work.txns c f txns_named tells.copies
-          (all_by_member (λ (table : CopyTable). Hold IsClean ints_clean table.rows) tells.copies
-          (copied_given IsClean ints_clean clean cat work text sound valid lists r)) in
+      (all_by_member (λ (table : CopyTable). Hold IsClean ints_clean table.rows) tells.copies
+      (copied_given IsClean ints_clean clean cat work text sound valid lists r)) in
       let last = spells_both kept (codes "end" ∷ []) (copies_lines cat tells.copies) (codes "end\n") copies_text end_spells in
       let left = spells_both waiting (kept ++ codes "end" ∷ []) (pending_lines cat work.txns tells.pending) _
-          (all_pending_spell cat work.txns c f txns_named tells.pending) last in
+      (all_pending_spell cat work.txns c f txns_named tells.pending) last in
       let behind = spells_both shipped (waiting ++ (kept ++ codes "end" ∷ [])) _ _ shipped_text left in
       let answered = spells_both (replies_words names replies) (shipped ++ (waiting ++ (kept ++ codes "end" ∷ []))) (replies_along names replies) _
-          (replies_spell names replies (names_are cat work.txns c f txns_named order)
-          (answers_given IsClean ints_clean clean cat work text sound valid lists r)) behind in
+      (replies_spell names replies (names_are cat work.txns c f txns_named order)
+      (answers_given IsClean ints_clean clean cat work text sound valid lists r)) behind in
       let ordered = spells_both (order_words names ∷ []) (replies_words names replies ++ (shipped ++ (waiting ++ (kept ++ codes "end" ∷ [])))) (order_line work.txns order) _
-          (order_spells cat work.txns c f txns_named order) answered in
+      (order_spells cat work.txns c f txns_named order) answered in
       let whole = spells_both happened (order_words names ∷ (replies_words names replies ++ (shipped ++ (waiting ++ (kept ++ codes "end" ∷ []))))) (trace cat work.txns (history r.log)) _
-          (trace_spells cat work.txns c f txns_named (history r.log)) ordered in
+      (trace_spells cat work.txns c f txns_named (history r.log)) ordered in
       subst (Spells all_lines) (sym r.told) whole
 
   pub lines_are : (cut_lines text).0 ≡ all_lines
@@ -266,26 +265,26 @@ one_text cat work other text sound named valid fine lists none one two =
     let behind2 : List (List ℕ) = shipped2 ++ (waiting2 ++ (kept2 ++ last)) in
     let whole = sym (lines_are cat work text sound named valid lists one) ∙ lines_are cat other text sound named fine none two in
     let a = parted is_numbered (happened cat work text sound named valid lists one) (happened cat other text sound named fine none two)
-        (order_words names1 ∷ (replies_words names1 replies1 ++ behind1)) (order_words names2 ∷ (replies_words names2 replies2 ++ behind2))
-        (trace_passes cat work text sound named valid lists one) (trace_passes cat other text sound named fine none two) refl refl whole in
+    (order_words names1 ∷ (replies_words names1 replies1 ++ behind1)) (order_words names2 ∷ (replies_words names2 replies2 ++ behind2))
+    (trace_passes cat work text sound named valid lists one) (trace_passes cat other text sound named fine none two) refl refl whole in
     let b = same_lines (order_words names1) (order_words names2) (replies_words names1 replies1 ++ behind1) (replies_words names2 replies2 ++ behind2) a.1 in
     let txns1 = names_of_txns cat work.txns valid.txns in
     let txns2 = names_of_txns cat other.txns fine.txns in
     let same_names : names1 ≡ names2 = order_back names1 names2
-        (names_spaceless work.txns txns1 (serial_order cat (history one.log)))
-        (names_spaceless other.txns txns2 (serial_order cat (history two.log))) b.0 in
+    (names_spaceless work.txns txns1 (serial_order cat (history one.log)))
+    (names_spaceless other.txns txns2 (serial_order cat (history two.log))) b.0 in
     let c = parted is_reply (replies_words names1 replies1) (replies_words names2 replies2) behind1 behind2
-        (replies_reply names1 replies1) (replies_reply names2 replies2)
-        (behind_replies cat work text sound named valid lists one) (behind_replies cat other text sound named fine none two) b.1 in
+    (replies_reply names1 replies1) (replies_reply names2 replies2)
+    (behind_replies cat work text sound named valid lists one) (behind_replies cat other text sound named fine none two) b.1 in
     let long2 : length names1 ≡ length replies2 =
-        ap (λ (l : List (List ℕ)). length l) same_names ∙ replies_long cat other text sound named fine none two in
+    ap (λ (l : List (List ℕ)). length l) same_names ∙ replies_long cat other text sound named fine none two in
     let d = parted is_shipped shipped1 shipped2 (waiting1 ++ (kept1 ++ last)) (waiting2 ++ (kept2 ++ last))
-        (shipped_pass work.txns (history one.log) (serial_order cat (history one.log)))
-        (shipped_pass other.txns (history two.log) (serial_order cat (history two.log)))
-        (behind_shipped cat work text sound named valid lists one) (behind_shipped cat other text sound named fine none two) c.1 in
+    (shipped_pass work.txns (history one.log) (serial_order cat (history one.log)))
+    (shipped_pass other.txns (history two.log) (serial_order cat (history two.log)))
+    (behind_shipped cat work text sound named valid lists one) (behind_shipped cat other text sound named fine none two) c.1 in
     let e = parted is_pending waiting1 waiting2 (kept1 ++ last) (kept2 ++ last)
-        (pending_pass cat work.txns tells1.pending) (pending_pass cat other.txns tells2.pending)
-        (behind_pending cat work text sound named valid lists one) (behind_pending cat other text sound named fine none two) d.1 in
+    (pending_pass cat work.txns tells1.pending) (pending_pass cat other.txns tells2.pending)
+    (behind_pending cat work text sound named valid lists one) (behind_pending cat other text sound named fine none two) d.1 in
     record {
       order = same_names;
       replies = replies_back names1 replies1 replies2 (replies_long cat work text sound named valid lists one) long2

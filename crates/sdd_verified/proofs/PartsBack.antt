@@ -1,5 +1,5 @@
 -- The lines of a report give back what they tell.
-use Rattle.std.proofs.Common.{ℕ, zero, suc, ◌+◌, ◌-◌, ◌/◌, ◌%◌, ◌^◌, ◌++◌, ◌≤◌, ◌==◌, ◌≡◌, ◌≢◌, ◌∙◌, ◌∷◌, ℤ, pos, negsuc, Bool, List, None, Option, Some, [], ap, append_assoc, arith, cond, false, length, map, nat_lt, refl, subst, sym, true}
+use Rattle.std.proofs.Common.{ℕ, zero, suc, ◌+◌, ◌-◌, ◌*◌, ◌/◌, ◌%◌, ◌^◌, ◌++◌, ◌≤◌, ◌==◌, ◌≡◌, ◌∙◌, ◌∷◌, ℤ, pos, negsuc, Bool, List, Some, [], ap, append_assoc, arith, cond, false, length, map, refl, subst, sym, true}
 use Rattle.std.specs.Prelude.{◌||◌, codes, flat_map, nat_le}
 use Rattle.std.specs.Fmt.{decimal, digit_glyph, digits, digits_onto, signed_decimal}
 use Rattle.std.specs.Int.Signed.{mag}
@@ -28,10 +28,10 @@ use Rattle.sdd_words.specs.declared.split.Mode.TheVariants.{Start}
 use Rattle.sdd_words.specs.Values.{value_word}
 use Rattle.sdd_words.specs.Words.{AllWords, HasNoSpace, IsPlain, line_bytes, more_bytes, word_bytes}
 use Rattle.sdd_words.specs.declared.word.Word.{Word}
-use Rattle.sdd_words.specs.declared.word.Word.TheVariants.{Plain, Quoted}
+use Rattle.sdd_words.specs.declared.word.Word.TheVariants.{Plain}
 use Rattle.sdd_verified.proofs.ReportLines.{decimal_is, glyph_apart}
 use Rattle.sdd_verified.proofs.ValuesKept.{Answers, Hold, Holds}
-use Rattle.sdd_verified.specs.Parts.{all_pending_words, answers_words, copies_words, copy_words, order_words, outcome_words, pending_words, queries_words, query_words, replies_words, reply_words, row_words, rows_words}
+use Rattle.sdd_verified.specs.Parts.{all_pending_words, answers_words, copies_words, copy_words, order_words, outcome_words, pending_words, queries_words, query_words, replies_words, row_words, rows_words}
 use Rattle.sdd_verified.specs.Tellings.{copies_told, pending_names}
 
 -- lists
@@ -113,14 +113,14 @@ no_space_decimal n = no_space_digits 63 n [] tt
 plain_by : (bytes : List ℕ) (first : ℕ) (rest : List ℕ) → bytes ≡ first ∷ rest → 48 ≤ first → HasNoSpace bytes → IsPlain bytes
 plain_by [] first rest e least h = absurd cc
 plain_by (c ∷ cs) first rest e least h =
-    let same = (same_first c first cs rest e).0 in ((λ q. omega (arith, q, same, least)), (h.0, h.1))
+    let same = (same_first c first cs rest e).0 in ((λ q. omega (arith, q, same, least)), h.0, h.1)
 
 decimal_plain : (n : ℕ) → IsPlain (decimal n)
 decimal_plain n = let d = decimal_is n in plain_by (decimal n) d.first d.rest d.is d.least (no_space_decimal n)
 
 signed_plain : (n : ℤ) → IsPlain (signed_decimal n)
 signed_plain (pos n) = decimal_plain n
-signed_plain (negsuc n) = ((λ e. omega (arith, e)), ((λ e. omega (arith, e)), no_space_decimal (suc n)))
+signed_plain (negsuc n) = ((λ e. omega (arith, e)), (λ e. omega (arith, e)), no_space_decimal (suc n))
 
 no_minus : (n m : ℕ) → decimal n ≡ 45 ∷ decimal m → ⊥
 no_minus n m e =
@@ -186,7 +186,7 @@ row_is_line row = ap (λ (l : List ℕ). codes "row" ++ l) (values_are row)
 row_scanned : (row : Row) → AreValues row → scan Start [] (row_words row) ≡ Some (Plain (codes "row") ∷ map value_word row)
 row_scanned row h =
     ap (λ (l : List ℕ). scan Start [] l) (row_is_line row)
-    ∙ scan_again (Plain (codes "row") ∷ map value_word row) (((λ e. omega (arith, e)), ((λ e. omega (arith, e)), ((λ e. omega (arith, e)), ((λ e. omega (arith, e)), tt)))), words_fine row h)
+    ∙ scan_again (Plain (codes "row") ∷ map value_word row) (((λ e. omega (arith, e)), (λ e. omega (arith, e)), ((λ e. omega (arith, e)), ((λ e. omega (arith, e)), tt))), words_fine row h)
 
 some_words : (xs ys : List Word) → Some xs ≡ Some ys → xs ≡ ys
 some_words xs ys e = cc
@@ -194,7 +194,7 @@ some_words xs ys e = cc
 row_back : (row other : Row) → AreValues row → AreValues other → row_words row ≡ row_words other → row ≡ other
 row_back row other h k e =
     let w = some_words (Plain (codes "row") ∷ map value_word row) (Plain (codes "row") ∷ map value_word other)
-        (sym (row_scanned row h) ∙ ap (λ (l : List ℕ). scan Start [] l) e ∙ row_scanned other k) in
+    (sym (row_scanned row h) ∙ ap (λ (l : List ℕ). scan Start [] l) e ∙ row_scanned other k) in
     values_back row other h k (same_first (Plain (codes "row")) (Plain (codes "row")) (map value_word row) (map value_word other) w).1
 
 rows_back : (rows others : List Row) → AreAllValues rows → AreAllValues others → rows_words rows ≡ rows_words others → rows ≡ others
@@ -242,7 +242,7 @@ queries_back number (a ∷ answers) (o ∷ others) xs ys h k f g e =
     let theirs : List (List ℕ) = queries_words (number + 1) others in
     let s = same_first (query_words number a) (query_words number o) ((rows_words a ++ mine) ++ xs) ((rows_words o ++ theirs) ++ ys) e in
     let r = behind_rows a o (mine ++ xs) (theirs ++ ys) h.0 k.0 (queries_end (number + 1) answers xs f.0) (queries_end (number + 1) others ys g.0)
-        (sym (append_assoc (rows_words a) mine xs) ∙ s.1 ∙ append_assoc (rows_words o) theirs ys) in
+    (sym (append_assoc (rows_words a) mine xs) ∙ s.1 ∙ append_assoc (rows_words o) theirs ys) in
     let m = queries_back (number + 1) answers others xs ys h.1 k.1 f g r.1 in
     (ap (λ x. x ∷ answers) r.0 ∙ ap (λ l. o ∷ l) m.0, m.1)
 
@@ -344,7 +344,7 @@ copies_back cat (t ∷ copies) (o ∷ others) h k e =
     let s = same_first (copy_words cat t) (copy_words cat o) (rows_words t.rows ++ copies_words cat copies) (rows_words o.rows ++ copies_words cat others) e in
     let r = behind_rows t.rows o.rows (copies_words cat copies) (copies_words cat others) h.0 k.0 (copies_end cat copies) (copies_end cat others) s.1 in
     let many : copy_words cat o ≡ place_words cat o.dm.0 o.frag.0 ++ spaced (decimal (length t.rows)) =
-        ap (λ rows. place_words cat o.dm.0 o.frag.0 ++ spaced (decimal (length rows))) (sym r.0) in
+    ap (λ rows. place_words cat o.dm.0 o.frag.0 ++ spaced (decimal (length rows))) (sym r.0) in
     let place = append_cancel_right (place_words cat t.dm.0 t.frag.0) (place_words cat o.dm.0 o.frag.0) (spaced (decimal (length t.rows))) (s.0 ∙ many) in
     ap (λ x. (x, t.rows) ∷ copies_told cat copies) place
     ∙ ap (λ rows. (place_words cat o.dm.0 o.frag.0, rows) ∷ copies_told cat copies) r.0

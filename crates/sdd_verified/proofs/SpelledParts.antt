@@ -1,5 +1,5 @@
 -- The parts of a report's text are their lines.
-use Rattle.std.proofs.Common.{ℕ, ◌+◌, ◌++◌, ◌≡◌, ◌∙◌, ◌∷◌, List, None, Option, Some, [], ap, append_assoc, length, map, refl, rules, subst, sym}
+use Rattle.std.proofs.Common.{ℕ, ◌+◌, ◌++◌, ◌≡◌, ◌∙◌, ◌∷◌, List, None, Option, Some, [], ap, append_assoc, length, refl, rules, subst}
 use Rattle.std.specs.Prelude.{codes, flat_map}
 use Rattle.std.specs.Fmt.{decimal}
 use Rattle.std.specs.List.{All, AllByRecursion}
@@ -27,7 +27,7 @@ use Rattle.sdd_words.specs.Lines.{AreLines, HasNoNewline, spelled_lines}
 use Rattle.sdd_verified.proofs.ReportLines.{lines_in, module_line, number_line, spaced_line, trace_is, trace_lines, txn_line}
 use Rattle.sdd_verified.proofs.TextLines.{IsClean, are_both, fragment_line, ints_clean, names_are, spaced_names, spelled_both, values_line, why_line}
 use Rattle.sdd_verified.proofs.ValuesKept.{Answers, Hold, Holds}
-use Rattle.sdd_verified.specs.Parts.{all_pending_words, all_shipped_words, answers_words, copies_words, copy_words, order_words, outcome_words, pending_words, queries_words, query_words, replies_words, reply_words, row_words, rows_words, shipped_words}
+use Rattle.sdd_verified.specs.Parts.{all_pending_words, all_shipped_words, copies_words, copy_words, order_words, pending_words, queries_words, query_words, replies_words, reply_words, row_words, rows_words, shipped_words}
 
 -- a text of these lines
 pub record Spells (lines : List (List ℕ)) (text : List ℕ) : Type 0 where

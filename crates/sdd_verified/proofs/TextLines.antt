@@ -1,11 +1,10 @@
 -- The lines of a report's parts, and how many of them tell of pending transactions.
-use Rattle.std.proofs.Common.{ℕ, zero, suc, ◌+◌, ◌-◌, ◌++◌, ◌<◌, ◌≤◌, ◌==◌, ◌≡◌, ◌≢◌, ◌∙◌, ◌∷◌, ℤ, pos, negsuc, Bool, List, None, Option, Some, [], ap, append_assoc, arith, cond, false, length, map, refl, rules, slice_get, subst, sym, true}
+use Rattle.std.proofs.Common.{ℕ, suc, ◌+◌, ◌-◌, ◌++◌, ◌≤◌, ◌==◌, ◌≡◌, ◌∙◌, ◌∷◌, ℤ, pos, negsuc, Bool, List, None, Option, Some, [], ap, append_assoc, arith, cond, false, length, refl, rules, slice_get, subst, sym, true}
 use Rattle.std.specs.Prelude.{codes, count_by, flat_map}
 use Rattle.std.specs.Fmt.{decimal}
 use Rattle.std.specs.List.{All, AllByRecursion}
 use Rattle.std.specs.Option.{option_map_or}
 use Rattle.std.proofs.lemmas.Bool.{ne_eqb}
-use Rattle.std.proofs.lemmas.List.{append-nil}
 use Rattle.std.proofs.lemmas.List.Sums.{sum_by-cons}
 use Rattle.sdd_base.specs.Name.{IsName}
 use Rattle.sdd_base.specs.declared.number.TxnNo.{TxnNo}
@@ -22,19 +21,17 @@ use Rattle.sdd_history.specs.declared.record.Rec.{Rec}
 use Rattle.sdd_lang.specs.Database.{Row}
 use Rattle.sdd_lang.specs.Update.{in_range}
 use Rattle.sdd_lang.specs.declared.transaction.Txn.{Txn}
-use Rattle.sdd_report.specs.Committed.{Told, names_of, numbers_end, order_line, shipped_line, shipped_of, told_of}
+use Rattle.sdd_report.specs.Committed.{Told, names_of, order_line, shipped_line, shipped_of, told_of}
 use Rattle.sdd_report.specs.Copies.{copies_lines, copy_lines, place_words}
 use Rattle.sdd_report.specs.Names.{class_time, fragment_name, module_word, site_word, spaced, txn_name}
 use Rattle.sdd_report.specs.Pending.{pending_line, pending_lines, why_words}
-use Rattle.sdd_report.specs.Replies.{names_line, outcome_lines, queries_from, query_lines, replies_along, reply_lines, row_line, value_bytes}
+use Rattle.sdd_report.specs.Replies.{queries_from, query_lines, replies_along, reply_lines, row_line, value_bytes}
 use Rattle.sdd_report.specs.Trace.{record_words, trace}
 use Rattle.sdd_report.specs.declared.copies.CopyTable.{CopyTable}
 use Rattle.sdd_report.specs.declared.pending.Pending.{Pending}
-use Rattle.sdd_report.specs.declared.pending.Waiting.{Waiting}
 use Rattle.sdd_report.specs.declared.pending.Why.{Why}
 use Rattle.sdd_report.specs.declared.pending.Why.TheVariants.{Queued, Waits, Underway}
 use Rattle.sdd_script.proofs.WordLooks.{no_newline-append}
-use Rattle.sdd_verify.proofs.VerifiedReports.{name_line}
 use Rattle.sdd_words.specs.Lines.{AreLines, HasNoNewline, spelled_lines}
 use Rattle.sdd_verified.proofs.ReportLines.{class_time_line, decimal_is, line_of, lines_in, module_line, named_by, number_line, spaced_line, trace_is, trace_lines, txn_line}
 use Rattle.sdd_verified.proofs.ValuesKept.{Answers, Hold, Holds}

@@ -2,8 +2,8 @@
 //!
 //! The contracts to the layer above are laws: `law_verified`, which joins the report on a run of
 //! `sdd_run` to the verdict of `sdd_verify`; `law_has_report`, that there is one, or the limit ends the
-//! run; `law_pending_lines`, which of its lines tell of pending transactions; and of summaries
-//! `law_all_committed` and `law_made_all_committed`.
+//! run; `law_pending_lines`, which of its lines tell of pending transactions; `law_one_text`, what its
+//! text gives back; and of summaries `law_all_committed` and `law_made_all_committed`.
 #![tactic(auto)]
 
 mod law;
