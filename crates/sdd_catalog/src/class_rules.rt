@@ -110,7 +110,7 @@ fn fault_of_class(parts: &Parts, before: &[ClassPart], class: &ClassPart) -> Opt
         Some(rule) => Some(CatFault {
             rule,
             part: Part::Class,
-            number: before.len() as u32 + 1,
+            number: before.len() + 1,
         }),
         None => None,
     }

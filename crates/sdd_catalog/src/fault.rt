@@ -8,7 +8,7 @@ pub struct CatFault {
     pub rule: CatRule,
     pub part: Part,
     /// The number of the relation, fragment or class, or 0 at the top.
-    pub number: u32,
+    pub number: usize,
 }
 
 /// The kind of part at which a fault is told.

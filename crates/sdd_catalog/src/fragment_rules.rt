@@ -75,7 +75,7 @@ fn fault_of_fragment(
         Some(rule) => Some(CatFault {
             rule,
             part: Part::Fragment,
-            number: before.len() as u32 + 1,
+            number: before.len() + 1,
         }),
         None => None,
     }

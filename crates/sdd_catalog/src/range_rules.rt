@@ -27,7 +27,7 @@ fn range_fault_at(rule: CatRule, range: KeyRange) -> CatFault
     CatFault {
         rule,
         part: Part::Fragment,
-        number: range.number,
+        number: range.number as usize,
     }
 }
 
@@ -58,7 +58,7 @@ fn cover_fault(relation: u32, ranges: &[KeyRange]) -> Option<CatFault>
         [] => Some(CatFault {
             rule: CatRule::RangeGap,
             part: Part::Relation,
-            number: relation,
+            number: relation as usize,
         }),
         [first, rest @ ..] => {
             if first.from > i64::MIN {

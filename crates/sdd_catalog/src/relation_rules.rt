@@ -53,7 +53,7 @@ fn fault_of_relation(before: &[RelationPart], relation: &RelationPart) -> Option
         Some(rule) => Some(CatFault {
             rule,
             part: Part::Relation,
-            number: before.len() as u32 + 1,
+            number: before.len() + 1,
         }),
         None => None,
     }

@@ -38,7 +38,7 @@ pub(crate) fn read_parts<T: Spelled>(
 {
     let mut items = Vec::new(alloc);
     'tables: for (index, table) in tables.iter().enumerate() {
-        let location = Location::at_index(part, index)?;
+        let location = Location::at_index(part, index);
         items.push(T::read(alloc, location, table)?)?;
     }
     Ok(Listed::from_vec(items))
