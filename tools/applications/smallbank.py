@@ -32,6 +32,19 @@ def first():
     return made
 
 
+def tellers():
+    """As `first`; at each branch one class for all that changes something."""
+    made = Catalogue(2, 2)
+    tables(made)
+    made.fragment("names", "account", [1, 2])
+    made.fragment("savings", "savings", [1])
+    made.fragment("checking", "checking", [2])
+    for tm, branch in ((1, "n"), (2, "s")):
+        made.add_class("balance_" + branch, tm, "names savings checking")
+        made.add_class("teller_" + branch, tm, "savings checking", "savings checking")
+    return made
+
+
 def branches():
     """Each branch has its fragments at its data module, and a class for all that its tellers change."""
     made = Catalogue(3, 2)
@@ -96,7 +109,8 @@ def audit_copy():
     return made
 
 
-DESIGNS = {"first": first, "branches": branches, "steps": steps, "apart": apart, "audit": audit, "audit_class": audit_class, "audit_copy": audit_copy}
+DESIGNS = {"first": first, "tellers": tellers, "branches": branches, "steps": steps, "apart": apart,
+           "audit": audit, "audit_class": audit_class, "audit_copy": audit_copy}
 USUAL = "apart"
 
 
@@ -162,7 +176,7 @@ def make(n, seed, design):
 def place(work, design, kind, mine, other):
     """A transaction goes to the branch of its customers; one of both branches to T3, or in two steps."""
     (a, first_steps), (b, more) = mine, other
-    if not more or home(a) == home(b) or design == "first":
+    if not more or home(a) == home(b) or design in ("first", "tellers"):
         work.transaction(kind, home(a), first_steps + more)
     elif design != "branches":
         work.transaction(kind, home(a), first_steps)
