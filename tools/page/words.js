@@ -32,7 +32,7 @@ function takenPacket(run, line) {
 
 function sayLoss(view, line, say) {
   const packet = takenPacket(view.run, line);
-  say("bad", `Lost: ${describePacket(view.run, packet)}.`);
+  say("bad", `Lost: ${describePacket(view.run, packet)}`.replace(/\.?$/, "."));
   if (packet.n) say("", `${packet.from} still counts it as unacknowledged, so a resend sends it again.`);
 }
 
@@ -75,7 +75,7 @@ const RECORDS = {
   },
   commit(view, words, say) {
     const reply = view.run.replies.get(words[1].split("#")[0]);
-    say("strong", `${words[1]} commits.${reply ? " Reply: " + shortened(reply, 4).join("; ") + "." : ""}`);
+    say("strong", `${words[1]} commits.${reply && reply.length ? " Reply: " + shortened(reply, 4).join("; ") + "." : ""}`);
   },
   apply(view, words, say, line) {
     const rows = (line.rows || []).filter(([at]) => at === words[2]).map(([, ...change]) => changeWords(change));
