@@ -1,5 +1,5 @@
 -- Of conditions that ascend by class the first that spoils a READ is that of the lowest class.
-use Rattle.std.proofs.Common.{ℕ, zero, suc, ◌≤◌, ◌<◌, Bool, true, false, List, [], ◌∷◌, ◌≡◌, refl, ap, ◌∙◌, sym, subst, arith, map, Option, Some, None}
+use Rattle.std.proofs.Common.{ℕ, zero, suc, ◌≤◌, ◌<◌, Bool, true, false, List, [], ◌∷◌, ◌≡◌, refl, ap, ◌∙◌, sym, subst, arith, map, Some}
 use Rattle.std.specs.Prelude.{filter, slice_get, not}
 use Rattle.sdd_base.specs.Numbers.{time_at}
 use Rattle.sdd_base.specs.Words.{head_of}

@@ -2,7 +2,7 @@
 -- Start is an attempt.
 use Rattle.std.specs.List.{cons_option, flat_map}
 use Rattle.std.specs.Prelude.{filter_map, replicate}
-use Rattle.std.proofs.Common.{ℕ, ◌*◌, ◌+◌, ◌++◌, ◌<◌, ◌^◌, ◌∙◌, ◌∷◌, ◌≡◌, ◌≤◌, Bool, List, None, Option, Some, [], ap, arith, cond, false, length, map, refl, subst, suc, sym, true, zero}
+use Rattle.std.proofs.Common.{ℕ, ◌*◌, ◌+◌, ◌++◌, ◌<◌, ◌^◌, ◌∙◌, ◌∷◌, ◌≡◌, ◌≤◌, Bool, List, None, Some, [], ap, arith, cond, false, length, map, refl, subst, suc, true, zero}
 use Rattle.std.proofs.Math.Nat.{mul-le-mul_right, suc-mul}
 use Rattle.sdd_base.specs.Numbers.{txn_no}
 use Rattle.sdd_base.specs.Words.{tail_of}
@@ -19,7 +19,7 @@ use Rattle.sdd_order.specs.Attempts.{Attempt, attempt_of, attempts}
 use Rattle.sdd_order.specs.Places.{placed}
 use Rattle.sdd_module.specs.SiteLog.{Act, Records, records_of_act}
 use Rattle.sdd_attempt.specs.Clocks.{clock}
-use Rattle.sdd_log.specs.Entries.{Does, Entry, Given, Hand, Log, Mark, Notes, Redeclares, Round, Submitted, history, marks}
+use Rattle.sdd_log.specs.Entries.{Does, Given, Hand, Log, Mark, Notes, Redeclares, Round, Submitted, history, marks}
 use Rattle.sdd_log.specs.Lawful.{IsLawful}
 use Rattle.sdd_log.specs.Locals.{local_of}
 use Rattle.sdd_log.specs.Marks.{after_mark, from_event, left, mark_from, mark_of}

@@ -1,12 +1,11 @@
 -- What a READ says: its conditions are on classes of the catalogue and ascend by class, its uses ascend by number, and its
 -- module has copies of their fragments.
-use Rattle.std.specs.List.{AllByRecursion, IsDistinct, cons_option, range_with_len}
-use Rattle.std.specs.Option.{option_eq, option_or}
+use Rattle.std.specs.List.{AllByRecursion, cons_option, range_with_len}
+use Rattle.std.specs.Option.{option_eq}
 use Rattle.std.specs.Prelude.{filter_map}
 use Rattle.std.proofs.Common.{ℕ, ◌&&◌, ◌+◌, ◌++◌, ◌<◌, ◌==◌, ◌∙◌, ◌∷◌, ◌≡◌, ◌≤◌, Bool, List, None, Option, Some, [], ap, arith, cond, false, filter, inl, inr, length, map, refl, slice_get, subst, suc, sym, true, zero}
 use Rattle.std.proofs.lemmas.Bool.{eqb-true}
 use Rattle.std.proofs.lemmas.List.Elements.{All-from_recursion}
-use Rattle.std.proofs.lemmas.Map.Keys.{IsDistinct-cons}
 use Rattle.sdd_base.specs.Numbers.{dm_no, frag_no}
 use Rattle.sdd_base.specs.Words.{ascending}
 use Rattle.sdd_base.specs.declared.condition.Cond.{Cond}
@@ -25,9 +24,8 @@ use Rattle.sdd_lang.specs.Uses.{part_uses, statement_uses, uses_from, uses_of}
 use Rattle.sdd_lang.specs.declared.condition.Condition.{Condition}
 use Rattle.sdd_lang.specs.declared.statement.Stmt.{Stmt}
 use Rattle.sdd_lang.specs.declared.statement.Stmt.TheVariants.{Delete, Put, Query, Update}
-use Rattle.sdd_protocol.specs.Conditions.{asked_by, cond_for, cond_of, condition_on, conditions, is_asked, is_read_at, undeclared_conditions}
+use Rattle.sdd_protocol.specs.Conditions.{cond_of, condition_on, conditions, is_asked, is_read_at, undeclared_conditions}
 use Rattle.sdd_protocol.specs.declared.entry.Entry as line
-use Rattle.sdd_protocol.specs.declared.protocol.Protocol.TheVariants.{P2, P3}
 use Rattle.sdd_wire.specs.declared.msg.Msg.{Msg}
 use Rattle.sdd_wire.specs.declared.msg.Msg.TheVariants.{Read}
 use Rattle.sdd_module.specs.SiteLog.{Act, Did, Each, Log, Setting, in_force, sends_of_act}
@@ -49,7 +47,7 @@ use Rattle.sdd_facts.specs.Turns.{is_a_read}
 use Rattle.sdd_invariants.proofs.Origins.{was_put}
 use Rattle.sdd_invariants.proofs.WritesPut.{commit_puts}
 use Rattle.sdd_invariants.proofs.Active.{each_at, step_way}
-use Rattle.sdd_invariants.proofs.Bools.{both, if_way, not_both, same_number, same_or_not}
+use Rattle.sdd_invariants.proofs.Bools.{both, if_way, not_both, same_number}
 use Rattle.sdd_invariants.proofs.Lists.{gt_down, in_if, in_none, in_one}
 use Rattle.sdd_invariants.proofs.Sites.{the_one}
 use Rattle.sdd_invariants.specs.Orders.{AllGt, AllLe, IsStrict}
