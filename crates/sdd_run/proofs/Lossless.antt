@@ -124,6 +124,14 @@ commits_it all n w = any_commit all (commits n) n (λ e attempt reply changes va
 stands_there : (h : History) (k : ℕ) (e : ℕ × Rec) (r : Rec) → slice_get h k ≡ Some e → e.1 ≡ r → Stands h k r
 stands_there h k e r there is = ap (option_map (λ (x : ℕ × Rec). x.1)) there ∙ ap (λ x. Some x) is
 
+-- what is listed was submitted
+pub listed_submits : (tell : Telling) (g : Given) (log : Log) (j : ℕ) (p : Pending) → slice_get (pending_of tell g log) j ≡ Some p
+    → (k : ℕ) × IsSubmitted (history log) p.txn.0 k
+listed_submits tell g log j p e =
+    let x = chosen_from (pending_by tell g log (history log)) (history log) j p e in
+    let s = of_submit tell g log (history log) x.entry p x.gives in
+    (x.place, stands_there (history log) x.place x.entry (Submit p.txn) x.there s.0)
+
 module _ (tell : Telling) (g : Given) (log : Log) where
   -- one that is committed isn't listed
   not_listed : (n : ℕ) → WasCommitted (history log) n → times_pending n (pending_of tell g log) ≡ 0

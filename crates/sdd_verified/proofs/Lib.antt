@@ -1,6 +1,7 @@
 pub mod AllCounted
 pub mod AllSummed
 pub mod CleanCopies
+pub mod CleanWords
 pub mod EachMarked
 pub mod FirstLines
 pub mod GivenValues
@@ -9,14 +10,16 @@ pub mod MadeSettles
 pub mod Moved
 pub mod NoneDown
 pub mod Numbered
+pub mod NumbersBack
 pub mod OneList
 pub mod OneText
 pub mod PartsBack
+pub mod PassingLines
 pub mod PendingLines
 pub mod Positions
 pub mod ReportLines
+pub mod ReportParts
 pub mod Reported
 pub mod SpelledParts
 pub mod Submitting
-pub mod TextLines
 pub mod ValuesKept

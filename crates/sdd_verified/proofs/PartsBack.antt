@@ -36,7 +36,7 @@ use Rattle.sdd_verified.specs.Tellings.{copies_told, pending_names}
 
 -- lists
 
-same_first : {A : Type 0} (x y : A) (xs ys : List A) → x ∷ xs ≡ y ∷ ys → (x ≡ y) × (xs ≡ ys)
+pub same_first : {A : Type 0} (x y : A) (xs ys : List A) → x ∷ xs ≡ y ∷ ys → (x ≡ y) × (xs ≡ ys)
 same_first x y xs ys e = let p : x ≡ y = cc in let q : xs ≡ ys = cc in (p, q)
 
 -- the first member, if there is one, fails a test

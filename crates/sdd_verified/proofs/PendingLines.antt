@@ -1,107 +1,124 @@
 -- A report has as many lines of pending transactions as transactions are pending.
-use Rattle.std.proofs.Common.{ℕ, ◌+◌, ◌-◌, ◌++◌, ◌≡◌, ◌∙◌, ◌∷◌, Bool, List, [], ap, arith, false, inl, inr, length, refl, subst, sym, true}
-use Rattle.std.specs.Prelude.{Contains, codes, count_by, flat_map}
-use Rattle.std.specs.List.{AllByRecursion}
+use Rattle.std.proofs.Common.{ℕ, ◌==◌, cond, ◌+◌, ◌++◌, ◌≡◌, ◌∙◌, ◌∷◌, Bool, List, [], ap, arith, false, inl, inr, length, refl, subst, sym, true}
+use Rattle.std.specs.Prelude.{not, Contains, codes, count_by}
+use Rattle.std.proofs.lemmas.Bool.{ltb-true, ne_eqb}
+use Rattle.std.proofs.lemmas.List.{length-map}
 use Rattle.std.proofs.lemmas.List.Sums.{sum_by-cons}
-use Rattle.sdd_base.proofs.Membership.{Contains-cases, Contains-here, Contains-later, Contains-nil}
+use Rattle.sdd_base.proofs.Membership.{Contains-cases, Contains-nil}
 use Rattle.sdd_base.specs.declared.number.TxnNo.{TxnNo}
-use Rattle.sdd_base.specs.declared.reply.Reply.{Reply}
 use Rattle.sdd_catalog.specs.Catalogue.{Catalogue}
 use Rattle.sdd_catalog.specs.Naming.{AreNamed}
 use Rattle.sdd_catalog.specs.Rules.{IsSound}
-use Rattle.sdd_base.specs.declared.value.Value.{Value}
-use Rattle.sdd_laws.specs.Replay.{run}
 use Rattle.sdd_log.specs.Entries.{history}
 use Rattle.sdd_order.specs.SerialOrder.{serial_order}
-use Rattle.sdd_report.specs.Committed.{names_of, order_line, shipped_of}
-use Rattle.sdd_report.specs.Copies.{copies_lines}
-use Rattle.sdd_report.specs.Pending.{pending_lines}
-use Rattle.sdd_report.specs.Replies.{replies_along}
-use Rattle.sdd_report.specs.Report.{Report}
-use Rattle.sdd_report.specs.Trace.{trace}
-use Rattle.sdd_report.specs.declared.copies.CopyTable.{CopyTable}
 use Rattle.sdd_report.specs.declared.pending.Pending.{Pending}
 use Rattle.sdd_run.specs.Reports.{report_of}
 use Rattle.sdd_run.specs.Runs.{IsReportOn, given_of}
-use Rattle.sdd_script.proofs.WordLooks.{value_fine}
 use Rattle.sdd_script.specs.Redeclaring.{has_lists}
-use Rattle.sdd_script.specs.Valid.{IsValid, IsValue}
+use Rattle.sdd_script.specs.Valid.{IsValid}
 use Rattle.sdd_script.specs.declared.workload.Workload.{Workload}
 use Rattle.sdd_verify.specs.Lines.{lines_of}
-use Rattle.sdd_words.proofs.Spelled.{cut_again}
-use Rattle.sdd_verified.proofs.GivenValues.{answers_given, copied_given}
-use Rattle.sdd_verified.proofs.Reported.{names_of_txns}
-use Rattle.sdd_verified.proofs.TextLines.{IsClean, Tells, all_copies, all_pending, all_shipped, counts, end_tells, ints_clean, names_are, order_tells, replies_tell, tells_both, tells_neither, trace_tells}
-use Rattle.sdd_verified.proofs.ValuesKept.{Hold}
+use Rattle.sdd_verified.proofs.PartsBack.{AllPass}
+use Rattle.sdd_verified.proofs.PassingLines.{copies_pass, pending_pass, replies_pass, shipped_pass}
+use Rattle.sdd_verified.proofs.ReportParts.{happened, is_numbered, kept, lines_are, names, replies, shipped, trace_passes, waiting}
+use Rattle.sdd_verified.specs.Parts.{order_words, pending_words, replies_words}
 use Rattle.sdd_verified.specs.Lines.{tells_pending}
 
--- a value of a workload holds no newline
-pub clean : (v : Value) → IsValue v → IsClean v
-clean v h = (value_fine v h).line
+-- one for a line that tells of one
+abbrev counts : Bool → ℕ
+counts b = cond b 1 0
 
--- where all members have it
-pub all_by_member : {A : Type 0} (P : A → Type 0) (xs : List A) → ((x : A) → Contains xs x → P x) → AllByRecursion P xs
-all_by_member P [] h = tt
-all_by_member P (x ∷ xs) h = (h x (Contains-here x xs), all_by_member P xs (λ y there. h y (Contains-later x xs y there)))
+counted_more : (line : List ℕ) (lines : List (List ℕ)) → count_by tells_pending (line ∷ lines) ≡ counts (tells_pending line) + count_by tells_pending lines
+counted_more line lines = sum_by-cons (λ (l : List ℕ). counts (tells_pending l)) line lines
+
+counted_both : (xs ys : List (List ℕ)) → count_by tells_pending (xs ++ ys) ≡ count_by tells_pending xs + count_by tells_pending ys
+counted_both [] ys = omega arith
+counted_both (x ∷ xs) ys =
+    let a = counted_more x (xs ++ ys) in let b = counted_more x xs in let c = counted_both xs ys in omega (arith, a, b, c)
+
+-- a line that tells of none
+abbrev tells_other : List ℕ → Bool
+tells_other line = not (tells_pending line)
 
 not_one : (b : Bool) → counts b ≡ 0 → b ≡ false
 not_one true h = absurd (omega (arith, h))
 not_one false h = refl
 
--- of counted members none is one that counts
-none_counted : (lines : List (List ℕ)) → count_by tells_pending lines ≡ 0 → (line : List ℕ) → Contains lines line → tells_pending line ≡ false
-none_counted [] h line there = absurd (Contains-nil line there)
-none_counted (first ∷ lines) h line there =
-    let more = sum_by-cons (λ (l : List ℕ). counts (tells_pending l)) first lines in
+other_none : (b : Bool) → not b ≡ true → counts b ≡ 0
+other_none true h = cc
+other_none false h = refl
+
+none_counted : (lines : List (List ℕ)) → AllPass tells_other lines → count_by tells_pending lines ≡ 0
+none_counted [] h = refl
+none_counted (line ∷ lines) h =
+    let a = counted_more line lines in let b = other_none (tells_pending line) h.0 in let c = none_counted lines h.1 in omega (arith, a, b, c)
+
+all_counted : (lines : List (List ℕ)) → AllPass tells_pending lines → count_by tells_pending lines ≡ length lines
+all_counted [] h = refl
+all_counted (line ∷ lines) h =
+    let a = counted_more line lines in
+    let b : counts (tells_pending line) ≡ 1 = ap counts h.0 in
+    let c = all_counted lines h.1 in
+    omega (arith, a, b, c)
+
+-- where none is counted, none tells of one
+none_there : (lines : List (List ℕ)) → count_by tells_pending lines ≡ 0 → (line : List ℕ) → Contains lines line → tells_pending line ≡ false
+none_there [] h line there = absurd (Contains-nil line there)
+none_there (first ∷ lines) h line there =
+    let more = counted_more first lines in
     elim (Contains-cases first lines line there) [
       | inl same ↦ subst (λ (l : List ℕ). tells_pending l ≡ false) (sym same) (not_one (tells_pending first) (omega (arith, h, more)))
-      | inr later ↦ none_counted lines (omega (arith, h, more)) line later
+      | inr later ↦ none_there lines (omega (arith, h, more)) line later
     ]
+
+-- a line that begins with a digit tells of none
+numbered_other : (line : List ℕ) → is_numbered line ≡ true → tells_other line ≡ true
+numbered_other [] h = refl
+numbered_other (c ∷ line) h =
+    let less = ltb-true c 58 h in
+    let other : (112 == c) ≡ false = ne_eqb 112 c (λ e. omega (arith, e, less)) in rw other refl
+
+all_numbered : (lines : List (List ℕ)) → AllPass is_numbered lines → AllPass tells_other lines
+all_numbered [] h = tt
+all_numbered (line ∷ lines) h = (numbered_other line h.0, all_numbered lines h.1)
+
+-- so many lines of a report tell of one as its pending part has
+counted : (happened replies shipped waiting copies : List (List ℕ)) (first last : List ℕ) → AllPass tells_other happened → tells_other first ≡ true
+    → AllPass tells_other replies → AllPass tells_other shipped → AllPass tells_pending waiting → AllPass tells_other copies → tells_other last ≡ true
+    → count_by tells_pending (happened ++ (first ∷ (replies ++ (shipped ++ (waiting ++ (copies ++ last ∷ [])))))) ≡ length waiting
+counted happened replies shipped waiting copies first last h f a s w c e =
+    let kept = counted_both copies (last ∷ []) in
+    let left = counted_both waiting (copies ++ last ∷ []) in
+    let behind = counted_both shipped (waiting ++ (copies ++ last ∷ [])) in
+    let answered = counted_both replies (shipped ++ (waiting ++ (copies ++ last ∷ []))) in
+    let ordered = counted_more first (replies ++ (shipped ++ (waiting ++ (copies ++ last ∷ [])))) in
+    let whole = counted_both happened (first ∷ (replies ++ (shipped ++ (waiting ++ (copies ++ last ∷ []))))) in
+    let none_happened = none_counted happened h in
+    let none_first = other_none (tells_pending first) f in
+    let none_replied = none_counted replies a in
+    let none_shipped = none_counted shipped s in
+    let all_waiting = all_counted waiting w in
+    let none_copied = none_counted copies c in
+    let none_last = none_counted (last ∷ []) (e, tt) in
+    omega (arith, kept, left, behind, answered, ordered, whole, none_happened, none_first, none_replied, none_shipped, all_waiting, none_copied, none_last)
 
 module _ (cat : Catalogue) (work : Workload) (text : List ℕ) (sound : IsSound cat) (named : AreNamed cat)
     (valid : IsValid cat work) (lists : has_lists work ≡ false) (r : IsReportOn cat work text) where
-  abbrev told : Report
-  told = report_of (given_of cat r.table work) r.log
-
-  all_told : Tells (length told.pending) text
-  all_told =
-      let names = names_of_txns cat work.txns valid.txns in
-      let order : List TxnNo = serial_order cat (history r.log) in
-      let replies : List Reply = (run cat work.rows work.txns order).0 in
-      let traced : List ℕ = trace cat work.txns (history r.log) in
-      let line : List ℕ = order_line work.txns order in
-      let replied : List ℕ = replies_along (names_of work.txns order) replies in
-      let shipped : List ℕ = flat_map (shipped_of work.txns (history r.log)) order in
-      let waiting : List ℕ = pending_lines cat work.txns told.pending in
-      let copies : List ℕ = copies_lines cat told.copies ++ codes "end\n" in
-      let last : Tells 0 copies =
-      tells_neither (copies_lines cat told.copies) (codes "end\n")
-      (all_copies cat work.txns named.classes named.fragments names told.copies
-      (all_by_member (λ (table : CopyTable). Hold IsClean ints_clean table.rows) told.copies
-      (copied_given IsClean ints_clean clean cat work text sound valid lists r))) end_tells in
-      let k : ℕ = length told.pending in
-      let left : Tells (k + 0) (waiting ++ copies) =
-      tells_both k 0 waiting copies (all_pending cat work.txns named.classes named.fragments names told.pending) last in
-      let behind : Tells (0 + (k + 0)) (shipped ++ (waiting ++ copies)) =
-      tells_both 0 (k + 0) shipped (waiting ++ copies) (all_shipped cat work.txns named.classes named.fragments names (history r.log) order) left in
-      let answered : Tells (0 + (0 + (k + 0))) (replied ++ (shipped ++ (waiting ++ copies))) =
-      tells_both 0 (0 + (k + 0)) replied (shipped ++ (waiting ++ copies))
-      (replies_tell (names_of work.txns order) replies (names_are cat work.txns named.classes named.fragments names order)
-      (answers_given IsClean ints_clean clean cat work text sound valid lists r)) behind in
-      let ordered : Tells (0 + (0 + (0 + (k + 0)))) (line ++ (replied ++ (shipped ++ (waiting ++ copies)))) =
-      tells_both 0 (0 + (0 + (k + 0))) line (replied ++ (shipped ++ (waiting ++ copies)))
-      (order_tells cat work.txns named.classes named.fragments names order) answered in
-      let whole : Tells (0 + (0 + (0 + (0 + (k + 0))))) (traced ++ (line ++ (replied ++ (shipped ++ (waiting ++ copies))))) =
-      tells_both 0 (0 + (0 + (0 + (k + 0)))) traced (line ++ (replied ++ (shipped ++ (waiting ++ copies))))
-      (trace_tells cat work.txns named.classes named.fragments names (history r.log)) ordered in
-      let count : 0 + (0 + (0 + (0 + (k + 0)))) ≡ k = omega arith in
-      subst (λ (n : ℕ). Tells n text) count (subst (Tells (0 + (0 + (0 + (0 + (k + 0)))))) (sym r.told) whole)
-
-  pub as_many_lines : count_by tells_pending (lines_of text) ≡ length told.pending
+  pub as_many_lines : count_by tells_pending (lines_of text) ≡ length (report_of (given_of cat r.table work) r.log).pending
   as_many_lines =
-      let t = all_told in
-      ap (λ (l : List ℕ). count_by tells_pending (lines_of l)) t.is
-      ∙ ap (λ (cut : List (List ℕ) × List ℕ). count_by tells_pending cut.0) (cut_again t.lines t.are) ∙ t.counted
+      let order : List TxnNo = serial_order cat (history r.log) in
+      ap (λ (l : List (List ℕ)). count_by tells_pending l) (lines_are cat work text sound named valid lists r)
+      ∙ counted (happened cat work text sound named valid lists r)
+      (replies_words (names cat work text sound named valid lists r) (replies cat work text sound named valid lists r))
+      (shipped cat work text sound named valid lists r) (waiting cat work text sound named valid lists r) (kept cat work text sound named valid lists r)
+      (order_words (names cat work text sound named valid lists r)) (codes "end")
+      (all_numbered (happened cat work text sound named valid lists r) (trace_passes cat work text sound named valid lists r)) refl
+      (replies_pass tells_other (λ line. refl) (λ number rows. refl) (λ name word. refl) (names cat work text sound named valid lists r)
+      (replies cat work text sound named valid lists r))
+      (shipped_pass tells_other (λ line. refl) work.txns (history r.log) order)
+      (pending_pass tells_pending (λ line. refl) cat work.txns (report_of (given_of cat r.table work) r.log).pending)
+      (copies_pass tells_other cat (λ line. refl) (λ t. refl) (report_of (given_of cat r.table work) r.log).copies) refl
+      ∙ length-map (report_of (given_of cat r.table work) r.log).pending (pending_words cat work.txns)
 
-  pub no_line : told.pending ≡ [] → (line : List ℕ) → Contains (lines_of text) line → tells_pending line ≡ false
-  no_line empty line there = none_counted (lines_of text) (as_many_lines ∙ ap (λ (xs : List Pending). length xs) empty) line there
+  pub no_line : (report_of (given_of cat r.table work) r.log).pending ≡ [] → (line : List ℕ) → Contains (lines_of text) line → tells_pending line ≡ false
+  no_line empty line there = none_there (lines_of text) (as_many_lines ∙ ap (λ (xs : List Pending). length xs) empty) line there

@@ -24,6 +24,7 @@ use Rattle.sdd_log.specs.Entries.{history}
 use Rattle.sdd_log.specs.Locals.{redeclares}
 use Rattle.sdd_log.specs.Permitted.{AreSubmittedOnce, submits_in}
 use Rattle.sdd_order.specs.Attempts.{Committed, IsCommitted}
+use Rattle.sdd_order.specs.Numbers.{IsFrom1To}
 use Rattle.sdd_order.specs.Places.{event_at}
 use Rattle.sdd_order.specs.SerialOrder.{serial_order}
 use Rattle.sdd_report.specs.Committed.{names_of, order_line, shipped_of}
@@ -34,6 +35,7 @@ use Rattle.sdd_report.specs.Report.{Report, after_replies}
 use Rattle.sdd_run.specs.Reports.{report_of}
 use Rattle.sdd_run.specs.Runs.{IsReportOn, given_of}
 use Rattle.sdd_run.specs.Standing.{IsSubmittedBefore, StandsBefore}
+use Rattle.sdd_run.proofs.Marked.{named as named_by_events}
 use Rattle.sdd_run.proofs.Ordered.{starts}
 use Rattle.sdd_run.proofs.Submissions.{once}
 use Rattle.sdd_script.specs.Valid.{IsValid, IsValidTxn}
@@ -122,6 +124,10 @@ module _ (cat : Catalogue) (work : Workload) (text : List ℕ) (sound : IsSound 
   some n m =
       subst (λ (k : ℕ). 1 ≤ submits_in k work.events) m.number_is
       (is_in_schedule (given_of cat r.table work) r.log r.log_is.lawful few m.committed.start.txn m.of_submit.place m.of_submit.submitted)
+
+  -- so it is one of the transactions that are given
+  pub one_given : (n : TxnNo) → Contains (serial_order cat (history r.log)) n → IsFrom1To (length work.txns) n.0
+  one_given n there = named_by_events cat (length work.txns) n.0 work.events valid.events (some n (is_member n there))
 
   abbrev has_text : (n : TxnNo) → IsMember n → HasText work.txns n
   has_text n m = (m.of_submit.txn, ap (λ (k : ℕ). slice_get work.txns (k - 1)) (sym m.number_is) ∙ m.of_submit.txn_is)

@@ -25,9 +25,18 @@ use Rattle.sdd_report.specs.declared.pending.Pending.{Pending}
 use Rattle.sdd_script.proofs.WordLooks.{no_newline-append}
 use Rattle.sdd_words.specs.Lines.{AreLines, HasNoNewline, spelled_lines}
 use Rattle.sdd_verified.proofs.ReportLines.{lines_in, module_line, number_line, spaced_line, trace_is, trace_lines, txn_line}
-use Rattle.sdd_verified.proofs.TextLines.{IsClean, are_both, fragment_line, ints_clean, names_are, spaced_names, spelled_both, values_line, why_line}
+use Rattle.sdd_verified.proofs.CleanWords.{IsClean, fragment_line, ints_clean, names_are, spaced_names, values_line, why_line}
 use Rattle.sdd_verified.proofs.ValuesKept.{Answers, Hold, Holds}
 use Rattle.sdd_verified.specs.Parts.{all_pending_words, all_shipped_words, copies_words, copy_words, order_words, pending_words, queries_words, query_words, replies_words, reply_words, row_words, rows_words, shipped_words}
+
+are_both : (xs ys : List (List ℕ)) → AreLines xs → AreLines ys → AreLines (xs ++ ys)
+are_both [] ys h k = k
+are_both (x ∷ xs) ys h k = (h.0, are_both xs ys h.1 k)
+
+spelled_both : (xs ys : List (List ℕ)) → spelled_lines xs ++ spelled_lines ys ≡ spelled_lines (xs ++ ys)
+spelled_both [] ys = refl
+spelled_both (x ∷ xs) ys =
+    append_assoc x (10 ∷ spelled_lines xs) (spelled_lines ys) ∙ ap (λ (l : List ℕ). x ++ 10 ∷ l) (spelled_both xs ys)
 
 -- a text of these lines
 pub record Spells (lines : List (List ℕ)) (text : List ℕ) : Type 0 where

@@ -1,5 +1,6 @@
 -- What the text of a report gives back.
 use Rattle.std.specs.Prelude.{ℕ, ◌≡◌, List, map}
+use Rattle.sdd_base.specs.declared.number.TxnNo.{TxnNo}
 use Rattle.sdd_catalog.specs.Catalogue.{Catalogue}
 use Rattle.sdd_lang.specs.Database.{Row}
 use Rattle.sdd_lang.specs.declared.transaction.Txn.{Txn}
@@ -15,9 +16,12 @@ use Rattle.sdd_run.specs.Reports.{report_of}
 use Rattle.sdd_run.specs.Runs.{IsReportOn, given_of}
 use Rattle.sdd_script.specs.declared.workload.Workload.{Workload}
 
--- the names of the pending transactions
+-- the names of the pending transactions, and their numbers
 abbrev pub pending_names : List Txn → List Pending → List (List ℕ)
 pending_names txns left = map (λ (p : Pending). txn_name txns p.txn.0) left
+
+abbrev pub pending_numbers : List Pending → List TxnNo
+pending_numbers left = map (λ (p : Pending). p.txn) left
 
 -- the copies, each with the words for its module and its fragment
 abbrev pub copies_told : Catalogue → List CopyTable → List (List ℕ × List Row)
@@ -33,3 +37,9 @@ pub record TellAlike (cat : Catalogue) (work other : Workload) (text : List ℕ)
       ≡ pending_names other.txns (report_of (given_of cat two.table other) two.log).pending
   pub copies : copies_told cat (report_of (given_of cat one.table work) one.log).copies
       ≡ copies_told cat (report_of (given_of cat two.table other) two.log).copies
+
+-- and where they are of the same transactions, these stand in the same order, and the same are pending
+pub record TellOfTheSame (cat : Catalogue) (work other : Workload) (text : List ℕ) (one : IsReportOn cat work text) (two : IsReportOn cat other text) : Type 0 where
+  pub order : serial_order cat (history one.log) ≡ serial_order cat (history two.log)
+  pub pending : pending_numbers (report_of (given_of cat one.table work) one.log).pending
+      ≡ pending_numbers (report_of (given_of cat two.table other) two.log).pending

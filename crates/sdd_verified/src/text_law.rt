@@ -7,12 +7,17 @@ ghost use Rattle.sdd_run.specs.Runs.{IsReportOn};
 ghost use Rattle.sdd_script.specs.Redeclaring.{has_lists};
 ghost use Rattle.sdd_script.specs.Valid.{IsValid};
 ghost use Rattle.sdd_script.specs.declared.workload.Workload.{Workload};
-ghost use Rattle.sdd_verified.specs.Tellings.{TellAlike};
+ghost use Rattle.sdd_verified.specs.Tellings.{TellAlike, TellOfTheSame};
 
 /// A law: two reports that have one text tell the same order, replies, pending transactions and
-/// copies, whatever the workloads.
+/// copies, whatever the workloads; by their names, and where they are of the same transactions by
+/// their numbers too.
 pub fn law_one_text()
-    ensures { (cat : Catalogue) (work other : Workload) (text : List ℕ) → IsSound cat → AreNamed cat
+    ensures names { (cat : Catalogue) (work other : Workload) (text : List ℕ) → IsSound cat → AreNamed cat
         → IsValid cat work → IsValid cat other → has_lists work ≡ false → has_lists other ≡ false
         → (one : IsReportOn cat work text) → (two : IsReportOn cat other text) → TellAlike cat work other text one two }
+    ensures numbers { (cat : Catalogue) (work other : Workload) (text : List ℕ) → IsSound cat → AreNamed cat
+        → IsValid cat work → IsValid cat other → has_lists work ≡ false → has_lists other ≡ false
+        → work.txns ≡ other.txns → (one : IsReportOn cat work text) → (two : IsReportOn cat other text)
+        → TellOfTheSame cat work other text one two }
 {}

@@ -1,0 +1,74 @@
+-- No word of a report holds a newline, where no value does.
+use Rattle.std.proofs.Common.{ℕ, suc, ◌-◌, ◌++◌, ◌≡◌, ◌∷◌, ℤ, pos, negsuc, List, [], arith, refl, rules, slice_get, true}
+use Rattle.std.specs.Prelude.{codes, flat_map}
+use Rattle.std.specs.List.{All, AllByRecursion}
+use Rattle.sdd_base.specs.Name.{IsName}
+use Rattle.sdd_base.specs.declared.number.TxnNo.{TxnNo}
+use Rattle.sdd_base.specs.declared.site.Site.{Site}
+use Rattle.sdd_base.specs.declared.site.Site.TheVariants.{U, T, D}
+use Rattle.sdd_base.specs.declared.value.Value.{Value}
+use Rattle.sdd_base.specs.declared.value.Value.TheVariants.{Int}
+use Rattle.sdd_catalog.specs.Catalogue.{Catalogue}
+use Rattle.sdd_catalog.specs.declared.resolved.Class.{Class}
+use Rattle.sdd_catalog.specs.declared.resolved.Fragment.{Fragment}
+use Rattle.sdd_lang.specs.Database.{Row}
+use Rattle.sdd_lang.specs.Update.{in_range}
+use Rattle.sdd_lang.specs.declared.transaction.Txn.{Txn}
+use Rattle.sdd_report.specs.Committed.{names_of}
+use Rattle.sdd_report.specs.Names.{class_time, fragment_name, module_word, site_word, spaced}
+use Rattle.sdd_report.specs.Pending.{why_words}
+use Rattle.sdd_report.specs.Replies.{value_bytes}
+use Rattle.sdd_report.specs.declared.pending.Why.{Why}
+use Rattle.sdd_report.specs.declared.pending.Why.TheVariants.{Queued, Waits, Underway}
+use Rattle.sdd_script.proofs.WordLooks.{no_newline-append}
+use Rattle.sdd_words.specs.Lines.{HasNoNewline}
+use Rattle.sdd_verified.proofs.ReportLines.{class_time_line, module_line, named_by, number_line, spaced_line, txn_line}
+use Rattle.sdd_verified.proofs.ValuesKept.{Holds}
+
+-- lines of values, where no value holds a newline
+
+abbrev pub IsClean : Value → Type 0
+IsClean v = HasNoNewline (value_bytes v)
+
+pub ints_clean : (n : ℤ) → in_range n ≡ true → IsClean (Int n)
+ints_clean (pos n) fits = number_line n
+ints_clean (negsuc n) fits = (λ e. omega (arith, e), number_line (suc n))
+
+pub values_line : (row : Row) → Holds IsClean ints_clean row → HasNoNewline (flat_map (λ v. 32 ∷ value_bytes v) row)
+values_line [] h = tt
+values_line (v ∷ row) h =
+    no_newline-append (32 ∷ value_bytes v) (flat_map (λ v. 32 ∷ value_bytes v) row) (spaced_line (value_bytes v) h.0) (values_line row h.1)
+
+module _ (cat : Catalogue) (txns : List Txn)
+    (classes_named : All (λ (k : Class). IsName k.name) cat.classes)
+    (fragments_named : All (λ (f : Fragment). IsName f.name) cat.fragments)
+    (txns_named : All (λ (t : Txn). IsName t.name) txns) where
+  -- names
+
+  pub names_are : (order : List TxnNo) → AllByRecursion HasNoNewline (names_of txns order)
+  names_are [] = tt
+  names_are (n ∷ order) = (txn_line cat txns classes_named txns_named n.0, names_are order)
+
+  pub spaced_names : (names : List (List ℕ)) → AllByRecursion HasNoNewline names → HasNoNewline (flat_map spaced names)
+  spaced_names [] h = tt
+  spaced_names (name ∷ names) h = no_newline-append (spaced name) (flat_map spaced names) (spaced_line name h.0) (spaced_names names h.1)
+
+  -- what is waited for, and what is copied
+
+  pub site_line : (site : Site) → HasNoNewline (site_word site)
+  site_line U = search rules
+  site_line (T tm) = (λ e. omega (arith, e), number_line tm.0)
+  site_line (D dm) = (λ e. omega (arith, e), number_line dm.0)
+
+  pub why_line : (why : Why) → HasNoNewline (why_words cat why)
+  why_line (Queued class place) =
+      no_newline-append (codes "queued") (class_time cat class.0 place) (search rules) (class_time_line cat txns classes_named txns_named class.0 place)
+  why_line (Waits waiting) =
+      no_newline-append (codes "waits") (spaced (module_word waiting.dm.0) ++ class_time cat waiting.class.0 waiting.time.0) (search rules)
+      (no_newline-append (spaced (module_word waiting.dm.0)) (class_time cat waiting.class.0 waiting.time.0)
+      (module_line cat txns classes_named txns_named waiting.dm.0) (class_time_line cat txns classes_named txns_named waiting.class.0 waiting.time.0))
+  why_line (Underway site) =
+      no_newline-append (codes "underway") (spaced (site_word site)) (search rules) (spaced_line (site_word site) (site_line site))
+
+  pub fragment_line : (f : ℕ) → HasNoNewline (fragment_name cat f)
+  fragment_line f = named_by (λ (p : Fragment). p.name) cat.fragments (f - 1) (slice_get cat.fragments (f - 1)) refl fragments_named

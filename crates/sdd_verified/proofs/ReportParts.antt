@@ -1,0 +1,172 @@
+-- A report, by its lines.
+use Rattle.std.proofs.Common.{ℕ, suc, ◌++◌, ◌≤◌, ◌≡◌, ◌∙◌, ◌∷◌, Bool, List, [], ap, arith, false, length, nat_lt, refl, subst, sym, true}
+use Rattle.std.specs.Prelude.{Contains, codes}
+use Rattle.std.specs.List.{All, AllByRecursion, AllZip}
+use Rattle.std.proofs.lemmas.Bool.{lt-ltb}
+use Rattle.std.proofs.lemmas.List.{length-map}
+use Rattle.sdd_base.proofs.Membership.{Contains-here, Contains-later}
+use Rattle.sdd_base.specs.Name.{IsName}
+use Rattle.sdd_base.specs.declared.number.TxnNo.{TxnNo}
+use Rattle.sdd_base.specs.declared.reply.Reply.{Reply}
+use Rattle.sdd_base.specs.declared.value.Value.{Value}
+use Rattle.sdd_base.specs.declared.value.Value.TheVariants.{Int, Text}
+use Rattle.sdd_catalog.specs.Catalogue.{Catalogue}
+use Rattle.sdd_catalog.specs.Naming.{AreNamed}
+use Rattle.sdd_catalog.specs.Rules.{IsSound}
+use Rattle.sdd_history.specs.declared.record.Rec.{Rec}
+use Rattle.sdd_lang.specs.declared.transaction.Txn.{Txn}
+use Rattle.sdd_laws.specs.Replay.{IsReplyOf, run}
+use Rattle.sdd_log.specs.Entries.{history}
+use Rattle.sdd_order.specs.SerialOrder.{serial_order}
+use Rattle.sdd_report.specs.Committed.{names_of, order_line}
+use Rattle.sdd_report.specs.Copies.{copies_lines}
+use Rattle.sdd_report.specs.Names.{spaced, txn_name}
+use Rattle.sdd_report.specs.Pending.{pending_lines}
+use Rattle.sdd_report.specs.Replies.{replies_along}
+use Rattle.sdd_report.specs.Report.{Report}
+use Rattle.sdd_report.specs.Trace.{record_words, trace}
+use Rattle.sdd_report.specs.declared.copies.CopyTable.{CopyTable}
+use Rattle.sdd_run.specs.Reports.{report_of}
+use Rattle.sdd_run.specs.Runs.{IsReportOn, given_of}
+use Rattle.sdd_script.proofs.WordLooks.{value_fine}
+use Rattle.sdd_script.specs.Redeclaring.{has_lists}
+use Rattle.sdd_script.specs.Valid.{IsValid, IsValue}
+use Rattle.sdd_script.specs.declared.workload.Workload.{Workload}
+use Rattle.sdd_words.proofs.Spelled.{cut_again}
+use Rattle.sdd_words.specs.Lines.{cut_lines}
+use Rattle.sdd_verified.proofs.GivenValues.{answers_given, copied_given}
+use Rattle.sdd_verified.proofs.PartsBack.{AllPass, AreAllValues, AreAnswers, FirstFails, IsTold, fails_on, ints_told, is_pending, is_reply, is_shipped}
+use Rattle.sdd_verified.proofs.PassingLines.{first_copy, first_pending, first_shipped}
+use Rattle.sdd_verified.proofs.ReportLines.{decimal_is, lines_in}
+use Rattle.sdd_verified.proofs.Reported.{names_of_txns}
+use Rattle.sdd_verified.proofs.SpelledParts.{Spells, all_pending_spell, all_shipped_spell, copies_spell, end_spells, order_spells, replies_spell, spells_both, trace_spells}
+use Rattle.sdd_verified.proofs.CleanWords.{IsClean, ints_clean, names_are}
+use Rattle.sdd_verified.proofs.ValuesKept.{Hold}
+use Rattle.sdd_verified.specs.Parts.{all_pending_words, all_shipped_words, copies_words, copy_words, order_words, replies_words}
+
+-- a value of a workload holds no newline
+clean : (v : Value) → IsValue v → IsClean v
+clean v h = (value_fine v h).line
+
+-- numbers of 64 bits, and values of workloads, are told as they are
+told : (v : Value) → IsValue v → IsTold v
+told (Int n) h = omega (arith, h)
+told (Text t) h = tt
+
+-- where all members have it
+pub all_by_member : {A : Type 0} (P : A → Type 0) (xs : List A) → ((x : A) → Contains xs x → P x) → AllByRecursion P xs
+all_by_member P [] h = tt
+all_by_member P (x ∷ xs) h = (h x (Contains-here x xs), all_by_member P xs (λ y there. h y (Contains-later x xs y there)))
+
+-- a line that begins with a digit
+abbrev pub is_numbered : List ℕ → Bool
+is_numbered [] = false
+is_numbered (c ∷ line) = nat_lt c 58
+
+zip_long : {A B : Type 0} (R : A → B → Type 0) (xs : List A) (ys : List B) → AllZip R xs ys → length xs ≡ length ys
+zip_long R [] [] h = refl
+zip_long R [] (y ∷ ys) h = absurd h
+zip_long R (x ∷ xs) [] h = absurd h
+zip_long R (x ∷ xs) (y ∷ ys) h = ap suc (zip_long R xs ys h.1)
+
+-- one report, by its lines
+
+module _ (cat : Catalogue) (work : Workload) (text : List ℕ) (sound : IsSound cat) (named : AreNamed cat)
+    (valid : IsValid cat work) (lists : has_lists work ≡ false) (r : IsReportOn cat work text) where
+  abbrev pub order : List TxnNo
+  order = serial_order cat (history r.log)
+
+  abbrev pub names : List (List ℕ)
+  names = names_of work.txns (serial_order cat (history r.log))
+
+  abbrev pub replies : List Reply
+  replies = (run cat work.rows work.txns (serial_order cat (history r.log))).0
+
+  abbrev pub tells : Report
+  tells = report_of (given_of cat r.table work) r.log
+
+  pub txns_named : All (λ (t : Txn). IsName t.name) work.txns
+  txns_named = names_of_txns cat work.txns valid.txns
+
+  abbrev pub happened : List (List ℕ)
+  happened = lines_in cat work.txns named.classes txns_named (history r.log)
+
+  abbrev pub shipped : List (List ℕ)
+  shipped = all_shipped_words work.txns (history r.log) (serial_order cat (history r.log))
+
+  abbrev pub waiting : List (List ℕ)
+  waiting = all_pending_words cat work.txns tells.pending
+
+  abbrev pub kept : List (List ℕ)
+  kept = copies_words cat tells.copies
+
+  abbrev pub all_lines : List (List ℕ)
+  all_lines = happened ++ (order_words names ∷ (replies_words names replies ++ (shipped ++ (waiting ++ (kept ++ codes "end" ∷ [])))))
+
+  spelled : Spells all_lines text
+  spelled =
+      let c = named.classes in
+      let f = named.fragments in
+      let shipped_text = all_shipped_spell cat work.txns c f txns_named (history r.log) order in
+      let copies_text = copies_spell cat work.txns c f txns_named tells.copies
+      (all_by_member (λ (table : CopyTable). Hold IsClean ints_clean table.rows) tells.copies
+      (copied_given IsClean ints_clean clean cat work text sound valid lists r)) in
+      let last = spells_both kept (codes "end" ∷ []) (copies_lines cat tells.copies) (codes "end\n") copies_text end_spells in
+      let left = spells_both waiting (kept ++ codes "end" ∷ []) (pending_lines cat work.txns tells.pending) _
+      (all_pending_spell cat work.txns c f txns_named tells.pending) last in
+      let behind = spells_both shipped (waiting ++ (kept ++ codes "end" ∷ [])) _ _ shipped_text left in
+      let answered = spells_both (replies_words names replies) (shipped ++ (waiting ++ (kept ++ codes "end" ∷ []))) (replies_along names replies) _
+      (replies_spell names replies (names_are cat work.txns c f txns_named order)
+      (answers_given IsClean ints_clean clean cat work text sound valid lists r)) behind in
+      let ordered = spells_both (order_words names ∷ []) (replies_words names replies ++ (shipped ++ (waiting ++ (kept ++ codes "end" ∷ [])))) (order_line work.txns order) _
+      (order_spells cat work.txns c f txns_named order) answered in
+      let whole = spells_both happened (order_words names ∷ (replies_words names replies ++ (shipped ++ (waiting ++ (kept ++ codes "end" ∷ []))))) (trace cat work.txns (history r.log)) _
+      (trace_spells cat work.txns c f txns_named (history r.log)) ordered in
+      subst (Spells all_lines) (sym r.told) whole
+
+  pub lines_are : (cut_lines text).0 ≡ all_lines
+  lines_are = ap (λ (l : List ℕ). (cut_lines l).0) spelled.is ∙ ap (λ (cut : List (List ℕ) × List ℕ). cut.0) (cut_again all_lines spelled.are)
+
+  numbered_by : (first : ℕ) (rest line : List ℕ) → line ≡ first ∷ rest → first ≤ 57 → (more : List ℕ) → is_numbered (line ++ more) ≡ true
+  numbered_by first rest line e most more =
+      subst (λ (l : List ℕ). is_numbered (l ++ more) ≡ true) (sym e) (lt-ltb first 58 (omega (arith, most)))
+
+  happened_pass : (h : List (ℕ × Rec)) → AllPass is_numbered (lines_in cat work.txns named.classes txns_named h)
+  happened_pass [] = tt
+  happened_pass (made ∷ h) =
+      let d = decimal_is made.0 in
+      (numbered_by d.first d.rest _ d.is d.most (spaced (record_words cat work.txns made.1)), happened_pass h)
+
+  pub trace_passes : AllPass is_numbered happened
+  trace_passes = happened_pass (history r.log)
+
+  pub replies_long : length names ≡ length replies
+  replies_long =
+      length-map order (λ (n : TxnNo). txn_name work.txns n.0) ∙ zip_long (IsReplyOf (history r.log)) order replies r.replies
+
+  pub answers_told : AllByRecursion AreAnswers replies
+  answers_told = answers_given IsTold ints_told told cat work text sound valid lists r
+
+  pub copies_values : AllByRecursion (λ (t : CopyTable). AreAllValues t.rows) tells.copies
+  copies_values =
+      all_by_member (λ (t : CopyTable). AreAllValues t.rows) tells.copies (copied_given IsTold ints_told told cat work text sound valid lists r)
+
+  -- what stands behind the replies is none
+
+  copies_fail : (p : List ℕ → Bool) → ((t : CopyTable) → p (copy_words cat t) ≡ false) → p (codes "end") ≡ false
+      → FirstFails p (kept ++ codes "end" ∷ [])
+  copies_fail p f e = fails_on p kept (codes "end" ∷ []) (first_copy p cat f tells.copies) e
+
+  pub behind_pending : FirstFails is_pending (kept ++ codes "end" ∷ [])
+  behind_pending = copies_fail is_pending (λ t. refl) refl
+
+  pub behind_shipped : FirstFails is_shipped (waiting ++ (kept ++ codes "end" ∷ []))
+  behind_shipped =
+      fails_on is_shipped waiting (kept ++ codes "end" ∷ []) (first_pending is_shipped (λ line. refl) cat work.txns tells.pending)
+      (copies_fail is_shipped (λ t. refl) refl)
+
+  pub behind_replies : FirstFails is_reply (shipped ++ (waiting ++ (kept ++ codes "end" ∷ [])))
+  behind_replies =
+      fails_on is_reply shipped (waiting ++ (kept ++ codes "end" ∷ [])) (first_shipped is_reply (λ line. refl) work.txns (history r.log) order)
+      (fails_on is_reply waiting (kept ++ codes "end" ∷ []) (first_pending is_reply (λ line. refl) cat work.txns tells.pending)
+      (copies_fail is_reply (λ t. refl) refl))
