@@ -83,7 +83,8 @@ def main(words, about):
         return 0
     if words[:1] == ["--break"]:
         if len(words) < 2 or words[1] not in breaking.RULES:
-            sys.exit("reference: --break RULE, where RULE is one of: " + ", ".join(breaking.RULES))
+            print("reference: --break RULE, where RULE is one of: " + ", ".join(breaking.RULES), file=sys.stderr)
+            return 2
         breaking.break_rule(words[1])
         words = words[2:]
     status, told, text = answer(words, read_file)
