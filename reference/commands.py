@@ -3,6 +3,7 @@
 Words are judged first, then the catalogue, then the workload, then the report. Definition: docs/FORMATS.md, "Words";
 crates/sdd_app/specs/Answer.antt, Command.antt.
 """
+import os
 import sys
 
 from . import breaking
@@ -88,6 +89,11 @@ def main(words, about):
         breaking.break_rule(words[1])
         words = words[2:]
     status, told, text = answer(words, read_file)
+    try:
+        sys.stdout.buffer.write(text.encode())
+        sys.stdout.flush()
+    except OSError:
+        status, told = 7, "write fault\n"
+        os.dup2(os.open(os.devnull, os.O_WRONLY), 1)        # or what is left would be written at the end
     sys.stderr.write(told)
-    sys.stdout.write(text)
     return status
