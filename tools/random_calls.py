@@ -167,6 +167,10 @@ def run_call(rng):
     return Call(["run", "cat", "work"], files_of(*inputs.scheduled(rng)))
 
 
+def inside_call(rng):
+    return Call(["inside", "cat", "work"], files_of(*inputs.scheduled(rng)))
+
+
 def lists_call(rng):
     return Call([rng.choice(["run", "run", "plain"]), "cat", "work"], files_of(*inputs.scheduled(rng, True)))
 
@@ -217,4 +221,4 @@ def words_call(rng):
 
 KINDS = {"catalogue": catalogue_call, "faulty-catalogue": faulty_catalogue_call, "toml": toml_call, "plain": plain_call,
          "faulty-workload": faulty_workload_call, "run": run_call, "lists": lists_call, "control": control_call,
-         "verify": verify_call, "make": make_call, "words": words_call}
+         "verify": verify_call, "make": make_call, "words": words_call, "inside": inside_call}
