@@ -1,23 +1,24 @@
 #!/usr/bin/env python3
-"""Compares `decode` and `encode` of sdd_wire with a reference program, on random messages.
+"""Compares `decode` and `encode` of sdd_wire with tools/messages.py, on random messages.
 
-    tools/compare_messages.py REFERENCE COUNT [SEED]
+    tools/compare_messages.py COUNT [SEED]
 
 COUNT messages are made from SEED (0 where it isn't given) by the form of their fields; in two thirds
 of them bytes are then changed, cut off, put in or put behind, so that most of these break the
-spelling. REFERENCE is a command that reads one message a line, in hexadecimal, and prints a line for
-each: `bad PLACE`, or the fields and the bytes that spell them again, as `tell` of the program below
-does. That program is built once and run unproved, by `rt try`, in a folder of its own. Each
-difference is printed, and a last line 'N same (M read), K different'.
+spelling. Of each is compared where it is bad, or the fields and the bytes that spell them again, as
+`tell` of the program below does. That program is built once and run unproved, by `rt try`, in a
+folder of its own. Each difference is printed, and a last line 'N same (M read), K different'.
 """
+import argparse
 import os
 import random
 import re
-import shlex
 import struct
 import subprocess
 import sys
 import tempfile
+
+import messages
 
 TOP = os.path.realpath(os.path.join(os.path.dirname(os.path.abspath(__file__)), ".."))
 CRATES = ["sdd_base", "sdd_history", "sdd_wire"]
@@ -300,12 +301,13 @@ def answers_here(top, lines):
 
 
 def main():
-    reference = shlex.split(sys.argv[1])
-    count = int(sys.argv[2])
-    rng = random.Random(int(sys.argv[3]) if len(sys.argv) > 3 else 0)
-    lines = [made(rng).hex() for _ in range(count)]
-    asked = subprocess.run(reference, input="".join(line + "\n" for line in lines), capture_output=True, text=True, check=True)
-    wanted = asked.stdout.splitlines()
+    asked = argparse.ArgumentParser(description=__doc__, formatter_class=argparse.RawDescriptionHelpFormatter, usage=argparse.SUPPRESS)
+    asked.add_argument("count", type=int, metavar="COUNT")
+    asked.add_argument("seed", type=int, nargs="?", default=0, metavar="SEED")
+    asked = asked.parse_args()
+    rng = random.Random(asked.seed)
+    lines = [made(rng).hex() for _ in range(asked.count)]
+    wanted = messages.answers(lines)
     with tempfile.TemporaryDirectory() as top:
         answers = answers_here(top, lines)
     same = 0
@@ -315,8 +317,9 @@ def main():
         else:
             print("%s\n  wanted %s\n  got    %s" % (line, want, got))
     read = sum(not want.startswith("bad") for want in wanted)
-    print("%d same (%d read), %d different" % (same, read, count - same))
-    sys.exit(same != count)
+    print("%d same (%d read), %d different" % (same, read, asked.count - same))
+    return 1 if same != asked.count else 0
 
 
-main()
+if __name__ == "__main__":
+    sys.exit(main())
