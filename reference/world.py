@@ -31,7 +31,8 @@ class Happened(NamedTuple):
 
 
 class World:
-    def __init__(self, cat, work):
+    def __init__(self, cat, work, rows=None):
+        """ROWS has the first rows of each data module; without it each has those of the workload."""
         self.cat, self.work = whole(cat, work.lists), work
         self.forces = forces(cat, work.lists)
         self.links, self.bases = Links(self.cat), {}
@@ -39,7 +40,7 @@ class World:
         for site in sites_of(self.cat)[1:]:
             self.sites[site] = (
                 TransactionModule(self.cat, cat, site.number, self.bases) if site.kind == "T"
-                else DataModule(self.cat, site.number, work.rows, self.bases))
+                else DataModule(self.cat, site.number, work.rows if rows is None else rows[site.number - 1], self.bases))
         self.handed = {link: 0 for link in self.links.ways}     # how many messages were handed over
         self.down, self.homes = set(), {}                       # homes: where transactions were submitted
         self.events, self.records = 0, []
