@@ -6,7 +6,8 @@
 Of each example the program COMMAND (a built `sdd1`; without it `rt try`, minutes for each example) gives
 the report of its workload, or the advice on its catalogue where it has no workload; tools/picture.py
 and tools/graph_picture.py draw `picture.svg` and, where `dot` of Graphviz is installed, `graph.svg`.
-Of the known applications catalogue and workload are made too, the catalogue of the first design
+Of the example `sql` catalogue and workload are translated from its script. Of the known applications they
+are made too, with the catalogue of the first design
 (`first.toml`), and `waits.svg` by tools/explore.py, which compares the two.
 
 With --check nothing is written, and each file that would change is told; `graph.svg` is left out then,
@@ -54,6 +55,10 @@ def make(name, program, folder, check):
     if name in MADE:
         catalogue, workload = write_workload(folder, name, MADE[name])
         made += ["catalogue.toml", "workload"]
+    if name == "sql":
+        draw("from_sql.py", [os.path.join(mine, "bank.sql"), "--into", folder])
+        made += ["catalogue.toml", "workload"]
+        catalogue, workload = os.path.join(folder, "catalogue.toml"), os.path.join(folder, "workload")
     if name in APPLICATIONS:
         made += compare_designs(name, program, folder, check)
     if os.path.exists(workload):
