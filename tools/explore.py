@@ -37,12 +37,14 @@ from typing import NamedTuple
 import distributions
 from catalogue import read_catalogue
 from command import count, parser, start
+from covering import class_for
 from figures import drains_of, figures_of, print_comparison, print_design
 from observed import observe
 from program import Program, add_program, text_of_outcome
 from protocols import print_changes, print_protocols, protocols_of
 from report import BadInput
 from schedules import Manner, drawn, enumerated, links_of, read_load
+from workload import read_workload
 
 BATCH = 50
 
@@ -67,9 +69,14 @@ class Explorer:
         self.catalogue, self.load = read_catalogue(catalogue), read_load(workload)
         if not self.load.submitted():
             raise BadInput("%s: it submits nothing" % workload)
-        quick = self.observed([self.load.events + ["settle"]])[0]
-        self.undeclared = any(x.cls == "-" for x in quick.transactions.values())
-        self.links = links_of(self.catalogue, self.load, self.undeclared)
+        self.links = links_of(self.catalogue, self.load, self.has_undeclared(workload))
+
+    def has_undeclared(self, workload):
+        """Whether the site of transactions that no class covers may have work; with further lists of classes it may."""
+        if "list" in self.load.head:
+            return True
+        transactions = read_workload(workload, self.catalogue)[1]
+        return any(class_for(transactions[x], self.catalogue) is None for x in self.load.submitted() if x in transactions)
 
     def texts(self, schedules):
         paths = []

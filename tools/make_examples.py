@@ -7,8 +7,8 @@ Of each example the program COMMAND (a built `sdd1`; without it `rt try`, minute
 the report of its workload, or the advice on its catalogue where it has no workload; tools/picture.py
 and tools/graph_picture.py draw `picture.svg` and, where `dot` of Graphviz is installed, `graph.svg`.
 Of the example `sql` catalogue and workload are translated from its script. Of the known applications they
-are made too, with the catalogue of the first design
-(`first.toml`), and `waits.svg` by tools/explore.py, which compares the two.
+are made too, with the catalogue of the first design (`first.toml`), and with `waits.svg`, in which
+tools/explore.py compares the two.
 
 With --check nothing is written, and each file that would change is told; `graph.svg` is left out then,
 since it depends on the version of `dot` and its fonts, and `waits.svg`, since it takes long.

@@ -13,7 +13,7 @@ from report import BadInput, text_of
 
 KEPT = {"submit", "tick", "down", "up", "settle", "redeclare"}
 MOST_EVENTS = 262144
-TAIL = 40                   # rounds behind the last submission, before the settle
+TAIL = 40                   # rounds behind the last submission; besides as many as lie before it, for what is queued then
 
 
 class Load(NamedTuple):
@@ -86,7 +86,7 @@ def drawn(load, links, rng, manner):
     possible, weights = choices(links, rng, manner)
     count = max(1, len(load.submitted()))
     room = MOST_EVENTS - len(load.events) - 1
-    tail = min(TAIL * len(links), room // 2)
+    tail = min(int((TAIL + count * manner.pace) * len(links)), room // 2)
     between = min(manner.pace * len(links), (room - tail) / count / 2)
     events = []
     for line in load.events:
