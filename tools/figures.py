@@ -60,15 +60,13 @@ def drains_of(observed, unit):
 def figures_of(observed, by, unit):
     """The figures of each group and of all, and how long which group waited for which class."""
     figures, pairs, whole = {}, {}, Figures()
-    for run in observed:
-        for name, told in run.transactions.items():
-            group = group_of(name, told, by)
-            figures.setdefault(group, Figures()).take(told, unit)
-            figures[group].kinds.add(kind_of(name) if by == "class" else told.cls or "?")
-            whole.take(told, unit)
-            for wait in told.waits:
-                for awaited in wait.awaited:
-                    pairs.setdefault((group, awaited), []).append(None if wait.events is None else wait.events / unit)
+    for name, told in (x for run in observed for x in run.transactions.items()):
+        group = group_of(name, told, by)
+        figures.setdefault(group, Figures()).take(told, unit)
+        figures[group].kinds.add(kind_of(name) if by == "class" else told.cls or "?")
+        whole.take(told, unit)
+        for wait, awaited in ((x, y) for x in told.waits for y in x.awaited):
+            pairs.setdefault((group, awaited), []).append(None if wait.events is None else wait.events / unit)
     figures = dict(sorted(figures.items(), key=lambda x: -x[1].waits / max(1, x[1].attempts)))
     figures[ALL] = whole
     return figures, pairs

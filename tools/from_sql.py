@@ -258,22 +258,31 @@ class Classes:
         return made
 
 
+def touched_by(statement, catalogue):
+    """For each use a relation, and the least and the greatest key; of a put those of its row."""
+    keys = [catalogue.relations[r].key for r in statement.relations]
+    if statement.kind == "put":
+        return [(statement.relations[0], statement.row[keys[0]], statement.row[keys[0]])]
+    return [(r,) + key_range(statement.conditions, k, keys[k]) for k, r in enumerate(statement.relations)]
+
+
+def meet(touched, others):
+    return any(a == b and max(low, least) <= min(high, greatest) for a, low, high in touched for b, least, greatest in others)
+
+
 def demand_apart(translator, catalogue, transactions):
     """Refuses a statement that may see a row which one before it in its transaction changed."""
     for x in transactions.values():
         lines, call = translator.lines[x.name]
-        changed = []            # relation, least and greatest key, line
+        changed = []            # what was changed before: a line, and what it touched
         for s, line in zip(x.statements, lines):
-            key = [catalogue.relations[r].key for r in s.relations]
-            uses = [] if s.kind == "put" else [(r,) + key_range(s.conditions, k, key[k]) for k, r in enumerate(s.relations)]
-            for relation, low, high in uses:
-                for other, least, greatest, before in changed:
-                    if relation == other and max(low, least) <= min(high, greatest):
-                        translator.fault(line, "of the call in line %d it may see what line %d changed; put it first, or into a transaction of its own" % (call, before))
-            if s.kind == "put":
-                changed.append((s.relations[0], s.row[key[0]], s.row[key[0]], line))
-            elif s.kind != "query":
-                changed.append(uses[0] + (line,))
+            touched = touched_by(s, catalogue)
+            before = next((y for y, other in changed if s.kind != "put" and meet(touched, other)), None)
+            if before is not None:
+                translator.fault(line, "of the call in line %d it may see what line %d changed; put it first, or into a transaction of its own" % (
+                    call, before))
+            if s.kind != "query":
+                changed.append((line, touched))
 
 
 def tell(classes, catalogue, transactions):

@@ -94,6 +94,17 @@ def same(a, b):
         return f.read() == g.read()
 
 
+def renew(name, program, check):
+    """Makes an example anew, and takes over the files that differ, but where they are only told; how many these are."""
+    with tempfile.TemporaryDirectory(prefix="examples-") as folder:
+        new = [x for x in make(name, program, folder, check) if not same(os.path.join(folder, x), os.path.join(EXAMPLES, name, x))]
+        for file in new:
+            print("%s/%s %s" % (name, file, "differs" if check else "is new"), flush=True)
+            if not check:
+                shutil.copyfile(os.path.join(folder, file), os.path.join(EXAMPLES, name, file))
+    return len(new)
+
+
 def main():
     asked = parser(__doc__)
     add_program(asked)
@@ -101,16 +112,7 @@ def main():
     asked.add_argument("--only", metavar="NAME", nargs="+", choices=names, help="these examples alone")
     asked.add_argument("--check", action="store_true", help="compare, and write nothing")
     asked = asked.parse_args()
-    different = 0
-    for name in asked.only or names:
-        with tempfile.TemporaryDirectory(prefix="examples-") as folder:
-            new = [x for x in make(name, asked.program, folder, asked.check)
-                   if not same(os.path.join(folder, x), os.path.join(EXAMPLES, name, x))]
-            for file in new:
-                print("%s/%s %s" % (name, file, "differs" if asked.check else "is new"))
-                if not asked.check:
-                    shutil.copyfile(os.path.join(folder, file), os.path.join(EXAMPLES, name, file))
-        different += len(new)
+    different = sum(renew(name, asked.program, asked.check) for name in asked.only or names)
     print("%d examples, %d files %s" % (len(asked.only or names), different, "differ" if asked.check else "written"))
     return 1 if asked.check and different else 0
 

@@ -78,6 +78,42 @@ def plant(case, kind, rng, folder):
     return None if text is None or "\n".join(text) == case.text else "\n".join(text)
 
 
+class Tally:
+    """What was planted and found."""
+
+    def __init__(self, each, show, rng, folder):
+        self.each, self.show, self.rng, self.folder = each, show, rng, folder
+        self.planted, self.found = dict.fromkeys(KINDS, 0), dict.fromkeys(KINDS, 0)
+        self.reports = self.alarms = 0
+
+    def take(self, case):
+        """Judges a true report, and plants one fault of each kind in it, as long as one is wanting."""
+        self.reports += 1
+        wrong = judged(case, case.text, self.folder)
+        if wrong:
+            self.alarms += 1
+            self.note("false alarm in %s: %s" % (case.name, wrong[0]))
+            return
+        for kind in KINDS:
+            text = plant(case, kind, self.rng, self.folder) if self.planted[kind] < self.each else None
+            if text is not None:
+                self.planted[kind] += 1
+                told = judged(case, text, self.folder)
+                self.found[kind] += bool(told)
+                self.note("" if told else "not found in %s: %s" % (case.name, kind))
+
+    def note(self, text):
+        if self.show and text:
+            print(text)
+
+    def tell(self):
+        print("| planted | faults | found |\n|---|---|---|")
+        for kind in KINDS:
+            print("| %s | %d | %d |" % (kind, self.planted[kind], self.found[kind]))
+        print("| all | %d | %d |" % (sum(self.planted.values()), sum(self.found.values())))
+        print("\n%d true reports, %d false alarms" % (self.reports, self.alarms))
+
+
 def main():
     asked = parser(__doc__)
     asked.add_argument("--each", metavar="N", type=count, default=30, help="faults of each kind (30)")
@@ -85,29 +121,12 @@ def main():
     asked.add_argument("--show", action="store_true", help="print each fault that wasn't found")
     add_program(asked)
     asked = asked.parse_args()
-    program, rng = Program(asked.program), random.Random(asked.seed)
-    planted, found, reports, alarms = dict.fromkeys(KINDS, 0), dict.fromkeys(KINDS, 0), 0, 0
     with tempfile.TemporaryDirectory(prefix="faults-") as folder:
-        for case in cases(program, folder, asked.seed, 4 * max(asked.each, 1)):
-            reports += 1
-            wrong = judged(case, case.text, folder)
-            alarms += bool(wrong)
-            for x in wrong if asked.show else ():
-                print("false alarm in %s: %s" % (case.name, x))
-            for kind in KINDS:
-                text = plant(case, kind, rng, folder) if planted[kind] < asked.each else None
-                if text is not None:
-                    planted[kind] += 1
-                    told = judged(case, text, folder)
-                    found[kind] += bool(told)
-                    if not told and asked.show:
-                        print("not found in %s: %s" % (case.name, kind))
-    print("| planted | faults | found |\n|---|---|---|")
-    for kind in KINDS:
-        print("| %s | %d | %d |" % (kind, planted[kind], found[kind]))
-    print("| all | %d | %d |" % (sum(planted.values()), sum(found.values())))
-    print("\n%d true reports, %d false alarms" % (reports, alarms))
-    return 1 if alarms or sum(found.values()) < sum(planted.values()) else 0
+        tally = Tally(asked.each, asked.show, random.Random(asked.seed), folder)
+        for case in cases(Program(asked.program), folder, asked.seed, 4 * max(asked.each, 1)):
+            tally.take(case)
+    tally.tell()
+    return 1 if tally.alarms or tally.found != tally.planted else 0
 
 
 if __name__ == "__main__":

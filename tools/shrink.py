@@ -57,23 +57,25 @@ class Shrinker:
 
     def cut_workload(self):
         """Leaves out parts of the workload, large ones first; whether one was."""
-        shorter = False
+        before = self.workload
         for cuts in workload_cuts():
-            lines = self.workload.split("\n")[:-1]
-            found = cuts(lines)
-            size = len(found)
+            size = len(cuts(self.workload.split("\n")[:-1]))
             while size:
-                place = 0
-                while place < len(found):
-                    text = "".join(x + "\n" for x in lines_without(lines, found[place:place + size]))
-                    if self.holds(self.catalogue, text):
-                        self.workload, shorter = text, True
-                        lines = text.split("\n")[:-1]
-                        found = cuts(lines)
-                    else:
-                        place += size
-                size = min(size, len(found)) // 2
-        return shorter
+                size = min(size, self.cut_pieces(cuts, size)) // 2
+        return self.workload != before
+
+    def cut_pieces(self, cuts, size):
+        """Leaves out so many cuts at once, wherever the line stays; how many cuts are left."""
+        lines, place = self.workload.split("\n")[:-1], 0
+        found = cuts(lines)
+        while place < len(found):
+            text = "".join(x + "\n" for x in lines_without(lines, found[place:place + size]))
+            if self.holds(self.catalogue, text):
+                self.workload, lines = text, text.split("\n")[:-1]
+                found = cuts(lines)
+            else:
+                place += size
+        return len(found)
 
     def cut_catalogue(self):
         shorter, again = False, True

@@ -100,22 +100,15 @@ def without(parts, *path):
 def catalogue_cuts(parts):
     """The catalogue without a class, a read, a written fragment, a copy, a relation or its last module."""
     try:
-        for k, x in enumerate(parts.get("class", [])):
-            yield without(parts, "class", k)
-        for k, x in enumerate(parts.get("class", [])):
-            for field in ("reads", "writes"):
-                for n in range(len(x.get(field, []))):
-                    yield without(parts, "class", k, field, n)
-        for k, x in enumerate(parts.get("relation", [])):
+        classes, relations, fragments = (list(enumerate(parts.get(x, []))) for x in ("class", "relation", "fragment"))
+        yield from (without(parts, "class", k) for k, _ in classes)
+        yield from (without(parts, "class", k, field, n) for k, x in classes for field in ("reads", "writes") for n in range(len(x.get(field, []))))
+        for k, x in relations:
             made = without(parts, "relation", k)
             made["fragment"] = [f for f in made.get("fragment", []) if f["relation"] != x["name"]]
             yield made
-        for k, x in enumerate(parts.get("fragment", [])):
-            for n in range(len(x["copies"])):
-                yield without(parts, "fragment", k, "copies", n)
-        for field in ("tms", "dms"):
-            if parts[field] > 1:
-                yield dict(parts, **{field: parts[field] - 1})
+        yield from (without(parts, "fragment", k, "copies", n) for k, x in fragments for n in range(len(x["copies"])))
+        yield from (dict(parts, **{field: parts[field] - 1}) for field in ("tms", "dms") if parts[field] > 1)
     except (KeyError, TypeError, AttributeError):
         return
 

@@ -244,6 +244,23 @@ def imported(body):
     return head
 
 
+def write_random(gen, options):
+    """The logs of random workloads, to one file."""
+    first, wanted = options.random
+    parts, seed, entries = [], first, 0
+    while len(parts) < wanted:
+        log = gen.rand_log(seed, sizes=(2, 4, 5, 14), stage=18)
+        seed += 1
+        if len(log.entries) <= options.longest:
+            text, count = written("seed_%d" % (seed - 1), None, log)
+            parts.append(text)
+            entries += count
+    body = "\n".join(parts)
+    with open(options.file, "w", encoding="utf-8") as out:
+        out.write("-- Logs of random workloads.\n" + imported(body) + "\n" + body)
+    print("%d logs, %d entries, seeds %d to %d" % (len(parts), entries, first, seed - 1))
+
+
 def main():
     asked = parser(__doc__)
     asked.add_argument("--reference", required=True, metavar="FOLDER")
@@ -261,19 +278,7 @@ def main():
         raise BadInput("%s: %s" % (options.reference, fault)) from None
 
     if options.random:
-        first, wanted = options.random
-        parts, seed, entries = [], first, 0
-        while len(parts) < wanted:
-            log = gen.rand_log(seed, sizes=(2, 4, 5, 14), stage=18)
-            seed += 1
-            if len(log.entries) <= options.longest:
-                text, count = written("seed_%d" % (seed - 1), None, log)
-                parts.append(text)
-                entries += count
-        body = "\n".join(parts)
-        with open(options.file, "w", encoding="utf-8") as out:
-            out.write("-- Logs of random workloads.\n" + imported(body) + "\n" + body)
-        print("%d logs, %d entries, seeds %d to %d" % (len(parts), entries, first, seed - 1))
+        write_random(gen, options)
         return
     modules = {}
     for name, module, shows, cat, work in ROWS:
