@@ -18,7 +18,7 @@ import subprocess
 import sys
 import tempfile
 
-from command import count, parser, run_outside, start
+from command import count, make_parser, run_outside, start
 from report import BadInput
 
 TOP = os.path.realpath(os.path.join(os.path.dirname(os.path.abspath(__file__)), ".."))
@@ -313,7 +313,7 @@ def wanted_of(reference, lines):
 
 
 def main():
-    asked = parser(__doc__)
+    asked = make_parser(__doc__)
     asked.add_argument("reference", metavar="REFERENCE")
     asked.add_argument("count", metavar="COUNT", type=count)
     asked.add_argument("seed", metavar="SEED", nargs="?", type=count, default=0)

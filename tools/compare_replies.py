@@ -13,7 +13,7 @@ import os
 import random
 import tempfile
 
-from command import count, parser, run_outside, start
+from command import count, make_parser, run_outside, start
 from program import Program, add_program
 
 CRATE = os.path.join(os.path.dirname(os.path.abspath(__file__)), "..", "crates", "sdd1")
@@ -102,7 +102,7 @@ def workload(seed):
 
 
 def main():
-    asked = parser(__doc__)
+    asked = make_parser(__doc__)
     asked.add_argument("reference", metavar="REFERENCE")
     asked.add_argument("count", metavar="COUNT", type=count)
     asked.add_argument("seed", metavar="SEED", nargs="?", type=count, default=0)

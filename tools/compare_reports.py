@@ -16,7 +16,7 @@ import random
 import subprocess
 import tempfile
 
-from command import count, parser, run_outside, start
+from command import count, make_parser, run_outside, start
 from report import BadInput
 
 LONGEST = 120  # seconds for one run of a program
@@ -143,7 +143,7 @@ def last_event(text):
 
 
 def main():
-    asked = parser(__doc__)
+    asked = make_parser(__doc__)
     for name in ("program", "reference"):
         asked.add_argument(name, metavar=name.upper())
     asked.add_argument("count", metavar="COUNT", type=count)

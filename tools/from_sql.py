@@ -16,7 +16,7 @@ them in the order of their submission:
     COMMIT;
     CALL pay(1, 2, 30);
 
-A table without PARTITION BY is one fragment, and has AT D1 behind its columns. Statements are SELECT with
+A table without PARTITION BY is one fragment, and has AT D1 after its columns. Statements are SELECT with
 joins by =, INSERT with all columns, UPDATE that sets a column to a value or adds to it, DELETE; conditions are
 joined by AND. `:payer 1 TO 999` tells the values that a parameter may have; from these follows which fragments
 a transaction can touch. Each transaction gets a class; those that only read come first, equal ones are one.
@@ -31,7 +31,7 @@ import tempfile
 from typing import NamedTuple
 
 from catalogue import GREATEST, LEAST, read_catalogue
-from command import parser, start
+from command import make_parser, start
 from covering import class_for, read_set, write_set
 from report import BadInput
 from sql import Column, read_script
@@ -285,7 +285,7 @@ def demand_apart(translator, catalogue, transactions):
                 changed.append((line, touched))
 
 
-def tell(classes, catalogue, transactions):
+def print_classes(classes, catalogue, transactions):
     """Which class each transaction gets, and why."""
     for name, need in classes.needs.items():
         mine = [x for x in transactions.values() if x.name.rpartition("_")[0] == name]
@@ -304,7 +304,7 @@ def tell(classes, catalogue, transactions):
 
 
 def main():
-    asked = parser(__doc__)
+    asked = make_parser(__doc__)
     asked.add_argument("script", metavar="SCRIPT")
     asked.add_argument("--into", metavar="FOLDER", required=True)
     asked = asked.parse_args()
@@ -323,7 +323,7 @@ def main():
         os.makedirs(asked.into, exist_ok=True)
         for name in names:
             shutil.copyfile(os.path.join(folder, name), os.path.join(asked.into, name))
-    tell(classes, catalogue, transactions)
+    print_classes(classes, catalogue, transactions)
 
 
 if __name__ == "__main__":

@@ -19,7 +19,7 @@ import subprocess
 import sys
 import tempfile
 
-from command import parser, start
+from command import make_parser, start
 from make_workload import APPLICATIONS, write_workload
 from program import add_program, run_program
 from report import BadInput
@@ -106,7 +106,7 @@ def renew(name, program, check):
 
 
 def main():
-    asked = parser(__doc__)
+    asked = make_parser(__doc__)
     add_program(asked)
     names = sorted(x for x in os.listdir(EXAMPLES) if os.path.isdir(os.path.join(EXAMPLES, x)))
     asked.add_argument("--only", metavar="NAME", nargs="+", choices=names, help="these examples alone")

@@ -27,7 +27,7 @@ class Told:
 
 class Observed(NamedTuple):
     transactions: dict      # name -> Told
-    events: int             # the number of the last event that is told
+    events: int             # the number of the last event with a record
     idle: int               # how many events found nothing to do
 
 

@@ -5,7 +5,7 @@
 
 With --keep, a line of what `run` prints has to contain TEXT: of the report, or the one line of a refusal.
 Take no number of an event into TEXT, since these change. With --command, COMMAND is called with the paths of
-a catalogue and a workload behind its words, and says yes by its status 0.
+a catalogue and a workload after its words, and says yes by its status 0.
 
 Events, transactions, rows, lists of classes, statements and conditions are left out as long as the line
 stays; then classes, what they read and write, copies, relations and modules of the catalogue. What is left is
@@ -17,10 +17,10 @@ import os
 import sys
 import tempfile
 
-from command import parser, parts_of, run_outside, start
+from command import make_parser, split_command, run_outside, start
 from program import Program, add_program
 from report import BadInput, text_of
-from shrinking import catalogue_cuts, lines_without, parts_of_catalogue, spelled, workload_cuts
+from shrinking import catalogue_cuts, lines_without, parts_of_catalogue, format_catalogue, workload_cuts
 
 
 class Shrinker:
@@ -51,7 +51,7 @@ class Shrinker:
 
     def asks(self):
         if self.program is None:
-            return run_outside(parts_of(self.asked.command), self.paths).returncode == 0
+            return run_outside(split_command(self.asked.command), self.paths).returncode == 0
         told = self.program.ask(["run"] + self.paths)
         return any(self.asked.keep in line for line in (told.text + told.error).split("\n"))
 
@@ -82,7 +82,7 @@ class Shrinker:
         while again:
             again = False
             for parts in catalogue_cuts(parts_of_catalogue(self.asked.catalogue, self.catalogue)):
-                text = spelled(parts)
+                text = format_catalogue(parts)
                 if self.holds(text, self.workload):
                     self.catalogue, shorter, again = text, True, True
                     break
@@ -94,7 +94,7 @@ class Shrinker:
 
 
 def main():
-    asked = parser(__doc__)
+    asked = make_parser(__doc__)
     asked.add_argument("catalogue", metavar="CATALOGUE")
     asked.add_argument("workload", metavar="WORKLOAD")
     which = asked.add_mutually_exclusive_group(required=True)

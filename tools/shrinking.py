@@ -113,20 +113,20 @@ def catalogue_cuts(parts):
         return
 
 
-def value(x):
+def format_value(x):
     """A value of TOML as it is written here."""
     if isinstance(x, dict):
-        return "{%s}" % ", ".join("%s = %s" % (k, value(v)) for k, v in x.items())
+        return "{%s}" % ", ".join("%s = %s" % (k, format_value(v)) for k, v in x.items())
     if isinstance(x, list):
-        return "[%s]" % ", ".join(map(value, x))
+        return "[%s]" % ", ".join(map(format_value, x))
     return '"%s"' % x if isinstance(x, str) else str(x)
 
 
-def spelled(parts):
-    lines = ["%s = %s" % (k, value(v)) for k, v in parts.items() if not is_tables(v)]
+def format_catalogue(parts):
+    lines = ["%s = %s" % (k, format_value(v)) for k, v in parts.items() if not is_tables(v)]
     for name, tables in parts.items():
         for table in tables if is_tables(tables) else []:
-            lines += ["", "[[%s]]" % name] + ["%s = %s" % (k, value(v)) for k, v in table.items() if v != []]
+            lines += ["", "[[%s]]" % name] + ["%s = %s" % (k, format_value(v)) for k, v in table.items() if v != []]
     return "\n".join(lines) + "\n"
 
 

@@ -67,7 +67,7 @@ class Table(NamedTuple):
     line: int
     columns: list           # pairs of a name and a kind
     key: str
-    fragments: list         # name, the first key behind it (None: no end), copies
+    fragments: list         # name, the first key after it (None: no end), copies
 
 
 class Script(NamedTuple):
@@ -183,7 +183,7 @@ class Reader:
         return Table(name, line, columns, key, fragments)
 
     def copies(self):
-        """The data modules behind AT."""
+        """The data modules after AT."""
         self.demand("AT")
         made = [int(self.site("D")[1:])]
         while self.peek().text == "," and re.fullmatch(r"[Dd]\d+", self.tokens[self.at + 1].text):

@@ -19,7 +19,7 @@ import sys
 sys.dont_write_bytecode = True
 HERE = os.path.dirname(os.path.abspath(__file__))
 sys.path.insert(0, HERE)
-from command import parser, start  # noqa: E402
+from command import make_parser, start  # noqa: E402
 from log_rows import ROWS  # noqa: E402
 from report import BadInput  # noqa: E402
 
@@ -262,7 +262,7 @@ def write_random(gen, options):
 
 
 def main():
-    asked = parser(__doc__)
+    asked = make_parser(__doc__)
     asked.add_argument("--reference", required=True, metavar="FOLDER")
     asked.add_argument("--out", metavar="FOLDER", default=os.path.join(HERE, "..", "crates", "sdd_rows", "specs"))
     asked.add_argument("--random", nargs=2, type=int, metavar=("FIRST", "COUNT"))
