@@ -24,6 +24,8 @@ as many events as there are links; with --events times are in events. A second t
 class that waits and a class for which it waits. A second design is compared with the first one side by
 side, and the changes of the protocol table are listed. The picture (SVG) has the distributions of both times.
 
+The line above the table has the packets that arrived for each commit, with their acknowledgements.
+
 --pace is how many rounds lie between two submissions, on the average (4): the less, the more transactions
 are under way at once. --faults is how many of 100 events lose, repeat or resend packets (0).
 """
@@ -47,6 +49,7 @@ from schedules import Manner, draw_schedule, enumerate_schedules, list_links, re
 from workload import read_workload
 
 BATCH = 50
+LAST = "lose T1 D1 1"       # finds nothing after a settle, and so tells how many events there were
 
 
 class Design(NamedTuple):
@@ -59,6 +62,7 @@ class Design(NamedTuple):
     complete: bool          # whether these are all schedules
     links: int
     transactions: int
+    packets: float          # that arrived, for each commit
 
 
 class Explorer:
@@ -83,7 +87,7 @@ class Explorer:
         for k, events in enumerate(schedules):
             paths.append(os.path.join(self.folder, "work%d" % k))
             with open(paths[-1], "w", encoding="utf-8") as f:
-                f.write(self.load.text(events))
+                f.write(self.load.text(events + [LAST]))
         words = ["run", self.path, "{}"]
         return [demand_text(x, words) for x in self.program.ask_all(words, paths)]
 
@@ -116,7 +120,12 @@ class Explorer:
         unit = 1 if asked.events else len(self.links)
         figures, pairs = collect_figures(observed, asked.by, unit)
         table = self.program.text(["table", self.path])
-        return Design(self.path, figures, pairs, collect_drains(observed, unit), read_protocols(table), len(schedules), complete, len(self.links), len(self.load.submitted()))
+        packets = sum(self.packets(x) for x in observed) / max(1, sum(x.commits() for x in observed))
+        return Design(self.path, figures, pairs, collect_drains(observed, unit), read_protocols(table), len(schedules), complete, len(self.links), len(self.load.submitted()), packets)
+
+    def packets(self, observed):
+        """How many packets arrived: events that found something to do, but for submissions, ticks, downs and ups."""
+        return observed.events - observed.idle - sum(x != "settle" for x in self.load.events)
 
 
 def tell_progress(text):

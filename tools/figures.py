@@ -83,7 +83,8 @@ def print_table(rows):
 def describe(design, unit):
     how = "all %d schedules" % design.runs if design.complete else "%d schedules" % design.runs
     round_ = "" if unit == "events" else "; a round is %d events" % design.links
-    return "%s: %s of %d transactions, %d links%s" % (design.name, how, design.transactions, design.links, round_)
+    return "%s: %s of %d transactions, %d links%s; %.1f packets for each commit" % (
+        design.name, how, design.transactions, design.links, round_, design.packets)
 
 
 def join_names(names, most=4):

@@ -30,6 +30,9 @@ class Observed(NamedTuple):
     events: int             # the number of the last event with a record
     idle: int               # how many events found nothing to do
 
+    def commits(self):
+        return sum(x.committed is not None for x in self.transactions.values())
+
 
 def observe(text):
     told, begun, idle, event = {}, {}, 0, "0"
