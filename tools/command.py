@@ -1,6 +1,6 @@
 """What the commands of tools/ share: their help, and refusals in one line with status 2.
 
-    asked = parser(__doc__)
+    asked = make_parser(__doc__)
     ..
     if __name__ == "__main__":
         start(main)
@@ -16,7 +16,7 @@ from report import BadInput
 REFUSED = 2
 
 
-def parser(text):
+def make_parser(text):
     """A reader of the command line whose help is the text, and which refuses in one line."""
     return argparse.ArgumentParser(description=text, formatter_class=argparse.RawDescriptionHelpFormatter, usage=argparse.SUPPRESS)
 
@@ -47,14 +47,14 @@ def count(word):
 count.__name__ = "count"            # what argparse calls it where it refuses a word
 
 
-def said_of(fault):
+def describe_fault(fault):
     """What is wrong, in one line."""
     if isinstance(fault, OSError) and fault.filename is not None:
         return "%s: %s" % (fault.filename, (fault.strerror or "can't be used").lower())
     return " ".join(str(fault).split())
 
 
-def parts_of(command):
+def split_command(command):
     """The program and the words of a command that somebody gave as one text."""
     try:
         parts = shlex.split(command)
@@ -67,7 +67,7 @@ def parts_of(command):
 
 def run_outside(command, words=(), **more):
     """Runs a command, one text or a list of words; what it prints is bytes."""
-    parts = parts_of(command) if isinstance(command, str) else list(command)
+    parts = split_command(command) if isinstance(command, str) else list(command)
     try:
         return subprocess.run(parts + list(words), stdout=subprocess.PIPE, stderr=subprocess.PIPE, **more)
     except OSError as fault:
@@ -75,7 +75,7 @@ def run_outside(command, words=(), **more):
 
 
 def start(main):
-    """Calls `main`, and ends with its status; what it refuses is told in one line."""
+    """Calls `main`, and ends with its status; what it refuses is reported in one line."""
     name = os.path.basename(sys.argv[0])
     try:
         status = main()
@@ -84,7 +84,7 @@ def start(main):
         os.dup2(os.open(os.devnull, os.O_WRONLY), sys.stdout.fileno())
         status = 1
     except (BadInput, OSError) as fault:
-        print("%s: %s" % (name, said_of(fault)), file=sys.stderr)
+        print("%s: %s" % (name, describe_fault(fault)), file=sys.stderr)
         status = REFUSED
     except KeyboardInterrupt:
         status = 130

@@ -1,6 +1,6 @@
 """The picture of explore.py: for each class or kind how its times are distributed.
 
-    text = picture(designs, "class", "rounds")
+    text = draw_distributions(designs, "class", "rounds")
 
 A row has two panels: how long reads waited that had to, and how long it took from the submission to the
 commit. A bar's height is the part of them that fall between two times; times grow by the factor of two.
@@ -23,7 +23,7 @@ def place_of(time):
     return round(math.log2(max(time, 1 / 16)) * PARTS)
 
 
-def bars(times):
+def count_bars(times):
     """The part of the times in each bar."""
     made = {}
     for x in times:
@@ -56,7 +56,7 @@ class Panel:
 
     def row(self, middle, times, down, note):
         """The bars of one design in a row, and its median as a stroke."""
-        made, style = bars(times), "second" if down else "first"
+        made, style = count_bars(times), "second" if down else "first"
         highest = max(made.values(), default=1)
         shapes = []
         for place, part in sorted(made.items()):
@@ -77,12 +77,12 @@ def note_of(figures, times, waits):
     return "%.2f an attempt, %s" % (figures.waits / figures.attempts, middle) if waits and figures.attempts else middle
 
 
-def short(path):
+def shorten(path):
     """The file with the folder in which it lies."""
     return "/".join(path.split("/")[-2:])
 
 
-def picture(designs, by, unit):
+def draw_distributions(designs, by, unit):
     names = list(dict.fromkeys(x for design in designs for x in design.figures))
     panels = []
     for k, (title, field) in enumerate((("waits of reads", "waited"), ("from submission to commit", "latencies"))):
@@ -93,7 +93,7 @@ def picture(designs, by, unit):
     shapes = []
     for k, design in enumerate(designs):
         shapes.append(svg.shape("rect", ("first", "second")[k], x=10 + 400 * k, y=8, width=10, height=10))
-        shapes.append(svg.label(26 + 400 * k, 17, "%s, %d schedules" % (short(design.name), design.runs)))
+        shapes.append(svg.label(26 + 400 * k, 17, "%s, %d schedules" % (shorten(design.name), design.runs)))
     for panel, _ in panels:
         shapes += panel.head(unit, bottom)
     for k, name in enumerate(names):

@@ -8,12 +8,12 @@ as in  tools/explain.py "workload: line 5: BadLine" catalogue.toml workload
 LINE is what stands on standard error, or `-`: then it is read from standard input, so that
 `sdd1 run CAT WORK 2>&1 >report | tools/explain.py - CAT WORK` explains a call that failed. A line of `control`
 takes its file alone. Printed are the line of the file, or the part of the catalogue; what the rule means; what
-is wrong there, as far as it can be told; and what usually helps.
+is wrong there, as far as the script can see; and what usually helps.
 """
 import re
 import sys
 
-from command import parser, start
+from command import make_parser, start
 from explaining_catalogue import explain_part
 from explaining_workload import explain_line
 from report import BadInput, text_of
@@ -22,13 +22,13 @@ FORM = re.compile(r"(?:(catalogue): (top|(?:relation|fragment|class) \d+)|(workl
 OTHERS = {
     "limit": "The run would have more than 4,294,967,295 events, or messages on one link. Fewer or smaller settles, or fewer transactions, help.",
     "read fault": "A file couldn't be opened or read. Look at its name, and whether you may read it.",
-    "write fault": "Standard output took only a part of the text: its disk is full, or the program behind a pipe ended.",
+    "write fault": "Standard output took only a part of the text: its disk is full, or the program after a pipe ended.",
     "no memory": "Memory ran out. A smaller workload helps, or a machine with more.",
     "unbuilt": "The workload has lists of classes (`list` .. `done`), and this command doesn't carry them out.",
 }
 
 
-def explained(line, files):
+def explain(line, files):
     """The lines that are told."""
     found = FORM.fullmatch(line)
     if line in OTHERS or line.startswith("usage:"):
@@ -45,14 +45,14 @@ def explained(line, files):
 
 
 def main():
-    asked = parser(__doc__)
+    asked = make_parser(__doc__)
     asked.add_argument("line", metavar="LINE")
     asked.add_argument("files", metavar="FILE", nargs="*")
     asked = asked.parse_args()
     if len(asked.files) > 2:
         raise BadInput("it takes a line, a catalogue and a workload")
     line = sys.stdin.readline() if asked.line == "-" else asked.line
-    print("\n".join(explained(line.strip(), asked.files)))
+    print("\n".join(explain(line.strip(), asked.files)))
 
 
 if __name__ == "__main__":

@@ -8,7 +8,7 @@ FIELDS = {"top": ["tms", "dms", "relation", "fragment", "class"], "relation": ["
           "fragment": ["name", "relation", "from", "to", "copies"], "class": ["name", "tm", "reads", "writes"]}
 RULES = {
     "TooLong": ("the file has more than 1,048,576 bytes", "leave out what isn't used"),
-    "NotToml": ("the file isn't UTF-8, or isn't TOML", "look at the place that is told here; a header of an array has two brackets, [[class]]"),
+    "NotToml": ("the file isn't UTF-8, or isn't TOML", "look at the place that is given here; a header of an array has two brackets, [[class]]"),
     "UnknownField": ("a table has a field that it can't have", "look for a misspelled field"),
     "MissingField": ("a field that has to be there is absent", "add it"),
     "WrongKind": ("a field has another kind than it may have, a number is out of range, or a name isn't spelled as one",
@@ -19,8 +19,8 @@ RULES = {
     "BadKey": ("the key's column has texts", "a key is of the kind \"int\": take a number for each text, and keep the text in another column"),
     "NoCopy": ("the fragment has no copy", "name the data modules that keep it, as copies = [1]"),
     "RangeGap": ("some key is in no fragment of the relation, or `to` is less than `from`",
-                 "the first fragment has no `from`, the last one no `to`, and each begins 1 behind the end of the one before"),
-    "RangeOverlap": ("a key is in two fragments of the relation", "let each begin 1 behind the end of the one before"),
+                 "the first fragment has no `from`, the last one no `to`, and each begins 1 after the end of the one before"),
+    "RangeOverlap": ("a key is in two fragments of the relation", "let each begin 1 after the end of the one before"),
     "ReadsWhereNoCopy": ("a class reads a fragment at a data module that has no copy of it", "read it where a copy is, or add a copy there"),
     "TooFew": ("there is no module", "tms and dms are 1 or more"),
     "TooMany": ("there are more than the limit", "docs/FORMATS.md, \"Faults of a catalogue\", has the limits"),
@@ -57,7 +57,7 @@ def shown_part(place, path, text):
 
 
 def found_in(place, rule, parts):
-    """What can be told of the place."""
+    """What is known of the place."""
     kind, _, number = place.partition(" ")
     tables = parts.get(kind, []) if number else [parts]
     mine = tables[int(number) - 1] if number and isinstance(tables, list) and int(number) <= len(tables) else parts
@@ -113,7 +113,7 @@ def gaps(kind, mine, parts):
         if begin > end + 1:
             yield "no fragment has the keys %d to %d, between %s and %s" % (end + 1, begin - 1, name, after)
     if found[-1][1] < GREATEST:
-        yield "no fragment has the keys from %d on, behind the `to` of %s" % (found[-1][1] + 1, found[-1][2])
+        yield "no fragment has the keys from %d on, after the `to` of %s" % (found[-1][1] + 1, found[-1][2])
 
 
 def unknown(kind, mine, parts):

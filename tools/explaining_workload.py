@@ -18,11 +18,11 @@ INSTEAD = {"select": "query", "insert": "put", "upsert": "put", "replace": "put"
 RULES = {
     "TooLong": ("the file has more than 67,108,864 bytes", "leave out what the run doesn't need"),
     "NotUtf8": ("the line has bytes that aren't UTF-8", "save the file as UTF-8"),
-    "NoEnd": ("the line isn't ended by a newline, or the file ends without the line `end`", "the last line is `end`, and a newline stands behind it"),
+    "NoEnd": ("the line isn't ended by a newline, or the file ends without the line `end`", "the last line is `end`, and a newline stands after it"),
     "BadLine": ("the line has none of the forms, or may not stand at this place", "docs/FORMATS.md, \"The workload\", has all forms"),
     "BadNumber": ("a number is misspelled or out of range, or a text stands where a number belongs",
                   "no plus sign, no zeros in front, no -0; texts stand between \" and \"; places and ticks are 1 to 1048576"),
-    "UnknownName": ("the name is of nothing that is there", "compare it with the catalogue; a transaction is submitted behind its `txn`"),
+    "UnknownName": ("the name is of nothing that is there", "compare it with the catalogue; a transaction is submitted after its `txn`"),
     "BadEvent": ("the site or the link isn't there, or it is of the wrong kind", "links join U and a T, U and a D, or a T and a D; "
                  "transactions and ticks are of a T, `down`, `up` and `reads` of a D"),
     "WrongKind": ("a value has another kind than its column, or the number of values isn't that of the columns",
@@ -64,7 +64,7 @@ def explain_line(number, rule, data, catalogue_path):
 def bad_line(line, before):
     """The mistakes that all give BadLine, the likeliest first."""
     if state_of(before) == "end":
-        yield "nothing may stand behind the line `end`"
+        yield "nothing may stand after the line `end`"
     yield from bad_spelling(line)
     words = line.split(" ")
     yield from bad_place(words[0], before)
@@ -87,17 +87,17 @@ def bad_spelling(line):
     if "\t" in line:
         yield "a tab is no space; words have exactly one space between them"
     if line != line.strip(" ") or "  " in re.sub(r'"(?:[^"\\]|\\.)*"', '""', line):
-        yield "two spaces stand together, or one before the first word or behind the last"
+        yield "two spaces stand together, or one before the first word or after the last"
     if "'" in line and '"' not in line:
         yield "a text stands between \" and \", not between apostrophes"
     if re.search(r'(^| )"', line) and not re.fullmatch(r'(?:(?:"(?:[^"\\]|\\["\\])*"|[^" ][^ ]*)(?: (?!$)|$))*', line):
-        yield "a text isn't closed, has another escape than \\\" and \\\\, or no space stands behind it"
+        yield "a text isn't closed, has another escape than \\\" and \\\\, or no space stands after it"
     if any(len(x.encode()) > 255 for x in re.findall(r'"((?:[^"\\]|\\.)*)"', line)):
         yield "a text has more than 255 bytes"
 
 
 def state_of(before):
-    """Where the lines before leave off: among the rows, in a transaction, in a list, behind them, among the events, at the end."""
+    """Where the lines before leave off: among the rows, in a transaction, in a list, after them, among the events, at the end."""
     state = "rows"
     for line in before:
         word = line.split(" ")[0]
@@ -138,7 +138,7 @@ def bad_statement(words):
         yield "there is no `-=`: add a negative number, `1.bal += -5`"
     glued = [x for x in words if not x.startswith('"') and re.search(r"\w(\+=|!=|<=|>=|=|<|>)|(\+=|!=|<=|>=|=|<|>)\w", x)]
     if glued:
-        yield "a space stands before and behind each operator, and there is none in %s" % glued[0]
+        yield "a space stands before and after each operator, and there is none in %s" % glued[0]
     if "," in "".join(x for x in words if not x.startswith('"')):
         yield "no comma stands between columns, assignments or relations, only a space"
     if "*" in words:

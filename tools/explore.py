@@ -1,5 +1,5 @@
 #!/usr/bin/env python3
-"""Runs the submissions of a workload under many schedules, and tells which transactions wait, for whom and how long.
+"""Runs the submissions of a workload under many schedules, and reports which transactions wait, for whom and how long.
 
     tools/explore.py CATALOGUE WORKLOAD [CATALOGUE2 WORKLOAD2] [--runs N] [--seed SEED] [--pace N]
                      [--faults PERCENT] [--by class|kind] [--picture FILE] [--program COMMAND]
@@ -19,10 +19,12 @@ transaction: its name without the digits at its end.
     to commit         how long it took from the submission to the commit: the median, and the worst
     rows, values      what was shipped for the committed attempt, on the average
 
-Times are told in rounds. In a round each link between two sites that work delivers about one packet, so
-it is as many events as there are links; --events tells events. Below stand the pairs of a class that
-waits and a class for which it waits. With a second design both are told side by side, and what changed
-in the protocol table. The picture (SVG) has the distributions of both times.
+Times are in rounds. In a round each link between two sites that work delivers about one packet, so it is
+as many events as there are links; with --events times are in events. A second table has the pairs of a
+class that waits and a class for which it waits. A second design is compared with the first one side by
+side, and the changes of the protocol table are listed. The picture (SVG) has the distributions of both times.
+
+The line above the table has the packets that arrived for each commit, with their acknowledgements.
 
 --pace is how many rounds lie between two submissions, on the average (4): the less, the more transactions
 are under way at once. --faults is how many of 100 events lose, repeat or resend packets (0).
@@ -36,15 +38,18 @@ from typing import NamedTuple
 
 import distributions
 from catalogue import read_catalogue
-from command import count, parser, start
-from figures import drains_of, figures_of, print_comparison, print_design
+from command import count, make_parser, start
+from covering import class_for
+from figures import collect_drains, collect_figures, print_comparison, print_design
 from observed import observe
-from program import Program, add_program, text_of_outcome
-from protocols import print_changes, print_protocols, protocols_of
+from program import Program, add_program, demand_text
+from protocols import print_changes, print_protocols, read_protocols
 from report import BadInput
-from schedules import Manner, drawn, enumerated, links_of, read_load
+from schedules import Manner, draw_schedule, enumerate_schedules, list_links, read_load
+from workload import read_workload
 
 BATCH = 50
+LAST = "lose T1 D1 1"       # finds nothing after a settle, and so tells how many events there were
 
 
 class Design(NamedTuple):
@@ -57,6 +62,7 @@ class Design(NamedTuple):
     complete: bool          # whether these are all schedules
     links: int
     transactions: int
+    packets: float          # that arrived, for each commit
 
 
 class Explorer:
@@ -67,18 +73,23 @@ class Explorer:
         self.catalogue, self.load = read_catalogue(catalogue), read_load(workload)
         if not self.load.submitted():
             raise BadInput("%s: it submits nothing" % workload)
-        quick = self.observed([self.load.events + ["settle"]])[0]
-        self.undeclared = any(x.cls == "-" for x in quick.transactions.values())
-        self.links = links_of(self.catalogue, self.load, self.undeclared)
+        self.links = list_links(self.catalogue, self.load, self.has_undeclared(workload))
+
+    def has_undeclared(self, workload):
+        """Whether the site of transactions that no class covers may have work; with further lists of classes it may."""
+        if "list" in self.load.head:
+            return True
+        transactions = read_workload(workload, self.catalogue)[1]
+        return any(class_for(transactions[x], self.catalogue) is None for x in self.load.submitted() if x in transactions)
 
     def texts(self, schedules):
         paths = []
         for k, events in enumerate(schedules):
             paths.append(os.path.join(self.folder, "work%d" % k))
             with open(paths[-1], "w", encoding="utf-8") as f:
-                f.write(self.load.text(events))
+                f.write(self.load.text(events + [LAST]))
         words = ["run", self.path, "{}"]
-        return [text_of_outcome(x, words) for x in self.program.ask_all(words, paths)]
+        return [demand_text(x, words) for x in self.program.ask_all(words, paths)]
 
     def observed(self, schedules):
         return [observe(x) for x in self.texts(schedules)]
@@ -92,11 +103,11 @@ class Explorer:
     def schedules(self, asked):
         """The schedules, and whether they are all."""
         if self.program.command is not None and len(self.load.submitted()) <= 3:
-            whole = enumerated(self.load, self.links, self.flying, asked.runs)
+            whole = enumerate_schedules(self.load, self.links, self.flying, asked.runs)
             if whole is not None:
                 return whole, True
         manner = Manner(asked.pace, asked.faults / 100)
-        return [drawn(self.load, self.links, random.Random("%d %d" % (asked.seed, k)), manner) for k in range(asked.runs)], False
+        return [draw_schedule(self.load, self.links, random.Random("%d %d" % (asked.seed, k)), manner) for k in range(asked.runs)], False
 
     def explore(self, asked):
         schedules, complete = self.schedules(asked)
@@ -107,9 +118,14 @@ class Explorer:
             observed += self.observed(schedules[k:k + step])
         tell_progress("")
         unit = 1 if asked.events else len(self.links)
-        figures, pairs = figures_of(observed, asked.by, unit)
+        figures, pairs = collect_figures(observed, asked.by, unit)
         table = self.program.text(["table", self.path])
-        return Design(self.path, figures, pairs, drains_of(observed, unit), protocols_of(table), len(schedules), complete, len(self.links), len(self.load.submitted()))
+        packets = sum(self.packets(x) for x in observed) / max(1, sum(x.commits() for x in observed))
+        return Design(self.path, figures, pairs, collect_drains(observed, unit), read_protocols(table), len(schedules), complete, len(self.links), len(self.load.submitted()), packets)
+
+    def packets(self, observed):
+        """How many packets arrived: events that found something to do, but for submissions, ticks, downs and ups."""
+        return observed.events - observed.idle - sum(x != "settle" for x in self.load.events)
 
 
 def tell_progress(text):
@@ -130,7 +146,7 @@ positive.__name__ = "number"
 
 
 def read_words():
-    asked = parser(__doc__)
+    asked = make_parser(__doc__)
     asked.add_argument("files", metavar="FILE", nargs="+")
     asked.add_argument("--runs", metavar="N", type=count, default=200, help="how many schedules (200)")
     asked.add_argument("--seed", type=count, default=1, help="where the drawn numbers begin (1)")
@@ -172,7 +188,7 @@ def main():
         print_changes(designs[0].protocols, designs[1].protocols)
     if asked.picture:
         with open(asked.picture, "w", encoding="utf-8") as f:
-            f.write(distributions.picture(designs, asked.by, unit))
+            f.write(distributions.draw_distributions(designs, asked.by, unit))
 
 
 if __name__ == "__main__":

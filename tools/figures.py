@@ -1,6 +1,6 @@
 """The tables of explore.py: what many runs tell of each class or kind of transaction.
 
-    figures, pairs = figures_of(observed, "class", 18)
+    figures, pairs = collect_figures(observed, "class", 18)
 """
 import re
 
@@ -29,8 +29,8 @@ class Figures:
     def cells(self):
         per = lambda x, of, form: form % (x / of) if of else "-"  # noqa: E731
         return [str(self.attempts), per(self.attempts, self.commits, "%.2f"), per(self.waits, self.attempts, "%.2f"),
-                shown(median(self.waited)), shown(max(self.waited, default=None)),
-                shown(median(self.queued)), shown(median(self.latencies)), shown(max(self.latencies, default=None)),
+                format_time(median(self.waited)), format_time(max(self.waited, default=None)),
+                format_time(median(self.queued)), format_time(median(self.latencies)), format_time(max(self.latencies, default=None)),
                 per(self.rows, self.commits, "%.1f"), per(self.values, self.commits, "%.1f")]
 
 
@@ -39,7 +39,7 @@ def median(values):
     return values[len(values) // 2] if values else None
 
 
-def shown(number):
+def format_time(number):
     return "-" if number is None else "%.1f" % number
 
 
@@ -51,24 +51,22 @@ def group_of(name, told, by):
     return told.cls or "?" if by == "class" else kind_of(name)
 
 
-def drains_of(observed, unit):
+def collect_drains(observed, unit):
     """How long each transaction of no class took; meanwhile the others are held back."""
     times = [x.latency() for run in observed for x in run.transactions.values() if x.cls == "-"]
     return [x / unit for x in times if x is not None]
 
 
-def figures_of(observed, by, unit):
+def collect_figures(observed, by, unit):
     """The figures of each group and of all, and how long which group waited for which class."""
     figures, pairs, whole = {}, {}, Figures()
-    for run in observed:
-        for name, told in run.transactions.items():
-            group = group_of(name, told, by)
-            figures.setdefault(group, Figures()).take(told, unit)
-            figures[group].kinds.add(kind_of(name) if by == "class" else told.cls or "?")
-            whole.take(told, unit)
-            for wait in told.waits:
-                for awaited in wait.awaited:
-                    pairs.setdefault((group, awaited), []).append(None if wait.events is None else wait.events / unit)
+    for name, told in (x for run in observed for x in run.transactions.items()):
+        group = group_of(name, told, by)
+        figures.setdefault(group, Figures()).take(told, unit)
+        figures[group].kinds.add(kind_of(name) if by == "class" else told.cls or "?")
+        whole.take(told, unit)
+        for wait, awaited in ((x, y) for x in told.waits for y in x.awaited):
+            pairs.setdefault((group, awaited), []).append(None if wait.events is None else wait.events / unit)
     figures = dict(sorted(figures.items(), key=lambda x: -x[1].waits / max(1, x[1].attempts)))
     figures[ALL] = whole
     return figures, pairs
@@ -82,24 +80,25 @@ def print_table(rows):
         print("  ".join(cells).rstrip())
 
 
-def said_of(design, unit):
+def describe(design, unit):
     how = "all %d schedules" % design.runs if design.complete else "%d schedules" % design.runs
     round_ = "" if unit == "events" else "; a round is %d events" % design.links
-    return "%s: %s of %d transactions, %d links%s" % (design.name, how, design.transactions, design.links, round_)
+    return "%s: %s of %d transactions, %d links%s; %.1f packets for each commit" % (
+        design.name, how, design.transactions, design.links, round_, design.packets)
 
 
-def listed(names, most=4):
+def join_names(names, most=4):
     names = sorted(names)
     return ", ".join(names[:most]) + (" .." if len(names) > most else "")
 
 
 def print_design(design, by, unit):
-    print(said_of(design, unit))
+    print(describe(design, unit))
     print()
     other = "kinds" if by == "class" else "classes"
     rows = [[by] + COLUMNS + [other]]
     for group, x in design.figures.items():
-        rows.append([group] + x.cells() + [listed(x.kinds) if group != ALL else ""])
+        rows.append([group] + x.cells() + [join_names(x.kinds) if group != ALL else ""])
     print_table(rows)
     print_pairs(design, by, unit)
     print_drains([design], unit)
@@ -112,7 +111,7 @@ def print_pairs(design, by, unit):
     rows = [["who waits for whom", "reads that wait", "%s: median" % unit, "worst"]]
     for (group, awaited), times in sorted(design.pairs.items(), key=lambda x: -len(x[1]))[:24]:
         known = [x for x in times if x is not None]
-        rows.append(["%s for %s" % (group, awaited), str(len(times)), shown(median(known)), shown(max(known, default=None))])
+        rows.append(["%s for %s" % (group, awaited), str(len(times)), format_time(median(known)), format_time(max(known, default=None))])
     print()
     print_table(rows)
 
@@ -122,12 +121,12 @@ def print_drains(designs, unit):
     for design in designs:
         if design.drains:
             print("\n%s: %.1f transactions of no class a run; the system is drained for each: %s %s from its submission to its commit (worst %s)" % (
-                design.name, len(design.drains) / design.runs, shown(median(design.drains)), unit, shown(max(design.drains))))
+                design.name, len(design.drains) / design.runs, format_time(median(design.drains)), unit, format_time(max(design.drains))))
 
 
 def print_comparison(designs, by, unit):
     for k, design in enumerate(designs, 1):
-        print("%d  %s" % (k, said_of(design, unit)))
+        print("%d  %s" % (k, describe(design, unit)))
     print()
     heads = COLUMNS[1:9]
     rows = [[by] + heads]

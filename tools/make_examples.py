@@ -6,8 +6,9 @@
 Of each example the program COMMAND (a built `sdd1`; without it `rt try`, minutes for each example) gives
 the report of its workload, or the advice on its catalogue where it has no workload; tools/picture.py
 and tools/graph_picture.py draw `picture.svg` and, where `dot` of Graphviz is installed, `graph.svg`.
-Of the known applications catalogue and workload are made too, the catalogue of the first design
-(`first.toml`), and `waits.svg` by tools/explore.py, which compares the two.
+Of the example `sql` catalogue and workload are translated from its script. Of the known applications they
+are made too, with the catalogue of the first design (`first.toml`), and with `waits.svg`, in which
+tools/explore.py compares the two.
 
 With --check nothing is written, and each file that would change is told; `graph.svg` is left out then,
 since it depends on the version of `dot` and its fonts, and `waits.svg`, since it takes long. The folder
@@ -19,7 +20,7 @@ import subprocess
 import sys
 import tempfile
 
-from command import parser, start
+from command import make_parser, start
 from make_workload import APPLICATIONS, write_workload
 from program import add_program, run_program
 from report import BadInput
@@ -55,6 +56,10 @@ def make(name, program, folder, check):
     if name in MADE:
         catalogue, workload = write_workload(folder, name, MADE[name])
         made += ["catalogue.toml", "workload"]
+    if name == "sql":
+        draw("from_sql.py", [os.path.join(mine, "bank.sql"), "--into", folder])
+        made += ["catalogue.toml", "workload"]
+        catalogue, workload = os.path.join(folder, "catalogue.toml"), os.path.join(folder, "workload")
     if name in APPLICATIONS:
         made += compare_designs(name, program, folder, check)
     if os.path.exists(workload):
@@ -89,23 +94,25 @@ def same(a, b):
         return f.read() == g.read()
 
 
+def renew(name, program, check):
+    """Makes an example anew, and takes over the files that differ, but where they are only told; how many these are."""
+    with tempfile.TemporaryDirectory(prefix="examples-") as folder:
+        new = [x for x in make(name, program, folder, check) if not same(os.path.join(folder, x), os.path.join(EXAMPLES, name, x))]
+        for file in new:
+            print("%s/%s %s" % (name, file, "differs" if check else "is new"), flush=True)
+            if not check:
+                shutil.copyfile(os.path.join(folder, file), os.path.join(EXAMPLES, name, file))
+    return len(new)
+
+
 def main():
-    asked = parser(__doc__)
+    asked = make_parser(__doc__)
     add_program(asked)
     names = sorted(x for x in os.listdir(EXAMPLES) if os.path.exists(os.path.join(EXAMPLES, x, "catalogue.toml")))
     asked.add_argument("--only", metavar="NAME", nargs="+", choices=names, help="these examples alone")
     asked.add_argument("--check", action="store_true", help="compare, and write nothing")
     asked = asked.parse_args()
-    different = 0
-    for name in asked.only or names:
-        with tempfile.TemporaryDirectory(prefix="examples-") as folder:
-            new = [x for x in make(name, asked.program, folder, asked.check)
-                   if not same(os.path.join(folder, x), os.path.join(EXAMPLES, name, x))]
-            for file in new:
-                print("%s/%s %s" % (name, file, "differs" if asked.check else "is new"))
-                if not asked.check:
-                    shutil.copyfile(os.path.join(folder, file), os.path.join(EXAMPLES, name, file))
-        different += len(new)
+    different = sum(renew(name, asked.program, asked.check) for name in asked.only or names)
     print("%d examples, %d files %s" % (len(asked.only or names), different, "differ" if asked.check else "written"))
     return 1 if asked.check and different else 0
 

@@ -1,10 +1,10 @@
 #!/usr/bin/env python3
 """Writes a made workload of one of several kinds, with its catalogue.
 
-    tools/make_workload.py KIND [N] [--seed SEED] --into FOLDER
+    tools/make_workload.py KIND [N] [--seed SEED] [--design NAME] --into FOLDER
 
-FOLDER gets the files `catalogue.toml` and `workload`. N is how much of it there is; without N it is
-what tools/benchmark.py takes. The kinds:
+FOLDER gets the files `catalogue.toml` and `workload`; it is made where there is none. N is how much of it
+there is; without N it is what tools/benchmark.py takes, of an application 60. The kinds:
 
 bank       N drawn transactions of the bank (crates/sdd1/data/bank.toml) from SEED: transfers within a
            half and between the halves, reports over all, some of no class; between them drawn deliveries
@@ -15,12 +15,19 @@ scans      N queries over 65,536 rows, each of which answers few
 replies    N queries that answer 4,096 rows each
 classes    N transactions in the queues of 64 classes, with one fragment for each two of them
 readers    as `classes`, where each reads all fragments at 16 data modules, and asks its writers there
+
+Known applications, N drawn transactions each, in several designs (examples/ has a chapter on each):
+
+smallbank  a bank with two branches: first, tellers, branches, steps, apart, audit, audit_class, audit_copy
+tatp       the register of a telephone network: first, owners, merged
+ycsb       reads, changes and scans of one table: first, routed, scanner
+tpcc       a wholesale supplier with two warehouses: first, writers, queued, owners, beside
 """
 import os
 from typing import Callable, NamedTuple
 
 from applications import smallbank, tatp, tpcc, ycsb
-from command import count, parser, start
+from command import count, make_parser, start
 from drawing import Random
 from report import BadInput
 
@@ -188,7 +195,7 @@ def write_workload(folder, kind, n=None, seed=1, design=None):
 
 
 def main():
-    asked = parser(__doc__)
+    asked = make_parser(__doc__)
     asked.add_argument("kind", metavar="KIND")
     asked.add_argument("n", metavar="N", nargs="?", type=count)
     asked.add_argument("--seed", type=count, default=1, help="where the drawn numbers begin, below 2^31")

@@ -27,8 +27,11 @@ class Told:
 
 class Observed(NamedTuple):
     transactions: dict      # name -> Told
-    events: int             # the number of the last event that is told
+    events: int             # the number of the last event with a record
     idle: int               # how many events found nothing to do
+
+    def commits(self):
+        return sum(x.committed is not None for x in self.transactions.values())
 
 
 def observe(text):

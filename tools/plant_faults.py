@@ -5,7 +5,7 @@
 
 The reports are of runs of the known applications (tools/applications) in all their designs, under drawn
 schedules; every third run ends early, so that transactions are pending and copies differ. Each true report is
-judged first: a fault that is told there is a false alarm. Then N faults of each of ten kinds (30) are
+judged first: a fault that is reported there is a false alarm. Then N faults of each of ten kinds (30) are
 planted, one in a report, and judged. A table is printed, and with --show each fault that wasn't found. The
 status is 1 where there was a false alarm, or a fault wasn't found.
 """
@@ -16,12 +16,12 @@ from typing import NamedTuple
 
 from catalogue import Catalogue, read_catalogue
 from check_history import Graph, read_history
-from command import count, parser, start
+from command import count, make_parser, start
 from make_workload import APPLICATIONS, write_workload
 from planting import KINDS
 from program import Program, add_program
 from report import BadInput, read_report
-from schedules import Manner, drawn, links_of, read_load
+from schedules import Manner, draw_schedule, list_links, read_load
 from to_elle import Run, history
 from workload import read_workload
 
@@ -36,14 +36,14 @@ class Case(NamedTuple):
     text: str               # the report
 
 
-def cases(program, folder, seed, number):
+def make_cases(program, folder, seed, number):
     """True reports, one design after the other."""
     designs = [(x, design) for x, (application, _) in APPLICATIONS.items() for design in application.DESIGNS]
     for k in range(number):
         kind, design = designs[k % len(designs)]
         paths = write_workload(folder, kind, SIZE, (seed * 1000 + k) % 2**31, design)
         catalogue, load = read_catalogue(paths[0]), read_load(paths[1])
-        events = drawn(load, links_of(catalogue, load, design == "audit"), random.Random("%d %d" % (seed, k)), Manner(3, 0.02))
+        events = draw_schedule(load, list_links(catalogue, load, design == "audit"), random.Random("%d %d" % (seed, k)), Manner(3, 0.02))
         if k % 3 == 2:
             events = events[:len(events) // 2]
         with open(paths[1], "w", encoding="utf-8") as f:
@@ -52,7 +52,7 @@ def cases(program, folder, seed, number):
         yield Case("%s %s %d" % (kind, design, k), catalogue, first, transactions, program.text(["run"] + paths))
 
 
-def judged(case, text, folder):
+def judge(case, text, folder):
     """What is found wrong with a report, as lines; a report that is refused has one too."""
     path = os.path.join(folder, "judged")
     try:
@@ -78,36 +78,55 @@ def plant(case, kind, rng, folder):
     return None if text is None or "\n".join(text) == case.text else "\n".join(text)
 
 
+class Tally:
+    """What was planted and found."""
+
+    def __init__(self, each, show, rng, folder):
+        self.each, self.show, self.rng, self.folder = each, show, rng, folder
+        self.planted, self.found = dict.fromkeys(KINDS, 0), dict.fromkeys(KINDS, 0)
+        self.reports = self.alarms = 0
+
+    def take(self, case):
+        """Judges a true report, and plants one fault of each kind in it, as long as one is missing."""
+        self.reports += 1
+        wrong = judge(case, case.text, self.folder)
+        if wrong:
+            self.alarms += 1
+            self.note("false alarm in %s: %s" % (case.name, wrong[0]))
+            return
+        for kind in KINDS:
+            text = plant(case, kind, self.rng, self.folder) if self.planted[kind] < self.each else None
+            if text is not None:
+                self.planted[kind] += 1
+                told = judge(case, text, self.folder)
+                self.found[kind] += bool(told)
+                self.note("" if told else "not found in %s: %s" % (case.name, kind))
+
+    def note(self, text):
+        if self.show and text:
+            print(text)
+
+    def tell(self):
+        print("| planted | faults | found |\n|---|---|---|")
+        for kind in KINDS:
+            print("| %s | %d | %d |" % (kind, self.planted[kind], self.found[kind]))
+        print("| all | %d | %d |" % (sum(self.planted.values()), sum(self.found.values())))
+        print("\n%d true reports, %d false alarms" % (self.reports, self.alarms))
+
+
 def main():
-    asked = parser(__doc__)
+    asked = make_parser(__doc__)
     asked.add_argument("--each", metavar="N", type=count, default=30, help="faults of each kind (30)")
     asked.add_argument("--seed", type=count, default=1, help="where the drawn numbers begin (1)")
     asked.add_argument("--show", action="store_true", help="print each fault that wasn't found")
     add_program(asked)
     asked = asked.parse_args()
-    program, rng = Program(asked.program), random.Random(asked.seed)
-    planted, found, reports, alarms = dict.fromkeys(KINDS, 0), dict.fromkeys(KINDS, 0), 0, 0
     with tempfile.TemporaryDirectory(prefix="faults-") as folder:
-        for case in cases(program, folder, asked.seed, 4 * max(asked.each, 1)):
-            reports += 1
-            wrong = judged(case, case.text, folder)
-            alarms += bool(wrong)
-            for x in wrong if asked.show else ():
-                print("false alarm in %s: %s" % (case.name, x))
-            for kind in KINDS:
-                text = plant(case, kind, rng, folder) if planted[kind] < asked.each else None
-                if text is not None:
-                    planted[kind] += 1
-                    told = judged(case, text, folder)
-                    found[kind] += bool(told)
-                    if not told and asked.show:
-                        print("not found in %s: %s" % (case.name, kind))
-    print("| planted | faults | found |\n|---|---|---|")
-    for kind in KINDS:
-        print("| %s | %d | %d |" % (kind, planted[kind], found[kind]))
-    print("| all | %d | %d |" % (sum(planted.values()), sum(found.values())))
-    print("\n%d true reports, %d false alarms" % (reports, alarms))
-    return 1 if alarms or sum(found.values()) < sum(planted.values()) else 0
+        tally = Tally(asked.each, asked.show, random.Random(asked.seed), folder)
+        for case in make_cases(Program(asked.program), folder, asked.seed, 4 * max(asked.each, 1)):
+            tally.take(case)
+    tally.tell()
+    return 1 if tally.alarms or tally.found != tally.planted else 0
 
 
 if __name__ == "__main__":

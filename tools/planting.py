@@ -9,7 +9,7 @@ FIRST_ROWS = 0
 
 
 def reply_blocks(lines):
-    """Of each reply the line at which it begins, and that behind its last one."""
+    """Of each reply the line at which it begins, and that after its last one."""
     begins = [k for k, x in enumerate(lines) if x.startswith("reply ")]
     return {lines[k].split(" ")[1]: (k, next(n for n in range(k + 1, len(lines)) if not lines[n].startswith(("query ", "row "))))
             for k in begins}
@@ -41,7 +41,7 @@ def with_other_value(line, rng):
     return " ".join(words)
 
 
-def exchanged(lines, report, _, rng):
+def exchange_replies(lines, report, _, rng):
     """Two transactions that ask for as much are told what the other one is told."""
     blocks = reply_blocks(lines)
     pairs = [(a, b) for a in blocks for b in blocks if a < b and report.replies[a] != report.replies[b]
@@ -52,7 +52,7 @@ def exchanged(lines, report, _, rng):
     return lines[:a + 1] + lines[c + 1:d] + lines[b:c + 1] + lines[a + 1:b] + lines[d:]
 
 
-def reply_value(lines, _, __, rng):
+def change_reply_value(lines, _, __, rng):
     places = reply_rows(lines)
     if not places:
         return None
@@ -60,7 +60,7 @@ def reply_value(lines, _, __, rng):
     return lines[:at] + [with_other_value(lines[at], rng)] + lines[at + 1:]
 
 
-def reply_row_gone(lines, _, __, rng):
+def drop_reply_row(lines, _, __, rng):
     places = reply_rows(lines)
     if not places:
         return None
@@ -69,7 +69,7 @@ def reply_row_gone(lines, _, __, rng):
     return made[:at] + made[at + 1:]
 
 
-def reply_row_more(lines, _, __, rng):
+def add_reply_row(lines, _, __, rng):
     places = reply_rows(lines)
     if not places:
         return None
@@ -78,7 +78,7 @@ def reply_row_more(lines, _, __, rng):
     return made[:at + 1] + [with_other_value(made[at], rng)] + made[at + 1:]
 
 
-def old_reply(lines, report, run, rng):
+def answer_from_first_rows(lines, report, run, rng):
     """A transaction is told what the first rows of the workload would answer."""
     blocks, found = reply_blocks(lines), []
     first = {}
@@ -94,16 +94,16 @@ def old_reply(lines, report, run, rng):
     shown = ["reply %s ok" % name]
     for k, rows in enumerate(reply.queries, 1):
         shown.append("query %d %d" % (k, len(rows)))
-        shown += ["row " + " ".join(map(spelled, row)) for row in rows]
+        shown += ["row " + " ".join(map(format_value, row)) for row in rows]
     a, b = blocks[name]
     return lines[:a] + shown + lines[b:]
 
 
-def spelled(value):
+def format_value(value):
     return '"%s"' % value.replace("\\", "\\\\").replace('"', '\\"') if isinstance(value, str) else str(value)
 
 
-def other_outcome(lines, _, __, rng):
+def change_outcome(lines, _, __, rng):
     """A transaction that did what it should is told that a sum left the range of numbers."""
     blocks = [(a, b) for a, b in reply_blocks(lines).values() if lines[a].endswith(" ok")]
     if not blocks:
@@ -112,7 +112,7 @@ def other_outcome(lines, _, __, rng):
     return lines[:a] + [lines[a][:-2] + "overflow"] + lines[b:]
 
 
-def copy_value(lines, _, __, rng):
+def change_copy_value(lines, _, __, rng):
     places = [k for rows in copy_blocks(lines).values() for k in rows]
     if not places:
         return None
@@ -120,7 +120,7 @@ def copy_value(lines, _, __, rng):
     return lines[:at] + [with_other_value(lines[at], rng)] + lines[at + 1:]
 
 
-def copy_row_gone(lines, _, __, rng):
+def drop_copy_row(lines, _, __, rng):
     places = [k for rows in copy_blocks(lines).values() for k in rows]
     if not places:
         return None
@@ -129,7 +129,7 @@ def copy_row_gone(lines, _, __, rng):
     return made[:at] + made[at + 1:]
 
 
-def changes_back(lines, run):
+def list_older_rows(lines, run):
     """Of each row of a copy that a transaction changed: its place, its item, and the line of the version before."""
     for k, rows in copy_blocks(lines).items():
         _, site, name, _ = lines[k].split(" ")
@@ -140,21 +140,21 @@ def changes_back(lines, run):
             item = next(x for x in run.versions if fragment.has(*x) and str(x[1]) == lines[at].split(" ")[key + 1])
             shown = [x for x in run.versions[item] if x.writer in applied]
             if len(shown) > 1 and shown[-2].row is not None and shown[-2].row != shown[-1].row:
-                yield at, item, "row " + " ".join(map(spelled, shown[-2].row))
+                yield at, item, "row " + " ".join(map(format_value, shown[-2].row))
 
 
-def lost_at_one(lines, _, run, rng):
+def lose_change_at_one(lines, _, run, rng):
     """One copy lost the last change of a row."""
-    found = list(changes_back(lines, run))
+    found = list(list_older_rows(lines, run))
     if not found:
         return None
     at, _, before = rng.choice(found)
     return lines[:at] + [before] + lines[at + 1:]
 
 
-def lost_at_all(lines, _, run, rng):
+def lose_change_at_all(lines, _, run, rng):
     """All copies lost the last change of a row."""
-    found = list(changes_back(lines, run))
+    found = list(list_older_rows(lines, run))
     if not found:
         return None
     _, lost, _ = rng.choice(found)
@@ -166,14 +166,14 @@ def lost_at_all(lines, _, run, rng):
 
 
 KINDS = {
-    "two replies exchanged": exchanged,
-    "a value of a reply changed": reply_value,
-    "a row of a reply left out": reply_row_gone,
-    "a row of a reply added": reply_row_more,
-    "a reply that the first rows would give": old_reply,
-    "`overflow` told in place of `ok`": other_outcome,
-    "a value of a copy changed": copy_value,
-    "a row of a copy left out": copy_row_gone,
-    "the last change of a row lost at one copy": lost_at_one,
-    "the last change of a row lost at all copies": lost_at_all,
+    "two replies exchange_replies": exchange_replies,
+    "a value of a reply changed": change_reply_value,
+    "a row of a reply left out": drop_reply_row,
+    "a row of a reply added": add_reply_row,
+    "a reply that the first rows would give": answer_from_first_rows,
+    "`overflow` reported in place of `ok`": change_outcome,
+    "a value of a copy changed": change_copy_value,
+    "a row of a copy left out": drop_copy_row,
+    "the last change of a row lost at one copy": lose_change_at_one,
+    "the last change of a row lost at all copies": lose_change_at_all,
 }

@@ -86,7 +86,7 @@ class Program:
 
     def text(self, words):
         """The text that the program prints; any other status than 0 is refused."""
-        return text_of_outcome(self.ask(words), words)
+        return demand_text(self.ask(words), words)
 
     def ask_all(self, words, paths):
         """The answers to the words with each of the files in the place of `{}`; one build serves all."""
@@ -98,10 +98,10 @@ class Program:
             for name, path in zip(names, paths):
                 shutil.copyfile(path, os.path.join(room, name))
             done = run_outside(by_try(words, ["--cases", room]), cwd=CRATE)
-        return outcomes(names, done.stdout.decode(errors="replace"), done.stderr.decode(errors="replace"))
+        return read_outcomes(names, done.stdout.decode(errors="replace"), done.stderr.decode(errors="replace"))
 
 
-def outcomes(names, text, errors):
+def read_outcomes(names, text, errors):
     """What `rt try --cases` tells of each case, in the order of the names."""
     texts, found, said = {}, {}, ""
     for piece in re.split(r"^== (?=c\d{6}$)", text, flags=re.M)[1:]:
@@ -113,14 +113,14 @@ def outcomes(names, text, errors):
             found[case[1]] = Outcome(int(case[2]), texts.get(case[1], ""), said)
         said = "" if case else said + line
     if set(names) - set(found):
-        last = [x for x in errors.splitlines() if x.strip()][-1:] or ["it told nothing"]
+        last = [x for x in errors.splitlines() if x.strip()][-1:] or ["it printed nothing"]
         raise BadInput("rt try: %s" % last[0])
     return [found[name] for name in names]
 
 
-def text_of_outcome(outcome, words):
+def demand_text(outcome, words):
     if outcome.status:
-        told = outcome.error.strip().split("\n")[0] or "it told nothing"
+        told = outcome.error.strip().split("\n")[0] or "it printed nothing"
         raise BadInput("%s: status %d: %s" % (words[0], outcome.status, told))
     return outcome.text
 
@@ -137,7 +137,7 @@ def add_program(asked):
 
 def main():
     if len(sys.argv) < 2:
-        raise BadInput("no words; --help tells them")
+        raise BadInput("no words; see --help")
     demand_files(sys.argv[1:])
     try:
         return subprocess.run(by_try(sys.argv[1:]), cwd=CRATE).returncode

@@ -1,6 +1,6 @@
 """The protocol table as `sdd1 table` prints it, and what changed between two of them.
 
-    protocols = protocols_of(text)
+    protocols = read_protocols(text)
 """
 import re
 
@@ -11,7 +11,7 @@ NAME = r"([A-Za-z][A-Za-z0-9_]*)"
 READ = re.compile("%s reads %s at (D\\d+) writer %s (P[123]) block (\\d+|-)" % (NAME, NAME, NAME))
 
 
-def protocols_of(text):
+def read_protocols(text):
     """Of each reader, fragment and writer the protocol."""
     made = {}
     for line in text.splitlines():
@@ -23,11 +23,11 @@ def protocols_of(text):
     return made
 
 
-def counted(protocols):
+def count_protocols(protocols):
     return ", ".join("%s %d" % (x, sum(y == x for y in protocols.values())) for x in ("P1", "P2", "P3"))
 
 
-def joined(protocols):
+def group_fragments(protocols):
     """The same with the fragments of a reader and a writer in one line."""
     made = {}
     for (reader, fragment, writer), protocol in protocols.items():
@@ -36,8 +36,8 @@ def joined(protocols):
 
 
 def print_protocols(protocols):
-    print("\nprotocol table: %s" % counted(protocols))
-    waiting = [x for x in joined(protocols).items() if x[0][2] != "P1"]
+    print("\nprotocol table: %s" % count_protocols(protocols))
+    waiting = [x for x in group_fragments(protocols).items() if x[0][2] != "P1"]
     for (reader, writer, protocol), fragments in waiting[:MOST]:
         print("  %s waits for %s by %s (%s)" % (reader, writer, protocol, ", ".join(fragments)))
     if len(waiting) > MOST:
@@ -46,10 +46,10 @@ def print_protocols(protocols):
 
 def print_changes(first, second):
     """What stands in one table alone, and what has another protocol."""
-    print("\nprotocol table: %s -> %s" % (counted(first), counted(second)))
+    print("\nprotocol table: %s -> %s" % (count_protocols(first), count_protocols(second)))
     gone = {x: p for x, p in first.items() if x not in second}
     new = {x: p for x, p in second.items() if x not in first}
-    for sign, pairs in (("-", list(joined(gone).items())), ("+", list(joined(new).items()))):
+    for sign, pairs in (("-", list(group_fragments(gone).items())), ("+", list(group_fragments(new).items()))):
         for (reader, writer, protocol), fragments in pairs[:MOST]:
             print("  %s %s reads %s, writer %s: %s" % (sign, reader, ", ".join(fragments), writer, protocol))
         if len(pairs) > MOST:

@@ -1,7 +1,7 @@
 """Schedules for the submissions of a workload: drawn ones, and all of them where they are few.
 
     load = read_load("examples/bridge/workload")
-    events = drawn(load, links_of(catalogue, load), random.Random(1), Manner())
+    events = draw_schedule(load, list_links(catalogue, load), random.Random(1), Manner())
 
 A schedule keeps what the workload submits, and the ticks, downs, ups, settles and further lists of
 classes between, in their order. Its deliveries, losses, repetitions and resends are replaced by others.
@@ -13,12 +13,12 @@ from report import BadInput, text_of
 
 KEPT = {"submit", "tick", "down", "up", "settle", "redeclare"}
 MOST_EVENTS = 262144
-TAIL = 40                   # rounds behind the last submission, before the settle
+TAIL = 40                   # rounds after the last submission, and as many again as lie before it, for what is queued then
 
 
 class Load(NamedTuple):
     head: list              # the lines before the events
-    events: list            # those of the events that stay, without the settles behind the last one
+    events: list            # those of the events that stay, without the settles after the last one
     sites: dict             # transaction -> its transaction module
 
     def text(self, events):
@@ -56,7 +56,7 @@ def read_load(path):
     return Load(head, kept, sites)
 
 
-def links_of(catalogue, load, undeclared):
+def list_links(catalogue, load, undeclared):
     """The links that messages of this load can use, both ways; those of U where it has work."""
     modules = {x.site for x in catalogue.classes.values()} | {load.sites[x] for x in load.submitted() if x in load.sites}
     stores = ["D%d" % (k + 1) for k in range(catalogue.dms)]
@@ -70,7 +70,7 @@ FORMS = [                   # of 20 packets that arrive two overtake the one bef
     ("deliver %s %s 1", 18, 0), ("deliver %s %s 2", 2, 0), ("lose %s %s 1", 0, 5), ("repeat %s %s 1", 0, 5), ("resend %s %s", 0, 10)]
 
 
-def choices(links, rng, manner):
+def list_choices(links, rng, manner):
     """The events that may come next and their weights. Some links are slower than others, which ones is drawn too."""
     events, weights = [], []
     for link in links:
@@ -81,12 +81,12 @@ def choices(links, rng, manner):
     return events, weights
 
 
-def drawn(load, links, rng, manner):
+def draw_schedule(load, links, rng, manner):
     """One schedule."""
-    possible, weights = choices(links, rng, manner)
+    possible, weights = list_choices(links, rng, manner)
     count = max(1, len(load.submitted()))
     room = MOST_EVENTS - len(load.events) - 1
-    tail = min(TAIL * len(links), room // 2)
+    tail = min(int((TAIL + count * manner.pace) * len(links)), room // 2)
     between = min(manner.pace * len(links), (room - tail) / count / 2)
     events = []
     for line in load.events:
@@ -99,7 +99,7 @@ def drawn(load, links, rng, manner):
 class Walks:
     """The walks on which each step submits the next transaction or delivers the first packet of a link.
 
-    `flying(events, links)` gives those of the links on which a packet is in flight behind these events.
+    `flying(events, links)` gives those of the links on which a packet is in flight after these events.
     """
 
     def __init__(self, submits, links, flying):
@@ -124,7 +124,7 @@ class Walks:
         return number
 
 
-def enumerated(load, links, flying, most):
+def enumerate_schedules(load, links, flying, most):
     """All schedules in which packets arrive in their order on each link; None where they are more than `most`."""
     if any(not x.startswith("submit ") for x in load.events):
         return None

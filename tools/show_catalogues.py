@@ -10,14 +10,14 @@ and else `rt try`, which builds the program once for each of the three commands.
 import glob
 import os
 
-from command import parser, start
-from program import CRATE, Program, add_program, text_of_outcome
+from command import make_parser, start
+from program import CRATE, Program, add_program, demand_text
 
 COMMANDS = ["check", "graph", "table"]
 
 
 def main():
-    asked = parser(__doc__)
+    asked = make_parser(__doc__)
     add_program(asked)
     program = Program(asked.parse_args().program)
     catalogues = sorted(glob.glob(os.path.join(CRATE, "data", "*.toml")))
@@ -25,7 +25,7 @@ def main():
     for k, catalogue in enumerate(catalogues):
         for command in COMMANDS:
             print("$ sdd1 %s %s" % (command, os.path.basename(catalogue)))
-            print(text_of_outcome(told[command][k], [command]), end="")
+            print(demand_text(told[command][k], [command]), end="")
 
 
 if __name__ == "__main__":

@@ -5,7 +5,7 @@
 
 With --keep, a line of what `run` prints has to contain TEXT: of the report, or the one line of a refusal.
 Take no number of an event into TEXT, since these change. With --command, COMMAND is called with the paths of
-a catalogue and a workload behind its words, and says yes by its status 0.
+a catalogue and a workload after its words, and says yes by its status 0.
 
 Events, transactions, rows, lists of classes, statements and conditions are left out as long as the line
 stays; then classes, what they read and write, copies, relations and modules of the catalogue. What is left is
@@ -17,10 +17,10 @@ import os
 import sys
 import tempfile
 
-from command import parser, parts_of, run_outside, start
+from command import make_parser, split_command, run_outside, start
 from program import Program, add_program
 from report import BadInput, text_of
-from shrinking import catalogue_cuts, lines_without, parts_of_catalogue, spelled, workload_cuts
+from shrinking import catalogue_cuts, lines_without, parts_of_catalogue, format_catalogue, workload_cuts
 
 
 class Shrinker:
@@ -51,36 +51,38 @@ class Shrinker:
 
     def asks(self):
         if self.program is None:
-            return run_outside(parts_of(self.asked.command), self.paths).returncode == 0
+            return run_outside(split_command(self.asked.command), self.paths).returncode == 0
         told = self.program.ask(["run"] + self.paths)
         return any(self.asked.keep in line for line in (told.text + told.error).split("\n"))
 
     def cut_workload(self):
         """Leaves out parts of the workload, large ones first; whether one was."""
-        shorter = False
+        before = self.workload
         for cuts in workload_cuts():
-            lines = self.workload.split("\n")[:-1]
-            found = cuts(lines)
-            size = len(found)
+            size = len(cuts(self.workload.split("\n")[:-1]))
             while size:
-                place = 0
-                while place < len(found):
-                    text = "".join(x + "\n" for x in lines_without(lines, found[place:place + size]))
-                    if self.holds(self.catalogue, text):
-                        self.workload, shorter = text, True
-                        lines = text.split("\n")[:-1]
-                        found = cuts(lines)
-                    else:
-                        place += size
-                size = min(size, len(found)) // 2
-        return shorter
+                size = min(size, self.cut_pieces(cuts, size)) // 2
+        return self.workload != before
+
+    def cut_pieces(self, cuts, size):
+        """Leaves out so many cuts at once, wherever the line stays; how many cuts are left."""
+        lines, place = self.workload.split("\n")[:-1], 0
+        found = cuts(lines)
+        while place < len(found):
+            text = "".join(x + "\n" for x in lines_without(lines, found[place:place + size]))
+            if self.holds(self.catalogue, text):
+                self.workload, lines = text, text.split("\n")[:-1]
+                found = cuts(lines)
+            else:
+                place += size
+        return len(found)
 
     def cut_catalogue(self):
         shorter, again = False, True
         while again:
             again = False
             for parts in catalogue_cuts(parts_of_catalogue(self.asked.catalogue, self.catalogue)):
-                text = spelled(parts)
+                text = format_catalogue(parts)
                 if self.holds(text, self.workload):
                     self.catalogue, shorter, again = text, True, True
                     break
@@ -92,7 +94,7 @@ class Shrinker:
 
 
 def main():
-    asked = parser(__doc__)
+    asked = make_parser(__doc__)
     asked.add_argument("catalogue", metavar="CATALOGUE")
     asked.add_argument("workload", metavar="WORKLOAD")
     which = asked.add_mutually_exclusive_group(required=True)

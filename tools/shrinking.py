@@ -100,40 +100,33 @@ def without(parts, *path):
 def catalogue_cuts(parts):
     """The catalogue without a class, a read, a written fragment, a copy, a relation or its last module."""
     try:
-        for k, x in enumerate(parts.get("class", [])):
-            yield without(parts, "class", k)
-        for k, x in enumerate(parts.get("class", [])):
-            for field in ("reads", "writes"):
-                for n in range(len(x.get(field, []))):
-                    yield without(parts, "class", k, field, n)
-        for k, x in enumerate(parts.get("relation", [])):
+        classes, relations, fragments = (list(enumerate(parts.get(x, []))) for x in ("class", "relation", "fragment"))
+        yield from (without(parts, "class", k) for k, _ in classes)
+        yield from (without(parts, "class", k, field, n) for k, x in classes for field in ("reads", "writes") for n in range(len(x.get(field, []))))
+        for k, x in relations:
             made = without(parts, "relation", k)
             made["fragment"] = [f for f in made.get("fragment", []) if f["relation"] != x["name"]]
             yield made
-        for k, x in enumerate(parts.get("fragment", [])):
-            for n in range(len(x["copies"])):
-                yield without(parts, "fragment", k, "copies", n)
-        for field in ("tms", "dms"):
-            if parts[field] > 1:
-                yield dict(parts, **{field: parts[field] - 1})
+        yield from (without(parts, "fragment", k, "copies", n) for k, x in fragments for n in range(len(x["copies"])))
+        yield from (dict(parts, **{field: parts[field] - 1}) for field in ("tms", "dms") if parts[field] > 1)
     except (KeyError, TypeError, AttributeError):
         return
 
 
-def value(x):
+def format_value(x):
     """A value of TOML as it is written here."""
     if isinstance(x, dict):
-        return "{%s}" % ", ".join("%s = %s" % (k, value(v)) for k, v in x.items())
+        return "{%s}" % ", ".join("%s = %s" % (k, format_value(v)) for k, v in x.items())
     if isinstance(x, list):
-        return "[%s]" % ", ".join(map(value, x))
+        return "[%s]" % ", ".join(map(format_value, x))
     return '"%s"' % x if isinstance(x, str) else str(x)
 
 
-def spelled(parts):
-    lines = ["%s = %s" % (k, value(v)) for k, v in parts.items() if not is_tables(v)]
+def format_catalogue(parts):
+    lines = ["%s = %s" % (k, format_value(v)) for k, v in parts.items() if not is_tables(v)]
     for name, tables in parts.items():
         for table in tables if is_tables(tables) else []:
-            lines += ["", "[[%s]]" % name] + ["%s = %s" % (k, value(v)) for k, v in table.items() if v != []]
+            lines += ["", "[[%s]]" % name] + ["%s = %s" % (k, format_value(v)) for k, v in table.items() if v != []]
     return "\n".join(lines) + "\n"
 
 

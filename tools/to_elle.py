@@ -27,8 +27,8 @@ import sys
 from typing import NamedTuple
 
 from catalogue import read_catalogue
-from command import parser, start
-from report import BadInput, Reply, read_report
+from command import make_parser, start
+from report import BadInput, read_report
 from workload import effect, read_workload, reads
 
 FIRST_ROWS, NOBODY = 0, -1
@@ -230,7 +230,7 @@ def history(run, along_order=False):
 
 
 def main():
-    asked = parser(__doc__)
+    asked = make_parser(__doc__)
     for name in ("report", "workload", "catalogue"):
         asked.add_argument(name, metavar=name.upper())
     asked.add_argument("--along-order", action="store_true")

@@ -55,7 +55,7 @@ class Workload:
         self.rows.append("row %s %s" % (relation, " ".join(map(spelled, values))))
 
     def transaction(self, kind, tm, statements):
-        """Its name is the kind with a number behind it."""
+        """Its name is the kind with a number after it."""
         self.count += 1
         name = "%s%d" % (kind, self.count)
         self.transactions += ["txn %s T%d" % (name, tm)] + statements + ["done"]
