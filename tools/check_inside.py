@@ -67,7 +67,7 @@ def compare(reader, watch):
         flight = [{"ack": x.upto} if isinstance(x, Ack) else x for x in way.flight]
         same(at + "in flight on %s %s" % names, reader.flight[names], flight)
         same(at + "sent and acknowledged on %s %s" % names, (reader.sent[names], reader.acked[names]), (len(way.sent), way.acked))
-        same(at + "handed over on %s %s" % names, reader.handed[names], world.handed[link])
+        same(at + "arrived and handed over on %s %s" % names, (reader.delivered[names], reader.handed[names]), (way.delivered, world.handed[link]))
     for site, module in world.sites.items():
         if site.kind == "D":
             compare_pipes(at, reader, watch, site, module)
@@ -83,6 +83,8 @@ def compare(reader, watch):
 def compare_pipes(at, reader, watch, site, module):
     for cls, pipe in enumerate(module.pipes):
         link, name = (str(module.homes[cls]), str(site)), watch.cls(cls)
+        if pipe.came:
+            same(at + "the time that %s has passed at %s" % (name, site), reader.passed.get((str(site), name)), pipe.passed())
         have = [(x["kind"], x["time"]) for x in (reader.bodies[link + (n,)] for n in reader.pipes[str(site), name])]
         same(at + "the pipe of %s at %s" % (name, site), have, [(x.kind, x.time) for x in pipe.came[pipe.done:]])
 
