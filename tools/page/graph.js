@@ -68,10 +68,12 @@ function graphDrawing(names, edges, read, blocks) {
     if (places.has(edge.reader) && places.has(edge.writer)) drawing.append(...arrowOf(edge, places, rules, !read || rules || isNear));
   }
   for (const [name, [x, y]] of places) {
-    const half = name.length * 3.6 + 8, isReader = read?.class === name;
+    const text = name.length > 18 ? name.slice(0, 16) + ".." : name, half = text.length * 3.6 + 8, isReader = read?.class === name;
     drawing.append(shape("rect", {x: x - half, y: y - 10, width: 2 * half, height: 20, rx: 5, fill: isReader ? "var(--selected)" : "var(--card)",
       stroke: isReader ? "var(--bad)" : "var(--ink)", "stroke-width": isReader ? 2 : 1}));
-    drawing.append(shape("text", {x, y: y + 4, class: "node"}, name));
+    const node = shape("text", {x, y: y + 4, class: "node"}, text);
+    node.append(shape("title", {}, name));
+    drawing.append(node);
   }
   return drawing;
 }

@@ -35,34 +35,36 @@ function stripOf(view, width, height, ratio) {
   canvas.width = width * ratio;
   canvas.height = height * ratio;
   pen.scale(ratio, ratio);
-  shadeSettles(view, pen, width, height);
+  const colours = new Map();            // to ask the style of each bar anew would take most of the time
+  const colour = name => getOrMake(colours, name, () => colourOf(name));
+  shadeSettles(view, pen, colour, width, height);
   const kinds = view.run.lines.map(line => kindOfEvent(view.run, line)), bar = Math.max(1.2, Math.min(6, (width - 16) / kinds.length - 1));
   for (const isTelling of [false, true]) {
     kinds.forEach((kind, k) => {
-      if (kind in HEIGHTS === isTelling) drawBar(pen, kind, placeOnStrip(view, k + 1, width), bar, height);
+      if (kind in HEIGHTS === isTelling) drawBar(pen, colour, kind, placeOnStrip(view, k + 1, width), bar, height);
     });
   }
   return canvas;
 }
 
-function drawBar(pen, kind, x, bar, height) {
+function drawBar(pen, colour, kind, x, bar, height) {
   const tall = HEIGHTS[kind] || 6;
-  pen.fillStyle = pen.strokeStyle = colourOf(BARS[kind] || "--faint");
+  pen.fillStyle = pen.strokeStyle = colour(BARS[kind] || "--faint");
   if (kind === "wait" && bar > 3) pen.strokeRect(x - bar / 2 + 0.5, height - 4 - tall, bar - 1, tall);
   else pen.fillRect(x - bar / 2, height - 4 - tall, bar, tall);
   pen.font = "bold 11px system-ui, sans-serif";
   if (kind === "reject" || kind === "lose") pen.fillText(kind === "reject" ? "\u2715" : "\u00d8", x - 4, height - 6 - tall);
 }
 
-function shadeSettles(view, pen, width, height) {
+function shadeSettles(view, pen, colour, width, height) {
   const lines = view.run.lines;
   pen.font = "10px system-ui, sans-serif";
   for (let first = 0, k = 1; k <= lines.length; k++) {
     if (k < lines.length && lines[k].of === lines[first].of) continue;
     const x1 = placeOnStrip(view, first + 0.5, width), x2 = placeOnStrip(view, k + 0.5, width);
-    pen.fillStyle = colourOf("--soft");
+    pen.fillStyle = colour("--soft");
     if (lines[first].round) pen.fillRect(x1, 14, x2 - x1, height - 18);
-    pen.fillStyle = colourOf("--faint");
+    pen.fillStyle = colour("--faint");
     if (lines[first].round && x2 - x1 > 34) pen.fillText("settle", x1 + 3, 11);
     first = k;
   }

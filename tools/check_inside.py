@@ -1,12 +1,14 @@
 #!/usr/bin/env python3
-"""Compares what `sdd1_inside` prints with the reference on random runs, and reads it back.
+"""Reads back the text of a run's events (docs/INSIDE.md), and compares it with the reference's world.
 
-    tools/compare_inside.py FROM TO [--inside COMMAND]
+    tools/check_inside.py FROM TO [--inside COMMAND]
 
-For each seed from FROM up to TO, without it, a run is drawn. Where COMMAND is given its text is compared
-with that of the reference (reference/), byte for byte. The text is then read back by its two rules
-(tools/replay.py), and behind each event what the reader has is compared with the reference's world:
-flights, unacknowledged messages, pipes, queues and copies. It ends with 1 where there was a difference.
+For each seed from FROM up to TO, without it, a run is drawn. The text is that of COMMAND, a built
+`sdd1_inside`, or that of the reference (reference/). It is read by its two rules alone (tools/replay.py),
+and behind each event what the reader has is compared with the world that the reference carries out:
+flights, acknowledgements, messages that are handed over, pipes, queues, sites, and rows at the end. So a
+line that tells a change wrongly is found, also where program and reference tell it alike.
+It ends with 1 where there was a difference.
 """
 import json
 import os
@@ -35,19 +37,27 @@ def same(what, have, want):
         raise Differs("%s: %s, in the reference %s" % (what, have, want))
 
 
-def replay(files):
-    """The reference's text, which is read back line by line beside its world."""
+def check(files, text):
+    """Reads a text beside the reference's world, event by event; how many there were."""
     catalogue = read_catalogue(files["cat"])
     world = World(catalogue, read_workload(catalogue, files["work"]))
     watch = Watch(world)
-    lines = [spelled(watch.first_line())]
-    reader = Reader(json.loads(lines[0]))
+    lines = [json.loads(x) for x in text.split("\n")[:-1]] if text else None
+    first = watch.first_line()
+    reader, read = Reader(lines[0] if lines else first), [lines[0] if lines else first]
+    same("the first line", read[0], first)
     for happened in world.happens():
-        lines.append(spelled(watch.line(happened)))
-        reader.apply(json.loads(lines[-1]))
+        told = json.loads(spelled(watch.line(happened)))
+        if lines and len(read) == len(lines):
+            raise Differs("the text ends before event %d" % world.events)
+        read.append(lines[len(read)] if lines else told)
+        same("the event", (read[-1]["event"], read[-1]["do"]), (world.events, told["do"]))
+        reader.apply(read[-1])
         compare(reader, watch)
-    compare_copies(lines, world)
-    return "".join(lines)
+    if lines and len(read) < len(lines):
+        raise Differs("the text goes on behind event %d" % world.events)
+    compare_copies(read, world)
+    return len(read) - 1
 
 
 def compare(reader, watch):
@@ -57,7 +67,7 @@ def compare(reader, watch):
         flight = [{"ack": x.upto} if isinstance(x, Ack) else x for x in way.flight]
         same(at + "in flight on %s %s" % names, reader.flight[names], flight)
         same(at + "sent and acknowledged on %s %s" % names, (reader.sent[names], reader.acked[names]), (len(way.sent), way.acked))
-        same(at + "handed over on %s %s" % names, reader.handed[names], world.handed[link])
+        same(at + "arrived and handed over on %s %s" % names, (reader.delivered[names], reader.handed[names]), (way.delivered, world.handed[link]))
     for site, module in world.sites.items():
         if site.kind == "D":
             compare_pipes(at, reader, watch, site, module)
@@ -73,6 +83,8 @@ def compare(reader, watch):
 def compare_pipes(at, reader, watch, site, module):
     for cls, pipe in enumerate(module.pipes):
         link, name = (str(module.homes[cls]), str(site)), watch.cls(cls)
+        if pipe.came:
+            same(at + "the time that %s has passed at %s" % (name, site), reader.passed.get((str(site), name)), pipe.passed())
         have = [(x["kind"], x["time"]) for x in (reader.bodies[link + (n,)] for n in reader.pipes[str(site), name])]
         same(at + "the pipe of %s at %s" % (name, site), have, [(x.kind, x.time) for x in pipe.came[pipe.done:]])
 
@@ -81,7 +93,7 @@ def compare_copies(lines, world):
     """The rows at the end, each told at its last change, are those of the copies."""
     have = {}
     for line in lines[1:]:
-        for dm, fragment, key, row in json.loads(line).get("rows", ()):
+        for dm, fragment, key, row in line.get("rows", ()):
             have[dm, fragment, key] = row
     for (dm, fragment, key), row in have.items():
         items = world.sites[Site("D", int(dm[1:]))].copies[fragment].items
@@ -97,14 +109,6 @@ def text_of_program(command, files):
         return output_of(command + paths, SECONDS)
 
 
-def compare_texts(have, want):
-    if have == want:
-        return
-    for k, (a, b) in enumerate(zip(have.split("\n"), want.split("\n"))):
-        same("line %d" % (k + 1), a, b)
-    raise Differs("one text goes on where the other ends")
-
-
 def main():
     asked = parser(__doc__)
     asked.add_argument("first", metavar="FROM", type=count)
@@ -115,10 +119,7 @@ def main():
     for seed in range(asked.first, asked.last):
         files = run_call(random.Random(seed)).files
         try:
-            want = replay(files)
-            events += want.count("\n") - 1
-            if command:
-                compare_texts(text_of_program(command, files), want)
+            events += check(files, text_of_program(command, files) if command else None)
         except (Differs, Contradiction) as fault:
             bad += 1
             print("seed %d: %s" % (seed, fault), flush=True)
