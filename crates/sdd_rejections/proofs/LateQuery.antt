@@ -23,7 +23,7 @@ permitted : IsPermitted given_late_query log_of_late_query
 permitted = lawful_permitted given_late_query log_of_late_query submits.once late_query_ends.lawful
 
 are_eras : AreErasOf given_late_query log_of_late_query (one_era crossing)
-are_eras = of_one_era given_late_query log_of_late_query (crossing_table given_late_query.events).table refl late_query_ends.one_list
+are_eras = of_one_era given_late_query log_of_late_query (crossing_table given_late_query.events).table refl refl
 
 pub late_query_keeps : KeepsRejects crossing (one_era crossing) (history log_of_late_query)
 late_query_keeps = keeps_rejects given_late_query log_of_late_query (one_era crossing) sound_crossing.whole permitted are_eras

@@ -1,6 +1,6 @@
 -- What one module's law says of all sites.
-use Rattle.std.proofs.Common.{◌-◌, ◌≡◌, ◌∙◌, sym, subst, refl, Bool, List, [], ◌∷◌, Option, Result, Ok, Err}
-use Rattle.std.specs.Prelude.{IfOk, IsTrue, slice_get}
+use Rattle.std.proofs.Common.{ℕ, zero, suc, ◌-◌, ◌≡◌, ◌∙◌, ap, sym, subst, refl, Bool, List, [], ◌∷◌, Option, Some, Result, Ok, Err}
+use Rattle.std.specs.Prelude.{IfOk, IsTrue, slice_get, slice_index_or, slice_set}
 use Rattle.sdd_base.specs.declared.no_memory.NoMemory.{NoMemory}
 use Rattle.sdd_base.specs.declared.number.DmNo.{DmNo}
 use Rattle.sdd_base.specs.declared.number.TmNo.{TmNo}
@@ -18,6 +18,7 @@ use Rattle.sdd_dm.specs.Due as dm
 use Rattle.sdd_tm.specs.Due as tm
 use Rattle.sdd_umod.specs.Due as um
 use Rattle.sdd_facts.specs.Real.{Fitting, FittingSubmit, fits_at, fits_submit_at}
+use Rattle.sdd_net.proofs.Lists.{get-set_same}
 use Rattle.sdd_world.specs.AtSites.{Standing, Lives, At, StandsAt}
 use Rattle.sdd_world.specs.DueAt.{next_of}
 
@@ -100,6 +101,30 @@ module _ {V : Type 0} (is_live : V → Bool) (stands : Standing V) (next : Table
   lives_submit fits n txn (Ok o) law live =
       given_so stands (Lives is_live stands) next next (λ s b l. refl) v v2 v v2 (lives live) fits n txn o law
   lives_submit fits n txn (Err e) law live = tt
+
+-- an element of a list is read, and written anew
+there_at : {V : Type 0} (stands : Standing V) (xs : List V) (k : ℕ) (x : V) (setting : Setting) (log : site.Log) → x ≡ slice_index_or xs k x
+    → At stands (slice_get xs k) setting log → slice_get xs k ≡ Some x
+there_at stands [] k x setting log e h = absurd h
+there_at stands (y ∷ xs) zero x setting log e h = ap Some (sym e)
+there_at stands (y ∷ xs) (suc k) x setting log e h = there_at stands xs k x setting log e h
+
+pub submitted_in : {V : Type 0} (is_live : V → Bool) (stands : Standing V) (next : Table) (xs : List V) (k : ℕ) (v v2 : V)
+    (fits : FittingSubmit) (n : TxnNo) (txn : Txn) (res : Result Outcome NoMemory) → v ≡ slice_index_or xs k v
+    → IfOk res (Given stands next fits v v2 n txn) → IfOk res (λ o. IsTrue (is_live v2))
+    → IfOk res (Given (At (Lives is_live stands)) next fits (slice_get xs k) (slice_get (slice_set xs k v2) k) n txn)
+submitted_in is_live stands next xs k v v2 fits n txn (Ok o) e law live = λ setting bases log s f.
+    let there = there_at (Lives is_live stands) xs k v setting log e s in
+    let here : Lives is_live stands v setting log = subst (λ x. At (Lives is_live stands) x setting log) there s in
+    let d = law setting bases log here.stands_for f in (
+      d.0,
+      d.1,
+      does_by (next setting bases) (next setting bases) (λ l. refl) (Submits n.0 txn ∷ log) d.0 o.out (stands v2 setting)
+          (At (Lives is_live stands) (slice_get (slice_set xs k v2) k) setting)
+          (λ more x. let l : Lives is_live stands v2 setting more = record { live = live; stands_for = x } in
+          subst (λ y. At (Lives is_live stands) y setting more) (sym (get-set_same xs k v v2 there)) l) d.2,
+    )
+submitted_in is_live stands next xs k v v2 fits n txn (Err e) is law live = tt
 
 -- the modules of all sites, where that of one site makes the call
 module _ {A B C : Type 0} (p : Standing A) (q : Standing B) (r : Standing C) where

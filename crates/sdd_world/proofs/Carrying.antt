@@ -1,5 +1,5 @@
 -- Steps of a schedule.
-use Rattle.std.proofs.Common.{◌≡◌, ◌∙◌, sym, subst, ap, refl, true, List, [], ◌∷◌, Result, Ok, Err}
+use Rattle.std.proofs.Common.{◌≡◌, ◌∙◌, sym, subst, ap, refl, true, false, List, [], ◌∷◌, Result, Ok, Err}
 use Rattle.std.specs.Prelude.{IfOk, IsErrOf}
 use Rattle.sdd_base.specs.declared.event.Event.{Event}
 use Rattle.sdd_base.specs.declared.event.Event.TheVariants.{Submit, Deliver, Lose, Repeat, Resend, Tick, Settle, Redeclare, Down, Up}
@@ -10,6 +10,7 @@ use Rattle.sdd_world.specs.declared.ends.WorldEnd.{WorldEnd}
 use Rattle.sdd_world.specs.declared.ends.WorldEnd.TheVariants.{Limit}
 use Rattle.sdd_world.specs.declared.world.World.{World}
 use Rattle.sdd_world.specs.Schedules.{AreAllowed, IsAllowed, is_settle, with_events}
+use Rattle.sdd_step.specs.Resting.{IsPossible}
 use Rattle.sdd_facts.specs.Real.{IsGood}
 
 -- an event that is a settle
@@ -67,3 +68,16 @@ pub settle_ends : (w : World) (e : Event) (res : Result World WorldEnd) → e �
     → IsErrOf res Limit → (g : Given) (log : Log) → StandsFor w g log → IsAllowed g e → EndsBy (with_event g e)
 settle_ends w e res is law err = λ g log s a.
     subst (λ x. EndsBy (with_event g x)) (sym is) (law err g log s (subst (λ x. IsGood (with_event g x)) is a.good))
+
+-- any other event is carried out by a step
+pub step_goes : (w : World) (e : Event) (res : Result World WorldEnd) → is_settle e ≡ false
+    → IfOk res (λ next. (g : Given) (log : Log) → StandsFor w g log → IsPossible g e → IsGood (with_event g e) → (more : Log) × StandsFor next (with_event g e) more)
+    → IfOk res (λ next. (g : Given) (log : Log) → StandsFor w g log → IsAllowed g e → (more : Log) × StandsFor next (with_event g e) more)
+step_goes w e (Ok next) is law = λ g log s a. law g log s (a.possible is) a.good
+step_goes w e (Err end) is law = tt
+
+-- all events are carried out
+pub carried_all : (w : World) (g now : Given) (log : Log) (events : List Event) (all : Given) → StandsFor w now log → events ≡ []
+    → with_events now events ≡ all → (more : Log) × StandsFor w all more
+carried_all w g now log events all s none is =
+    let same : now ≡ all = sym (ap (with_events now) none) ∙ is in (log, subst (λ x. StandsFor w x log) same s)

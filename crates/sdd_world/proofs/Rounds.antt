@@ -1,7 +1,7 @@
 -- Rounds, settles and single events, over plain worlds.
 use Rattle.std.proofs.Common.{ℕ, suc, ◌+◌, ◌<◌, ◌≤◌, ◌≡◌, ◌∙◌, ap, sym, subst, refl, true, false, List, [], ◌∷◌, ◌++◌, length, Some, arith}
 use Rattle.std.proofs.Common.{◌≢◌}
-use Rattle.std.proofs.lemmas.Bool.{ltb-false}
+use Rattle.std.proofs.lemmas.Bool.{lt-ltb, ltb-false}
 use Rattle.sdd_base.specs.Sites.{links}
 use Rattle.sdd_base.specs.declared.limits.TheConstants.{MAX_RUN_EVENTS}
 use Rattle.sdd_base.specs.declared.site.Site.{Site}
@@ -24,7 +24,7 @@ use Rattle.sdd_step.proofs.FirstHand.{none_to_hand}
 use Rattle.sdd_step.proofs.Marking.{still_none}
 use Rattle.sdd_step.proofs.Rounding.{each_of_round, no_events_quiet}
 use Rattle.sdd_world.specs.declared.world.World.{World}
-use Rattle.sdd_world.specs.Standing.{Before, Calm, Happened, IsSound, Marked, Parts, Rounding, Settling, Spooled, StandsFor}
+use Rattle.sdd_world.specs.Standing.{Before, Calm, EndsBy, Happened, IsSound, Marked, Parts, Rounding, Settling, Spooled, StandsFor}
 use Rattle.sdd_world.proofs.Parting.{spooled_on}
 use Rattle.sdd_world.specs.Modules.{StandFor}
 use Rattle.sdd_world.specs.Carries.{Carries}
@@ -249,6 +249,20 @@ settle_begins w w2 g log good s same pushed =
 
 pub few : (w : World) (g : Given) (log : Log) → Calm w g log → w.marks ≤ MAX_RUN_EVENTS
 few w g log c = let f : marks log ≤ MAX_RUN_EVENTS = few_marks log c.rests.within in let e : w.marks ≡ marks log = c.marks_are in omega (arith, f, e)
+
+-- the last number was given, so that the next event is beyond the limit
+pub marks_end : (w : World) (g : Given) (log : Log) (e : Event) → Before w g log e → w.marks ≡ MAX_RUN_EVENTS → EndsBy g
+marks_end w g log e b last =
+    let m : w.marks ≡ marks log = b.calm.marks_are in (
+      log,
+      record {
+        lawful = b.calm.rests.lawful;
+        within = b.calm.rests.within;
+        entry = Mark e;
+        next_is = b.next_is;
+        past = lt-ltb MAX_RUN_EVENTS (suc (marks log)) (omega (arith, last, m));
+      },
+    )
 
 -- an event has its number, where one is left
 pub marked_next : (w w2 : World) (g : Given) (log : Log) (e e2 : Event)

@@ -1,6 +1,8 @@
 -- The loop that sends.
-use Rattle.std.proofs.Common.{ℕ, ◌≡◌, ◌∙◌, ap, sym, Bool, true, false, List, [], ◌∷◌, ◌++◌, append_assoc, append-nil, refl}
-use Rattle.std.specs.Prelude.{◌||◌}
+use Rattle.std.proofs.Common.{ℕ, suc, ◌≡◌, ◌≢◌, ◌≤◌, ◌∙◌, ap, arith, sym, Bool, true, false, List, [], ◌∷◌, ◌++◌, append_assoc, append-nil, refl}
+use Rattle.std.specs.Prelude.{◌||◌, nat_lt}
+use Rattle.std.proofs.lemmas.Bool.{le-ltb, lt-ltb}
+use Rattle.sdd_base.specs.declared.limits.TheConstants.{MAX_LINK_MESSAGES}
 use Rattle.sdd_base.specs.declared.site.Site.{Site}
 use Rattle.sdd_wire.specs.declared.msg.Msg.{Msg}
 use Rattle.sdd_world.specs.Carries.{Carries, NetValue}
@@ -81,3 +83,11 @@ sent_all old now at out left s e tms dms calls h k =
     let a = s.so_far tms dms calls h k in
     let same : out ≡ s.sent = s.parts ∙ ap (λ l. s.sent ++ l) e ∙ append-nil s.sent in
     rw same a
+
+-- where a link has room for one more message, one more doesn't pass the limit
+pub one_more : (n m : ℕ) → n ≡ m → n ≢ MAX_LINK_MESSAGES → n ≤ MAX_LINK_MESSAGES → (nat_lt MAX_LINK_MESSAGES (suc m) || false) ≡ false
+one_more n m is left few = or_first (nat_lt MAX_LINK_MESSAGES (suc m)) false (le-ltb MAX_LINK_MESSAGES (suc m) (omega (arith, is, left, few))) refl
+
+-- where it has none, one more does
+pub none_more : (n m : ℕ) → n ≡ m → n ≡ MAX_LINK_MESSAGES → (nat_lt MAX_LINK_MESSAGES (suc m) || false) ≡ true
+none_more n m is last = or_past (nat_lt MAX_LINK_MESSAGES (suc m)) false (lt-ltb MAX_LINK_MESSAGES (suc m) (omega (arith, is, last)))

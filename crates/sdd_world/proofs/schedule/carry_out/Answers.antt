@@ -1,8 +1,9 @@
 use Rattle.std.proofs.Common.{◌∙◌, ap, subst, sym}
 use Rattle.sdd_log.specs.Entries.{with_event}
 use Rattle.sdd_world.proofs.Failing.{handed_on}
+use Rattle.sdd_world.proofs.Keeping.{no_items}
 use Rattle.sdd_world.specs.Schedules.{AreAllowed, with_events}
-use Rattle.sdd_world.proofs.Carrying.{ends_from, first_allowed, with_first}
+use Rattle.sdd_world.proofs.Carrying.{carried_all, ends_from, first_allowed, with_first}
 use Rattle.sdd_world.proofs.schedule.carry_out.Goals as goal
 
 pub loop-event-init : goal.loop-event-init
@@ -40,3 +41,9 @@ returns-in_err-now-clause-limit c = λ err given log s a.
     let first = first_allowed k.0 all rest e c.in-Some.ensures.items k.3 in
     ends_from given k.0 all rest e (with_events given c.args.events.items) c.in-Some.ensures.items k.4
     (c.in_err-now.ensures.limit (handed_on c.from_residual.result c.in_err-now.field-0.0 c.from_residual.ensures.1 err) k.0 k.1 k.2 first.0)
+
+pub returns-clause-log : goal.returns-clause-log
+returns-clause-log c = λ given log s a.
+    let k = c.loop-event.invariant.so_far given log s a in
+    carried_all c.loop-event.now given k.0 k.1 c.loop-event.left.items (with_events given c.args.events.items) k.2
+    (no_items c.loop-event.left.items c.loop-event.left.len c.loop-event.left.ok.0 c.in_default.ensures.cases.0) k.4

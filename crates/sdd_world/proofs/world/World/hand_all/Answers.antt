@@ -1,7 +1,8 @@
 use Rattle.std.proofs.Common.{subst}
 use Rattle.sdd_step.specs.Resting.{from_one}
-use Rattle.sdd_world.specs.Standing.{ahead_of, Handing}
+use Rattle.sdd_world.specs.Standing.{ahead_of, HandedOn, Handing}
 use Rattle.sdd_world.proofs.Failing.{handed_on}
+use Rattle.sdd_world.proofs.Keeping.{no_items}
 use Rattle.sdd_world.proofs.Delivering.{handed_further, handed_none, handed_whole, one_first, one_takes}
 use Rattle.sdd_world.proofs.world.World.hand_all.Goals as goal
 
@@ -66,3 +67,8 @@ returns-in_err-hand-clause-limit c = λ e given log l h.
     c.pop_front.new.self.items k.handing
     (one_first given c.args.from
     c.args.to c.loop-msg.queue.items c.pop_front.new.self.items c.in-Some.msg c.in-Some.ensures.items l)
+
+pub returns-clause-ok : goal.returns-clause-ok
+returns-clause-ok c = λ given log l h.
+    subst (λ q. HandedOn c.loop-msg.self given c.args.to (from_one c.args.from q) (ahead_of given log) c.args.self.now.spool)
+    (no_items c.loop-msg.queue.items c.loop-msg.queue.len c.loop-msg.queue.ok.0 c.in_default.ensures.cases.0) (c.loop-msg.invariant.so_far given log l h)

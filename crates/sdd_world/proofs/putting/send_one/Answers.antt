@@ -1,0 +1,7 @@
+use Rattle.std.proofs.Common.{arith}
+use Rattle.sdd_world.proofs.Sends.{one_more}
+use Rattle.sdd_world.proofs.putting.send_one.Goals as goal
+
+pub returns-clause-ok : goal.returns-clause-ok
+returns-clause-ok c = λ tms dms calls h k.
+    (one_more c.sent.result _ (c.sent.ensures tms dms calls h k.0) c.if-sent.false (omega (arith, c.sent.auto)), c.in_ok-send.ensures tms dms calls h)

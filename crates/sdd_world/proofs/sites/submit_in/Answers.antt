@@ -1,0 +1,14 @@
+use Rattle.sdd_net.proofs.Lists.{get-set_other}
+use Rattle.sdd_tm.specs.Due as tm
+use Rattle.sdd_tm.specs.Fits as tm_fits
+use Rattle.sdd_tm.specs.Stands as tm_stands
+use Rattle.sdd_world.proofs.ByTable.{submitted_in}
+use Rattle.sdd_world.proofs.sites.submit_in.Goals as goal
+
+pub returns-clause-law : goal.returns-clause-law
+returns-clause-law c = submitted_in (λ t. t.live) tm_stands.Stands tm.next c.args.modules.now.items c.args.at
+    c.index_mut-module.result.now c.submit.new.self tm_fits.FitsSubmit c.args.number c.args.txn.now c.submit.result
+    c.index_mut-module.ensures.value c.submit.ensures.law c.submit.ensures.lives_on
+
+pub returns-clause-others : goal.returns-clause-others
+returns-clause-others c = λ k ne. get-set_other c.args.modules.now.items c.args.at k c.submit.new.self ne
