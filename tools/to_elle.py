@@ -27,7 +27,7 @@ from typing import NamedTuple
 from catalogue import read_catalogue
 from command import make_parser, start
 from report import BadInput, read_report
-from workload import effect, read_workload, reads
+from workload import effect, read_workload, reads, with_lists
 
 FIRST_ROWS, NOBODY = 0, -1
 
@@ -232,7 +232,7 @@ def main():
     asked = asked.parse_args()
     catalogue = read_catalogue(asked.catalogue)
     first, transactions = read_workload(asked.workload, catalogue)
-    run = Run(read_report(asked.report), transactions, first, catalogue)
+    run = Run(read_report(asked.report), transactions, first, with_lists(catalogue, asked.workload))
     text = "".join(x + "\n" for x in history(run))
     if asked.into is None:
         sys.stdout.write(text)
