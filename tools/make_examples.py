@@ -51,7 +51,7 @@ def make(name, program, folder, check):
     """Makes the files of an example in the folder; their names."""
     mine = os.path.join(EXAMPLES, name)
     catalogue, workload = os.path.join(mine, "catalogue.toml"), os.path.join(mine, "workload")
-    made = ["report", "picture.svg"]
+    made, more = ["report", "picture.svg"], ["--program", program] if program else []
     if name in MADE:
         catalogue, workload = write_workload(folder, name, MADE[name])
         made += ["catalogue.toml", "workload"]
@@ -63,12 +63,11 @@ def make(name, program, folder, check):
         made += compare_designs(name, program, folder, check)
     if os.path.exists(workload):
         report = write(folder, "report", run_program(program, ["run", catalogue, workload]))
-        draw("picture.py", [report, catalogue, "--into", os.path.join(folder, "picture.svg")] + WINDOWS.get(name, []))
+        draw("picture.py", [report, catalogue, workload, "--into", os.path.join(folder, "picture.svg")] + more + WINDOWS.get(name, []))
     else:
         made = ["advice"]
         write(folder, "advice", run_program(program, ["advise", catalogue]))
     if shutil.which("dot") and not check:
-        more = ["--program", program] if program else []
         draw("graph_picture.py", [catalogue, "--into", os.path.join(folder, "graph.svg")] + more)
         made.append("graph.svg")
     return made
