@@ -3,6 +3,7 @@
 Words are judged first, then the catalogue, then the workload, then the report. Definition: docs/FORMATS.md, "Words";
 crates/sdd_app/specs/Answer.antt, Command.antt.
 """
+import os
 import sys
 
 from . import breaking
@@ -83,10 +84,16 @@ def main(words, about):
         return 0
     if words[:1] == ["--break"]:
         if len(words) < 2 or words[1] not in breaking.RULES:
-            sys.exit("reference: --break RULE, where RULE is one of: " + ", ".join(breaking.RULES))
+            print("reference: --break RULE, where RULE is one of: " + ", ".join(breaking.RULES), file=sys.stderr)
+            return 2
         breaking.break_rule(words[1])
         words = words[2:]
     status, told, text = answer(words, read_file)
+    try:
+        sys.stdout.buffer.write(text.encode())
+        sys.stdout.flush()
+    except OSError:
+        status, told = 7, "write fault\n"
+        os.dup2(os.open(os.devnull, os.O_WRONLY), 1)        # or what is left would be written at the end
     sys.stderr.write(told)
-    sys.stdout.write(text)
     return status

@@ -4,7 +4,10 @@ A class i has two nodes, r:i for what it reads and w:i for what it writes; two e
 simple cycles links them. Definition: docs/FORMATS.md, "What `graph` prints" and "What `table` prints";
 crates/sdd_graph/specs/Graph.antt, sdd_blocks/specs/Blocks.antt, sdd_protocol/specs/Protocols.antt, Conditions.antt.
 """
+from collections import Counter
 from typing import NamedTuple
+
+from .breaking import is_broken
 
 MOST_EDGES_TO_LIST = 14
 
@@ -48,9 +51,8 @@ def conflict_graph(cat):
 def blocks_of(edges):
     """The block number of each edge: from 1 by their first edges, and 0 where it lies on no cycle."""
     kinds = by_cycles(edges) if len(edges) <= MOST_EDGES_TO_LIST else by_parting(edges)
-    shared = {kind for kind in kinds if kinds.count(kind) > 1}
-    numbers = {}
-    return [numbers.setdefault(kind, len(numbers) + 1) if kind in shared else 0 for kind in kinds]
+    shared, numbers = Counter(kinds), {}
+    return [numbers.setdefault(kind, len(numbers) + 1) if shared[kind] > 1 else 0 for kind in kinds]
 
 
 def by_cycles(edges):
@@ -79,21 +81,17 @@ def simple_cycles(edges):
 
 def by_parting(edges):
     """For each edge, in which part it lies once each node is taken away."""
-    found = [[] for _ in edges]
-    for node in sorted({end for edge in edges for end in edge.ends}):
-        part = parts_without(edges, node)
-        for k, edge in enumerate(edges):
-            found[k].append(part[next(end for end in edge.ends if end != node)])
-    return [tuple(x) for x in found]
+    ends = [edge.ends for edge in edges]
+    beside = {node: set() for pair in ends for node in pair}
+    for a, b in ends:
+        beside[a].add(b)
+        beside[b].add(a)
+    parts = [(node, parts_without(beside, node)) for node in beside]
+    return [tuple(part[b if a == node else a] for node, part in parts) for a, b in ends]
 
 
-def parts_without(edges, node):
+def parts_without(beside, node):
     """For each other node the least node to which it is joined."""
-    beside = {}
-    for edge in edges:
-        a, b = edge.ends
-        beside.setdefault(a, set()).add(b)
-        beside.setdefault(b, set()).add(a)
     part = {}
     for start in sorted(beside):
         todo = [start] if start != node and start not in part else []
@@ -109,8 +107,14 @@ def protocol_table(cat):
     edges = conflict_graph(cat)
     blocks = blocks_of(edges)
     vertical = {e.i: block for e, block in zip(edges, blocks) if e.kind == "vertical"}
-    return [Entry(e, block, "P1" if not block else "P3" if block == vertical[e.i] else "P2")
-            for e, block in zip(edges, blocks)]
+    return [Entry(e, block, protocol_of(block, vertical[e.i])) for e, block in zip(edges, blocks)]
+
+
+def protocol_of(block, vertical):
+    """The protocol of a diagonal in a block, where its reader's vertical edge is in this one."""
+    if block == 0 or is_broken("all-p1"):
+        return "P1"
+    return "P3" if block == vertical and not is_broken("p2-for-p3") else "P2"
 
 
 class Cond(NamedTuple):

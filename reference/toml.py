@@ -192,7 +192,7 @@ class Reader:
                 if not -2**63 <= number < 2**63:
                     raise NotToml
                 return number
-        if word in ("true", "false") or FLOAT.fullmatch(word):
+        if word in ("true", "false") or FLOAT.fullmatch(word) and ("inf" in word or abs(float(word)) != float("inf")):
             return Other()
         raise NotToml
 

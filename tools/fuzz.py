@@ -1,71 +1,36 @@
 #!/usr/bin/env python3
 """Compares `sdd1` with the reference on random input, and cuts every difference down to a small one.
 
-    tools/fuzz.py FROM TO [KIND ..] --program COMMAND [--other COMMAND] [--into FOLDER]
+    tools/fuzz.py FROM TO [KIND ..] --program COMMAND [--other COMMAND] [--inside COMMAND] [--into FOLDER]
 
 For each seed from FROM up to TO, without it, and each kind (all where none is named) a call is drawn: words and files.
 The reference of this repository (reference/) answers it in this process, the program by COMMAND, and so may a third one.
+Kind inside is for a program of its own, which takes a catalogue and a workload; it is left out without --inside.
 An answer is a status, what standard error is told, and what standard output is; a program that says `unbuilt` isn't
 compared. Of a call with a difference lines are taken away as long as there is one; what is left is printed, and with
 --into its files are kept in FOLDER. It ends with 1 where there was a difference.
 
-Kinds: catalogue, faulty-catalogue, toml, plain, faulty-workload, run, lists, control, verify, make, words.
+Kinds: catalogue, faulty-catalogue, toml, plain, faulty-workload, run, lists, control, verify, make, words, inside.
 """
 import argparse
 import collections
 import os
 import random
-import shlex
-import shutil
-import subprocess
 import sys
-import tempfile
 
 import random_calls
-from random_calls import Call
-from reference.commands import answer
+from answers import NoProgram, Program, reference_answer
 
 UNBUILT = 9
-ROOM = "/dev/shm" if os.path.isdir("/dev/shm") else None
-SECONDS = 120
-
-
-class Program:
-    """A command that answers calls, on files in a folder of its own."""
-
-    def __init__(self, name, command):
-        self.name, self.command = name, shlex.split(command)
-        found = shutil.which(self.command[0]) if self.command else None
-        if found is None:
-            sys.exit("fuzz.py: %s: no such program" % command)
-        self.command[0] = os.path.abspath(found)
-
-    def answer(self, call):
-        with tempfile.TemporaryDirectory(prefix="fuzz-", dir=ROOM) as room:
-            for name, data in call.files.items():
-                with open(os.path.join(room, name), "wb") as f:
-                    f.write(data)
-            try:
-                done = subprocess.run(self.command + call.words, cwd=room, capture_output=True, timeout=SECONDS)
-            except subprocess.TimeoutExpired:
-                return "no answer in %d seconds" % SECONDS, b"", b""
-        return done.returncode, done.stderr, done.stdout
-
-
-def reference_answer(call):
-    def read(name):
-        if name not in call.files:
-            raise FileNotFoundError(name)
-        return call.files[name]
-    status, told, text = answer(call.words, read)
-    return status, told.encode(), text.encode()
 
 
 def difference(call, programs):
     """The program that answers otherwise, and both answers; or None."""
-    wanted = reference_answer(call)
+    wanted = reference_answer(*call)
     for program in programs:
-        got = program.answer(call)
+        if (call.words[:1] == ["inside"]) != program.is_inside:
+            continue
+        got = program.answer(call.words[1:] if program.is_inside else call.words, call.files)
         if got[0] != UNBUILT and got != wanted:
             return program, wanted, got
     return None
@@ -123,17 +88,38 @@ def main():
     asked.add_argument("kinds", nargs="*", metavar="KIND")
     asked.add_argument("--program", metavar="COMMAND", help="sdd1, as built and proved: crates/sdd1/out/sdd1")
     asked.add_argument("--other", metavar="COMMAND", help="a third program that is compared too")
+    asked.add_argument("--inside", metavar="COMMAND", help="a program that prints the states of a run")
     asked.add_argument("--into", metavar="FOLDER", help="keeps the files of differences there")
     asked = asked.parse_args()
+    try:
+        programs = programs_asked(asked)
+        counts, differ = compare(asked, programs)
+    except NoProgram as fault:
+        print("fuzz.py: %s" % fault, file=sys.stderr)
+        return 2
+    print("%d calls, %d differences: %s" % (sum(counts.values()), differ, ", ".join("%s %d" % x for x in counts.items())))
+    return 1 if differ else 0
+
+
+def programs_asked(asked):
     unknown = [k for k in asked.kinds if k not in random_calls.KINDS]
     if unknown:
-        sys.exit("fuzz.py: %s is no kind; kinds are %s" % (unknown[0], ", ".join(random_calls.KINDS)))
-    programs = [Program(name, command) for name, command in (("the program", asked.program), ("the other", asked.other)) if command]
+        raise NoProgram("%s is no kind; kinds are %s" % (unknown[0], ", ".join(random_calls.KINDS)))
+    given = (("the program", asked.program), ("the other", asked.other), ("the program of states", asked.inside))
+    programs = [Program(name, command) for name, command in given if command is not None]
     if not programs:
-        sys.exit("fuzz.py: give --program COMMAND, --other COMMAND, or both")
+        raise NoProgram("give --program COMMAND, --other COMMAND, or --inside COMMAND")
+    for program in programs:
+        program.is_inside = program.name == given[2][0]
+    return programs
+
+
+def compare(asked, programs):
+    """How many calls of each kind there were, and how many differed."""
     counts, differ = collections.Counter(), 0
+    kinds = asked.kinds or [k for k in random_calls.KINDS if (asked.inside if k == "inside" else asked.program or asked.other)]
     for seed in range(asked.first, asked.end):
-        for kind in asked.kinds or random_calls.KINDS:
+        for kind in kinds:
             call = random_calls.KINDS[kind](random.Random("%s %d" % (kind, seed)))
             counts[kind] += 1
             told = difference(call, programs)
@@ -143,8 +129,7 @@ def main():
                 show(seed, kind, call, told)
                 if asked.into:
                     keep(asked.into, seed, kind, call)
-    print("%d calls, %d differences: %s" % (sum(counts.values()), differ, ", ".join("%s %d" % x for x in counts.items())))
-    return 1 if differ else 0
+    return counts, differ
 
 
 if __name__ == "__main__":

@@ -11,7 +11,8 @@ are made too, with the catalogue of the first design (`first.toml`), and with `w
 tools/explore.py compares the two.
 
 With --check nothing is written, and each file that would change is told; `graph.svg` is left out then,
-since it depends on the version of `dot` and its fonts, and `waits.svg`, since it takes long.
+since it depends on the version of `dot` and its fonts, and `waits.svg`, since it takes long. The folder
+examples/broken is that of tools/make_broken.py.
 """
 import os
 import shutil
@@ -19,7 +20,7 @@ import subprocess
 import sys
 import tempfile
 
-from command import make_parser, start
+from command import parser, start
 from make_workload import APPLICATIONS, write_workload
 from program import add_program, run_program
 from report import BadInput
@@ -105,9 +106,9 @@ def renew(name, program, check):
 
 
 def main():
-    asked = make_parser(__doc__)
+    asked = parser(__doc__)
     add_program(asked)
-    names = sorted(x for x in os.listdir(EXAMPLES) if os.path.isdir(os.path.join(EXAMPLES, x)))
+    names = sorted(x for x in os.listdir(EXAMPLES) if os.path.exists(os.path.join(EXAMPLES, x, "catalogue.toml")))
     asked.add_argument("--only", metavar="NAME", nargs="+", choices=names, help="these examples alone")
     asked.add_argument("--check", action="store_true", help="compare, and write nothing")
     asked = asked.parse_args()

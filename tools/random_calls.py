@@ -1,9 +1,11 @@
 """Random calls of `sdd1` for tools/fuzz.py: words and files, by kind. Each is a function of a random.Random alone."""
+from dataclasses import replace
 from typing import NamedTuple
 
 import random_input as inputs
+from reference.catalogue import Class
 from reference.commands import answer
-from reference.spelling import catalogue_text, workload_text
+from spelling import catalogue_text, workload_text
 
 COMMANDS = ["check", "graph", "table", "plain", "run", "make", "control", "verify", "advise"]
 STRANGE = ["", " ", "0", "-0", "007", "-1", "+1", "9223372036854775807", "9223372036854775808", "-9223372036854775808",
@@ -23,10 +25,11 @@ class Call(NamedTuple):
 
 def changed(rng, data, words=STRANGE):
     """Bytes after some random changes of their lines, words or bytes."""
-    for _ in range(rng.choice([1, 1, 1, 2, 3])):
+    own = data.decode().split()
+    for _ in range(rng.choice([1, 1, 1, 1, 2, 3])):
         lines = data.split(b"\n")
         k = rng.randrange(len(lines))
-        way = rng.randrange(7)
+        way = rng.choice([0, 1, 2, 3, 3, 3, 4, 4, 4, 5, 6])
         if way == 0:
             del lines[k]
         elif way == 1:
@@ -37,7 +40,7 @@ def changed(rng, data, words=STRANGE):
         elif way in (3, 4):
             parts = lines[k].split(b" ")
             j = rng.randrange(len(parts))
-            parts[j:j + rng.randint(0, 1)] = [rng.choice(words).encode()]
+            parts[j:j + (way == 3 or rng.random() < 0.5)] = [rng.choice(words if way == 4 or not own else own).encode()]
             lines[k] = b" ".join(parts)
         data = b"\n".join(lines)
         if way == 5:
@@ -60,8 +63,60 @@ CATALOGUE_WORDS = ["0", "1", "2", "3", "16", "17", "-1", "4294967296", "\"f0\"",
 
 
 def faulty_catalogue_call(rng):
-    text = catalogue_text(inputs.catalogue(rng)).encode()
-    return Call(["check", "cat"], {"cat": changed(rng, text, CATALOGUE_WORDS)})
+    cat = inputs.catalogue(rng)
+    if rng.random() < 0.7:
+        for _ in range(rng.choice([1, 1, 2])):
+            cat = faulty(rng, cat)
+        return Call(["check", "cat"], {"cat": catalogue_text(cat).encode()})
+    return Call(["check", "cat"], {"cat": changed(rng, catalogue_text(cat).encode(), CATALOGUE_WORDS)})
+
+
+def faulty(rng, cat):
+    """The catalogue with one part that may break a rule."""
+    number = rng.choice([0, 1, 2, 3, 16, 17, 2**32 - 1, 2**32])
+    name = rng.choice(["r0", "f0", "f1", "k0", "id", "c0", "x", "from", "", "a" * 33])
+    if not cat.fragments:
+        return cat
+    r, f = rng.choice(cat.relations), rng.choice(cat.fragments)
+    c = rng.choice(cat.classes) if cat.classes else Class("k0", 1, [], [])
+    key = f.low if rng.random() < 0.3 else f.high + rng.choice([-1, 0, 1]) if f.high < 2**62 else rng.randint(-3, 12)
+    changes = [
+        (cat, rng.choice(["tms", "dms"]), number),
+        (r, "name", name), (r, "key", name), (r, "columns", r.columns + [(name, "text")] * rng.choice([1, 16])),
+        (r, "columns", [(n, "text") for n, _ in r.columns]),
+        (f, "name", name), (f, "relation", name), (f, "low", key), (f, "high", key), (f, "copies", []), (f, "copies", f.copies + [number]),
+        (f, "copies", f.copies + f.copies[:1]), (cat, "fragments", [x for x in cat.fragments if x is not f]),
+        (cat, "fragments", cat.fragments + [replace(f, name=name)]),
+        (c, "name", name), (c, "tm", number), (c, "reads", c.reads + [(name, number)]), (c, "reads", c.reads + c.reads[:1]),
+        (c, "reads", [(n, rng.choice([1, 2, 3])) for n, _ in c.reads]), (c, "reads", c.reads * rng.choice([2, 33])),
+        (c, "writes", c.writes + [name]), (c, "writes", c.writes * 2),
+        (cat, "classes", cat.classes + [c] * rng.choice([1, 65])), (cat, "relations", cat.relations + [r] * rng.choice([1, 65]))]
+    part, field, value = rng.choice(changes)
+    if part is cat:
+        return replace(cat, **{field: value})
+    new = replace(part, **{field: value})
+    return replace(cat, **{name: [new if x is part else x for x in getattr(cat, name)] for name in ("relations", "fragments", "classes")})
+
+
+def date_word(rng):
+    """A date, with a time behind it or not, which may be none."""
+    date = "%s-%s-%s" % (rng.choice(["1979", "0000", "2024", "79"]), rng.choice(["02", "12", "13", "1"]),
+                         rng.choice(["29", "30", "00", "31"]))
+    return date + rng.choice(["", "T07:32:00Z", " 07:32", "T24:00:00", "t07:32:60+01:00", "T07:32:00.5-23:60"])
+
+
+def text_word(rng):
+    """A text of one of the four kinds, which may be none."""
+    escape = rng.choice(["n", "e", "x41", "x4", "u00e9", "ud800", "U0010ffff", "U00110000", "q", "\n", " \n "])
+    return rng.choice([
+        '"a\\%sb"' % escape, "'a\\b'", '"%s"' % rng.choice(["\t", "\x01", "\x7f", "é", "#", "'"]),
+        '"""a%s"""' % rng.choice(["", '"', '""', '"""', "\n", "\\\n  ", "\\ x", "\r\n", "\t"]),
+        "'''\n%s'''" % rng.choice(["", "'", "''", "'''", "\x01"])])
+
+
+def number_word(rng):
+    digits = "".join(rng.choice("0123456789_") for _ in range(rng.choice([1, 2, 3, 19, 20])))
+    return rng.choice(["", "-", "+", "0x", "0o", "0b"]) + digits + rng.choice(["", "", "", "." + digits, "e" + digits, "e-" + digits])
 
 
 def toml_value(rng, depth=0):
@@ -74,23 +129,20 @@ def toml_value(rng, depth=0):
         keys = rng.choice([["a", "b", "c"], ["a", "a.b", "b"], ["a.b", "a.c", "'q'"]])
         pairs = ["%s = %s" % (k, v) for k, v in zip(keys, items)]
         return "{" + space + ("," + space).join(pairs) + rng.choice(["", ",", space]) + "}"
-    digits = "".join(rng.choice("0123456789_") for _ in range(rng.choice([1, 2, 3, 19, 20])))
-    return rng.choice([
-        digits, "-" + digits, "+" + digits, "0x" + digits, "0o" + digits, "0b" + digits, digits + "." + digits, digits + "e" + digits,
-        "true", "false", "inf", "-nan", "True", "%s-%s-%s" % (rng.choice(["1979", "0000", "2024", "79"]), rng.choice(["02", "12", "13", "1"]),
-                                                           rng.choice(["29", "30", "00", "31"])) + rng.choice(["", "T07:32:00Z", " 07:32", "T24:00:00", "t07:32:60+01:00", "T07:32:00.5-23:60"]),
-        "07:32", "07:32:00.999", "7:32", '"a\\%sb"' % rng.choice(["n", "e", "x41", "x4", "u00e9", "ud800", "U0010ffff", "U00110000", "q", "\n", " \n "]),
-        "'a\\b'", '"""a%s"""' % rng.choice(["", '"', '""', '"""', "\n", "\\\n  ", "\\ x", "\r\n", "\t"]), "'''\n%s'''" % rng.choice(["", "'", "''", "'''", "\x01"]),
-        '"%s"' % rng.choice(["\t", "\x01", "\x7f", "é", "#", "'"]), "x", "", "[", "{", "1 1"])
+    word = rng.choice(["true", "false", "inf", "-nan", "True", "07:32", "07:32:00.999", "7:32", "x", "", "[", "{", "1 1"])
+    return rng.choice([number_word(rng), number_word(rng), date_word(rng), text_word(rng), text_word(rng), word])
 
 
 def toml_call(rng):
     """A table with a field more; where it is TOML, that is told as a fault of form."""
     lines = ["tms = 1", "dms = 1"]
-    for _ in range(rng.randint(1, 3)):
-        key = rng.choice(["x", "x", "tms", "relation", "a.b", "a", "'k k'", '"\\u0061"', "é", "-", "1", "a . c", "\"\"", "x.y.z", "'''m'''"])
-        line = rng.choice(["%s = %s" % (key, toml_value(rng))] * 4 + ["[%s]" % key, "[[%s]]" % key, "[ %s ]" % key, "[%s] # c" % key, "%s=" % key])
-        lines.insert(rng.randint(0, len(lines)), line + rng.choice(["", "", " ", "\t# c", "\r", " x"]))
+    for _ in range(rng.choice([1, 1, 1, 2, 3])):
+        key = rng.choice(["x", "x", "x", "y", "tms", "relation", "a.b", "a", "'k k'", '"\\u0061"', "é", "-", "1", "a . c", '""',
+                          "x.y.z", "'''m'''"])
+        line = "%s = %s" % (key, toml_value(rng))
+        if rng.random() < 0.2:
+            line = rng.choice(["[%s]", "[[%s]]", "[ %s ]", "[%s] # c", "%s="]) % key
+        lines.insert(rng.randint(0, len(lines)), line + rng.choice(["", "", "", " ", "\t# c", "\r", " x"]))
     text = rng.choice(["", "", "\ufeff"]) + "\n".join(lines) + rng.choice(["", "\n", "\n\n", "\n#"])
     return Call(["check", "cat"], {"cat": text.encode()})
 
@@ -113,6 +165,10 @@ def faulty_workload_call(rng):
 
 def run_call(rng):
     return Call(["run", "cat", "work"], files_of(*inputs.scheduled(rng)))
+
+
+def inside_call(rng):
+    return Call(["inside", "cat", "work"], files_of(*inputs.scheduled(rng)))
 
 
 def lists_call(rng):
@@ -154,6 +210,9 @@ def make_call(rng):
 
 def words_call(rng):
     cat = {"cat": b"tms = 1\ndms = 1\n", "work": b"end\n", "report": b"order\nend\n"}
+    if rng.random() < 0.4:
+        count = rng.randint(0, 3)
+        return Call([rng.choice(COMMANDS)] + ["cat", "work", "report", "no such"][:count], cat)
     words = [rng.choice(COMMANDS + ["", "Check", "check "])]
     words += [rng.choice(["cat", "work", "report", "no such", "1", "01", "2147483647", "2147483648", "2048", "2049", "-1", "+1", " 1", "0"])
               for _ in range(rng.choice([0, 1, 2, 2, 3, 4]))]
@@ -162,4 +221,4 @@ def words_call(rng):
 
 KINDS = {"catalogue": catalogue_call, "faulty-catalogue": faulty_catalogue_call, "toml": toml_call, "plain": plain_call,
          "faulty-workload": faulty_workload_call, "run": run_call, "lists": lists_call, "control": control_call,
-         "verify": verify_call, "make": make_call, "words": words_call}
+         "verify": verify_call, "make": make_call, "words": words_call, "inside": inside_call}

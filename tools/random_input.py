@@ -45,6 +45,21 @@ def catalogue(rng, most_classes=6):
     return Catalogue(tms, dms, relations, fragments, classes)
 
 
+def busy_catalogue(rng):
+    """Few fragments, and classes that all meet there."""
+    tms, dms = rng.choice([2, 3, 4]), rng.choice([1, 2, 2, 3])
+    relation = Relation("r0", [("id", "int"), ("c0", "int"), ("c1", "text")], "id")
+    cuts = [4] * rng.choice([0, 1, 1])
+    bounds = zip([LEAST] + cuts, [c - 1 for c in cuts] + [GREATEST])
+    fragments = [Fragment("f%d" % k, "r0", low, high, some(rng, range(1, dms + 1), 1)) for k, (low, high) in enumerate(bounds)]
+    classes = []
+    for k in range(rng.randint(2, 6)):
+        reads = [(f.name, rng.choice(f.copies)) for f in fragments] if rng.random() < 0.6 else []
+        writes = [f.name for f in some(rng, fragments, 1)] if rng.random() < 0.7 or not reads else []
+        classes.append(Class("k%d" % k, rng.randint(1, tms), reads, writes))
+    return Catalogue(tms, dms, [relation], fragments, classes)
+
+
 def a_class(rng, name, tms, fragments):
     reads = [(f.name, rng.choice(f.copies)) for f in some(rng, fragments, rng.choice([0, 1, 1]), 3)]
     either = [f for f, _ in reads] if rng.random() < 0.4 else [f.name for f in fragments]
@@ -93,7 +108,7 @@ def query(rng, cat, fragments):
     parts = [rng.choice(fragments) for _ in range(rng.choice([1, 1, 2, 2, 3]))]
     relations = tuple(f.relation for f in parts)
     conds = [c for p, f in enumerate(parts) for c in within(cat.relation[f.relation], p, f)]
-    conds += [condition(rng, cat, relations) for _ in range(rng.choice([0, 1, 1, 2]))]
+    conds += [condition(rng, cat, relations) for _ in range(rng.choice([0, 1, 2, 3]))]
     rng.shuffle(conds)
     every = [Column(p, k) for p, name in enumerate(relations) for k in range(len(cat.relation[name].columns))]
     return Query(tuple(rng.choice(every) for _ in range(rng.randint(1, 3))), relations, tuple(conds))
@@ -132,10 +147,11 @@ def transaction(rng, cat, name, classes):
         tm, reads, writes = c.tm, [cat.fragment[f] for f, _ in c.reads], [cat.fragment[f] for f in c.writes]
         both = [f for f in reads if f in writes]
     statements = []
-    for _ in range(rng.choice([0, 1, 1, 1, 2, 2, 3])):
-        make, fragments = rng.choice([(query, reads), (query, reads), (put, writes), (put, writes), (change, both)])
-        if fragments:
-            statements.append(make(rng, cat, rng.choice(fragments)) if make != query else query(rng, cat, fragments))
+    for _ in range(rng.choice([0, 1, 1, 1, 1, 2, 2, 3])):
+        ways = [x for x in ((query, reads), (query, reads), (put, writes), (put, writes), (change, both)) if x[1]]
+        if ways:
+            make, fragments = rng.choice(ways)
+            statements.append(query(rng, cat, fragments) if make == query else make(rng, cat, rng.choice(fragments)))
     return Txn(name, tm, tuple(statements))
 
 
@@ -143,8 +159,8 @@ def transaction(rng, cat, name, classes):
 
 def workload(rng, with_lists=False):
     """A catalogue and a workload for it, without events."""
-    cat = catalogue(rng)
-    rows = [(r.name, row(rng, r)) for r in cat.relations for _ in range(rng.randint(0, 8))]
+    cat = busy_catalogue(rng) if rng.random() < 0.5 else catalogue(rng)
+    rows = [(r.name, row(rng, r)) for r in cat.relations for _ in range(rng.choice([0, 4, 8, 16]))]
     rng.shuffle(rows)
     lists, made = [], 0
     for _ in range(rng.randint(1, 3) if with_lists else 0):
@@ -152,7 +168,7 @@ def workload(rng, with_lists=False):
         lists.append([a_class(rng, "n%d" % (made + k), cat.tms, cat.fragments) for k in range(count)])
         made += count
     classes = cat.classes + [c for part in lists for c in part]
-    txns = [transaction(rng, cat, "t%d" % k, classes) for k in range(1, rng.choice([2, 4, 8, 16]))]
+    txns = [transaction(rng, cat, "t%d" % k, classes) for k in range(1, rng.choice([2, 4, 8, 16, 24]))]
     return cat, Workload(rows, txns, lists, [])
 
 
@@ -200,7 +216,7 @@ def an_event(rng, world, left, lists):
         a, b = rng.choice(list(world.links.ways))
         word = rng.choice(["deliver", "lose", "repeat", "resend"])
         return Event(word, a=a, b=b, n=0 if word == "resend" else rng.randint(1, 3))
-    (a, b), way = rng.choice(flying)
+    (a, b), way = rng.choice(flying if rng.random() < 0.5 else flying[-3:])
     word = "deliver" if x < 0.9 else rng.choice(["lose", "repeat"])
     return Event(word, a=a, b=b, n=1 if rng.random() < 0.7 else rng.randint(1, len(way.flight)))
 
@@ -208,7 +224,7 @@ def an_event(rng, world, left, lists):
 def scheduled(rng, with_lists=False):
     """A catalogue and a workload with a schedule."""
     cat, work = workload(rng, with_lists)
-    work = schedule(rng, cat, work, rng.choice([3, 10, 20, 40, 80]))
+    work = schedule(rng, cat, work, rng.choice([3, 10, 20, 40, 80, 120]))
     if rng.random() < 0.6:
         work = work._replace(events=work.events + [Event("settle")])
     return cat, work

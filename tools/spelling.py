@@ -2,8 +2,8 @@
 
 A workload has one spelling; of a catalogue this is one of many. Definition: crates/sdd_script/specs/Spelling.antt.
 """
-from .statements import Delete, Put, Query, Same
-from .words import GREATEST, LEAST, value_word
+from reference.statements import Delete, Put, Query, Same
+from reference.words import GREATEST, LEAST, value_word
 
 
 def catalogue_text(cat):
