@@ -25,7 +25,7 @@ It prints what it found, a line each, and ends with status 1; or one line with t
 import re
 import sys
 
-from command import make_parser, start
+from command import parser, start
 from report import BadInput
 
 TOKEN = re.compile(r'[\s,]*([\[\](){}]|"(?:[^"\\]|\\.)*"|[^\s,\[\](){}"]+)')
@@ -241,7 +241,7 @@ def told(graph, cycle):
 
 
 def main():
-    asked = make_parser(__doc__)
+    asked = parser(__doc__)
     asked.add_argument("history", metavar="HISTORY")
     asked = asked.parse_args()
     graph = Graph(read_history(asked.history))

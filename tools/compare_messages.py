@@ -1,15 +1,15 @@
 #!/usr/bin/env python3
-"""Compares `decode` and `encode` of sdd_wire with a reference program, on random messages.
+"""Compares `decode` and `encode` of sdd_wire with tools/messages.py, on random messages.
 
-    tools/compare_messages.py REFERENCE COUNT [SEED]
+    tools/compare_messages.py COUNT [SEED]
 
 COUNT messages are made from SEED (0 where it isn't given) by the form of their fields; in two thirds
 of them bytes are then changed, cut off, put in or put behind, so that most of these break the
-spelling. REFERENCE is a command that reads one message a line, in hexadecimal, and prints a line for
-each: `bad PLACE`, or the fields and the bytes that spell them again, as `tell` of the program below
-does. That program is built once and run unproved, by `rt try`, in a folder of its own. Each
-difference is printed, and a last line 'N same (M read), K different'.
+spelling. Of each is compared where it is bad, or the fields and the bytes that spell them again, as
+`tell` of the program below does. That program is built once and run unproved, by `rt try`, in a
+folder of its own. Each difference is printed, and a last line 'N same (M read), K different'.
 """
+import argparse
 import os
 import random
 import re
@@ -18,8 +18,7 @@ import subprocess
 import sys
 import tempfile
 
-from command import count, make_parser, run_outside, start
-from report import BadInput
+import messages
 
 TOP = os.path.realpath(os.path.join(os.path.dirname(os.path.abspath(__file__)), ".."))
 CRATES = ["sdd_base", "sdd_history", "sdd_wire"]
@@ -286,10 +285,9 @@ def answers_here(top, lines):
         names.append("%06d" % first)
         with open(os.path.join(cases, names[-1]), "w") as out:
             out.write("".join(line + "\n" for line in lines[first:first + BATCH]))
-    ran = run_outside(["rt", "try", "--cases", cases], cwd=crate)
-    text, errors = ran.stdout.decode(errors="replace"), ran.stderr.decode(errors="replace")
+    ran = subprocess.run(["rt", "try", "--cases", cases], cwd=crate, capture_output=True, text=True)
     found, name = {}, None
-    for line in text.splitlines():
+    for line in ran.stdout.splitlines():
         head = re.fullmatch(r"== (\d{6})", line)
         if head:
             name = head.group(1)
@@ -298,29 +296,18 @@ def answers_here(top, lines):
             found[name].append(line)
     answers = [line for name in names for line in found.get(name, [])]
     if len(answers) != len(lines):
-        print(text[-2000:] + errors[-2000:], file=sys.stderr)
-        raise BadInput("the program answered %d of %d lines" % (len(answers), len(lines)))
+        sys.exit("the program answered %d of %d lines:\n%s%s" % (len(answers), len(lines), ran.stdout[-2000:], ran.stderr[-2000:]))
     return answers
 
 
-def wanted_of(reference, lines):
-    """The reference's line for each message."""
-    done = run_outside(reference, input="".join(line + "\n" for line in lines).encode())
-    wanted = done.stdout.decode(errors="replace").splitlines()
-    if done.returncode or len(wanted) != len(lines):
-        raise BadInput("%s: status %d, %d lines for %d messages" % (reference, done.returncode, len(wanted), len(lines)))
-    return wanted
-
-
 def main():
-    asked = make_parser(__doc__)
-    asked.add_argument("reference", metavar="REFERENCE")
-    asked.add_argument("count", metavar="COUNT", type=count)
-    asked.add_argument("seed", metavar="SEED", nargs="?", type=count, default=0)
+    asked = argparse.ArgumentParser(description=__doc__, formatter_class=argparse.RawDescriptionHelpFormatter, usage=argparse.SUPPRESS)
+    asked.add_argument("count", type=int, metavar="COUNT")
+    asked.add_argument("seed", type=int, nargs="?", default=0, metavar="SEED")
     asked = asked.parse_args()
     rng = random.Random(asked.seed)
     lines = [made(rng).hex() for _ in range(asked.count)]
-    wanted = wanted_of(asked.reference, lines)
+    wanted = messages.answers(lines)
     with tempfile.TemporaryDirectory() as top:
         answers = answers_here(top, lines)
     same = 0
@@ -331,8 +318,8 @@ def main():
             print("%s\n  wanted %s\n  got    %s" % (line, want, got))
     read = sum(not want.startswith("bad") for want in wanted)
     print("%d same (%d read), %d different" % (same, read, asked.count - same))
-    return int(same != asked.count)
+    return 1 if same != asked.count else 0
 
 
 if __name__ == "__main__":
-    start(main)
+    sys.exit(main())

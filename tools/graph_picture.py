@@ -6,25 +6,27 @@
 What is drawn is what `sdd1 graph` and `sdd1 table` print: a column for each class, with what it reads
 above and what it writes below; vertical edges between the two, horizontal ones between writers, and
 diagonals from a reader to a writer, with the fragment and the protocol. The edges of one block have one
-colour; those of none are grey.
+colour; those of none are grey. Beyond a dozen classes it is a matrix of readers by writers: each cell has
+the protocol, and the colour of its block.
 
 COMMAND is a built `sdd1`; without it the program is run unproved, by `rt try`, in some two minutes.
-FILE gets the picture as SVG where it ends with .svg, which needs `dot` of Graphviz, and else as text
-for Graphviz; without FILE that text is printed.
+FILE gets the picture as SVG where it ends with .svg, and else as text for Graphviz; without FILE that text
+is printed. The SVG of up to a dozen classes needs `dot` of Graphviz.
 """
-import argparse
 import re
 import shutil
 import subprocess
-import sys
 
 import svg
 from catalogue import read_catalogue
-from program import run_program
+from command import parser, start
+from graph_matrix import matrix_of
+from program import add_program, run_program
 from report import BadInput
 
 COLOURS = ["#d9730d", "#1f77b4", "#2a9134", "#8e44ad", "#c2185b", "#008b8b", "#b8860b", "#3949ab"]
 NO_BLOCK = "#888888"
+MOST_DRAWN = 12             # classes; a matrix shows more
 COLUMN, HEIGHT = 190, 190   # from class to class, and from what is read to what is written
 NAME = r"([A-Za-z][A-Za-z0-9_]*)"
 EDGES = {
@@ -134,22 +136,29 @@ def svg_of(text):
 
 
 def main():
-    asked = argparse.ArgumentParser(description=__doc__, formatter_class=argparse.RawDescriptionHelpFormatter, usage=argparse.SUPPRESS)
+    asked = parser(__doc__)
     asked.add_argument("catalogue", metavar="CATALOGUE")
-    asked.add_argument("--program", metavar="COMMAND", help="a built `sdd1`")
+    add_program(asked)
     asked.add_argument("--into", metavar="FILE", help="the picture's file")
     asked = asked.parse_args()
-    try:
-        catalogue = read_catalogue(asked.catalogue)
-        edges = list(edges_of(run_program(asked.program, ["graph", asked.catalogue])))
-        text = Graphviz(catalogue, edges, protocols_of(run_program(asked.program, ["table", asked.catalogue]))).text()
-        if asked.into and asked.into.endswith(".svg"):
-            text = svg_of(text)
-        with open(asked.into, "w", encoding="utf-8") if asked.into else sys.stdout as out:
-            out.write(text)
-    except (BadInput, OSError, KeyError) as fault:
-        sys.exit("graph_picture.py: %s" % fault)
+    catalogue = read_catalogue(asked.catalogue)
+    edges = list(edges_of(run_program(asked.program, ["graph", asked.catalogue])))
+    protocols = protocols_of(run_program(asked.program, ["table", asked.catalogue]))
+    ends = {x for _, names, _ in edges for x in names[:2]}
+    if ends - set(catalogue.classes) or len(catalogue.classes) != sum(kind == "vertical" for kind, _, _ in edges):
+        raise BadInput("`graph` printed the graph of another catalogue")
+    is_picture = bool(asked.into) and asked.into.endswith(".svg")
+    if is_picture and len(catalogue.classes) > MOST_DRAWN:
+        text = matrix_of(list(catalogue.classes), edges, protocols)
+    else:
+        text = Graphviz(catalogue, edges, protocols).text()
+        text = svg_of(text) if is_picture else text
+    if not asked.into:
+        return print(text, end="")
+    with open(asked.into, "w", encoding="utf-8") as f:
+        f.write(text)
+    return None
 
 
 if __name__ == "__main__":
-    main()
+    start(main)

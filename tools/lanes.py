@@ -3,15 +3,15 @@ from typing import NamedTuple
 
 MOST_ROWS = 3               # of transactions that wait for their turn, with a line each
 WAITING, SERVED = 0, 1      # the groups of a class's lane
-READS, APPLIES, PASSES = 0, 1, 2    # those of a data module's
+READS, APPLIES, PASSES, NETWORK = 0, 1, 2, 3    # those of a data module's
 COLOURS = ["#1f77b4", "#d9730d", "#2a9134", "#8e44ad", "#b8860b", "#008b8b", "#c2185b", "#5d6d1e", "#6b4f3f", "#3949ab"]
 
 
 class Columns:
-    """The events that have a record, each with its place from left to right."""
+    """The events that have a record or a mark, each with its place from left to right."""
 
-    def __init__(self, records, first, last, left):
-        self.all = sorted({x.event for x in records if x.kind != "nothing" and first <= x.event <= last})
+    def __init__(self, events, left):
+        self.all = events
         self.step = max(17, min(64, 1000 / max(1, len(self.all))))
         self.place = {event: k for k, event in enumerate(self.all)}
         self.left, self.right = left, left + self.step * max(1, len(self.all))

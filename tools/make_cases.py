@@ -1,12 +1,13 @@
 #!/usr/bin/env python3
 """Writes the input of the program of cases and the output that it must give.
 
-    tools/make_cases.py --reference COMMAND [--into FOLDER]
+    tools/make_cases.py [--check] [--reference COMMAND] [--into FOLDER]
 
-COMMAND is a reference program that takes the words of `sdd1` and the files that they name, and prints
-what `sdd1` should; its environment is the caller's. FOLDER is crates/sdd_cases where it isn't given.
-No text comes from the program itself: what the reference can't answer (calls of a shelf or a sink that
-fail) follows from the rules at `Outside`, or stands in the case.
+What a case should print the reference of this repository says (reference/), or COMMAND, a program that
+takes the words of `sdd1` and the files that they name. FOLDER is crates/sdd_cases where it isn't given.
+With --check nothing is written: it ends with 1 where a file of FOLDER is another than it would write, and
+tells the first line. No text comes from the program itself: what the reference can't answer (calls of a
+shelf or a sink that fail) follows from the rules at `Outside`, or stands in the case.
 
 What a person edits is tools/cases:
 
@@ -27,10 +28,9 @@ tells another. The format that the program reads is described in crates/sdd_case
 """
 import argparse
 import os
-import shlex
-import subprocess
 import sys
-import tempfile
+
+from answers import NoProgram, Program, reference_answer
 
 TOP = os.path.join(os.path.dirname(os.path.abspath(__file__)), "..")
 CASES = os.path.join(TOP, "tools", "cases")
@@ -199,19 +199,13 @@ class Outside:
     """
 
     def __init__(self, command):
-        self.command = shlex.split(command)
+        self.ask = Program("the reference", command).answer if command else reference_answer
         self.known = {}
 
     def reference(self, words, files):
         key = (tuple(words), tuple(sorted(files.items())))
         if key not in self.known:
-            with tempfile.TemporaryDirectory(prefix="make-cases-") as room:
-                for name, data in files.items():
-                    os.makedirs(os.path.dirname(os.path.join(room, name)), exist_ok=True)
-                    with open(os.path.join(room, name), "wb") as f:
-                        f.write(data)
-                p = subprocess.run(self.command + words, cwd=room, stdout=subprocess.PIPE, stderr=subprocess.PIPE)
-            self.known[key] = (p.returncode, p.stderr, p.stdout)
+            self.known[key] = self.ask(words, files)
         return self.known[key]
 
     def answer(self, case, files, shelf_fails, out_fails):
@@ -327,12 +321,8 @@ def kept_texts():
     return kept
 
 
-def main():
-    asked = argparse.ArgumentParser(description=__doc__.split("\n\n")[0])
-    asked.add_argument("--reference", required=True)
-    asked.add_argument("--into", default=os.path.join(TOP, "crates", "sdd_cases"))
-    asked = asked.parse_args()
-    kept = kept_texts()
+def read_all(kept):
+    """All cases, in the order in which they are written."""
     cases = read_calls(os.path.join(CASES, "calls.txt"), kept)
     cases += read_workloads(os.path.join(CASES, "workloads.txt"), kept)
     cases += read_catalogue_faults(os.path.join(CASES, "catalogue_faults.txt"), kept)
@@ -341,7 +331,11 @@ def main():
     for name in sorted(os.listdir(CASES)):
         if name.endswith(".cases"):
             cases += read_cases(os.path.join(CASES, name), kept)
-    outside = Outside(asked.reference)
+    return cases
+
+
+def made_files(cases, kept, outside):
+    """The lines of the program's input, and those of what it should print."""
     given = ["# Made by tools/make_cases.py from tools/cases."]
     want = []
     used = {x.split(" ")[2] for case in cases for x in case.lines if x.startswith("file ")}
@@ -353,8 +347,42 @@ def main():
         check_fault(case, lines)
         given += ["", "case " + case.name] + case.lines
         want += ["case " + case.name] + lines
-    for name, lines in (("stdin", given), ("stdout", want)):
-        with open(os.path.join(asked.into, name), "w", encoding="utf-8") as f:
+    return {"stdin": given, "stdout": want}
+
+
+def compare(path, lines):
+    """Ends where the file has other lines."""
+    with open(path, encoding="utf-8", newline="") as f:
+        stands = f.read().split("\n")
+    wanted = lines + [""]
+    if stands != wanted:
+        k = next((k for k, (a, b) in enumerate(zip(stands, wanted)) if a != b), min(len(stands), len(wanted)))
+        sys.exit("%s: line %d would be another: %s" % (path, k + 1, (wanted[k:k + 1] or ["none"])[0]))
+
+
+def asked_wrongly(fault):
+    print("make_cases.py: %s" % fault, file=sys.stderr)
+    sys.exit(2)
+
+
+def main():
+    asked = argparse.ArgumentParser(description=__doc__, formatter_class=argparse.RawDescriptionHelpFormatter, usage=argparse.SUPPRESS)
+    asked.add_argument("--check", action="store_true")
+    asked.add_argument("--reference", metavar="COMMAND")
+    asked.add_argument("--into", metavar="FOLDER", default=os.path.join(TOP, "crates", "sdd_cases"))
+    asked = asked.parse_args()
+    kept = kept_texts()
+    cases = read_all(kept)
+    try:
+        outside = Outside(asked.reference)
+    except NoProgram as fault:
+        asked_wrongly(fault)
+    for name, lines in made_files(cases, kept, outside).items():
+        path = os.path.normpath(os.path.join(asked.into, name))
+        if asked.check:
+            compare(path, lines)
+            continue
+        with open(path, "w", encoding="utf-8") as f:
             f.write("".join(x + "\n" for x in lines))
     print("%d cases, %d runs of the reference" % (len(cases), len(outside.known)))
 

@@ -11,7 +11,8 @@ are made too, with the catalogue of the first design (`first.toml`), and with `w
 tools/explore.py compares the two.
 
 With --check nothing is written, and each file that would change is told; `graph.svg` is left out then,
-since it depends on the version of `dot` and its fonts, and `waits.svg`, since it takes long.
+since it depends on the version of `dot` and its fonts, and `waits.svg`, since it takes long. The folder
+examples/broken is that of tools/make_broken.py.
 """
 import os
 import shutil
@@ -19,7 +20,7 @@ import subprocess
 import sys
 import tempfile
 
-from command import make_parser, start
+from command import parser, start
 from make_workload import APPLICATIONS, write_workload
 from program import add_program, run_program
 from report import BadInput
@@ -51,7 +52,7 @@ def make(name, program, folder, check):
     """Makes the files of an example in the folder; their names."""
     mine = os.path.join(EXAMPLES, name)
     catalogue, workload = os.path.join(mine, "catalogue.toml"), os.path.join(mine, "workload")
-    made = ["report", "picture.svg"]
+    made, more = ["report", "picture.svg"], ["--program", program] if program else []
     if name in MADE:
         catalogue, workload = write_workload(folder, name, MADE[name])
         made += ["catalogue.toml", "workload"]
@@ -63,12 +64,11 @@ def make(name, program, folder, check):
         made += compare_designs(name, program, folder, check)
     if os.path.exists(workload):
         report = write(folder, "report", run_program(program, ["run", catalogue, workload]))
-        draw("picture.py", [report, catalogue, "--into", os.path.join(folder, "picture.svg")] + WINDOWS.get(name, []))
+        draw("picture.py", [report, catalogue, workload, "--into", os.path.join(folder, "picture.svg")] + more + WINDOWS.get(name, []))
     else:
         made = ["advice"]
         write(folder, "advice", run_program(program, ["advise", catalogue]))
     if shutil.which("dot") and not check:
-        more = ["--program", program] if program else []
         draw("graph_picture.py", [catalogue, "--into", os.path.join(folder, "graph.svg")] + more)
         made.append("graph.svg")
     return made
@@ -106,9 +106,9 @@ def renew(name, program, check):
 
 
 def main():
-    asked = make_parser(__doc__)
+    asked = parser(__doc__)
     add_program(asked)
-    names = sorted(x for x in os.listdir(EXAMPLES) if os.path.isdir(os.path.join(EXAMPLES, x)))
+    names = sorted(x for x in os.listdir(EXAMPLES) if os.path.exists(os.path.join(EXAMPLES, x, "catalogue.toml")))
     asked.add_argument("--only", metavar="NAME", nargs="+", choices=names, help="these examples alone")
     asked.add_argument("--check", action="store_true", help="compare, and write nothing")
     asked = asked.parse_args()

@@ -1,22 +1,27 @@
 #!/usr/bin/env python3
 """Draws what happened in a run: the records of a report of `run`, as a picture (SVG).
 
-    tools/picture.py REPORT [CATALOGUE] [--from EVENT] [--to EVENT] [--title TEXT] [--into FILE]
+    tools/picture.py REPORT [CATALOGUE [WORKLOAD]] [--from EVENT] [--to EVENT] [--title TEXT] [--into FILE]
 
 Time goes from left to right, a column for each event that has a record. There is a lane for each class,
 with an attempt from its start to its commit, and one for each data module, with the reads that came
 there, the changes that were applied, and the times that classes passed. Below stands the serial order.
 CATALOGUE adds the transaction module of each class, and all its classes and modules, in their order;
-without it the lanes are those of which the report speaks. Of a long report the first 120 columns are
-drawn where --from and --to name no others. Under the pointer each mark tells its line of the report.
+without it the lanes are those of which the report speaks. WORKLOAD adds what the network does: packets
+that are lost or repeated, and data modules that are down; the numbers of these events are told by the
+programs that tools/page.py takes. Of a long report the first 120 columns are drawn where --from and --to
+name no others. Under the pointer each mark tells its line of the report.
 """
-import argparse
 import sys
 
+import network
 import svg
 from catalogue import read_catalogue
+from command import parser, start
 from lanes import APPLIES, PASSES, READS, SERVED, WAITING, Columns, Item, Lane, Trace
+from page import add_programs
 from report import BadInput, read_report
+from states import find_programs, list_classes, read_bytes, read_parts, read_text
 
 MOST_COLUMNS = 120
 TOP, ROW, GAP, LEAST_WIDTH = 46, 17, 8, 540
@@ -31,17 +36,19 @@ text{font-family:'DejaVu Sans',Verdana,sans-serif;font-size:10px;fill:#222}
 """
 LEGEND = {"submit": "given to its site", "bar": "an attempt, from its start to its commit", "no": "an attempt that is rejected",
           "wait": "a read waits for these classes to pass these times", "answer": "a read is answered", "reject": "a read is rejected",
-          "apply": "changes are applied", "held": "changes that were held behind the read", "pass": "a class passes a time"}
+          "apply": "changes are applied", "held": "changes that were held behind the read", "pass": "a class passes a time", "lose": "a packet is lost", "repeat": "a packet is repeated",
+          "down": "the data module is down"}
 
 
 class Picture:
-    def __init__(self, report, catalogue, first, last):
+    def __init__(self, report, catalogue, marks, events):
+        first, last = events[0], events[-1]
         self.trace, self.catalogue = Trace(report, first, last), catalogue
-        self.first, self.last = first, last
+        self.first, self.last, self.marks = first, last, marks
         self.lanes, self.anchors, self.kinds = {}, {}, set()
         self.name_lanes()
         self.left = 50 + max(90, *(1.35 * svg.width_of(x.title) for x in self.lanes.values()))
-        self.columns = Columns(report.records, first, last, self.left)
+        self.columns = Columns(events, self.left)
         self.records = [x for x in report.records if self.columns.has(x.event) and x.kind != "nothing"]
 
     def name_lanes(self):
@@ -213,6 +220,7 @@ class Picture:
         self.add_transactions()
         self.add_reads()
         self.add_applies()
+        network.add_marks(self, self.marks)
         y, ground, marks, right = TOP, [], [], self.columns.right + 10
         for lane in self.lanes.values():
             rows = lane.rows()
@@ -296,6 +304,8 @@ class Picture:
     def sample(self, kind, x, y):
         if kind == "submit":
             return [self.triangle(x, y, "#555")]
+        if kind in ("lose", "repeat", "down"):
+            return network.sample(kind, x, y)
         if kind in ("bar", "no", "wait"):
             style = {"bar": "bar", "no": "bar no", "wait": "wait"}[kind]
             return [svg.shape("rect", style, x=x - 9, y=y - 5, width=18, height=10, rx=2, stroke="#555", fill="#555")]
@@ -311,9 +321,9 @@ class Picture:
         return [square]
 
 
-def window(report, first, last):
+def window(report, marks, first, last):
     """The events to be drawn: those asked for, and no more than fit."""
-    events = sorted({x.event for x in report.records if x.kind != "nothing"})
+    events = sorted({x.event for x in report.records if x.kind != "nothing"} | {x.event for x in marks})
     if not events:
         raise BadInput("the report has no record: nothing to draw")
     first = events[0] if first is None else first
@@ -324,27 +334,43 @@ def window(report, first, last):
     if len(chosen) > MOST_COLUMNS:
         chosen = chosen[:MOST_COLUMNS]
         print("events %d to %d of %d are drawn; --from and --to choose others" % (chosen[0], chosen[-1], events[-1]), file=sys.stderr)
-    return chosen[0], chosen[-1]
+    return chosen
+
+
+def marks_of_run(report, asked):
+    """What the network does in the run, and the classes of the workload's lists."""
+    if not asked.workload:
+        return [], []
+    programs = find_programs(asked.program, asked.inside)
+    first, lines = read_text(programs.tell_inside([asked.catalogue, asked.workload]))
+    network.judge_run(report, lines)
+    parts = read_parts(read_bytes(asked.workload).decode())
+    return network.marks_of(first, lines), [x["name"] for x in list_classes(parts)]
 
 
 def main():
-    asked = argparse.ArgumentParser(description=__doc__, formatter_class=argparse.RawDescriptionHelpFormatter, usage=argparse.SUPPRESS)
+    asked = parser(__doc__)
     asked.add_argument("report", metavar="REPORT")
     asked.add_argument("catalogue", metavar="CATALOGUE", nargs="?")
+    asked.add_argument("workload", metavar="WORKLOAD", nargs="?")
     asked.add_argument("--from", dest="first", type=int, metavar="EVENT", help="the first event that is drawn")
     asked.add_argument("--to", dest="last", type=int, metavar="EVENT", help="the last event that is drawn")
     asked.add_argument("--title", default="", help="what stands above")
     asked.add_argument("--into", metavar="FILE", help="the picture's file; without it standard output")
+    add_programs(asked)
     asked = asked.parse_args()
-    try:
-        report = read_report(asked.report)
-        catalogue = read_catalogue(asked.catalogue) if asked.catalogue else None
-        text = Picture(report, catalogue, *window(report, asked.first, asked.last)).draw(asked.title)
-        with open(asked.into, "w", encoding="utf-8") if asked.into else sys.stdout as out:
-            out.write(text)
-    except (BadInput, OSError) as fault:
-        sys.exit("picture.py: %s" % fault)
+    report = read_report(asked.report)
+    catalogue = read_catalogue(asked.catalogue) if asked.catalogue else None
+    marks, lists = marks_of_run(report, asked)
+    if catalogue:
+        network.judge_catalogue(report, catalogue, lists)
+    text = Picture(report, catalogue, marks, window(report, marks, asked.first, asked.last)).draw(asked.title)
+    if not asked.into:
+        return print(text, end="")
+    with open(asked.into, "w", encoding="utf-8") as f:
+        f.write(text)
+    return None
 
 
 if __name__ == "__main__":
-    main()
+    start(main)

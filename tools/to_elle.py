@@ -1,12 +1,12 @@
 #!/usr/bin/env python3
 """Writes the committed transactions of a run as a history for a checker of isolation levels.
 
-    tools/to_elle.py REPORT WORKLOAD CATALOGUE [--into FILE]
+    tools/to_elle.py REPORT WORKLOAD CATALOGUE [--along-order] [--into FILE]
 
 The history is in the list-append form of Elle, as EDN, one operation a line. An item is a row of a
 relation by its key, "account/1"; its versions are a list, to which each transaction that changes the
 row appends its number (that of its `txn` line; 0 is the row that stands in the workload). A process is a
-class, the first one the workload's rows, and the last ones are reads of copies at the end.
+class, the first one the workload's rows; each class reads all copies at the end.
 
 - What a transaction read: of each row that its conditions on keys leave to it, the versions that were
   applied at the module where it reads the row before it was answered there, as the report's records tell.
@@ -18,14 +18,16 @@ class, the first one the workload's rows, and the last ones are reads of copies 
   reads of it: of what was applied there, and of the versions that end with this row (-1 where none does).
 
 tools/check_history.py judges the history. Nothing in it tells of timestamps, but that the versions of
-a row that was read stand in the order in which a copy lets one replace the other.
+a row that was read stand in the order in which a copy lets one replace the other. Nor does it tell the
+serial order of the report; with --along-order all transactions are of one process, in that order, so that
+the order is judged too.
 """
 import json
 import sys
 from typing import NamedTuple
 
 from catalogue import read_catalogue
-from command import make_parser, start
+from command import parser, start
 from report import BadInput, read_report
 from workload import effect, read_workload, reads, with_lists
 
@@ -151,12 +153,12 @@ class Run:
         return ((items[0], (NOBODY,)),)
 
     def final_reads(self):
-        """Of each copy its name and its reads: all of them where all changes are applied, else those of wrong rows."""
+        """The reads of each copy: all of them where all changes are applied, else those of wrong rows."""
         for f in self.catalogue.fragments.values():
             for site in f.copies:
                 if (site, f.name) not in self.report.copies:
                     raise BadInput("the report has no copy %s %s" % (site, f.name))
-                yield "copy %s %s" % (site, f.name), self.copy_reads(site, f, self.report.copies[site, f.name])
+                yield from self.copy_reads(site, f, self.report.copies[site, f.name])
 
     def copy_reads(self, site, fragment, rows):
         key = self.catalogue.relations[fragment.relation].key
@@ -202,21 +204,22 @@ def operation(index, kind, process, name, steps):
         index, kind, process, json.dumps(name), " ".join(steps))
 
 
-def history(run):
+def history(run, along_order=False):
     """The lines of the history: an invoke where a transaction first starts, an ok where it commits."""
     first = [micro("append", item, FIRST_ROWS) for item, v in run.versions.items() if v[0].writer == FIRST_ROWS]
     events = [(-2, "invoke", "rows", first, "rows"), (-1, "ok", "rows", first, "rows")]
     for x in run.committed.values():
+        place = run.report.order.index(x.name)
+        begin, end, process = (place, place, "order") if along_order else (x.begin, x.end, x.process)
         appends = [micro("append", item, x.number) for item in x.changes]
         both = x.reads + x.told
-        events.append((x.begin, "invoke", x.process, [micro("r", item, None) for item, _ in both] + appends, x.name))
-        events.append((x.end, "ok", x.process, [micro("r", *read) for read in both] + appends, x.name))
+        events.append((begin, "invoke", process, [micro("r", item, None) for item, _ in both] + appends, x.name))
+        events.append((end, "ok", process, [micro("r", *read) for read in both] + appends, x.name))
     last = len(run.report.records)
-    for name, final in run.final_reads():
-        if not final:
-            continue
-        events.append((last, "invoke", name, [micro("r", item, None) for item, _ in final], name))
-        events.append((last, "ok", name, [micro("r", *read) for read in final], name))
+    final = list(run.final_reads())
+    for process in list(dict.fromkeys(x[2] for x in events[2:])) or ["copies"]:
+        events.append((last, "invoke", process, [micro("r", item, None) for item, _ in final], "copies"))
+        events.append((last, "ok", process, [micro("r", *read) for read in final], "copies"))
     events.sort(key=lambda x: x[0])
     processes = {}
     for _, _, process, _, _ in events:
@@ -225,15 +228,16 @@ def history(run):
 
 
 def main():
-    asked = make_parser(__doc__)
+    asked = parser(__doc__)
     for name in ("report", "workload", "catalogue"):
         asked.add_argument(name, metavar=name.upper())
+    asked.add_argument("--along-order", action="store_true", help="judge the order of the report too")
     asked.add_argument("--into", metavar="FILE", help="the history's file; without it standard output")
     asked = asked.parse_args()
     catalogue = read_catalogue(asked.catalogue)
     first, transactions = read_workload(asked.workload, catalogue)
     run = Run(read_report(asked.report), transactions, first, with_lists(catalogue, asked.workload))
-    text = "".join(x + "\n" for x in history(run))
+    text = "".join(x + "\n" for x in history(run, asked.along_order))
     if asked.into is None:
         sys.stdout.write(text)
     else:

@@ -1,27 +1,33 @@
 #!/usr/bin/env python3
-"""Writes crates/sdd_rows/specs: the logs of worked workloads, computed by a reference program.
+"""Writes crates/sdd_rows/specs: the logs of worked workloads, computed by the reference (reference/).
 
-    tools/write_log_rows.py --reference FOLDER [--out FOLDER]
-    tools/write_log_rows.py --reference FOLDER --random FIRST COUNT --file FILE [--longest N]
+    tools/write_log_rows.py [--check] [--out FOLDER]
+    tools/write_log_rows.py --random FIRST COUNT --file FILE [--longest N]
 
-FOLDER of the reference program holds a Python package `laws` that reads catalogues and workloads and makes
-their logs. The first form writes the workloads of log_rows.py, each with the equation that the definitions'
-log has the reference's history, number of entries and number of events, and is complete; `rt check` in
-crates/sdd_rows computes them. With --random the logs of COUNT random workloads from the seed FIRST on, with
-losses, repetitions, undeclared transactions, reducers, further lists of classes and modules that are down,
-are written to one FILE, which is for a check by hand and stays out of the repository; logs of more than N
-entries (220 where it isn't given) are left out.
+The first form writes the workloads of log_rows.py, each with the equation that the definitions' log has the
+reference's history, number of entries and number of events, and is complete; `rt check` in crates/sdd_rows
+computes them. With --check nothing is written: it ends with 1 where a file of FOLDER would be another.
+With --random the logs of COUNT random workloads from the seed FIRST on, with losses, repetitions, undeclared
+transactions, reducers, further lists of classes and modules that are down, are written to one FILE, which is
+for a check by hand and stays out of the repository; logs of more than N entries (220 where it isn't given)
+are left out.
 """
+import argparse
 import os
+import random
 import re
 import sys
 
-sys.dont_write_bytecode = True
+from log_rows import ROWS
+import random_input
+from reference.catalogue import read_catalogue
+from reference.graph import protocol_table
+from reference.redeclare import forces
+from reference.statements import Compare, Put, Query, Update
+from reference.workload import read_workload
+from reference.world import World
+
 HERE = os.path.dirname(os.path.abspath(__file__))
-sys.path.insert(0, HERE)
-from command import make_parser, start  # noqa: E402
-from log_rows import ROWS  # noqa: E402
-from report import BadInput  # noqa: E402
 
 OPERATORS = {"=": "Eq", "!=": "Ne", "<": "Lt", "<=": "Le", ">": "Gt", ">=": "Ge"}
 IMPORTS = [
@@ -79,150 +85,176 @@ def rel(n):
     return number("rel_no", n)
 
 
-def ref(r):
-    return fields(part=r[0], column=r[1])
+def ref(c):
+    return fields(part=c.part + 1, column=c.place + 1)
 
 
 def condition(c):
-    if c[0] == "const":
-        return "(Const %s %s %s)" % (ref(c[1]), OPERATORS[c[2]], value(c[3]))
-    return "(Same %s %s)" % (ref(c[1]), ref(c[2]))
+    if isinstance(c, Compare):
+        return "(Const %s %s %s)" % (ref(c.column), OPERATORS[c.op], value(c.value))
+    return "(Same %s %s)" % (ref(c.left), ref(c.right))
 
 
 def assign(a):
-    return "(To %d %s)" % (a[1], value(a[2])) if a[0] == "to" else "(Add %d %s)" % (a[1], whole(a[2]))
-
-
-def statement(s):
-    if s[0] == "put":
-        return "(Put %s %s)" % (rel(s[1]), row(s[2]))
-    if s[0] == "query":
-        return "(Query %s %s %s)" % (listed(map(ref, s[1])), listed(map(rel, s[2])), listed(map(condition, s[3])))
-    if s[0] == "update":
-        return "(Update %s %s %s)" % (rel(s[1]), listed(map(assign, s[2])), listed(map(condition, s[3])))
-    return "(Delete %s %s)" % (rel(s[1]), listed(map(condition, s[2])))
+    return "(Add %d %s)" % (a.place + 1, whole(a.value)) if a.adds else "(To %d %s)" % (a.place + 1, value(a.value))
 
 
 def site(s):
-    return "U" if s[0] == 0 else "(%s (%s %d))" % ("UTD"[s[0]], ("", "tm_no", "dm_no")[s[0]], s[1])
+    return "U" if s.kind == "U" else "(%s (%s %d))" % (s.kind, {"T": "tm_no", "D": "dm_no"}[s.kind], s.number)
 
 
 def event(e):
-    kind = e[0]
-    if kind == "submit":
-        return "Submit %s" % number("txn_no", e[1])
-    if kind in ("deliver", "lose", "repeat"):
-        return "%s %s %s %d" % (kind.capitalize(), site(e[1]), site(e[2]), e[3])
-    if kind == "resend":
-        return "Resend %s %s" % (site(e[1]), site(e[2]))
-    if kind == "tick":
-        return "Tick %s %d" % (number("tm_no", e[1]), e[2])
-    if kind in ("down", "up"):
-        return "%s %s" % (kind.capitalize(), number("dm_no", e[1]))
-    return kind.capitalize()
+    words = [e.word.capitalize()]
+    if e.word == "submit":
+        words.append(number("txn_no", e.txn))
+    elif e.word == "tick":
+        words.append(number("tm_no", e.a.number))
+    elif e.word in ("down", "up"):
+        words.append(number("dm_no", e.a.number))
+    elif e.a:
+        words += [site(e.a), site(e.b)]
+    return " ".join(words + ([str(e.n)] if e.n else []))
 
 
-def frags(numbers):
-    return listed(number("frag_no", f) for f in numbers)
+class Numbers:
+    """What the definitions know by numbers, and the reference by names."""
 
+    def __init__(self, cat):
+        self.relation = {r.name: k for k, r in enumerate(cat.relations, 1)}
+        self.fragment = {f.name: k for k, f in enumerate(cat.fragments, 1)}
+        self.fragment_of = cat.fragment_of
 
-def use(u):
-    restrictions = listed(fields(column=c, op=OPERATORS[o], value=value(v)) for c, o, v in u.restr)
-    return fields(number=u.no, rel=rel(u.rel), frags=frags(u.frags), restrictions=restrictions)
+    def rel(self, name):
+        return rel(self.relation[name])
 
+    def frag(self, name):
+        return number("frag_no", self.fragment[name])
 
-def cond(c):
-    return fields(**{"class": number("class_no", c.cls), "time": number("time_at", c.time), "frags": frags(c.frags)})
+    def frags(self, names):
+        return listed(map(self.frag, names))
+
+    def statement(self, s):
+        if isinstance(s, Put):
+            return "(Put %s %s)" % (self.rel(s.relation), row(s.row))
+        conds = listed(map(condition, s.conds))
+        if isinstance(s, Query):
+            return "(Query %s %s %s)" % (listed(map(ref, s.columns)), listed(map(self.rel, s.relations)), conds)
+        if isinstance(s, Update):
+            return "(Update %s %s %s)" % (self.rel(s.relation), listed(map(assign, s.assigns)), conds)
+        return "(Delete %s %s)" % (self.rel(s.relation), conds)
+
+    def use(self, u):
+        restrictions = listed(fields(column=c.column.place + 1, op=OPERATORS[c.op], value=value(c.value)) for c in u.conds)
+        return fields(number=u.number, rel=self.rel(u.relation), frags=self.frags(u.fragments), restrictions=restrictions)
+
+    def cond(self, c):
+        return fields(**{"class": number("class_no", c.cls), "time": number("time_at", c.time), "frags": self.frags(c.fragments)})
+
+    def changes(self, changes):
+        """By fragment and then by key."""
+        placed = [(self.fragment[self.fragment_of(*item)], item[1], new) for item, new in changes.items()]
+        return listed(fields(frag=number("frag_no", f), key=whole(key), row="None" if new is None else "(Some %s)" % row(new))
+                      for f, key, new in sorted(placed, key=lambda x: x[:2]))
+
+    def record(self, r):
+        txn, cls, dm = number("txn_no", r.txn), number("class_no", r.cls), number("dm_no", r.dm)
+        time = number("time_at", r.time)
+        if r.kind == "nothing":
+            return "Nothing"
+        if r.kind == "submit":
+            return "Submission " + txn
+        if r.kind == "pass":
+            return " ".join(["Pass", cls, dm, time])
+        if r.kind == "start":
+            p2 = "None" if r.p2 is None else "(Some %s)" % number("time_at", r.p2)
+            return "Start %s %d %s %s %s %s" % (txn, r.attempt, cls, time, p2, listed(map(self.use, r.uses)))
+        if r.kind == "commit":
+            return "Commit %s %d %s %s %d %d" % (txn, r.attempt, reply(r.reply), self.changes(r.changes), r.values, r.rows)
+        if r.kind == "apply":
+            return " ".join(["Apply", txn, cls, dm, time])
+        more = {"wait": " " + listed(map(self.cond, r.conds)), "reject": " %s %s" % (cls, time)}.get(r.kind, "")
+        return "%s %s %d %s%s" % (r.kind.capitalize(), txn, r.attempt, dm, more)
 
 
 def reply(r):
-    if r[0] == "ok":
-        return "(Rows %s)" % listed(listed(map(row, a)) for a in r[1])
-    return {"overflow": "Overflow", "toomany": "TooMany"}[r[0]]
-
-
-def change(x):
-    (f, key), new = x
-    return fields(frag=number("frag_no", f), key=whole(key), row="None" if new is None else "(Some %s)" % row(new))
-
-
-def record(r):
-    kind = type(r).__name__
-    if kind == "Nothing":
-        return kind
-    if kind == "Submit":
-        return "Submission %s" % number("txn_no", r.txn)
-    if kind == "Pass":
-        return "Pass %s %s %s" % (number("class_no", r.cls), number("dm_no", r.dm), number("time_at", r.time))
-    txn = number("txn_no", r.txn)
-    if kind == "Start":
-        p2 = "None" if r.p2 is None else "(Some %s)" % number("time_at", r.p2)
-        return "Start %s %d %s %s %s %s" % (txn, r.attempt, number("class_no", r.cls), number("time_at", r.ts), p2, listed(map(use, r.uses)))
-    if kind == "Commit":
-        return "Commit %s %d %s %s %d %d" % (txn, r.attempt, reply(r.reply), listed(map(change, r.changes)), r.values, r.rows)
-    if kind == "Apply":
-        return "Apply %s %s %s %s" % (txn, number("class_no", r.cls), number("dm_no", r.dm), number("time_at", r.ts))
-    at = "%s %s %d %s" % (kind, txn, r.attempt, number("dm_no", r.dm))
-    if kind == "Wait":
-        return at + " " + listed(map(cond, r.conds))
-    if kind == "Reject":
-        return at + " %s %s" % (number("class_no", r.cls), number("time_at", r.ts))
-    return at
+    if r.kind == "ok":
+        return "(Rows %s)" % listed(listed(map(row, a)) for a in r.answers)
+    return {"overflow": "Overflow", "toomany": "TooMany"}[r.kind]
 
 
 def catalogue(c, name):
     def column(x):
         return fields(name="[]", kind="kinds.Int" if x[1] == "int" else "kinds.Text")
 
-    relations = [fields(name="[]", columns=listed(map(column, r.cols)), key=r.key) for r in c.rels]
+    numbers = Numbers(c)
+    relations = [fields(name="[]", columns=listed(map(column, r.columns)), key=r.key_place + 1) for r in c.relations]
     fragments = [
-        fields(name="[]", rel=rel(f.rel), least=whole(f.lo), greatest=whole(f.hi), copies=listed(number("dm_no", d) for d in f.copies))
-        for f in c.frags
+        fields(name="[]", rel=numbers.rel(f.relation), least=whole(f.low), greatest=whole(f.high),
+               copies=listed(number("dm_no", d) for d in f.copies))
+        for f in c.fragments
     ]
     classes = [
         fields(name="[]", tm=number("tm_no", k.tm),
-               reads=listed(fields(fragment=number("frag_no", f), at=number("dm_no", d)) for f, d in k.reads), writes=frags(k.writes))
+               reads=listed(fields(fragment=numbers.frag(f), at=number("dm_no", d)) for f, d in k.reads), writes=numbers.frags(k.writes))
         for k in c.classes
     ]
     return "abbrev pub %s : Catalogue\n%s = record {\n  tms = %d;\n  dms = %d;\n  relations =\n%s;\n  fragments =\n%s;\n  classes =\n%s;\n}\n" % (
         name, name, c.tms, c.dms, lines(relations, 6), lines(fragments, 6), lines(classes, 6))
 
 
-def edge(e):
-    numbers = [number("class_no", n) for n in e[1:3]]
-    if e[0] == "V":
-        return "(Vertical %s)" % numbers[0]
-    if e[0] == "H":
-        return "(Horizontal %s %s)" % tuple(numbers)
-    return "(Diagonal %s %s %s)" % (numbers[0], numbers[1], number("frag_no", e[3]))
+def edge(e, numbers):
+    of = [number("class_no", n) for n in (e.i, e.j) if n] + ([numbers.frag(e.fragment)] if e.fragment else [])
+    return "(%s %s)" % (e.kind.capitalize(), " ".join(of))
 
 
 def table(c):
-    t = c.table()
-    return [fields(edge=edge(e), block=b, protocol="P%d" % t.protocol.get(e, 1)) for e, b in zip(t.edges, t.blocks)]
+    numbers = Numbers(c)
+    return [fields(edge=edge(e.edge, numbers), block=e.block, protocol=e.protocol if e.edge.kind == "diagonal" else "P1")
+            for e in protocol_table(c)]
 
 
-def written(name, shows, log):
+class Counted(World):
+    """A world that counts the entries of its log: marks, rounds, submissions, notes, hands, and what sites do."""
+
+    def __init__(self, cat, work):
+        super().__init__(cat, work)
+        self.entries, rounds = 0, set()
+        for happened in self.happens():
+            rounds.add((happened.of, happened.round))
+            self.entries += 1 + (happened.event.word == "submit") + (happened.found in (None, False))
+        self.entries += sum(1 for _, number in rounds if number)
+
+    def note(self, site, record, sends):
+        self.entries += 1
+        super().note(site, record, sends)
+
+    def hand_over(self):
+        handed = super().hand_over()
+        self.entries += len(handed)
+        return handed
+
+
+def written(name, shows, first, work):
     """The definitions and equations of one log."""
-    work = log.work
-    count = len(log.entries)
+    world = Counted(first, work)
+    eras, numbers, count = forces(first, work.lists), Numbers(first), world.entries
     text = "" if shows is None else "-- %s\n\n" % shows
     whole_cat = "catalogue_of_" + name
-    same = len(log.eras) == 1
-    text += catalogue(log.whole, whole_cat)
-    names = [whole_cat] if same else ["classes_of_%s_%d" % (name, k) for k in range(len(log.eras))]
+    same = len(eras) == 1
+    text += catalogue(world.cat, whole_cat)
+    names = [whole_cat] if same else ["classes_of_%s_%d" % (name, k) for k in range(len(eras))]
     if not same:
-        text += "".join("\n" + catalogue(era, n) for era, n in zip(log.eras, names))
-    rows = ["(%s, %s)" % (rel(r), row(x)) for r, x in work.rows]
-    txns = [fields(name="[]", tm=number("tm_no", t.tm), statements=listed(map(statement, t.stmts))) for t in work.txns]
-    forces = ["(record {\n        catalogue = %s;\n        table =\n%s;\n      })" % (n, lines(table(era), 12)) for n, era in zip(names, log.eras)]
+        text += "".join("\n" + catalogue(era, n) for era, n in zip(eras, names))
+    rows = ["(%s, %s)" % (numbers.rel(r), row(x)) for r, x in work.rows]
+    txns = [fields(name="[]", tm=number("tm_no", t.tm), statements=listed(map(numbers.statement, t.statements))) for t in work.txns]
+    given = ["(record {\n        catalogue = %s;\n        table =\n%s;\n      })" % (n, lines(table(era), 12)) for n, era in zip(names, eras)]
     text += "\nabbrev pub given_%s : Given\ngiven_%s = record {\n  catalogue = %s;\n  forces =\n%s;\n  rows = %s;\n  txns =\n%s;\n  events =\n%s;\n}\n" % (
-        name, name, whole_cat, lines(forces, 6), listed([listed(rows)] * log.whole.dms), lines(txns, 6), lines(map(event, work.events), 6))
+        name, name, whole_cat, lines(given, 6), listed([listed(rows)] * first.dms), lines(txns, 6), lines(map(event, work.events), 6))
     text += "\nabbrev pub log_of_%s : Log\nlog_of_%s = extended %d given_%s []\n" % (name, name, count, name)
-    history = lines(["(%d, %s)" % (e, record(r)) for e, r in log.history()], 4)
+    history = lines(["(%d, %s)" % (r.event, numbers.record(r)) for r in world.records], 4)
     text += "\npub history_of_%s :\n    history log_of_%s ≡\n%s\nhistory_of_%s = refl\n" % (name, name, history, name)
     text += "\npub all_of_%s : (next given_%s log_of_%s ≡ None) × (length log_of_%s ≡ %d) × (marks log_of_%s ≡ %d)\nall_of_%s = (refl, refl, refl)\n" % (
-        name, name, name, name, count, name, len(log.marks), name)
+        name, name, name, name, count, name, world.events, name)
     return text, count
 
 
@@ -244,53 +276,67 @@ def imported(body):
     return head
 
 
-def write_random(gen, options):
-    """The logs of random workloads, to one file."""
-    first, wanted = options.random
+def random_logs(first, wanted, longest):
+    """The text of the logs of random workloads, and how many entries they have."""
     parts, seed, entries = [], first, 0
     while len(parts) < wanted:
-        log = gen.rand_log(seed, sizes=(2, 4, 5, 14), stage=18)
+        rng = random.Random(seed)
+        cat, work = random_input.scheduled(rng, rng.random() < 0.3)
+        text, count = written("seed_%d" % seed, None, cat, work)
         seed += 1
-        if len(log.entries) <= options.longest:
-            text, count = written("seed_%d" % (seed - 1), None, log)
+        if count <= longest:
             parts.append(text)
             entries += count
-    body = "\n".join(parts)
-    with open(options.file, "w", encoding="utf-8") as out:
-        out.write("-- Logs of random workloads.\n" + imported(body) + "\n" + body)
     print("%d logs, %d entries, seeds %d to %d" % (len(parts), entries, first, seed - 1))
+    return "\n".join(parts)
+
+
+def worked_logs():
+    """The text of each module."""
+    modules = {}
+    for name, module, shows, catalogue_text, work in ROWS:
+        cat = read_catalogue(catalogue_text.encode())
+        text, count = written(name, shows, cat, read_workload(cat, work.encode()))
+        modules.setdefault(module, []).append(text)
+        print("%s.%s: %d entries" % (module, name, count))
+    return {module: "\n".join(parts) for module, parts in modules.items()}
+
+
+def write(path, about, body):
+    with open(path, "w", encoding="utf-8") as out:
+        out.write("-- %s\n" % about + imported(body) + "\n" + body)
+
+
+def differs(path, about, body):
+    with open(path, encoding="utf-8") as there:
+        return there.read() != "-- %s\n" % about + imported(body) + "\n" + body
 
 
 def main():
-    asked = make_parser(__doc__)
-    asked.add_argument("--reference", required=True, metavar="FOLDER")
+    asked = argparse.ArgumentParser(description=__doc__, formatter_class=argparse.RawDescriptionHelpFormatter, usage=argparse.SUPPRESS)
+    asked.add_argument("--check", action="store_true")
     asked.add_argument("--out", metavar="FOLDER", default=os.path.join(HERE, "..", "crates", "sdd_rows", "specs"))
     asked.add_argument("--random", nargs=2, type=int, metavar=("FIRST", "COUNT"))
-    asked.add_argument("--file")
+    asked.add_argument("--file", metavar="FILE")
     asked.add_argument("--longest", type=int, default=220, metavar="N")
-    options = asked.parse_args()
-    if options.random and not options.file:
-        raise BadInput("--random needs --file")
-    sys.path.insert(0, options.reference)
-    try:
-        from laws import gen, log as logs, model
-    except ImportError as fault:
-        raise BadInput("%s: %s" % (options.reference, fault)) from None
-
-    if options.random:
-        write_random(gen, options)
-        return
-    modules = {}
-    for name, module, shows, cat, work in ROWS:
-        c = model.parse_cat(cat)
-        text, count = written(name, shows, logs.the_log(c, model.parse_work(c, work), 18))
-        modules.setdefault(module, []).append(text)
-        print("%s.%s: %d entries" % (module, name, count))
-    for module, parts in modules.items():
-        body = "\n".join(parts)
-        with open(os.path.join(options.out, module + ".antt"), "w", encoding="utf-8") as out:
-            out.write("-- Worked logs, written by tools/write_log_rows.py.\n" + imported(body) + "\n" + body)
+    asked = asked.parse_args()
+    if (asked.random is None) != (asked.file is None):
+        print("write_log_rows.py: --random and --file go together", file=sys.stderr)
+        return 2
+    if asked.random:
+        write(asked.file, "Logs of random workloads.", random_logs(*asked.random, asked.longest))
+        return 0
+    different = 0
+    for module, body in worked_logs().items():
+        path = os.path.normpath(os.path.join(asked.out, module + ".antt"))
+        about = "Worked logs, written by tools/write_log_rows.py."
+        if not asked.check:
+            write(path, about, body)
+        elif differs(path, about, body):
+            different += 1
+            print("%s would be another" % path)
+    return 1 if different else 0
 
 
 if __name__ == "__main__":
-    start(main)
+    sys.exit(main())

@@ -1,0 +1,54 @@
+"""Answers to calls of `sdd1`: a status, what standard error is told, and what standard output is, as bytes.
+
+The reference of this repository answers in this process; a program by a command, on files in a folder of its own.
+"""
+import os
+import shlex
+import shutil
+import subprocess
+import sys
+import tempfile
+
+sys.path.insert(0, os.path.join(os.path.dirname(os.path.abspath(__file__)), ".."))
+
+from reference.commands import answer  # noqa: E402
+
+ROOM = "/dev/shm" if os.path.isdir("/dev/shm") else None
+SECONDS = 120
+
+
+class NoProgram(Exception):
+    """Why a command doesn't run, in one line."""
+
+
+def reference_answer(words, files):
+    def read(name):
+        if name not in files:
+            raise FileNotFoundError(name)
+        return files[name]
+    status, told, text = answer(words, read)
+    return status, told.encode(), text.encode()
+
+
+class Program:
+    def __init__(self, name, command):
+        self.name, self.command = name, shlex.split(command)
+        first = self.command[0] if self.command else ""
+        found = shutil.which(first)
+        if found is None:
+            raise NoProgram("%s: no such program" % (first or "''"))
+        self.command[0] = os.path.abspath(found)
+
+    def answer(self, words, files):
+        with tempfile.TemporaryDirectory(prefix="sdd1-calls-", dir=ROOM) as room:
+            for name, data in files.items():
+                os.makedirs(os.path.dirname(os.path.join(room, name)), exist_ok=True)
+                with open(os.path.join(room, name), "wb") as f:
+                    f.write(data)
+            try:
+                done = subprocess.run(self.command + words, cwd=room, capture_output=True, timeout=SECONDS)
+            except subprocess.TimeoutExpired:
+                return "no answer in %d seconds" % SECONDS, b"", b""
+            except OSError as fault:
+                raise NoProgram("%s: %s" % (self.command[0], fault.strerror)) from None
+        return done.returncode, done.stderr, done.stdout

@@ -1,0 +1,115 @@
+"""What a schedule does to packets and data modules: what it loses and repeats, and which modules are down.
+
+    marks = marks_of(first, lines)      # of the text of a run's events (docs/INSIDE.md)
+
+A report has no record of it; tools/picture.py draws it where it is given the workload.
+"""
+from typing import NamedTuple
+
+import svg
+from lanes import NETWORK, Item
+from replay import Reader
+from report import BadInput
+
+LOST = "#c62828"
+DOWN = {"fill": LOST, "fill_opacity": ".12", "stroke": LOST, "stroke_width": ".8", "stroke_dasharray": "2 2"}
+
+
+class Mark(NamedTuple):
+    event: int
+    kind: str               # lose, repeat, down, up
+    site: str               # the data module in whose lane it stands, or U
+    line: str               # as a workload spells it
+    text: str
+
+
+def lane_of(a, b):
+    """A link has one data module, or joins U and a transaction module."""
+    return next((x for x in (a, b) if x[0] == "D"), "U")
+
+
+def marks_of(first, lines):
+    reader, marks = Reader(first), []
+    for line in lines:
+        reader.apply(line)
+        words = line["do"].split(" ")
+        if line.get("nothing") or words[0] not in ("lose", "repeat", "down", "up"):
+            continue
+        text = words[0]
+        if words[0] in ("lose", "repeat"):
+            packet = line["took"] if words[0] == "lose" else reader.flight[words[1], words[2]][-1]
+            text = "%s %s to %s" % ({"lose": "lost", "repeat": "repeated"}[words[0]], reader.label(tuple(words[1:3]), packet), words[2])
+        site = lane_of(*words[1:3]) if len(words) > 3 else words[1]
+        marks.append(Mark(line["event"], words[0], site, "%d %s" % (line["event"], line["do"]), text))
+    return marks
+
+
+def judge_run(report, lines):
+    """Refuses a workload that isn't that of the report."""
+    told = [(x.event, x.txn) for x in report.records if x.kind == "submit"]
+    done = [(x["event"], x["do"].split(" ")[1]) for x in lines if x["do"].startswith("submit ")]
+    if told != done:
+        raise BadInput("the workload isn't that of the report: it submits other transactions, or at other events")
+
+
+def judge_catalogue(report, catalogue, lists):
+    """Refuses a catalogue that isn't that of the run; LISTS are the classes of the workload's lists."""
+    copies = {(site, x.name) for x in catalogue.fragments.values() for site in x.copies}
+    if copies != set(report.copies):
+        site, name = min(copies ^ set(report.copies))
+        raise BadInput("the catalogue isn't that of the run: %s has a copy of %s at %s, the other one has none" % (
+            "it" if (site, name) in copies else "the report", name, site))
+    unknown = {x.cls for x in report.records if x.cls} - {"-"} - set(catalogue.classes) - set(lists)
+    if unknown:
+        raise BadInput("the catalogue isn't that of the run: it has no class %s; one of a list is known by the WORKLOAD" % min(unknown))
+
+
+# How marks are drawn.
+
+def add_marks(picture, marks):
+    """Puts the marks into the lanes of a picture."""
+    downs = {}
+    for mark in marks:
+        lane = picture.lanes.get(("module", mark.site) if mark.site != "U" else ("class", "-"))
+        if lane is None:
+            continue
+        if mark.kind == "down":
+            downs[mark.site] = mark
+        elif mark.kind == "up":
+            add_down(picture, lane, downs.pop(mark.site), mark)
+        elif picture.columns.has(mark.event):
+            add_packet(picture, lane, mark)
+    for mark in downs.values():
+        add_down(picture, picture.lanes["module", mark.site], mark, None)
+
+
+def add_packet(picture, lane, mark):
+    x = picture.columns.x(mark.event)
+    picture.kinds.add(mark.kind)
+
+    def draw(y):
+        return sample(mark.kind, x, y, mark.line) + [svg.label(x + 8, y + 3.5, mark.text)]
+    lane.add(NETWORK, Item(x - 6, x + 11 + svg.width_of(mark.text), draw))
+
+
+def add_down(picture, lane, begin, end):
+    if not picture.is_open(begin, end):
+        return
+    left, over = picture.columns.x(begin.event), end is not None and end.event <= picture.last
+    right = max(left + 8, picture.columns.x(end.event) if over else picture.columns.right)
+    told = begin.line + ("\n" + end.line if end else "")
+    picture.kinds.add("down")
+
+    def draw(y):
+        return [svg.shape("rect", "", told, x=left, y=y - 6, width=right - left, height=12, **DOWN), svg.label(left + 4, y + 3.5, "down")]
+    lane.add(NETWORK, Item(left - 1, max(right, left + 34) + 3, draw))
+
+
+def sample(kind, x, y, told=None):
+    if kind == "down":
+        return [svg.shape("rect", "", told, x=x - 9, y=y - 5, width=18, height=10, **DOWN)]
+    if kind == "lose":
+        path = "M%s %sl7 7m0 -7l-7 7" % (svg.number(x - 3.5), svg.number(y - 3.5))
+        return [svg.shape("path", "", told, d=path, stroke=LOST, stroke_width="2"),
+                svg.shape("circle", "", cx=x, cy=y, r=5.5, fill="none", stroke=LOST)]
+    return [svg.shape("circle", "", told, cx=x + dx, cy=y, r=3.2, fill="none", stroke="#444", stroke_width="1.4") for dx in (-2, 2.5)]

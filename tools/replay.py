@@ -1,0 +1,63 @@
+"""A reader of the text of a run's events, by its two rules alone: what a page has to show at an event.
+
+    reader = Reader(first)
+    for line in lines:
+        reader.apply(line)
+"""
+from collections import defaultdict
+
+
+class Contradiction(Exception):
+    """A text that can't be one of a run."""
+
+
+class Reader:
+    def __init__(self, first):
+        self.event, self.bodies = 0, {}
+        self.flight, self.queues, self.pipes = defaultdict(list), defaultdict(list), defaultdict(list)
+        self.sent, self.acked, self.delivered, self.handed = (defaultdict(int) for _ in range(4))
+        self.passed, self.sites = {}, {}
+        self.copies = {(x["at"], x["fragment"]): list(x["rows"]) for x in first["copies"]}
+
+    def apply(self, line):
+        words = line["do"].split(" ")
+        self.event = line["event"]
+        if "took" in line:
+            self.take(line, tuple(words[1:3]), int(words[3]))
+        if "delivered" in line:
+            self.delivered[words[1], words[2]] = line["delivered"]
+        if "acked" in line:
+            self.acked[words[2], words[1]] = line["acked"]
+        for a, b, n in line.get("handed", ()):
+            self.handed[a, b] = n
+        for a, b, put in line.get("put", ()):
+            self.put((a, b), put)
+        for x in line.get("queues", ()):
+            self.queues[x["class"]] = (self.queues[x["class"]] + x.get("in", []))[x.get("out", 0):]
+        for x in line.get("pipes", ()):
+            place = x["at"], x["class"]
+            self.pipes[place] = (self.pipes[place] + x.get("in", []))[x.get("out", 0):]
+            self.passed[place] = x.get("passed", self.passed.get(place))
+        for x in line.get("sites", ()):
+            self.sites[x["at"]] = x
+
+    def take(self, line, link, place):
+        flight = self.flight[link]
+        if place > len(flight) or flight[place - 1] != line["took"]:
+            raise Contradiction("event %d takes what isn't at that place" % self.event)
+        del flight[place - 1]
+
+    def put(self, link, told):
+        for x in told:
+            if isinstance(x, dict) and "n" in x:
+                self.bodies[link + (x["n"],)] = x
+                self.sent[link] = x["n"]
+                x = x["n"]
+            self.flight[link].append(x)
+
+    def label(self, link, packet):
+        """A packet as a page names it."""
+        if isinstance(packet, dict):
+            return "ack %d" % packet["ack"]
+        told = self.bodies[link + (packet,)]
+        return told["kind"] + (" %d" % told["time"] if "time" in told else "")
