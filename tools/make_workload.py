@@ -18,7 +18,7 @@ readers    as `classes`, where each reads all fragments at 16 data modules, and 
 
 Known applications, N drawn transactions each, in several designs (examples/ has a chapter on each):
 
-smallbank  a bank with two branches: first, tellers, branches, steps, apart, audit, audit_class, audit_copy
+smallbank  a bank with two branches: first, tellers, branches, together, steps, apart, audit, audit_class, audit_copy
 tatp       the register of a telephone network: first, owners, merged
 ycsb       reads, changes and scans of one table: first, routed, scanner
 tpcc       a wholesale supplier with two warehouses: first, writers, queued, owners, beside
