@@ -28,6 +28,7 @@ from typing import NamedTuple
 
 from catalogue import read_catalogue
 from command import parser, start
+from covering import read_set
 from report import BadInput, read_report
 from workload import effect, read_workload, reads, with_lists
 
@@ -85,14 +86,12 @@ class Run:
     def seen_by(self, commit):
         """For each fragment that the attempt reads, whose changes are seen there."""
         seen = {}
-        for relation, low, high in reads(self.transaction(commit.txn), self.catalogue):
-            for f in self.catalogue.fragments.values():
-                if f.relation == relation and max(low, f.low) <= min(high, f.high):
-                    module = self.catalogue.read_at(self.class_of(commit), f.name)
-                    answered = self.answered.get((commit.txn, commit.attempt, module))
-                    if answered is None:
-                        raise BadInput("%s#%d has no answer at %s" % (commit.txn, commit.attempt, module))
-                    seen[f.name] = {n for place, n in self.applied.get(module, []) if place < answered}
+        for fragment in read_set(self.transaction(commit.txn), self.catalogue):
+            module = self.catalogue.read_at(self.class_of(commit), fragment)
+            answered = self.answered.get((commit.txn, commit.attempt, module))
+            if answered is None:
+                raise BadInput("%s#%d has no answer at %s" % (commit.txn, commit.attempt, module))
+            seen[fragment] = {n for place, n in self.applied.get(module, []) if place < answered}
         return seen
 
     def changes(self, commit, seen):

@@ -235,12 +235,11 @@ def effect(transaction, database, catalogue):
                 return Reply("toomany", ()), {}
             answers.append(rows)
         else:
-            for row in database[relation].values():
-                if meets(row, s.conditions, 0):
-                    new = updated(row, s.sets) if s.kind == "update" else None
-                    if new == ():
-                        return Reply("overflow", ()), {}
-                    changes[relation, row[key]] = new
+            met = [row for row in database[relation].values() if meets(row, s.conditions, 0)]
+            found = {(relation, row[key]): updated(row, s.sets) if s.kind == "update" else None for row in met}
+            if () in found.values():
+                return Reply("overflow", ()), {}
+            changes.update(found)
     return Reply("ok", tuple(answers)), changes
 
 
