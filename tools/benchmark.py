@@ -22,7 +22,7 @@ import tempfile
 import threading
 from typing import NamedTuple
 
-from command import make_parser, split_command, start
+from command import parser, parts_of, start
 from make_workload import MEASURED, write_workload
 from program import CRATE
 from report import BadInput
@@ -119,7 +119,7 @@ def built():
 
 
 def main():
-    asked = make_parser(__doc__)
+    asked = parser(__doc__)
     asked.add_argument("--program", metavar="COMMAND", help="a built `sdd1`")
     asked.add_argument("--reference", metavar="COMMAND", help="a program that takes the same words")
     asked.add_argument("--only", metavar="KIND", nargs="+", choices=list(dict(CALLS)), help="these workloads alone")
@@ -128,8 +128,8 @@ def main():
     asked = asked.parse_args()
     if asked.part < 1 or asked.seconds < 1:
         raise BadInput("--part and --seconds are 1 or more")
-    program = built() if asked.program is None else split_command(asked.program)
-    reference = None if asked.reference is None else split_command(asked.reference)
+    program = built() if asked.program is None else parts_of(asked.program)
+    reference = None if asked.reference is None else parts_of(asked.reference)
     rows = [HEAD + (["time: ratio", "MB: ratio", "same text"] if reference else [])]
     for kind, command in CALLS:
         if asked.only and kind not in asked.only:

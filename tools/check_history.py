@@ -25,7 +25,7 @@ It prints what it found, a line each, and ends with status 1; or one line with t
 import re
 import sys
 
-from command import make_parser, start
+from command import parser, start
 from report import BadInput
 
 TOKEN = re.compile(r'[\s,]*([\[\](){}]|"(?:[^"\\]|\\.)*"|[^\s,\[\](){}"]+)')
@@ -186,20 +186,17 @@ class Graph:
             return None
         start = min(on_one)
         came, front = {start: None}, [start]
-        while front:
+        while not any(start in self.edges[a] for a in front):
             longer = []
-            for a in front:
-                for b in sorted(self.edges[a]):
-                    if b == start:
-                        path = [a]
-                        while came[path[-1]] is not None:
-                            path.append(came[path[-1]])
-                        return path[::-1]
-                    if b in on_one and b not in came:
-                        came[b] = a
-                        longer.append(b)
+            for a, b in ((a, b) for a in front for b in sorted(self.edges[a])):
+                if b in on_one and b not in came:
+                    came[b] = a
+                    longer.append(b)
             front = longer
-        raise AssertionError("a component without a cycle")
+        path = [next(a for a in front if start in self.edges[a])]
+        while came[path[-1]] is not None:
+            path.append(came[path[-1]])
+        return path[::-1]
 
     def components(self):
         """The strongly connected components, by two walks over the graph."""
@@ -241,7 +238,7 @@ def told(graph, cycle):
 
 
 def main():
-    asked = make_parser(__doc__)
+    asked = parser(__doc__)
     asked.add_argument("history", metavar="HISTORY")
     asked = asked.parse_args()
     graph = Graph(read_history(asked.history))

@@ -1,6 +1,6 @@
 """What the commands of tools/ share: their help, and refusals in one line with status 2.
 
-    asked = make_parser(__doc__)
+    asked = parser(__doc__)
     ..
     if __name__ == "__main__":
         start(main)
@@ -16,7 +16,7 @@ from report import BadInput
 REFUSED = 2
 
 
-def make_parser(text):
+def parser(text):
     """A reader of the command line whose help is the text, and which refuses in one line."""
     return argparse.ArgumentParser(description=text, formatter_class=argparse.RawDescriptionHelpFormatter, usage=argparse.SUPPRESS)
 
@@ -54,7 +54,7 @@ def describe_fault(fault):
     return " ".join(str(fault).split())
 
 
-def split_command(command):
+def parts_of(command):
     """The program and the words of a command that somebody gave as one text."""
     try:
         parts = shlex.split(command)
@@ -67,7 +67,7 @@ def split_command(command):
 
 def run_outside(command, words=(), **more):
     """Runs a command, one text or a list of words; what it prints is bytes."""
-    parts = split_command(command) if isinstance(command, str) else list(command)
+    parts = parts_of(command) if isinstance(command, str) else list(command)
     try:
         return subprocess.run(parts + list(words), stdout=subprocess.PIPE, stderr=subprocess.PIPE, **more)
     except OSError as fault:

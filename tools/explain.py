@@ -13,7 +13,7 @@ is wrong there, as far as the script can see; and what usually helps.
 import re
 import sys
 
-from command import make_parser, start
+from command import parser, start
 from explaining_catalogue import explain_part
 from explaining_workload import explain_line
 from report import BadInput, text_of
@@ -45,7 +45,7 @@ def explain(line, files):
 
 
 def main():
-    asked = make_parser(__doc__)
+    asked = parser(__doc__)
     asked.add_argument("line", metavar="LINE")
     asked.add_argument("files", metavar="FILE", nargs="*")
     asked = asked.parse_args()

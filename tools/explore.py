@@ -38,7 +38,7 @@ from typing import NamedTuple
 
 import distributions
 from catalogue import read_catalogue
-from command import count, make_parser, start
+from command import count, parser, start
 from covering import class_for
 from figures import collect_drains, collect_figures, print_comparison, print_design
 from observed import observe
@@ -146,7 +146,7 @@ positive.__name__ = "number"
 
 
 def read_words():
-    asked = make_parser(__doc__)
+    asked = parser(__doc__)
     asked.add_argument("files", metavar="FILE", nargs="+")
     asked.add_argument("--runs", metavar="N", type=count, default=200, help="how many schedules (200)")
     asked.add_argument("--seed", type=count, default=1, help="where the drawn numbers begin (1)")

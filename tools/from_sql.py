@@ -31,7 +31,7 @@ import tempfile
 from typing import NamedTuple
 
 from catalogue import GREATEST, LEAST, read_catalogue
-from command import make_parser, start
+from command import parser, start
 from covering import class_for, read_set, write_set
 from report import BadInput
 from sql import Column, read_script
@@ -304,7 +304,7 @@ def print_classes(classes, catalogue, transactions):
 
 
 def main():
-    asked = make_parser(__doc__)
+    asked = parser(__doc__)
     asked.add_argument("script", metavar="SCRIPT")
     asked.add_argument("--into", metavar="FOLDER", required=True)
     asked = asked.parse_args()

@@ -20,7 +20,7 @@ import subprocess
 import sys
 import tempfile
 
-from command import make_parser, start
+from command import parser, start
 from make_workload import APPLICATIONS, write_workload
 from program import add_program, run_program
 from report import BadInput
@@ -106,7 +106,7 @@ def renew(name, program, check):
 
 
 def main():
-    asked = make_parser(__doc__)
+    asked = parser(__doc__)
     add_program(asked)
     names = sorted(x for x in os.listdir(EXAMPLES) if os.path.exists(os.path.join(EXAMPLES, x, "catalogue.toml")))
     asked.add_argument("--only", metavar="NAME", nargs="+", choices=names, help="these examples alone")

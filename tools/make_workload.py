@@ -18,7 +18,7 @@ readers    as `classes`, where each reads all fragments at 16 data modules, and 
 
 Known applications, N drawn transactions each, in several designs (examples/ has a chapter on each):
 
-smallbank  a bank with two branches: first, tellers, branches, steps, apart, audit, audit_class, audit_copy
+smallbank  a bank with two branches: first, tellers, branches, together, steps, apart, audit, audit_class, audit_copy
 tatp       the register of a telephone network: first, owners, merged
 ycsb       reads, changes and scans of one table: first, routed, scanner
 tpcc       a wholesale supplier with two warehouses: first, writers, queued, owners, beside
@@ -27,7 +27,7 @@ import os
 from typing import Callable, NamedTuple
 
 from applications import smallbank, tatp, tpcc, ycsb
-from command import count, make_parser, start
+from command import count, parser, start
 from drawing import Random
 from report import BadInput
 
@@ -195,7 +195,7 @@ def write_workload(folder, kind, n=None, seed=1, design=None):
 
 
 def main():
-    asked = make_parser(__doc__)
+    asked = parser(__doc__)
     asked.add_argument("kind", metavar="KIND")
     asked.add_argument("n", metavar="N", nargs="?", type=count)
     asked.add_argument("--seed", type=count, default=1, help="where the drawn numbers begin, below 2^31")

@@ -16,7 +16,7 @@ from typing import NamedTuple
 
 from catalogue import Catalogue, read_catalogue
 from check_history import Graph, read_history
-from command import count, make_parser, start
+from command import count, parser, start
 from make_workload import APPLICATIONS, write_workload
 from planting import KINDS
 from program import Program, add_program
@@ -115,7 +115,7 @@ class Tally:
 
 
 def main():
-    asked = make_parser(__doc__)
+    asked = parser(__doc__)
     asked.add_argument("--each", metavar="N", type=count, default=30, help="faults of each kind (30)")
     asked.add_argument("--seed", type=count, default=1, help="where the drawn numbers begin (1)")
     asked.add_argument("--show", action="store_true", help="print each fault that wasn't found")

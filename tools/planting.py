@@ -166,7 +166,7 @@ def lose_change_at_all(lines, _, run, rng):
 
 
 KINDS = {
-    "two replies exchange_replies": exchange_replies,
+    "two replies exchanged": exchange_replies,
     "a value of a reply changed": change_reply_value,
     "a row of a reply left out": drop_reply_row,
     "a row of a reply added": add_reply_row,

@@ -10,14 +10,14 @@ and else `rt try`, which builds the program once for each of the three commands.
 import glob
 import os
 
-from command import make_parser, start
+from command import parser, start
 from program import CRATE, Program, add_program, demand_text
 
 COMMANDS = ["check", "graph", "table"]
 
 
 def main():
-    asked = make_parser(__doc__)
+    asked = parser(__doc__)
     add_program(asked)
     program = Program(asked.parse_args().program)
     catalogues = sorted(glob.glob(os.path.join(CRATE, "data", "*.toml")))

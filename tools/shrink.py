@@ -17,7 +17,7 @@ import os
 import sys
 import tempfile
 
-from command import make_parser, split_command, run_outside, start
+from command import parser, parts_of, run_outside, start
 from program import Program, add_program
 from report import BadInput, text_of
 from shrinking import catalogue_cuts, lines_without, parts_of_catalogue, format_catalogue, workload_cuts
@@ -51,7 +51,7 @@ class Shrinker:
 
     def asks(self):
         if self.program is None:
-            return run_outside(split_command(self.asked.command), self.paths).returncode == 0
+            return run_outside(parts_of(self.asked.command), self.paths).returncode == 0
         told = self.program.ask(["run"] + self.paths)
         return any(self.asked.keep in line for line in (told.text + told.error).split("\n"))
 
@@ -94,7 +94,7 @@ class Shrinker:
 
 
 def main():
-    asked = make_parser(__doc__)
+    asked = parser(__doc__)
     asked.add_argument("catalogue", metavar="CATALOGUE")
     asked.add_argument("workload", metavar="WORKLOAD")
     which = asked.add_mutually_exclusive_group(required=True)

@@ -27,9 +27,10 @@ import sys
 from typing import NamedTuple
 
 from catalogue import read_catalogue
-from command import make_parser, start
+from command import parser, start
+from covering import read_set
 from report import BadInput, read_report
-from workload import effect, read_workload, reads
+from workload import effect, read_workload, reads, with_lists
 
 FIRST_ROWS, NOBODY = 0, -1
 
@@ -85,14 +86,12 @@ class Run:
     def seen_by(self, commit):
         """For each fragment that the attempt reads, whose changes are seen there."""
         seen = {}
-        for relation, low, high in reads(self.transaction(commit.txn), self.catalogue):
-            for f in self.catalogue.fragments.values():
-                if f.relation == relation and max(low, f.low) <= min(high, f.high):
-                    module = self.catalogue.read_at(self.class_of(commit), f.name)
-                    answered = self.answered.get((commit.txn, commit.attempt, module))
-                    if answered is None:
-                        raise BadInput("%s#%d has no answer at %s" % (commit.txn, commit.attempt, module))
-                    seen[f.name] = {n for place, n in self.applied.get(module, []) if place < answered}
+        for fragment in read_set(self.transaction(commit.txn), self.catalogue):
+            module = self.catalogue.read_at(self.class_of(commit), fragment)
+            answered = self.answered.get((commit.txn, commit.attempt, module))
+            if answered is None:
+                raise BadInput("%s#%d has no answer at %s" % (commit.txn, commit.attempt, module))
+            seen[fragment] = {n for place, n in self.applied.get(module, []) if place < answered}
         return seen
 
     def changes(self, commit, seen):
@@ -153,12 +152,12 @@ class Run:
         return ((items[0], (NOBODY,)),)
 
     def final_reads(self):
-        """Of each copy its name and its reads: all of them where all changes are applied, else those of wrong rows."""
+        """The reads of each copy: all of them where all changes are applied, else those of wrong rows."""
         for f in self.catalogue.fragments.values():
             for site in f.copies:
                 if (site, f.name) not in self.report.copies:
                     raise BadInput("the report has no copy %s %s" % (site, f.name))
-                yield "copy %s %s" % (site, f.name), self.copy_reads(site, f, self.report.copies[site, f.name])
+                yield from self.copy_reads(site, f, self.report.copies[site, f.name])
 
     def copy_reads(self, site, fragment, rows):
         key = self.catalogue.relations[fragment.relation].key
@@ -216,12 +215,10 @@ def history(run, along_order=False):
         events.append((begin, "invoke", process, [micro("r", item, None) for item, _ in both] + appends, x.name))
         events.append((end, "ok", process, [micro("r", *read) for read in both] + appends, x.name))
     last = len(run.report.records)
-    for name, final in run.final_reads():
-        if not final:
-            continue
-        process = "order" if along_order else name
-        events.append((last, "invoke", process, [micro("r", item, None) for item, _ in final], name))
-        events.append((last, "ok", process, [micro("r", *read) for read in final], name))
+    final = list(run.final_reads())
+    for process in list(dict.fromkeys(x[2] for x in events[2:])) or ["copies"]:
+        events.append((last, "invoke", process, [micro("r", item, None) for item, _ in final], "copies"))
+        events.append((last, "ok", process, [micro("r", *read) for read in final], "copies"))
     events.sort(key=lambda x: x[0])
     processes = {}
     for _, _, process, _, _ in events:
@@ -230,15 +227,15 @@ def history(run, along_order=False):
 
 
 def main():
-    asked = make_parser(__doc__)
+    asked = parser(__doc__)
     for name in ("report", "workload", "catalogue"):
         asked.add_argument(name, metavar=name.upper())
-    asked.add_argument("--along-order", action="store_true")
+    asked.add_argument("--along-order", action="store_true", help="judge the order of the report too")
     asked.add_argument("--into", metavar="FILE", help="the history's file; without it standard output")
     asked = asked.parse_args()
     catalogue = read_catalogue(asked.catalogue)
     first, transactions = read_workload(asked.workload, catalogue)
-    run = Run(read_report(asked.report), transactions, first, catalogue)
+    run = Run(read_report(asked.report), transactions, first, with_lists(catalogue, asked.workload))
     text = "".join(x + "\n" for x in history(run, asked.along_order))
     if asked.into is None:
         sys.stdout.write(text)

@@ -12,7 +12,7 @@ import subprocess
 import sys
 import tempfile
 
-from command import make_parser, start
+from command import parser, start
 from program import add_program
 
 TOOLS = os.path.dirname(os.path.abspath(__file__))
@@ -35,8 +35,8 @@ GOOD = [
     ["plant_faults.py", "--each", "1"] + P,
     ["show_catalogues.py"] + P,
     ["make_examples.py", "--check", "--only", "bridge", "two_protocols"] + P,
-    ["compare_replies.py", "PROGRAM", "3"] + P,
-    ["compare_reports.py", "PROGRAM", "PROGRAM", "3"],
+    ["fuzz.py", "0", "3", "run", "plain"] + P,
+    ["all_orders.py", REPORT, WORK, CAT],
     ["benchmark.py", "--only", "small"] + P,
 ]
 BAD = [
@@ -56,12 +56,14 @@ BAD = [
     ["plant_faults.py", "--each", "x"], ["plant_faults.py", "--program", "/no/p"],
     ["show_catalogues.py", "--program", "/no/p"], ["show_catalogues.py", "x"],
     ["make_examples.py", "--only", "no"], ["make_examples.py", "--check", "--only", "bridge", "--program", "/no/p"],
-    ["compare_messages.py"], ["compare_messages.py", "/no/p", "1"], ["compare_messages.py", "x", "y"],
-    ["compare_replies.py"], ["compare_replies.py", "/no/p", "1"] + P, ["compare_replies.py", "x", "y"],
-    ["compare_reports.py"], ["compare_reports.py", "/no/p", "/no/q", "1"], ["compare_reports.py", "x", "y", "z"],
+    ["compare_messages.py"], ["compare_messages.py", "x", "y"], ["fuzz.py"], ["fuzz.py", "0", "1", "nokind"] + P,
+    ["fuzz.py", "0", "1", "plain", "--program", "/no/p"], ["all_orders.py"], ["all_orders.py", "/no/a", WORK, CAT],
+    ["all_orders.py", REPORT, "/no/a", CAT], ["find_broken.py"], ["find_broken.py", "norule"], ["make_broken.py", "x"],
+    ["picture.py"], ["picture.py", "/no/a"], ["picture.py", REPORT, "examples/bank/catalogue.toml"], ["graph_picture.py"],
+    ["graph_picture.py", "/no/a"] + P, ["page.py"], ["page.py", "/no/a", "/no/b", "--into", "ROOM/x"], ["play.py"], ["play.py", "/no/a"],
     ["benchmark.py", "--only", "nokind"], ["benchmark.py", "--program", "/no/p"], ["benchmark.py", "--program", ""],
     ["program.py"], ["program.py", "nonsense"], ["program.py", "check", "/no/a"],
-    ["write_log_rows.py"], ["write_log_rows.py", "--reference", "/no/x"],
+    ["write_log_rows.py", "x"],
 ]
 
 
@@ -82,7 +84,7 @@ def try_call(words, status, room, program):
 
 
 def main():
-    asked = make_parser(__doc__)
+    asked = parser(__doc__)
     add_program(asked)
     asked = asked.parse_args()
     if asked.program is None:

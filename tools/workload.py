@@ -11,14 +11,14 @@ import operator
 import re
 from typing import NamedTuple
 
-from catalogue import GREATEST, LEAST
+from catalogue import GREATEST, LEAST, Class
 from report import BadInput, Reply, text_of
 
 MOST_ROWS = 4096
 OPERATORS = {"=": operator.eq, "!=": operator.ne, "<": operator.lt, "<=": operator.le, ">": operator.gt, ">=": operator.ge}
 WORD = re.compile(r'"(?:[^"\\]|\\["\\])*"(?= |$)|[^" ][^ ]*')
 REF = re.compile(r"(\d+)\.([A-Za-z][A-Za-z0-9_]*)")
-EVENTS = {"submit", "deliver", "lose", "repeat", "resend", "tick", "down", "up", "settle", "end"}
+EVENTS = {"submit", "deliver", "lose", "repeat", "resend", "tick", "down", "up", "settle", "redeclare", "end"}
 
 
 class Ref(NamedTuple):
@@ -119,9 +119,12 @@ def read_workload(path, catalogue):
     """The first rows, as a database, and the transactions by name."""
     reader = Reader(path, catalogue)
     database = {name: {} for name in catalogue.relations}
-    transactions, name, site, statements = {}, None, None, []
+    transactions, name, site, statements, in_list = {}, None, None, [], False
     for line in text_of(path).split("\n")[:-1]:
         reader.number += 1
+        if in_list or name is None and line == "list":
+            in_list = line != "done"
+            continue
         words = WORD.findall(line)
         if " ".join(words) != line or not words:
             reader.fault("not words with one space between two")
@@ -141,6 +144,24 @@ def read_workload(path, catalogue):
         except IndexError:
             reader.fault("a line that ends too early")
     return database, transactions
+
+
+def with_lists(catalogue, path):
+    """The catalogue with the classes of the workload's lists too."""
+    made, mine, in_list = dict(catalogue.classes), None, False
+    for number, line in enumerate(text_of(path).split("\n"), 1):
+        words = line.split(" ")
+        if words in (["list"], ["done"]):
+            in_list = words == ["list"]
+        elif in_list and words[0] == "class" and len(words) == 3:
+            mine = made[words[1]] = Class(words[1], words[2], {}, ())
+        elif in_list and mine is not None and words[0] == "reads" and len(words) == 3:
+            mine.reads[words[1]] = words[2]
+        elif in_list and mine is not None and words[0] == "writes" and len(words) == 2:
+            mine = made[mine.name] = mine._replace(writes=mine.writes + (words[1],))
+        elif in_list:
+            raise BadInput("%s: line %d: no line of a list of classes" % (path, number))
+    return catalogue._replace(classes=made)
 
 
 # What transactions do.
@@ -214,12 +235,11 @@ def effect(transaction, database, catalogue):
                 return Reply("toomany", ()), {}
             answers.append(rows)
         else:
-            for row in database[relation].values():
-                if meets(row, s.conditions, 0):
-                    new = updated(row, s.sets) if s.kind == "update" else None
-                    if new == ():
-                        return Reply("overflow", ()), {}
-                    changes[relation, row[key]] = new
+            met = [row for row in database[relation].values() if meets(row, s.conditions, 0)]
+            found = {(relation, row[key]): updated(row, s.sets) if s.kind == "update" else None for row in met}
+            if () in found.values():
+                return Reply("overflow", ()), {}
+            changes.update(found)
     return Reply("ok", tuple(answers)), changes
 
 

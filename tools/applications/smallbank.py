@@ -16,6 +16,14 @@ def tables(catalogue):
     catalogue.relation("checking", "id bal")
 
 
+def cut_tables(catalogue):
+    """Each branch has its fragments at its data module."""
+    tables(catalogue)
+    catalogue.fragment("names", "account", [1, 2])
+    catalogue.halves("savings", CUT, ("savings_n", [1]), ("savings_s", [2]))
+    catalogue.halves("checking", CUT, ("checking_n", [1]), ("checking_s", [2]))
+
+
 def first():
     """A class for each kind of transaction at each branch, a fragment for each relation."""
     made = Catalogue(2, 2)
@@ -48,23 +56,28 @@ def tellers():
 def branches():
     """Each branch has its fragments at its data module, and a class for all that its tellers change."""
     made = Catalogue(3, 2)
-    tables(made)
-    made.fragment("names", "account", [1, 2])
-    made.halves("savings", CUT, ("savings_n", [1]), ("savings_s", [2]))
-    made.halves("checking", CUT, ("checking_n", [1]), ("checking_s", [2]))
+    cut_tables(made)
     add_tellers(made)
     whole = "savings_n checking_n savings_s checking_s"
     made.add_class("between", 3, whole, whole, "payments and amalgamations between the branches")
     return made
 
 
+def together():
+    """As `branches`; all that changes something is one class, at T1."""
+    made = Catalogue(2, 2)
+    cut_tables(made)
+    for tm, branch in ((1, "n"), (2, "s")):
+        made.add_class("balance_" + branch, tm, "names@%d savings_%s checking_%s" % (tm, branch, branch))
+    whole = "savings_n checking_n savings_s checking_s"
+    made.add_class("teller", 1, whole, whole)
+    return made
+
+
 def steps():
     """As `branches`; what goes between the branches is done in two steps, each by the tellers of one branch."""
     made = Catalogue(2, 2)
-    tables(made)
-    made.fragment("names", "account", [1, 2])
-    made.halves("savings", CUT, ("savings_n", [1]), ("savings_s", [2]))
-    made.halves("checking", CUT, ("checking_n", [1]), ("checking_s", [2]))
+    cut_tables(made)
     add_tellers(made)
     return made
 
@@ -109,7 +122,7 @@ def audit_copy():
     return made
 
 
-DESIGNS = {"first": first, "tellers": tellers, "branches": branches, "steps": steps, "apart": apart,
+DESIGNS = {"first": first, "tellers": tellers, "branches": branches, "together": together, "steps": steps, "apart": apart,
            "audit": audit, "audit_class": audit_class, "audit_copy": audit_copy}
 USUAL = "apart"
 
@@ -176,6 +189,9 @@ def make(n, seed, design):
 def place(work, design, kind, mine, other):
     """A transaction goes to the branch of its customers; one of both branches to T3, or in two steps."""
     (a, first_steps), (b, more) = mine, other
+    if design == "together":
+        work.transaction(kind, home(a) if kind == "balance" else 1, first_steps + more)
+        return
     if not more or home(a) == home(b) or design in ("first", "tellers"):
         work.transaction(kind, home(a), first_steps + more)
     elif design != "branches":

@@ -1,11 +1,14 @@
 // The map: cards in two columns with a wire for each link, or a matrix where there are more sites.
 
 function drawMap(view) {
-  const map = byId("map"), line = view.run.lineAt(view.event);
+  const map = byId("map"), line = view.run.lineAt(view.event), top = map.scrollTop;
   map.textContent = "";
   map.className = view.run.tms.length + view.run.dms.length <= 4 ? "roomy" : "";
   if (view.run.isSmall) map.append(columnsOf(view, line));
   else map.append(matrixOf(view, line), cardsBelow(view, line));
+  map.scrollTop = top;
+  if (view.shown !== view.event) map.querySelector(".hot, .touched")?.scrollIntoView({block: "nearest"});
+  view.shown = view.event;
   drawWires(view, map, line);
   view.play?.placeMenu(map);
 }

@@ -7,7 +7,7 @@ function drawHeader(view) {
   byId("name").textContent = view.run.data.name;
   byId("event").textContent = `event ${view.event} of ${view.run.count}`;
   byId("do").textContent = line ? line.do : "before the first event";
-  byId("of").textContent = !line ? "" : line.round ? `settle, round ${line.round}` : `line ${line.of} of the schedule`;
+  byId("of").textContent = !line ? "" : line.round ? `${view.run.data.events[line.of - 1]}, round ${line.round}` : `line ${line.of} of the schedule`;
   byId("faults").textContent = view.run.faults.length ? "The text contradicts itself: " + view.run.faults[0] : "";
 }
 

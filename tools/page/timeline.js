@@ -65,7 +65,7 @@ function shadeSettles(view, pen, colour, width, height) {
     pen.fillStyle = colour("--soft");
     if (lines[first].round) pen.fillRect(x1, 14, x2 - x1, height - 18);
     pen.fillStyle = colour("--faint");
-    if (lines[first].round && x2 - x1 > 34) pen.fillText("settle", x1 + 3, 11);
+    if (lines[first].round && x2 - x1 > 34) pen.fillText(view.run.data.events[lines[first].of - 1], x1 + 3, 11);
     first = k;
   }
 }
