@@ -9,7 +9,7 @@ BATCH = 500
 MOST_SHOWN = 6              # packets of a lane
 SHOW = """(() => {
   const texts = (node, what) => [...node.querySelectorAll(what)].map(x => x.textContent);
-  const told = {lanes: {}, pipes: {}, queues: {}, copies: {}, clocks: {}, down: [], cells: {}};
+  const told = {lanes: {}, pipes: {}, queues: {}, copies: {}, clocks: {}, down: [], cells: {}, more: {}};
   for (const lane of document.querySelectorAll("#map .lane")) told.lanes[lane.dataset.link] = [texts(lane, ".chip"), texts(lane, ".more")];
   for (const pipe of document.querySelectorAll("#map .pipe")) {
     told.pipes[pipe.dataset.pipe] = [texts(pipe, ".chip:not(.processed, .rejected)").reverse(), pipe.querySelector(".passed").textContent];
@@ -22,7 +22,10 @@ SHOW = """(() => {
     if (clock) told.clocks[site.id.slice(5)] = +clock[1];
     if (site.classList.contains("down")) told.down.push(site.id.slice(5));
   }
-  for (const copy of document.querySelectorAll("#map .copy")) told.copies[copy.dataset.copy] = texts(copy, ".row").filter(x => !/^-?[0-9]+ deleted$/.test(x));
+  for (const copy of document.querySelectorAll("#map .copy")) {
+    told.copies[copy.dataset.copy] = texts(copy, ".row").filter(x => !/^-?[0-9]+ deleted$/.test(x));
+    told.more[copy.dataset.copy] = parseInt(copy.querySelector(".more")?.textContent || "0");
+  }
   for (const cell of document.querySelectorAll("#map td[data-cell]")) told.cells[cell.dataset.cell] = [...cell.querySelectorAll(".halves > span")].map(x => x.textContent);
   told.event = document.getElementById("event").textContent;
   told.do = document.getElementById("do").textContent;
@@ -60,7 +63,9 @@ def check_page(browser, path, data, size):
 class Check:
     def __init__(self, page, data):
         self.page, self.data, self.lines = page, data, data["lines"]
-        self.reader, self.seen = Reader(data["first"]), {}
+        self.reader, self.seen = Reader(data["first"], {x["name"]: x["key"] for x in data["fragments"]}), {}
+        words = [x.split(" ") for x in data["records"]]
+        self.commits = {x[2].split("#")[0]: int(x[0]) for x in words if x[1] == "commit"}
         self.is_small = max(data["first"]["tms"], data["first"]["dms"]) <= 4
 
     def whole(self):
@@ -107,6 +112,8 @@ class Check:
         same("the page is wider than the window", shown["wide"], False)
         self.compare_flights(shown)
         self.compare_sites(shown)
+        self.compare_copies(shown)
+        same("at event %d what is committed" % event, shown["order"], [x for x in self.data["order"][:60] if self.commits[x] <= event])
         return shown
 
     def compare_flights(self, shown):
@@ -138,6 +145,16 @@ class Check:
             same(at + "modules that are down", sorted(shown["down"]), sorted(down))
             waiting = {"%s %s" % place for place, pipe in self.reader.pipes.items() if pipe}
             same(at + "pipes with messages", sorted(waiting - shown["pipes"].keys()), [])
+
+    def compare_copies(self, shown):
+        """A copy shows rows that it has, as many as it tells, and all that changed in the event."""
+        event = self.reader.event
+        changed = [x for x in self.lines[event - 1].get("rows", ()) if x[3] is not None] if event else []
+        for name, rows in shown["copies"].items():
+            at, have = "at event %d in the copy %s " % (event, name), self.reader.copies[tuple(name.split(" "))]
+            same(at + "rows that it hasn't", [x for x in rows if x not in have.values()], [])
+            same(at + "the number of rows", len(rows) + shown["more"][name], len(have))
+            same(at + "rows that changed", [x for a, b, _, x in changed if (a + " " + b) == name and x not in rows], [])
 
     def end(self):
         """What is shown at the end, all of it opened, is what the report says."""

@@ -3,8 +3,13 @@
     reader = Reader(first)
     for line in lines:
         reader.apply(line)
+
+Rows of copies are kept where the places of the keys in the rows of each fragment are given.
 """
+import re
 from collections import defaultdict
+
+VALUES = re.compile(r'"(?:[^"\\]|\\.)*"|[^ ]+')
 
 
 class Contradiction(Exception):
@@ -12,12 +17,14 @@ class Contradiction(Exception):
 
 
 class Reader:
-    def __init__(self, first):
+    def __init__(self, first, keys=None):
         self.event, self.bodies = 0, {}
         self.flight, self.queues, self.pipes = defaultdict(list), defaultdict(list), defaultdict(list)
         self.sent, self.acked, self.delivered, self.handed = (defaultdict(int) for _ in range(4))
         self.passed, self.sites = {}, {}
-        self.copies = {(x["at"], x["fragment"]): list(x["rows"]) for x in first["copies"]}
+        self.copies = {}                # site and fragment -> key -> row
+        for x in first["copies"] if keys is not None else ():
+            self.copies[x["at"], x["fragment"]] = {VALUES.findall(row)[keys[x["fragment"]]]: row for row in x["rows"]}
 
     def apply(self, line):
         words = line["do"].split(" ")
@@ -38,6 +45,10 @@ class Reader:
             place = x["at"], x["class"]
             self.pipes[place] = (self.pipes[place] + x.get("in", []))[x.get("out", 0):]
             self.passed[place] = x.get("passed", self.passed.get(place))
+        for at, fragment, key, row in line.get("rows", ()) if self.copies else ():
+            self.copies[at, fragment].pop(key, None)
+            if row is not None:
+                self.copies[at, fragment][key] = row
         for x in line.get("sites", ()):
             self.sites[x["at"]] = x
 

@@ -9,7 +9,6 @@ where no `sdd1` is given or built.
 """
 import json
 import os
-import re
 import shlex
 import shutil
 import subprocess
@@ -18,6 +17,7 @@ import tempfile
 from typing import NamedTuple
 
 from catalogue import read_catalogue
+from replay import Contradiction, Reader
 from report import BadInput
 
 ROOT = os.path.normpath(os.path.join(os.path.dirname(os.path.abspath(__file__)), ".."))
@@ -133,23 +133,18 @@ def parts_of(report):
     return made
 
 
-VALUES = re.compile(r'"(?:[^"\\]|\\.)*"|[^ ]+')
-
-
 def judge(first, lines, reported, keys):
     """Refuses a text and a report that aren't of one run."""
     if any(int(x.split(" ")[0]) > len(lines) for x in reported.records[-1:]):
         raise BadInput("the report has an event that the text of the events doesn't have")
-    copies = {}
-    for x in first["copies"]:
-        rows = copies[x["at"], x["fragment"]] = {}
-        for row in x["rows"]:
-            rows[VALUES.findall(row)[keys[x["fragment"]]]] = row
-    for line in lines:
-        for at, fragment, key, row in line.get("rows", ()):
-            copies[at, fragment][key] = row
-    for place, rows in copies.items():
-        if sorted(x for x in rows.values() if x is not None) != sorted(reported.copies.get(place, ())):
+    reader = Reader(first, keys)
+    try:
+        for line in lines:
+            reader.apply(line)
+    except (Contradiction, KeyError, IndexError) as fault:
+        raise BadInput("the text of the events contradicts itself: %s" % fault) from None
+    for place, rows in reader.copies.items():
+        if sorted(rows.values()) != sorted(reported.copies.get(place, ())):
             raise BadInput("the text of the events and the report aren't of one run: their copies of %s at %s differ" % place[::-1])
 
 
