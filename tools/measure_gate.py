@@ -1,7 +1,7 @@
 #!/usr/bin/env python3
 """Runs a command of the gate and tells what each crate took of it, in processor time and memory.
 
-    tools/measure_gate.py [--log FILE] [--into docs/TIMES.md] [-- COMMAND ..]
+    tools/measure_gate.py [--log FILE] [--into docs/GATE.md] [-- COMMAND ..]
 
 COMMAND is `rt ci` if left out, at the top of the repository. While it runs, the processes that prove, build or
 run a crate are looked at twice a second; what a process did after the last look is lost, half a second at most.
