@@ -28,8 +28,8 @@ use Rattle.sdd_script.proofs.NamePlaces.{place_of_name}
 use Rattle.sdd_script.specs.Redeclaring.{has_lists}
 use Rattle.sdd_script.specs.Valid.{IsValid}
 use Rattle.sdd_script.specs.declared.workload.Workload.{Workload}
-use Rattle.sdd_sites.specs.AtSites.{standing_at}
-use Rattle.sdd_sites.specs.Standings.{standing_at_t, standing_at_u}
+use Rattle.sdd_world.specs.AtSites.{standing_at}
+use Rattle.sdd_world.specs.Standings.{standing_at_t, standing_at_u}
 use Rattle.sdd_verified.proofs.OneText.{one_text}
 use Rattle.sdd_verified.proofs.PartsBack.{same_first}
 use Rattle.sdd_verified.proofs.ReportParts.{all_by_member}
