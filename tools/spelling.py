@@ -2,8 +2,13 @@
 
 A workload has one spelling; of a catalogue this is one of many. Definition: crates/sdd_script/specs/Spelling.antt.
 """
-from reference.statements import Delete, Put, Query, Same
-from reference.words import GREATEST, LEAST, value_word
+import os
+import sys
+
+sys.path.insert(0, os.path.join(os.path.dirname(os.path.abspath(__file__)), ".."))
+
+from reference.statements import Delete, Put, Query, Same  # noqa: E402
+from reference.words import GREATEST, LEAST, value_word  # noqa: E402
 
 
 def catalogue_text(cat):
