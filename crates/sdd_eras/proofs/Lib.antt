@@ -1,2 +1,4 @@
+pub mod EraSets
 pub mod Extended
+pub mod Lists
 pub mod Retired

@@ -1,2 +1,3 @@
+pub mod EraOf
 pub mod Further
 pub mod Retired

@@ -14,7 +14,7 @@ use Rattle.sdd_log.specs.Entries as whole
 use Rattle.sdd_log.specs.Locals.{local_of, setting_of}
 use Rattle.sdd_log.specs.Permitted.{IsPermitted}
 use Rattle.sdd_log.proofs.EachLocal.{each_local}
-use Rattle.sdd_laws.proofs.EraSets.{IsCovered, covered}
+use Rattle.sdd_eras.proofs.EraSets.{IsCovered, covered}
 use Rattle.sdd_invariants.proofs.Bools.{only_right, same_or_not}
 use Rattle.sdd_invariants.specs.Steps.{home}
 use Rattle.sdd_invariants.proofs.Fair.{all_new, home_fair}

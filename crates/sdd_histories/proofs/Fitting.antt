@@ -19,7 +19,8 @@ use Rattle.sdd_lang.specs.declared.transaction.Txn.{Txn}
 use Rattle.sdd_lang.specs.Database.{Row}
 use Rattle.sdd_lang.specs.Fits.{Fits, FitsStart}
 use Rattle.sdd_order.specs.Numbers.{IsFrom1To, AreFragments, UseExists, CondExists, ChangeExists, ExistsIn}
-use Rattle.sdd_laws.specs.Eras.{Eras, IsEraOf, AreEras}
+use Rattle.sdd_eras.specs.EraOf.{IsEraOf}
+use Rattle.sdd_laws.specs.Eras.{Eras, AreEras}
 use Rattle.sdd_laws.specs.Kept.{FitTogether}
 use Rattle.sdd_laws.specs.Numbers.{NamesOneOf}
 use Rattle.sdd_histories.specs.Catalogues.{one_era}

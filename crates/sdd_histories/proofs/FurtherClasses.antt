@@ -4,7 +4,8 @@ use Rattle.std.specs.Prelude.{slice_get}
 use Rattle.std.proofs.lemmas.Option.{same_Some}
 use Rattle.sdd_base.specs.declared.restriction.Op.TheVariants.{Le}
 use Rattle.sdd_catalog.specs.Catalogue.{Catalogue, class_at}
-use Rattle.sdd_laws.specs.Eras.{HasSets, IsEraOf, AreEras}
+use Rattle.sdd_eras.specs.EraOf.{HasSets, IsEraOf}
+use Rattle.sdd_laws.specs.Eras.{AreEras}
 use Rattle.sdd_histories.specs.Catalogues.{both_classes, further_classes, one_class, two_eras}
 use Rattle.sdd_histories.specs.Histories.{redeclares}
 use Rattle.sdd_histories.specs.Keeping.{KeepsAll}

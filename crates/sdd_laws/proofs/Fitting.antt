@@ -45,15 +45,16 @@ use Rattle.sdd_laws.specs.Answers.{KeepsAnswers}
 use Rattle.sdd_laws.specs.Applies.{KeepsApplies}
 use Rattle.sdd_laws.specs.Conditions.{conditions_of, IsConditionOf, KeepsConditions}
 use Rattle.sdd_laws.specs.Deeds.{IsAnswered, AppliedBefore, TouchesOne}
-use Rattle.sdd_laws.specs.Eras.{Eras, AreEras, IsEraOf, begun, in_force}
+use Rattle.sdd_eras.specs.EraOf.{IsEraOf}
+use Rattle.sdd_laws.specs.Eras.{Eras, AreEras, begun, in_force}
 use Rattle.sdd_laws.specs.Redeclares.{KeepsEras}
 use Rattle.sdd_laws.specs.Snapshots.{base_of}
 use Rattle.sdd_laws.specs.Starts.{IsOfSubmit, KeepsStarts}
 use Rattle.sdd_order.proofs.Before.{or_left, or_right}
 use Rattle.sdd_laws.proofs.Deeds.{Placed, IsPlaced, deeds, era_of, are_starts}
-use Rattle.sdd_laws.proofs.EraSets.{IsCovered, write_set_in_era}
+use Rattle.sdd_eras.proofs.EraSets.{IsCovered, write_set_in_era}
 use Rattle.sdd_laws.proofs.InForce.{force_is}
-use Rattle.sdd_laws.proofs.Lists.{at_member}
+use Rattle.sdd_eras.proofs.Lists.{at_member}
 use Rattle.sdd_laws.proofs.Reading.{IsReadAt, force_of, class_covers, read_in_force, reads_there}
 
 -- a number of a list is there when they ascend

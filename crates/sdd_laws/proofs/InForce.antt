@@ -4,7 +4,8 @@ use Rattle.std.specs.Prelude.{filter, slice_get}
 use Rattle.std.proofs.lemmas.List.Sums.{length-filter, count_by-le-length}
 use Rattle.std.proofs.lemmas.Option.{slice_get-get_or, slice_get_within}
 use Rattle.sdd_catalog.specs.Catalogue.{Catalogue}
-use Rattle.sdd_laws.specs.Eras.{Eras, AreEras, IsEraOf, begun, in_force}
+use Rattle.sdd_eras.specs.EraOf.{IsEraOf}
+use Rattle.sdd_laws.specs.Eras.{Eras, AreEras, begun, in_force}
 
 -- no more eras have begun than there are
 begun_few : (eras : Eras) (event : ℕ) → begun eras event ≤ length eras

@@ -4,7 +4,6 @@ pub mod Applied
 pub mod Copied
 pub mod Counts
 pub mod Deeds
-pub mod EraSets
 pub mod Few
 pub mod Fitting
 pub mod InForce

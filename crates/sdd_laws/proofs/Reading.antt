@@ -18,12 +18,13 @@ use Rattle.sdd_order.specs.Attempts.{Attempt, IsAttempt, reads}
 use Rattle.sdd_order.specs.Numbers.{IsModule, IsFragment, IsClass}
 use Rattle.sdd_order.specs.Places.{event_at}
 use Rattle.sdd_order.specs.Precedence.{module_of}
-use Rattle.sdd_laws.specs.Eras.{Eras, AreEras, IsEraOf, in_force}
+use Rattle.sdd_eras.specs.EraOf.{IsEraOf}
+use Rattle.sdd_laws.specs.Eras.{Eras, AreEras, in_force}
 use Rattle.sdd_laws.specs.Starts.{IsOfSubmit, KeepsStarts}
 use Rattle.sdd_laws.proofs.Copied.{some_copy}
-use Rattle.sdd_laws.proofs.EraSets.{uses_in_era, IsCovered, covered, read_in_era}
+use Rattle.sdd_eras.proofs.EraSets.{uses_in_era, IsCovered, covered, read_in_era}
 use Rattle.sdd_laws.proofs.InForce.{force_is}
-use Rattle.sdd_laws.proofs.Lists.{at_member}
+use Rattle.sdd_eras.proofs.Lists.{at_member}
 
 -- a fragment is read at a module that has a copy of it
 pub record IsReadAt (cat : Catalogue) (class f : ℕ) : Type 0 where

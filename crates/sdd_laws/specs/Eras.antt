@@ -1,8 +1,8 @@
 -- Eras: the catalogues that are in force one after the other, each with the event from which it is. The catalogue beside
 -- them has the classes of all eras with their sets.
-use Rattle.std.specs.Prelude.{ℕ, suc, nat_le, ◌-◌, ◌≤◌, ◌<◌, ◌≡◌, ◌⊎◌, List, [], filter, length, Some, slice_get, slice_index_or}
-use Rattle.sdd_catalog.specs.declared.resolved.Class.{Class}
-use Rattle.sdd_catalog.specs.Catalogue.{Catalogue, class_at}
+use Rattle.std.specs.Prelude.{ℕ, suc, nat_le, ◌-◌, ◌<◌, ◌≡◌, List, filter, length, Some, slice_get, slice_index_or}
+use Rattle.sdd_catalog.specs.Catalogue.{Catalogue}
+use Rattle.sdd_eras.specs.EraOf.{IsEraOf}
 
 abbrev pub Eras : Type 0
 Eras = List (ℕ × Catalogue)
@@ -14,21 +14,6 @@ begun eras event = length (filter (λ e. nat_le e.0 event) eras)
 -- the catalogue in force at an event: that of the last era that has begun
 abbrev pub in_force : Catalogue → Eras → ℕ → Catalogue
 in_force cat eras event = (slice_index_or eras (begun eras event - 1) (0, cat)).1
-
--- a class has the sets that it has in the whole catalogue, or, once it is retired, empty ones
-abbrev pub HasSets : Class → Class → Type 0
-HasSets whole class =
-    ((class.reads ≡ whole.reads) × (class.writes ≡ whole.writes)) ⊎ ((class.reads ≡ []) × (class.writes ≡ []))
-
--- the catalogue of an era: it differs from the whole one in its classes alone, of which it has the first so many
-pub record IsEraOf (cat era : Catalogue) : Type 0 where
-  pub tms : era.tms ≡ cat.tms
-  pub dms : era.dms ≡ cat.dms
-  pub relations : era.relations ≡ cat.relations
-  pub fragments : era.fragments ≡ cat.fragments
-  pub classes : length era.classes ≤ length cat.classes
-  pub home : (c : ℕ) → 1 ≤ c → c ≤ length era.classes → (class_at era c).tm ≡ (class_at cat c).tm
-  pub sets : (c : ℕ) → 1 ≤ c → c ≤ length era.classes → HasSets (class_at cat c) (class_at era c)
 
 pub record AreEras (cat : Catalogue) (eras : Eras) : Type 0 where
   -- there is one from the beginning

@@ -22,10 +22,10 @@ use Rattle.sdd_module.specs.SiteLog.{Act, Did, Force, Records, Submits, in_force
 use Rattle.sdd_order.specs.Numbers.{IsClass}
 use Rattle.sdd_order.specs.Places.{Stands}
 use Rattle.sdd_attempt.specs.Queues.{Queued, is_for, queue}
-use Rattle.sdd_laws.proofs.EraSets.{covered}
-use Rattle.sdd_laws.proofs.Lists.{first_passes}
+use Rattle.sdd_eras.proofs.EraSets.{covered}
+use Rattle.sdd_eras.proofs.Lists.{first_passes}
 use Rattle.sdd_laws.specs.Deeds.{IsSubmitted}
-use Rattle.sdd_laws.specs.Eras.{IsEraOf}
+use Rattle.sdd_eras.specs.EraOf.{IsEraOf}
 use Rattle.sdd_log.specs.Due.{home_of}
 use Rattle.sdd_log.specs.Entries.{Does, Given, Log, Mark, Submitted, history}
 use Rattle.sdd_log.specs.Locals.{force_at, local_of, redeclares, setting_of, txn_at}

@@ -6,7 +6,8 @@ use Rattle.std.proofs.lemmas.List.{length-append}
 use Rattle.sdd_catalog.specs.Catalogue.{Catalogue}
 use Rattle.sdd_log.specs.Entries.{Does, Entry, Given, Hand, Log, Mark, Notes, Redeclares, Round, Submitted, marks}
 use Rattle.sdd_log.specs.Locals.{force_at, redeclares}
-use Rattle.sdd_laws.specs.Eras.{AreEras, Eras, IsEraOf, begun, in_force}
+use Rattle.sdd_eras.specs.EraOf.{IsEraOf}
+use Rattle.sdd_laws.specs.Eras.{AreEras, Eras, begun, in_force}
 use Rattle.sdd_invariants.proofs.Bools.{true_or_false}
 use Rattle.sdd_invariants.proofs.Lists.{at_seam, in_left, place_within}
 use Rattle.sdd_invariants.proofs.Split.{le_is}

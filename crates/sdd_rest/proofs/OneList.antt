@@ -2,7 +2,7 @@
 use Rattle.std.proofs.Common.{ℕ, ◌++◌, ◌∷◌, ◌≡◌, ◌≤◌, ap, arith, refl, subst, sym}
 use Rattle.sdd_log.specs.Entries.{Given, Log, Redeclares}
 use Rattle.sdd_log.specs.Locals.{force_at, redeclares}
-use Rattle.sdd_laws.specs.Eras.{IsEraOf}
+use Rattle.sdd_eras.specs.EraOf.{IsEraOf}
 use Rattle.sdd_upheld.proofs.OneEra.{of_one_era}
 use Rattle.sdd_rest.proofs.SinceRedeclare.{redeclares_back}
 use Rattle.sdd_rest.specs.Premises.{HasOneTable, HasSoundLists, IsIdleAtRedeclares, IsSoundList, IsUpAtRedeclares}

@@ -3,7 +3,7 @@ use Rattle.std.specs.Prelude.{ℕ, ◌≡◌, ◌≤◌, ◌++◌, ◌∷◌, fa
 use Rattle.sdd_log.specs.Entries.{Given, Log, Redeclares}
 use Rattle.sdd_log.specs.Locals.{IsForce, force_at, redeclares}
 use Rattle.sdd_log.specs.Traffic.{is_down}
-use Rattle.sdd_laws.specs.Eras.{IsEraOf}
+use Rattle.sdd_eras.specs.EraOf.{IsEraOf}
 use Rattle.sdd_order.specs.Numbers.{IsModule}
 use Rattle.sdd_facts.specs.Fitting.{FitsGiven}
 use Rattle.sdd_rest.specs.Finished.{IsIdle}

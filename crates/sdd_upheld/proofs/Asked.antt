@@ -22,7 +22,7 @@ use Rattle.sdd_log.specs.Locals.{setting_of}
 use Rattle.sdd_log.specs.Permitted.{IsPermitted}
 use Rattle.sdd_laws.specs.Deeds.{AnsweredBefore, Asks, StartedBefore, by_no_class, by_use}
 use Rattle.sdd_laws.proofs.Fitting.{each_here}
-use Rattle.sdd_laws.proofs.Lists.{at_member}
+use Rattle.sdd_eras.proofs.Lists.{at_member}
 use Rattle.sdd_order.specs.Attempts.{Attempt, Committed, HasCommit, IsAttempt, IsCommitted}
 use Rattle.sdd_order.specs.Places.{Stands}
 use Rattle.sdd_invariants.proofs.Once.{answered_once}

@@ -6,7 +6,8 @@ use Rattle.sdd_catalog.specs.Catalogue.{Catalogue}
 use Rattle.sdd_history.specs.Records.{History}
 use Rattle.sdd_log.specs.Entries.{Does, Given, Hand, Log, Mark, Notes, Redeclares, Round, Submitted, marks}
 use Rattle.sdd_log.specs.Locals.{IsForce, force_at, redeclares}
-use Rattle.sdd_laws.specs.Eras.{AreEras, IsEraOf, begun, in_force}
+use Rattle.sdd_eras.specs.EraOf.{IsEraOf}
+use Rattle.sdd_laws.specs.Eras.{AreEras, begun, in_force}
 use Rattle.sdd_laws.specs.Redeclares.{IsOfEarlierEra, KeepsEras}
 use Rattle.sdd_order.specs.Attempts.{Committed}
 use Rattle.sdd_order.specs.Places.{event_at}

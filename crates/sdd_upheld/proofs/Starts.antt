@@ -28,11 +28,12 @@ use Rattle.sdd_log.specs.Locals.{force_at, local_of, redeclares, setting_of, txn
 use Rattle.sdd_log.specs.Permitted.{IsPermitted}
 use Rattle.sdd_invariants.proofs.Clocks.{stamps_differ}
 use Rattle.sdd_laws.specs.Deeds.{CommittedBefore, IsSubmitted}
-use Rattle.sdd_laws.specs.Eras.{Eras, IsEraOf, in_force}
+use Rattle.sdd_eras.specs.EraOf.{IsEraOf}
+use Rattle.sdd_laws.specs.Eras.{Eras, in_force}
 use Rattle.sdd_laws.specs.Starts.{IsBound, IsOfSubmit, KeepsStarts}
-use Rattle.sdd_laws.proofs.EraSets.{covered}
+use Rattle.sdd_eras.proofs.EraSets.{covered}
 use Rattle.sdd_laws.proofs.InForce.{force_is}
-use Rattle.sdd_laws.proofs.Lists.{first_passes}
+use Rattle.sdd_eras.proofs.Lists.{first_passes}
 use Rattle.sdd_order.specs.Attempts.{Attempt, Committed, IsAttempt, IsCommitted}
 use Rattle.sdd_order.specs.Places.{Stands, event_at, record_at}
 use Rattle.sdd_invariants.proofs.Bools.{and_left, lower_same_higher, or_right, same_number, same_or_not}

@@ -19,8 +19,8 @@ use Rattle.sdd_lang.specs.declared.transaction.Txn.{Txn}
 use Rattle.sdd_lang.specs.Classes.{covers, class_for, fragments_in, read_set, write_set, written_by}
 use Rattle.sdd_lang.specs.Uses.{restrictions_of, use_of, part_uses, statement_uses, uses_from, uses_of}
 use Rattle.sdd_lang.proofs.ReadSetDecides.{ascending_back}
-use Rattle.sdd_laws.specs.Eras.{HasSets, IsEraOf}
-use Rattle.sdd_laws.proofs.Lists.{each_passes, at_member, first_passes, first_has}
+use Rattle.sdd_eras.specs.EraOf.{HasSets, IsEraOf}
+use Rattle.sdd_eras.proofs.Lists.{each_passes, at_member, first_passes, first_has}
 
 -- a catalogue with other classes
 abbrev pub with_classes : Catalogue → List Class → Catalogue
