@@ -24,7 +24,6 @@ OTHERS = {
     "read fault": "A file couldn't be opened or read. Look at its name, and whether you may read it.",
     "write fault": "Standard output took only a part of the text: its disk is full, or the program after a pipe ended.",
     "no memory": "Memory ran out. A smaller workload helps, or a machine with more.",
-    "unbuilt": "The workload has lists of classes (`list` .. `done`), and this command doesn't carry them out.",
 }
 
 

@@ -6,9 +6,9 @@
 For each seed from FROM up to TO, without it, and each kind (all where none is named) a call is drawn: words and files.
 The reference of this repository (reference/) answers it in this process, the program by COMMAND, and so may a third one.
 Kind inside is for a program of its own, which takes a catalogue and a workload; it is left out without --inside.
-An answer is a status, what standard error is told, and what standard output is; a program that says `unbuilt` isn't
-compared. Of a call with a difference lines are taken away as long as there is one; what is left is printed, and with
---into its files are kept in FOLDER. It ends with 1 where there was a difference.
+An answer is a status, what standard error is told, and what standard output is. Of a call with a difference lines are
+taken away as long as there is one; what is left is printed, and with --into its files are kept in FOLDER. It ends with 1
+where there was a difference.
 
 Kinds: catalogue, faulty-catalogue, toml, plain, faulty-workload, run, lists, control, verify, make, words, inside.
 """
@@ -21,8 +21,6 @@ import sys
 import random_calls
 from answers import NoProgram, Program, reference_answer
 
-UNBUILT = 9
-
 
 def difference(call, programs):
     """The program that answers otherwise, and both answers; or None."""
@@ -31,7 +29,7 @@ def difference(call, programs):
         if (call.words[:1] == ["inside"]) != program.is_inside:
             continue
         got = program.answer(call.words[1:] if program.is_inside else call.words, call.files)
-        if got[0] != UNBUILT and got != wanted:
+        if got != wanted:
             return program, wanted, got
     return None
 

@@ -1,4 +1,5 @@
-"""What a schedule does to packets and data modules: what it loses and repeats, and which modules are down.
+"""What a schedule does besides submitting and delivering: what it loses and repeats, which modules are down, and
+which list of classes it puts in force.
 
     marks = marks_of(first, lines)      # of the text of a run's events (docs/INSIDE.md)
 
@@ -14,11 +15,13 @@ from report import BadInput
 LOST = "#c62828"
 DOWN = {"fill": LOST, "fill_opacity": ".12", "stroke": LOST, "stroke_width": ".8", "stroke_dasharray": "2 2"}
 
+LIST = {"stroke": "#3949ab", "stroke_width": "1.4", "stroke_dasharray": "5 3"}
+
 
 class Mark(NamedTuple):
     event: int
-    kind: str               # lose, repeat, down, up
-    site: str               # the data module in whose lane it stands, or U
+    kind: str               # lose, repeat, down, up, redeclare
+    site: str               # the data module in whose lane it stands, or U; of a redeclare nothing
     line: str               # as a workload spells it
     text: str
 
@@ -29,10 +32,13 @@ def lane_of(a, b):
 
 
 def marks_of(first, lines):
-    reader, marks = Reader(first), []
+    reader, marks, lists = Reader(first), [], 0
     for line in lines:
         reader.apply(line)
         words = line["do"].split(" ")
+        if words == ["redeclare"]:
+            lists += 1
+            marks.append(Mark(line["event"], "redeclare", "", "%d redeclare" % line["event"], "list %d" % lists))
         if line.get("nothing") or words[0] not in ("lose", "repeat", "down", "up"):
             continue
         text = words[0]
@@ -71,6 +77,8 @@ def add_marks(picture, marks):
     downs = {}
     for mark in marks:
         lane = picture.lanes.get(("module", mark.site) if mark.site != "U" else ("class", "-"))
+        if mark.kind == "redeclare" and picture.columns.has(mark.event):
+            picture.kinds.add("redeclare")
         if lane is None:
             continue
         if mark.kind == "down":
@@ -81,6 +89,17 @@ def add_marks(picture, marks):
             add_packet(picture, lane, mark)
     for mark in downs.values():
         add_down(picture, picture.lanes["module", mark.site], mark, None)
+
+
+def list_lines(picture, top, bottom):
+    """A line through all lanes where a list of classes is put in force."""
+    shapes = []
+    for mark in picture.marks:
+        if mark.kind == "redeclare" and picture.columns.has(mark.event):
+            x = picture.columns.x(mark.event)
+            shapes += [svg.shape("path", "", mark.line, d="M%s %sV%s" % tuple(map(svg.number, (x, top, bottom))), **LIST),
+                       svg.label(x + 3, bottom - 3, mark.text, "s")]
+    return shapes
 
 
 def add_packet(picture, lane, mark):
@@ -106,6 +125,8 @@ def add_down(picture, lane, begin, end):
 
 
 def sample(kind, x, y, told=None):
+    if kind == "redeclare":
+        return [svg.shape("path", "", told, d="M%s %sv12" % (svg.number(x), svg.number(y - 6)), **LIST)]
     if kind == "down":
         return [svg.shape("rect", "", told, x=x - 9, y=y - 5, width=18, height=10, **DOWN)]
     if kind == "lose":

@@ -8,8 +8,9 @@ with an attempt from its start to its commit, and one for each data module, with
 there, the changes that were applied, and the times that classes passed. Below stands the serial order.
 CATALOGUE adds the transaction module of each class, and all its classes and modules, in their order;
 without it the lanes are those of which the report speaks. WORKLOAD adds what the network does: packets
-that are lost or repeated, and data modules that are down; the numbers of these events are told by the
-programs that tools/page.py takes. Of a long report the first 120 columns are drawn where --from and --to
+that are lost or repeated, data modules that are down, and the lists of classes that are put in force,
+with the modules of their classes; the numbers of these events are told by the programs that tools/page.py
+takes. Of a long report the first 120 columns are drawn where --from and --to
 name no others. Under the pointer each mark tells its line of the report.
 """
 import sys
@@ -22,6 +23,7 @@ from lanes import APPLIES, PASSES, READS, SERVED, WAITING, Columns, Item, Lane, 
 from page import add_programs
 from report import BadInput, read_report
 from states import find_programs, list_classes, read_bytes, read_parts, read_text
+from workload import with_lists
 
 MOST_COLUMNS = 120
 TOP, ROW, GAP, LEAST_WIDTH = 46, 17, 8, 540
@@ -37,7 +39,7 @@ text{font-family:'DejaVu Sans',Verdana,sans-serif;font-size:10px;fill:#222}
 LEGEND = {"submit": "given to its site", "bar": "an attempt, from its start to its commit", "no": "an attempt that is rejected",
           "wait": "a read waits for these classes to pass these times", "answer": "a read is answered", "reject": "a read is rejected",
           "apply": "changes are applied", "held": "changes that were held behind the read", "pass": "a class passes a time", "lose": "a packet is lost", "repeat": "a packet is repeated",
-          "down": "the data module is down"}
+          "down": "the data module is down", "redeclare": "a list of classes is put in force"}
 
 
 class Picture:
@@ -237,7 +239,7 @@ class Picture:
         for top, height, lane in ground:
             shapes += [svg.shape("rect", "lane", x=self.left - 6, y=top, width=right - self.left + 6, height=height),
                        svg.label(self.left - 12, top + 15, lane.title, "h e"), svg.label(14, top + 15, lane.site, "s")]
-        shapes += self.axis(y - GAP) + self.ways() + marks
+        shapes += self.axis(y - GAP) + network.list_lines(self, TOP - 4, y - GAP) + self.ways() + marks
         y, more = self.order_strip(y + 14, right)
         shapes += more
         y, more = self.legend(y + 8, right)
@@ -304,7 +306,7 @@ class Picture:
     def sample(self, kind, x, y):
         if kind == "submit":
             return [self.triangle(x, y, "#555")]
-        if kind in ("lose", "repeat", "down"):
+        if kind in ("lose", "repeat", "down", "redeclare"):
             return network.sample(kind, x, y)
         if kind in ("bar", "no", "wait"):
             style = {"bar": "bar", "no": "bar no", "wait": "wait"}[kind]
@@ -364,6 +366,8 @@ def main():
     marks, lists = marks_of_run(report, asked)
     if catalogue:
         network.judge_catalogue(report, catalogue, lists)
+    if asked.workload:
+        catalogue = with_lists(catalogue, asked.workload)
     text = Picture(report, catalogue, marks, window(report, marks, asked.first, asked.last)).draw(asked.title)
     if not asked.into:
         return print(text, end="")

@@ -168,7 +168,7 @@ def run_call(rng):
 
 
 def inside_call(rng):
-    return Call(["inside", "cat", "work"], files_of(*inputs.scheduled(rng)))
+    return Call(["inside", "cat", "work"], files_of(*inputs.scheduled(rng, rng.random() < 0.3)))
 
 
 def lists_call(rng):
@@ -187,7 +187,7 @@ def control_call(rng):
 
 
 def verify_call(rng):
-    cat, work = inputs.scheduled(rng, rng.random() < 0.15)
+    cat, work = inputs.scheduled(rng, rng.random() < 0.4)
     files = files_of(cat, work)
     _, _, text = answer([rng.choice(["run", "plain"]), "cat", "work"], files.__getitem__)
     report = text.encode()
