@@ -1,7 +1,7 @@
 -- The sets of a class in an era, and of its transactions.
 use Rattle.std.proofs.Common.{ℕ, zero, suc, ◌+◌, ◌-◌, ◌<◌, ◌≤◌, ◌==◌, ◌≡◌, Bool, true, false, cond, ◌&&◌, List, [], ◌∷◌, ◌++◌, map, length, Option, Some, None, refl, sym, ap, ◌∙◌, subst, ◌⊎◌, inl, inr, arith}
 use Rattle.std.specs.Prelude.{is_some, unwrap_or, option_map, filter, find}
-use Rattle.std.specs.List.{AllByRecursion, flat_map, list_all}
+use Rattle.std.specs.List.{AllByRecursion, flat_map, list_all, list_any}
 use Rattle.std.proofs.lemmas.Bool.{and_parts, ne_eqb}
 use Rattle.sdd_base.specs.Words.{ascending, contains, head_of}
 use Rattle.sdd_base.specs.declared.number.FragNo.{FragNo}
@@ -62,8 +62,21 @@ all_written_same cat classes (s ∷ rest) =
     ap (λ z. z ++ flat_map (written_by (with_classes cat classes)) rest) (written_same cat classes s)
     ∙ ap (λ z. written_by cat s ++ z) (all_written_same cat classes rest)
 
+-- a catalogue is one of its own
+pub era_of_itself : (cat : Catalogue) → IsEraOf cat cat
+era_of_itself cat =
+    record {
+      tms = refl;
+      dms = refl;
+      relations = refl;
+      fragments = refl;
+      classes = omega arith;
+      home = λ c from to. refl;
+      sets = λ c from to. inl (refl, refl);
+    }
+
 -- an era differs in its classes alone
-era_is : (cat era : Catalogue) → IsEraOf cat era → era ≡ with_classes cat era.classes
+pub era_is : (cat era : Catalogue) → IsEraOf cat era → era ≡ with_classes cat era.classes
 era_is cat era h =
     λ i. record {
       tms = h.tms i;
@@ -134,3 +147,40 @@ read_in_era cat era h n f c e =
           let wrong : false ≡ true = ap is_some (sym none) ∙ e in
           absurd (cc)
     ]
+
+-- what a class writes in an era it writes in the whole catalogue
+written_in_era : (cat era : Catalogue) → IsEraOf cat era → (n f : ℕ) → IsClassOf era n
+    → writes era n f ≡ true → writes cat n f ≡ true
+written_in_era cat era h n f c e =
+    let from = c.from in
+    let declared : (n == 0) ≡ false = ne_eqb n 0 (λ z. absurd (omega arith)) in
+    let by_class : (k : Catalogue) → writes k n f ≡ list_any (λ (w : FragNo). w.0 == f) (class_at k n).writes =
+    λ k. ap (λ b. cond b true (list_any (λ (w : FragNo). w.0 == f) (class_at k n).writes)) declared in
+    elim (h.sets n c.from c.to) [
+      | inl same ↦
+          by_class cat
+          ∙ ap (λ writes. list_any (λ (w : FragNo). w.0 == f) writes) (sym same.1)
+          ∙ sym (by_class era)
+          ∙ e
+      | inr empty ↦
+          let none : writes era n f ≡ false =
+          by_class era ∙ ap (λ writes. list_any (λ (w : FragNo). w.0 == f) writes) empty.1 in
+          absurd (cc)
+    ]
+
+-- a class that covers a transaction in an era covers it in the whole catalogue
+pub covered_in_era : (cat era : Catalogue) → IsEraOf cat era → (txn : Txn) (n : ℕ)
+    → IsCovered era txn n → IsCovered cat txn n
+covered_in_era cat era h txn n c =
+    let few = h.classes in
+    let below = c.class.to in
+    record {
+      class = record { from = c.class.from; to = omega arith };
+      reads = λ f there.
+          let here : is_some (reads_at era n f) ≡ true =
+          c.reads f (ap (λ uses. contains (fragments_in uses) f) (uses_in_era cat era h txn) ∙ there) in
+          ap is_some (sym (read_in_era cat era h n f c.class here)) ∙ here;
+      writes = λ f there.
+          written_in_era cat era h n f c.class
+          (c.writes f (ap (λ fs. contains fs f) (write_set_in_era cat era h txn) ∙ there));
+    }

@@ -1,3 +1,5 @@
+pub mod EraFits
+pub mod EraOfWhole
 pub mod EraSets
 pub mod Extended
 pub mod Lists

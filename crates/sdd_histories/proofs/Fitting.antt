@@ -1,5 +1,5 @@
 -- Tests that tell that what the laws speak of fits together.
-use Rattle.std.proofs.Common.{ℕ, zero, suc, ◌<◌, ◌≤◌, ◌≡◌, nat_le, Bool, true, ◌&&◌, List, [], ◌∷◌, length, Some, refl, subst, inl, arith}
+use Rattle.std.proofs.Common.{ℕ, zero, suc, ◌<◌, ◌≤◌, ◌≡◌, nat_le, Bool, true, ◌&&◌, List, [], ◌∷◌, length, Some, refl, subst, arith}
 use Rattle.std.specs.Prelude.{slice_get}
 use Rattle.std.specs.List.{All, AllByRecursion, list_all}
 use Rattle.std.proofs.lemmas.Bool.{and_parts, leb-true}
@@ -20,6 +20,7 @@ use Rattle.sdd_lang.specs.Database.{Row}
 use Rattle.sdd_lang.specs.Fits.{Fits, FitsStart}
 use Rattle.sdd_order.specs.Numbers.{IsFrom1To, AreFragments, UseExists, CondExists, ChangeExists, ExistsIn}
 use Rattle.sdd_eras.specs.EraOf.{IsEraOf}
+use Rattle.sdd_eras.proofs.EraSets.{era_of_itself}
 use Rattle.sdd_laws.specs.Eras.{Eras, AreEras}
 use Rattle.sdd_laws.specs.Kept.{FitTogether}
 use Rattle.sdd_laws.specs.Numbers.{NamesOneOf}
@@ -129,18 +130,6 @@ names count Nothing e = tt
 
 -- one catalogue from the beginning
 
-pub only_era : (cat : Catalogue) → IsEraOf cat cat
-only_era cat =
-    record {
-      tms = refl;
-      dms = refl;
-      relations = refl;
-      fragments = refl;
-      classes = omega arith;
-      home = λ c p q. refl;
-      sets = λ c p q. inl (refl, refl);
-    }
-
 pub are_eras : (cat : Catalogue) → AreEras cat (one_era cat)
 are_eras cat = record { first = (cat, refl); rise = rise; each = each }
   where
@@ -149,7 +138,7 @@ are_eras cat = record { first = (cat, refl); rise = rise; each = each }
     rise (suc k) a b p q = absurd (cc)
 
     each : (k : ℕ) (a : ℕ × Catalogue) → slice_get (one_era cat) k ≡ Some a → IsEraOf cat a.1
-    each zero a p = subst (λ (e : ℕ × Catalogue). IsEraOf cat e.1) (same_Some (0, cat) a p) (only_era cat)
+    each zero a p = subst (λ (e : ℕ × Catalogue). IsEraOf cat e.1) (same_Some (0, cat) a p) (era_of_itself cat)
     each (suc k) a p = absurd (cc)
 
 pub record PassFit (cat : Catalogue) (eras : Eras) (rows : List (RelNo × Row)) (txns : List Txn) (h : History) : Type 0 where

@@ -7,6 +7,7 @@ use Rattle.sdd_history.specs.Records.{History}
 use Rattle.sdd_log.specs.Entries.{Does, Given, Hand, Log, Mark, Notes, Redeclares, Round, Submitted, marks}
 use Rattle.sdd_log.specs.Locals.{IsForce, force_at, redeclares}
 use Rattle.sdd_eras.specs.EraOf.{IsEraOf}
+use Rattle.sdd_eras.proofs.EraSets.{era_of_itself}
 use Rattle.sdd_laws.specs.Eras.{AreEras, begun, in_force}
 use Rattle.sdd_laws.specs.Redeclares.{IsOfEarlierEra, KeepsEras}
 use Rattle.sdd_order.specs.Attempts.{Committed}
@@ -14,19 +15,8 @@ use Rattle.sdd_order.specs.Places.{event_at}
 use Rattle.sdd_invariants.proofs.Bools.{true_or_false}
 use Rattle.sdd_upheld.specs.Given.{AreErasOf, one_era}
 
-own_era : (cat : Catalogue) → IsEraOf cat cat
-own_era cat = record {
-  tms = refl;
-  dms = refl;
-  relations = refl;
-  fragments = refl;
-  classes = omega arith;
-  home = λ c from to. refl;
-  sets = λ c from to. inl (refl, refl);
-}
-
 each_era : (cat : Catalogue) (k : ℕ) (a : ℕ × Catalogue) → slice_get (one_era cat) k ≡ Some a → IsEraOf cat a.1
-each_era cat zero a e = let p : (0, cat) ≡ a = cc in subst (λ (x : ℕ × Catalogue). IsEraOf cat x.1) p (own_era cat)
+each_era cat zero a e = let p : (0, cat) ≡ a = cc in subst (λ (x : ℕ × Catalogue). IsEraOf cat x.1) p (era_of_itself cat)
 each_era cat (suc k) a e = cc
 
 no_next : {A : Type 0} (cat : Catalogue) (k : ℕ) (b : ℕ × Catalogue) → slice_get (one_era cat) (suc k) ≡ Some b → A
