@@ -95,7 +95,7 @@ amid_after s bases log place c step act made amid e makes after sound served les
     let k : ClassState = class_of s log c in
     let is = done_is bases place k step (state_of s log) made makes in
     record {
-      setting = record { valid = amid.setting.valid; whole = amid.setting.whole; in_force = amid.setting.in_force };
+      setting = record { valid = amid.setting.valid; whole = amid.setting.whole; era = amid.setting.era };
       sound = sound;
       state_is = after ∙ is;
       databases = amid.databases;

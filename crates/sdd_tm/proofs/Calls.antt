@@ -2,12 +2,13 @@
 use Rattle.std.proofs.Common.{ℕ, zero, suc, ◌<◌, ◌^◌, ◌≡◌, false, List, [], ◌∷◌, map, length, refl, ap, sym, ◌∙◌, subst, arith, Some, None}
 use Rattle.std.specs.Prelude.{slice_get, IsTrue}
 use Rattle.sdd_base.specs.Kept.{Kept}
-use Rattle.sdd_base.specs.Clock.{ticked, at_zero}
+use Rattle.sdd_base.specs.Clock.{at_zero, bound_of, pushed, ticked}
 use Rattle.sdd_base.specs.declared.number.RelNo.{RelNo}
 use Rattle.sdd_base.specs.declared.number.TmNo.{TmNo}
 use Rattle.sdd_base.specs.declared.number.TxnNo.{TxnNo}
 use Rattle.sdd_base.specs.declared.site.Site.{Site}
 use Rattle.sdd_base.specs.declared.site.Site.TheVariants.{T}
+use Rattle.sdd_catalog.specs.Catalogue.{Catalogue}
 use Rattle.sdd_catalog.specs.Rules as catalogues
 use Rattle.sdd_catalog.specs.Numbers.{IsWhole}
 use Rattle.sdd_lang.specs.declared.transaction.Txn.{Txn}
@@ -21,7 +22,9 @@ use Rattle.sdd_module.specs.Notes.{Notes, nothing_noted, noted}
 use Rattle.sdd_module.proofs.Does.{DoesMore, does_from, all_noted}
 use Rattle.sdd_attempt.specs.Sound.{IsLineOf}
 use Rattle.sdd_attempt.proofs.Stamps.{stamped_still}
-use Rattle.sdd_attempt.proofs.SoundLines.{line_ticked}
+use Rattle.sdd_attempt.proofs.SoundLines.{line_redeclared, line_ticked}
+use Rattle.sdd_attempt.specs.Clocks.{clock}
+use Rattle.sdd_eras.specs.EraOf.{IsEraOf}
 use Rattle.sdd_tm.specs.Views.{runs}
 use Rattle.sdd_tm.specs.Due.{next}
 use Rattle.sdd_tm.specs.Fits.{fits, FitsSubmit}
@@ -174,7 +177,7 @@ pub tick_stands : (old new : Kept State) (n : ℕ)
 tick_stands old new n e s log st =
     rw e (record {
       live = st.live;
-      setting = record { valid = st.setting.valid; whole = st.setting.whole; in_force = st.setting.in_force };
+      setting = record { valid = st.setting.valid; whole = st.setting.whole; era = st.setting.era };
       sound = record {
         lines = λ i c f. line_ticked s c log n (st.sound.lines i c f);
         stamped = stamped_still s log (Ticked n) refl st.sound.stamped;
@@ -200,32 +203,32 @@ first_classes : (s : Setting) (force : Force) (cs : List ℕ)
 first_classes s force [] = refl
 first_classes s force (c ∷ cs) = ap (λ rest. first_class s.catalogue c ∷ rest) (first_classes s force cs)
 
-abbrev setting_of : Force → TmNo → List (RelNo × Row) → Setting
-setting_of force tm rows = record { catalogue = force.catalogue; site = T tm; rows = rows }
+abbrev setting_of : Catalogue → TmNo → List (RelNo × Row) → Setting
+setting_of whole tm rows = record { catalogue = whole; site = T tm; rows = rows }
 
-first_at : (force : Force) (tm : TmNo) (rows : List (RelNo × Row))
-    → state_of (setting_of force tm rows) (Redeclared force 0 ∷ []) ≡ first_state force tm.0
-first_at force tm rows =
+first_at : (whole : Catalogue) (force : Force) (tm : TmNo) (rows : List (RelNo × Row))
+    → state_of (setting_of whole tm rows) (Redeclared force 0 ∷ []) ≡ first_state whole force tm.0
+first_at whole force tm rows =
     ap (λ cs. record { force = force; clock = at_zero tm.0; on_hold = false; owes_held = false; classes = cs })
-    (first_classes (setting_of force tm rows) force (runs (setting_of force tm rows)))
+    (first_classes (setting_of whole tm rows) force (runs (setting_of whole tm rows)))
 
-first_is : (s : Setting) (force : Force) (tm : TmNo) → s.catalogue ≡ force.catalogue → s.site ≡ T tm
-    → state_of s (Redeclared force 0 ∷ []) ≡ first_state force tm.0
-first_is s force tm e f =
-    let is : s ≡ setting_of force tm s.rows =
+first_is : (s : Setting) (whole : Catalogue) (force : Force) (tm : TmNo) → s.catalogue ≡ whole → s.site ≡ T tm
+    → state_of s (Redeclared force 0 ∷ []) ≡ first_state whole force tm.0
+first_is s whole force tm e f =
+    let is : s ≡ setting_of whole tm s.rows =
     ap (λ x. record s { catalogue = x }) e
-    ∙ ap (λ x. record { catalogue = force.catalogue; site = x; rows = s.rows }) f in
-    ap (λ x. state_of x (Redeclared force 0 ∷ [])) is ∙ first_at force tm s.rows
+    ∙ ap (λ x. record { catalogue = whole; site = x; rows = s.rows }) f in
+    ap (λ x. state_of x (Redeclared force 0 ∷ [])) is ∙ first_at whole force tm s.rows
 
-pub new_stands : (k : Kept State) (force : Force) (tm : TmNo) → IsTrue k.live → k.value ≡ first_state force tm.0
-    → catalogues.IsSound force.catalogue → IsWhole force.catalogue
-    → (s : Setting) → s.catalogue ≡ force.catalogue → s.site ≡ T tm → Stands k s (Redeclared force 0 ∷ [])
-new_stands k force tm live is valid whole s e f =
+pub new_stands : (k : Kept State) (whole : Catalogue) (force : Force) (tm : TmNo) → IsTrue k.live
+    → k.value ≡ first_state whole force tm.0 → catalogues.IsSound whole → IsWhole whole → IsEraOf whole force.catalogue
+    → (s : Setting) → s.catalogue ≡ whole → s.site ≡ T tm → Stands k s (Redeclared force 0 ∷ [])
+new_stands k whole force tm live is valid counts era s e f =
     let log : Log = Redeclared force 0 ∷ [] in
-    let state : state_of s log ≡ k.value = first_is s force tm e f ∙ sym is in
+    let state : state_of s log ≡ k.value = first_is s whole force tm e f ∙ sym is in
     record {
       live = live;
-      setting = record { valid = rw e valid; whole = rw e whole; in_force = sym e };
+      setting = record { valid = rw e valid; whole = rw e counts; era = rw e era };
       sound = record {
         lines = λ i c g. first_line s force c;
         stamped = tt;
@@ -233,12 +236,41 @@ new_stands k force tm live is valid whole s e f =
         turns = record { released = omega arith; answered = omega arith; one = omega arith };
       };
       state_is = state;
-      settled = rw is (none_yet (classes_of force.catalogue tm.0));
+      settled = rw is (none_yet (classes_of whole tm.0));
       told = rw is refl;
     }
   where
-    none_yet : (cs : List ℕ) (i : ℕ) (x : ClassState) → slice_get (map (first_class force.catalogue) cs) i ≡ Some x
+    none_yet : (cs : List ℕ) (i : ℕ) (x : ClassState) → slice_get (map (first_class whole) cs) i ≡ Some x
         → class_step false x ≡ None
     none_yet [] i x g = absurd cc
     none_yet (c ∷ cs) zero x g = subst (λ (y : ClassState). class_step false y ≡ None) (some_is g) refl
     none_yet (c ∷ cs) (suc i) x g = none_yet cs i x g
+
+-- a list of classes is put in force
+
+pub redeclared_stands : (old new : Kept State) (force : Force) (t : ℕ)
+    → new ≡ record old { value = record old.value { force = force; clock = pushed old.value.clock t } }
+    → (s : Setting) (log : Log) → Stands old s log → IsEraOf s.catalogue force.catalogue → Stands new s (Redeclared force t ∷ log)
+redeclared_stands old new force t e s log st era =
+    rw e (record {
+      live = st.live;
+      setting = record { valid = st.setting.valid; whole = st.setting.whole; era = era };
+      sound = record {
+        lines = λ i c f. line_redeclared s c log force t (st.sound.lines i c f);
+        stamped = stamped_still s log (Redeclared force t) refl st.sound.stamped;
+        unanswered = record {
+          rise = st.sound.unanswered.rise;
+          last = st.sound.unanswered.last;
+          apart = st.sound.unanswered.apart;
+        };
+        turns = st.sound.turns;
+      };
+      state_is = ap (λ (x : State). record x { force = force; clock = pushed x.clock t }) st.state_is;
+      settled = st.settled;
+      told = held_ticked old.value (pushed old.value.clock t) st.told;
+    })
+
+-- the bound of the clock
+pub bound_is : (k : Kept State) (s : Setting) (log : Log) (n : ℕ) → n ≡ bound_of k.value.clock → Stands k s log
+    → n ≡ bound_of (clock s.site log)
+bound_is k s log n e st = e ∙ ap (λ (x : State). bound_of x.clock) (sym st.state_is)

@@ -4,10 +4,12 @@ use Rattle.std.specs.Prelude.{unwrap_or, if◌then◌else◌}
 use Rattle.std.specs.List.{filter, list_all}
 use Rattle.std.proofs.lemmas.Bool.{and_parts, ne_eqb, eqb-true}
 use Rattle.std.proofs.lemmas.Bool.Decides.{nat_tests}
-use Rattle.sdd_base.specs.Words.{head_of}
+use Rattle.sdd_base.specs.Words.{ascending, head_of}
 use Rattle.sdd_catalog.specs.Catalogue.{Catalogue, reads_at, writes, class_at, numbers_to}
 use Rattle.sdd_lang.specs.declared.transaction.Txn.{Txn}
-use Rattle.sdd_lang.specs.Classes.{read_set, write_set, covers, class_for}
+use Rattle.sdd_lang.specs.Classes.{read_set, write_set, covers, class_for, fragments_in}
+use Rattle.sdd_eras.proofs.EraSets.{read_in_era, uses_in_era}
+use Rattle.sdd_eras.proofs.EraSets as eras
 use Rattle.sdd_module.specs.SiteLog.{Setting, Bases, Log, Submits, in_force}
 use Rattle.sdd_attempt.specs.Queues.{is_for, queue}
 use Rattle.sdd_attempt.specs.Attempts.{active}
@@ -46,6 +48,11 @@ covered cat txn c low e =
     (and_parts (list_all (λ f. is_some (reads_at cat c f)) (read_set cat txn))
     (list_all (writes cat c) (write_set cat txn)) both.1).0
 
+all_more : (p q : ℕ → Bool) (xs : List ℕ) → ((x : ℕ) → p x ≡ true → q x ≡ true) → list_all p xs ≡ true → list_all q xs ≡ true
+all_more p q [] h e = refl
+all_more p q (x ∷ xs) h e =
+    let both = and_parts (p x) (list_all p xs) e in rw (h x both.0, all_more p q xs h both.1) refl
+
 is_of_class : (c k : ℕ) → 1 ≤ c → (c == 0 || k == c) ≡ true → k ≡ c
 is_of_class c k low e = eqb-true k c (subst (λ b. (b || k == c) ≡ true) (ne_eqb c 0 (λ q. absurd (omega arith))) e)
 
@@ -53,8 +60,15 @@ pub class_covers : (s : Setting) (log : Log) (txn : Txn) (c : ℕ) → IsSetting
     → is_for c (in_force s log).catalogue txn ≡ true → list_all (λ f. is_some (reads_at s.catalogue c f))
     (read_set s.catalogue txn) ≡ true
 class_covers s log txn c setting low e =
-    covered s.catalogue txn c low (sym (ap (λ cat. class_for cat txn) setting.in_force)
-    ∙ is_of_class c (class_for (in_force s log).catalogue txn) low e)
+    let era : Catalogue = (in_force s log).catalogue in
+    let is : class_for era txn ≡ c = is_of_class c (class_for era txn) low e in
+    let here = eras.covered era txn c (sym is) low in
+    let same : read_set era txn ≡ read_set s.catalogue txn =
+    ap (λ uses. ascending (fragments_in uses)) (uses_in_era s.catalogue era setting.era txn) in
+    subst (λ fs. list_all (λ f. is_some (reads_at s.catalogue c f)) fs ≡ true) same
+    (all_more (λ f. is_some (reads_at era c f)) (λ f. is_some (reads_at s.catalogue c f)) (read_set era txn)
+    (λ f r. ap is_some (sym (read_in_era s.catalogue era setting.era c f here.class r)) ∙ r)
+    (covered era txn c low is))
 
 -- what is kept of the log
 
@@ -114,7 +128,7 @@ amid_given s bases log n txn small setting sound settled f =
     let now : IsSound s (Submits n txn ∷ log) = sound_given s bases log n txn small setting f sound in
     let is = state_given_kept s log n txn in
     let same : IsSettingOf s (Submits n txn ∷ log) =
-    record { valid = setting.valid; whole = setting.whole; in_force = setting.in_force } in
+    record { valid = setting.valid; whole = setting.whole; era = setting.era } in
     record {
       setting = same;
       sound = now;

@@ -207,7 +207,7 @@ amid_handed s bases log from m setting sound settled f =
     let now : IsSound s (Handed from m ∷ log) = sound_handed s bases log from m f.1 sound in
     let is = state_kept s log from m sound.turns in
     record {
-      setting = record { valid = setting.valid; whole = setting.whole; in_force = setting.in_force };
+      setting = record { valid = setting.valid; whole = setting.whole; era = setting.era };
       sound = now;
       state_is = is;
       databases = f.0.databases;
@@ -217,7 +217,7 @@ amid_handed s bases log from m setting sound settled f =
           (has_room s (Handed from m ∷ log) (record {
             valid = setting.valid;
             whole = setting.whole;
-            in_force = setting.in_force;
+            era = setting.era;
           }) now (early s bases log from m f));
     }
 

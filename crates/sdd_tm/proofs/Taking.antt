@@ -10,7 +10,8 @@ use Rattle.sdd_lang.specs.declared.transaction.Txn.{Txn}
 use Rattle.sdd_lang.specs.Fits.{Fits}
 use Rattle.sdd_wire.specs.declared.msg.Msg.{Msg}
 use Rattle.sdd_wire.specs.declared.msg.Msg.TheVariants.{Ask, Reject, Release, Held}
-use Rattle.sdd_module.specs.SiteLog.{Setting, Bases, Log}
+use Rattle.sdd_eras.proofs.EraFits.{fits_in_era}
+use Rattle.sdd_module.specs.SiteLog.{Setting, Bases, Log, in_force}
 use Rattle.sdd_attempt.specs.Queues.{Queued}
 use Rattle.sdd_attempt.specs.Lines.{IsAwaited}
 use Rattle.sdd_attempt.proofs.LineActs.{new_in_queue}
@@ -139,5 +140,5 @@ given_there state c place e = let at = somewhere state.classes c place (sym e) i
 pub fits_in_force : (s : Setting) (bases : Bases) (log : Log) (state : State) (n : ℕ) (txn : Txn)
     → IsKept s log state → FitsSubmit s bases log n txn → Fits state.force.catalogue txn
 fits_in_force s bases log state n txn kept f =
-    subst (λ cat. Fits cat txn) (sym kept.setting.in_force ∙ ap (λ (st : State). st.force.catalogue) kept.state_is)
-    f.fitting
+    subst (λ cat. Fits cat txn) (ap (λ (st : State). st.force.catalogue) kept.state_is)
+    (fits_in_era s.catalogue (in_force s log).catalogue kept.setting.era txn f.fitting)

@@ -80,7 +80,7 @@ told_amid s bases log amid h =
     let paid : nat_lt (suc (holds log).helds) (holds log).holds ≡ false =
     le-ltb (suc (holds log).helds) (holds log).holds (omega arith) in
     record {
-      setting = record { valid = amid.setting.valid; whole = amid.setting.whole; in_force = amid.setting.in_force };
+      setting = record { valid = amid.setting.valid; whole = amid.setting.whole; era = amid.setting.era };
       sound = record {
         lines = λ i c e. line_apart s c log U m (Some (holds log).last) (held_apart c t) (amid.sound.lines i c e);
         stamped = stamped_did s log act amid.sound.stamped (tt, tt);

@@ -4,6 +4,7 @@ use Rattle.std.specs.List.{AllByRecursion}
 use Rattle.sdd_base.specs.Kept.{Kept}
 use Rattle.sdd_catalog.specs.Rules as catalogues
 use Rattle.sdd_catalog.specs.Numbers.{IsWhole}
+use Rattle.sdd_eras.specs.EraOf.{IsEraOf}
 use Rattle.sdd_lang.specs.Sound.{IsDatabase}
 use Rattle.sdd_module.specs.SiteLog.{Setting, Bases, Log, in_force, hands}
 use Rattle.sdd_attempt.specs.Attempts.{active}
@@ -38,11 +39,11 @@ pub record IsSound (s : Setting) (log : Log) : Type 0 where
   pub unanswered : AreOpen log
   pub turns : InTurn (holds log)
 
--- the setting: its catalogue is one of valid parts, and its classes are those in force
+-- the setting: its catalogue is one of valid parts, and that in force is the one of an era of it
 pub record IsSettingOf (s : Setting) (log : Log) : Type 0 where
   pub valid : catalogues.IsSound s.catalogue
   pub whole : IsWhole s.catalogue
-  pub in_force : (in_force s log).catalogue ≡ s.catalogue
+  pub era : IsEraOf s.catalogue (in_force s log).catalogue
 
 -- what the module keeps follows from the log
 pub record IsKept (s : Setting) (log : Log) (state : State) : Type 0 where

@@ -24,11 +24,11 @@ first_class cat c = record { line = no_line cat c; asks = [] }
 abbrev pub classes_of : Catalogue → ℕ → List ℕ
 classes_of cat tm = filter (λ c. (class_at cat c).tm.0 == tm) (numbers_to (length cat.classes))
 
-abbrev pub first_state : Force → ℕ → State
-first_state force tm = record {
+abbrev pub first_state : Catalogue → Force → ℕ → State
+first_state whole force tm = record {
   force = force;
   clock = at_zero tm;
   on_hold = false;
   owes_held = false;
-  classes = map (first_class force.catalogue) (classes_of force.catalogue tm);
+  classes = map (first_class whole) (classes_of whole tm);
 }

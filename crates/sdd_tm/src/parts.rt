@@ -1,6 +1,6 @@
 ghost use Rattle.std.specs.Prelude.{◌≡◌, ◌≤◌, ◌<◌, ◌+◌, ◌/◌, ◌^◌, ℕ, map, length, slice_get, ◌==◌, IfOk, IfSome, OnOk, Some, None};
 ghost use Rattle.std.specs.List.{list_all};
-ghost use Rattle.sdd_base.specs.Clock.{ticked};
+ghost use Rattle.sdd_base.specs.Clock.{bound_of, pushed, ticked};
 ghost use Rattle.sdd_lang.specs.Classes.{class_for};
 ghost use Rattle.sdd_lang.specs.Sound.{IsDatabase};
 ghost use Rattle.sdd_module.specs.SiteLog.{Setting, Bases, Log};
@@ -60,12 +60,13 @@ impl<'a> Parts<'a> {
     /// Before the first message.
     pub(crate) fn new(
         alloc: Global,
+        whole: &'a Catalogue,
         catalogue: &'a Catalogue,
         table: &'a Table,
         tm: TmNo,
     ) -> Result<Parts<'a>, NoMemory>
-        ensures { IfOk result (λ parts.
-            parts ≡ first_state (record { catalogue = catalogue.now; table = table.now }) tm.0) }
+        ensures { IfOk result (λ parts. parts
+            ≡ first_state whole.now (record { catalogue = catalogue.now; table = table.now }) tm.0) }
     {
         Ok(Parts {
             alloc,
@@ -74,7 +75,7 @@ impl<'a> Parts<'a> {
             clock: Clock::new(tm.0),
             on_hold: false,
             owes_held: false,
-            classes: first_classes(alloc, catalogue, tm)?,
+            classes: first_classes(alloc, whole, tm)?,
         })
     }
 
@@ -272,6 +273,26 @@ impl<'a> Parts<'a> {
                 })
             }
         }
+    }
+
+    /// Puts other classes in force at a time that pushes the clock.
+    pub(crate) fn redeclare(&mut self, catalogue: &'a Catalogue, table: &'a Table, t: Ts)
+        requires { t.0 / 64 < 2 ^ 57 }
+        ensures { self.new ≡ record self.old {
+          force = record { catalogue = catalogue.now; table = table.now };
+          clock = pushed self.old.clock t.0;
+        } }
+    {
+        self.clock.push(t);
+        self.catalogue = catalogue;
+        self.table = table;
+    }
+
+    /// The bound of the clock.
+    pub(crate) fn bound(&self) -> Ts
+        ensures { result.0 ≡ bound_of self.now.clock }
+    {
+        self.clock.bound()
     }
 
     /// Lets time pass.

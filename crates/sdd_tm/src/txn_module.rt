@@ -1,8 +1,11 @@
-ghost use Rattle.std.specs.Prelude.{◌≡◌, ◌∷◌, [], ◌+◌, ◌<◌, ◌^◌, List, map, IfOk, OnErr, IsTrue};
+ghost use Rattle.std.specs.Prelude.{◌≡◌, ◌∷◌, [], ◌+◌, ◌/◌, ◌<◌, ◌^◌, List, map, IfOk, OnErr, IsTrue};
+ghost use Rattle.sdd_base.specs.Clock.{bound_of};
 ghost use Rattle.sdd_base.specs.declared.site.Site.TheVariants.{T};
 ghost use Rattle.sdd_history.specs.declared.record.Rec.{Rec as Record};
 ghost use Rattle.sdd_history.specs.declared.record.Rec.TheVariants.{Submit};
 ghost use Rattle.sdd_module.specs.SiteLog.{Setting, Bases, Log, Redeclared, Submits, Ticked, Does};
+ghost use Rattle.sdd_eras.specs.EraOf.{IsEraOf};
+ghost use Rattle.sdd_attempt.specs.Clocks.{clock};
 ghost use Rattle.sdd_attempt.specs.Fits.{FitsSite};
 ghost use Rattle.sdd_attempt.specs.Standings.{standing_among};
 ghost use Rattle.sdd_tm.specs.Due.{next};
@@ -12,7 +15,7 @@ ghost use Rattle.sdd_tm.specs.Stands.{Stands};
 
 use crate::parts::Parts;
 use sdd_attempt::Standing;
-use sdd_base::{NoMemory, Site, TmNo, TxnNo};
+use sdd_base::{NoMemory, Site, TmNo, Ts, TxnNo};
 use sdd_catalog::Catalogue;
 use sdd_history::Rec;
 use sdd_lang::Txn;
@@ -39,22 +42,24 @@ impl<'a> Model for TxnModule<'a> {
 }
 
 impl<'a> TxnModule<'a> {
-    /// A module before its first message, where this catalogue and its protocol table are in
-    /// force. Costs a look at each class.
+    /// A module before its first message, where this catalogue, which has the first classes of the
+    /// whole one, and its protocol table are in force. Costs a look at each class.
     pub fn new(
         alloc: Global,
+        whole: &'a Catalogue,
         catalogue: &'a Catalogue,
         table: &'a Table,
         tm: TmNo,
     ) -> Result<TxnModule<'a>, NoMemory>
+        requires { IsEraOf whole.now catalogue.now }
         ensures { IfOk result (λ new. (setting : Setting)
-            → setting.catalogue ≡ catalogue.now → setting.site ≡ T tm
+            → setting.catalogue ≡ whole.now → setting.site ≡ T tm
             → Stands new setting
             (Redeclared (record { catalogue = catalogue.now; table = table.now }) 0 ∷ [])) }
     {
-        catalogue.known();
+        whole.known();
         Ok(TxnModule {
-            parts: Parts::new(alloc, catalogue, table, tm)?,
+            parts: Parts::new(alloc, whole, catalogue, table, tm)?,
             live: true,
         })
     }
@@ -104,6 +109,29 @@ impl<'a> TxnModule<'a> {
         ensures lives_on { IsTrue self.new.live }
     {
         self.parts.tick(n);
+    }
+
+    /// The bound of its clock.
+    pub fn bound(&self) -> Ts
+        requires { IsTrue self.now.live }
+        ensures { (setting : Setting) (log : Log)
+            → Stands self.now setting log → result.0 ≡ bound_of (clock setting.site log) }
+    {
+        self.parts.bound()
+    }
+
+    /// Puts other classes of the whole catalogue in force, with their protocol table, at a time that
+    /// pushes the clock. Takes no memory.
+    pub fn redeclare(&mut self, catalogue: &'a Catalogue, table: &'a Table, t: Ts)
+        requires lives { IsTrue self.old.live }
+        requires early { t.0 / 64 < 2 ^ 57 }
+        ensures law { (setting : Setting) (log : Log)
+            → Stands self.old setting log → IsEraOf setting.catalogue catalogue.now
+            → Stands self.new setting
+            (Redeclared (record { catalogue = catalogue.now; table = table.now }) t.0 ∷ log) }
+        ensures lives_on { IsTrue self.new.live }
+    {
+        self.parts.redeclare(catalogue, table, t);
     }
 }
 

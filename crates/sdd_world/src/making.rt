@@ -23,7 +23,7 @@ pub fn txn_modules<'a>(
     catalogue.known();
     let mut made = Vec::new(alloc);
     for number in 1..catalogue.tms() + 1 {
-        made.push(TxnModule::new(alloc, catalogue, table, TmNo(number as u8))?)?;
+        made.push(TxnModule::new(alloc, catalogue, catalogue, table, TmNo(number as u8))?)?;
     }
     Ok(made)
 }

@@ -1,7 +1,11 @@
 use Rattle.std.proofs.Common.{◌+◌, subst, sym}
+use Rattle.sdd_eras.proofs.EraSets.{era_of_itself}
 use Rattle.sdd_world.specs.Beginnings.{BeginsT}
 use Rattle.sdd_world.proofs.Numbered.{MadeTo, one_more}
 use Rattle.sdd_world.proofs.making.txn_modules.Goals as goal
+
+pub new-requires : goal.new-requires
+new-requires c = era_of_itself c.args.catalogue.now
 
 pub loop-number-preserved : goal.loop-number-preserved
 loop-number-preserved c =

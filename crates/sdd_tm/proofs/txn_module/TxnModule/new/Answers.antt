@@ -5,6 +5,5 @@ use Rattle.sdd_tm.proofs.txn_module.TxnModule.new.Goals as goal
 
 pub returns : goal.returns
 returns c =
-    new_stands (record { live = _; value = c.in_ok-new.field-0 })
-    (record { catalogue = c.args.catalogue.now; table = c.args.table.now }) c.args.tm refl c.in_ok-new.ensures
-    c.known.ensures.sound c.known.ensures.whole
+    new_stands (record { live = _; value = c.in_ok-new.field-0 }) c.args.whole.now (record { catalogue = c.args.catalogue.now; table = c.args.table.now }) c.args.tm refl c.in_ok-new.ensures
+    c.known.ensures.sound c.known.ensures.whole c.requires
