@@ -1,0 +1,4 @@
+pub mod Fragments
+pub mod OtherClasses
+pub mod Rules
+pub mod Steps

@@ -1,0 +1,136 @@
+-- Classes that a workload may declare break no rule behind those before them.
+use Rattle.std.proofs.Common.{◌≡◌, ℕ, ◌+◌, ◌<◌, ◌≤◌, nat_le, nat_lt, not, List, [], ◌∷◌, ◌++◌, length, map, Bool, true, false, refl, sym, ap, subst, ◌∙◌, arith, append_assoc}
+use Rattle.std.specs.List.{All, AllByRecursion}
+use Rattle.std.proofs.lemmas.Bool.Decides.{nat_tests}
+use Rattle.std.proofs.lemmas.List.{length-append, map-append, map-id}
+use Rattle.std.proofs.lemmas.List.Elements.{recursion_from_All}
+use Rattle.sdd_base.specs.declared.limits.TheConstants.{MAX_CLASSES, MAX_READS}
+use Rattle.sdd_base.specs.Words.{contains}
+use Rattle.sdd_catalog.specs.Catalogue.{Catalogue, fragment_names, parts_of}
+use Rattle.sdd_catalog.specs.Names.{Text}
+use Rattle.sdd_catalog.specs.Rules.{class_rules, copies_of, faults_at, faults_of_class, found_from, found_in, has_name, is_from_1_to, read_rules, repeats, when, write_rules}
+use Rattle.sdd_catalog.specs.declared.fault.CatRule.{CatRule}
+use Rattle.sdd_catalog.specs.declared.fault.CatRule.TheVariants.{TooMany, DuplicateName, UnknownName, ReadsWhereNoCopy}
+use Rattle.sdd_catalog.specs.declared.fault.Counted.TheVariants as counted
+use Rattle.sdd_catalog.specs.declared.fault.Part.TheVariants.{Class}
+use Rattle.sdd_catalog.specs.declared.parts.ClassPart.{ClassPart}
+use Rattle.sdd_catalog.specs.declared.parts.Parts.{Parts}
+use Rattle.sdd_catalog.specs.declared.parts.ReadPart.{ReadPart}
+use Rattle.sdd_lang.specs.Fits.{IsFrom1To}
+use Rattle.sdd_script.specs.ClassLists.{part_names}
+use Rattle.sdd_script.specs.Valid.{IsFragment, IsValidClass, IsValidRead, read_names}
+use Rattle.sdd_script.proofs.NamePlaces.{any_none, apart_before}
+use Rattle.sdd_lists.proofs.Fragments.{is_copied, is_named}
+
+-- a rule that isn't broken tells nothing
+kept : (b : Bool) (rule : CatRule) → b ≡ false → when b rule ≡ []
+kept b rule e = ap (λ t. when t rule) e
+
+kept_so : (b : Bool) (rule : CatRule) → b ≡ true → when (not b) rule ≡ []
+kept_so b rule e = ap (λ t. when (not t) rule) e
+
+two_empty : {A : Type 0} (a b : List A) → a ≡ [] → b ≡ [] → a ++ b ≡ []
+two_empty a b no_a no_b = rw (no_a, no_b) refl
+
+four_empty : {A : Type 0} (a b c d : List A) → a ≡ [] → b ≡ [] → c ≡ [] → d ≡ [] → a ++ b ++ c ++ d ≡ []
+four_empty a b c d no_a no_b no_c no_d = rw (no_a, no_b, no_c, no_d) refl
+
+six_empty : {A : Type 0} (a b c d e f : List A) → a ≡ [] → b ≡ [] → c ≡ [] → d ≡ [] → e ≡ [] → f ≡ [] → a ++ b ++ c ++ d ++ e ++ f ≡ []
+six_empty a b c d e f no_a no_b no_c no_d no_e no_f = rw (no_a, no_b, no_c, no_d, no_e, no_f) refl
+
+is_within : (most n : ℕ) → IsFrom1To most n → is_from_1_to most n ≡ true
+is_within most n within =
+    let from : 1 ≤ n = within.0 in
+    let to : n ≤ most = within.1 in
+    let a : nat_le 1 n ≡ true = grind (arith, nat_tests) in
+    let b : nat_le n most ≡ true = grind (arith, nat_tests) in
+    rw (a, b) refl
+
+-- Nothing is found at members of different names, of which there are few, where nothing is found at one whose name is new.
+none_found : {A B : Type 0} (f : List A → A → List B) (name : A → Text) (P : A → Type 0) (most : ℕ)
+    → ((before : List A) (x : A) → P x → has_name (map name before) (name x) ≡ false → length before < most → f before x ≡ [])
+    → (before xs : List A) → AllByRecursion P xs → repeats (map name before ++ map name xs) ≡ false
+    → length before + length xs ≤ most → found_from f before xs ≡ []
+none_found f name P most at before [] all once few = refl
+none_found f name P most at before (x ∷ xs) all once few =
+    let new : has_name (map name before) (name x) ≡ false = any_none _ _ (apart_before (map name before) (name x) (map name xs) once) in
+    let here : f before x ≡ [] = at before x all.0 new (omega (arith, few)) in
+    let names : map name (before ++ x ∷ []) ++ map name xs ≡ map name before ++ name x ∷ map name xs =
+    ap (λ (l : List Text). l ++ map name xs) (map-append name before (x ∷ [])) ∙ append_assoc (map name before) (name x ∷ []) (map name xs) in
+    let rest : found_from f (before ++ x ∷ []) xs ≡ [] =
+    none_found f name P most at (before ++ x ∷ []) xs all.1
+    (subst (λ (l : List Text). repeats l ≡ false) (sym names) once)
+    (omega (arith, few, length-append before (x ∷ []))) in
+    two_empty (f before x) (found_from f (before ++ x ∷ []) xs) here rest
+
+module _ (cat : Catalogue) where
+  abbrev Own : Parts
+  Own = parts_of cat
+
+  -- what a class reads
+
+  read_fine : (before : List ReadPart) (r : ReadPart) → IsValidRead cat r
+      → has_name (map (λ (e : ReadPart). e.fragment) before) r.fragment ≡ false → read_rules Own before r ≡ []
+  read_fine before r valid new =
+      four_empty (when (not (has_name (fragment_names Own.fragments) r.fragment)) UnknownName)
+      (when (not (is_from_1_to Own.dms r.at)) UnknownName)
+      (when (has_name (map (λ (e : ReadPart). e.fragment) before) r.fragment) DuplicateName)
+      (when (not (contains (copies_of r.fragment Own.fragments) r.at)) ReadsWhereNoCopy)
+      (kept_so _ UnknownName (is_named cat r.fragment valid.fragment))
+      (kept_so _ UnknownName (is_within cat.dms r.at valid.module_is_there))
+      (kept _ DuplicateName new)
+      (kept_so _ ReadsWhereNoCopy (is_copied cat r.fragment r.at valid.fragment valid.copy))
+
+  reads_fine : (reads : List ReadPart) → All (IsValidRead cat) reads → repeats (read_names reads) ≡ false
+      → found_in (read_rules Own) reads ≡ []
+  reads_fine reads valid once =
+      none_found (read_rules Own) (λ (r : ReadPart). r.fragment) (IsValidRead cat) (length reads)
+      (λ before r fine new few. read_fine before r fine new)
+      [] reads (recursion_from_All (IsValidRead cat) reads valid) once (omega arith)
+
+  -- what a class writes
+
+  write_fine : (before : List Text) (name : Text) → IsFragment cat name → has_name (map (λ (n : Text). n) before) name ≡ false
+      → write_rules Own before name ≡ []
+  write_fine before name there new =
+      two_empty (when (not (has_name (fragment_names Own.fragments) name)) UnknownName) (when (has_name before name) DuplicateName)
+      (kept_so _ UnknownName (is_named cat name there))
+      (kept _ DuplicateName (subst (λ (l : List Text). has_name l name ≡ false) (map-id before) new))
+
+  writes_fine : (writes : List Text) → All (IsFragment cat) writes → repeats writes ≡ false
+      → found_in (write_rules Own) writes ≡ []
+  writes_fine writes there once =
+      none_found (write_rules Own) (λ (n : Text). n) (IsFragment cat) (length writes)
+      (λ before name fine new few. write_fine before name fine new)
+      [] writes (recursion_from_All (IsFragment cat) writes there)
+      (subst (λ (l : List Text). repeats l ≡ false) (sym (map-id writes)) once) (omega arith)
+
+  -- a class
+
+  class_fine : (before : List ClassPart) (c : ClassPart) → IsValidClass cat c → has_name (part_names before) c.name ≡ false
+      → length before < MAX_CLASSES → class_rules Own before c ≡ []
+  class_fine before c valid new few =
+      let room : nat_le MAX_CLASSES (length before) ≡ false = grind (arith, nat_tests) in
+      let reads : length c.reads ≤ MAX_READS = valid.few_reads in
+      let few_reads : nat_lt MAX_READS (length c.reads) ≡ false = grind (arith, nat_tests) in
+      six_empty (when (nat_le MAX_CLASSES (length before)) (TooMany counted.Class))
+      (when (has_name (part_names before) c.name) DuplicateName)
+      (when (not (is_from_1_to Own.tms c.tm)) UnknownName)
+      (when (nat_lt MAX_READS (length c.reads)) (TooMany counted.Read))
+      (found_in (read_rules Own) c.reads)
+      (found_in (write_rules Own) c.writes)
+      (kept _ (TooMany counted.Class) room)
+      (kept _ DuplicateName new)
+      (kept_so _ UnknownName (is_within cat.tms c.tm valid.module_is_there))
+      (kept _ (TooMany counted.Read) few_reads)
+      (reads_fine c.reads valid.reads valid.reads_once)
+      (writes_fine c.writes valid.writes valid.writes_once)
+
+  -- classes behind others break no rule
+  pub classes_fine : (before classes : List ClassPart) → AllByRecursion (IsValidClass cat) classes
+      → repeats (part_names before ++ part_names classes) ≡ false → length before + length classes ≤ MAX_CLASSES
+      → found_from (faults_of_class Own) before classes ≡ []
+  classes_fine before classes valid once few =
+      none_found (faults_of_class Own) (λ (c : ClassPart). c.name) (IsValidClass cat) MAX_CLASSES
+      (λ earlier c fine new room. ap (faults_at Class (length earlier + 1)) (class_fine earlier c fine new room))
+      before classes valid once few

@@ -1,0 +1,72 @@
+//! The catalogues that follow each other with each list of classes.
+ghost use Rattle.std.specs.Prelude.{◌≡◌, [], length, IfOk};
+ghost use Rattle.sdd_catalog.specs.Eras.{eras, retired, whole};
+ghost use Rattle.sdd_eras.specs.Further.{further_faults, with_further};
+ghost use Rattle.sdd_lists.specs.InForce.{numbered};
+ghost use Rattle.sdd_script.specs.Valid.{AreValidLists};
+
+use sdd_base::{NoMemory, Parcel};
+use sdd_catalog::{CatError, Catalogue, ClassPart, ClassParts};
+use sdd_eras::{extend, retire};
+use std::alloc::Global;
+use std::mem;
+
+/// The catalogue with these classes behind its own, where they break no rule there.
+fn with_further(
+    alloc: Global,
+    catalogue: &Catalogue,
+    classes: &[ClassPart],
+) -> Result<Catalogue, NoMemory>
+    requires { further_faults catalogue.now classes.now ≡ [] }
+    ensures { IfOk result (λ all. all ≡ with_further classes.now catalogue.now) }
+{
+    match extend(alloc, catalogue, classes) {
+        Ok(all) => Ok(all),
+        Err(CatError::Fault(_)) => unreachable!(),
+        Err(CatError::NoMemory) => Err(NoMemory),
+    }
+}
+
+/// What is in force behind a catalogue with these classes: those that it has retire.
+fn next_era(alloc: Global, last: &Catalogue, classes: &[ClassPart]) -> Result<Catalogue, NoMemory>
+    requires { further_faults (retired (length last.now.classes) last.now) classes.now ≡ [] }
+    ensures { IfOk result (λ next. next ≡ with_further classes.now (retired (length last.now.classes) last.now)) }
+{
+    let retired = retire(alloc, last, last.classes())?;
+    with_further(alloc, &retired, classes)
+}
+
+/// The catalogues in force, one after the other.
+pub(crate) fn eras_of(
+    alloc: Global,
+    catalogue: &Catalogue,
+    lists: &[ClassParts],
+) -> Result<Vec<Catalogue>, NoMemory>
+    requires { AreValidLists catalogue.now lists.now }
+    ensures { IfOk result (λ all. all.items ≡ eras catalogue.now (numbered catalogue.now lists.now)) }
+{
+    let mut before = Vec::new(alloc);
+    let mut last = catalogue.copy()?;
+    'lists: for classes in lists {
+        let next = next_era(alloc, &last, classes.as_slice())?;
+        before.push(mem::replace(&mut last, next))?;
+    }
+    before.push(last)?;
+    Ok(before)
+}
+
+/// The catalogue with the classes of all lists.
+pub(crate) fn whole_of(
+    alloc: Global,
+    catalogue: &Catalogue,
+    lists: &[ClassParts],
+) -> Result<Catalogue, NoMemory>
+    requires { AreValidLists catalogue.now lists.now }
+    ensures { IfOk result (λ all. all ≡ whole catalogue.now (numbered catalogue.now lists.now)) }
+{
+    let mut all = catalogue.copy()?;
+    'lists: for classes in lists {
+        all = with_further(alloc, &all, classes.as_slice())?;
+    }
+    Ok(all)
+}
