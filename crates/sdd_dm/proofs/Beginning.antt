@@ -1,5 +1,5 @@
 -- The rows and copies with which a module begins.
-use Rattle.std.proofs.Common.{ℕ, zero, suc, ◌+◌, ◌<◌, ℤ, false, List, [], ◌∷◌, ◌++◌, length, map, drop, fold, add-one, drop-cons, ◌≡◌, refl, ap, ◌∙◌, arith, sym, subst, Some, None}
+use Rattle.std.proofs.Common.{ℕ, zero, suc, ◌+◌, ◌<◌, ℤ, false, List, [], ◌∷◌, ◌++◌, length, map, fold, ◌≡◌, refl, ap, ◌∙◌, arith, sym, subst, Some, None}
 use Rattle.std.specs.Prelude.{slice_index_or}
 use Rattle.std.specs.Borrow.{Bor}
 use Rattle.std.specs.List.{All}
@@ -56,19 +56,8 @@ at_pushed (x ∷ xs) y d (suc f) P l old new = at_pushed xs y d f P (omega arith
 
 -- the rows that are left, and one of them put in
 
-abbrev put_row : Catalogue → Database → RelNo × Row → Database
+abbrev pub put_row : Catalogue → Database → RelNo × Row → Database
 put_row cat db r = with_row db (r.0.0, key_in cat r.0.0 r.1) r.1
-
-pub one_row : (cat : Catalogue) (rows : List (RelNo × Row)) (i : ℕ) (r : RelNo × Row) (old new : List (Item × Bor (List Value))) (key : ℤ)
-    (v : Bor (List Value)) (all : Database)
-    → i < length rows → r ≡ slice_index_or rows i r → new ≡ insert_entry item_cmp old (r.0.0, key) v → key ≡ key_in cat r.0.0 r.1 → v.now ≡ r.1
-    → fold (put_row cat) (map lent old) (drop i rows) ≡ all → fold (put_row cat) (map lent new) (drop (i + 1) rows) ≡ all
-one_row cat rows i r old new key v all l at is key_is row_is e =
-    let next : drop i rows ≡ r ∷ drop (i + 1) rows = rw (add-one) (drop-cons rows i r l ∙ ap (λ x. x ∷ drop (suc i) rows) (sym at)) in
-    let row : map lent new ≡ put_row cat (map lent old) r =
-    ap (map lent) is ∙ lent_put old (r.0.0, key) v ∙ ap (λ k. insert_entry item_cmp (map lent old) (r.0.0, k) v.now) key_is
-    ∙ ap (λ x. insert_entry item_cmp (map lent old) (r.0.0, key_in cat r.0.0 r.1) x) row_is in
-    ap (λ db. fold (put_row cat) db (drop (i + 1) rows)) row ∙ sym (ap (fold (put_row cat) (map lent old)) next) ∙ e
 
 -- the first of the entries that are left
 

@@ -10,6 +10,7 @@ pub mod Handed
 pub mod Left
 pub mod LowestClass
 pub mod Messages
+pub mod OwnRows
 pub mod Prefix
 pub mod Ranks
 mod Results

@@ -8,7 +8,7 @@ ghost use Rattle.sdd_lang.specs.Fits.{FitsStart};
 ghost use Rattle.sdd_lang.specs.Sound.{IsEntry};
 ghost use Rattle.sdd_copy.specs.Copies.{is_here, with_change, StandFor};
 ghost use Rattle.sdd_dm.specs.Copies.{first_row};
-ghost use Rattle.sdd_dm.specs.Starts.{lent};
+ghost use Rattle.sdd_dm.specs.Starts.{lent, own_rows, with_own};
 
 use sdd_base::{Change, ClassNo, DmNo, FragNo, NoMemory, Parcel, RelNo, Row, Site, Ts};
 use sdd_catalog::Catalogue;
@@ -54,7 +54,7 @@ pub fn no_spaces(alloc: Global, classes: u32) -> Result<Vec<Option<Space>>, NoMe
 
 /// The copies of a module, with the rows with which it begins.
 ///
-/// O(n log n) for n rows, of which those of its fragments are copied.
+/// O(n + k log k) for n rows, of which k are of its fragments; these are copied.
 pub fn first_copies(
     alloc: Global,
     cat: &Catalogue,
@@ -71,8 +71,8 @@ pub fn first_copies(
     law_rows_make_database(cat, rows);
     let keys = key_columns(alloc, cat, dm)?;
     let mut copies = Copies::new(alloc, keys.as_slice())?;
-    let last = last_rows(alloc, cat, rows)?;
-    write_rows(&mut copies, cat, &last)?;
+    let own = own_rows(alloc, cat, &copies, rows)?;
+    write_rows(&mut copies, cat, &own)?;
     Ok(copies)
 }
 
@@ -102,21 +102,46 @@ fn key_column(cat: &Catalogue, dm: DmNo, number: u32) -> Option<u32>
     Some(cat.relation(cat.fragment(frag).rel).key)
 }
 
-/// The row of each item, by relation and key: of two with one key the later stands.
-fn last_rows<'a>(
+/// The row of each item of a fragment with a copy, by relation and key: of two with one key the
+/// later stands.
+fn own_rows<'a>(
     alloc: Global,
     cat: &Catalogue,
+    copies: &Copies,
     rows: &'a [(RelNo, Row)],
 ) -> Result<BTreeMap<(u32, i64), &'a Row>, NoMemory>
-    requires { All (FitsStart cat.now) rows.now }
-    ensures { IfOk result (λ last. map lent last.entries ≡ database_of cat.now rows.now) }
+    requires live { IsTrue copies.now.live }
+    requires rows { All (FitsStart cat.now) rows.now }
+    ensures { IfOk result (λ own. map lent own.entries ≡ own_rows cat.now copies.now.value rows.now) }
 {
-    let mut last = BTreeMap::new(alloc);
+    let mut own = BTreeMap::new(alloc);
     for (rel, row) in rows {
-        let key = key_of(cat, *rel, row);
-        last.insert((rel.0, key), row)?;
+        add_row(&mut own, cat, copies, *rel, row)?;
     }
-    Ok(last)
+    Ok(own)
+}
+
+/// Adds a row, where its fragment has a copy.
+fn add_row<'a>(
+    own: &mut BTreeMap<(u32, i64), &'a Row>,
+    cat: &Catalogue,
+    copies: &Copies,
+    rel: RelNo,
+    row: &'a Row,
+) -> Result<(), NoMemory>
+    requires live { IsTrue copies.now.live }
+    requires fits { FitsStart cat.now (rel, row.now) }
+    ensures { OnOk result (map lent own.new.entries
+        ≡ with_own cat.now copies.now.value (map lent own.old.entries) (rel, row.now)) }
+{
+    let key = key_of(cat, rel, row);
+    match copies.at(cat.fragment_of(rel, key)) {
+        None => Ok(()),
+        Some(_) => {
+            own.insert((rel.0, key), row)?;
+            Ok(())
+        }
+    }
 }
 
 /// Writes the rows of the fragments that have copies, dated 0.

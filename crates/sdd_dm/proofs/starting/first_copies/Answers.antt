@@ -4,16 +4,25 @@ use Rattle.sdd_lang.specs.Database.{database_of}
 use Rattle.sdd_copy.specs.Copies.{with_change}
 use Rattle.sdd_copy.proofs.Standing.{stand_applied, here_applied}
 use Rattle.sdd_dm.specs.Copies.{first_row}
+use Rattle.sdd_dm.specs.Starts.{own_rows}
+use Rattle.sdd_dm.proofs.OwnRows.{own_are_enough, own_entries}
 use Rattle.sdd_dm.proofs.starting.first_copies.Goals as goal
 
 pub returns-clause-stand : goal.returns-clause-stand
 returns-clause-stand c =
     stand_applied c.write_rows.new.copies.value c.in_ok-copies.copies.value (map (first_row c.args.cat.now) (database_of c.args.cat.now c.args.rows.now))
-    (c.in_ok-write_rows.ensures.value ∙ ap (λ es. fold with_change c.in_ok-copies.copies.value (map (first_row c.args.cat.now) es)) c.in_ok-last.ensures)
+    (c.in_ok-write_rows.ensures.value
+    ∙ ap (λ es. fold with_change c.in_ok-copies.copies.value (map (first_row c.args.cat.now) es)) c.in_ok-own.ensures
+    ∙ own_are_enough c.args.cat.now c.in_ok-copies.copies.value c.args.rows.now)
     [] c.in_ok-copies.ensures.stand
+
+pub write_rows-requires-clause-entries : goal.write_rows-requires-clause-entries
+write_rows-requires-clause-entries c =
+    own_entries c.args.cat.now c.in_ok-copies.copies.value c.args.rows.now c.in_ok-own.own.entries c.in_ok-own.ensures c.law_rows_make_database.ensures.entries
 
 pub returns-clause-here : goal.returns-clause-here
 returns-clause-here c = λ f h.
-    here_applied c.write_rows.new.copies.value c.in_ok-copies.copies.value (map (first_row c.args.cat.now) (database_of c.args.cat.now c.args.rows.now))
-    (c.in_ok-write_rows.ensures.value ∙ ap (λ es. fold with_change c.in_ok-copies.copies.value (map (first_row c.args.cat.now) es)) c.in_ok-last.ensures) f
+    here_applied c.write_rows.new.copies.value c.in_ok-copies.copies.value
+    (map (first_row c.args.cat.now) (own_rows c.args.cat.now c.in_ok-copies.copies.value c.args.rows.now))
+    (c.in_ok-write_rows.ensures.value ∙ ap (λ es. fold with_change c.in_ok-copies.copies.value (map (first_row c.args.cat.now) es)) c.in_ok-own.ensures) f
     ∙ c.in_ok-copies.ensures.here f ∙ ap (λ keys. is_some (slice_index_or keys f None)) c.as_slice.ensures.value ∙ c.in_ok-keys.ensures f h
