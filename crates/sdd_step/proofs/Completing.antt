@@ -1,16 +1,16 @@
 -- The complete log of what was given, with one event more; rounds, and when they end.
-use Rattle.std.proofs.Common.{ℕ, Bool, true, false, List, [], ◌∷◌, ◌++◌, ◌≡◌, refl, ap, ◌∙◌, sym, Option, Some, None}
+use Rattle.std.proofs.Common.{ℕ, zero, suc, Bool, true, false, List, [], ◌∷◌, ◌++◌, ◌≡◌, refl, ap, ◌∙◌, sym, Option, Some, None}
 use Rattle.sdd_base.specs.Words.{or_else, tail_of}
 use Rattle.sdd_base.specs.declared.event.Event.{Event}
 use Rattle.sdd_base.specs.declared.event.Event.TheVariants.{Submit, Deliver, Lose, Repeat, Resend, Tick, Settle, Redeclare, Down, Up}
 use Rattle.sdd_net.specs.Links.{quiet, round}
-use Rattle.sdd_log.specs.Entries.{Given, Log, Entry, Mark, Round, with_event}
+use Rattle.sdd_log.specs.Entries.{Given, Log, Entry, Mark, Redeclares, Round, with_event}
 use Rattle.sdd_log.specs.Traffic.{all_links, calls_of}
-use Rattle.sdd_log.specs.Marks.{after_mark, from_event, left, mark_from, mark_of, next_mark}
+use Rattle.sdd_log.specs.Marks.{after_mark, from_event, greatest_bound, left, mark_from, mark_of, next_mark}
 use Rattle.sdd_log.specs.Due.{hand_due, mark_due, next, site_due}
 use Rattle.sdd_log.specs.Lawful.{IsLawful}
 use Rattle.sdd_log.proofs.Grows.{grows, with_end}
-use Rattle.sdd_step.specs.Resting.{AreSettles}
+use Rattle.sdd_step.specs.Resting.{EndsIn, settles_before, TakesRounds}
 use Rattle.sdd_step.proofs.Ticking.{or_none}
 
 -- nothing is due at all
@@ -115,77 +115,87 @@ one_more g e log i l h =
 pub none_left : (g : Given) (log : Log) → IsFree g log → left g.events log ≡ ([], []) → next g log ≡ None
 none_left g log f e = next_is_mark g log None f (ap (mark_of g log) e)
 
--- a settle more
+-- an event more that is reached by rounds
 
-settle_more : (g : Given) (log : Log) (q : Bool) (r ws : List Event) → mark_from g log q r ws ≡ None → AreSettles (ws ++ Settle ∷ [])
-settle_more g log q r [] h = tt
-settle_more g log true r (Settle ∷ []) h = tt
-settle_more g log true r (Settle ∷ x ∷ ws) h = settle_more g log true r (x ∷ ws) h
-settle_more g log false r (Settle ∷ ws) h = cc
-settle_more g log true r (Redeclare ∷ ws) h = cc
-settle_more g log false r (Redeclare ∷ ws) h = cc
-settle_more g log q r (Submit n ∷ ws) h = cc
-settle_more g log q r (Deliver a b k ∷ ws) h = cc
-settle_more g log q r (Lose a b k ∷ ws) h = cc
-settle_more g log q r (Repeat a b k ∷ ws) h = cc
-settle_more g log q r (Resend a b ∷ ws) h = cc
-settle_more g log q r (Tick t n ∷ ws) h = cc
-settle_more g log q r (Down d ∷ ws) h = cc
-settle_more g log q r (Up d ∷ ws) h = cc
+more_rounds : (g : Given) (log : Log) (q : Bool) (r ws : List Event) (e : Event) → mark_from g log q r ws ≡ None → EndsIn e (ws ++ e ∷ [])
+more_rounds g log q r [] e h = (0, refl)
+more_rounds g log true r (Settle ∷ ws) e h = let i = more_rounds g log true r ws e h in (suc i.0, ap (λ xs. Settle ∷ xs) i.1)
+more_rounds g log false r (Settle ∷ ws) e h = cc
+more_rounds g log true r (Redeclare ∷ ws) e h = cc
+more_rounds g log false r (Redeclare ∷ ws) e h = cc
+more_rounds g log q r (Submit n ∷ ws) e h = cc
+more_rounds g log q r (Deliver a b k ∷ ws) e h = cc
+more_rounds g log q r (Lose a b k ∷ ws) e h = cc
+more_rounds g log q r (Repeat a b k ∷ ws) e h = cc
+more_rounds g log q r (Resend a b ∷ ws) e h = cc
+more_rounds g log q r (Tick t n ∷ ws) e h = cc
+more_rounds g log q r (Down d ∷ ws) e h = cc
+more_rounds g log q r (Up d ∷ ws) e h = cc
 
-settle_left : (g : Given) (log : Log) (s : List Event × List Event) → mark_of g log s ≡ None → (ws : List Event) × (with_end Settle s ≡ (ws, [])) × AreSettles ws
-settle_left g log (ws, []) h = (ws ++ Settle ∷ [], refl, settle_more g log (quiet (all_links g) (calls_of log)) (round (all_links g) (calls_of log)) ws h)
-settle_left g log (ws, x ∷ r) h = cc
+by_end : (g : Given) (e : Event) (log : Log) (s : List Event × List Event) → mark_of g log s ≡ None → (ws : List Event) × (with_end e s ≡ (ws, [])) × EndsIn e ws
+by_end g e log (ws, []) h = (ws ++ e ∷ [], refl, more_rounds g log (quiet (all_links g) (calls_of log)) (round (all_links g) (calls_of log)) ws e h)
+by_end g e log (ws, x ∷ r) h = cc
 
-pub one_settle : (g : Given) (log : Log) → IsLawful g log → next g log ≡ None → (ws : List Event) × (left (with_event g Settle).events log ≡ (ws, [])) × AreSettles ws
-one_settle g log l h =
+-- on a complete log only an event more is left, and settles before it
+pub event_left : (g : Given) (e : Event) (log : Log) → IsLawful g log → next g log ≡ None
+    → (ws : List Event) × (left (with_event g e).events log ≡ (ws, [])) × EndsIn e ws
+event_left g e log l h =
     let n = complete_parts g log h in
-    let w = settle_left g log (left g.events log) n.no_next in
-    (w.0, grows g Settle log l ∙ w.1, w.2)
+    let w = by_end g e log (left g.events log) n.no_next in
+    (w.0, grows g e log l ∙ w.1, w.2)
 
-quiet_from : (g : Given) (log : Log) (r ws : List Event) → AreSettles ws → mark_from g log true r ws ≡ None
-quiet_from g log r [] h = absurd h
-quiet_from g log r (Settle ∷ []) h = refl
-quiet_from g log r (Settle ∷ x ∷ ws) h = quiet_from g log r (x ∷ ws) h
-quiet_from g log r (Redeclare ∷ ws) h = absurd h
-quiet_from g log r (Submit n ∷ ws) h = absurd h
-quiet_from g log r (Deliver a b k ∷ ws) h = absurd h
-quiet_from g log r (Lose a b k ∷ ws) h = absurd h
-quiet_from g log r (Repeat a b k ∷ ws) h = absurd h
-quiet_from g log r (Resend a b ∷ ws) h = absurd h
-quiet_from g log r (Tick t n ∷ ws) h = absurd h
-quiet_from g log r (Down d ∷ ws) h = absurd h
-quiet_from g log r (Up d ∷ ws) h = absurd h
+round_from : (g : Given) (log : Log) (r : List Event) (e : Event) (n : ℕ) → TakesRounds e → mark_from g log false r (settles_before n e) ≡ Some (Round r)
+round_from g log r Settle zero h = refl
+round_from g log r Redeclare zero h = refl
+round_from g log r (Submit k) zero h = absurd h
+round_from g log r (Deliver a b k) zero h = absurd h
+round_from g log r (Lose a b k) zero h = absurd h
+round_from g log r (Repeat a b k) zero h = absurd h
+round_from g log r (Resend a b) zero h = absurd h
+round_from g log r (Tick t k) zero h = absurd h
+round_from g log r (Down d) zero h = absurd h
+round_from g log r (Up d) zero h = absurd h
+round_from g log r e (suc n) h = refl
 
-round_from : (g : Given) (log : Log) (r ws : List Event) → AreSettles ws → mark_from g log false r ws ≡ Some (Round r)
-round_from g log r [] h = absurd h
-round_from g log r (Settle ∷ ws) h = refl
-round_from g log r (Redeclare ∷ ws) h = absurd h
-round_from g log r (Submit n ∷ ws) h = absurd h
-round_from g log r (Deliver a b k ∷ ws) h = absurd h
-round_from g log r (Lose a b k ∷ ws) h = absurd h
-round_from g log r (Repeat a b k ∷ ws) h = absurd h
-round_from g log r (Resend a b ∷ ws) h = absurd h
-round_from g log r (Tick t n ∷ ws) h = absurd h
-round_from g log r (Down d ∷ ws) h = absurd h
-round_from g log r (Up d ∷ ws) h = absurd h
+settled_from : (g : Given) (log : Log) (r : List Event) (n : ℕ) → mark_from g log true r (settles_before n Settle) ≡ None
+settled_from g log r zero = refl
+settled_from g log r (suc n) = settled_from g log r n
 
-mark_quiet : (g : Given) (log : Log) (q : Bool) (ws : List Event) → q ≡ true → AreSettles ws → mark_from g log q (round (all_links g) (calls_of log)) ws ≡ None
-mark_quiet g log true ws e h = quiet_from g log (round (all_links g) (calls_of log)) ws h
-mark_quiet g log false ws e h = cc
+listed_from : (g : Given) (log : Log) (r : List Event) (n : ℕ) → mark_from g log true r (settles_before n Redeclare) ≡ Some (Redeclares (greatest_bound g log))
+listed_from g log r zero = refl
+listed_from g log r (suc n) = listed_from g log r n
 
-mark_round : (g : Given) (log : Log) (q : Bool) (ws : List Event) → q ≡ false → AreSettles ws → mark_from g log q (round (all_links g) (calls_of log)) ws ≡ Some (Round (round (all_links g) (calls_of log)))
-mark_round g log true ws e h = cc
-mark_round g log false ws e h = round_from g log (round (all_links g) (calls_of log)) ws h
+none_behind : (n : ℕ) → after_mark (settles_before n Redeclare, []) ≡ ([], [])
+none_behind zero = refl
+none_behind (suc n) = none_behind n
+
+-- the next mark, where these events are left and the links are quiet or not
+mark_at : (g : Given) (log : Log) (q : Bool) (ws : List Event) (o : Option Entry) → left g.events log ≡ (ws, []) → quiet (all_links g) (calls_of log) ≡ q
+    → mark_from g log q (round (all_links g) (calls_of log)) ws ≡ o → next_mark g log ≡ o
+mark_at g log q ws o e s h = ap (mark_of g log) e ∙ ap (λ b. mark_from g log b (round (all_links g) (calls_of log)) ws) s ∙ h
 
 -- where nothing is in flight and all is acknowledged, a settle ends
-pub settled : (g : Given) (log : Log) (ws : List Event) → IsFree g log → left g.events log ≡ (ws, []) → AreSettles ws → quiet (all_links g) (calls_of log) ≡ true → next g log ≡ None
-settled g log ws f e s q = next_is_mark g log None f (ap (mark_of g log) e ∙ mark_quiet g log (quiet (all_links g) (calls_of log)) ws q s)
+pub settled : (g : Given) (log : Log) (ws : List Event) → IsFree g log → left g.events log ≡ (ws, []) → EndsIn Settle ws → quiet (all_links g) (calls_of log) ≡ true → next g log ≡ None
+settled g log ws f e s q =
+    let r = round (all_links g) (calls_of log) in
+    next_is_mark g log None f (mark_at g log true ws None e q (ap (mark_from g log true r) s.1 ∙ settled_from g log r s.0))
+
+-- and a redeclare is next, after which nothing is left
+pub redeclare_next : (g : Given) (log : Log) (ws : List Event) → IsFree g log → left g.events log ≡ (ws, []) → EndsIn Redeclare ws → quiet (all_links g) (calls_of log) ≡ true
+    → (next g log ≡ Some (Redeclares (greatest_bound g log))) × (after_mark (left g.events log) ≡ ([], []))
+redeclare_next g log ws f e s q =
+    let r = round (all_links g) (calls_of log) in
+    let o : Option Entry = Some (Redeclares (greatest_bound g log)) in (
+      next_is_mark g log o f (mark_at g log true ws o e q (ap (mark_from g log true r) s.1 ∙ listed_from g log r s.0)),
+      ap after_mark e ∙ ap (λ xs. after_mark (xs, [])) s.1 ∙ none_behind s.0,
+    )
 
 -- else a round is next
-pub round_next : (g : Given) (log : Log) (ws : List Event) → IsFree g log → left g.events log ≡ (ws, []) → AreSettles ws → quiet (all_links g) (calls_of log) ≡ false
-    → next g log ≡ Some (Round (round (all_links g) (calls_of log)))
-round_next g log ws f e s q = next_is_mark g log (Some (Round (round (all_links g) (calls_of log)))) f (ap (mark_of g log) e ∙ mark_round g log (quiet (all_links g) (calls_of log)) ws q s)
+pub round_next : (g : Given) (log : Log) (ws : List Event) (e : Event) → IsFree g log → left g.events log ≡ (ws, []) → TakesRounds e → EndsIn e ws
+    → quiet (all_links g) (calls_of log) ≡ false → next g log ≡ Some (Round (round (all_links g) (calls_of log)))
+round_next g log ws e f l t s q =
+    let r = round (all_links g) (calls_of log) in
+    next_is_mark g log (Some (Round r)) f (mark_at g log false ws (Some (Round r)) l q (ap (mark_from g log false r) s.1 ∙ round_from g log r e s.0 t))
 
 -- in a round its next event is next
 pub in_round : (g : Given) (log : Log) (ws : List Event) (e : Event) (rest : List Event) → IsFree g log → left g.events log ≡ (ws, e ∷ rest) → next g log ≡ Some (Mark e)

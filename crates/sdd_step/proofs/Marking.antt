@@ -11,19 +11,19 @@ use Rattle.sdd_base.specs.declared.site.Site.TheVariants.{U, T, D}
 use Rattle.sdd_base.specs.declared.number.TmNo.{TmNo}
 use Rattle.sdd_base.specs.declared.event.Event.{Event}
 use Rattle.sdd_base.specs.declared.event.Event.TheVariants.{Submit, Deliver, Lose, Repeat, Resend, Tick, Settle, Redeclare, Down, Up}
-use Rattle.sdd_module.specs.SiteLog.{Act, Ticked, Bases}
+use Rattle.sdd_module.specs.SiteLog.{Act, Force, Ticked, Bases}
 use Rattle.sdd_module.specs.SiteLog as site
 use Rattle.sdd_net.specs.Links.{delivered}
 use Rattle.sdd_net.proofs.Directions.{same_is}
-use Rattle.sdd_log.specs.Entries.{Given, Log, Entry, Mark, Notes, marks}
+use Rattle.sdd_log.specs.Entries.{Given, Log, Entry, Mark, Notes, Redeclares, marks}
 use Rattle.sdd_log.specs.Traffic.{handed, link_of, takes_part}
-use Rattle.sdd_log.specs.Locals.{local_of, setting_of}
+use Rattle.sdd_log.specs.Locals.{force_at, local_of, redeclares, setting_of, with_force}
 use Rattle.sdd_log.specs.Snapshots.{base_of}
 use Rattle.sdd_log.specs.Due.{next, next_in, next_at, does_at, mark_due, due_by, site_due}
 use Rattle.sdd_log.specs.Lawful.{IsLawful, IsWithin, is_past}
 use Rattle.sdd_log.proofs.Steps.{AllNone, all_none, none_any_base}
 use Rattle.sdd_step.specs.Resting.{AllHanded, IsMarked, Rests}
-use Rattle.sdd_step.proofs.Ticking.{none_by_tick}
+use Rattle.sdd_step.proofs.Ticking.{none_by_redeclare, none_by_tick}
 
 -- where the logs of the sites stay, or that of one gets a tick, nothing gets due
 
@@ -134,3 +134,33 @@ part_marked (D d) (Up k) log h = absurd h
 -- where an event delivers nothing, all stays handed over
 pub handed_still : (log : Log) (e : Event) → TurnsNone e → ((a b : Site) → delivered (link_of a b (Mark e ∷ log)).there ≡ delivered (link_of a b log).there) → AllHanded log → AllHanded (Mark e ∷ log)
 handed_still log e t same h a b part = h a b (sym (part_marked b e log t) ∙ part) ∙ sym (same a b)
+
+-- a list of classes is put in force
+
+forced_none : (g : Given) (x : Site) (bases : Bases) (force : Force) (t : ℕ) (l : site.Log) → next_in g x bases l ≡ None → next_in g x bases (with_force x force t l) ≡ None
+forced_none g U bases force t l k = k
+forced_none g (T n) bases force t l k = none_by_redeclare (setting_of g (T n)) bases l force t k
+forced_none g (D d) bases force t l k = k
+
+redeclared_none : (g : Given) (log : Log) (t : ℕ) → site_due g log ≡ None → site_due g (Redeclares t ∷ log) ≡ None
+redeclared_none g log t k =
+    let more : Log = Redeclares t ∷ log in
+    none_at_all (next_at g log) (next_at g more) (sites g.catalogue.tms g.catalogue.dms) (λ x i.
+    forced_none g x (base_of g more) (force_at g (suc (redeclares log))) t (local_of g x log)
+    (none_any_base g x (base_of g log) (base_of g more) (local_of g x log) i))
+    (all_none (next_at g log) (sites g.catalogue.tms g.catalogue.dms) k)
+
+part_redeclared : (x : Site) (t : ℕ) (log : Log) → takes_part x (Redeclares t ∷ log) ≡ takes_part x log
+part_redeclared U t log = refl
+part_redeclared (T n) t log = refl
+part_redeclared (D d) t log = refl
+
+-- after it the log is at rest
+pub rests_redeclared : (g : Given) (log : Log) (t : ℕ) → Rests g log → next g log ≡ Some (Redeclares t) → suc (marks log) ≤ MAX_RUN_EVENTS → Rests g (Redeclares t ∷ log)
+rests_redeclared g log t r n few = record {
+  lawful = (n, r.lawful);
+  within = (le-ltb MAX_RUN_EVENTS (suc (marks log)) few, r.within);
+  no_mark = refl;
+  no_site = redeclared_none g log t r.no_site;
+  handed_all = λ a b p. r.handed_all a b (sym (part_redeclared b t log) ∙ p);
+}

@@ -1,15 +1,15 @@
--- A tick of a clock makes nothing due at its site.
+-- A tick of a clock makes nothing due at its site, nor does another list of classes.
 use Rattle.std.proofs.Common.{ℕ, Bool, true, false, not, ◌≡◌, refl, ap, ◌∙◌, Option, Some, None}
 use Rattle.std.specs.Bool.{if◌then◌else◌}
 use Rattle.std.specs.Prelude.{◌==◌, ◌&&◌, nat_le, nat_lt, List, [], ◌∷◌}
 use Rattle.std.specs.List.{list_all}
 use Rattle.sdd_base.specs.Words.{or_else, first_some, head_of}
 use Rattle.sdd_base.specs.Numbers.{class_no, time_at}
-use Rattle.sdd_base.specs.Clock.{Ticking, ticked, bound_of}
+use Rattle.sdd_base.specs.Clock.{Ticking, pushed, ticked, bound_of}
 use Rattle.sdd_base.specs.declared.site.Site.TheVariants.{U}
 use Rattle.sdd_catalog.specs.Catalogue.{Catalogue}
 use Rattle.sdd_wire.specs.declared.msg.Msg.TheVariants.{Held}
-use Rattle.sdd_module.specs.SiteLog.{Act, Sends, Ticked, Setting, Bases}
+use Rattle.sdd_module.specs.SiteLog.{Act, Force, Redeclared, Sends, Ticked, Setting, Bases}
 use Rattle.sdd_module.specs.SiteLog as site
 use Rattle.sdd_attempt.specs.Queues.{Queued}
 use Rattle.sdd_attempt.specs.Attempts.{Attempt}
@@ -36,40 +36,47 @@ none_if : {A : Type 0} (b : Bool) (x y : Option A) → (x ≡ None → y ≡ Non
 none_if true x y h e = h e
 none_if false x y h e = refl
 
--- of a view whose clock alone is another one
-abbrev with_clock : views.View → Ticking → views.View
-with_clock v k = record v { clock = k }
+-- of a view whose clock and list of classes alone are other ones
+abbrev with_both : views.View → Ticking → Force → views.View
+with_both v k f = record v { clock = k; force = f }
 
-null_none : (v : views.View) (k : Ticking) (q : views.Question) (o : Option Attempt) → tm.null_at q (tm.null_time v o q.time) ≡ None → tm.null_at q (tm.null_time (with_clock v k) o q.time) ≡ None
-null_none v k q None e = cc
-null_none v k q (Some a) e = e
+null_none : (v : views.View) (k : Ticking) (f : Force) (q : views.Question) (o : Option Attempt) → tm.null_at q (tm.null_time v o q.time) ≡ None → tm.null_at q (tm.null_time (with_both v k f) o q.time) ≡ None
+null_none v k f q None e = cc
+null_none v k f q (Some a) e = e
 
-null_to_none : (v : views.View) (k : Ticking) (c : views.ClassView) (q : views.Question) → tm.null_to v c q ≡ None → tm.null_to (with_clock v k) c q ≡ None
-null_to_none v k c q e = none_if (q.class == c.class) (tm.null_at q (tm.null_time v c.active q.time)) (tm.null_at q (tm.null_time (with_clock v k) c.active q.time)) (null_none v k q c.active) e
+null_to_none : (v : views.View) (k : Ticking) (f : Force) (c : views.ClassView) (q : views.Question) → tm.null_to v c q ≡ None → tm.null_to (with_both v k f) c q ≡ None
+null_to_none v k f c q e = none_if (q.class == c.class) (tm.null_at q (tm.null_time v c.active q.time)) (tm.null_at q (tm.null_time (with_both v k f) c.active q.time)) (null_none v k f q c.active) e
 
-start_of_none : (cat : Catalogue) (v : views.View) (k : Ticking) (c : ℕ) (o : Option Queued) → tm.start_of cat v c o ≡ None → tm.start_of cat (with_clock v k) c o ≡ None
-start_of_none cat v k c None e = refl
-start_of_none cat v k c (Some q) e = cc
+start_of_none : (cat : Catalogue) (v : views.View) (k : Ticking) (f : Force) (c : ℕ) (o : Option Queued) → tm.start_of cat v c o ≡ None → tm.start_of cat (with_both v k f) c o ≡ None
+start_of_none cat v k f c None e = refl
+start_of_none cat v k f c (Some q) e = cc
 
-start_none : (cat : Catalogue) (v : views.View) (k : Ticking) (c : views.ClassView) → tm.start_due cat v c ≡ None → tm.start_due cat (with_clock v k) c ≡ None
-start_none cat v k c e = none_if (not (views.on_hold v) && views.is_idle c) (tm.start_of cat v c.class (head_of c.queue)) (tm.start_of cat (with_clock v k) c.class (head_of c.queue)) (start_of_none cat v k c.class (head_of c.queue)) e
+start_none : (cat : Catalogue) (v : views.View) (k : Ticking) (f : Force) (c : views.ClassView) → tm.start_due cat v c ≡ None → tm.start_due cat (with_both v k f) c ≡ None
+start_none cat v k f c e = none_if (not (views.on_hold v) && views.is_idle c) (tm.start_of cat v c.class (head_of c.queue)) (tm.start_of cat (with_both v k f) c.class (head_of c.queue)) (start_of_none cat v k f c.class (head_of c.queue)) e
 
-held_none : (v : views.View) (k : Ticking) → tm.held_due v ≡ None → tm.held_due (with_clock v k) ≡ None
-held_none v k e =
+held_none : (v : views.View) (k : Ticking) (f : Force) → tm.held_due v ≡ None → tm.held_due (with_both v k f) ≡ None
+held_none v k f e =
     none_instead (views.on_hold v && (list_all views.is_idle v.classes && nat_lt v.holds.helds v.holds.holds))
     (Sends U (Held (time_at (bound_of v.clock))) (Some v.holds.last)) (Sends U (Held (time_at (bound_of k))) (Some v.holds.last)) e
 
-due_none : (cat : Catalogue) (bases : Bases) (v : views.View) (k : Ticking) → tm.due cat bases v ≡ None → tm.due cat bases (with_clock v k) ≡ None
-due_none cat bases v k e =
+due_none : (cat : Catalogue) (bases : Bases) (v : views.View) (k : Ticking) (f : Force) → tm.due cat bases v ≡ None → tm.due cat bases (with_both v k f) ≡ None
+due_none cat bases v k f e =
     let p = or_none (first_some (tm.exchange_due cat bases) v.classes) _ e in
     let q = or_none (first_some (tm.null_due v) v.classes) _ p.1 in
     let r = or_none (tm.held_due v) (first_some (tm.start_due cat v) v.classes) q.1 in
-    let w : views.View = with_clock v k in
+    let w : views.View = with_both v k f in
     or_both (first_some (tm.exchange_due cat bases) v.classes) (or_else (first_some (tm.null_due w) v.classes) (or_else (tm.held_due w) (first_some (tm.start_due cat w) v.classes))) p.0
     (or_both (first_some (tm.null_due w) v.classes) (or_else (tm.held_due w) (first_some (tm.start_due cat w) v.classes))
-    (first_none (tm.null_due v) (tm.null_due w) v.classes (λ c h. first_none (tm.null_to v c) (tm.null_to w c) v.asks (null_to_none v k c) h) q.0)
-    (or_both (tm.held_due w) (first_some (tm.start_due cat w) v.classes) (held_none v k r.0)
-    (first_none (tm.start_due cat v) (tm.start_due cat w) v.classes (start_none cat v k) r.1)))
+    (first_none (tm.null_due v) (tm.null_due w) v.classes (λ c h. first_none (tm.null_to v c) (tm.null_to w c) v.asks (null_to_none v k f c) h) q.0)
+    (or_both (tm.held_due w) (first_some (tm.start_due cat w) v.classes) (held_none v k f r.0)
+    (first_none (tm.start_due cat v) (tm.start_due cat w) v.classes (start_none cat v k f) r.1)))
 
 pub none_by_tick : (s : Setting) (bases : Bases) (l : site.Log) (n : ℕ) → tm.next s bases l ≡ None → tm.next s bases (Ticked n ∷ l) ≡ None
-none_by_tick s bases l n e = ap (tm.due s.catalogue bases) (view_step s (Ticked n) l) ∙ due_none s.catalogue bases (views.view_of s l) (ticked (views.view_of s l).clock n) e
+none_by_tick s bases l n e =
+    let v = views.view_of s l in
+    ap (tm.due s.catalogue bases) (view_step s (Ticked n) l) ∙ due_none s.catalogue bases v (ticked v.clock n) v.force e
+
+pub none_by_redeclare : (s : Setting) (bases : Bases) (l : site.Log) (force : Force) (t : ℕ) → tm.next s bases l ≡ None → tm.next s bases (Redeclared force t ∷ l) ≡ None
+none_by_redeclare s bases l force t e =
+    let v = views.view_of s l in
+    ap (tm.due s.catalogue bases) (view_step s (Redeclared force t) l) ∙ due_none s.catalogue bases v (pushed v.clock t) force e

@@ -1,5 +1,5 @@
 -- Logs at rest, and what an event needs.
-use Rattle.std.specs.Prelude.{ℕ, suc, ◌+◌, ◌≤◌, ◌≡◌, true, false, List, [], ◌∷◌, ◌++◌, if◌then◌else◌, length, slice_get, None, Option, Some}
+use Rattle.std.specs.Prelude.{ℕ, zero, suc, ◌+◌, ◌≤◌, ◌≡◌, true, false, List, [], ◌∷◌, ◌++◌, if◌then◌else◌, length, slice_get, None, Option, Some}
 use Rattle.sdd_base.specs.Sites.{same_site, sites}
 use Rattle.sdd_base.specs.declared.site.Site.{Site}
 use Rattle.sdd_base.specs.declared.site.Site.TheVariants.{T, D}
@@ -59,12 +59,20 @@ abbrev pub AllLinked : Given → Site → List (Site × Msg) → Type 0
 AllLinked g at [] = Unit {0}
 AllLinked g at (s ∷ sends) = IsLinkOf g at s.0 × AllLinked g at sends
 
--- only settles are left, and one at least
-abbrev pub AreSettles : List Event → Type 0
-AreSettles [] = ⊥
-AreSettles (Settle ∷ []) = Unit {0}
-AreSettles (Settle ∷ x ∷ xs) = AreSettles (x ∷ xs)
-AreSettles (_ ∷ xs) = ⊥
+-- an event that is reached by rounds
+abbrev pub TakesRounds : Event → Type 0
+TakesRounds Settle = Unit {0}
+TakesRounds Redeclare = Unit {0}
+TakesRounds _ = ⊥
+
+-- so many settles, and then this event
+abbrev pub settles_before : ℕ → Event → List Event
+settles_before zero e = e ∷ []
+settles_before (suc n) e = Settle ∷ settles_before n e
+
+-- only this event is left, and settles before it
+abbrev pub EndsIn : Event → List Event → Type 0
+EndsIn e events = (settles : ℕ) × (events ≡ settles_before settles e)
 
 -- these messages have come to the end of the link from a to b and aren't handed over yet, in order
 pub record Remain (log : Log) (a b : Site) (rest : List Msg) : Type 0 where
