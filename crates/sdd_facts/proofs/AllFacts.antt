@@ -1,5 +1,6 @@
 -- All that the modules ask: what is next on a lawful log fits the module to which it goes.
-use Rattle.std.proofs.Common.{ℕ, ◌<◌, ◌==◌, ◌^◌, ◌∷◌, ◌≡◌, Bool, Some, arith, false, if◌then◌else◌, subst, true}
+use Rattle.std.proofs.Common.{ℕ, ◌*◌, ◌+◌, ◌/◌, ◌<◌, ◌==◌, ◌^◌, ◌∷◌, ◌≡◌, ◌≤◌, Bool, Some, arith, false, if◌then◌else◌, subst, suc, sym, true}
+use Rattle.std.proofs.Math.Nat.{div-lt_iff_lt-mul}
 use Rattle.sdd_base.specs.Numbers.{tm_no}
 use Rattle.sdd_base.specs.declared.event.Event.TheVariants.{Tick}
 use Rattle.sdd_base.specs.declared.number.DmNo.{DmNo}
@@ -13,16 +14,20 @@ use Rattle.sdd_wire.specs.declared.msg.Msg.{Msg}
 use Rattle.sdd_attempt.specs.Clocks.{clock}
 use Rattle.sdd_attempt.specs.Fits.{FitsSite}
 use Rattle.sdd_log.specs.Due.{home_of, next}
-use Rattle.sdd_log.specs.Entries.{Entry, Given, Hand, Log, Mark, Submitted}
+use Rattle.sdd_log.specs.Entries.{Entry, Given, Hand, Log, Mark, Redeclares, Submitted}
+use Rattle.sdd_log.specs.Marks.{greatest_bound}
 use Rattle.sdd_log.specs.Lawful.{IsLawful, IsWithin}
 use Rattle.sdd_log.specs.Locals.{force_at, local_of, redeclares, setting_of, txn_at}
 use Rattle.sdd_log.specs.Snapshots.{base_of}
 use Rattle.sdd_log.proofs.NewMarks.{lawful_permitted}
 use Rattle.sdd_facts.proofs.Put.{databases}
 use Rattle.sdd_facts.specs.Facts.{Facts}
-use Rattle.sdd_facts.proofs.Early.{clock_below}
+use Rattle.sdd_facts.proofs.Early.{clock_below, height_below, is_under}
 use Rattle.sdd_facts.specs.Given.{IsFit}
-use Rattle.sdd_facts.specs.Real.{IsGood, fits, fits_submit}
+use Rattle.sdd_facts.specs.Real.{FitsForce, IsGood, fits, fits_submit}
+use Rattle.sdd_facts.specs.Heights.{height, top}
+use Rattle.sdd_facts.proofs.OfNext.{of_next}
+use Rattle.sdd_facts.proofs.Under.{greatest_le}
 use Rattle.sdd_facts.proofs.FitsAtD.{d_fits}
 use Rattle.sdd_facts.proofs.FitsAtT.{t_fits, u_fits}
 use Rattle.sdd_facts.proofs.Handing.{is_handed}
@@ -61,7 +66,7 @@ hand_fits g good log a (T t) n m l w e =
       t_fits g log a t n m
           (base_of g (Hand a (T t) n m ∷ log)) (fit_of g good).small h
           (upheld_r g log a (T t) n m (base_of g (Hand a (T t) n m ∷ log)) (fit_of g good).whole h.permitted
-          (served_here g log a (T t) n m (fit_of g good).whole good.given good.one_force h.permitted h.route)),
+          (served_here g log a (T t) n m (fit_of g good).whole good.given good.eras h.permitted h.route)),
     )
 hand_fits g good log a U n m l w e =
     let h = is_handed g log a U n m (fit_of g good).small l w e in (
@@ -69,7 +74,7 @@ hand_fits g good log a U n m l w e =
       u_fits g log a n m (base_of g (Hand a U n m ∷ log))
           (fit_of g good).whole h (upheld_r g log a U n m (base_of g (Hand a U n m ∷ log))
           (fit_of g good).whole h.permitted (served_here g log a U n m (fit_of g good).whole good.given
-          good.one_force h.permitted h.route)),
+          good.eras h.permitted h.route)),
     )
 
 not_d : {A : Type 0} (b : Bool) (k : TmNo) (d : DmNo) → D d ≡ (if b then U else T k) → A
@@ -102,11 +107,29 @@ submit_fits g good log (D d) n txn l w e f =
     (at_home g log (D d) n (fit_of g good).small l e) in
     not_d (class_for (force_at g (redeclares log)).catalogue txn == 0) txn.tm d h
 
+low_time : (h t : ℕ) → h < 2 ^ 53 → t ≤ h * 64 + 63 → t < 2 ^ 57 * 64
+low_time h t l m = omega (arith, l, m)
+
+early_time : (h t : ℕ) → h < 2 ^ 53 → t ≤ top h → t / 64 < 2 ^ 57
+early_time h t l m = (div-lt_iff_lt-mul (omega arith)).1 (low_time h t l m)
+
+redeclare_fits : (g : Given) → IsGood g → (log : Log) (t : ℕ) → IsLawful g log → IsWithin log → next g log ≡ Some (Redeclares t)
+    → FitsForce g.catalogue (force_at g (suc (redeclares log))) t
+redeclare_fits g good log t l w e =
+    let s = (fit_of g good).small in
+    let is : t ≡ greatest_bound g log = of_next g log (Redeclares t) s.few_ticks l e in
+    let low : greatest_bound g log ≤ top (height log) = greatest_le g (height log) log (is_under g log s l) in
+    record {
+      early = early_time (height log) t (height_below g log s l w) (subst (λ x. x ≤ top (height log)) (sym is) low);
+      era = good.eras (suc (redeclares log));
+    }
+
 pub all_facts : Facts
 all_facts = record {
   hand = hand_fits;
   submit = submit_fits;
   home = λ g good log at n l e. home_exists g log at n (fit_of g good).small l e (fit_of g good).txns_fit;
   tick = λ g good log t n l w e. (base_of g (Mark (Tick (tm_no t) n) ∷ log), site_fits g log (T (tm_no t)) (Mark (Tick (tm_no t) n)) good l w e);
+  redeclare = redeclare_fits;
   sends = λ g good log at act l e. sends_linked g log at act (fit_of g good) l e;
 }

@@ -60,7 +60,7 @@ use Rattle.sdd_invariants.proofs.Made.{local_grows, own_act}
 use Rattle.sdd_facts.specs.Fitting.{FitsGiven, IsItemChange}
 use Rattle.sdd_facts.proofs.EffectsHeld.{HandFits, all_items}
 use Rattle.sdd_facts.proofs.Put.{acts_fit, databases, hands_fit}
-use Rattle.sdd_facts.specs.Reading.{HasOneForce, before_answer, copies_read}
+use Rattle.sdd_facts.specs.Reading.{HasEras, before_answer, copies_read}
 use Rattle.sdd_facts.proofs.ShippedAnswered.{answer_to, uses_at_head}
 use Rattle.sdd_facts.proofs.Covered.{Covers, attempt_covered, class_within}
 use Rattle.sdd_facts.proofs.Listed.{each_of, from_order, has_contains, in_order}
@@ -184,7 +184,7 @@ answer_at g log d c a h =
       at = subst (λ o. is_at a.ts o ≡ true) (sym h.head_is) (ap (λ t. t == a.ts) h.ts_is ∙ same_number a.ts);
     }
 
-module _ (g : Given) (good : FitsGiven g) (one : HasOneForce g) (c : ℕ) (log : Log) (a : Attempt) (h : IsPermitted g log)
+module _ (g : Given) (good : FitsGiven g) (eras : HasEras g) (c : ℕ) (log : Log) (a : Attempt) (h : IsPermitted g log)
     (is : active (setting_of g (home g.catalogue c)) c (local_of g (home g.catalogue c) log) ≡ Some a) (over : is_over a.exchange.phase ≡ true) where
   abbrev cat : Catalogue
   cat = g.catalogue
@@ -202,7 +202,7 @@ module _ (g : Given) (good : FitsGiven g) (one : HasOneForce g) (c : ℕ) (log :
   pieces = flat_map (snapshots_at g log a.ts) (numbers_to cat.dms)
 
   cover : Covers cat c a.text
-  cover = attempt_covered g one c log a h is
+  cover = attempt_covered g eras c log a h is
 
   placed : (d : ℕ) → ArePlaced cat (made_of d)
   placed d x there =

@@ -33,7 +33,7 @@ use Rattle.sdd_facts.proofs.Written.{changes_fit, write_put}
 use Rattle.sdd_facts.specs.Fitting.{FitsGiven}
 use Rattle.sdd_invariants.proofs.Recorded.{start_of_active}
 use Rattle.sdd_facts.proofs.Served.{rows_serve}
-use Rattle.sdd_facts.specs.Reading.{HasOneForce}
+use Rattle.sdd_facts.specs.Reading.{HasEras}
 use Rattle.sdd_invariants.specs.Steps.{home}
 use Rattle.sdd_invariants.proofs.InOrder.{allowed_hand}
 use Rattle.sdd_facts.proofs.FitsAtD.{fair_of}
@@ -94,24 +94,24 @@ upheld_r g log a b n _ bases w h k = tt
 
 -- with the last ROWS the rows that came serve the database of the attempt that awaits them
 
-rows_served : (g : Given) (log : Log) (a b : Site) (n : ℕ) (ts : Ts) (of : ClassNo) (rows : List (ℕ × Row)) → IsWhole g.catalogue → FitsGiven g → HasOneForce g
+rows_served : (g : Given) (log : Log) (a b : Site) (n : ℕ) (ts : Ts) (of : ClassNo) (rows : List (ℕ × Row)) → IsWhole g.catalogue → FitsGiven g → HasEras g
     → IsPermitted g (Hand a b n (Rows ts of rows) ∷ log) → IsRouted a b (Rows ts of rows)
     → (o : Option Attempt) → active (setting_of g b) of.0 (local_of g b log) ≡ o
     → ServedBy (setting_of g b) (base_of g (Hand a b n (Rows ts of rows) ∷ log)) o a rows
-rows_served g log a b n ts of rows w good one h route None e = tt
-rows_served g log (D d) b n ts of rows w good one h route (Some x) e =
+rows_served g log a b n ts of rows w good eras h route None e = tt
+rows_served g log (D d) b n ts of rows w good eras h route (Some x) e =
     let r : AwaitsRows (Some x) (D d) ts.0 rows =
     subst (λ o. AwaitsRows o (D d) ts.0 rows) e (answers_are_awaited g log (D d) b n (Rows ts of rows) h
     (few_homes g w)) in
     let at : home g.catalogue of.0 ≡ b = (start_of_active (setting_of g b) of.0 (local_of g b log) x (fair_of g b log h.1 route.1) e).at_home in
     subst (λ b. IsPermitted g (Hand (D d) b n (Rows ts of rows) ∷ log) → active (setting_of g b) of.0 (local_of g b log) ≡ Some x
     → ServesIfLast (setting_of g b) (base_of g (Hand (D d) b n (Rows ts of rows) ∷ log)) x rows (without x.exchange.lacks d.0)) at
-    (λ h e. rows_serve g good one of.0 log x d n ts of rows h e (sym r.awaited.same) refl) h e
-rows_served g log (T t) b n ts of rows w good one h route (Some x) e = absurd route.0
-rows_served g log U b n ts of rows w good one h route (Some x) e = absurd route.0
+    (λ h e. rows_serve g good eras of.0 log x d n ts of rows h e (sym r.awaited.same) refl) h e
+rows_served g log (T t) b n ts of rows w good eras h route (Some x) e = absurd route.0
+rows_served g log U b n ts of rows w good eras h route (Some x) e = absurd route.0
 
-pub served_here : (g : Given) (log : Log) (a b : Site) (n : ℕ) (m : Msg) → IsWhole g.catalogue → FitsGiven g → HasOneForce g
+pub served_here : (g : Given) (log : Log) (a b : Site) (n : ℕ) (m : Msg) → IsWhole g.catalogue → FitsGiven g → HasEras g
     → IsPermitted g (Hand a b n m ∷ log) → IsRouted a b m → IsServedAt (setting_of g b) (base_of g (Hand a b n m ∷ log)) (local_of g b log) a m
-served_here g log a b n (Rows ts of rows) w good one h route =
-    rows_served g log a b n ts of rows w good one h route (active (setting_of g b) of.0 (local_of g b log)) refl
-served_here g log a b n _ w good one h route = tt
+served_here g log a b n (Rows ts of rows) w good eras h route =
+    rows_served g log a b n ts of rows w good eras h route (active (setting_of g b) of.0 (local_of g b log)) refl
+served_here g log a b n _ w good eras h route = tt

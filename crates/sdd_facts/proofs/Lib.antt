@@ -15,6 +15,7 @@ pub mod Copied
 pub mod Counting
 pub mod Covered
 pub mod DataSteps
+pub mod Done
 pub mod DonesFit
 pub mod Early
 pub mod EffectsHeld

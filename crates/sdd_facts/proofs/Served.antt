@@ -39,7 +39,7 @@ use Rattle.sdd_invariants.proofs.Made.{local_step}
 use Rattle.sdd_invariants.specs.Made.{with_made}
 use Rattle.sdd_facts.specs.Fitting.{FitsGiven, FitsText}
 use Rattle.sdd_facts.proofs.Texts.{active_so, submitted_fit}
-use Rattle.sdd_facts.specs.Reading.{HasOneForce, before_answer, copies_read}
+use Rattle.sdd_facts.specs.Reading.{HasEras, before_answer, copies_read}
 use Rattle.sdd_facts.proofs.Copied.{copies_are}
 use Rattle.sdd_facts.proofs.Covered.{attempt_covered, class_within}
 use Rattle.sdd_facts.proofs.Places.{one_answer}
@@ -66,7 +66,7 @@ last_rows ts c n x t k rows own of p e =
     ap (λ b. if b then answered ts c n y else x) (both (t.0 == ts) (k.0 == c) (ap (λ z. z == ts) own ∙ same_number ts) (ap (λ z. z == c) of ∙ same_number c))
     ∙ ap (lacking ts c y) e ∙ ap (phase_ends ts c (record y { lacks = [] })) p
 
-module _ (g : Given) (good : FitsGiven g) (one : HasOneForce g) (c : ℕ) where
+module _ (g : Given) (good : FitsGiven g) (eras : HasEras g) (c : ℕ) where
   abbrev cat : Catalogue
   cat = g.catalogue
 
@@ -80,7 +80,7 @@ module _ (g : Given) (good : FitsGiven g) (one : HasOneForce g) (c : ℕ) where
   mine log = local_of g (home g.catalogue c) log
 
   within : (log : Log) (a : Attempt) → IsPermitted g log → active s c (mine log) ≡ Some a → c ≤ length cat.classes
-  within log a h e = class_within cat c a.text (attempt_covered g one c log a h e)
+  within log a h e = class_within cat c a.text (attempt_covered g eras c log a h e)
 
   text_fits : (log : Log) (a : Attempt) → IsPermitted g log → active s c (mine log) ≡ Some a → FitsText cat a.text
   text_fits log a h e = active_so (FitsText cat) s c (mine log) a (home_fair g c log h) (all_new g at log h) (submitted_fit g good at c log h) e
@@ -95,9 +95,9 @@ module _ (g : Given) (good : FitsGiven g) (one : HasOneForce g) (c : ℕ) where
       let first : Space = frozen_space cat c a.text a.ts copies in
       let space : Space = space_at g c a.ts first log in
       let small = small_home cat good.sound c (within log a h e) in
-      let r = subst (AllServed g good one c (in_step g c small) log) e
-      (served_all g good one c (in_step g c small) log h) copies (copies_agree g good a.ts log h) in
-      let ok : HasCopies cat c a.text ds copies (base_of g log a.ts) = copies_are g good one c log a h e (ap is_over p) in
+      let r = subst (AllServed g good eras c (in_step g c small) log) e
+      (served_all g good eras c (in_step g c small) log h) copies (copies_agree g good a.ts log h) in
+      let ok : HasCopies cat c a.text ds copies (base_of g log a.ts) = copies_are g good eras c log a h e (ap is_over p) in
       let all : Serves cat a.text (all_held ds space) (base_of g log a.ts) =
       exchange_serves cat good.sound c a.text (text_fits log a h e).fits a.ts ds copies
       (base_of g log a.ts) ok space (stage_of a.exchange) r.follows.runs in

@@ -48,7 +48,7 @@ use Rattle.sdd_invariants.proofs.Fair.{home_fair}
 use Rattle.sdd_invariants.proofs.Made.{local_step, own_act}
 use Rattle.sdd_invariants.specs.Made.{made, with_made}
 use Rattle.sdd_facts.specs.Fitting.{FitsGiven}
-use Rattle.sdd_facts.specs.Reading.{HasOneForce}
+use Rattle.sdd_facts.specs.Reading.{HasEras}
 use Rattle.sdd_facts.proofs.ShippedAnswered.{answer_to, not_before, uses_at_head}
 use Rattle.sdd_facts.proofs.Covered.{attempt_covered, class_within}
 use Rattle.sdd_facts.proofs.Listed.{has_contains}
@@ -60,7 +60,7 @@ use Rattle.sdd_facts.proofs.Once.{runs_once}
 use Rattle.sdd_facts.proofs.Spaces.{Agrees, IsStillEntry, agrees_before, home_apart, kept_apart, kept_at, kept_still, made_still, or_first, own, set, space_at, space_same, still_active}
 use Rattle.sdd_facts.proofs.InStep.{InStep, again, awaited_there, col_of, contains_has, never, none_read, reducing_is, use_of}
 
-module _ (g : Given) (good : FitsGiven g) (one : HasOneForce g) (c : ℕ)
+module _ (g : Given) (good : FitsGiven g) (eras : HasEras g) (c : ℕ)
     (in_step : (log : Log) → IsPermitted g log → (a : Attempt)
     → active (setting_of g (home g.catalogue c)) c (local_of g (home g.catalogue c) log) ≡ Some a
     → InStep g c log a) where
@@ -266,7 +266,7 @@ module _ (g : Given) (good : FitsGiven g) (one : HasOneForce g) (c : ℕ)
   frozen_same log a copies d act h e agree here r None k =
       let P : site.Log → Type 0 = λ l. (y : IsAnswerAt a.ts l) × (y.before ≡ r.answer.before) × (y.class ≡ r.answer.class) in
       let x = subst P (sym here) (r.answer, refl, refl) in
-      let to = answer_to g good.sound c (class_within cat c a.text (attempt_covered g one c (Does (D d) act ∷ log) a h e)) (Does (D d) act ∷ log) a d h e x.0 in
+      let to = answer_to g good.sound c (class_within cat c a.text (attempt_covered g eras c (Does (D d) act ∷ log) a h e)) (Does (D d) act ∷ log) a d h e x.0 in
       let copied : copies d.0 ≡ (λ f. contents f (dated (set g d.0) r.answer.before)) = agree d.0 x.0 ∙ ap (λ l. λ f. contents f (dated (set g d.0) l)) x.1 in
       let uses : uses_at_head (head (pipe r.answer.class r.answer.before)) ≡ uses_at cat c a.text d.0 =
       ap (λ l. uses_at_head (head (pipe r.answer.class l))) (sym x.1)
@@ -325,7 +325,7 @@ module _ (g : Given) (good : FitsGiven g) (one : HasOneForce g) (c : ℕ)
       } in
       let is : active s c (Did act ∷ mine log) ≡ Some a = rw (same_number c) (ap (started (next_stamp s (mine log)) (sends_of_act act)) e) in
       let now : active s c (mine (Does at act ∷ log)) ≡ Some a = ap (active s c) (own_act g at act log) ∙ is in
-      let within : c ≤ length cat.classes = class_within cat c a.text (attempt_covered g one c (Does at act ∷ log) a hand now) in
+      let within : c ≤ length cat.classes = class_within cat c a.text (attempt_covered g eras c (Does at act ∷ log) a hand now) in
       let ms : List (ℕ × List ℕ) = filter_map module_read (sends_of_act act) in
       let are : firsts ms ≡ asked_of a = start_modules cat (in_force s (mine log)).table c (clock at (mine log)) q in
       subst (AllServed (Does at act ∷ log)) (sym is)

@@ -141,7 +141,7 @@ fold_max_le : (k : ℕ) (f : ℕ → ℕ) (ns : List ℕ) (a : ℕ) → a ≤ k 
 fold_max_le k f [] a l h = l
 fold_max_le k f (n ∷ ns) a l h = fold_max_le k f ns (max a (f n)) (max_le a (f n) k l (h n)) h
 
-greatest_le : (g : Given) (h : ℕ) (log : Log) → IsUnder g h log → greatest_bound g log ≤ top h
+pub greatest_le : (g : Given) (h : ℕ) (log : Log) → IsUnder g h log → greatest_bound g log ≤ top h
 greatest_le g h log i =
     fold_max_le (top h) (bound_at g log) (numbers_to g.catalogue.tms) 0 (omega arith) (λ n. let c = i.clocks (T (tm_no n)) in omega (arith, c))
 

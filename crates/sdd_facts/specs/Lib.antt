@@ -1,3 +1,4 @@
+pub mod AfterEvents
 pub mod Awaited
 pub mod Bounds
 pub mod Contents

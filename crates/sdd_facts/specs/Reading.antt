@@ -1,8 +1,9 @@
 -- What the copies of data modules hold when they answer an attempt's READs.
-use Rattle.std.specs.Prelude.{ℕ, ◌≡◌, [], ◌∷◌, if◌then◌else◌}
+use Rattle.std.specs.Prelude.{ℕ, [], ◌∷◌, if◌then◌else◌}
 use Rattle.sdd_base.specs.Numbers.{dm_no}
 use Rattle.sdd_base.specs.declared.site.Site.TheVariants.{D}
 use Rattle.sdd_history.specs.declared.record.Rec.TheVariants.{Answer}
+use Rattle.sdd_eras.specs.EraOf.{IsEraOf}
 use Rattle.sdd_module.specs.SiteLog.{Did, Log, Records}
 use Rattle.sdd_copy.specs.Contents.{contents}
 use Rattle.sdd_pipe.specs.Pipe.{head}
@@ -14,9 +15,9 @@ use Rattle.sdd_log.specs.Entries as whole
 use Rattle.sdd_log.specs.Locals.{force_at, local_of, setting_of}
 use Rattle.sdd_log.specs.Snapshots.{is_at}
 
--- one list of classes is in force throughout: that of the catalogue
-abbrev pub HasOneForce : Given → Type 0
-HasOneForce g = (k : ℕ) → (force_at g k).catalogue ≡ g.catalogue
+-- each list of classes is one of the catalogue: its classes have the sets that they have there, or none
+abbrev pub HasEras : Given → Type 0
+HasEras g = (k : ℕ) → IsEraOf g.catalogue (force_at g k).catalogue
 
 -- a data module's log before its last Answer to the attempt with this timestamp; an empty one where it made none
 abbrev pub before_answer : ℕ → Log → Log

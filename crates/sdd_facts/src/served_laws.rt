@@ -14,14 +14,14 @@ ghost use Rattle.sdd_log.specs.Permitted.{IsPermitted};
 ghost use Rattle.sdd_log.specs.Snapshots.{base_of};
 ghost use Rattle.sdd_invariants.specs.Steps.{home};
 ghost use Rattle.sdd_facts.specs.Fitting.{FitsGiven};
-ghost use Rattle.sdd_facts.specs.Reading.{HasOneForce};
+ghost use Rattle.sdd_facts.specs.Reading.{HasEras};
 
 /// When the last ROWS of an active attempt may be handed over next, the rows that came before and
 /// these serve the database of its snapshots.
 pub fn law_rows_serve()
     ensures { (given : Given) (class : ℕ) (log : Log) (attempt : Attempt) (d : DmNo) (n : ℕ)
         (ts : Ts) (of : ClassNo) (rows : List (ℕ × Row))
-        → FitsGiven given → HasOneForce given
+        → FitsGiven given → HasEras given
         → IsPermitted given (Hand (D d) (home given.catalogue class) n (Rows ts of rows) ∷ log)
         → active (setting_of given (home given.catalogue class)) class
         (local_of given (home given.catalogue class) log) ≡ Some attempt

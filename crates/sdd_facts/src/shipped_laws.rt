@@ -8,13 +8,13 @@ ghost use Rattle.sdd_log.specs.Snapshots.{base_of};
 ghost use Rattle.sdd_serving.specs.Freezing.{HasCopies};
 ghost use Rattle.sdd_invariants.specs.Steps.{home, modules_asked};
 ghost use Rattle.sdd_facts.specs.Fitting.{FitsGiven};
-ghost use Rattle.sdd_facts.specs.Reading.{HasOneForce, copies_read};
+ghost use Rattle.sdd_facts.specs.Reading.{HasEras, copies_read};
 
 /// Once the exchange of an active attempt is over, the database of its snapshots has the copies
 /// that the modules which it asked had just before their Answers.
 pub fn law_copies_read()
     ensures { (given : Given) (class : ℕ) (log : Log) (attempt : Attempt)
-        → FitsGiven given → HasOneForce given → IsPermitted given log
+        → FitsGiven given → HasEras given → IsPermitted given log
         → active (setting_of given (home given.catalogue class)) class
         (local_of given (home given.catalogue class) log) ≡ Some attempt
         → is_over attempt.exchange.phase ≡ true

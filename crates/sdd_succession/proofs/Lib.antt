@@ -1,7 +1,6 @@
 pub mod Apart
 pub mod AtRest
 pub mod Bounds
-pub mod Done
 pub mod Fronts
 pub mod KeptEras
 pub mod Known

@@ -13,8 +13,9 @@ use Rattle.sdd_log.specs.Traffic.{all_links, calls_of, is_down}
 use Rattle.sdd_settling.proofs.Marked.{next_is_of_events}
 use Rattle.sdd_facts.specs.Bounds.{AllFewTicks}
 use Rattle.sdd_rest.specs.Premises.{IsUpAtRedeclares}
-use Rattle.sdd_succession.proofs.Done.{AreDone, count_join, done, down_join, listed_first, settles_turn}
-use Rattle.sdd_succession.specs.Timely.{AreTimely, is_down_after, redeclares_in}
+use Rattle.sdd_facts.proofs.Done.{AreDone, count_join, done, down_join, listed_first, settles_turn}
+use Rattle.sdd_facts.specs.AfterEvents.{is_down_after, redeclares_in}
+use Rattle.sdd_succession.specs.Timely.{AreTimely}
 
 -- no data module is down
 

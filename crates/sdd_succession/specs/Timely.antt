@@ -1,25 +1,11 @@
 -- Where a `redeclare` may stand among the events that are given: it puts the next list of classes in force, at all
 -- transaction modules at once, and needs every data module for that.
-use Rattle.std.specs.Prelude.{ℕ, suc, ◌≡◌, ◌<◌, Bool, List, [], ◌∷◌, ◌++◌, false, length}
+use Rattle.std.specs.Prelude.{ℕ, suc, ◌≡◌, ◌<◌, List, ◌∷◌, ◌++◌, false, length}
 use Rattle.sdd_base.specs.declared.event.Event.{Event}
 use Rattle.sdd_base.specs.declared.event.Event.TheVariants.{Redeclare}
 use Rattle.sdd_order.specs.Numbers.{IsModule}
 use Rattle.sdd_log.specs.Entries.{Given}
-use Rattle.sdd_log.specs.Traffic.{turned_by}
-
--- how many further lists of classes the events put in force
-abbrev pub redeclares_in : List Event → ℕ
-redeclares_in [] = 0
-redeclares_in (Redeclare ∷ events) = suc (redeclares_in events)
-redeclares_in (_ ∷ events) = redeclares_in events
-
--- whether a data module is down after these events, before which it was so or not
-abbrev pub down_from : ℕ → Bool → List Event → Bool
-down_from d down [] = down
-down_from d down (e ∷ events) = down_from d (turned_by d e down) events
-
-abbrev pub is_down_after : ℕ → List Event → Bool
-is_down_after d events = down_from d false events
+use Rattle.sdd_facts.specs.AfterEvents.{is_down_after, redeclares_in}
 
 -- after these events: a list is left, and no data module is down
 pub record MayRedeclare (g : Given) (events : List Event) : Type 0 where

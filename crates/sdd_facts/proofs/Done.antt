@@ -9,13 +9,13 @@ use Rattle.sdd_log.specs.Lawful.{IsLawful}
 use Rattle.sdd_log.specs.Locals.{redeclares}
 use Rattle.sdd_log.specs.Marks.{after_mark, from_event, left, mark_from, mark_of}
 use Rattle.sdd_log.specs.Traffic.{all_links, calls_of, is_down, turned_by}
-use Rattle.sdd_settling.proofs.Marked.{next_is_of_events}
+use Rattle.sdd_log.proofs.Grows.{mark_is_next}
 use Rattle.sdd_step.specs.Resting.{AtEach}
 use Rattle.sdd_step.proofs.Marking.{TurnsNone}
 use Rattle.sdd_step.proofs.Rounding.{each_of_round}
 use Rattle.sdd_facts.proofs.OfNext.{of_next}
 use Rattle.sdd_facts.specs.Bounds.{AllFewTicks}
-use Rattle.sdd_succession.specs.Timely.{down_from, is_down_after, redeclares_in}
+use Rattle.sdd_facts.specs.AfterEvents.{down_from, is_down_after, redeclares_in}
 
 -- parts of lists of events
 
@@ -193,8 +193,8 @@ list_done g log t (ws, x ∷ r) m i = absurd (cc)
 
 pub done : (g : Given) (log : Log) → AllFewTicks g.events → IsLawful g log → AreDone g (λ d. is_down d log) (redeclares log) (left g.events log)
 done g [] few h = (tt, record { front = []; is = refl; downs = λ d. refl; lists_are = refl })
-done g (Mark e ∷ log) few h = mark_done g log e (left g.events log) (next_is_of_events g log (Mark e) refl h.0) (done g log few h.1)
-done g (Redeclares t ∷ log) few h = list_done g log t (left g.events log) (next_is_of_events g log (Redeclares t) refl h.0) (done g log few h.1)
+done g (Mark e ∷ log) few h = mark_done g log e (left g.events log) (mark_is_next g log (Mark e) refl h.0) (done g log few h.1)
+done g (Redeclares t ∷ log) few h = list_done g log t (left g.events log) (mark_is_next g log (Redeclares t) refl h.0) (done g log few h.1)
 done g (Round es ∷ log) few h =
     let e : es ≡ round (all_links g) (calls_of log) = of_next g log (Round es) few h.1 h.0 in
     (subst (AtEach TurnsNone) (sym e) (each_of_round TurnsNone g.catalogue.tms g.catalogue.dms (calls_of log) (λ a b l. (tt, tt))), (done g log few h.1).1)
@@ -202,3 +202,12 @@ done g (Hand a b n m ∷ log) few h = done g log few h.1
 done g (Submitted at n ∷ log) few h = done g log few h.1
 done g (Notes ∷ log) few h = done g log few h.1
 done g (Does at act ∷ log) few h = done g log few h.1
+
+-- what is done of the lists, and what is left, is what was given
+pub redeclares_left : (g : Given) (log : Log) → AllFewTicks g.events → IsLawful g log → redeclares log + redeclares_in (left g.events log).0 ≡ redeclares_in g.events
+redeclares_left g log few h =
+    let rest : List Event = (left g.events log).0 in
+    let d = (done g log few h).1 in
+    let parts : redeclares_in g.events ≡ redeclares_in (d.front ++ rest) = ap redeclares_in d.is in
+    let sum = count_join d.front rest in
+    let same = d.lists_are in omega (arith, parts, sum, same)
