@@ -47,6 +47,5 @@ pub begins_sound : (cat : Catalogue) (table : List Entry) (work : Workload) → 
 begins_sound cat table work tms dms valid = record {
   few_tms = tms;
   few_dms = dms;
-  one_force = refl;
   txns_fit = λ n txn e. (All-at (IsValidTxn cat) work.txns (n - 1) txn e valid.txns).fits;
 }

@@ -38,6 +38,6 @@ pub fn finished<'a>(
         ..
     } = work;
     let modules = data_modules(alloc, catalogue, rows.as_slice())?;
-    let world = World::new(alloc, catalogue, table, txns, modules)?;
-    carry_out(world, events.into_vec())
+    let world = World::new(alloc, catalogue, catalogue, table, txns, modules)?;
+    carry_out(world, events.into_vec(), Vec::new(alloc))
 }

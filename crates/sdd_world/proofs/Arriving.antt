@@ -38,7 +38,6 @@ module _ (w now : World)
     parts = record {
       good = h.marked.parts.good;
       sound = h.marked.parts.sound;
-      no_redeclares = h.marked.parts.no_redeclares;
       catalogue_is = ap (λ v. v.catalogue.now) h.same ∙ h.marked.parts.catalogue_is;
       txns_are = ap (λ v. v.txns) h.same ∙ h.marked.parts.txns_are;
       given_is = ap (λ v. v.given.items) h.same ∙ h.marked.parts.given_is;

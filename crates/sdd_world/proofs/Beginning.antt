@@ -8,7 +8,7 @@ use Rattle.sdd_base.specs.declared.site.Site.TheVariants.{U}
 use Rattle.sdd_wire.specs.declared.msg.Msg.{Msg}
 use Rattle.sdd_spool.specs.Mailboxes.{empty_mailbox, kept_from, Mailbox, mailbox_at, place_of, queue_at}
 use Rattle.sdd_log.specs.Entries.{Given}
-use Rattle.sdd_log.specs.Locals.{beginning, setting_of}
+use Rattle.sdd_log.specs.Locals.{beginning, force_at, setting_of}
 use Rattle.sdd_step.specs.Resting.{IsSiteOf}
 use Rattle.sdd_step.proofs.Beginning.{next_at_first, rests_at_first}
 use Rattle.sdd_world.specs.declared.world.World.{World}
@@ -55,7 +55,7 @@ spooled_none g tms dms t d = record {
 
 -- nothing is recorded, kept or due
 pub begins : (w : World) (tms dms : ℕ) → w.history ≡ [] → w.marks ≡ 0 → w.given.items ≡ [] → w.spool ≡ empty_spool tms dms
-    → (g : Given) → IsGood g → IsSound g → w.catalogue.now ≡ g.catalogue → g.catalogue.tms ≡ tms → g.catalogue.dms ≡ dms → w.txns ≡ g.txns → g.events ≡ []
+    → (g : Given) → IsGood g → IsSound g → w.catalogue.now ≡ (force_at g 0).catalogue → g.catalogue.tms ≡ tms → g.catalogue.dms ≡ dms → w.txns ≡ g.txns → g.events ≡ []
     → ((at : Site) → IsSiteOf g at → StandFor w.sites at (setting_of g at) (beginning g at))
     → Carries w.net g.catalogue.tms g.catalogue.dms [] → StandsFor w g []
 begins w tms dms h m v s g good sound c t d x e sites net = record {
@@ -63,7 +63,6 @@ begins w tms dms h m v s g good sound c t d x e sites net = record {
     parts = record {
       good = good;
       sound = sound;
-      no_redeclares = refl;
       catalogue_is = c;
       txns_are = x;
       given_is = v ∙ sym e;

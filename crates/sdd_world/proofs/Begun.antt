@@ -29,32 +29,32 @@ found_at : {V : Type 0} (P : V → Type 0) (q : Standing V) (o : Option V) (s : 
 found_at P q None s log f h = h
 found_at P q (Some v) s log f h = f v h
 
-pub all_begun : (cat : Catalogue) (table : List Entry) (txns : List Txn) (u : Kept um_state.State)
+pub all_begun : (whole cat : Catalogue) (table : List Entry) (txns : List Txn) (u : Kept um_state.State)
     (tms : List (Kept tm_state.State)) (dms : List (Kept dm_state.State))
-    → ((s : Setting) → s.catalogue ≡ cat → s.site ≡ U → um.Stands u s [])
-    → AllBegin (BeginsT cat table) cat.tms tms
-    → (g : Given) → IsBegun g cat table txns dms → (at : Site) → IsSiteOf g at
+    → ((s : Setting) → s.catalogue ≡ whole → s.site ≡ U → um.Stands u s [])
+    → AllBegin (BeginsT whole cat table) whole.tms tms
+    → (g : Given) → IsBegun g whole cat table txns dms → (at : Site) → IsSiteOf g at
     → StandsAt LivesU LivesT LivesD u tms dms at (setting_of g at) (beginning g at)
-all_begun cat table txns u tms dms at_u at_t g made U here =
+all_begun whole cat table txns u tms dms at_u at_t g made U here =
     let s = at_u (setting_of g U) made.catalogue_is refl in
     record { live = s.live; stands_for = s }
-all_begun cat table txns u tms dms at_u at_t g made (T n) here =
+all_begun whole cat table txns u tms dms at_u at_t g made (T n) here =
     let p = and_parts (nat_le 1 n.0) (nat_le n.0 g.catalogue.tms) here in
     let low = leb-true 1 n.0 p.0 in
-    let high : n.0 ≤ cat.tms = subst (λ c. n.0 ≤ c.tms) made.catalogue_is (leb-true n.0 g.catalogue.tms p.1) in
+    let high : n.0 ≤ whole.tms = subst (λ c. n.0 ≤ c.tms) made.catalogue_is (leb-true n.0 g.catalogue.tms p.1) in
     let at = T n in
-    let live : (v : Kept tm_state.State) → BeginsT cat table n.0 v → LivesT v (setting_of g at) (beginning g at) = λ v b.
+    let live : (v : Kept tm_state.State) → BeginsT whole cat table n.0 v → LivesT v (setting_of g at) (beginning g at) = λ v b.
     let s : tm.Stands v (setting_of g at) (beginning g at) =
     subst (λ f. tm.Stands v (setting_of g at) (Redeclared f 0 ∷ [])) (sym made.force_is) (b (setting_of g at) made.catalogue_is refl) in
     record { live = s.live; stands_for = s } in
-    (low, found_at (BeginsT cat table n.0) LivesT (slice_get tms (n.0 - 1)) (setting_of g at) (beginning g at) live (at_t.each n.0 low high))
-all_begun cat table txns u tms dms at_u at_t g made (D n) here =
+    (low, found_at (BeginsT whole cat table n.0) LivesT (slice_get tms (n.0 - 1)) (setting_of g at) (beginning g at) live (at_t.each n.0 low high))
+all_begun whole cat table txns u tms dms at_u at_t g made (D n) here =
     let p = and_parts (nat_le 1 n.0) (nat_le n.0 g.catalogue.dms) here in
     let low = leb-true 1 n.0 p.0 in
-    let high : n.0 ≤ cat.dms = subst (λ c. n.0 ≤ c.dms) made.catalogue_is (leb-true n.0 g.catalogue.dms p.1) in
+    let high : n.0 ≤ whole.dms = subst (λ c. n.0 ≤ c.dms) made.catalogue_is (leb-true n.0 g.catalogue.dms p.1) in
     let at = D n in
     let start : Catalogue → Setting = λ c. record { catalogue = c; site = at; rows = rows_of g at } in
-    let live : (v : Kept dm_state.State) → BeginsD cat (rows_of g at) n.0 v → LivesD v (setting_of g at) (beginning g at) = λ v b.
+    let live : (v : Kept dm_state.State) → BeginsD whole (rows_of g at) n.0 v → LivesD v (setting_of g at) (beginning g at) = λ v b.
     let s : dm.Stands v (setting_of g at) [] = subst (λ c. dm.Stands v (start c) []) (sym made.catalogue_is) b in
     record { live = s.live; stands_for = s } in
-    (low, found_at (BeginsD cat (rows_of g at) n.0) LivesD (slice_get dms (n.0 - 1)) (setting_of g at) (beginning g at) live (made.made.each n.0 low high))
+    (low, found_at (BeginsD whole (rows_of g at) n.0) LivesD (slice_get dms (n.0 - 1)) (setting_of g at) (beginning g at) live (made.made.each n.0 low high))

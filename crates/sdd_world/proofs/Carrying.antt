@@ -1,30 +1,42 @@
 -- Steps of a schedule.
-use Rattle.std.proofs.Common.{◌≡◌, ◌∙◌, sym, subst, ap, refl, true, false, List, [], ◌∷◌, Result, Ok, Err}
-use Rattle.std.specs.Prelude.{IfOk, IsErrOf}
+use Rattle.std.proofs.Common.{◌≡◌, ◌≢◌, ◌∙◌, sym, subst, ap, refl, false, List, [], ◌∷◌, Result, Ok, Err}
+use Rattle.std.specs.Prelude.{IfOk}
 use Rattle.sdd_base.specs.declared.event.Event.{Event}
 use Rattle.sdd_base.specs.declared.event.Event.TheVariants.{Submit, Deliver, Lose, Repeat, Resend, Tick, Settle, Redeclare, Down, Up}
 use Rattle.sdd_log.specs.Entries.{Given, Log, with_event}
 use Rattle.sdd_log.proofs.Grows.{lawful_grows, next_grows}
-use Rattle.sdd_world.specs.Standing.{EndsBy, StandsFor}
+use Rattle.sdd_world.specs.Standing.{EndsBy, IsNextList, StandsFor}
 use Rattle.sdd_world.specs.declared.ends.WorldEnd.{WorldEnd}
-use Rattle.sdd_world.specs.declared.ends.WorldEnd.TheVariants.{Limit}
 use Rattle.sdd_world.specs.declared.world.World.{World}
-use Rattle.sdd_world.specs.Schedules.{AreAllowed, IsAllowed, is_settle, with_events}
+use Rattle.sdd_world.specs.Schedules.{AreAllowed, IsAllowed, IsListed, lists_after, takes_rounds, with_events}
+use Rattle.sdd_world.specs.declared.schedule.ClassList.{ClassList}
 use Rattle.sdd_step.specs.Resting.{IsPossible}
 use Rattle.sdd_facts.specs.Real.{IsGood}
 
--- an event that is a settle
-pub settle_is : (e : Event) → is_settle e ≡ true → e ≡ Settle
-settle_is Settle h = refl
-settle_is (Submit n) h = cc
-settle_is (Deliver a b k) h = cc
-settle_is (Lose a b k) h = cc
-settle_is (Repeat a b k) h = cc
-settle_is (Resend a b) h = cc
-settle_is (Tick t n) h = cc
-settle_is Redeclare h = cc
-settle_is (Down d) h = cc
-settle_is (Up d) h = cc
+-- an event that is reached by no rounds
+pub no_rounds : (e : Event) → e ≢ Settle → e ≢ Redeclare → takes_rounds e ≡ false
+no_rounds Settle h k = absurd (h refl)
+no_rounds Redeclare h k = absurd (k refl)
+no_rounds (Submit n) h k = refl
+no_rounds (Deliver a b k) h r = refl
+no_rounds (Lose a b k) h r = refl
+no_rounds (Repeat a b k) h r = refl
+no_rounds (Resend a b) h k = refl
+no_rounds (Tick t n) h k = refl
+no_rounds (Down d) h k = refl
+no_rounds (Up d) h k = refl
+
+pub lists_stay : (e : Event) (lists : List ClassList) → e ≢ Redeclare → lists ≡ lists_after e lists
+lists_stay Redeclare lists h = absurd (h refl)
+lists_stay Settle lists h = refl
+lists_stay (Submit n) lists h = refl
+lists_stay (Deliver a b k) lists h = refl
+lists_stay (Lose a b k) lists h = refl
+lists_stay (Repeat a b k) lists h = refl
+lists_stay (Resend a b) lists h = refl
+lists_stay (Tick t n) lists h = refl
+lists_stay (Down d) lists h = refl
+lists_stay (Up d) lists h = refl
 
 -- a log that the limit ends, it ends with further events too
 pub ends_with_one : (g : Given) (e : Event) → EndsBy g → EndsBy (with_event g e)
@@ -44,9 +56,15 @@ ends_with_all g [] h = h
 ends_with_all g (e ∷ events) h = ends_with_all (with_event g e) events (ends_with_one g e h)
 
 -- the first event of a schedule that is left, and the others
-pub first_allowed : (g : Given) (events rest : List Event) (e : Event) → events ≡ e ∷ rest → AreAllowed g events
-    → IsAllowed g e × AreAllowed (with_event g e) rest
-first_allowed g events rest e is h = subst (AreAllowed g) is h
+pub first_allowed : (g : Given) (events rest : List Event) (e : Event) (lists after : List ClassList) → events ≡ e ∷ rest
+    → after ≡ lists_after e lists → AreAllowed g events lists → IsAllowed g e lists × AreAllowed (with_event g e) rest after
+first_allowed g events rest e lists after is taken h =
+    let p : IsAllowed g e lists × AreAllowed (with_event g e) rest (lists_after e lists) = subst (λ es. AreAllowed g es lists) is h in
+    (p.0, subst (AreAllowed (with_event g e) rest) (sym taken) p.1)
+
+pub first_one : (g : Given) (events rest : List Event) (e : Event) (lists : List ClassList) → events ≡ e ∷ rest → AreAllowed g events lists
+    → IsAllowed g e lists
+first_one g events rest e lists is h = (first_allowed g events rest e lists (lists_after e lists) is refl h).0
 
 pub with_first : (g : Given) (events rest : List Event) (e : Event) → events ≡ e ∷ rest → with_events (with_event g e) rest ≡ with_events g events
 with_first g events rest e is = sym (ap (with_events g) is)
@@ -55,26 +73,47 @@ pub ends_from : (g now : Given) (events rest : List Event) (e : Event) (all : Gi
     → EndsBy (with_event now e) → EndsBy all
 ends_from g now events rest e all is same h = subst EndsBy (with_first now events rest e is ∙ same) (ends_with_all (with_event now e) rest h)
 
--- a settle is carried out as the event that it is
-pub settle_goes : (w : World) (e : Event) (res : Result World WorldEnd) → e ≡ Settle
-    → IfOk res (λ next. (g : Given) (log : Log) → StandsFor w g log → IsGood (with_event g Settle) → (more : Log) × StandsFor next (with_event g Settle) more)
-    → IfOk res (λ next. (g : Given) (log : Log) → StandsFor w g log → IsAllowed g e → (more : Log) × StandsFor next (with_event g e) more)
-settle_goes w e (Ok next) is law = λ g log s a.
-    subst (λ x. (more : Log) × StandsFor next (with_event g x) more) (sym is) (law g log s (subst (λ x. IsGood (with_event g x)) is a.good))
-settle_goes w e (Err end) is law = tt
+-- what is promised of one event that is allowed
 
-pub settle_ends : (w : World) (e : Event) (res : Result World WorldEnd) → e ≡ Settle
-    → (IsErrOf res Limit → (g : Given) (log : Log) → StandsFor w g log → IsGood (with_event g Settle) → EndsBy (with_event g Settle))
-    → IsErrOf res Limit → (g : Given) (log : Log) → StandsFor w g log → IsAllowed g e → EndsBy (with_event g e)
-settle_ends w e res is law err = λ g log s a.
-    subst (λ x. EndsBy (with_event g x)) (sym is) (law err g log s (subst (λ x. IsGood (with_event g x)) is a.good))
+abbrev pub GoesOn : World → Event → List ClassList → World → Type 0
+GoesOn w e lists next = (g : Given) (log : Log) → StandsFor w g log → IsAllowed g e lists → (more : Log) × StandsFor next (with_event g e) more
+
+abbrev pub EndsIt : World → Event → List ClassList → Type 0
+EndsIt w e lists = (g : Given) (log : Log) → StandsFor w g log → IsAllowed g e lists → EndsBy (with_event g e)
+
+-- a settle is carried out as the event that it is
+pub settle_goes : (w : World) (e : Event) (lists : List ClassList) (res : Result World WorldEnd) → e ≡ Settle
+    → IfOk res (λ next. (g : Given) (log : Log) → StandsFor w g log → IsGood (with_event g Settle) → (more : Log) × StandsFor next (with_event g Settle) more)
+    → IfOk res (GoesOn w e lists)
+settle_goes w e lists (Ok next) is law = λ g log s a.
+    subst (λ x. (more : Log) × StandsFor next (with_event g x) more) (sym is) (law g log s (subst (λ x. IsGood (with_event g x)) is a.good))
+settle_goes w e lists (Err end) is law = tt
+
+pub settle_ends : (w : World) (e : Event) (lists : List ClassList) → e ≡ Settle
+    → ((g : Given) (log : Log) → StandsFor w g log → IsGood (with_event g Settle) → EndsBy (with_event g Settle)) → EndsIt w e lists
+settle_ends w e lists is law = λ g log s a.
+    subst (λ x. EndsBy (with_event g x)) (sym is) (law g log s (subst (λ x. IsGood (with_event g x)) is a.good))
+
+-- a redeclare puts the first of the lists in force
+
+pub next_list : (g : Given) (lists rest : List ClassList) (first : ClassList) → lists ≡ first ∷ rest → IsAllowed g Redeclare lists
+    → IsNextList g first.catalogue.now first.table.now
+next_list g lists rest first is a = subst (IsListed g) is (a.listed refl)
+
+pub some_list : (g : Given) (lists : List ClassList) → lists ≡ [] → IsAllowed g Redeclare lists → ⊥
+some_list g lists none a = subst (IsListed g) none (a.listed refl)
+
+pub redeclare_goes : (w : World) (e : Event) (lists : List ClassList) (res : Result World WorldEnd) → e ≡ Redeclare
+    → IfOk res (GoesOn w Redeclare lists) → IfOk res (GoesOn w e lists)
+redeclare_goes w e lists (Ok next) is law = subst (λ x. GoesOn w x lists next) (sym is) law
+redeclare_goes w e lists (Err end) is law = tt
 
 -- any other event is carried out by a step
-pub step_goes : (w : World) (e : Event) (res : Result World WorldEnd) → is_settle e ≡ false
+pub step_goes : (w : World) (e : Event) (lists : List ClassList) (res : Result World WorldEnd) → takes_rounds e ≡ false
     → IfOk res (λ next. (g : Given) (log : Log) → StandsFor w g log → IsPossible g e → IsGood (with_event g e) → (more : Log) × StandsFor next (with_event g e) more)
-    → IfOk res (λ next. (g : Given) (log : Log) → StandsFor w g log → IsAllowed g e → (more : Log) × StandsFor next (with_event g e) more)
-step_goes w e (Ok next) is law = λ g log s a. law g log s (a.possible is) a.good
-step_goes w e (Err end) is law = tt
+    → IfOk res (GoesOn w e lists)
+step_goes w e lists (Ok next) is law = λ g log s a. law g log s (a.possible is) a.good
+step_goes w e lists (Err end) is law = tt
 
 -- all events are carried out
 pub carried_all : (w : World) (g now : Given) (log : Log) (events : List Event) (all : Given) → StandsFor w now log → events ≡ []

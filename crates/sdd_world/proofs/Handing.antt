@@ -13,7 +13,7 @@ use Rattle.sdd_module.specs.SiteLog as site
 use Rattle.sdd_net.proofs.Directions.{link_parts, same_is, same_here}
 use Rattle.sdd_log.specs.Entries.{Given, Log, Hand, marks}
 use Rattle.sdd_log.specs.Traffic.{calls_of, handed, puts}
-use Rattle.sdd_log.specs.Locals.{local_of, setting_of}
+use Rattle.sdd_log.specs.Locals.{force_at, local_of, setting_of}
 use Rattle.sdd_log.specs.Snapshots.{base_of}
 use Rattle.sdd_log.specs.Due.{next, next_in}
 use Rattle.sdd_log.specs.Lawful.{IsLawful, puts_past}
@@ -152,8 +152,7 @@ module _ (w : World) (g : Given) (log : Log) (a b : Site) (m : Msg) (kept : Site
           parts = record {
             good = h.parts.good;
             sound = h.parts.sound;
-            no_redeclares = redeclares_acts b t.acts handed_log ∙ h.parts.no_redeclares;
-            catalogue_is = d.catalogue ∙ h.parts.catalogue_is;
+            catalogue_is = d.catalogue ∙ h.parts.catalogue_is ∙ ap (λ k. (force_at g k).catalogue) (sym (redeclares_acts b t.acts handed_log));
             txns_are = d.txns ∙ h.parts.txns_are;
             given_is = ap (λ v. v.items) d.given ∙ h.parts.given_is;
             history_is = d.history ∙ ap (λ r. w.history ++ map (λ x. (w.marks, x)) r) t.records_are

@@ -6,10 +6,12 @@ pub mod Carrying
 pub mod Delivering
 pub mod Failing
 pub mod Fitting
+pub mod Forcing
 pub mod Handing
 pub mod InBytes
 pub mod Keeping
 pub mod Marking
+pub mod NextList
 pub mod Numbered
 pub mod Opened
 pub mod Parting

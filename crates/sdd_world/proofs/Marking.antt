@@ -13,7 +13,7 @@ use Rattle.sdd_net.specs.declared.packet.Packet.{Packet}
 use Rattle.sdd_spool.specs.Mailboxes.{Mailbox}
 use Rattle.sdd_log.specs.Entries.{Given, Log, Mark, Notes, history, marks}
 use Rattle.sdd_log.specs.Traffic.{calls_of, handed, is_down, link_of}
-use Rattle.sdd_log.specs.Locals.{local_of, redeclares, setting_of}
+use Rattle.sdd_log.specs.Locals.{force_at, local_of, redeclares, setting_of}
 use Rattle.sdd_log.specs.Marks.{after_mark, left}
 use Rattle.sdd_log.specs.Due.{due_by, note_if}
 use Rattle.sdd_step.specs.Resting.{IsSiteOf, Remain, Rests}
@@ -96,8 +96,7 @@ happened w w2 g log e more m s r = record {
     parts = record {
       good = m.parts.good;
       sound = m.parts.sound;
-      no_redeclares = r.redeclares_is ∙ m.parts.no_redeclares;
-      catalogue_is = s.catalogue ∙ m.parts.catalogue_is;
+      catalogue_is = s.catalogue ∙ m.parts.catalogue_is ∙ ap (λ k. (force_at g k).catalogue) (sym r.redeclares_is);
       txns_are = s.txns ∙ m.parts.txns_are;
       given_is = ap (λ v. v.items) s.given ∙ m.parts.given_is;
       history_is = r.history_is;

@@ -18,13 +18,13 @@ use Rattle.sdd_log.specs.Marks.{after_mark, left}
 use Rattle.sdd_log.specs.Due.{next}
 use Rattle.sdd_log.specs.Lawful.{IsWithin}
 use Rattle.sdd_log.proofs.Grows.{lawful_grows}
-use Rattle.sdd_step.specs.Resting.{AtEach, IsPossible, Rests}
-use Rattle.sdd_step.proofs.Completing.{in_round, IsFree, IsSingle, none_left, one_more, one_settle, round_next, settled}
+use Rattle.sdd_step.specs.Resting.{AtEach, IsPossible, Rests, TakesRounds}
+use Rattle.sdd_step.proofs.Completing.{event_left, in_round, IsFree, IsSingle, none_left, one_more, round_next, settled}
 use Rattle.sdd_step.proofs.FirstHand.{none_to_hand}
 use Rattle.sdd_step.proofs.Marking.{still_none}
 use Rattle.sdd_step.proofs.Rounding.{each_of_round, no_events_quiet}
 use Rattle.sdd_world.specs.declared.world.World.{World}
-use Rattle.sdd_world.specs.Standing.{Before, Calm, EndsBy, Happened, IsSound, Marked, Parts, Rounding, Settling, Spooled, StandsFor}
+use Rattle.sdd_world.specs.Standing.{Before, Calm, EndsBy, Happened, IsSettled, IsSound, Marked, Parts, Rounding, Settling, Spooled, StandsFor}
 use Rattle.sdd_world.proofs.Parting.{spooled_on}
 use Rattle.sdd_world.specs.Modules.{StandFor}
 use Rattle.sdd_world.specs.Carries.{Carries}
@@ -69,7 +69,7 @@ pub no_items : {A : Type 0} (xs : List A) (n : ℕ) → n ≡ length xs → n �
 no_items [] n e f = refl
 no_items (x ∷ xs) n e f = absurd (omega (arith, e, f))
 
-free : (g : Given) (log : Log) → Rests g log → IsFree g log
+pub free : (g : Given) (log : Log) → Rests g log → IsFree g log
 free g log r = record { no_mark = r.no_mark; no_site = r.no_site; no_hand = none_to_hand g log r.handed_all }
 
 part_round : (b : Site) (es : List Event) (log : Log) → takes_part b (Round es ∷ log) ≡ takes_part b log
@@ -106,18 +106,18 @@ spool_more g e log boxes s = record {
 }
 
 sound_more : (g : Given) (e : Event) → IsSound g → IsSound (with_event g e)
-sound_more g e s = record { few_tms = s.few_tms; few_dms = s.few_dms; one_force = s.one_force; txns_fit = s.txns_fit }
+sound_more g e s = record { few_tms = s.few_tms; few_dms = s.few_dms; txns_fit = s.txns_fit }
 
 -- a round begins with its events
-pub round_begins : (w : World) (g : Given) (log : Log) (events : List Event)
-    → Settling w g log → quiet (all_links g) (calls_of log) ≡ false
+pub round_begins : (w : World) (g : Given) (log : Log) (e : Event) (events : List Event)
+    → Settling w g log e → quiet (all_links g) (calls_of log) ≡ false
     → ((tms dms : ℕ) (calls : List (Call Msg)) → Carries w.net tms dms calls
     → events ≡ round (links tms dms) calls) → (more : Log)
-    × Rounding w g more events
-round_begins w g log events s q f =
+    × Rounding w g more e events
+round_begins w g log to events s q f =
     let e : events ≡ round (links g.catalogue.tms g.catalogue.dms) (calls_of log) = f g.catalogue.tms g.catalogue.dms (calls_of log) s.calm.parts.net in
     let n : next g log ≡ Some (Round events) =
-    round_next g log s.waiting (free g log s.calm.rests) s.left_is s.settles q
+    round_next g log s.waiting to (free g log s.calm.rests) s.left_is s.rounds s.ends q
     ∙ ap (λ r. Some (Round r)) (sym e) in (
       Round events ∷ log,
       record {
@@ -125,7 +125,6 @@ round_begins w g log events s q f =
           parts = record {
             good = s.calm.parts.good;
             sound = s.calm.parts.sound;
-            no_redeclares = s.calm.parts.no_redeclares;
             catalogue_is = s.calm.parts.catalogue_is;
             txns_are = s.calm.parts.txns_are;
             given_is = s.calm.parts.given_is;
@@ -139,25 +138,26 @@ round_begins w g log events s q f =
         };
         waiting = s.waiting;
         left_is = ap (λ v. (v.0, events)) s.left_is;
-        settles = s.settles;
+        rounds = s.rounds;
+        ends = s.ends;
         possible = subst (λ es. AtEach (IsPossible g) es) (sym e)
             (each_of_round (IsPossible g) g.catalogue.tms g.catalogue.dms (calls_of log)
             (λ a b l. (l, (l, omega arith))));
       },
     )
 
-pub round_some : (w : World) (g : Given) (log : Log) (events : List Event)
-    → Settling w g log → quiet (all_links g) (calls_of log) ≡ false
+pub round_some : (w : World) (g : Given) (log : Log) (e : Event) (events : List Event)
+    → Settling w g log e → quiet (all_links g) (calls_of log) ≡ false
     → ((tms dms : ℕ) (calls : List (Call Msg)) → Carries w.net tms dms calls → events ≡ round (links tms dms) calls) → 0 < length events
-round_some w g log [] s q f =
+round_some w g log to [] s q f =
     let e : round (links g.catalogue.tms g.catalogue.dms) (calls_of log) ≡ [] = sym (f g.catalogue.tms g.catalogue.dms (calls_of log) s.calm.parts.net) in
     let no : true ≡ false = sym (no_events_quiet g.catalogue.tms g.catalogue.dms (calls_of log) e) ∙ q in cc
-round_some w g log (x ∷ events) s q f = omega arith
+round_some w g log to (x ∷ events) s q f = omega arith
 
-pub round_before : (w : World) (g : Given) (log : Log) (events : List Event) (e : Event)
-    (rest : List Event) → Rounding w g log events → events ≡ e ∷ rest
+pub round_before : (w : World) (g : Given) (log : Log) (to : Event) (events : List Event) (e : Event)
+    (rest : List Event) → Rounding w g log to events → events ≡ e ∷ rest
     → Before w g log e
-round_before w g log events e rest r same =
+round_before w g log to events e rest r same =
     let p : AtEach (IsPossible g) (e ∷ rest) = subst (λ es. AtEach (IsPossible g) es) same r.possible in
     record {
       calm = r.calm;
@@ -165,18 +165,19 @@ round_before w g log events e rest r same =
       possible = p.0;
     }
 
-pub round_after : (w w2 : World) (g : Given) (log : Log) (events : List Event) (e : Event)
-    (rest : List Event) → Rounding w g log events → events ≡ e ∷ rest
+pub round_after : (w w2 : World) (g : Given) (log : Log) (to : Event) (events : List Event) (e : Event)
+    (rest : List Event) → Rounding w g log to events → events ≡ e ∷ rest
     → Happened w2 g log
-    → (more : Log) × Rounding w2 g more rest
-round_after w w2 g log events e rest r same h =
+    → (more : Log) × Rounding w2 g more to rest
+round_after w w2 g log to events e rest r same h =
     let p : AtEach (IsPossible g) (e ∷ rest) = subst (λ es. AtEach (IsPossible g) es) same r.possible in (
       h.more,
       record {
         calm = h.calm;
         waiting = r.waiting;
         left_is = ap (λ a. a.rest) h.ahead_is ∙ ap after_mark (r.left_is ∙ ap (λ es. (r.waiting, es)) same);
-        settles = r.settles;
+        rounds = r.rounds;
+        ends = r.ends;
         possible = p.1;
       },
     )
@@ -185,14 +186,22 @@ pub one_mark : (w w2 : World) (g : Given) (log : Log) → Calm w g log
     → Happened w2 g log → w2.marks ≡ suc w.marks
 one_mark w w2 g log c h = h.calm.marks_are ∙ ap (λ a. a.number) h.ahead_is ∙ ap (λ n. suc n) (sym c.marks_are)
 
-pub round_ends : (w : World) (g : Given) (log : Log) (events : List Event)
-    → Rounding w g log events → events ≡ []
-    → Settling w g log
-round_ends w g log events r same = record { calm = r.calm; waiting = r.waiting; left_is = r.left_is ∙ ap (λ es. (r.waiting, es)) same; settles = r.settles }
+pub round_ends : (w : World) (g : Given) (log : Log) (e : Event) (events : List Event)
+    → Rounding w g log e events → events ≡ []
+    → Settling w g log e
+round_ends w g log e events r same = record {
+  calm = r.calm;
+  waiting = r.waiting;
+  left_is = r.left_is ∙ ap (λ es. (r.waiting, es)) same;
+  rounds = r.rounds;
+  ends = r.ends;
+}
 
-pub settle_ends : (w : World) (g : Given) (log : Log) → Settling w g log
-    → quiet (all_links g) (calls_of log) ≡ true → StandsFor w g log
-settle_ends w g log s q = record { calm = s.calm; complete = settled g log s.waiting (free g log s.calm.rests) s.left_is s.settles q }
+-- a settle that is reached is carried out
+pub settle_ends : (w : World) (g : Given) → IsSettled w g Settle → (more : Log) × StandsFor w g more
+settle_ends w g s =
+    let c = s.settling.calm in
+    (s.more, record { calm = c; complete = settled g s.more s.settling.waiting (free g s.more c.rests) s.settling.left_is s.settling.ends s.is_quiet })
 
 -- one event more is given
 pub given_more : (w w2 : World) (g : Given) (log : Log) (e : Event) → IsGood (with_event g e)
@@ -203,7 +212,6 @@ given_more w w2 g log e good c same pushed = record {
   parts = record {
     good = good;
     sound = sound_more g e c.parts.sound;
-    no_redeclares = c.parts.no_redeclares;
     catalogue_is = ap (λ v. v.catalogue.now) same ∙ c.parts.catalogue_is;
     txns_are = ap (λ v. v.txns) same ∙ c.parts.txns_are;
     given_is = pushed ∙ ap (λ xs. xs ++ e ∷ []) c.parts.given_is;
@@ -239,13 +247,13 @@ step_after w w2 g log e s p h = (
   },
 )
 
-pub settle_begins : (w w2 : World) (g : Given) (log : Log) → IsGood (with_event g Settle)
+pub settle_begins : (w w2 : World) (g : Given) (log : Log) (e : Event) → TakesRounds e → IsGood (with_event g e)
     → StandsFor w g log → w2 ≡ record w { given = w2.given }
-    → w2.given.items ≡ w.given.items ++ Settle ∷ []
-    → Settling w2 (with_event g Settle) log
-settle_begins w w2 g log good s same pushed =
-    let l = one_settle g log s.calm.rests.lawful s.complete in
-    record { calm = given_more w w2 g log Settle good s.calm same pushed; waiting = l.0; left_is = l.1; settles = l.2 }
+    → w2.given.items ≡ w.given.items ++ e ∷ []
+    → Settling w2 (with_event g e) log e
+settle_begins w w2 g log e rounds good s same pushed =
+    let l = event_left g e log s.calm.rests.lawful s.complete in
+    record { calm = given_more w w2 g log e good s.calm same pushed; waiting = l.0; left_is = l.1; rounds = rounds; ends = l.2 }
 
 pub few : (w : World) (g : Given) (log : Log) → Calm w g log → w.marks ≤ MAX_RUN_EVENTS
 few w g log c = let f : marks log ≤ MAX_RUN_EVENTS = few_marks log c.rests.within in let e : w.marks ≡ marks log = c.marks_are in omega (arith, f, e)
@@ -276,7 +284,6 @@ marked_next w w2 g log e e2 b is left same =
       parts = record {
         good = parts.good;
         sound = parts.sound;
-        no_redeclares = parts.no_redeclares;
         catalogue_is = ap (λ v. v.catalogue.now) same ∙ parts.catalogue_is;
         txns_are = ap (λ v. v.txns) same ∙ parts.txns_are;
         given_is = ap (λ v. v.given.items) same ∙ parts.given_is;

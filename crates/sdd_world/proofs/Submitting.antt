@@ -8,6 +8,7 @@ use Rattle.sdd_base.specs.declared.site.Site.TheVariants.{U}
 use Rattle.sdd_base.specs.declared.event.Event.TheVariants.{Submit}
 use Rattle.sdd_lang.specs.declared.transaction.Txn.{Txn}
 use Rattle.sdd_lang.specs.Fits.{Fits}
+use Rattle.sdd_eras.proofs.EraFits.{fits_in_era}
 use Rattle.sdd_history.specs.declared.record.Rec.{Rec}
 use Rattle.sdd_history.specs.declared.record.Rec.TheVariants.{Submit as Submission}
 use Rattle.sdd_wire.specs.declared.msg.Msg.{Msg}
@@ -64,9 +65,10 @@ module _ (w : World) (g : Given) (log : Log) (n : TxnNo)
   pub txn_read : (txn : Txn) → txn ≡ get_or w.txns (n.0 - 1) txn → txn_at g n.0 ≡ Some txn
   txn_read txn h = read_at g.txns (n.0 - 1) m.possible.0 txn m.possible.2 (h ∙ ap (λ xs. get_or xs (n.0 - 1) txn) m.parts.txns_are)
 
-  -- and fits the catalogue
+  -- and fits the catalogue in force
   pub txn_fits : (txn : Txn) → txn_at g n.0 ≡ Some txn → Fits (w.catalogue.now) txn
-  txn_fits txn is = subst (λ c. Fits c txn) (sym m.parts.catalogue_is) (m.parts.sound.txns_fit n.0 txn is)
+  txn_fits txn is = subst (λ c. Fits c txn) (sym m.parts.catalogue_is)
+      (fits_in_era g.catalogue (force_at g (redeclares log)).catalogue (m.parts.good.eras (redeclares log)) txn (m.parts.sound.txns_fit n.0 txn is))
 
   lawful_here : IsLawful g (Mark (Submit n) ∷ log)
   lawful_here = (m.marked.next_is, m.marked.rests.lawful)
@@ -80,8 +82,7 @@ module _ (w : World) (g : Given) (log : Log) (n : TxnNo)
   module _ (txn : Txn) (is : txn_at g n.0 ≡ Some txn) where
     pub home_is : (at : Site) → at ≡ home_of (w.catalogue.now) (Some txn) → at ≡ home
     home_is at e =
-        e ∙ ap (λ c. home_of c (Some txn)) (m.parts.catalogue_is ∙ sym m.parts.sound.one_force)
-        ∙ ap (λ k. home_of (force_at g k).catalogue (Some txn)) (sym m.parts.no_redeclares)
+        e ∙ ap (λ c. home_of c (Some txn)) m.parts.catalogue_is
         ∙ ap (λ o. home_of (force_at g (redeclares log)).catalogue o) (sym is)
 
     submit_fits : fits_submit home (setting_of g home) (base_of g submitted_log) (local_of g home log) n.0 txn

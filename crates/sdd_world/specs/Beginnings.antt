@@ -26,20 +26,21 @@ pub record AllBegin {V : Type 0} (P : ℕ → V → Type 0) (count : ℕ) (made 
   pub count_is : length made ≡ count
   pub each : (n : ℕ) → 1 ≤ n → n ≤ count → There (P n) (slice_get made (n - 1))
 
--- transaction module n, where a catalogue and its protocol table are in force
-abbrev pub BeginsT : Catalogue → List Entry → ℕ → Kept tm_state.State → Type 0
-BeginsT cat table n made = (s : Setting) → s.catalogue ≡ cat → s.site ≡ T (tm_no n)
+-- transaction module n of the whole catalogue, where these classes of it and their protocol table are in force
+abbrev pub BeginsT : Catalogue → Catalogue → List Entry → ℕ → Kept tm_state.State → Type 0
+BeginsT whole cat table n made = (s : Setting) → s.catalogue ≡ whole → s.site ≡ T (tm_no n)
     → tm.Stands made s (Redeclared (record { catalogue = cat; table = table }) 0 ∷ [])
 
 -- data module n, made of these rows
 abbrev pub BeginsD : Catalogue → List (RelNo × Row) → ℕ → Kept dm_state.State → Type 0
 BeginsD cat rows n made = dm.Stands made (record { catalogue = cat; site = D (dm_no n); rows = rows }) []
 
--- What is given is of a catalogue with its table and of these transactions, and has no events yet; and of these data
--- modules each is the one of its number, made of the rows that are given for it.
-pub record IsBegun (g : Given) (cat : Catalogue) (table : List Entry) (txns : List Txn) (dms : List (Kept dm_state.State)) : Type 0 where
-  pub catalogue_is : g.catalogue ≡ cat
+-- What is given is of the whole catalogue and of these transactions, and has no events yet; the first list of classes in
+-- force is that of a catalogue with its table; and of these data modules each is the one of its number, made of the rows
+-- that are given for it.
+pub record IsBegun (g : Given) (whole cat : Catalogue) (table : List Entry) (txns : List Txn) (dms : List (Kept dm_state.State)) : Type 0 where
+  pub catalogue_is : g.catalogue ≡ whole
   pub force_is : force_at g 0 ≡ record { catalogue = cat; table = table }
   pub txns_are : txns ≡ g.txns
   pub no_events : g.events ≡ []
-  pub made : AllBegin (λ n. BeginsD cat (rows_of g (D (dm_no n))) n) cat.dms dms
+  pub made : AllBegin (λ n. BeginsD whole (rows_of g (D (dm_no n))) n) whole.dms dms

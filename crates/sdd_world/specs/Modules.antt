@@ -1,7 +1,11 @@
 -- For which logs the modules of all sites stand.
+use Rattle.std.specs.Prelude.{ℕ}
 use Rattle.sdd_base.specs.declared.site.Site.{Site}
-use Rattle.sdd_module.specs.SiteLog.{Setting}
+use Rattle.sdd_module.specs.SiteLog.{Force, Setting}
 use Rattle.sdd_module.specs.SiteLog as site
+use Rattle.sdd_log.specs.Entries.{Given, Log}
+use Rattle.sdd_log.specs.Locals.{local_of, setting_of, with_force}
+use Rattle.sdd_step.specs.Resting.{IsSiteOf}
 use Rattle.sdd_dm.specs.Stands as dm
 use Rattle.sdd_tm.specs.Stands as tm
 use Rattle.sdd_umod.specs.Stands as um
@@ -24,3 +28,11 @@ LivesD = Lives (λ k. k.live) dm.Stands
 -- the module of a site is live and stands for a log
 abbrev pub StandFor : Sites → Site → Setting → site.Log → Type 0
 StandFor m = StandsAt LivesU LivesT LivesD m.u m.tms.items m.dms.items
+
+-- the modules of all sites of the network stand for their logs
+abbrev pub AllStandFor : Sites → Given → Log → Type 0
+AllStandFor m g log = (at : Site) → IsSiteOf g at → StandFor m at (setting_of g at) (local_of g at log)
+
+-- and those of the transaction modules for logs in which this list of classes is put in force last, at a time
+abbrev pub AreForced : Sites → Given → Log → Force → ℕ → Type 0
+AreForced m g log force t = (at : Site) → IsSiteOf g at → StandFor m at (setting_of g at) (with_force at force t (local_of g at log))

@@ -1,26 +1,42 @@
 -- What is given with the events of a schedule, and which schedules can be carried out.
 use Rattle.std.specs.Prelude.{Bool, true, false, ◌≡◌, List, [], ◌∷◌}
 use Rattle.sdd_base.specs.declared.event.Event.{Event}
-use Rattle.sdd_base.specs.declared.event.Event.TheVariants.{Settle}
+use Rattle.sdd_base.specs.declared.event.Event.TheVariants.{Redeclare, Settle}
 use Rattle.sdd_log.specs.Entries.{Given, with_event}
 use Rattle.sdd_step.specs.Resting.{IsPossible}
 use Rattle.sdd_facts.specs.Real.{IsGood}
+use Rattle.sdd_world.specs.declared.schedule.ClassList.{ClassList}
+use Rattle.sdd_world.specs.Standing.{IsNextList}
 
-abbrev pub is_settle : Event → Bool
-is_settle Settle = true
-is_settle _ = false
+-- an event that is reached by rounds
+abbrev pub takes_rounds : Event → Bool
+takes_rounds Settle = true
+takes_rounds Redeclare = true
+takes_rounds _ = false
 
 -- what is given, with these events behind its own
 abbrev pub with_events : Given → List Event → Given
 with_events g [] = g
 with_events g (e ∷ events) = with_events (with_event g e) events
 
--- an event may come next: it is a settle, or what it names exists; and with it what is given is good
-pub record IsAllowed (g : Given) (e : Event) : Type 0 where
-  pub possible : is_settle e ≡ false → IsPossible g e
+-- the first of these lists of classes is the next that is given
+abbrev pub IsListed : Given → List ClassList → Type 0
+IsListed g [] = ⊥
+IsListed g (list ∷ lists) = IsNextList g list.catalogue.now list.table.now
+
+-- an event takes the first of the lists, if it puts one in force
+abbrev pub lists_after : Event → List ClassList → List ClassList
+lists_after Redeclare (list ∷ lists) = lists
+lists_after _ lists = lists
+
+-- An event may come next: it is a settle, or a redeclare for which the next list of classes is there, or what it names
+-- exists; and with it what is given is good.
+pub record IsAllowed (g : Given) (e : Event) (lists : List ClassList) : Type 0 where
+  pub possible : takes_rounds e ≡ false → IsPossible g e
+  pub listed : e ≡ Redeclare → IsListed g lists
   pub good : IsGood (with_event g e)
 
 -- each event of a schedule may come behind those before it
-abbrev pub AreAllowed : Given → List Event → Type 0
-AreAllowed g [] = Unit {0}
-AreAllowed g (e ∷ events) = IsAllowed g e × AreAllowed (with_event g e) events
+abbrev pub AreAllowed : Given → List Event → List ClassList → Type 0
+AreAllowed g [] lists = Unit {0}
+AreAllowed g (e ∷ events) lists = IsAllowed g e lists × AreAllowed (with_event g e) events (lists_after e lists)

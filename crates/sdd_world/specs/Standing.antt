@@ -8,29 +8,31 @@ use Rattle.sdd_base.specs.declared.site.Site.TheVariants.{U, D}
 use Rattle.sdd_base.specs.declared.event.Event.{Event}
 use Rattle.sdd_base.specs.declared.event.Event.TheVariants.{Deliver}
 use Rattle.sdd_lang.specs.declared.transaction.Txn.{Txn}
+use Rattle.sdd_catalog.specs.Catalogue.{Catalogue}
+use Rattle.sdd_protocol.specs.declared.entry.Entry.{Entry}
+use Rattle.sdd_module.specs.SiteLog.{Force}
 use Rattle.sdd_lang.specs.Fits.{Fits}
 use Rattle.sdd_wire.specs.declared.msg.Msg.{Msg}
 use Rattle.sdd_net.specs.declared.delivered.Delivered.TheVariants.{Messages}
-use Rattle.sdd_net.specs.Links.{delivery}
+use Rattle.sdd_net.specs.Links.{delivery, quiet}
 use Rattle.sdd_spool.specs.Mailboxes.{Mailbox, kept_from, mailbox_at}
-use Rattle.sdd_log.specs.Entries.{Given, Log, Mark, history, marks}
-use Rattle.sdd_log.specs.Traffic.{calls_of, is_down, link_of}
-use Rattle.sdd_log.specs.Locals.{force_at, local_of, redeclares, setting_of, txn_at}
-use Rattle.sdd_log.specs.Marks.{after_mark, left}
+use Rattle.sdd_log.specs.Entries.{Given, Log, Mark, Redeclares, history, marks}
+use Rattle.sdd_log.specs.Traffic.{all_links, calls_of, is_down, link_of}
+use Rattle.sdd_log.specs.Locals.{force_at, redeclares, txn_at}
+use Rattle.sdd_log.specs.Marks.{after_mark, greatest_bound, left}
 use Rattle.sdd_log.specs.Due.{next}
 use Rattle.sdd_log.specs.Lawful.{EndsByLimit}
-use Rattle.sdd_step.specs.Resting.{AreSettles, AtEach, from_one, IsLinkOf, IsMarked, IsPossible, IsSiteOf, Remain, Rests, Waits}
+use Rattle.sdd_step.specs.Resting.{AtEach, EndsIn, from_one, IsLinkOf, IsMarked, IsPossible, IsSiteOf, Remain, Rests, TakesRounds, Waits}
+use Rattle.sdd_facts.specs.AfterEvents.{redeclares_in}
 use Rattle.sdd_facts.specs.Real.{IsGood}
 use Rattle.sdd_world.specs.Carries.{Carries}
-use Rattle.sdd_world.specs.Modules.{StandFor}
+use Rattle.sdd_world.specs.Modules.{AllStandFor}
 use Rattle.sdd_world.specs.declared.world.World.{World}
 
--- What is given is sound: the network isn't too large, the first list of classes is that of the catalogue, and the
--- transactions fit it.
+-- What is given is sound: the network isn't too large, and the transactions fit the catalogue.
 pub record IsSound (g : Given) : Type 0 where
   pub few_tms : g.catalogue.tms ≤ MAX_TMS
   pub few_dms : g.catalogue.dms ≤ MAX_DMS
-  pub one_force : (force_at g 0).catalogue ≡ g.catalogue
   pub txns_fit : (n : ℕ) (txn : Txn) → txn_at g n ≡ Some txn → Fits g.catalogue txn
 
 -- the mailbox of a data module: it keeps what remains for a module that is down, and else nothing
@@ -66,12 +68,11 @@ pub record Rising (g : Given) (boxes : List (Mailbox Msg)) (d : ℕ) : Type 0 wh
 pub record Parts (w : World) (g : Given) (log : Log) : Type 0 where
   pub good : IsGood g
   pub sound : IsSound g
-  pub no_redeclares : redeclares log ≡ 0
-  pub catalogue_is : w.catalogue.now ≡ g.catalogue
+  pub catalogue_is : w.catalogue.now ≡ (force_at g (redeclares log)).catalogue
   pub txns_are : w.txns ≡ g.txns
   pub given_is : w.given.items ≡ g.events
   pub history_is : w.history ≡ history log
-  pub sites : (at : Site) → IsSiteOf g at → StandFor w.sites at (setting_of g at) (local_of g at log)
+  pub sites : AllStandFor w.sites g log
   pub net : Carries w.net g.catalogue.tms g.catalogue.dms (calls_of log)
 
 -- between events
@@ -134,24 +135,43 @@ pub record StandsFor (w : World) (g : Given) (log : Log) : Type 0 where
   pub calm : Calm w g log
   pub complete : next g log ≡ None
 
--- between rounds, in a settle
-pub record Settling (w : World) (g : Given) (log : Log) : Type 0 where
+-- between rounds, in a settle or a redeclare
+pub record Settling (w : World) (g : Given) (log : Log) (e : Event) : Type 0 where
   pub calm : Calm w g log
   pub waiting : List Event
   pub left_is : left g.events log ≡ (waiting, [])
-  pub settles : AreSettles waiting
+  pub rounds : TakesRounds e
+  pub ends : EndsIn e waiting
 
 -- a round was carried out
-abbrev pub Settles : World → Given → Type 0
-Settles w g = (more : Log) × Settling w g more
+abbrev pub Settles : World → Given → Event → Type 0
+Settles w g e = (more : Log) × Settling w g more e
+
+-- the rounds are over: nothing is in flight, and all is acknowledged
+pub record IsSettled (w : World) (g : Given) (e : Event) : Type 0 where
+  pub more : Log
+  pub settling : Settling w g more e
+  pub is_quiet : quiet (all_links g) (calls_of more) ≡ true
 
 -- in a round these of its events are left
-pub record Rounding (w : World) (g : Given) (log : Log) (events : List Event) : Type 0 where
+pub record Rounding (w : World) (g : Given) (log : Log) (e : Event) (events : List Event) : Type 0 where
   pub calm : Calm w g log
   pub waiting : List Event
   pub left_is : left g.events log ≡ (waiting, events)
-  pub settles : AreSettles waiting
+  pub rounds : TakesRounds e
+  pub ends : EndsIn e waiting
   pub possible : AtEach (IsPossible g) events
+
+-- these classes and their protocol table are the next list that is given
+abbrev pub IsNextList : Given → Catalogue → List Entry → Type 0
+IsNextList g cat table = force_at g (suc (redeclares_in g.events)) ≡ record { catalogue = cat; table = table }
+
+-- to put this list of classes in force is all that is left
+pub record Forcing (w : World) (g : Given) (log : Log) (force : Force) : Type 0 where
+  pub calm : Calm w g log
+  pub next_is : next g log ≡ Some (Redeclares (greatest_bound g log))
+  pub none_behind : after_mark (left g.events log) ≡ ([], [])
+  pub force_is : force_at g (suc (redeclares log)) ≡ force
 
 -- messages have come to a site by a delivery in the world w
 pub record Arrives (w now : World) (g : Given) (log : Log) (a b : Site) (k : ℕ) (messages : List Msg) : Type 0 where

@@ -1,8 +1,8 @@
 //! The running world: the modules of all sites and the network between them, driven by events.
 //!
 //! The one contract to the layer above: a world stands for the complete lawful log of the events
-//! that it was given, one by one (`step`, `settle`) or as a schedule (`carry_out`), or the call ends
-//! it exactly where the limit ends that log.
+//! that it was given, one by one (`step`, `settle`, `redeclare`) or as a schedule (`carry_out`), or
+//! the call ends it exactly where the limit ends that log.
 //!
 //! Below that, `Sites` hands each call to the module of one site, and the others stay; `home` tells
 //! the site of a transaction; on `Mail` messages travel as the bytes that spell them.
@@ -15,6 +15,7 @@ mod making;
 mod opening;
 mod putting;
 mod readers;
+mod redeclaring;
 mod schedule;
 mod sites;
 mod world;
@@ -23,5 +24,5 @@ pub use ends::WorldEnd;
 pub use homes::home;
 pub use mail::Mail;
 pub use making::data_modules;
-pub use schedule::carry_out;
+pub use schedule::{ClassList, carry_out};
 pub use world::World;

@@ -1,6 +1,7 @@
 ghost use Rattle.std.specs.Prelude.{IfOk};
 ghost use Rattle.std.specs.List.{All};
 ghost use Rattle.sdd_lang.specs.Fits.{FitsStart};
+ghost use Rattle.sdd_eras.specs.EraOf.{IsEraOf};
 ghost use Rattle.sdd_world.specs.Beginnings.{AllBegin, BeginsD, BeginsT};
 
 use sdd_base::{DmNo, NoMemory, RelNo, Row, TmNo};
@@ -10,20 +11,22 @@ use sdd_protocol::Table;
 use sdd_tm::TxnModule;
 use std::alloc::Global;
 
-/// The transaction modules, where this catalogue and its protocol table are in force. Each costs a
-/// look at each class.
+/// The transaction modules of the whole catalogue, where these classes of it and their protocol
+/// table are in force. Each costs a look at each class.
 pub fn txn_modules<'a>(
     alloc: Global,
+    whole: &'a Catalogue,
     catalogue: &'a Catalogue,
     table: &'a Table,
 ) -> Result<Vec<TxnModule<'a>>, NoMemory>
+    requires { IsEraOf whole.now catalogue.now }
     ensures { IfOk result (λ made.
-        AllBegin (BeginsT catalogue.now table.now) catalogue.now.tms made.items) }
+        AllBegin (BeginsT whole.now catalogue.now table.now) whole.now.tms made.items) }
 {
-    catalogue.known();
+    whole.known();
     let mut made = Vec::new(alloc);
-    for number in 1..catalogue.tms() + 1 {
-        made.push(TxnModule::new(alloc, catalogue, catalogue, table, TmNo(number as u8))?)?;
+    for number in 1..whole.tms() + 1 {
+        made.push(TxnModule::new(alloc, whole, catalogue, table, TmNo(number as u8))?)?;
     }
     Ok(made)
 }

@@ -4,6 +4,7 @@ ghost use Rattle.sdd_base.specs.Sites.{number_of};
 ghost use Rattle.sdd_base.specs.declared.site.Site.{Site};
 ghost use Rattle.sdd_base.specs.declared.site.Site.TheVariants.{D, T, U};
 ghost use Rattle.sdd_catalog.specs.Catalogue.{has_copy};
+ghost use Rattle.sdd_eras.specs.EraOf.{IsEraOf};
 ghost use Rattle.sdd_copy.specs.Copies.{is_here, StandFor};
 ghost use Rattle.sdd_dm.specs.Copies.{dated};
 ghost use Rattle.sdd_dm.specs.Waiting.{IsAwaited};
@@ -11,7 +12,7 @@ ghost use Rattle.sdd_wire.specs.declared.msg.Msg.{Msg};
 ghost use Rattle.sdd_net.specs.Links.{Call, quiet};
 ghost use Rattle.sdd_log.specs.Entries.{Given, Log, history, marks};
 ghost use Rattle.sdd_log.specs.Traffic.{all_links, calls_of};
-ghost use Rattle.sdd_log.specs.Locals.{local_of, setting_of};
+ghost use Rattle.sdd_log.specs.Locals.{force_at, local_of, redeclares, setting_of};
 ghost use Rattle.sdd_step.specs.Resting.{IsSiteOf};
 ghost use Rattle.sdd_facts.specs.Real.{IsGood};
 ghost use Rattle.sdd_world.specs.Beginnings.{IsBegun};
@@ -40,27 +41,31 @@ use sdd_wire::Spelling;
 use std::alloc::Global;
 
 impl<'a> World<'a> {
-    /// A world before its first event, of data modules that `DataModule::new` made for this catalogue,
-    /// one for each D in order, each perhaps of rows of its own.
+    /// A world before its first event, of data modules that `DataModule::new` made for the whole
+    /// catalogue, one for each D in order, each perhaps of rows of its own. The whole catalogue has
+    /// the classes of all lists that are ever put in force; of these the catalogue beside it, with
+    /// its protocol table, is in force first.
     ///
     /// # Errors
     ///
     /// Only for want of memory.
     pub fn new(
         alloc: Global,
+        whole: &'a Catalogue,
         catalogue: &'a Catalogue,
         table: &'a Table,
         txns: Listed<Txn>,
         modules: Vec<DataModule>,
     ) -> Result<World<'a>, NoMemory>
+        requires { IsEraOf whole.now catalogue.now }
         ensures { IfOk result (λ world. (g : Given) → IsGood g → IsSound g
-            → IsBegun g catalogue.now table.now txns modules.items → StandsFor world g []) }
+            → IsBegun g whole.now catalogue.now table.now txns modules.items → StandsFor world g []) }
     {
-        catalogue.known();
-        let u = UModule::new(alloc, catalogue)?;
-        let tms = txn_modules(alloc, catalogue, table)?;
-        let net = Mail::new(alloc, catalogue.tms(), catalogue.dms())?;
-        let spool = Spool::new(alloc, catalogue.tms(), catalogue.dms())?;
+        whole.known();
+        let u = UModule::new(alloc, whole)?;
+        let tms = txn_modules(alloc, whole, catalogue, table)?;
+        let net = Mail::new(alloc, whole.tms(), whole.dms())?;
+        let spool = Spool::new(alloc, whole.tms(), whole.dms())?;
         Ok(World {
             catalogue,
             txns,
@@ -77,9 +82,10 @@ impl<'a> World<'a> {
         })
     }
 
-    /// The catalogue, lent. Takes no memory.
+    /// The catalogue with the classes in force, lent. Takes no memory.
     pub fn catalogue(&self) -> &'a Catalogue
-        ensures { (g : Given) (log : Log) → StandsFor self.now g log → result.now ≡ g.catalogue }
+        ensures { (g : Given) (log : Log) → StandsFor self.now g log
+            → result.now ≡ (force_at g (redeclares log)).catalogue }
     {
         self.catalogue
     }

@@ -1,36 +1,69 @@
 ghost use Rattle.std.specs.Prelude.{◌≡◌, IfOk, IsErrOf};
-ghost use Rattle.sdd_base.specs.declared.event.Event.TheVariants.{Settle};
+ghost use Rattle.sdd_base.specs.declared.event.Event.TheVariants.{Redeclare};
 ghost use Rattle.sdd_log.specs.Entries.{Given, Log, with_event};
 ghost use Rattle.sdd_world.specs.Standing.{EndsBy, StandsFor};
-ghost use Rattle.sdd_world.specs.Schedules.{AreAllowed, IsAllowed, is_settle, with_events};
+ghost use Rattle.sdd_world.specs.Schedules.{AreAllowed, IsAllowed, lists_after, with_events};
 
 use crate::ends::WorldEnd;
 use crate::world::World;
 use sdd_base::Event;
+use sdd_catalog::Catalogue;
+use sdd_protocol::Table;
 use std::collections::VecDeque;
 
-/// Whether an event is a settle.
-fn is_settle(event: &Event) -> bool
-    ensures { result ≡ is_settle event.now }
+/// A list of classes as it is put in force: the catalogue that has them, with its protocol table.
+#[derive(Clone, Copy)]
+pub struct ClassList<'a> {
+    pub catalogue: &'a Catalogue,
+    pub table: &'a Table,
+}
+
+/// Puts the first of these lists of classes in force.
+fn redeclare_first<'a>(
+    world: World<'a>,
+    lists: &mut VecDeque<ClassList<'a>>,
+) -> Result<World<'a>, WorldEnd>
+    requires { (g : Given) × (log : Log) × StandsFor world g log
+        × IsAllowed g Redeclare lists.old.items }
+    ensures log { IfOk result (λ next. (g : Given) (log : Log) → StandsFor world.entry g log
+        → IsAllowed g Redeclare lists.old.items
+        → (more : Log) × StandsFor next (with_event g Redeclare) more) }
+    ensures limit { IsErrOf result WorldEnd.Limit → (g : Given) (log : Log)
+        → StandsFor world.entry g log → IsAllowed g Redeclare lists.old.items
+        → EndsBy (with_event g Redeclare) }
+    ensures others { lists.new.items ≡ lists_after Redeclare lists.old.items }
 {
-    matches!(event, Event::Settle)
+    match lists.pop_front() {
+        Some(first) => world.redeclare(first.catalogue, first.table),
+        None => unreachable!(),
+    }
 }
 
 /// Carries out one event of a schedule.
-fn carry_out_one<'a>(world: World<'a>, event: &Event) -> Result<World<'a>, WorldEnd>
-    requires { (g : Given) × (log : Log) × StandsFor world g log × IsAllowed g event.now }
+fn carry_out_one<'a>(
+    world: World<'a>,
+    event: &Event,
+    lists: &mut VecDeque<ClassList<'a>>,
+) -> Result<World<'a>, WorldEnd>
+    requires { (g : Given) × (log : Log) × StandsFor world g log
+        × IsAllowed g event.now lists.old.items }
     ensures log { IfOk result (λ next. (g : Given) (log : Log) → StandsFor world.entry g log
-        → IsAllowed g event.now → (more : Log) × StandsFor next (with_event g event.now) more) }
+        → IsAllowed g event.now lists.old.items
+        → (more : Log) × StandsFor next (with_event g event.now) more) }
     ensures limit { IsErrOf result WorldEnd.Limit → (g : Given) (log : Log)
-        → StandsFor world.entry g log → IsAllowed g event.now → EndsBy (with_event g event.now) }
+        → StandsFor world.entry g log → IsAllowed g event.now lists.old.items
+        → EndsBy (with_event g event.now) }
+    ensures others { lists.new.items ≡ lists_after event.now lists.old.items }
 {
-    if is_settle(event) {
-        return world.settle();
+    match event {
+        Event::Settle => world.settle(),
+        Event::Redeclare => redeclare_first(world, lists),
+        _ => world.step(event),
     }
-    world.step(event)
 }
 
-/// Carries out the events of a schedule, in order.
+/// Carries out the events of a schedule, in order. Each `Redeclare` among them puts the next of the
+/// lists of classes in force.
 ///
 /// Costs what the events cost: each packet that is delivered, each message that is handed over
 /// with all that it makes due.
@@ -38,19 +71,25 @@ fn carry_out_one<'a>(world: World<'a>, event: &Event) -> Result<World<'a>, World
 /// # Errors
 ///
 /// At the first number that is missing, of events or of a link's messages, and for want of memory.
-pub fn carry_out<'a>(world: World<'a>, events: Vec<Event>) -> Result<World<'a>, WorldEnd>
-    requires { (g : Given) × (log : Log) × StandsFor world g log × AreAllowed g events.items }
+pub fn carry_out<'a>(
+    world: World<'a>,
+    events: Vec<Event>,
+    lists: Vec<ClassList<'a>>,
+) -> Result<World<'a>, WorldEnd>
+    requires { (g : Given) × (log : Log) × StandsFor world g log
+        × AreAllowed g events.items lists.items }
     ensures log { IfOk result (λ last. (g : Given) (log : Log) → StandsFor world.entry g log
-        → AreAllowed g events.items
+        → AreAllowed g events.items lists.items
         → (more : Log) × StandsFor last (with_events g events.items) more) }
     ensures limit { IsErrOf result WorldEnd.Limit → (g : Given) (log : Log)
-        → StandsFor world.entry g log → AreAllowed g events.items
+        → StandsFor world.entry g log → AreAllowed g events.items lists.items
         → EndsBy (with_events g events.items) }
 {
     let mut now = world;
     let mut left = VecDeque::from_vec(events);
+    let mut further = VecDeque::from_vec(lists);
     while let Some(event) = left.pop_front() {
-        now = carry_out_one(now, &event)?;
+        now = carry_out_one(now, &event, &mut further)?;
     }
     Ok(now)
 }

@@ -1,6 +1,7 @@
 ghost use Rattle.std.specs.Prelude.{◌≡◌, ◌<◌, ◌≤◌, All, ◌++◌, [], ◌∷◌, true, false, ℕ, List, Some, IfOk, OnOk, IsErrOf, MatchOption};
 ghost use Rattle.sdd_base.specs.declared.site.Site.{Site};
 ghost use Rattle.sdd_base.specs.declared.site.Site.TheVariants.{U, D};
+ghost use Rattle.sdd_base.specs.declared.event.Event.{Event};
 ghost use Rattle.sdd_base.specs.declared.event.Event.TheVariants.{Submit, Deliver, Lose, Repeat, Resend, Tick, Settle, Down, Up};
 ghost use Rattle.sdd_wire.specs.declared.msg.Msg.{Msg};
 ghost use Rattle.sdd_net.specs.Links.{quiet};
@@ -11,7 +12,7 @@ ghost use Rattle.sdd_step.specs.Resting.{from_one, IsFirst, IsLinkOf, IsPossible
 ghost use Rattle.sdd_facts.specs.Real.{IsGood};
 ghost use Rattle.sdd_world.specs.declared.world.World.{World};
 ghost use Rattle.sdd_world.specs.Following.{MaySend, Followed, IsPast};
-ghost use Rattle.sdd_world.specs.Standing.{ahead_of, Arrives, Before, EndsBy, HandedOn, Handing, Happened, Keeping, Marked, Rising, Risen, Settles, Settling, Spooled, StandsFor};
+ghost use Rattle.sdd_world.specs.Standing.{ahead_of, Arrives, Before, EndsBy, HandedOn, Handing, Happened, IsSettled, Keeping, Marked, Rising, Risen, Settles, Settling, Spooled, StandsFor};
 
 use crate::ends::WorldEnd;
 use crate::homes::home;
@@ -31,6 +32,7 @@ use std::collections::VecDeque;
 /// that are down, and what was given and recorded.
 #[derive(Drop)]
 pub struct World<'a> {
+    /// The catalogue with the classes in force.
     pub(crate) catalogue: &'a Catalogue,
     pub(crate) txns: Listed<Txn>,
     pub(crate) given: Vec<Event>,
@@ -285,13 +287,14 @@ impl<'a> World<'a> {
 
     /// Carries out a round.
     fn round(&mut self) -> Result<(), WorldEnd>
-        requires { (g : Given) × (log : Log) × Settling self.old g log
+        requires { (g : Given) × (log : Log) × (e : Event) × Settling self.old g log e
             × (quiet (all_links g) (calls_of log) ≡ false) }
-        ensures ok { IfOk result (λ _. (g : Given) (log : Log) → Settling self.old g log
-            → quiet (all_links g) (calls_of log) ≡ false → Settles self.new g) }
+        ensures ok { IfOk result (λ _. (g : Given) (log : Log) (e : Event)
+            → Settling self.old g log e → quiet (all_links g) (calls_of log) ≡ false
+            → Settles self.new g e) }
         ensures more { IfOk result (λ _. self.old.marks < self.new.marks) }
-        ensures limit { IsErrOf result WorldEnd.Limit → (g : Given) (log : Log)
-            → Settling self.old g log → quiet (all_links g) (calls_of log) ≡ false → EndsBy g }
+        ensures limit { IsErrOf result WorldEnd.Limit → (g : Given) (log : Log) (e : Event)
+            → Settling self.old g log e → quiet (all_links g) (calls_of log) ≡ false → EndsBy g }
     {
         let mut events = VecDeque::from_vec(self.net.round()?);
         while let Some(event) = events.pop_front() {
@@ -301,12 +304,12 @@ impl<'a> World<'a> {
     }
 
     /// Carries out rounds until the world is quiet.
-    fn settle_down(&mut self) -> Result<(), WorldEnd>
-        requires { (g : Given) × (log : Log) × Settling self.old g log }
-        ensures ok { IfOk result (λ _. (g : Given) (log : Log) → Settling self.old g log
-            → (more : Log) × StandsFor self.new g more) }
-        ensures limit { IsErrOf result WorldEnd.Limit → (g : Given) (log : Log)
-            → Settling self.old g log → EndsBy g }
+    pub(crate) fn settle_down(&mut self) -> Result<(), WorldEnd>
+        requires { (g : Given) × (log : Log) × (e : Event) × Settling self.old g log e }
+        ensures ok { IfOk result (λ _. (g : Given) (log : Log) (e : Event)
+            → Settling self.old g log e → IsSettled self.new g e) }
+        ensures limit { IsErrOf result WorldEnd.Limit → (g : Given) (log : Log) (e : Event)
+            → Settling self.old g log e → EndsBy g }
     {
         while !self.quiet() {
             self.round()?;

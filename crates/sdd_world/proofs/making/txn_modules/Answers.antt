@@ -1,14 +1,10 @@
 use Rattle.std.proofs.Common.{◌+◌, subst, sym}
-use Rattle.sdd_eras.proofs.EraSets.{era_of_itself}
 use Rattle.sdd_world.specs.Beginnings.{BeginsT}
 use Rattle.sdd_world.proofs.Numbered.{MadeTo, one_more}
 use Rattle.sdd_world.proofs.making.txn_modules.Goals as goal
 
-pub new-requires : goal.new-requires
-new-requires c = era_of_itself c.args.catalogue.now
-
 pub loop-number-preserved : goal.loop-number-preserved
 loop-number-preserved c =
-    let P = BeginsT c.args.catalogue.now c.args.table.now in
+    let P = BeginsT c.args.whole.now c.args.catalogue.now c.args.table.now in
     subst (MadeTo P (c.loop-number.number + 1)) (sym c.in_ok-push.ensures.items)
     (one_more P c.loop-number.number c.loop-number.made.items c.in_ok-new.field-0 c.loop-number.invariant c.in_ok-new.ensures)

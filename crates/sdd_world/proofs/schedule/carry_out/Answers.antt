@@ -1,19 +1,28 @@
 use Rattle.std.proofs.Common.{◌∙◌, ap, subst, sym}
-use Rattle.sdd_log.specs.Entries.{with_event}
+use Rattle.sdd_log.specs.Entries.{Given, with_event}
 use Rattle.sdd_world.proofs.Failing.{handed_on}
 use Rattle.sdd_world.proofs.Keeping.{no_items}
 use Rattle.sdd_world.specs.Schedules.{AreAllowed, with_events}
-use Rattle.sdd_world.proofs.Carrying.{carried_all, ends_from, first_allowed, with_first}
+use Rattle.sdd_world.proofs.Carrying.{carried_all, ends_from, first_allowed, first_one, with_first}
 use Rattle.sdd_world.proofs.schedule.carry_out.Goals as goal
 
 pub loop-event-init : goal.loop-event-init
 loop-event-init c =
     let r = c.requires in
-    let same = c.from_vec-left.ensures.items in
+    let events = c.from_vec-left.ensures.items in
+    let lists = c.from_vec-further.ensures.items in
+    let begun : (g : Given) → AreAllowed g c.args.events.items c.args.lists.items
+    → AreAllowed g c.from_vec-left.result.items c.from_vec-further.result.items = λ g a.
+    subst (λ es. AreAllowed g es c.from_vec-further.result.items) (sym events) (subst (AreAllowed g c.args.events.items) (sym lists) a) in
     record {
-      some = (r.0, r.1, r.2, subst (AreAllowed r.0) (sym same) r.3);
-      so_far = λ given log s a. (given, log, s, subst (AreAllowed given) (sym same) a, ap (with_events given) same);
+      some = (r.0, r.1, r.2, begun r.0 r.3);
+      so_far = λ given log s a. (given, log, s, begun given a, ap (with_events given) events);
     }
+
+pub carry_out_one-requires : goal.carry_out_one-requires
+carry_out_one-requires c =
+    let i = c.loop-event.invariant.some in
+    (i.0, i.1, i.2, first_one i.0 c.loop-event.left.items c.pop_front.new.self.items c.in-Some.event c.loop-event.further.items c.in-Some.ensures.items i.3)
 
 pub loop-event-preserved : goal.loop-event-preserved
 loop-event-preserved c =
@@ -21,13 +30,15 @@ loop-event-preserved c =
     let all = c.loop-event.left.items in
     let rest = c.pop_front.new.self.items in
     let e = c.in-Some.event in
-    let f = first_allowed i.0 all rest e c.in-Some.ensures.items i.3 in
+    let lists = c.loop-event.further.items in
+    let after = c.carry_out_one.new.lists.items in
+    let f = first_allowed i.0 all rest e lists after c.in-Some.ensures.items c.carry_out_one.ensures.others i.3 in
     let h = c.in_ok-now.ensures.log i.0 i.1 i.2 f.0 in
     record {
       some = (with_event i.0 e, h.0, h.1, f.1);
       so_far = λ given log s a.
           (let k = c.loop-event.invariant.so_far given log s a in
-          let first = first_allowed k.0 all rest e c.in-Some.ensures.items k.3 in
+          let first = first_allowed k.0 all rest e lists after c.in-Some.ensures.items c.carry_out_one.ensures.others k.3 in
           let next = c.in_ok-now.ensures.log k.0 k.1 k.2 first.0 in
           (with_event k.0 e, next.0, next.1, first.1, with_first k.0 all rest e c.in-Some.ensures.items ∙ k.4));
     }
@@ -38,9 +49,9 @@ returns-in_err-now-clause-limit c = λ err given log s a.
     let all = c.loop-event.left.items in
     let rest = c.pop_front.new.self.items in
     let e = c.in-Some.event in
-    let first = first_allowed k.0 all rest e c.in-Some.ensures.items k.3 in
     ends_from given k.0 all rest e (with_events given c.args.events.items) c.in-Some.ensures.items k.4
-    (c.in_err-now.ensures.limit (handed_on c.from_residual.result c.in_err-now.field-0.0 c.from_residual.ensures.1 err) k.0 k.1 k.2 first.0)
+    (c.in_err-now.ensures.limit (handed_on c.from_residual.result c.in_err-now.field-0.0 c.from_residual.ensures.1 err) k.0 k.1 k.2
+    (first_one k.0 all rest e c.loop-event.further.items c.in-Some.ensures.items k.3))
 
 pub returns-clause-log : goal.returns-clause-log
 returns-clause-log c = λ given log s a.

@@ -1,16 +1,51 @@
-use Rattle.std.proofs.Common.{sym}
-use Rattle.sdd_world.proofs.Carrying.{settle_ends, settle_goes, settle_is, step_goes}
+use Rattle.std.proofs.Common.{◌∙◌, ap, sym, subst}
+use Rattle.sdd_base.specs.declared.event.Event.TheVariants.{Redeclare, Settle}
+use Rattle.sdd_world.proofs.Carrying.{EndsIt, lists_stay, no_rounds, redeclare_goes, settle_ends, settle_goes, step_goes}
+use Rattle.sdd_world.specs.Schedules.{IsAllowed, lists_after}
 use Rattle.sdd_world.proofs.schedule.carry_out_one.Goals as goal
 
-pub returns-then-is_settle-clause-log : goal.returns-then-is_settle-clause-log
-returns-then-is_settle-clause-log c =
-    settle_goes c.args.world c.args.event.now c.settle.result
-    (settle_is c.args.event.now (sym c.if-is_settle.ensures)) c.settle.ensures.log
+pub returns-in-Settle-clause-log : goal.returns-in-Settle-clause-log
+returns-in-Settle-clause-log c =
+    settle_goes c.args.world c.args.event.now c.args.lists.now.items c.settle.result c.in-Settle.is c.settle.ensures.log
 
-pub returns-then-is_settle-clause-limit : goal.returns-then-is_settle-clause-limit
-returns-then-is_settle-clause-limit c =
-    settle_ends c.args.world c.args.event.now c.settle.result
-    (settle_is c.args.event.now (sym c.if-is_settle.ensures)) c.settle.ensures.limit
+pub returns-in-Settle-clause-limit : goal.returns-in-Settle-clause-limit
+returns-in-Settle-clause-limit c = λ err.
+    settle_ends c.args.world c.args.event.now c.args.lists.now.items c.in-Settle.is (c.settle.ensures.limit err)
 
-pub returns-clause-log : goal.returns-clause-log
-returns-clause-log c = step_goes c.args.world c.args.event.now c.step.result (sym c.if-is_settle.ensures) c.step.ensures.log
+pub returns-in-Settle-clause-others : goal.returns-in-Settle-clause-others
+returns-in-Settle-clause-others c = ap (λ e. lists_after e c.args.lists.now.items) (sym c.in-Settle.is)
+
+pub redeclare_first-requires : goal.redeclare_first-requires
+redeclare_first-requires c =
+    let r = c.requires in (r.0, r.1, r.2, subst (λ e. IsAllowed r.0 e c.args.lists.now.items) c.in-Redeclare.is r.3)
+
+pub returns-in-Redeclare-clause-log : goal.returns-in-Redeclare-clause-log
+returns-in-Redeclare-clause-log c =
+    redeclare_goes c.args.world c.args.event.now c.args.lists.now.items c.redeclare_first.result c.in-Redeclare.is
+    c.redeclare_first.ensures.log
+
+pub returns-in-Redeclare-clause-limit : goal.returns-in-Redeclare-clause-limit
+returns-in-Redeclare-clause-limit c = λ err.
+    subst (λ e. EndsIt c.args.world e c.args.lists.now.items) (sym c.in-Redeclare.is) (c.redeclare_first.ensures.limit err)
+
+pub returns-in-Redeclare-clause-others : goal.returns-in-Redeclare-clause-others
+returns-in-Redeclare-clause-others c =
+    c.redeclare_first.ensures.others ∙ ap (λ e. lists_after e c.args.lists.now.items) (sym c.in-Redeclare.is)
+
+pub step-requires : goal.step-requires
+step-requires c =
+    let r = c.requires in
+    (r.0, r.1, r.2, r.3.possible (no_rounds c.args.event.now c.in_default.not-Settle c.in_default.not-Redeclare), r.3.good)
+
+pub returns-in_default-clause-log : goal.returns-in_default-clause-log
+returns-in_default-clause-log c =
+    step_goes c.args.world c.args.event.now c.args.lists.now.items c.step.result
+    (no_rounds c.args.event.now c.in_default.not-Settle c.in_default.not-Redeclare) c.step.ensures.log
+
+pub returns-in_default-clause-limit : goal.returns-in_default-clause-limit
+returns-in_default-clause-limit c = λ err g log s a.
+    c.step.ensures.limit err g log s
+    (a.possible (no_rounds c.args.event.now c.in_default.not-Settle c.in_default.not-Redeclare)) a.good
+
+pub returns-in_default-clause-others : goal.returns-in_default-clause-others
+returns-in_default-clause-others c = lists_stay c.args.event.now c.args.lists.now.items c.in_default.not-Redeclare

@@ -1,5 +1,6 @@
 use Rattle.std.proofs.Common.{◌∙◌, [], ap, refl, subst, sym}
 use Rattle.sdd_catalog.specs.Catalogue.{Catalogue}
+use Rattle.sdd_module.specs.SiteLog.{Force}
 use Rattle.sdd_world.specs.Carries.{Carries}
 use Rattle.sdd_world.proofs.Beginning.{begins}
 use Rattle.sdd_world.proofs.Begun.{all_begun}
@@ -20,9 +21,10 @@ returns c = λ g good sound begun.
       net = c.in_ok-net.net;
       spool = c.in_ok-spool.spool;
     })
-    c.tms-2.result c.dms-2.result c.new-5.ensures refl c.new-4.ensures.items c.in_ok-spool.ensures g good sound (sym begun.catalogue_is)
+    c.tms-2.result c.dms-2.result c.new-5.ensures refl c.new-4.ensures.items c.in_ok-spool.ensures g good sound
+    (ap (λ (f : Force). f.catalogue) (sym begun.force_is))
     (tms_are ∙ sym c.tms-2.ensures) (dms_are ∙ sym c.dms-2.ensures) begun.txns_are begun.no_events
-    (all_begun c.args.catalogue.now c.args.table.now c.args.txns c.in_ok-u.u c.in_ok-tms.tms.items c.args.modules.items c.in_ok-u.ensures
+    (all_begun c.args.whole.now c.args.catalogue.now c.args.table.now c.args.txns c.in_ok-u.u c.in_ok-tms.tms.items c.args.modules.items c.in_ok-u.ensures
     c.in_ok-tms.ensures g begun)
     (subst (λ n. Carries c.in_ok-net.net n g.catalogue.dms []) (c.tms.ensures ∙ sym tms_are)
     (subst (λ n. Carries c.in_ok-net.net c.tms.result n []) (c.dms.ensures ∙ sym dms_are) c.in_ok-net.ensures))

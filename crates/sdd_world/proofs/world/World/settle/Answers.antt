@@ -2,7 +2,7 @@ use Rattle.std.proofs.Common.{refl}
 use Rattle.sdd_base.specs.declared.event.Event.TheVariants.{Settle}
 use Rattle.sdd_log.specs.Entries.{with_event}
 use Rattle.sdd_world.proofs.Failing.{handed_on}
-use Rattle.sdd_world.proofs.Rounds.{settle_begins}
+use Rattle.sdd_world.proofs.Rounds.{settle_begins, settle_ends}
 use Rattle.sdd_world.proofs.world.World.settle.Goals as goal
 
 pub settle_down-requires : goal.settle_down-requires
@@ -10,7 +10,8 @@ settle_down-requires c =
     let r = c.requires in (
       with_event r.0 Settle,
       r.1,
-      settle_begins c.args.self (record c.args.self { given = c.push.new.self }) r.0 r.1 r.3 r.2 refl
+      Settle,
+      settle_begins c.args.self (record c.args.self { given = c.push.new.self }) r.0 r.1 Settle tt r.3 r.2 refl
           c.in_ok-push.ensures.items,
     )
 
@@ -19,11 +20,13 @@ returns-in_err-settle_down-clause-limit c = λ e given log s good.
     c.in_err-settle_down.ensures.limit
     (handed_on c.from_residual-in_err-settle_down.result c.in_err-settle_down.field-0.0
     c.from_residual-in_err-settle_down.ensures.1 e)
-    (with_event given Settle) log (settle_begins c.args.self (record c.args.self { given = c.push.new.self }) given log good s refl
+    (with_event given Settle) log Settle
+    (settle_begins c.args.self (record c.args.self { given = c.push.new.self }) given log Settle tt good s refl
     c.in_ok-push.ensures.items)
 
 pub returns-clause-log : goal.returns-clause-log
 returns-clause-log c = λ given log s good.
-    c.in_ok-settle_down.ensures.ok (with_event given Settle) log
+    settle_ends c.settle_down.new.self (with_event given Settle)
+    (c.in_ok-settle_down.ensures.ok (with_event given Settle) log Settle
     (settle_begins c.args.self
-    (record c.args.self { given = c.push.new.self }) given log good s refl c.in_ok-push.ensures.items)
+    (record c.args.self { given = c.push.new.self }) given log Settle tt good s refl c.in_ok-push.ensures.items))

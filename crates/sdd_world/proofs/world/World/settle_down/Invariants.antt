@@ -1,13 +1,13 @@
 use Rattle.std.proofs.Common.{◌-◌, ◌^◌}
+use Rattle.sdd_base.specs.declared.event.Event.{Event}
 use Rattle.sdd_log.specs.Entries.{Given, Log}
-use Rattle.sdd_world.specs.Standing.{Settling}
+use Rattle.sdd_world.specs.Standing.{Settles, Settling}
 use Rattle.sdd_world.proofs.world.World.settle_down.Given as goal
 
 abbrev pub invariant-loop-self : goal.invariant-loop-self
 invariant-loop-self l = record {
-  some : (given : Given) × (log : Log) × Settling l.self given log;
-  so_far : (given : Given) (log : Log) → Settling l.fn.self given log → (more : Log)
-      × Settling l.self given more;
+  some : (given : Given) × (log : Log) × (event : Event) × Settling l.self given log event;
+  so_far : (given : Given) (log : Log) (event : Event) → Settling l.fn.self given log event → Settles l.self given event;
 }
 
 abbrev pub decreases-loop-self : goal.decreases-loop-self

@@ -1,0 +1,107 @@
+-- A list of classes is put in force at all transaction modules, one after the other.
+use Rattle.std.proofs.Common.{ℕ, suc, ◌+◌, ◌-◌, ◌<◌, ◌≤◌, ◌==◌, ◌≡◌, ◌∙◌, ap, sym, subst, refl, true, false, ◌∷◌, map, arith, inl, inr}
+use Rattle.std.proofs.lemmas.Bool.{and_from, cases_lt, le-leb, leb-true, ne_eqb}
+use Rattle.std.specs.List.{fold, range_with_len}
+use Rattle.std.specs.Prelude.{max, nat_le}
+use Rattle.sdd_base.specs.Numbers.{tm_no}
+use Rattle.sdd_base.specs.Sites.{number_of, same_site}
+use Rattle.sdd_base.specs.declared.number.TmNo.{TmNo}
+use Rattle.sdd_base.specs.declared.site.Site.{Site}
+use Rattle.sdd_base.specs.declared.site.Site.TheVariants.{U, T, D}
+use Rattle.sdd_lang.proofs.Pushdown.{and_parts}
+use Rattle.sdd_module.specs.SiteLog.{Force, Redeclared, Setting}
+use Rattle.sdd_module.specs.SiteLog as site
+use Rattle.sdd_net.proofs.Directions.{same_is}
+use Rattle.sdd_log.specs.Entries.{Given, Log}
+use Rattle.sdd_log.specs.Locals.{local_of, setting_of}
+use Rattle.sdd_step.specs.Resting.{IsSiteOf}
+use Rattle.sdd_facts.specs.Real.{FitsForce}
+use Rattle.sdd_world.specs.Modules.{AllStandFor, AreForced, StandFor}
+use Rattle.sdd_world.specs.declared.sites.Sites.{Sites}
+
+-- the transaction modules before number n stand for logs with the list, all other modules for theirs
+pub record ForcedTo (m : Sites) (g : Given) (log : Log) (force : Force) (t n : ℕ) : Type 0 where
+  pub forced : (k : ℕ) → 1 ≤ k → k < n → IsSiteOf g (T (tm_no k))
+      → StandFor m (T (tm_no k)) (setting_of g (T (tm_no k))) (Redeclared force t ∷ local_of g (T (tm_no k)) log)
+  pub others : (at : Site) → ((k : ℕ) → at ≡ T (tm_no k) → n ≤ k) → IsSiteOf g at → StandFor m at (setting_of g at) (local_of g at log)
+
+pub none_forced : (m : Sites) (g : Given) (log : Log) (force : Force) (t : ℕ) → AllStandFor m g log → ForcedTo m g log force t 1
+none_forced m g log force t all = record {
+  forced = λ k low high here. absurd (omega arith);
+  others = λ at later here. all at here;
+}
+
+-- transaction modules within the network
+
+pub t_here : (g : Given) (n : ℕ) → 1 ≤ n → n ≤ g.catalogue.tms → IsSiteOf g (T (tm_no n))
+t_here g n low high = and_from (nat_le 1 n) (nat_le n g.catalogue.tms) (le-leb 1 n low) (le-leb n g.catalogue.tms high)
+
+t_within : (g : Given) (t : TmNo) → IsSiteOf g (T t) → (1 ≤ t.0) × (t.0 ≤ g.catalogue.tms)
+t_within g t here =
+    let p = and_parts (nat_le 1 t.0) (nat_le t.0 g.catalogue.tms) here in
+    (leb-true 1 t.0 p.0, leb-true t.0 g.catalogue.tms p.1)
+
+differ : (k n : ℕ) → k < n → (k == n) ≡ false
+differ k n l = ne_eqb k n (λ e. absurd (omega (arith, l, e)))
+
+-- what the module that comes next stands for
+pub t_stands : (m : Sites) (g : Given) (log : Log) (force : Force) (t n : ℕ) → ForcedTo m g log force t n → IsSiteOf g (T (tm_no n))
+    → StandFor m (T (tm_no n)) (setting_of g (T (tm_no n))) (local_of g (T (tm_no n)) log)
+t_stands m g log force t n f here = f.others (T (tm_no n)) (λ k e. (let same : n ≡ k = ap number_of e in omega (arith, same))) here
+
+-- what the call at one module does
+
+abbrev pub ForceLaw : Sites → Sites → Force → ℕ → ℕ → Type 0
+ForceLaw m m2 force t n = (setting : Setting) (l : site.Log) → StandFor m (T (tm_no n)) setting l → FitsForce setting.catalogue force t
+    → StandFor m2 (T (tm_no n)) setting (Redeclared force t ∷ l)
+
+abbrev pub OthersLaw : Sites → Sites → ℕ → Type 0
+OthersLaw m m2 n = (x : Site) (setting : Setting) (l : site.Log) → same_site x (T (tm_no n)) ≡ false → StandFor m x setting l → StandFor m2 x setting l
+
+apart_from : (at : Site) (n : ℕ) → ((k : ℕ) → at ≡ T (tm_no k) → n + 1 ≤ k) → same_site at (T (tm_no n)) ≡ false
+apart_from at n later = elim (same_site at (T (tm_no n))) as (λ b. same_site at (T (tm_no n)) ≡ b → b ≡ false) [
+  | true ↦ λ p. (let l = later n (same_is at (T (tm_no n)) p) in absurd (omega (arith, l)))
+  | false ↦ λ p. refl
+] refl
+
+pub one_forced : (m m2 : Sites) (g : Given) (log : Log) (force : Force) (t n : ℕ) → ForcedTo m g log force t n → IsSiteOf g (T (tm_no n))
+    → FitsForce g.catalogue force t → ForceLaw m m2 force t n → OthersLaw m m2 n → ForcedTo m2 g log force t (n + 1)
+one_forced m m2 g log force t n f here fits law stay = record {
+  forced = λ k low high there. elim (cases_lt k n) [
+    | inl l ↦ stay (T (tm_no k)) (setting_of g (T (tm_no k))) (Redeclared force t ∷ local_of g (T (tm_no k)) log) (differ k n l) (f.forced k low l there)
+    | inr l ↦
+        (let same : n ≡ k = omega (arith, l, high) in
+        subst (λ j. StandFor m2 (T (tm_no j)) (setting_of g (T (tm_no j))) (Redeclared force t ∷ local_of g (T (tm_no j)) log)) same
+        (law (setting_of g (T (tm_no n))) (local_of g (T (tm_no n)) log) (t_stands m g log force t n f here) fits))
+  ];
+  others = λ at later there. stay at (setting_of g at) (local_of g at log) (apart_from at n later)
+      (f.others at (λ k e. (let l = later k e in omega (arith, l))) there);
+}
+
+-- behind the last number all stand for what they are to stand for
+pub all_forced : (m : Sites) (g : Given) (log : Log) (force : Force) (t n : ℕ) → n ≡ g.catalogue.tms + 1 → ForcedTo m g log force t n → AreForced m g log force t
+all_forced m g log force t n e f U here = f.others U (λ k q. cc) here
+all_forced m g log force t n e f (T k) here = let r = t_within g k here in f.forced k.0 r.0 (let high = r.1 in omega (arith, e, high)) here
+all_forced m g log force t n e f (D d) here = f.others (D d) (λ k q. cc) here
+
+-- the greatest of the bounds from number n on, where a is that of those before
+
+one_less : (n m : ℕ) → n < m → m - n ≡ suc (m - (n + 1))
+one_less n m l = omega (arith, l)
+
+pub greatest_next : (f : ℕ → ℕ) (a n m b v : ℕ) → n < m → b ≡ f n → fold max a (map f (range_with_len n (m - n))) ≡ v
+    → fold max (max a b) (map f (range_with_len (n + 1) (m - (n + 1)))) ≡ v
+greatest_next f a n m b v l is all =
+    ap (λ x. fold max (max a x) (map f (range_with_len (n + 1) (m - (n + 1))))) is
+    ∙ ap (λ k. fold max a (map f (range_with_len n k))) (sym (one_less n m l)) ∙ all
+
+pub greatest_last : (f : ℕ → ℕ) (a n m v : ℕ) → n ≡ m → fold max a (map f (range_with_len n (m - n))) ≡ v → a ≡ v
+greatest_last f a n m v e all =
+    let none : m - n ≡ 0 = omega (arith, e) in
+    ap (λ k. fold max a (map f (range_with_len n k))) (sym none) ∙ all
+
+first_left : (m : ℕ) → m + 1 - 1 ≡ m
+first_left m = omega arith
+
+pub greatest_first : (f : ℕ → ℕ) (m v : ℕ) → fold max 0 (map f (range_with_len 1 m)) ≡ v → fold max 0 (map f (range_with_len 1 (m + 1 - 1))) ≡ v
+greatest_first f m v e = ap (λ k. fold max 0 (map f (range_with_len 1 k))) (first_left m) ∙ e

@@ -1,0 +1,123 @@
+-- Another list of classes is put in force, once the links are quiet, over plain worlds.
+use Rattle.std.proofs.Common.{ℕ, zero, suc, ◌+◌, ◌≤◌, ◌≡◌, ◌≢◌, ◌∙◌, ap, sym, subst, refl, List, [], ◌∷◌, ◌++◌, arith}
+use Rattle.std.proofs.lemmas.Bool.{lt-ltb}
+use Rattle.sdd_base.specs.declared.limits.TheConstants.{MAX_RUN_EVENTS}
+use Rattle.sdd_base.specs.declared.site.Site.TheVariants.{U}
+use Rattle.sdd_base.specs.declared.event.Event.{Event}
+use Rattle.sdd_base.specs.declared.event.Event.TheVariants.{Redeclare}
+use Rattle.sdd_catalog.specs.Catalogue.{Catalogue}
+use Rattle.sdd_protocol.specs.declared.entry.Entry.{Entry}
+use Rattle.sdd_module.specs.SiteLog.{Force}
+use Rattle.sdd_log.specs.Entries.{Given, Log, Redeclares, marks, with_event}
+use Rattle.sdd_log.specs.Traffic.{calls_of}
+use Rattle.sdd_log.specs.Locals.{force_at, local_of, redeclares, setting_of, with_force}
+use Rattle.sdd_log.specs.Marks.{greatest_bound, left}
+use Rattle.sdd_step.specs.Resting.{EndsIn, settles_before}
+use Rattle.sdd_step.proofs.Completing.{none_left, redeclare_next}
+use Rattle.sdd_step.proofs.Marking.{rests_redeclared}
+use Rattle.sdd_facts.specs.AfterEvents.{redeclares_in}
+use Rattle.sdd_facts.specs.Real.{FitsForce}
+use Rattle.sdd_facts.proofs.AllFacts.{all_facts}
+use Rattle.sdd_facts.proofs.Done.{count_join, redeclares_left}
+use Rattle.sdd_world.specs.declared.sites.Sites.{Sites}
+use Rattle.sdd_world.specs.declared.world.World.{World}
+use Rattle.sdd_world.specs.Modules.{AllStandFor, AreForced, StandFor}
+use Rattle.sdd_world.specs.Carries.{Carries}
+use Rattle.sdd_world.specs.Standing.{EndsBy, Forcing, IsNextList, IsSettled, Spooled, StandsFor}
+use Rattle.sdd_world.proofs.Parting.{spooled_on}
+use Rattle.sdd_world.proofs.Rounds.{few, free}
+
+-- the list that is put in force next is the next that is given
+
+one_in : (n : ℕ) → redeclares_in (settles_before n Redeclare) ≡ 1
+one_in zero = refl
+one_in (suc n) = one_in n
+
+one_left : (events : List Event) → EndsIn Redeclare events → redeclares_in events ≡ 1
+one_left events e = ap redeclares_in e.1 ∙ one_in e.0
+
+pub forcing : (w : World) (g : Given) (cat : Catalogue) (table : List Entry) → IsNextList g cat table → IsSettled w (with_event g Redeclare) Redeclare
+    → (log : Log) × Forcing w (with_event g Redeclare) log (record { catalogue = cat; table = table })
+forcing w g cat table next s =
+    let given : Given = with_event g Redeclare in
+    let log : Log = s.more in
+    let c = s.settling.calm in
+    let n = redeclare_next given log s.settling.waiting (free given log c.rests) s.settling.left_is s.settling.ends s.is_quiet in
+    let all = redeclares_left given log c.parts.good.few_ticks c.rests.lawful in
+    let one : redeclares_in (left given.events log).0 ≡ 1 =
+    ap (λ (l : List Event × List Event). redeclares_in l.0) s.settling.left_is ∙ one_left s.settling.waiting s.settling.ends in
+    let sum = count_join g.events (Redeclare ∷ []) in
+    let done : redeclares log ≡ redeclares_in g.events = omega (arith, all, one, sum) in (
+      log,
+      record {
+        calm = c;
+        next_is = n.0;
+        none_behind = n.1;
+        force_is = ap (λ k. force_at g (suc k)) done ∙ next;
+      },
+    )
+
+module _ (w : World) (g : Given) (log : Log) (force : Force) (f : Forcing w g log force) where
+  -- the last number was given, so that the limit ends the log
+  pub force_ends : w.marks ≡ MAX_RUN_EVENTS → EndsBy g
+  force_ends last =
+      let m : w.marks ≡ marks log = f.calm.marks_are in (
+        log,
+        record {
+          lawful = f.calm.rests.lawful;
+          within = f.calm.rests.within;
+          entry = Redeclares (greatest_bound g log);
+          next_is = f.next_is;
+          past = lt-ltb MAX_RUN_EVENTS (suc (marks log)) (omega (arith, last, m));
+        },
+      )
+
+  -- the list in force till then has the modules of the network
+  pub same_tms : w.catalogue.now.tms ≡ g.catalogue.tms
+  same_tms = ap (λ (k : Catalogue). k.tms) f.calm.parts.catalogue_is ∙ (f.calm.parts.good.eras (redeclares log)).tms
+
+  -- the list and its time are what modules ask of them
+  pub force_fits : (t : ℕ) → t ≡ greatest_bound g log → FitsForce g.catalogue force t
+  force_fits t e =
+      subst (λ x. FitsForce g.catalogue x t) f.force_is
+      (subst (λ x. FitsForce g.catalogue (force_at g (suc (redeclares log))) x) (sym e)
+      (all_facts.redeclare g f.calm.parts.good log (greatest_bound g log) f.calm.rests.lawful f.calm.rests.within f.next_is))
+
+  sites_forced : (w2 : World) (s : Sites) (t : ℕ) → t ≡ greatest_bound g log → AreForced s g log force t → w2.sites ≡ s
+      → AllStandFor w2.sites g (Redeclares (greatest_bound g log) ∷ log)
+  sites_forced w2 s t e forced is at here =
+      subst (λ z. StandFor z at (setting_of g at) (local_of g at (Redeclares (greatest_bound g log) ∷ log))) (sym is)
+      (subst (λ x. StandFor s at (setting_of g at) (with_force at x (greatest_bound g log) (local_of g at log))) (sym f.force_is)
+      (subst (λ x. StandFor s at (setting_of g at) (with_force at force x (local_of g at log))) e (forced at here)))
+
+  -- it is in force
+  pub is_forced : (w2 : World) (s : Sites) (t : ℕ) → t ≡ greatest_bound g log → w.marks ≢ MAX_RUN_EVENTS → AreForced s g log force t
+      → w2 ≡ record w { sites = s; marks = w.marks + 1; catalogue = w2.catalogue } → w2.catalogue.now ≡ force.catalogue
+      → (more : Log) × StandsFor w2 g more
+  is_forced w2 s t e number forced same is =
+      let now : ℕ = greatest_bound g log in
+      let more : Log = Redeclares now ∷ log in
+      let m : w.marks ≡ marks log = f.calm.marks_are in
+      let low : w.marks ≤ MAX_RUN_EVENTS = few w g log f.calm in
+      let rests = rests_redeclared g log now f.calm.rests f.next_is (omega (arith, m, low, number)) in (
+        more,
+        record {
+          calm = record {
+            parts = record {
+              good = f.calm.parts.good;
+              sound = f.calm.parts.sound;
+              catalogue_is = is ∙ ap (λ (x : Force). x.catalogue) (sym f.force_is);
+              txns_are = ap (λ v. v.txns) same ∙ f.calm.parts.txns_are;
+              given_is = ap (λ v. v.given.items) same ∙ f.calm.parts.given_is;
+              history_is = ap (λ v. v.history) same ∙ f.calm.parts.history_is;
+              sites = sites_forced w2 s t e forced (ap (λ v. v.sites) same);
+              net = subst (λ z. Carries z g.catalogue.tms g.catalogue.dms (calls_of log)) (sym (ap (λ v. v.net) same)) f.calm.parts.net;
+            };
+            rests = rests;
+            marks_are = let n : w2.marks ≡ w.marks + 1 = ap (λ v. v.marks) same in omega (arith, n, m);
+            spooled = subst (λ boxes. Spooled g more boxes U) (sym (ap (λ v. v.spool) same))
+                (spooled_on g log more w.spool U (λ d. refl) (λ d apart x rest r. record { count = r.count; messages = r.messages }) f.calm.spooled);
+          };
+          complete = none_left g more (free g more rests) f.none_behind;
+        },
+      )

@@ -1,0 +1,36 @@
+use Rattle.std.proofs.Common.{◌+◌, ◌≤◌, ap, arith, map, subst}
+use Rattle.std.specs.List.{fold, range_with_len}
+use Rattle.std.specs.Prelude.{max}
+use Rattle.sdd_base.specs.Numbers.{tm_no}
+use Rattle.sdd_base.specs.declared.site.Site.TheVariants.{T}
+use Rattle.sdd_log.specs.Locals.{local_of, setting_of}
+use Rattle.sdd_log.specs.Marks.{bound_at, greatest_bound}
+use Rattle.sdd_world.proofs.Forcing.{greatest_first, greatest_last, greatest_next, t_here}
+use Rattle.sdd_world.proofs.sites.Sites.greatest_bound.Goals as goal
+
+pub loop-number-init : goal.loop-number-init
+loop-number-init c = λ g log is all.
+    greatest_first (bound_at g log) c.args.catalogue.now.tms (greatest_bound g log)
+    (ap (λ k. fold max 0 (map (bound_at g log) (range_with_len 1 k))) is)
+
+pub bound-requires : goal.bound-requires
+bound-requires c =
+    let r = c.requires in
+    let n = c.loop-number.number in
+    let at = T (tm_no n) in
+    let high : n ≤ c.args.catalogue.now.tms = omega arith in
+    (setting_of r.0 at, local_of r.0 at r.1, r.3 at (t_here r.0 n (omega arith) (subst (λ k. n ≤ k) r.2 high)))
+
+pub loop-number-preserved : goal.loop-number-preserved
+loop-number-preserved c = λ g log is all.
+    let n = c.loop-number.number in
+    let at = T (tm_no n) in
+    let high : n ≤ c.args.catalogue.now.tms = omega arith in
+    greatest_next (bound_at g log) c.loop-number.greatest n (c.args.catalogue.now.tms + 1) c.bound.result.0 (greatest_bound g log) (omega arith)
+    (c.bound.ensures (setting_of g at) (local_of g at log) (all at (t_here g n (omega arith) (subst (λ k. n ≤ k) is high))))
+    (c.loop-number.invariant g log is all)
+
+pub returns : goal.returns
+returns c = λ g log is all.
+    greatest_last (bound_at g log) c.loop-number.greatest c.loop-number.number (c.args.catalogue.now.tms + 1) (greatest_bound g log) (omega arith)
+    (c.loop-number.invariant g log is all)

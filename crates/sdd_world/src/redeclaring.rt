@@ -1,0 +1,63 @@
+//! Another list of classes is put in force in a world, once its links are quiet.
+ghost use Rattle.std.specs.Prelude.{◌≡◌, IfOk, IsErrOf};
+ghost use Rattle.sdd_base.specs.declared.event.Event.TheVariants.{Redeclare};
+ghost use Rattle.sdd_log.specs.Entries.{Given, Log, with_event};
+ghost use Rattle.sdd_facts.specs.Real.{IsGood};
+ghost use Rattle.sdd_world.specs.Standing.{EndsBy, Forcing, IsNextList, StandsFor};
+
+use crate::ends::WorldEnd;
+use crate::world::World;
+use sdd_base::Event;
+use sdd_catalog::Catalogue;
+use sdd_protocol::Table;
+
+impl<'a> World<'a> {
+    /// Puts a list of classes in force at all transaction modules, at the greatest bound of their
+    /// clocks. It is an event, with a number and no record.
+    fn put_in_force(&mut self, catalogue: &'a Catalogue, table: &'a Table) -> Result<(), WorldEnd>
+        requires { (g : Given) × (log : Log) × Forcing self.old g log
+            (record { catalogue = catalogue.now; table = table.now }) }
+        ensures ok { IfOk result (λ _. (g : Given) (log : Log) → Forcing self.old g log
+            (record { catalogue = catalogue.now; table = table.now })
+            → (more : Log) × StandsFor self.new g more) }
+        ensures limit { IsErrOf result WorldEnd.Limit → (g : Given) (log : Log)
+            → Forcing self.old g log (record { catalogue = catalogue.now; table = table.now })
+            → EndsBy g }
+    {
+        if self.marks == u32::MAX {
+            return Err(WorldEnd::Limit);
+        }
+        self.marks += 1;
+        let t = self.sites.greatest_bound(self.catalogue);
+        self.sites.put_in_force(catalogue, table, t);
+        self.catalogue = catalogue;
+        Ok(())
+    }
+
+    /// Carries out rounds until nothing is in flight and everything is acknowledged, puts the next
+    /// list of classes in force with its protocol table, and adds a `Redeclare` to the events that
+    /// were given.
+    ///
+    /// # Errors
+    ///
+    /// As of `step`.
+    pub fn redeclare(
+        mut self,
+        catalogue: &'a Catalogue,
+        table: &'a Table,
+    ) -> Result<World<'a>, WorldEnd>
+        requires { (g : Given) × (log : Log) × StandsFor self g log
+            × IsGood (with_event g Redeclare) × IsNextList g catalogue.now table.now }
+        ensures log { IfOk result (λ world. (g : Given) (log : Log) → StandsFor self.entry g log
+            → IsGood (with_event g Redeclare) → IsNextList g catalogue.now table.now
+            → (more : Log) × StandsFor world (with_event g Redeclare) more) }
+        ensures limit { IsErrOf result WorldEnd.Limit → (g : Given) (log : Log)
+            → StandsFor self.entry g log → IsGood (with_event g Redeclare)
+            → IsNextList g catalogue.now table.now → EndsBy (with_event g Redeclare) }
+    {
+        self.given.push(Event::Redeclare)?;
+        self.settle_down()?;
+        self.put_in_force(catalogue, table)?;
+        Ok(self)
+    }
+}
