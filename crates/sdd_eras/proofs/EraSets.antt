@@ -1,7 +1,7 @@
 -- The sets of a class in an era, and of its transactions.
-use Rattle.std.proofs.Common.{ℕ, zero, suc, ◌+◌, ◌-◌, ◌<◌, ◌≤◌, ◌==◌, ◌≡◌, Bool, true, false, cond, ◌&&◌, List, [], ◌∷◌, ◌++◌, map, length, Option, Some, None, refl, sym, ap, ◌∙◌, subst, ◌⊎◌, inl, inr, arith}
+use Rattle.std.proofs.Common.{ℕ, ◌+◌, ◌<◌, ◌≤◌, ◌==◌, ◌≡◌, true, false, cond, ◌&&◌, List, [], ◌∷◌, ◌++◌, length, Some, None, refl, sym, ap, ◌∙◌, subst, inl, inr, arith}
 use Rattle.std.specs.Prelude.{is_some, unwrap_or, option_map, filter, find}
-use Rattle.std.specs.List.{AllByRecursion, flat_map, list_all, list_any}
+use Rattle.std.specs.List.{flat_map, list_all, list_any}
 use Rattle.std.proofs.lemmas.Bool.{and_parts, ne_eqb}
 use Rattle.sdd_base.specs.Words.{ascending, contains, head_of}
 use Rattle.sdd_base.specs.declared.number.FragNo.{FragNo}
@@ -19,7 +19,7 @@ use Rattle.sdd_lang.specs.declared.transaction.Txn.{Txn}
 use Rattle.sdd_lang.specs.Classes.{covers, class_for, fragments_in, read_set, write_set, written_by}
 use Rattle.sdd_lang.specs.Uses.{restrictions_of, use_of, part_uses, statement_uses, uses_from, uses_of}
 use Rattle.sdd_lang.proofs.ReadSetDecides.{ascending_back}
-use Rattle.sdd_eras.specs.EraOf.{HasSets, IsEraOf}
+use Rattle.sdd_eras.specs.EraOf.{IsEraOf}
 use Rattle.sdd_eras.proofs.Lists.{each_passes, at_member, first_passes, first_has}
 
 -- a catalogue with other classes

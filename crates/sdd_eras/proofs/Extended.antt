@@ -1,10 +1,9 @@
 -- Classes behind those that are there.
-use Rattle.std.proofs.Common.{ℕ, ◌≡◌, List, [], ◌∷◌, ◌++◌, map, refl, ap, sym, ◌∙◌, subst, append_assoc}
+use Rattle.std.proofs.Common.{◌≡◌, List, [], ◌∷◌, ◌++◌, map, refl, ap, sym, ◌∙◌, append_assoc}
 use Rattle.std.proofs.lemmas.List.{append-nil, map-append}
 use Rattle.sdd_catalog.specs.Catalogue.{Catalogue, catalogue_of, parts_of, class_of, fragment_names, fragment_part}
 use Rattle.sdd_catalog.specs.Eras.{extended}
-use Rattle.sdd_catalog.specs.Rules.{count_faults, relation_faults, fragment_faults, range_faults, faults_of, faults_of_class, found_from, found_in, IsValid, IsSound, TellsFirst}
-use Rattle.sdd_catalog.specs.declared.fault.CatError.{CatError}
+use Rattle.sdd_catalog.specs.Rules.{count_faults, relation_faults, fragment_faults, range_faults, faults_of, faults_of_class, found_from, found_in, IsValid, IsSound}
 use Rattle.sdd_catalog.specs.declared.fault.CatFault.{CatFault}
 use Rattle.sdd_catalog.specs.declared.parts.ClassPart.{ClassPart}
 use Rattle.sdd_catalog.specs.declared.parts.Parts.{Parts}

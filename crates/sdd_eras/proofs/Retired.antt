@@ -1,5 +1,5 @@
 -- Classes that retire keep the rules.
-use Rattle.std.proofs.Common.{ℕ, zero, suc, ◌≡◌, ◌+◌, ◌≤◌, nat_le, nat_lt, not, List, [], ◌∷◌, ◌++◌, map, take, drop, length, refl, ap, sym, ◌∙◌, subst, arith}
+use Rattle.std.proofs.Common.{ℕ, zero, suc, ◌≡◌, ◌+◌, nat_le, nat_lt, not, List, [], ◌∷◌, ◌++◌, map, take, drop, length, refl, ap, sym, ◌∙◌}
 use Rattle.std.proofs.lemmas.List.{length-map, map-append}
 use Rattle.sdd_base.specs.declared.limits.TheConstants.{MAX_CLASSES, MAX_READS}
 use Rattle.sdd_catalog.specs.Names.{Text}

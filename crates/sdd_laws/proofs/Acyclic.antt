@@ -1,5 +1,5 @@
 -- A history that keeps the laws has no cycle of precedence.
-use Rattle.std.proofs.Common.{ℕ, ◌≡◌, List, ap}
+use Rattle.std.proofs.Common.{List, ap}
 use Rattle.std.specs.Prelude.{is_some}
 use Rattle.std.specs.List.{All}
 use Rattle.sdd_base.specs.declared.number.RelNo.{RelNo}

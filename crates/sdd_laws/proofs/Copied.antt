@@ -1,13 +1,13 @@
 -- In every catalogue a fragment has a copy, so that class 0 reads it somewhere.
-use Rattle.std.proofs.Common.{ℕ, zero, suc, ◌+◌, ◌-◌, ◌<◌, ◌≤◌, ◌==◌, ◌≡◌, true, false, List, [], ◌∷◌, map, length, get_or, Some, refl, sym, ap, ◌∙◌, subst, arith, eq-eqb}
-use Rattle.std.specs.Prelude.{slice_index_or, Contains}
-use Rattle.std.specs.List.{All, AllByRecursion, list_any}
+use Rattle.std.proofs.Common.{ℕ, zero, suc, ◌≤◌, ◌==◌, ◌≡◌, true, false, List, [], ◌∷◌, map, length, Some, refl, sym, subst, arith, eq-eqb}
+use Rattle.std.specs.Prelude.{Contains}
+use Rattle.std.specs.List.{AllByRecursion}
 use Rattle.std.proofs.lemmas.Bool.{eqb-false}
 use Rattle.std.proofs.lemmas.List.{length-map}
 use Rattle.sdd_base.specs.Numbers.{dm_no}
 use Rattle.sdd_base.specs.declared.number.DmNo.{DmNo}
 use Rattle.sdd_base.proofs.Membership.{Contains-here}
-use Rattle.sdd_catalog.specs.Catalogue.{Catalogue, catalogue_of, parts_of, fragment_from, fragment_at, relation_names, has_copy, lowest_copy, numbers_to}
+use Rattle.sdd_catalog.specs.Catalogue.{Catalogue, parts_of, fragment_from, fragment_at, relation_names, has_copy, lowest_copy, numbers_to}
 use Rattle.sdd_catalog.specs.Numbers.{IsPlaced}
 use Rattle.sdd_catalog.specs.Rules.{IsSound, fragment_rules}
 use Rattle.sdd_catalog.specs.declared.parts.FragmentPart.{FragmentPart}

@@ -1,7 +1,7 @@
 -- What the laws say of a history, as the deeds of its committed transactions.
-use Rattle.std.proofs.Common.{ℕ, ◌<◌, ◌≤◌, ◌==◌, ◌≡◌, ◌≢◌, true, false, not, List, Option, Some, None, refl, sym, ap, ◌∙◌, subst, ◌⊎◌, inl, inr, arith}
+use Rattle.std.proofs.Common.{ℕ, ◌<◌, ◌≤◌, ◌==◌, ◌≡◌, true, not, List, Option, Some, None, refl, sym, ap, ◌∙◌, subst, inl, inr, arith}
 use Rattle.std.specs.Prelude.{is_some, unwrap_or, option_map}
-use Rattle.std.proofs.lemmas.Bool.{cases_eq, cases_lt, ne_eqb}
+use Rattle.std.proofs.lemmas.Bool.{cases_lt, ne_eqb}
 use Rattle.sdd_base.specs.declared.number.RelNo.{RelNo}
 use Rattle.sdd_base.specs.declared.number.Ts.{Ts}
 use Rattle.sdd_catalog.specs.Catalogue.{Catalogue, has_copy}
@@ -9,7 +9,7 @@ use Rattle.sdd_catalog.specs.Rules.{IsSound}
 use Rattle.sdd_history.specs.Records.{History}
 use Rattle.sdd_lang.specs.declared.transaction.Txn.{Txn as Text}
 use Rattle.sdd_lang.specs.Database.{Row}
-use Rattle.sdd_order.specs.Attempts.{Attempt, Committed, IsAttempt, IsCommitted, HasCommit, reads, changes, p2_time}
+use Rattle.sdd_order.specs.Attempts.{Attempt, Committed, IsAttempt, IsCommitted, reads, changes, p2_time}
 use Rattle.sdd_order.specs.Numbers.{IsModule}
 use Rattle.sdd_order.specs.Places.{event_at}
 use Rattle.sdd_order.specs.Precedence.{module_of}
@@ -17,13 +17,13 @@ use Rattle.sdd_acyclic.specs.Deeds as core
 use Rattle.sdd_acyclic.specs.Deeds.{Deeds, Txn, Starts, Applies, IsLow, IsHigh, ZeroAlone, ErasApart}
 use Rattle.sdd_laws.specs.Answers.{KeepsAnswers}
 use Rattle.sdd_laws.specs.Applies.{IsEarlier, KeepsApplies}
-use Rattle.sdd_laws.specs.Deeds.{IsSubmitted, IsAnswered, IsApplied, AppliedBefore, AnsweredBefore, Asks, Touches, GoesTo}
+use Rattle.sdd_laws.specs.Deeds.{IsSubmitted, IsAnswered, IsApplied, AppliedBefore, Asks, Touches}
 use Rattle.sdd_laws.specs.Deeds.Asks.{by_use, by_no_class as at_each}
 use Rattle.sdd_laws.specs.Deeds.GoesTo.{by_change, by_no_class}
 use Rattle.sdd_laws.specs.Eras.{Eras, AreEras, begun}
 use Rattle.sdd_laws.specs.Redeclares.{IsOfEarlierEra, KeepsEras}
-use Rattle.sdd_laws.specs.Starts.{KeepsStarts, IsBound}
-use Rattle.sdd_laws.specs.Undeclared.{IsWhollyBefore, IsWhollyAfter, KeepsUndeclared}
+use Rattle.sdd_laws.specs.Starts.{KeepsStarts}
+use Rattle.sdd_laws.specs.Undeclared.{KeepsUndeclared}
 use Rattle.sdd_laws.proofs.Counts.{one_start}
 use Rattle.sdd_order.proofs.Places.{one_submitted, same_start, commit_of, one_of_txn}
 use Rattle.sdd_laws.proofs.Reading.{reads_there}

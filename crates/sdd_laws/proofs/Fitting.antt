@@ -1,7 +1,7 @@
 -- The transactions of an era fit its catalogue, and meet the read conditions of its table.
-use Rattle.std.proofs.Common.{ℕ, ◌-◌, ◌<◌, ◌≤◌, ◌==◌, ◌≡◌, ◌↔◌, Bool, true, false, cond, List, [], ◌∷◌, map, length, Option, Some, None, refl, sym, ap, ◌∙◌, subst, ◌⊎◌, inl, inr, arith, eq-eqb}
+use Rattle.std.proofs.Common.{ℕ, ◌-◌, ◌<◌, ◌==◌, ◌≡◌, ◌↔◌, true, false, cond, List, [], ◌∷◌, map, length, Some, None, refl, sym, ap, ◌∙◌, subst, arith, eq-eqb}
 use Rattle.std.specs.Prelude.{is_some, slice_get, slice_index_or, option_map, Contains}
-use Rattle.std.specs.List.{All, AllByRecursion, list_any}
+use Rattle.std.specs.List.{All, AllByRecursion}
 use Rattle.std.proofs.lemmas.Bool.{ne_eqb, eqb-true}
 use Rattle.std.proofs.lemmas.List.Elements.{All-contains}
 use Rattle.std.proofs.lemmas.Option.{same_Some}
@@ -11,10 +11,9 @@ use Rattle.sdd_base.specs.declared.change.Change.{Change}
 use Rattle.sdd_base.specs.declared.condition.Cond.{Cond}
 use Rattle.sdd_base.specs.declared.number.FragNo.{FragNo}
 use Rattle.sdd_base.specs.declared.number.RelNo.{RelNo}
-use Rattle.sdd_catalog.specs.Catalogue.{Catalogue, has_copy, reads_at, writes}
+use Rattle.sdd_catalog.specs.Catalogue.{Catalogue, has_copy, reads_at}
 use Rattle.sdd_catalog.specs.Rules.{IsSound}
 use Rattle.sdd_catalog.specs.declared.resolved.Fragment.{Fragment}
-use Rattle.sdd_graph.specs.Edges.{IsClassOf}
 use Rattle.sdd_history.specs.declared.record.Rec.{Rec}
 use Rattle.sdd_history.specs.declared.record.Rec.TheVariants.{Commit}
 use Rattle.sdd_history.specs.Records.{History}
@@ -22,7 +21,6 @@ use Rattle.sdd_lang.specs.declared.effect.Effect.{Effect}
 use Rattle.sdd_lang.specs.declared.transaction.Txn.{Txn as Text}
 use Rattle.sdd_lang.specs.Classes.{fragments_in, write_set}
 use Rattle.sdd_lang.specs.Database.{Row}
-use Rattle.sdd_lang.specs.Effect.{effect}
 use Rattle.sdd_lang.specs.Fits.{Fits as TextFits}
 use Rattle.sdd_lang.specs.Sound.{IsDatabase}
 use Rattle.sdd_lang.proofs.EffectChanges.{lie_in_write_set}
@@ -31,19 +29,18 @@ use Rattle.sdd_protocol.specs.Conditions.{conditions, undeclared_conditions}
 use Rattle.sdd_protocol.specs.Protocols.{IsTable}
 use Rattle.sdd_protocol.specs.declared.entry.Entry.{Entry}
 use Rattle.sdd_protocol.proofs.Tables.{all_at}
-use Rattle.sdd_order.specs.Attempts.{Attempt, Committed, IsAttempt, IsCommitted, reads, changes, p2_time}
+use Rattle.sdd_order.specs.Attempts.{Attempt, Committed, IsCommitted, reads, changes, p2_time}
 use Rattle.sdd_order.specs.Numbers.{ExistsIn, ChangeExists, IsFragment, NumbersExist}
 use Rattle.sdd_order.specs.Places.{Stands, event_at}
 use Rattle.sdd_order.specs.Precedence.{module_of}
-use Rattle.sdd_acyclic.specs.Deeds as core
-use Rattle.sdd_acyclic.specs.Deeds.{Txn, IsSeen}
+use Rattle.sdd_acyclic.specs.Deeds.{IsSeen}
 use Rattle.sdd_acyclic.specs.Eras.{of_era}
 use Rattle.sdd_acyclic.specs.Fits.{IsFragmentOf, Fits, Meets}
 use Rattle.sdd_acyclic.specs.Undeclared.{Declared, declared}
-use Rattle.sdd_topological.proofs.Members.{member_passes, passes_member}
+use Rattle.sdd_topological.proofs.Members.{member_passes}
 use Rattle.sdd_laws.specs.Answers.{KeepsAnswers}
 use Rattle.sdd_laws.specs.Applies.{KeepsApplies}
-use Rattle.sdd_laws.specs.Conditions.{conditions_of, IsConditionOf, KeepsConditions}
+use Rattle.sdd_laws.specs.Conditions.{IsConditionOf, KeepsConditions}
 use Rattle.sdd_laws.specs.Deeds.{IsAnswered, AppliedBefore, TouchesOne}
 use Rattle.sdd_eras.specs.EraOf.{IsEraOf}
 use Rattle.sdd_laws.specs.Eras.{Eras, AreEras, begun, in_force}
@@ -51,11 +48,11 @@ use Rattle.sdd_laws.specs.Redeclares.{KeepsEras}
 use Rattle.sdd_laws.specs.Snapshots.{base_of}
 use Rattle.sdd_laws.specs.Starts.{IsOfSubmit, KeepsStarts}
 use Rattle.sdd_order.proofs.Before.{or_left, or_right}
-use Rattle.sdd_laws.proofs.Deeds.{Placed, IsPlaced, deeds, era_of, are_starts}
+use Rattle.sdd_laws.proofs.Deeds.{Placed, deeds, are_starts}
 use Rattle.sdd_eras.proofs.EraSets.{IsCovered, write_set_in_era}
 use Rattle.sdd_laws.proofs.InForce.{force_is}
 use Rattle.sdd_eras.proofs.Lists.{at_member}
-use Rattle.sdd_laws.proofs.Reading.{IsReadAt, force_of, class_covers, read_in_force, reads_there}
+use Rattle.sdd_laws.proofs.Reading.{IsReadAt, class_covers, read_in_force, reads_there}
 
 -- a number of a list is there when they ascend
 pub each_here : (xs zs : List ℕ) → ((n : ℕ) → contains xs n ≡ true → contains zs n ≡ true)

@@ -1,11 +1,11 @@
 -- What precedes by the test precedes by the deeds, so that a cycle of the one is one of the other.
-use Rattle.std.proofs.Common.{ℕ, subst, ◌<◌, ◌==◌, ◌≡◌, ◌≢◌, nat_lt, Bool, true, false, not, ◌&&◌, ◌||◌, List, [], ◌∷◌, refl, sym, ap, ◌∙◌, ◌⊎◌, inl, inr, eq-eqb}
+use Rattle.std.proofs.Common.{ℕ, subst, ◌==◌, ◌≡◌, ◌≢◌, nat_lt, true, not, ◌&&◌, ◌||◌, List, [], ◌∷◌, refl, sym, ◌∙◌, inl, inr, eq-eqb}
 use Rattle.std.specs.Prelude.{Contains}
 use Rattle.std.specs.List.{list_any}
 use Rattle.std.proofs.lemmas.Bool.{and_parts, eqb-true, eqb-false, not-true, ltb-true, false≢true}
 use Rattle.sdd_base.specs.declared.change.Change.{Change}
 use Rattle.sdd_catalog.specs.Catalogue.{Catalogue}
-use Rattle.sdd_base.specs.Numbers.{class_no, dm_no, txn_no, time_at}
+use Rattle.sdd_base.specs.Numbers.{dm_no, txn_no}
 use Rattle.sdd_history.specs.declared.record.Rec.{Rec}
 use Rattle.sdd_history.specs.declared.record.Rec.TheVariants.{Submit, Start, Arrive, Wait, Answer, Reject, Commit, Apply, Pass, Nothing}
 use Rattle.sdd_history.specs.Records.{History}
@@ -20,7 +20,7 @@ use Rattle.sdd_acyclic.specs.System.Precedes.{by_class, by_writes, by_unseen, by
 use Rattle.sdd_topological.proofs.Members.{member_passes, passes_member}
 use Rattle.sdd_laws.specs.Deeds.{IsSubmitted, IsApplied}
 use Rattle.sdd_order.proofs.Before.{or_cases, in_turn, comes_from, apply_passes, answer_passes, is_answered}
-use Rattle.sdd_laws.proofs.Deeds.{Placed, IsPlaced, deeds}
+use Rattle.sdd_laws.proofs.Deeds.{Placed, deeds}
 
 pub is_applied : (h : History) (n d k : ℕ) (r : Rec) → Stands h k r → is_apply n d r ≡ true → IsApplied h n d k
 is_applied h n d k (Apply txn class dm ts) s t =

@@ -1,7 +1,6 @@
 -- Where attempts read: at modules that have copies of what they read.
-use Rattle.std.proofs.Common.{ℕ, ◌<◌, ◌≤◌, ◌==◌, ◌≡◌, true, List, length, Option, Some, None, refl, sym, ap, ◌∙◌, subst, ◌⊎◌, inl, inr, arith}
-use Rattle.std.specs.Prelude.{is_some, unwrap_or, map}
-use Rattle.std.specs.List.{AllByRecursion}
+use Rattle.std.proofs.Common.{ℕ, ◌≤◌, ◌≡◌, true, List, Option, Some, None, refl, sym, ap, ◌∙◌, subst, inl, inr, arith}
+use Rattle.std.specs.Prelude.{is_some, unwrap_or}
 use Rattle.std.proofs.lemmas.Bool.{cases_lt}
 use Rattle.std.proofs.lemmas.List.Elements.{recursion_from_All}
 use Rattle.sdd_base.specs.Words.{contains}
@@ -10,7 +9,7 @@ use Rattle.sdd_catalog.specs.Rules.{IsSound}
 use Rattle.sdd_catalog.proofs.Sound.{served_read}
 use Rattle.sdd_history.specs.Records.{History}
 use Rattle.sdd_lang.specs.declared.transaction.Txn.{Txn}
-use Rattle.sdd_lang.specs.Classes.{class_for, fragments_in, read_set}
+use Rattle.sdd_lang.specs.Classes.{fragments_in, read_set}
 use Rattle.sdd_lang.specs.Uses.{uses_of}
 use Rattle.sdd_lang.proofs.Sets.{IsThere, read_set_there}
 use Rattle.sdd_lang.proofs.ReadSetDecides.{ascending_back}
@@ -18,7 +17,6 @@ use Rattle.sdd_order.specs.Attempts.{Attempt, IsAttempt, reads}
 use Rattle.sdd_order.specs.Numbers.{IsModule, IsFragment, IsClass}
 use Rattle.sdd_order.specs.Places.{event_at}
 use Rattle.sdd_order.specs.Precedence.{module_of}
-use Rattle.sdd_eras.specs.EraOf.{IsEraOf}
 use Rattle.sdd_laws.specs.Eras.{Eras, AreEras, in_force}
 use Rattle.sdd_laws.specs.Starts.{IsOfSubmit, KeepsStarts}
 use Rattle.sdd_laws.proofs.Copied.{some_copy}

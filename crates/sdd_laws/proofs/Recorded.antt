@@ -1,52 +1,48 @@
 -- What the laws say of the committed transactions' texts, results and snapshots, so far as replay needs it.
-use Rattle.std.proofs.Common.{ℕ, zero, suc, ◌+◌, ◌-◌, ◌<◌, ◌≤◌, ◌==◌, ◌≡◌, ℤ, Bool, true, false, not, ◌&&◌, ◌||◌, cond, List, [], ◌∷◌, ◌++◌, map, length, take, Option, Some, None, refl, sym, ap, ◌∙◌, subst, ◌⊎◌, inl, inr, arith}
-use Rattle.std.specs.Prelude.{filter, slice_get, unwrap_or, Contains}
+use Rattle.std.proofs.Common.{ℕ, suc, ◌+◌, ◌-◌, ◌<◌, ◌≡◌, Bool, true, false, not, ◌&&◌, ◌||◌, cond, List, [], ◌∷◌, ◌++◌, take, refl, sym, ap, ◌∙◌, subst, inl, inr, arith}
+use Rattle.std.specs.Prelude.{filter, unwrap_or, Contains}
 use Rattle.std.specs.List.{All, list_any, flat_map, position_or_len}
-use Rattle.std.proofs.lemmas.Bool.{cases_Bool, false≢true, eqb-true}
+use Rattle.std.proofs.lemmas.Bool.{cases_Bool}
 use Rattle.std.proofs.lemmas.List.Elements.{All-contains, All-nil}
 use Rattle.sdd_base.specs.Numbers.{dm_no, tm_no, txn_no}
 use Rattle.sdd_base.specs.Words.{ascending, contains}
 use Rattle.sdd_base.specs.declared.number.RelNo.{RelNo}
-use Rattle.sdd_base.proofs.Membership.{Contains-nil, Contains-here, Contains-later}
+use Rattle.sdd_base.proofs.Membership.{Contains-here, Contains-later}
 use Rattle.sdd_catalog.specs.Catalogue.{Catalogue}
 use Rattle.sdd_catalog.specs.Rules.{IsSound}
-use Rattle.sdd_contents.specs.Committed.{entries_of, copy_of, all_dated}
 use Rattle.sdd_contents.proofs.Members.{Contains-flat_map, Contains-from_flat_map}
-use Rattle.sdd_copy.specs.Contents.{Dated, contents}
+use Rattle.sdd_copy.specs.Contents.{contents}
 use Rattle.sdd_history.specs.declared.record.Rec.{Rec}
 use Rattle.sdd_history.specs.declared.record.Rec.TheVariants.{Answer}
 use Rattle.sdd_history.specs.Records.{History}
-use Rattle.sdd_lang.specs.declared.effect.Effect.{Effect}
 use Rattle.sdd_lang.specs.declared.transaction.Txn.{Txn as Text}
 use Rattle.sdd_lang.specs.Classes.{fragments_in, read_set}
-use Rattle.sdd_lang.specs.Database.{Item, Row, Database, database_of}
+use Rattle.sdd_lang.specs.Database.{Item, Row, database_of}
 use Rattle.sdd_lang.specs.Effect.{effect}
 use Rattle.sdd_lang.specs.Fits.{Fits}
 use Rattle.sdd_lang.specs.Sound.{IsDatabase, PutsHeld}
-use Rattle.sdd_lang.specs.Uses.{uses_of}
 use Rattle.sdd_lang.proofs.Sets.{All-ascending}
 use Rattle.sdd_protocol.proofs.Tables.{all_at}
-use Rattle.sdd_replay.specs.Ledger.{Ledger, Reads, snapshot as snapshot_by, gathered, writers}
+use Rattle.sdd_replay.specs.Ledger.{Ledger, Reads, snapshot as snapshot_by}
 use Rattle.sdd_replay.specs.Recorded.{ArePieces, AreRecorded}
 use Rattle.sdd_replay.proofs.Snapshots.{bases_are}
-use Rattle.sdd_order.specs.Attempts.{Attempt, Committed, IsAttempt, IsCommitted, reads, committed}
+use Rattle.sdd_order.specs.Attempts.{Attempt, Committed, IsCommitted, reads, committed}
 use Rattle.sdd_order.specs.Places.{Stands, comes_before}
 use Rattle.sdd_order.specs.Precedence.{module_of, is_answer, is_apply, was_seen}
 use Rattle.sdd_order.proofs.Before.{or_cases, or_right, any_from, answer_passes, is_answered}
 use Rattle.sdd_order.proofs.Found.{from_committed, in_committed}
-use Rattle.sdd_topological.proofs.Members.{passes_member, Contains-filter, Contains-from_filter}
 use Rattle.sdd_order.proofs.Places.{same_start}
 use Rattle.sdd_acyclic.specs.Deeds.{Txn}
 use Rattle.sdd_acyclic.proofs.Deeds.{facts, answer_at}
 use Rattle.sdd_laws.specs.Answers.{KeepsAnswers}
 use Rattle.sdd_laws.specs.Applies.{KeepsApplies}
-use Rattle.sdd_laws.specs.Deeds.{txn_at, Asks}
+use Rattle.sdd_laws.specs.Deeds.{txn_at}
 use Rattle.sdd_laws.specs.Deeds.Asks.{by_use}
 use Rattle.sdd_laws.specs.Eras.{Eras, AreEras}
-use Rattle.sdd_laws.specs.Snapshots.{is_applied, first_rows, dated, dated_at, copy_at, answer_place, snapshot, items_of, base_of}
+use Rattle.sdd_laws.specs.Snapshots.{is_applied, first_rows, dated, answer_place, snapshot, items_of, base_of}
 use Rattle.sdd_laws.specs.Starts.{IsOfSubmit, KeepsStarts}
 use Rattle.sdd_laws.proofs.Counts.{one_start}
-use Rattle.sdd_laws.proofs.Deeds.{Placed, deeds, are_starts, are_applies, same_txn, starts_first, answer_after, apply_after}
+use Rattle.sdd_laws.proofs.Deeds.{deeds, are_starts, are_applies, same_txn, apply_after}
 use Rattle.sdd_laws.proofs.Fitting.{each_here}
 use Rattle.sdd_laws.proofs.Precedes.{seen_is, at_place}
 use Rattle.sdd_laws.proofs.Reading.{reads_there}

@@ -1,6 +1,6 @@
 -- The times of read conditions.
-use Rattle.std.proofs.Common.{ℕ, ◌≡◌, ◌==◌, Bool, true, false, not, cond, List, [], ◌∷◌, Option, Some, None, refl, sym, ap, ◌∙◌, subst, ◌⊎◌, inl, inr}
-use Rattle.std.specs.Prelude.{is_some, unwrap_or, option_map, filter_map, map, Contains}
+use Rattle.std.proofs.Common.{ℕ, ◌≡◌, ◌==◌, true, false, not, cond, List, [], ◌∷◌, Option, Some, None, refl, sym, ap, ◌∙◌, ◌⊎◌, inl, inr}
+use Rattle.std.specs.Prelude.{is_some, unwrap_or, option_map, map, Contains}
 use Rattle.std.specs.Option.{option_or}
 use Rattle.sdd_base.specs.Numbers.{frag_no}
 use Rattle.sdd_base.specs.Words.{ascending}

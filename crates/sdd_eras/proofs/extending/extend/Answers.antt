@@ -1,8 +1,8 @@
-use Rattle.std.proofs.Common.{◌≡◌, ◌++◌, [], ap, sym, ◌∙◌, subst}
+use Rattle.std.proofs.Common.{◌++◌, ap, sym, ◌∙◌, subst}
 use Rattle.std.proofs.lemmas.Result.{IfOk-weaker, IfErr-weaker}
-use Rattle.sdd_catalog.specs.Catalogue.{catalogue_of, parts_of}
+use Rattle.sdd_catalog.specs.Catalogue.{catalogue_of}
 use Rattle.sdd_catalog.specs.Rules.{TellsFirst, faults_of, IsValid}
-use Rattle.sdd_eras.specs.Further.{further_faults, with_classes, with_further}
+use Rattle.sdd_eras.specs.Further.{with_classes}
 use Rattle.sdd_eras.proofs.Extended.{further_are_all, extended_is}
 use Rattle.sdd_eras.proofs.extending.extend.Goals as goal
 

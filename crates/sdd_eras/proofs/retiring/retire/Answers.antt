@@ -1,4 +1,4 @@
-use Rattle.std.proofs.Common.{◌≡◌, ◌≤◌, ap, sym, ◌∙◌, subst, length}
+use Rattle.std.proofs.Common.{◌≤◌, ap, sym, ◌∙◌, subst, length}
 use Rattle.std.proofs.lemmas.Result.{IfOk-weaker}
 use Rattle.sdd_catalog.specs.Catalogue.{catalogue_of, parts_of}
 use Rattle.sdd_catalog.specs.Rules.{IsValid}

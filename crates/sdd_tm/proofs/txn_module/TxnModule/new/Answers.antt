@@ -1,9 +1,11 @@
 -- A module before its first message stands for the log of what is in force.
 use Rattle.std.proofs.Common.{refl}
+use Rattle.sdd_module.specs.SiteLog.{Force}
 use Rattle.sdd_tm.proofs.Calls.{new_stands}
 use Rattle.sdd_tm.proofs.txn_module.TxnModule.new.Goals as goal
 
 pub returns : goal.returns
 returns c =
-    new_stands (record { live = _; value = c.in_ok-new.field-0 }) c.args.whole.now (record { catalogue = c.args.catalogue.now; table = c.args.table.now }) c.args.tm refl c.in_ok-new.ensures
-    c.known.ensures.sound c.known.ensures.whole c.requires
+    let force : Force = record { catalogue = c.args.catalogue.now; table = c.args.table.now } in
+    new_stands (record { live = _; value = c.in_ok-new.field-0 }) c.args.whole.now force c.args.tm refl
+    c.in_ok-new.ensures c.known.ensures.sound c.known.ensures.whole c.requires

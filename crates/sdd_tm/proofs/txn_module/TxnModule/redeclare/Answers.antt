@@ -2,13 +2,17 @@
 use Rattle.std.proofs.Common.{◌∙◌, ap}
 use Rattle.sdd_base.specs.Kept.{Kept}
 use Rattle.sdd_base.specs.Clock.{pushed}
+use Rattle.sdd_module.specs.SiteLog.{Force}
 use Rattle.sdd_tm.specs.State.{State}
 use Rattle.sdd_tm.proofs.Calls.{redeclared_stands}
 use Rattle.sdd_tm.proofs.txn_module.TxnModule.redeclare.Goals as goal
 
 pub returns-clause-law : goal.returns-clause-law
 returns-clause-law c =
-    redeclared_stands c.args.self.now (record { live = c.self.inside.live; value = c.redeclare.new.self }) (record { catalogue = c.args.catalogue.now; table = c.args.table.now }) c.args.t.0
-    (ap (λ st. record { live = c.self.inside.live; value = st }) c.redeclare.ensures
-    ∙ ap (λ (k : Kept State). record k { value = record k.value { force = record { catalogue = c.args.catalogue.now; table = c.args.table.now }; clock = pushed k.value.clock c.args.t.0 } })
+    let force : Force = record { catalogue = c.args.catalogue.now; table = c.args.table.now } in
+    let t = c.args.t.0 in
+    let live = c.self.inside.live in
+    redeclared_stands c.args.self.now (record { live = live; value = c.redeclare.new.self }) force t
+    (ap (λ st. record { live = live; value = st }) c.redeclare.ensures
+    ∙ ap (λ (k : Kept State). record k { value = record k.value { force = force; clock = pushed k.value.clock t } })
     c.self.view_is)
