@@ -2,3 +2,4 @@ pub mod Fragments
 pub mod OtherClasses
 pub mod Rules
 pub mod Steps
+pub mod WholeSound

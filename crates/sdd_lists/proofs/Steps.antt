@@ -24,7 +24,7 @@ pub record Stands (cat last : Catalogue) (lists : List (List ClassPart)) : Type 
 abbrev pub added : Catalogue → Catalogue → List ClassPart → Catalogue
 added cat last first = extended (map (class_of (fragments_of cat)) first) last
 
-added_is : (cat last : Catalogue) (first : List ClassPart) → last.fragments ≡ cat.fragments → with_further first last ≡ added cat last first
+pub added_is : (cat last : Catalogue) (first : List ClassPart) → last.fragments ≡ cat.fragments → with_further first last ≡ added cat last first
 added_is cat last first same =
     ap (λ (fs : List Fragment). extended (map (class_of (map (λ (f : Fragment). f.name) fs)) first) last) same
 

@@ -1,0 +1,91 @@
+-- The catalogue with the classes of all lists of a valid workload is that of its own valid parts, and its names are names.
+use Rattle.std.proofs.Common.{◌≡◌, List, [], ◌∷◌, ◌++◌, map, refl, sym, ap, subst, ◌∙◌}
+use Rattle.std.specs.List.{All, AllByRecursion}
+use Rattle.std.proofs.lemmas.List.Elements.{All-from_recursion, recursion_from_All}
+use Rattle.sdd_base.specs.Name.{IsName}
+use Rattle.sdd_catalog.specs.Catalogue.{Catalogue, catalogue_of, class_of, parts_of}
+use Rattle.sdd_catalog.specs.Eras.{extended, whole}
+use Rattle.sdd_catalog.specs.Names.{Text}
+use Rattle.sdd_catalog.specs.Naming.{AreNamed, IsNamed}
+use Rattle.sdd_catalog.specs.Rules as rules_of
+use Rattle.sdd_catalog.specs.Rules.{IsSound}
+use Rattle.sdd_catalog.specs.declared.parts.ClassPart.{ClassPart}
+use Rattle.sdd_catalog.specs.declared.parts.Parts.{Parts}
+use Rattle.sdd_catalog.specs.declared.resolved.Class.{Class}
+use Rattle.sdd_catalog.specs.declared.resolved.Fragment.{Fragment}
+use Rattle.sdd_catalog.proofs.RoundTrip.{parts_back}
+use Rattle.sdd_eras.specs.Further.{further_faults, with_classes, with_further}
+use Rattle.sdd_eras.proofs.Extended.{extended_is, further_are_all}
+use Rattle.sdd_script.specs.ClassLists.{joined}
+use Rattle.sdd_script.specs.Valid.{IsValid, IsValidClass}
+use Rattle.sdd_script.specs.declared.workload.Workload.{Workload}
+use Rattle.sdd_lists.specs.InForce.{classes_in, numbered, whole_in}
+use Rattle.sdd_lists.proofs.OtherClasses.{whole_over}
+use Rattle.sdd_lists.proofs.Steps.{Stands, added_is, begins, none_broken, stands_more}
+
+-- with further classes that break no rule a catalogue is still that of its own valid parts
+extended_sound : (cat : Catalogue) (classes : List ClassPart) → IsSound cat → further_faults cat classes ≡ []
+    → IsSound (with_further classes cat)
+extended_sound cat classes sound none =
+    let parts : Parts = with_classes ((parts_of cat).classes ++ classes) (parts_of cat) in
+    let valid : rules_of.IsValid parts = further_are_all cat classes sound ∙ none in
+    let is : catalogue_of parts ≡ with_further classes cat = extended_is cat classes sound in
+    let back : parts_of (catalogue_of parts) ≡ parts = parts_back parts (catalogue_of parts) valid refl in
+    subst IsSound is (record {
+      valid = subst rules_of.IsValid (sym back) valid;
+      same = ap catalogue_of back;
+    })
+
+lists_sound : (cat last : Catalogue) (lists : List (List ClassPart)) → IsSound last → Stands cat last lists
+    → IsSound (whole last (numbered cat lists))
+lists_sound cat last [] sound s = sound
+lists_sound cat last (first ∷ lists) sound s =
+    let next : Catalogue = with_further first last in
+    let more = lists_sound cat next lists (extended_sound last first sound (none_broken cat last first lists s))
+    (stands_more cat last next first lists s refl) in
+    let same = added_is cat last first (ap (λ (c : Catalogue). c.fragments) s.is) in
+    subst (λ (c : Catalogue). IsSound (whole c (numbered cat lists))) same more
+
+pub whole_sound : (cat : Catalogue) (work : Workload) → IsSound cat → IsValid cat work → IsSound (whole_in cat work)
+whole_sound cat work sound valid =
+    lists_sound cat cat work.lists sound (begins cat cat work.lists refl valid.lists)
+
+-- names of classes
+
+abbrev HasName : Class → Type 0
+HasName c = IsName c.name
+
+both_named : (xs ys : List Class) → AllByRecursion HasName xs → AllByRecursion HasName ys → AllByRecursion HasName (xs ++ ys)
+both_named [] ys a b = b
+both_named (x ∷ xs) ys a b = (a.0, both_named xs ys a.1 b)
+
+list_named : (cat : Catalogue) (names : List Text) (first : List ClassPart) (rest : List ClassPart)
+    → AllByRecursion (IsValidClass cat) (first ++ rest)
+    → AllByRecursion HasName (map (class_of names) first) × AllByRecursion (IsValidClass cat) rest
+list_named cat names [] rest valid = (tt, valid)
+list_named cat names (c ∷ first) rest valid =
+    let here = valid.0 in
+    let more = list_named cat names first rest valid.1 in
+    ((here.named, more.0), more.1)
+
+lists_named : (cat : Catalogue) (names : List Text) (last : Catalogue) (lists : List (List ClassPart))
+    → AllByRecursion HasName last.classes → AllByRecursion (IsValidClass cat) (joined lists)
+    → AllByRecursion HasName (whole last (map (map (class_of names)) lists)).classes
+lists_named cat names last [] own valid = own
+lists_named cat names last (first ∷ lists) own valid =
+    let parts = list_named cat names first (joined lists) valid in
+    lists_named cat names (extended (map (class_of names) first) last) lists
+    (both_named last.classes (map (class_of names) first) own parts.0) parts.1
+
+pub whole_named : (cat : Catalogue) (work : Workload) → AreNamed cat → IsValid cat work → AreNamed (whole_in cat work)
+whole_named cat work named valid =
+    let names : List Text = map (λ (f : Fragment). f.name) cat.fragments in
+    let other = whole_over cat cat.classes (classes_in cat work) in
+    let listed = valid.lists in
+    record {
+      relations = subst (λ (c : Catalogue). All IsNamed c.relations) (sym other) named.relations;
+      fragments = subst (λ (c : Catalogue). All (λ (f : Fragment). IsName f.name) c.fragments) (sym other) named.fragments;
+      classes = All-from_recursion HasName (whole_in cat work).classes
+          (lists_named cat names cat work.lists (recursion_from_All HasName cat.classes named.classes)
+          (recursion_from_All (IsValidClass cat) (joined work.lists) listed.classes));
+    }
