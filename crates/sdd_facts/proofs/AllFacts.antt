@@ -113,7 +113,8 @@ low_time h t l m = omega (arith, l, m)
 early_time : (h t : ℕ) → h < 2 ^ 53 → t ≤ top h → t / 64 < 2 ^ 57
 early_time h t l m = (div-lt_iff_lt-mul (omega arith)).1 (low_time h t l m)
 
-redeclare_fits : (g : Given) → IsGood g → (log : Log) (t : ℕ) → IsLawful g log → IsWithin log → next g log ≡ Some (Redeclares t)
+redeclare_fits : (g : Given) → IsGood g → (log : Log) (t : ℕ) → IsLawful g log → IsWithin log
+    → next g log ≡ Some (Redeclares t)
     → FitsForce g.catalogue (force_at g (suc (redeclares log))) t
 redeclare_fits g good log t l w e =
     let s = (fit_of g good).small in

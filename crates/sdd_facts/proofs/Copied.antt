@@ -26,7 +26,7 @@ use Rattle.sdd_lang.proofs.EffectChanges.{entry_placed}
 use Rattle.sdd_history.specs.declared.record.Rec.TheVariants.{Answer}
 use Rattle.sdd_wire.specs.declared.msg.Msg.{Msg}
 use Rattle.sdd_wire.specs.declared.msg.Msg.TheVariants.{Read}
-use Rattle.sdd_module.specs.SiteLog.{Act, Did, Each, Records, Setting}
+use Rattle.sdd_module.specs.SiteLog.{Act, Records, Setting}
 use Rattle.sdd_module.specs.SiteLog as site
 use Rattle.sdd_copy.specs.Contents.{Dated}
 use Rattle.sdd_exec.specs.Choices.{Has}

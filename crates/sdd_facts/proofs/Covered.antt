@@ -30,7 +30,8 @@ ForceIs cat log (Submits n txn) = Unit {0}
 ForceIs cat log (Redeclared force t) = IsEraOf cat force.catalogue
 ForceIs cat log (Did act) = Unit {0}
 
-forces_are : (g : Given) → HasEras g → (at : Site) (log : whole.Log) → IsPermitted g log → Each (ForceIs g.catalogue) (local_of g at log)
+forces_are : (g : Given) → HasEras g → (at : Site) (log : whole.Log) → IsPermitted g log
+    → Each (ForceIs g.catalogue) (local_of g at log)
 forces_are g eras at = each_local g at (ForceIs g.catalogue) (record {
   handed = λ log p from n m a i. tt;
   ticked = λ log p n i. tt;
@@ -39,7 +40,8 @@ forces_are g eras at = each_local g at (ForceIs g.catalogue) (record {
   did = λ log act p due i. tt;
 })
 
-in_force_is : (s : Setting) (log : Log) → Each (ForceIs s.catalogue) log → IsEraOf s.catalogue (in_force s log).catalogue
+in_force_is : (s : Setting) (log : Log) → Each (ForceIs s.catalogue) log
+    → IsEraOf s.catalogue (in_force s log).catalogue
 in_force_is s [] h = era_of_itself s.catalogue
 in_force_is s (Handed from m ∷ log) h = in_force_is s log h.1
 in_force_is s (Ticked n ∷ log) h = in_force_is s log h.1
@@ -55,14 +57,16 @@ some_class : (c : ℕ) → (c == 0) ≡ false → 1 ≤ c
 some_class zero e = cc
 some_class (suc c) e = omega arith
 
-covers_for : (cat era : Catalogue) → IsEraOf cat era → (c : ℕ) (txn : Txn) → is_for c era txn ≡ true → Covers cat c txn
+covers_for : (cat era : Catalogue) → IsEraOf cat era → (c : ℕ) (txn : Txn) → is_for c era txn ≡ true
+    → Covers cat c txn
 covers_for cat era of c txn e = elim (same_or_not c 0) [
   | inl z ↦ inl z
   | inr n ↦ inr (covered_in_era cat era of txn c
       (covered era txn c (sym (eqb-true (class_for era txn) c (only_right (c == 0) (class_for era txn == c) n e))) (some_class c n)))
 ]
 
-submitted_covered : (g : Given) → HasEras g → (at : Site) (c : ℕ) (log : whole.Log) → IsPermitted g log
+submitted_covered : (g : Given) → HasEras g → (at : Site) (c : ℕ) (log : whole.Log)
+    → IsPermitted g log
     → Each (SubmitHas (Covers g.catalogue c) (setting_of g at) c) (local_of g at log)
 submitted_covered g eras at c = each_local g at (SubmitHas (Covers g.catalogue c) (setting_of g at) c) (record {
   handed = λ log p from n m a i. tt;
@@ -78,7 +82,8 @@ pub attempt_covered : (g : Given) → HasEras g → (c : ℕ) (log : whole.Log) 
     (local_of g (home g.catalogue c) log) ≡ Some a → Covers g.catalogue c a.text
 attempt_covered g eras c log a h e =
     let at : Site = home g.catalogue c in
-    active_so (Covers g.catalogue c) (setting_of g at) c (local_of g at log) a (home_fair g c log h) (all_new g at log h) (submitted_covered g eras at c log h) e
+    active_so (Covers g.catalogue c) (setting_of g at) c (local_of g at log) a (home_fair g c log h)
+    (all_new g at log h) (submitted_covered g eras at c log h) e
 
 pub class_within : (cat : Catalogue) (c : ℕ) (txn : Txn) → Covers cat c txn → c ≤ length cat.classes
 class_within cat c txn (inl z) = let n = z in omega arith

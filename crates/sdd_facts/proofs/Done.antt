@@ -204,7 +204,8 @@ done g (Notes ∷ log) few h = done g log few h.1
 done g (Does at act ∷ log) few h = done g log few h.1
 
 -- what is done of the lists, and what is left, is what was given
-pub redeclares_left : (g : Given) (log : Log) → AllFewTicks g.events → IsLawful g log → redeclares log + redeclares_in (left g.events log).0 ≡ redeclares_in g.events
+pub redeclares_left : (g : Given) (log : Log) → AllFewTicks g.events → IsLawful g log
+    → redeclares log + redeclares_in (left g.events log).0 ≡ redeclares_in g.events
 redeclares_left g log few h =
     let rest : List Event = (left g.events log).0 in
     let d = (done g log few h).1 in

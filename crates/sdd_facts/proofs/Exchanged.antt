@@ -110,7 +110,8 @@ rows_served g log (D d) b n ts of rows w good eras h route (Some x) e =
 rows_served g log (T t) b n ts of rows w good eras h route (Some x) e = absurd route.0
 rows_served g log U b n ts of rows w good eras h route (Some x) e = absurd route.0
 
-pub served_here : (g : Given) (log : Log) (a b : Site) (n : ℕ) (m : Msg) → IsWhole g.catalogue → FitsGiven g → HasEras g
+pub served_here : (g : Given) (log : Log) (a b : Site) (n : ℕ) (m : Msg) → IsWhole g.catalogue
+    → FitsGiven g → HasEras g
     → IsPermitted g (Hand a b n m ∷ log) → IsRouted a b m → IsServedAt (setting_of g b) (base_of g (Hand a b n m ∷ log)) (local_of g b log) a m
 served_here g log a b n (Rows ts of rows) w good eras h route =
     rows_served g log a b n ts of rows w good eras h route (active (setting_of g b) of.0 (local_of g b log)) refl

@@ -13,7 +13,7 @@ use Rattle.sdd_catalog.specs.Catalogue.{Catalogue, class_at}
 use Rattle.sdd_exec.specs.Choices.{Has}
 use Rattle.sdd_wire.specs.declared.msg.Msg.{Msg}
 use Rattle.sdd_wire.specs.declared.msg.Msg.TheVariants.{Reduce, Reject}
-use Rattle.sdd_module.specs.SiteLog.{Act, Bases, Did, Each, Handed, Records, Sends, Setting, in_force, sends_of_act}
+use Rattle.sdd_module.specs.SiteLog.{Act, Bases, Did, Each, Handed, Sends, Setting, in_force, sends_of_act}
 use Rattle.sdd_module.specs.SiteLog as site
 use Rattle.sdd_attempt.specs.Acts.{commit_act}
 use Rattle.sdd_attempt.specs.Attempts.{Attempt, active, active_handed, active_sent, asks_rows, rejects, started}
@@ -266,7 +266,8 @@ module _ (g : Given) (good : FitsGiven g) (eras : HasEras g) (c : ℕ)
   frozen_same log a copies d act h e agree here r None k =
       let P : site.Log → Type 0 = λ l. (y : IsAnswerAt a.ts l) × (y.before ≡ r.answer.before) × (y.class ≡ r.answer.class) in
       let x = subst P (sym here) (r.answer, refl, refl) in
-      let to = answer_to g good.sound c (class_within cat c a.text (attempt_covered g eras c (Does (D d) act ∷ log) a h e)) (Does (D d) act ∷ log) a d h e x.0 in
+      let to = answer_to g good.sound c (class_within cat c a.text (attempt_covered g eras c (Does (D d) act ∷ log) a h e))
+      (Does (D d) act ∷ log) a d h e x.0 in
       let copied : copies d.0 ≡ (λ f. contents f (dated (set g d.0) r.answer.before)) = agree d.0 x.0 ∙ ap (λ l. λ f. contents f (dated (set g d.0) l)) x.1 in
       let uses : uses_at_head (head (pipe r.answer.class r.answer.before)) ≡ uses_at cat c a.text d.0 =
       ap (λ l. uses_at_head (head (pipe r.answer.class l))) (sym x.1)

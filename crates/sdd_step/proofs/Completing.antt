@@ -1,5 +1,5 @@
 -- The complete log of what was given, with one event more; rounds, and when they end.
-use Rattle.std.proofs.Common.{ℕ, zero, suc, Bool, true, false, List, [], ◌∷◌, ◌++◌, ◌≡◌, refl, ap, ◌∙◌, sym, Option, Some, None}
+use Rattle.std.proofs.Common.{ℕ, zero, suc, Bool, true, false, List, [], ◌∷◌, ◌++◌, ◌≡◌, refl, ap, ◌∙◌, Option, Some, None}
 use Rattle.sdd_base.specs.Words.{or_else, tail_of}
 use Rattle.sdd_base.specs.declared.event.Event.{Event}
 use Rattle.sdd_base.specs.declared.event.Event.TheVariants.{Submit, Deliver, Lose, Repeat, Resend, Tick, Settle, Redeclare, Down, Up}
@@ -117,7 +117,8 @@ none_left g log f e = next_is_mark g log None f (ap (mark_of g log) e)
 
 -- an event more that is reached by rounds
 
-more_rounds : (g : Given) (log : Log) (q : Bool) (r ws : List Event) (e : Event) → mark_from g log q r ws ≡ None → EndsIn e (ws ++ e ∷ [])
+more_rounds : (g : Given) (log : Log) (q : Bool) (r ws : List Event) (e : Event)
+    → mark_from g log q r ws ≡ None → EndsIn e (ws ++ e ∷ [])
 more_rounds g log q r [] e h = (0, refl)
 more_rounds g log true r (Settle ∷ ws) e h = let i = more_rounds g log true r ws e h in (suc i.0, ap (λ xs. Settle ∷ xs) i.1)
 more_rounds g log false r (Settle ∷ ws) e h = cc
@@ -132,7 +133,8 @@ more_rounds g log q r (Tick t n ∷ ws) e h = cc
 more_rounds g log q r (Down d ∷ ws) e h = cc
 more_rounds g log q r (Up d ∷ ws) e h = cc
 
-by_end : (g : Given) (e : Event) (log : Log) (s : List Event × List Event) → mark_of g log s ≡ None → (ws : List Event) × (with_end e s ≡ (ws, [])) × EndsIn e ws
+by_end : (g : Given) (e : Event) (log : Log) (s : List Event × List Event) → mark_of g log s ≡ None
+    → (ws : List Event) × (with_end e s ≡ (ws, [])) × EndsIn e ws
 by_end g e log (ws, []) h = (ws ++ e ∷ [], refl, more_rounds g log (quiet (all_links g) (calls_of log)) (round (all_links g) (calls_of log)) ws e h)
 by_end g e log (ws, x ∷ r) h = cc
 
@@ -144,7 +146,8 @@ event_left g e log l h =
     let w = by_end g e log (left g.events log) n.no_next in
     (w.0, grows g e log l ∙ w.1, w.2)
 
-round_from : (g : Given) (log : Log) (r : List Event) (e : Event) (n : ℕ) → TakesRounds e → mark_from g log false r (settles_before n e) ≡ Some (Round r)
+round_from : (g : Given) (log : Log) (r : List Event) (e : Event) (n : ℕ) → TakesRounds e
+    → mark_from g log false r (settles_before n e) ≡ Some (Round r)
 round_from g log r Settle zero h = refl
 round_from g log r Redeclare zero h = refl
 round_from g log r (Submit k) zero h = absurd h
@@ -157,11 +160,13 @@ round_from g log r (Down d) zero h = absurd h
 round_from g log r (Up d) zero h = absurd h
 round_from g log r e (suc n) h = refl
 
-settled_from : (g : Given) (log : Log) (r : List Event) (n : ℕ) → mark_from g log true r (settles_before n Settle) ≡ None
+settled_from : (g : Given) (log : Log) (r : List Event) (n : ℕ)
+    → mark_from g log true r (settles_before n Settle) ≡ None
 settled_from g log r zero = refl
 settled_from g log r (suc n) = settled_from g log r n
 
-listed_from : (g : Given) (log : Log) (r : List Event) (n : ℕ) → mark_from g log true r (settles_before n Redeclare) ≡ Some (Redeclares (greatest_bound g log))
+listed_from : (g : Given) (log : Log) (r : List Event) (n : ℕ)
+    → mark_from g log true r (settles_before n Redeclare) ≡ Some (Redeclares (greatest_bound g log))
 listed_from g log r zero = refl
 listed_from g log r (suc n) = listed_from g log r n
 
@@ -170,18 +175,22 @@ none_behind zero = refl
 none_behind (suc n) = none_behind n
 
 -- the next mark, where these events are left and the links are quiet or not
-mark_at : (g : Given) (log : Log) (q : Bool) (ws : List Event) (o : Option Entry) → left g.events log ≡ (ws, []) → quiet (all_links g) (calls_of log) ≡ q
+mark_at : (g : Given) (log : Log) (q : Bool) (ws : List Event) (o : Option Entry)
+    → left g.events log ≡ (ws, []) → quiet (all_links g) (calls_of log) ≡ q
     → mark_from g log q (round (all_links g) (calls_of log)) ws ≡ o → next_mark g log ≡ o
 mark_at g log q ws o e s h = ap (mark_of g log) e ∙ ap (λ b. mark_from g log b (round (all_links g) (calls_of log)) ws) s ∙ h
 
 -- where nothing is in flight and all is acknowledged, a settle ends
-pub settled : (g : Given) (log : Log) (ws : List Event) → IsFree g log → left g.events log ≡ (ws, []) → EndsIn Settle ws → quiet (all_links g) (calls_of log) ≡ true → next g log ≡ None
+pub settled : (g : Given) (log : Log) (ws : List Event) → IsFree g log
+    → left g.events log ≡ (ws, []) → EndsIn Settle ws → quiet (all_links g) (calls_of log) ≡ true
+    → next g log ≡ None
 settled g log ws f e s q =
     let r = round (all_links g) (calls_of log) in
     next_is_mark g log None f (mark_at g log true ws None e q (ap (mark_from g log true r) s.1 ∙ settled_from g log r s.0))
 
 -- and a redeclare is next, after which nothing is left
-pub redeclare_next : (g : Given) (log : Log) (ws : List Event) → IsFree g log → left g.events log ≡ (ws, []) → EndsIn Redeclare ws → quiet (all_links g) (calls_of log) ≡ true
+pub redeclare_next : (g : Given) (log : Log) (ws : List Event) → IsFree g log
+    → left g.events log ≡ (ws, []) → EndsIn Redeclare ws → quiet (all_links g) (calls_of log) ≡ true
     → (next g log ≡ Some (Redeclares (greatest_bound g log))) × (after_mark (left g.events log) ≡ ([], []))
 redeclare_next g log ws f e s q =
     let r = round (all_links g) (calls_of log) in
@@ -191,8 +200,10 @@ redeclare_next g log ws f e s q =
     )
 
 -- else a round is next
-pub round_next : (g : Given) (log : Log) (ws : List Event) (e : Event) → IsFree g log → left g.events log ≡ (ws, []) → TakesRounds e → EndsIn e ws
-    → quiet (all_links g) (calls_of log) ≡ false → next g log ≡ Some (Round (round (all_links g) (calls_of log)))
+pub round_next : (g : Given) (log : Log) (ws : List Event) (e : Event) → IsFree g log
+    → left g.events log ≡ (ws, []) → TakesRounds e → EndsIn e ws
+    → quiet (all_links g) (calls_of log) ≡ false
+    → next g log ≡ Some (Round (round (all_links g) (calls_of log)))
 round_next g log ws e f l t s q =
     let r = round (all_links g) (calls_of log) in
     next_is_mark g log (Some (Round r)) f (mark_at g log false ws (Some (Round r)) l q (ap (mark_from g log false r) s.1 ∙ round_from g log r e s.0 t))

@@ -1,9 +1,8 @@
 -- What the mark of an event leaves, where nothing else was due.
-use Rattle.std.proofs.Common.{ℕ, zero, suc, ◌+◌, ◌<◌, ◌≤◌, Bool, true, false, List, [], ◌∷◌, ◌≡◌, refl, ap, ◌∙◌, arith, sym, subst, Option, Some, None}
+use Rattle.std.proofs.Common.{ℕ, suc, ◌≤◌, Bool, true, false, List, [], ◌∷◌, ◌≡◌, refl, ◌∙◌, sym, subst, Option, Some, None}
 use Rattle.std.specs.Bool.{if◌then◌else◌}
-use Rattle.std.specs.Prelude.{nat_lt, ◌==◌}
 use Rattle.std.proofs.lemmas.Bool.{le-ltb}
-use Rattle.sdd_base.specs.Words.{or_else, first_some}
+use Rattle.sdd_base.specs.Words.{first_some}
 use Rattle.sdd_base.specs.Sites.{same_site, sites}
 use Rattle.sdd_base.specs.declared.limits.TheConstants.{MAX_RUN_EVENTS}
 use Rattle.sdd_base.specs.declared.site.Site.{Site}
@@ -15,12 +14,12 @@ use Rattle.sdd_module.specs.SiteLog.{Act, Force, Ticked, Bases}
 use Rattle.sdd_module.specs.SiteLog as site
 use Rattle.sdd_net.specs.Links.{delivered}
 use Rattle.sdd_net.proofs.Directions.{same_is}
-use Rattle.sdd_log.specs.Entries.{Given, Log, Entry, Mark, Notes, Redeclares, marks}
-use Rattle.sdd_log.specs.Traffic.{handed, link_of, takes_part}
+use Rattle.sdd_log.specs.Entries.{Given, Log, Mark, Notes, Redeclares, marks}
+use Rattle.sdd_log.specs.Traffic.{link_of, takes_part}
 use Rattle.sdd_log.specs.Locals.{force_at, local_of, redeclares, setting_of, with_force}
 use Rattle.sdd_log.specs.Snapshots.{base_of}
-use Rattle.sdd_log.specs.Due.{next, next_in, next_at, does_at, mark_due, due_by, site_due}
-use Rattle.sdd_log.specs.Lawful.{IsLawful, IsWithin, is_past}
+use Rattle.sdd_log.specs.Due.{next, next_in, next_at, does_at, due_by, site_due}
+use Rattle.sdd_log.specs.Lawful.{is_past}
 use Rattle.sdd_log.proofs.Steps.{AllNone, all_none, none_any_base}
 use Rattle.sdd_step.specs.Resting.{AllHanded, IsMarked, Rests}
 use Rattle.sdd_step.proofs.Ticking.{none_by_redeclare, none_by_tick}
@@ -137,12 +136,14 @@ handed_still log e t same h a b part = h a b (sym (part_marked b e log t) ∙ pa
 
 -- a list of classes is put in force
 
-forced_none : (g : Given) (x : Site) (bases : Bases) (force : Force) (t : ℕ) (l : site.Log) → next_in g x bases l ≡ None → next_in g x bases (with_force x force t l) ≡ None
+forced_none : (g : Given) (x : Site) (bases : Bases) (force : Force) (t : ℕ) (l : site.Log)
+    → next_in g x bases l ≡ None → next_in g x bases (with_force x force t l) ≡ None
 forced_none g U bases force t l k = k
 forced_none g (T n) bases force t l k = none_by_redeclare (setting_of g (T n)) bases l force t k
 forced_none g (D d) bases force t l k = k
 
-redeclared_none : (g : Given) (log : Log) (t : ℕ) → site_due g log ≡ None → site_due g (Redeclares t ∷ log) ≡ None
+redeclared_none : (g : Given) (log : Log) (t : ℕ) → site_due g log ≡ None
+    → site_due g (Redeclares t ∷ log) ≡ None
 redeclared_none g log t k =
     let more : Log = Redeclares t ∷ log in
     none_at_all (next_at g log) (next_at g more) (sites g.catalogue.tms g.catalogue.dms) (λ x i.
@@ -150,13 +151,16 @@ redeclared_none g log t k =
     (none_any_base g x (base_of g log) (base_of g more) (local_of g x log) i))
     (all_none (next_at g log) (sites g.catalogue.tms g.catalogue.dms) k)
 
-part_redeclared : (x : Site) (t : ℕ) (log : Log) → takes_part x (Redeclares t ∷ log) ≡ takes_part x log
+part_redeclared : (x : Site) (t : ℕ) (log : Log)
+    → takes_part x (Redeclares t ∷ log) ≡ takes_part x log
 part_redeclared U t log = refl
 part_redeclared (T n) t log = refl
 part_redeclared (D d) t log = refl
 
 -- after it the log is at rest
-pub rests_redeclared : (g : Given) (log : Log) (t : ℕ) → Rests g log → next g log ≡ Some (Redeclares t) → suc (marks log) ≤ MAX_RUN_EVENTS → Rests g (Redeclares t ∷ log)
+pub rests_redeclared : (g : Given) (log : Log) (t : ℕ) → Rests g log
+    → next g log ≡ Some (Redeclares t) → suc (marks log) ≤ MAX_RUN_EVENTS
+    → Rests g (Redeclares t ∷ log)
 rests_redeclared g log t r n few = record {
   lawful = (n, r.lawful);
   within = (le-ltb MAX_RUN_EVENTS (suc (marks log)) few, r.within);

@@ -1,15 +1,15 @@
 -- A tick of a clock makes nothing due at its site, nor does another list of classes.
 use Rattle.std.proofs.Common.{ℕ, Bool, true, false, not, ◌≡◌, refl, ap, ◌∙◌, Option, Some, None}
 use Rattle.std.specs.Bool.{if◌then◌else◌}
-use Rattle.std.specs.Prelude.{◌==◌, ◌&&◌, nat_le, nat_lt, List, [], ◌∷◌}
+use Rattle.std.specs.Prelude.{◌==◌, ◌&&◌, nat_lt, List, [], ◌∷◌}
 use Rattle.std.specs.List.{list_all}
 use Rattle.sdd_base.specs.Words.{or_else, first_some, head_of}
-use Rattle.sdd_base.specs.Numbers.{class_no, time_at}
+use Rattle.sdd_base.specs.Numbers.{time_at}
 use Rattle.sdd_base.specs.Clock.{Ticking, pushed, ticked, bound_of}
 use Rattle.sdd_base.specs.declared.site.Site.TheVariants.{U}
 use Rattle.sdd_catalog.specs.Catalogue.{Catalogue}
 use Rattle.sdd_wire.specs.declared.msg.Msg.TheVariants.{Held}
-use Rattle.sdd_module.specs.SiteLog.{Act, Force, Redeclared, Sends, Ticked, Setting, Bases}
+use Rattle.sdd_module.specs.SiteLog.{Force, Redeclared, Sends, Ticked, Setting, Bases}
 use Rattle.sdd_module.specs.SiteLog as site
 use Rattle.sdd_attempt.specs.Queues.{Queued}
 use Rattle.sdd_attempt.specs.Attempts.{Attempt}
@@ -40,26 +40,38 @@ none_if false x y h e = refl
 abbrev with_both : views.View → Ticking → Force → views.View
 with_both v k f = record v { clock = k; force = f }
 
-null_none : (v : views.View) (k : Ticking) (f : Force) (q : views.Question) (o : Option Attempt) → tm.null_at q (tm.null_time v o q.time) ≡ None → tm.null_at q (tm.null_time (with_both v k f) o q.time) ≡ None
+null_none : (v : views.View) (k : Ticking) (f : Force) (q : views.Question) (o : Option Attempt)
+    → tm.null_at q (tm.null_time v o q.time) ≡ None
+    → tm.null_at q (tm.null_time (with_both v k f) o q.time) ≡ None
 null_none v k f q None e = cc
 null_none v k f q (Some a) e = e
 
-null_to_none : (v : views.View) (k : Ticking) (f : Force) (c : views.ClassView) (q : views.Question) → tm.null_to v c q ≡ None → tm.null_to (with_both v k f) c q ≡ None
-null_to_none v k f c q e = none_if (q.class == c.class) (tm.null_at q (tm.null_time v c.active q.time)) (tm.null_at q (tm.null_time (with_both v k f) c.active q.time)) (null_none v k f q c.active) e
+null_to_none : (v : views.View) (k : Ticking) (f : Force) (c : views.ClassView) (q : views.Question)
+    → tm.null_to v c q ≡ None → tm.null_to (with_both v k f) c q ≡ None
+null_to_none v k f c q e =
+    none_if (q.class == c.class) (tm.null_at q (tm.null_time v c.active q.time))
+    (tm.null_at q (tm.null_time (with_both v k f) c.active q.time)) (null_none v k f q c.active) e
 
-start_of_none : (cat : Catalogue) (v : views.View) (k : Ticking) (f : Force) (c : ℕ) (o : Option Queued) → tm.start_of cat v c o ≡ None → tm.start_of cat (with_both v k f) c o ≡ None
+start_of_none : (cat : Catalogue) (v : views.View) (k : Ticking) (f : Force) (c : ℕ)
+    (o : Option Queued) → tm.start_of cat v c o ≡ None → tm.start_of cat (with_both v k f) c o ≡ None
 start_of_none cat v k f c None e = refl
 start_of_none cat v k f c (Some q) e = cc
 
-start_none : (cat : Catalogue) (v : views.View) (k : Ticking) (f : Force) (c : views.ClassView) → tm.start_due cat v c ≡ None → tm.start_due cat (with_both v k f) c ≡ None
-start_none cat v k f c e = none_if (not (views.on_hold v) && views.is_idle c) (tm.start_of cat v c.class (head_of c.queue)) (tm.start_of cat (with_both v k f) c.class (head_of c.queue)) (start_of_none cat v k f c.class (head_of c.queue)) e
+start_none : (cat : Catalogue) (v : views.View) (k : Ticking) (f : Force) (c : views.ClassView)
+    → tm.start_due cat v c ≡ None → tm.start_due cat (with_both v k f) c ≡ None
+start_none cat v k f c e =
+    none_if (not (views.on_hold v) && views.is_idle c) (tm.start_of cat v c.class (head_of c.queue))
+    (tm.start_of cat (with_both v k f) c.class (head_of c.queue))
+    (start_of_none cat v k f c.class (head_of c.queue)) e
 
-held_none : (v : views.View) (k : Ticking) (f : Force) → tm.held_due v ≡ None → tm.held_due (with_both v k f) ≡ None
+held_none : (v : views.View) (k : Ticking) (f : Force) → tm.held_due v ≡ None
+    → tm.held_due (with_both v k f) ≡ None
 held_none v k f e =
     none_instead (views.on_hold v && (list_all views.is_idle v.classes && nat_lt v.holds.helds v.holds.holds))
     (Sends U (Held (time_at (bound_of v.clock))) (Some v.holds.last)) (Sends U (Held (time_at (bound_of k))) (Some v.holds.last)) e
 
-due_none : (cat : Catalogue) (bases : Bases) (v : views.View) (k : Ticking) (f : Force) → tm.due cat bases v ≡ None → tm.due cat bases (with_both v k f) ≡ None
+due_none : (cat : Catalogue) (bases : Bases) (v : views.View) (k : Ticking) (f : Force)
+    → tm.due cat bases v ≡ None → tm.due cat bases (with_both v k f) ≡ None
 due_none cat bases v k f e =
     let p = or_none (first_some (tm.exchange_due cat bases) v.classes) _ e in
     let q = or_none (first_some (tm.null_due v) v.classes) _ p.1 in
@@ -76,7 +88,8 @@ none_by_tick s bases l n e =
     let v = views.view_of s l in
     ap (tm.due s.catalogue bases) (view_step s (Ticked n) l) ∙ due_none s.catalogue bases v (ticked v.clock n) v.force e
 
-pub none_by_redeclare : (s : Setting) (bases : Bases) (l : site.Log) (force : Force) (t : ℕ) → tm.next s bases l ≡ None → tm.next s bases (Redeclared force t ∷ l) ≡ None
+pub none_by_redeclare : (s : Setting) (bases : Bases) (l : site.Log) (force : Force) (t : ℕ)
+    → tm.next s bases l ≡ None → tm.next s bases (Redeclared force t ∷ l) ≡ None
 none_by_redeclare s bases l force t e =
     let v = views.view_of s l in
     ap (tm.due s.catalogue bases) (view_step s (Redeclared force t) l) ∙ due_none s.catalogue bases v (pushed v.clock t) force e

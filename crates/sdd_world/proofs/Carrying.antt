@@ -57,12 +57,14 @@ ends_with_all g (e ∷ events) h = ends_with_all (with_event g e) events (ends_w
 
 -- the first event of a schedule that is left, and the others
 pub first_allowed : (g : Given) (events rest : List Event) (e : Event) (lists after : List ClassList) → events ≡ e ∷ rest
-    → after ≡ lists_after e lists → AreAllowed g events lists → IsAllowed g e lists × AreAllowed (with_event g e) rest after
+    → after ≡ lists_after e lists → AreAllowed g events lists
+    → IsAllowed g e lists × AreAllowed (with_event g e) rest after
 first_allowed g events rest e lists after is taken h =
     let p : IsAllowed g e lists × AreAllowed (with_event g e) rest (lists_after e lists) = subst (λ es. AreAllowed g es lists) is h in
     (p.0, subst (AreAllowed (with_event g e) rest) (sym taken) p.1)
 
-pub first_one : (g : Given) (events rest : List Event) (e : Event) (lists : List ClassList) → events ≡ e ∷ rest → AreAllowed g events lists
+pub first_one : (g : Given) (events rest : List Event) (e : Event) (lists : List ClassList)
+    → events ≡ e ∷ rest → AreAllowed g events lists
     → IsAllowed g e lists
 first_one g events rest e lists is h = (first_allowed g events rest e lists (lists_after e lists) is refl h).0
 
@@ -82,8 +84,10 @@ abbrev pub EndsIt : World → Event → List ClassList → Type 0
 EndsIt w e lists = (g : Given) (log : Log) → StandsFor w g log → IsAllowed g e lists → EndsBy (with_event g e)
 
 -- a settle is carried out as the event that it is
-pub settle_goes : (w : World) (e : Event) (lists : List ClassList) (res : Result World WorldEnd) → e ≡ Settle
-    → IfOk res (λ next. (g : Given) (log : Log) → StandsFor w g log → IsGood (with_event g Settle) → (more : Log) × StandsFor next (with_event g Settle) more)
+pub settle_goes : (w : World) (e : Event) (lists : List ClassList) (res : Result World WorldEnd)
+    → e ≡ Settle
+    → IfOk res (λ next. (g : Given) (log : Log) → StandsFor w g log → IsGood (with_event g Settle)
+    → (more : Log) × StandsFor next (with_event g Settle) more)
     → IfOk res (GoesOn w e lists)
 settle_goes w e lists (Ok next) is law = λ g log s a.
     subst (λ x. (more : Log) × StandsFor next (with_event g x) more) (sym is) (law g log s (subst (λ x. IsGood (with_event g x)) is a.good))
@@ -96,21 +100,25 @@ settle_ends w e lists is law = λ g log s a.
 
 -- a redeclare puts the first of the lists in force
 
-pub next_list : (g : Given) (lists rest : List ClassList) (first : ClassList) → lists ≡ first ∷ rest → IsAllowed g Redeclare lists
+pub next_list : (g : Given) (lists rest : List ClassList) (first : ClassList) → lists ≡ first ∷ rest
+    → IsAllowed g Redeclare lists
     → IsNextList g first.catalogue.now first.table.now
 next_list g lists rest first is a = subst (IsListed g) is (a.listed refl)
 
 pub some_list : (g : Given) (lists : List ClassList) → lists ≡ [] → IsAllowed g Redeclare lists → ⊥
 some_list g lists none a = subst (IsListed g) none (a.listed refl)
 
-pub redeclare_goes : (w : World) (e : Event) (lists : List ClassList) (res : Result World WorldEnd) → e ≡ Redeclare
+pub redeclare_goes : (w : World) (e : Event) (lists : List ClassList) (res : Result World WorldEnd)
+    → e ≡ Redeclare
     → IfOk res (GoesOn w Redeclare lists) → IfOk res (GoesOn w e lists)
 redeclare_goes w e lists (Ok next) is law = subst (λ x. GoesOn w x lists next) (sym is) law
 redeclare_goes w e lists (Err end) is law = tt
 
 -- any other event is carried out by a step
-pub step_goes : (w : World) (e : Event) (lists : List ClassList) (res : Result World WorldEnd) → takes_rounds e ≡ false
-    → IfOk res (λ next. (g : Given) (log : Log) → StandsFor w g log → IsPossible g e → IsGood (with_event g e) → (more : Log) × StandsFor next (with_event g e) more)
+pub step_goes : (w : World) (e : Event) (lists : List ClassList) (res : Result World WorldEnd)
+    → takes_rounds e ≡ false
+    → IfOk res (λ next. (g : Given) (log : Log) → StandsFor w g log → IsPossible g e
+    → IsGood (with_event g e) → (more : Log) × StandsFor next (with_event g e) more)
     → IfOk res (GoesOn w e lists)
 step_goes w e lists (Ok next) is law = λ g log s a. law g log s (a.possible is) a.good
 step_goes w e lists (Err end) is law = tt

@@ -23,9 +23,11 @@ use Rattle.sdd_world.specs.declared.sites.Sites.{Sites}
 pub record ForcedTo (m : Sites) (g : Given) (log : Log) (force : Force) (t n : ℕ) : Type 0 where
   pub forced : (k : ℕ) → 1 ≤ k → k < n → IsSiteOf g (T (tm_no k))
       → StandFor m (T (tm_no k)) (setting_of g (T (tm_no k))) (Redeclared force t ∷ local_of g (T (tm_no k)) log)
-  pub others : (at : Site) → ((k : ℕ) → at ≡ T (tm_no k) → n ≤ k) → IsSiteOf g at → StandFor m at (setting_of g at) (local_of g at log)
+  pub others : (at : Site) → ((k : ℕ) → at ≡ T (tm_no k) → n ≤ k) → IsSiteOf g at
+      → StandFor m at (setting_of g at) (local_of g at log)
 
-pub none_forced : (m : Sites) (g : Given) (log : Log) (force : Force) (t : ℕ) → AllStandFor m g log → ForcedTo m g log force t 1
+pub none_forced : (m : Sites) (g : Given) (log : Log) (force : Force) (t : ℕ) → AllStandFor m g log
+    → ForcedTo m g log force t 1
 none_forced m g log force t all = record {
   forced = λ k low high here. absurd (omega arith);
   others = λ at later here. all at here;
@@ -45,7 +47,8 @@ differ : (k n : ℕ) → k < n → (k == n) ≡ false
 differ k n l = ne_eqb k n (λ e. absurd (omega (arith, l, e)))
 
 -- what the module that comes next stands for
-pub t_stands : (m : Sites) (g : Given) (log : Log) (force : Force) (t n : ℕ) → ForcedTo m g log force t n → IsSiteOf g (T (tm_no n))
+pub t_stands : (m : Sites) (g : Given) (log : Log) (force : Force) (t n : ℕ)
+    → ForcedTo m g log force t n → IsSiteOf g (T (tm_no n))
     → StandFor m (T (tm_no n)) (setting_of g (T (tm_no n))) (local_of g (T (tm_no n)) log)
 t_stands m g log force t n f here = f.others (T (tm_no n)) (λ k e. (let same : n ≡ k = ap number_of e in omega (arith, same))) here
 
@@ -58,14 +61,17 @@ ForceLaw m m2 force t n = (setting : Setting) (l : site.Log) → StandFor m (T (
 abbrev pub OthersLaw : Sites → Sites → ℕ → Type 0
 OthersLaw m m2 n = (x : Site) (setting : Setting) (l : site.Log) → same_site x (T (tm_no n)) ≡ false → StandFor m x setting l → StandFor m2 x setting l
 
-apart_from : (at : Site) (n : ℕ) → ((k : ℕ) → at ≡ T (tm_no k) → n + 1 ≤ k) → same_site at (T (tm_no n)) ≡ false
+apart_from : (at : Site) (n : ℕ) → ((k : ℕ) → at ≡ T (tm_no k) → n + 1 ≤ k)
+    → same_site at (T (tm_no n)) ≡ false
 apart_from at n later = elim (same_site at (T (tm_no n))) as (λ b. same_site at (T (tm_no n)) ≡ b → b ≡ false) [
   | true ↦ λ p. (let l = later n (same_is at (T (tm_no n)) p) in absurd (omega (arith, l)))
   | false ↦ λ p. refl
 ] refl
 
-pub one_forced : (m m2 : Sites) (g : Given) (log : Log) (force : Force) (t n : ℕ) → ForcedTo m g log force t n → IsSiteOf g (T (tm_no n))
-    → FitsForce g.catalogue force t → ForceLaw m m2 force t n → OthersLaw m m2 n → ForcedTo m2 g log force t (n + 1)
+pub one_forced : (m m2 : Sites) (g : Given) (log : Log) (force : Force) (t n : ℕ)
+    → ForcedTo m g log force t n → IsSiteOf g (T (tm_no n))
+    → FitsForce g.catalogue force t → ForceLaw m m2 force t n → OthersLaw m m2 n
+    → ForcedTo m2 g log force t (n + 1)
 one_forced m m2 g log force t n f here fits law stay = record {
   forced = λ k low high there. elim (cases_lt k n) [
     | inl l ↦ stay (T (tm_no k)) (setting_of g (T (tm_no k))) (Redeclared force t ∷ local_of g (T (tm_no k)) log) (differ k n l) (f.forced k low l there)
@@ -79,7 +85,8 @@ one_forced m m2 g log force t n f here fits law stay = record {
 }
 
 -- behind the last number all stand for what they are to stand for
-pub all_forced : (m : Sites) (g : Given) (log : Log) (force : Force) (t n : ℕ) → n ≡ g.catalogue.tms + 1 → ForcedTo m g log force t n → AreForced m g log force t
+pub all_forced : (m : Sites) (g : Given) (log : Log) (force : Force) (t n : ℕ)
+    → n ≡ g.catalogue.tms + 1 → ForcedTo m g log force t n → AreForced m g log force t
 all_forced m g log force t n e f U here = f.others U (λ k q. cc) here
 all_forced m g log force t n e f (T k) here = let r = t_within g k here in f.forced k.0 r.0 (let high = r.1 in omega (arith, e, high)) here
 all_forced m g log force t n e f (D d) here = f.others (D d) (λ k q. cc) here
@@ -89,13 +96,15 @@ all_forced m g log force t n e f (D d) here = f.others (D d) (λ k q. cc) here
 one_less : (n m : ℕ) → n < m → m - n ≡ suc (m - (n + 1))
 one_less n m l = omega (arith, l)
 
-pub greatest_next : (f : ℕ → ℕ) (a n m b v : ℕ) → n < m → b ≡ f n → fold max a (map f (range_with_len n (m - n))) ≡ v
+pub greatest_next : (f : ℕ → ℕ) (a n m b v : ℕ) → n < m → b ≡ f n
+    → fold max a (map f (range_with_len n (m - n))) ≡ v
     → fold max (max a b) (map f (range_with_len (n + 1) (m - (n + 1)))) ≡ v
 greatest_next f a n m b v l is all =
     ap (λ x. fold max (max a x) (map f (range_with_len (n + 1) (m - (n + 1))))) is
     ∙ ap (λ k. fold max a (map f (range_with_len n k))) (sym (one_less n m l)) ∙ all
 
-pub greatest_last : (f : ℕ → ℕ) (a n m v : ℕ) → n ≡ m → fold max a (map f (range_with_len n (m - n))) ≡ v → a ≡ v
+pub greatest_last : (f : ℕ → ℕ) (a n m v : ℕ) → n ≡ m
+    → fold max a (map f (range_with_len n (m - n))) ≡ v → a ≡ v
 greatest_last f a n m v e all =
     let none : m - n ≡ 0 = omega (arith, e) in
     ap (λ k. fold max a (map f (range_with_len n k))) (sym none) ∙ all
@@ -103,5 +112,6 @@ greatest_last f a n m v e all =
 first_left : (m : ℕ) → m + 1 - 1 ≡ m
 first_left m = omega arith
 
-pub greatest_first : (f : ℕ → ℕ) (m v : ℕ) → fold max 0 (map f (range_with_len 1 m)) ≡ v → fold max 0 (map f (range_with_len 1 (m + 1 - 1))) ≡ v
+pub greatest_first : (f : ℕ → ℕ) (m v : ℕ) → fold max 0 (map f (range_with_len 1 m)) ≡ v
+    → fold max 0 (map f (range_with_len 1 (m + 1 - 1))) ≡ v
 greatest_first f m v e = ap (λ k. fold max 0 (map f (range_with_len 1 k))) (first_left m) ∙ e

@@ -1,5 +1,5 @@
 -- Another list of classes is put in force, once the links are quiet, over plain worlds.
-use Rattle.std.proofs.Common.{ℕ, zero, suc, ◌+◌, ◌≤◌, ◌≡◌, ◌≢◌, ◌∙◌, ap, sym, subst, refl, List, [], ◌∷◌, ◌++◌, arith}
+use Rattle.std.proofs.Common.{ℕ, zero, suc, ◌+◌, ◌≤◌, ◌≡◌, ◌≢◌, ◌∙◌, ap, sym, subst, refl, List, [], ◌∷◌, arith}
 use Rattle.std.proofs.lemmas.Bool.{lt-ltb}
 use Rattle.sdd_base.specs.declared.limits.TheConstants.{MAX_RUN_EVENTS}
 use Rattle.sdd_base.specs.declared.site.Site.TheVariants.{U}
@@ -36,7 +36,8 @@ one_in (suc n) = one_in n
 one_left : (events : List Event) → EndsIn Redeclare events → redeclares_in events ≡ 1
 one_left events e = ap redeclares_in e.1 ∙ one_in e.0
 
-pub forcing : (w : World) (g : Given) (cat : Catalogue) (table : List Entry) → IsNextList g cat table → IsSettled w (with_event g Redeclare) Redeclare
+pub forcing : (w : World) (g : Given) (cat : Catalogue) (table : List Entry)
+    → IsNextList g cat table → IsSettled w (with_event g Redeclare) Redeclare
     → (log : Log) × Forcing w (with_event g Redeclare) log (record { catalogue = cat; table = table })
 forcing w g cat table next s =
     let given : Given = with_event g Redeclare in
@@ -83,7 +84,8 @@ module _ (w : World) (g : Given) (log : Log) (force : Force) (f : Forcing w g lo
       (subst (λ x. FitsForce g.catalogue (force_at g (suc (redeclares log))) x) (sym e)
       (all_facts.redeclare g f.calm.parts.good log (greatest_bound g log) f.calm.rests.lawful f.calm.rests.within f.next_is))
 
-  sites_forced : (w2 : World) (s : Sites) (t : ℕ) → t ≡ greatest_bound g log → AreForced s g log force t → w2.sites ≡ s
+  sites_forced : (w2 : World) (s : Sites) (t : ℕ) → t ≡ greatest_bound g log
+      → AreForced s g log force t → w2.sites ≡ s
       → AllStandFor w2.sites g (Redeclares (greatest_bound g log) ∷ log)
   sites_forced w2 s t e forced is at here =
       subst (λ z. StandFor z at (setting_of g at) (local_of g at (Redeclares (greatest_bound g log) ∷ log))) (sym is)
@@ -91,8 +93,10 @@ module _ (w : World) (g : Given) (log : Log) (force : Force) (f : Forcing w g lo
       (subst (λ x. StandFor s at (setting_of g at) (with_force at force x (local_of g at log))) e (forced at here)))
 
   -- it is in force
-  pub is_forced : (w2 : World) (s : Sites) (t : ℕ) → t ≡ greatest_bound g log → w.marks ≢ MAX_RUN_EVENTS → AreForced s g log force t
-      → w2 ≡ record w { sites = s; marks = w.marks + 1; catalogue = w2.catalogue } → w2.catalogue.now ≡ force.catalogue
+  pub is_forced : (w2 : World) (s : Sites) (t : ℕ) → t ≡ greatest_bound g log
+      → w.marks ≢ MAX_RUN_EVENTS → AreForced s g log force t
+      → w2 ≡ record w { sites = s; marks = w.marks + 1; catalogue = w2.catalogue }
+      → w2.catalogue.now ≡ force.catalogue
       → (more : Log) × StandsFor w2 g more
   is_forced w2 s t e number forced same is =
       let now : ℕ = greatest_bound g log in

@@ -247,7 +247,8 @@ step_after w w2 g log e s p h = (
   },
 )
 
-pub settle_begins : (w w2 : World) (g : Given) (log : Log) (e : Event) → TakesRounds e → IsGood (with_event g e)
+pub settle_begins : (w w2 : World) (g : Given) (log : Log) (e : Event) → TakesRounds e
+    → IsGood (with_event g e)
     → StandsFor w g log → w2 ≡ record w { given = w2.given }
     → w2.given.items ≡ w.given.items ++ e ∷ []
     → Settling w2 (with_event g e) log e

@@ -1,4 +1,4 @@
-use Rattle.std.proofs.Common.{◌+◌, ◌≤◌, arith, subst}
+use Rattle.std.proofs.Common.{◌≤◌, arith, subst}
 use Rattle.sdd_base.specs.Numbers.{tm_no}
 use Rattle.sdd_base.specs.declared.site.Site.TheVariants.{T}
 use Rattle.sdd_module.specs.SiteLog.{Force}
