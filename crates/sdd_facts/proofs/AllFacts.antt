@@ -1,6 +1,5 @@
 -- All that the modules ask: what is next on a lawful log fits the module to which it goes.
-use Rattle.std.proofs.Common.{ℕ, ◌*◌, ◌+◌, ◌/◌, ◌<◌, ◌==◌, ◌^◌, ◌∷◌, ◌≡◌, ◌≤◌, Bool, Some, arith, false, if◌then◌else◌, subst, suc, sym, true}
-use Rattle.std.proofs.Math.Nat.{div-lt_iff_lt-mul}
+use Rattle.std.proofs.Common.{ℕ, ◌/◌, ◌<◌, ◌==◌, ◌^◌, ◌∷◌, ◌≡◌, ◌≤◌, Bool, Some, arith, false, if◌then◌else◌, subst, suc, sym, true}
 use Rattle.sdd_base.specs.Numbers.{tm_no}
 use Rattle.sdd_base.specs.declared.event.Event.TheVariants.{Tick}
 use Rattle.sdd_base.specs.declared.number.DmNo.{DmNo}
@@ -27,7 +26,7 @@ use Rattle.sdd_facts.specs.Given.{IsFit}
 use Rattle.sdd_facts.specs.Real.{FitsForce, IsGood, fits, fits_submit}
 use Rattle.sdd_facts.specs.Heights.{height, top}
 use Rattle.sdd_facts.proofs.OfNext.{of_next}
-use Rattle.sdd_facts.proofs.Under.{greatest_le}
+use Rattle.sdd_facts.proofs.Under.{div_le, greatest_le}
 use Rattle.sdd_facts.proofs.FitsAtD.{d_fits}
 use Rattle.sdd_facts.proofs.FitsAtT.{t_fits, u_fits}
 use Rattle.sdd_facts.proofs.Handing.{is_handed}
@@ -107,11 +106,8 @@ submit_fits g good log (D d) n txn l w e f =
     (at_home g log (D d) n (fit_of g good).small l e) in
     not_d (class_for (force_at g (redeclares log)).catalogue txn == 0) txn.tm d h
 
-low_time : (h t : ℕ) → h < 2 ^ 53 → t ≤ h * 64 + 63 → t < 2 ^ 57 * 64
-low_time h t l m = omega (arith, l, m)
-
 early_time : (h t : ℕ) → h < 2 ^ 53 → t ≤ top h → t / 64 < 2 ^ 57
-early_time h t l m = (div-lt_iff_lt-mul (omega arith)).1 (low_time h t l m)
+early_time h t l m = let d : t / 64 ≤ h = div_le t h m in omega (arith, l, d)
 
 redeclare_fits : (g : Given) → IsGood g → (log : Log) (t : ℕ) → IsLawful g log → IsWithin log
     → next g log ≡ Some (Redeclares t)

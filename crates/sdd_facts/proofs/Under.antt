@@ -50,7 +50,7 @@ MayGrow h k (Some (Did act)) = (starts_by act + h ≤ k) × ((b : Site) → AllL
 
 -- clocks
 
-div_le : (t h : ℕ) → t ≤ h * 64 + 63 → t / 64 ≤ h
+pub div_le : (t h : ℕ) → t ≤ h * 64 + 63 → t / 64 ≤ h
 div_le t h l = omega arith
 
 max_le : (a b h : ℕ) → a ≤ h → b ≤ h → max a b ≤ h
