@@ -79,10 +79,10 @@ pub fn carry_out<'a>(
     requires { (g : Given) × (log : Log) × StandsFor world g log
         × AreAllowed g events.items lists.items }
     ensures log { IfOk result (λ last. (g : Given) (log : Log) → StandsFor world.entry g log
-        → AreAllowed g events.items lists.items
+        → AreAllowed g events.items lists.entry.items
         → (more : Log) × StandsFor last (with_events g events.items) more) }
     ensures limit { IsErrOf result WorldEnd.Limit → (g : Given) (log : Log)
-        → StandsFor world.entry g log → AreAllowed g events.items lists.items
+        → StandsFor world.entry g log → AreAllowed g events.items lists.entry.items
         → EndsBy (with_events g events.items) }
 {
     let mut now = world;
