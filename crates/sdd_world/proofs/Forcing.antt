@@ -96,11 +96,11 @@ all_forced m g log force t n e f (D d) here = f.others (D d) (λ k q. cc) here
 one_less : (n m : ℕ) → n < m → m - n ≡ suc (m - (n + 1))
 one_less n m l = omega (arith, l)
 
-pub greatest_next : (f : ℕ → ℕ) (a n m b v : ℕ) → n < m → b ≡ f n
+pub greatest_next : (f : ℕ → ℕ) (a n m b new v : ℕ) → n < m → b ≡ f n → new ≡ max a b
     → fold max a (map f (range_with_len n (m - n))) ≡ v
-    → fold max (max a b) (map f (range_with_len (n + 1) (m - (n + 1)))) ≡ v
-greatest_next f a n m b v l is all =
-    ap (λ x. fold max (max a x) (map f (range_with_len (n + 1) (m - (n + 1))))) is
+    → fold max new (map f (range_with_len (n + 1) (m - (n + 1)))) ≡ v
+greatest_next f a n m b new v l is most all =
+    ap (λ x. fold max x (map f (range_with_len (n + 1) (m - (n + 1))))) (most ∙ ap (λ x. max a x) is)
     ∙ ap (λ k. fold max a (map f (range_with_len n k))) (sym (one_less n m l)) ∙ all
 
 pub greatest_last : (f : ℕ → ℕ) (a n m v : ℕ) → n ≡ m

@@ -26,8 +26,11 @@ loop-number-preserved c = λ g log is all.
     let n = c.loop-number.number in
     let at = T (tm_no n) in
     let high : n ≤ c.args.catalogue.now.tms = omega arith in
-    greatest_next (bound_at g log) c.loop-number.greatest n (c.args.catalogue.now.tms + 1) c.bound.result.0 (greatest_bound g log) (omega arith)
-    (c.bound.ensures (setting_of g at) (local_of g at log) (all at (t_here g n (omega arith) (subst (λ k. n ≤ k) is high))))
+    greatest_next (bound_at g log) c.loop-number.greatest n (c.args.catalogue.now.tms + 1)
+    c.bound.result.0 c.max-greatest.result (greatest_bound g log) (omega arith)
+    (c.bound.ensures (setting_of g at) (local_of g at log)
+    (all at (t_here g n (omega arith) (subst (λ k. n ≤ k) is high))))
+    c.max-greatest.ensures
     (c.loop-number.invariant g log is all)
 
 pub returns : goal.returns
