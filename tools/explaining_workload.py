@@ -23,14 +23,15 @@ RULES = {
     "BadNumber": ("a number is misspelled or out of range, or a text stands where a number belongs",
                   "no plus sign, no zeros in front, no -0; texts stand between \" and \"; places and ticks are 1 to 1048576"),
     "UnknownName": ("the name is of nothing that is there", "compare it with the catalogue; a transaction is submitted after its `txn`"),
-    "BadEvent": ("the site or the link isn't there, or it is of the wrong kind", "links join U and a T, U and a D, or a T and a D; "
+    "BadEvent": ("the site or the link isn't there, or it is of the wrong kind, or the event may not stand here", "links join U and a T, U and a D, or a T and a D; "
                  "transactions and ticks are of a T, `down`, `up` and `reads` of a D"),
     "WrongKind": ("a value has another kind than its column, or the number of values isn't that of the columns",
                   "give a value for each column in the catalogue's order: texts between quotes, numbers without"),
     "KeyChanged": ("an assignment changes the key", "delete the row, and put one with the other key"),
     "DuplicateTxn": ("a transaction before has the name", "rename one of the two"),
     "SubmittedTwice": ("the transaction is submitted before", "submit each once; copy the transaction under another name"),
-    "BadClass": ("a class has the name, or the fragment stands in it before, or the module has no copy of it", "rename the class, or leave out the line"),
+    "BadClass": ("another class has this name already, or the class has this fragment already, or the module has no copy of the fragment",
+                 "give the class a new name, also where it takes the place of an earlier one; read at a module that has a copy"),
     "TooMany": ("there are more than the limit", "docs/FORMATS.md, \"Limits\", has the limits"),
 }
 
@@ -49,6 +50,8 @@ def explain_line(number, rule, data, catalogue_path):
         causes = unknown(line, catalogue, whole[:number - 1])
     elif rule == "WrongKind" and catalogue:
         causes = wrong_kind(line, catalogue)
+    elif rule == "BadEvent" and line == "redeclare":
+        causes = ["each `redeclare` needs a further `list` above it, and no data module may be down"]
     elif rule == "BadEvent" and catalogue:
         causes = ["the catalogue has T1 to T%d and D1 to D%d" % (catalogue.tms, catalogue.dms)]
     elif rule == "BadNumber":
