@@ -46,8 +46,7 @@ use Rattle.sdd_upheld.proofs.Submissions.{IsSubmitIn, given_at, submit_in}
 use Rattle.sdd_rest.proofs.SinceRedeclare.{redeclares_back}
 use Rattle.sdd_rest.specs.Committed.{AllCommitted, IsNotLeft, WasCommitted}
 use Rattle.sdd_rest.specs.Finished.{IsFinished}
-use Rattle.sdd_rest.specs.Premises.{HasOneTable, HasSoundLists}
-use Rattle.sdd_rest.proofs.OneList.{one_list}
+use Rattle.sdd_rest.specs.Premises.{HasSoundLists}
 
 -- the class of a transaction by the list in force is one of the whole catalogue, and run at the transaction's module
 
@@ -79,23 +78,6 @@ home_is cat era h txn c e = elim (same_or_not c 0) [
       let here : home_by c txn ≡ T txn.tm = rw p refl in
       let there : home cat c ≡ T (tm_no (class_at cat c).tm.0) = rw p refl in
       here ∙ ap (λ n. T (tm_no n)) (sym whole) ∙ sym there)
-]
-
--- by the list of the whole catalogue
-
-pub class_within_own : (cat : Catalogue) (txn : Txn) → IsClass cat (class_for cat txn)
-class_within_own cat txn = elim (dec_le 1 (class_for cat txn)) [
-  | yes p ↦ (covered cat txn (class_for cat txn) refl p).class.to
-  | no p ↦ omega (arith, p)
-]
-
-pub home_is_own : (cat : Catalogue) (txn : Txn) (c : ℕ) → c ≡ class_for cat txn → home_by c txn ≡ home cat c
-home_is_own cat txn c e = elim (same_or_not c 0) [
-  | inl p ↦ ap (λ k. home_by k txn) p ∙ ap (home cat) (sym p)
-  | inr p ↦ (let same = covers_home cat txn c e (positive c p) in
-      let here : home_by c txn ≡ T txn.tm = rw p refl in
-      let there : home cat c ≡ T (tm_no (class_at cat c).tm.0) = rw p refl in
-      here ∙ ap (λ n. T (tm_no n)) (sym same) ∙ sym there)
 ]
 
 for_class : (g : Given) (c : ℕ) (rest : Log) (txn : Txn) → class_for (force_at g (redeclares rest)).catalogue txn ≡ c → IsForClass g c rest txn
@@ -165,12 +147,11 @@ text_of g log n k h numbered s =
 -- a submitted transaction came to the module of its class, by the list in force then
 pub record IsAtHome (g : Given) (log : Log) (n : ℕ) : Type 0 where
   pub text : Txn
-  pub text_is : txn_at g n ≡ Some text
   pub class : ℕ
   pub class_is : IsClass g.catalogue class
-  pub list : ℕ
-  pub was_in_force : list ≤ redeclares log
-  pub by_list : class ≡ class_for (force_at g list).catalogue text
+  pub later : Log
+  pub rest : Log
+  pub given : log ≡ later ++ Submitted (home g.catalogue class) n ∷ rest
   pub place : ℕ
   pub there : slice_get (submits_of (home_setting g class) class (at_home g class log)) place ≡ Some (n, text)
 
@@ -196,12 +177,11 @@ submitted_at_home g log h lists numbered n k submitted =
     let i = submitted_in (home_setting g c) c n t.text m.0 (at_home g c s.rest) (for_class g c s.rest t.text refl) in
     record {
       text = t.text;
-      text_is = t.is;
       class = c;
       class_is = class_within g.catalogue era of t.text;
-      list = redeclares s.rest;
-      was_in_force = omega (arith, back, all);
-      by_list = refl;
+      later = s.later;
+      rest = s.rest;
+      given = is;
       place = i.0;
       there = subst (λ l. slice_get (submits_of (home_setting g c) c l) i.0 ≡ Some (n, t.text)) (sym local) i.1;
     }
@@ -228,34 +208,34 @@ some_kept f (z ∷ xs) (suc i) x y h e =
     elim (f z) as (λ o. (j : ℕ) × (slice_get (cons_option o (filter_map f xs)) j ≡ Some y)) [ None ↦ r | Some w ↦ (suc r.0, r.1) ]
 
 pub record IsQueued (g : Given) (log : Log) (n : ℕ) : Type 0 where
-  pub text : Txn
-  pub text_is : txn_at g n ≡ Some text
+  pub class : ℕ
+  pub class_is : IsClass g.catalogue class
+  pub later : Log
+  pub rest : Log
+  pub given : log ≡ later ++ Submitted (home g.catalogue class) n ∷ rest
   pub place : ℕ
   pub waiting : Queued
-  pub there : slice_get (queue (home_setting g (class_for g.catalogue text)) (class_for g.catalogue text) (at_home g (class_for g.catalogue text) log)) place
-      ≡ Some waiting
+  pub there : slice_get (queue (home_setting g class) class (at_home g class log)) place ≡ Some waiting
   pub number_is : waiting.number ≡ n
 
-pub committed_or_queued : (g : Given) (log : Log) → IsPermitted g log → HasOneTable g → redeclares log ≡ 0
-    → AreNumbered g log → (n k : ℕ) → IsSubmitted (history log) n k → WasCommitted (history log) n ⊎ IsQueued g log n
-committed_or_queued g log permitted one none numbered n k submitted =
-    let x = submitted_at_home g log permitted (one_list g log one none) numbered n k submitted in
-    let from = x.was_in_force in
-    let first : x.list ≡ 0 = omega (arith, from, none) in
-    let c : ℕ = class_for g.catalogue x.text in
-    let class : x.class ≡ c = x.by_list ∙ ap (λ i. class_for (force_at g i).catalogue x.text) first ∙ ap (λ w. class_for w x.text) one.same in
-    let there : slice_get (submits_of (home_setting g c) c (at_home g c log)) x.place ≡ Some (n, x.text) =
-    subst (λ i. slice_get (submits_of (home_setting g i) i (at_home g i log)) x.place ≡ Some (n, x.text)) class x.there in
+pub committed_or_queued : (g : Given) (log : Log) → IsPermitted g log → HasSoundLists g log → AreNumbered g log
+    → (n k : ℕ) → IsSubmitted (history log) n k → WasCommitted (history log) n ⊎ IsQueued g log n
+committed_or_queued g log permitted lists numbered n k submitted =
+    let x = submitted_at_home g log permitted lists numbered n k submitted in
+    let c : ℕ = x.class in
     let q = queue_is (home_setting g c) c (at_home g c log) (home_fair g c log permitted) (all_new g (home g.catalogue c) log permitted) in
     let waiting : Queued = record { number = n; text = x.text; tries = starts_of c n (at_home g c log) } in
     elim (is_committed c n (at_home g c log)) as (λ b. is_committed c n (at_home g c log) ≡ b → WasCommitted (history log) n ⊎ IsQueued g log n) [
       | true ↦ λ e. inl (committed_there g log c n e)
       | false ↦ λ e.
           let out : queued c (at_home g c log) (n, x.text) ≡ Some waiting = rw e refl in
-          let r = some_kept (queued c (at_home g c log)) (submits_of (home_setting g c) c (at_home g c log)) x.place (n, x.text) waiting there out in
+          let r = some_kept (queued c (at_home g c log)) (submits_of (home_setting g c) c (at_home g c log)) x.place (n, x.text) waiting x.there out in
           inr (record {
-            text = x.text;
-            text_is = x.text_is;
+            class = c;
+            class_is = x.class_is;
+            later = x.later;
+            rest = x.rest;
+            given = x.given;
             place = r.0;
             waiting = waiting;
             there = ap (λ qs. slice_get qs r.0) q.is ∙ r.1;

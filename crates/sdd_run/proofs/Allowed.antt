@@ -1,5 +1,5 @@
 -- The events of a valid workload are allowed.
-use Rattle.std.proofs.Common.{ℕ, zero, suc, ◌-◌, ◌<◌, ◌≡◌, ◌∙◌, refl, ap, arith, true, false, List, [], ◌∷◌, ◌++◌, length, append_assoc, Some}
+use Rattle.std.proofs.Common.{ℕ, zero, suc, ◌-◌, ◌<◌, ◌≡◌, ◌∙◌, refl, ap, arith, drop, get_or, map, subst, sym, true, false, List, [], ◌∷◌, ◌++◌, length, append_assoc, Some}
 use Rattle.std.specs.Prelude.{slice_get, ◌&&◌}
 use Rattle.std.specs.List.{All}
 use Rattle.std.proofs.lemmas.List.Elements.{All-head, All-tail}
@@ -10,13 +10,16 @@ use Rattle.sdd_base.specs.declared.site.Site.{Site}
 use Rattle.sdd_base.specs.declared.site.Site.TheVariants.{U, T, D}
 use Rattle.sdd_catalog.specs.Catalogue.{Catalogue}
 use Rattle.sdd_net.specs.Nets.{is_site, is_link}
-use Rattle.sdd_script.specs.Redeclaring.{is_redeclare}
 use Rattle.sdd_script.specs.Valid.{IsLink, IsSite, IsValidEvent}
-use Rattle.sdd_script.proofs.NoLists.{IsNoRedeclare}
 use Rattle.sdd_log.specs.Entries.{Given, with_event}
 use Rattle.sdd_step.specs.Resting.{IsPossible}
 use Rattle.sdd_facts.specs.Real.{IsGood}
-use Rattle.sdd_world.specs.Schedules.{AreAllowed, is_settle}
+use Rattle.sdd_facts.specs.AfterEvents.{redeclares_in}
+use Rattle.sdd_facts.proofs.Done.{count_join}
+use Rattle.sdd_module.specs.SiteLog.{Force}
+use Rattle.sdd_world.specs.Schedules.{AreAllowed, lists_after, takes_rounds}
+use Rattle.sdd_world.specs.declared.schedule.ClassList.{ClassList}
+use Rattle.sdd_run.specs.Lent.{force_in}
 use Rattle.sdd_run.proofs.Homes.{within}
 
 member : {A : Type 0} (xs : List A) (i : ℕ) → i < length xs → (x : A) × (slice_get xs i ≡ Some x)
@@ -35,31 +38,121 @@ link_is cat a b h =
     ∙ ap (λ x. x && are_linked a b) (site_is cat b h.1) ∙ h.2
 
 -- what a valid event names exists
-pub possible : (g : Given) (e : Event) → IsValidEvent g.catalogue (length g.txns) e → is_redeclare e ≡ false → is_settle e ≡ false → IsPossible g e
-possible g (Submit n) h r s = let m = member g.txns (n.0 - 1) (omega (arith, h.0, h.1)) in (m.0, h.0, m.1)
-possible g (Deliver a b k) h r s = (link_is g.catalogue a b h.0, h.1.0)
-possible g (Lose a b k) h r s = (link_is g.catalogue a b h.0, h.1.0)
-possible g (Repeat a b k) h r s = (link_is g.catalogue a b h.0, h.1.0)
-possible g (Resend a b) h r s = link_is g.catalogue a b h
-possible g (Tick t n) h r s = (within t.0 g.catalogue.tms h.0.0 h.0.1, h.1.1)
-possible g Settle h r s = cc
-possible g Redeclare h r s = absurd cc
-possible g (Down d) h r s = within d.0 g.catalogue.dms h.0 h.1
-possible g (Up d) h r s = within d.0 g.catalogue.dms h.0 h.1
+pub possible : (g : Given) (e : Event) → IsValidEvent g.catalogue (length g.txns) e → takes_rounds e ≡ false → IsPossible g e
+possible g (Submit n) h s = let m = member g.txns (n.0 - 1) (omega (arith, h.0, h.1)) in (m.0, h.0, m.1)
+possible g (Deliver a b k) h s = (link_is g.catalogue a b h.0, h.1.0)
+possible g (Lose a b k) h s = (link_is g.catalogue a b h.0, h.1.0)
+possible g (Repeat a b k) h s = (link_is g.catalogue a b h.0, h.1.0)
+possible g (Resend a b) h s = link_is g.catalogue a b h
+possible g (Tick t n) h s = (within t.0 g.catalogue.tms h.0.0 h.0.1, h.1.1)
+possible g Settle h s = absurd cc
+possible g Redeclare h s = absurd cc
+possible g (Down d) h s = within d.0 g.catalogue.dms h.0 h.1
+possible g (Up d) h s = within d.0 g.catalogue.dms h.0 h.1
 
 -- what is given is good with each part of the schedule that it begins with
 abbrev pub IsGoodAlong : (Given → Type 0) → Given → List Event → Type 0
 IsGoodAlong Good g all = (xs ys : List Event) → xs ++ ys ≡ all → Good (record g { events = xs })
 
-pub allowed : (g : Given) (es all : List Event) → g.events ++ es ≡ all
-    → All (IsValidEvent g.catalogue (length g.txns)) es → All IsNoRedeclare es
-    → IsGoodAlong IsGood g all → AreAllowed g es
-allowed g [] all e valid none good = tt
-allowed g (x ∷ es) all e valid none good =
-    let further : (g.events ++ x ∷ []) ++ es ≡ all = append_assoc g.events (x ∷ []) es ∙ e in (
-      record {
-        possible = possible g x (All-head (IsValidEvent g.catalogue (length g.txns)) x es valid) (All-head IsNoRedeclare x es none);
-        good = good (g.events ++ x ∷ []) es further;
-      },
-      allowed (with_event g x) es all further (All-tail (IsValidEvent g.catalogue (length g.txns)) x es valid) (All-tail IsNoRedeclare x es none) good,
-    )
+-- what an event that puts no list in force leaves as it is
+record IsOther (e : Event) (lists : List ClassList) : Type 0 where
+  no_redeclare : e ≡ Redeclare → ⊥
+  none_taken : lists_after e lists ≡ lists
+  none_counted : redeclares_in (e ∷ []) ≡ 0
+
+-- these lists are left behind those that the events put in force, and there is one for each redeclare of the schedule
+
+abbrev AreLeft : Given → List ClassList → Type 0
+AreLeft g lists = map force_in lists ≡ drop (suc (redeclares_in g.events)) g.forces
+
+abbrev pub HasLists : Given → List Event → Type 0
+HasLists g all = (front rest : List Event) → all ≡ front ++ Redeclare ∷ rest → suc (redeclares_in front) < length g.forces
+
+record IsFirst (forces : List Force) (k : ℕ) (none : Force) (lists : List ClassList) : Type 0 where
+  list : ClassList
+  others : List ClassList
+  is : lists ≡ list ∷ others
+  force_is : get_or forces k none ≡ force_in list
+  others_are : map force_in others ≡ drop (suc k) forces
+
+first_is : (forces : List Force) (k : ℕ) (none : Force) (lists : List ClassList) → map force_in lists ≡ drop k forces → k < length forces
+    → IsFirst forces k none lists
+first_is [] k none lists h l = absurd (omega (arith, l))
+first_is (f ∷ forces) zero none [] h l = absurd (cc)
+first_is (f ∷ forces) zero none (x ∷ lists) h l =
+    let p : force_in x ≡ f = cc in
+    let q : map force_in lists ≡ forces = cc in
+    record { list = x; others = lists; is = refl; force_is = sym p; others_are = q }
+first_is (f ∷ forces) (suc k) none lists h l =
+    let i = first_is forces k none lists h (omega (arith, l)) in
+    record { list = i.list; others = i.others; is = i.is; force_is = i.force_is; others_are = i.others_are }
+
+-- one event more, and then the others
+
+module _ (all : List Event) where
+  -- what is to hold of the events that are left
+  abbrev Goes : Given → List Event → List ClassList → Type 0
+  Goes g es lists =
+      g.events ++ es ≡ all → All (IsValidEvent g.catalogue (length g.txns)) es → AreLeft g lists → HasLists g all → IsGoodAlong IsGood g all
+      → AreAllowed g es lists
+
+  other_event : (g : Given) (x : Event) (es : List Event) (lists : List ClassList) → IsOther x lists → Goes (with_event g x) es lists → Goes g (x ∷ es) lists
+  other_event g x es lists o later e valid left has good =
+      let further : (g.events ++ x ∷ []) ++ es ≡ all = append_assoc g.events (x ∷ []) es ∙ e in
+      let more = count_join g.events (x ∷ []) in
+      let none = o.none_counted in
+      let same : redeclares_in (g.events ++ x ∷ []) ≡ redeclares_in g.events = omega (arith, more, none) in (
+        record {
+          possible = possible g x (All-head (IsValidEvent g.catalogue (length g.txns)) x es valid);
+          listed = λ is. absurd (o.no_redeclare is);
+          good = good (g.events ++ x ∷ []) es further;
+        },
+        subst (AreAllowed (with_event g x) es) (sym o.none_taken)
+            (later further (All-tail (IsValidEvent g.catalogue (length g.txns)) x es valid)
+            (left ∙ ap (λ n. drop (suc n) g.forces) (sym same)) has good),
+      )
+
+  next_list : (g : Given) (es : List Event) (lists : List ClassList) → ((others : List ClassList) → Goes (with_event g Redeclare) es others)
+      → Goes g (Redeclare ∷ es) lists
+  next_list g es lists later e valid left has good =
+      let further : (g.events ++ Redeclare ∷ []) ++ es ≡ all = append_assoc g.events (Redeclare ∷ []) es ∙ e in
+      let k : ℕ = redeclares_in g.events in
+      let more = count_join g.events (Redeclare ∷ []) in
+      let one : redeclares_in (g.events ++ Redeclare ∷ []) ≡ suc k = omega (arith, more) in
+      let i = first_is g.forces (suc k) (record { catalogue = g.catalogue; table = [] }) lists left (has g.events es (sym e)) in
+      subst (AreAllowed g (Redeclare ∷ es)) (sym i.is) (
+        record {
+          possible = possible g Redeclare (All-head (IsValidEvent g.catalogue (length g.txns)) Redeclare es valid);
+          listed = λ is. i.force_is;
+          good = good (g.events ++ Redeclare ∷ []) es further;
+        },
+        later i.others further (All-tail (IsValidEvent g.catalogue (length g.txns)) Redeclare es valid)
+            (i.others_are ∙ ap (λ n. drop (suc n) g.forces) (sym one)) has good,
+      )
+
+  pub allowed : (es : List Event) (g : Given) (lists : List ClassList) → Goes g es lists
+  allowed [] g lists = λ e valid left has good. tt
+  allowed (Redeclare ∷ es) g lists = next_list g es lists (allowed es (with_event g Redeclare))
+  allowed (Submit n ∷ es) g lists =
+      other_event g (Submit n) es lists (record { no_redeclare = λ is. cc; none_taken = refl; none_counted = refl }) (allowed es (with_event g (Submit n)) lists)
+  allowed (Deliver a b k ∷ es) g lists =
+      other_event g (Deliver a b k) es lists (record { no_redeclare = λ is. cc; none_taken = refl; none_counted = refl })
+      (allowed es (with_event g (Deliver a b k)) lists)
+  allowed (Lose a b k ∷ es) g lists =
+      other_event g (Lose a b k) es lists (record { no_redeclare = λ is. cc; none_taken = refl; none_counted = refl })
+      (allowed es (with_event g (Lose a b k)) lists)
+  allowed (Repeat a b k ∷ es) g lists =
+      other_event g (Repeat a b k) es lists (record { no_redeclare = λ is. cc; none_taken = refl; none_counted = refl })
+      (allowed es (with_event g (Repeat a b k)) lists)
+  allowed (Resend a b ∷ es) g lists =
+      other_event g (Resend a b) es lists (record { no_redeclare = λ is. cc; none_taken = refl; none_counted = refl })
+      (allowed es (with_event g (Resend a b)) lists)
+  allowed (Tick t n ∷ es) g lists =
+      other_event g (Tick t n) es lists (record { no_redeclare = λ is. cc; none_taken = refl; none_counted = refl })
+      (allowed es (with_event g (Tick t n)) lists)
+  allowed (Settle ∷ es) g lists =
+      other_event g Settle es lists (record { no_redeclare = λ is. cc; none_taken = refl; none_counted = refl }) (allowed es (with_event g Settle) lists)
+  allowed (Down d ∷ es) g lists =
+      other_event g (Down d) es lists (record { no_redeclare = λ is. cc; none_taken = refl; none_counted = refl }) (allowed es (with_event g (Down d)) lists)
+  allowed (Up d ∷ es) g lists =
+      other_event g (Up d) es lists (record { no_redeclare = λ is. cc; none_taken = refl; none_counted = refl }) (allowed es (with_event g (Up d)) lists)

@@ -26,10 +26,12 @@ use Rattle.sdd_facts.specs.Bounds.{AllFewTicks}
 use Rattle.sdd_facts.specs.Heights.{ticks_of}
 use Rattle.sdd_facts.specs.Fitting.{FitsGiven}
 use Rattle.sdd_facts.specs.Real.{IsGood}
-use Rattle.sdd_facts.specs.Reading.{HasOneForce}
-use Rattle.sdd_run.specs.Runs.{begun}
+use Rattle.sdd_lists.specs.InForce.{whole_in}
+use Rattle.sdd_run.specs.Runs.{AreTables, begun}
 use Rattle.sdd_run.proofs.Allowed.{IsGoodAlong}
+use Rattle.sdd_run.proofs.Forces.{has_eras}
 use Rattle.sdd_run.proofs.Submissions.{once, once_before}
+use Rattle.sdd_run.proofs.Whole.{events_valid, rows_valid, txns_valid}
 
 -- values are numbers of 64 bits, or texts
 pub held : (v : Value) → IsValue v → IsHeld v
@@ -66,7 +68,7 @@ one_tick cat count Redeclare h = omega arith
 one_tick cat count (Down d) h = omega arith
 one_tick cat count (Up d) h = omega arith
 
-few_ticks : (cat : Catalogue) (count : ℕ) (es : List Event) → All (IsValidEvent cat count) es → AllFewTicks es
+pub few_ticks : (cat : Catalogue) (count : ℕ) (es : List Event) → All (IsValidEvent cat count) es → AllFewTicks es
 few_ticks cat count [] h = tt
 few_ticks cat count (e ∷ es) h = (
   one_tick cat count e (All-head (IsValidEvent cat count) e es h),
@@ -83,31 +85,33 @@ fronts cat count (x ∷ xs) ys h =
 front : (cat : Catalogue) (count : ℕ) (xs ys all : List Event) → xs ++ ys ≡ all → All (IsValidEvent cat count) all → All (IsValidEvent cat count) xs
 front cat count xs ys all e h = fronts cat count xs ys (subst (All (IsValidEvent cat count)) (sym e) h)
 
-module _ (cat : Catalogue) (table : List Entry) (work : Workload) (sound : IsSound cat) (valid : IsValid cat work) where
-  one_force : (es : List Event) → HasOneForce (record (begun cat table work) { events = es })
-  one_force es zero = refl
-  one_force es (suc k) = refl
+module _ (cat : Catalogue) (tables : List (List Entry)) (work : Workload) (sound : IsSound (whole_in cat work)) (valid : IsValid cat work) where
+  -- the rows of the workload make a database
+  rows_fit : IsDatabase (whole_in cat work) (database_of (whole_in cat work) work.rows)
+  rows_fit = rows_database (whole_in cat work) work.rows (rows_valid cat work valid)
 
-  pub fits_given : (es : List Event) → FitsGiven (record (begun cat table work) { events = es })
+  pub fits_given : (es : List Event) → FitsGiven (record (begun cat tables work) { events = es })
   fits_given es = record {
     sound = sound;
     txns = λ n txn e.
-        (let v = All-at (IsValidTxn cat) work.txns (n - 1) txn e valid.txns in
+        (let v = All-at (IsValidTxn (whole_in cat work)) work.txns (n - 1) txn e (txns_valid cat work valid) in
         record { fits = v.fits; held = All-weaker HoldsValues PutsHeld puts_held txn.statements v.values });
     rows = λ d.
         elim (one_of_all work.rows (numbers_to cat.dms) (d.0 - 1)) [
-          | inl e ↦ subst (λ r. IsDatabase cat (database_of cat r)) (sym e) (rows_database cat work.rows valid.rows)
-          | inr e ↦ subst (λ r. IsDatabase cat (database_of cat r)) (sym e) (no_database cat)
+          | inl e ↦ subst (λ r. IsDatabase (whole_in cat work) (database_of (whole_in cat work) r)) (sym e) rows_fit
+          | inr e ↦ subst (λ r. IsDatabase (whole_in cat work) (database_of (whole_in cat work) r)) (sym e) (no_database (whole_in cat work))
         ];
   }
 
-  pub good_along : IsGoodAlong IsGood (begun cat table work) work.events
-  good_along xs ys e = record {
-    given = fits_given xs;
-    one_force = one_force xs;
-    few_ticks = few_ticks cat (length work.txns) xs (front cat (length work.txns) xs ys work.events e valid.events);
-    once = once_before xs ys work.events e (once work.events valid.submitted);
-  }
+  module _ (tabled : AreTables cat work tables) where
+    pub good_along : IsGoodAlong IsGood (begun cat tables work) work.events
+    good_along xs ys e = record {
+      given = fits_given xs;
+      eras = has_eras cat tables work tabled;
+      few_ticks = few_ticks (whole_in cat work) (length work.txns) xs
+          (front (whole_in cat work) (length work.txns) xs ys work.events e (events_valid cat work valid));
+      once = once_before xs ys work.events e (once work.events valid.submitted);
+    }
 
-  pub good_begun : IsGood (begun cat table work)
-  good_begun = good_along [] work.events refl
+    pub good_begun : IsGood (begun cat tables work)
+    good_begun = good_along [] work.events refl

@@ -12,10 +12,11 @@ use Rattle.sdd_lang.specs.Fits.{Fits}
 use Rattle.sdd_lang.specs.declared.transaction.Txn.{Txn}
 use Rattle.sdd_net.specs.Nets.{is_site}
 use Rattle.sdd_log.specs.Due.{home_of}
-use Rattle.sdd_log.specs.Entries.{Given}
-use Rattle.sdd_log.specs.Locals.{txn_at}
+use Rattle.sdd_log.specs.Entries.{Given, Log}
+use Rattle.sdd_log.specs.Locals.{force_at, redeclares, txn_at}
 use Rattle.sdd_step.specs.Resting.{IsSiteOf}
 use Rattle.sdd_world.specs.Standing.{IsSound}
+use Rattle.sdd_run.specs.Pending.{last_home}
 
 pub within : (n most : ℕ) → 1 ≤ n → n ≤ most → (nat_le 1 n && nat_le n most) ≡ true
 within n most low high = rw (le-leb 1 n low) (le-leb n most high)
@@ -27,18 +28,19 @@ is_home : (cat : Catalogue) (tm : TmNo) (b : Bool) → 1 ≤ tm.0 → tm.0 ≤ c
 is_home cat tm true low high = refl
 is_home cat tm false low high = within tm.0 cat.tms low high
 
-pub home_there : (cat : Catalogue) (o : Option Txn) → ((txn : Txn) → o ≡ Some txn → Fits cat txn) → is_site cat.tms cat.dms (home_of cat o) ≡ true
-home_there cat None f = refl
-home_there cat (Some txn) f =
+-- by the classes of any catalogue
+home_there : (cat era : Catalogue) (o : Option Txn) → ((txn : Txn) → o ≡ Some txn → Fits cat txn) → is_site cat.tms cat.dms (home_of era o) ≡ true
+home_there cat era None f = refl
+home_there cat era (Some txn) f =
     let here = (f txn refl).module_is_there in
-    is_home cat txn.tm (class_for cat txn == 0) here.0 here.1
+    is_home cat txn.tm (class_for era txn == 0) here.0 here.1
 
 -- of what is given on a catalogue
 pub dm_of : (g : Given) (cat : Catalogue) (d : DmNo) → g.catalogue ≡ cat → 1 ≤ d.0 → d.0 ≤ cat.dms → IsSiteOf g (D d)
 dm_of g cat d same low high = is_dm g.catalogue d low (subst (λ (k : Catalogue). d.0 ≤ k.dms) (sym same) high)
 
-pub home_of_given : (g : Given) (n : ℕ) → IsSound g → IsSiteOf g (home_of g.catalogue (txn_at g n))
-home_of_given g n s = home_there g.catalogue (txn_at g n) (s.txns_fit n)
+pub last_home_there : (g : Given) (log : Log) (n : ℕ) → IsSound g → IsSiteOf g (last_home g log n)
+last_home_there g log n s = home_there g.catalogue (force_at g (redeclares log)).catalogue (txn_at g n) (s.txns_fit n)
 
 -- the transaction that is read at a place
 pub txn_read : (g : Given) (n i : ℕ) (txns xs : List Txn) (txn : Txn) → txns ≡ g.txns → xs ≡ txns → i ≡ n - 1 → i < length xs → txn ≡ get_or xs i txn

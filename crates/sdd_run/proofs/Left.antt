@@ -28,7 +28,7 @@ use Rattle.sdd_laws.proofs.SameCopies.{equal_copies}
 use Rattle.sdd_laws.specs.Snapshots as laws
 use Rattle.sdd_log.specs.Due.{due_by, note_if}
 use Rattle.sdd_log.specs.Entries.{Given, Log, Mark, Notes, history}
-use Rattle.sdd_log.specs.Locals.{IsForce, force_at, local_of, redeclares, setting_of}
+use Rattle.sdd_log.specs.Locals.{local_of, setting_of}
 use Rattle.sdd_log.specs.Permitted.{IsPermitted, by_event, by_mark}
 use Rattle.sdd_log.specs.Traffic.{link_of}
 use Rattle.sdd_order.specs.Attempts.{Committed, attempt_of, attempts, committed, committed_of}
@@ -36,11 +36,13 @@ use Rattle.sdd_order.specs.Orders.{IsSerial}
 use Rattle.sdd_order.specs.Places.{placed}
 use Rattle.sdd_order.specs.Precedence.{is_apply}
 use Rattle.sdd_report.specs.declared.copies.CopyTable.{CopyTable}
-use Rattle.sdd_upheld.specs.Given.{AreErasOf, HasSoundData, one_era}
+use Rattle.sdd_upheld.specs.Given.{HasSoundData}
 use Rattle.sdd_upheld.specs.Made.{IsMadeAt}
-use Rattle.sdd_upheld.proofs.OneEra.{of_one_era}
 use Rattle.sdd_upheld.proofs.SameCopies.{same_copy}
 use Rattle.sdd_upheld.proofs.Together.{copies as left_in_copies}
+use Rattle.sdd_rest.proofs.ErasOf.{are_eras_of}
+use Rattle.sdd_rest.specs.Eras.{eras_of}
+use Rattle.sdd_rest.specs.Premises.{HasSoundLists}
 use Rattle.sdd_run.specs.Copies.{rows_left, table_of, tables_at, tables_of}
 
 -- The copies at the end of a log are those before a record behind it: that of an event which finds nothing to do, as one
@@ -95,16 +97,13 @@ same_dated cat rows h n d =
     ∙ ap (λ front. dated_by cat rows (committed h) front d) (same_front h n)
 
 module _ (g : Given) (rows : List (RelNo × Row)) (log : Log) (sound : IsSound g.catalogue) (fine : HasSoundData g rows) (permitted : IsPermitted g log)
-    (force : IsForce (force_at g 0)) (force_is : (force_at g 0).catalogue ≡ g.catalogue) (none : redeclares log ≡ 0) where
-  eras_of : (l : Log) → redeclares l ≡ 0 → AreErasOf g l (one_era g.catalogue)
-  eras_of l one = of_one_era g l force force_is one
-
+    (lists : HasSoundLists g log) where
   -- the copies that the log of a data module leaves are those that the history gives
   contents_are : (d f : ℕ) → has_copy g.catalogue d f ≡ true
       → contents f (dated (setting_of g (D (dm_no d))) (local_of g (D (dm_no d)) log)) ≡ laws.copy_at g.catalogue rows (history log) d (length (history log)) f
   contents_are d f copied =
-      same_copy g rows (one_era g.catalogue) (noted log) sound fine (still_permitted g log permitted)
-      (eras_of (noted log) none) d (length (history log)) Nothing
+      same_copy g rows (eras_of g log) (noted log) sound fine (still_permitted g log permitted)
+      (are_eras_of g (noted log) lists) d (length (history log)) Nothing
       (at_the_end log) f copied
       ∙ ap (contents f) (same_dated g.catalogue rows (history log) _ d)
 
@@ -139,8 +138,8 @@ module _ (g : Given) (rows : List (RelNo × Row)) (log : Log) (sound : IsSound g
         ap (λ l. map (λ e. e.1) l) (contents_are d f copied)
         ∙ sym (map-map (λ (e : Item × Row). e.1) _ copy)
         ∙ sym (ap (map (λ (e : Item × Row). e.1))
-        (left_in_copies g rows (one_era g.catalogue) log order sound fine permitted
-        (eras_of log none) serial f d (length (history log)) all))
+        (left_in_copies g rows (eras_of g log) log order sound fine permitted
+        (are_eras_of g log lists) serial f d (length (history log)) all))
 
     -- each copy that is told of
     pub left_in : (copy : CopyTable) → Contains (tables_of g log) copy → AreAllApplied (history log) copy.frag.0 copy.dm.0 (length (history log))

@@ -1,4 +1,11 @@
 pub mod Allowed
+pub mod AtRest
+pub mod Forces
+pub mod LastHomes
+pub mod Lending
+pub mod RunOf
+pub mod Timely
+pub mod Whole
 pub mod Awaiting
 pub mod Beginning
 pub mod Homes

@@ -13,7 +13,6 @@ use Rattle.sdd_history.specs.declared.record.Rec.{Rec}
 use Rattle.sdd_history.specs.declared.record.Rec.TheVariants.{Answer, Apply, Arrive, Commit, Nothing, Pass, Reject, Start, Submit, Wait}
 use Rattle.sdd_script.proofs.WordCuts.{NonePasses}
 use Rattle.sdd_script.proofs.NamePlaces.{none_found}
-use Rattle.sdd_lang.specs.Classes.{class_for}
 use Rattle.sdd_attempt.specs.Attempts.{Attempt, active}
 use Rattle.sdd_attempt.specs.Lines.{Line}
 use Rattle.sdd_attempt.specs.Queues.{Queued, queue}
@@ -25,9 +24,8 @@ use Rattle.sdd_tm.specs.Views.{runs}
 use Rattle.sdd_umod.specs.Standing.{first_underway, is_awaiting_helds, lacking_site, standing_in}
 use Rattle.sdd_umod.specs.State as um
 use Rattle.sdd_laws.specs.Deeds.{IsSubmitted}
-use Rattle.sdd_log.specs.Due.{home_of}
 use Rattle.sdd_log.specs.Entries.{Given, Log, history}
-use Rattle.sdd_log.specs.Locals.{local_of, redeclares, setting_of, txn_at}
+use Rattle.sdd_log.specs.Locals.{local_of, setting_of}
 use Rattle.sdd_log.specs.Permitted.{IsPermitted}
 use Rattle.sdd_order.specs.Numbers.{IsClass}
 use Rattle.sdd_order.specs.Places.{Stands}
@@ -40,14 +38,15 @@ use Rattle.sdd_upheld.proofs.Beginnings.{at_map}
 use Rattle.sdd_upheld.proofs.Classes.{at_home, home_setting}
 use Rattle.sdd_upheld.proofs.Homes.{positive}
 use Rattle.sdd_waiting.proofs.ClassSites.{in_runs}
-use Rattle.sdd_rest.proofs.Committed.{IsQueued, class_within_own, committed_or_queued, home_is_own}
+use Rattle.sdd_rest.proofs.Committed.{IsQueued, committed_or_queued}
 use Rattle.sdd_rest.proofs.Lists.{either, kept_there}
 use Rattle.sdd_rest.specs.Committed.{WasCommitted}
-use Rattle.sdd_rest.specs.Premises.{HasOneTable}
+use Rattle.sdd_rest.specs.Premises.{HasSoundLists}
 use Rattle.sdd_report.specs.declared.pending.Pending.{Pending}
 use Rattle.sdd_report.specs.declared.pending.Why.{Why}
 use Rattle.sdd_report.specs.declared.pending.Why.TheVariants as reasons
-use Rattle.sdd_run.specs.Pending.{IsListed, commits, pending_as, pending_by, pending_of, reason_of, why_of}
+use Rattle.sdd_run.specs.Pending.{IsListed, commits, pending_as, pending_by, pending_of, reason_of, submitted_at, why_of}
+use Rattle.sdd_run.proofs.LastHomes.{submitted_there}
 
 -- what a queue has stands at some place of it
 
@@ -171,12 +170,12 @@ why_here g log (standings.Queued class place) h = (reasons.Queued class place, r
 why_here g log (standings.Underway class None at) h = (reasons.Underway at, refl)
 why_here g log (standings.Underway class (Some ts) at) h = (_, refl)
 
-reason_here : (g : Given) (log : Log) (n : ℕ) → IsQueued g log n → (w : Why) × (reason_of (standing_at standing_at_u standing_at_t) g log n ≡ Some w)
-reason_here g log n x =
-    let c : ℕ = class_for g.catalogue x.text in
-    let at : home_of g.catalogue (txn_at g n) ≡ home g.catalogue c = ap (home_of g.catalogue) x.text_is ∙ home_is_own g.catalogue x.text c refl in
-    let h = here_at g log c n x.place x.waiting (class_within_own g.catalogue x.text) x.there x.number_is in
-    let w = why_here g log (standing_at standing_at_u standing_at_t (home g.catalogue c) (home_setting g c) (at_home g c log) n) h in
+reason_here : (g : Given) (log : Log) (n : ℕ) → IsPermitted g log → IsQueued g log n
+    → (w : Why) × (reason_of (standing_at standing_at_u standing_at_t) (submitted_at log) g log n ≡ Some w)
+reason_here g log n permitted x =
+    let at : submitted_at log n ≡ home g.catalogue x.class = submitted_there g log x.later x.rest (home g.catalogue x.class) n permitted x.given in
+    let h = here_at g log x.class n x.place x.waiting x.class_is x.there x.number_is in
+    let w = why_here g log (standing_at standing_at_u standing_at_t (home g.catalogue x.class) (home_setting g x.class) (at_home g x.class log) n) h in
     (w.0, ap (λ s. why_of g log (standing_at standing_at_u standing_at_t s (setting_of g s) (local_of g s log) n)) at ∙ w.1)
 
 -- some record commits it, or it is listed
@@ -216,22 +215,22 @@ listed_at f (x ∷ rest) n (suc k) one e h =
     let i = listed_at f rest n k one e h in
     elim (f x) as (λ o. (j : ℕ) × (slice_get (cons_option o (filter_map f rest)) j ≡ Some one)) [ None ↦ i | Some y ↦ (suc i.0, i.1) ]
 
-pub each_listed : (g : Given) (log : Log) → IsPermitted g log → HasOneTable g → redeclares log ≡ 0 → AreNumbered g log
+pub each_listed : (g : Given) (log : Log) → IsPermitted g log → HasSoundLists g log → AreNumbered g log
     → (n k : ℕ) → IsSubmitted (history log) n k
     → WasCommitted (history log) n ⊎ IsListed (pending_of (standing_at standing_at_u standing_at_t) g log) n
-each_listed g log permitted one none numbered n k submitted =
+each_listed g log permitted lists numbered n k submitted =
     elim (list_any (commits n) (history log)) as (λ b. list_any (commits n) (history log) ≡ b
     → WasCommitted (history log) n ⊎ IsListed (pending_of (standing_at standing_at_u standing_at_t) g log) n) [
       | true ↦ λ e. inl (was_committed (history log) n e)
-      | false ↦ λ e. elim (committed_or_queued g log permitted one none numbered n k submitted) [
+      | false ↦ λ e. elim (committed_or_queued g log permitted lists numbered n k submitted) [
         | inl w ↦ inl w
         | inr x ↦
-            let w = reason_here g log n x in
+            let w = reason_here g log n permitted x in
             let left : Pending = record { txn = txn_no n; why = w.0 } in
             let reason = w.1 in
-            let is : (event : ℕ) → pending_by (standing_at standing_at_u standing_at_t) g log (history log) (event, Submit (txn_no n)) ≡ Some left =
+            let is : (event : ℕ) → pending_by (standing_at standing_at_u standing_at_t) (submitted_at log) g log (history log) (event, Submit (txn_no n)) ≡ Some left =
             λ event. rw e (ap (pending_as (txn_no n)) reason) in
-            let i = listed_at (pending_by (standing_at standing_at_u standing_at_t) g log (history log)) (history log) n k left submitted is in
+            let i = listed_at (pending_by (standing_at standing_at_u standing_at_t) (submitted_at log) g log (history log)) (history log) n k left submitted is in
             inr (record { place = i.0; one = left; there = i.1; txn_is = refl })
       ]
     ] refl

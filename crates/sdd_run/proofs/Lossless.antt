@@ -19,7 +19,7 @@ use Rattle.sdd_report.specs.declared.pending.Pending.{Pending}
 use Rattle.sdd_report.specs.declared.pending.Why.{Why}
 use Rattle.sdd_rest.proofs.Committed.{any_commit}
 use Rattle.sdd_rest.specs.Committed.{WasCommitted}
-use Rattle.sdd_run.specs.Pending.{IsListed, Telling, commits, pending_as, pending_by, pending_of, reason_of}
+use Rattle.sdd_run.specs.Pending.{Homes, IsListed, Telling, commits, pending_as, pending_by, pending_of, reason_of, submitted_at}
 use Rattle.sdd_run.specs.Standing.{times_in, times_pending}
 use Rattle.sdd_run.proofs.Once.{none_there, times_more}
 
@@ -97,28 +97,28 @@ named_so n (Some w) p e =
     let s : made ≡ p = cc in
     ap (λ (x : Pending). x.txn) s
 
-of_submit : (tell : Telling) (g : Given) (log : Log) (all : History) (e : ℕ × Rec) (p : Pending) → pending_by tell g log all e ≡ Some p
+of_submit : (tell : Telling) (homes : Homes) (g : Given) (log : Log) (all : History) (e : ℕ × Rec) (p : Pending) → pending_by tell homes g log all e ≡ Some p
     → (e.1 ≡ Submit p.txn) × (list_any (commits p.txn.0) all ≡ false)
-of_submit tell g log all (event, Submit n) p e =
+of_submit tell homes g log all (event, Submit n) p e =
     elim (list_any (commits n.0) all)
-    as (λ b. list_any (commits n.0) all ≡ b → (if b then None else pending_as n (reason_of tell g log n.0)) ≡ Some p
+    as (λ b. list_any (commits n.0) all ≡ b → (if b then None else pending_as n (reason_of tell homes g log n.0)) ≡ Some p
     → (Submit n ≡ Submit p.txn) × (list_any (commits p.txn.0) all ≡ false)) [
       | true ↦ λ q r. cc
       | false ↦ λ q r.
-          (let s = named_so n (reason_of tell g log n.0) p r in
+          (let s = named_so n (reason_of tell homes g log n.0) p r in
           (ap (λ m. Submit m) s, subst (λ (m : TxnNo). list_any (commits m.0) all ≡ false) s q))
     ] refl e
-of_submit tell g log all (event, Start txn attempt class ts p2 uses) p e = cc
-of_submit tell g log all (event, Arrive txn attempt dm) p e = cc
-of_submit tell g log all (event, Wait txn attempt dm conds) p e = cc
-of_submit tell g log all (event, Answer txn attempt dm) p e = cc
-of_submit tell g log all (event, Reject txn attempt dm class ts) p e = cc
-of_submit tell g log all (event, Commit txn attempt reply changes values rows) p e = cc
-of_submit tell g log all (event, Apply txn class dm ts) p e = cc
-of_submit tell g log all (event, Pass class dm time) p e = cc
-of_submit tell g log all (event, Nothing) p e = cc
+of_submit tell homes g log all (event, Start txn attempt class ts p2 uses) p e = cc
+of_submit tell homes g log all (event, Arrive txn attempt dm) p e = cc
+of_submit tell homes g log all (event, Wait txn attempt dm conds) p e = cc
+of_submit tell homes g log all (event, Answer txn attempt dm) p e = cc
+of_submit tell homes g log all (event, Reject txn attempt dm class ts) p e = cc
+of_submit tell homes g log all (event, Commit txn attempt reply changes values rows) p e = cc
+of_submit tell homes g log all (event, Apply txn class dm ts) p e = cc
+of_submit tell homes g log all (event, Pass class dm time) p e = cc
+of_submit tell homes g log all (event, Nothing) p e = cc
 
-commits_it : (all : History) (n : ℕ) → WasCommitted all n → list_any (commits n) all ≡ true
+pub commits_it : (all : History) (n : ℕ) → WasCommitted all n → list_any (commits n) all ≡ true
 commits_it all n w = any_commit all (commits n) n (λ e attempt reply changes values rows. same_number n) w
 
 stands_there : (h : History) (k : ℕ) (e : ℕ × Rec) (r : Rec) → slice_get h k ≡ Some e → e.1 ≡ r → Stands h k r
@@ -128,31 +128,31 @@ stands_there h k e r there is = ap (option_map (λ (x : ℕ × Rec). x.1)) there
 pub listed_submits : (tell : Telling) (g : Given) (log : Log) (j : ℕ) (p : Pending) → slice_get (pending_of tell g log) j ≡ Some p
     → (k : ℕ) × IsSubmitted (history log) p.txn.0 k
 listed_submits tell g log j p e =
-    let x = chosen_from (pending_by tell g log (history log)) (history log) j p e in
-    let s = of_submit tell g log (history log) x.entry p x.gives in
+    let x = chosen_from (pending_by tell (submitted_at log) g log (history log)) (history log) j p e in
+    let s = of_submit tell (submitted_at log) g log (history log) x.entry p x.gives in
     (x.place, stands_there (history log) x.place x.entry (Submit p.txn) x.there s.0)
 
 module _ (tell : Telling) (g : Given) (log : Log) where
   -- one that is committed isn't listed
   not_listed : (n : ℕ) → WasCommitted (history log) n → times_pending n (pending_of tell g log) ≡ 0
   not_listed n w =
-      count_none (pending_by tell g log (history log)) (history log) n (λ k e p there gives same.
+      count_none (pending_by tell (submitted_at log) g log (history log)) (history log) n (λ k e p there gives same.
       not_both (list_any (commits p.txn.0) (history log))
       (subst (λ m. list_any (commits m) (history log) ≡ true) (sym same) (commits_it (history log) n w))
-      (of_submit tell g log (history log) e p gives).1)
+      (of_submit tell (submitted_at log) g log (history log) e p gives).1)
 
   -- one that is listed is listed once, and isn't committed
   listed_once : ((n j k : ℕ) → IsSubmitted (history log) n j → IsSubmitted (history log) n k → j ≡ k)
       → (n : ℕ) → IsListed (pending_of tell g log) n → (times_pending n (pending_of tell g log) ≡ 1) × (list_any (commits n) (history log) ≡ false)
   listed_once one n x =
-      let c = chosen_from (pending_by tell g log (history log)) (history log) x.place x.one x.there in
-      let submit = of_submit tell g log (history log) c.entry x.one c.gives in
+      let c = chosen_from (pending_by tell (submitted_at log) g log (history log)) (history log) x.place x.one x.there in
+      let submit = of_submit tell (submitted_at log) g log (history log) c.entry x.one c.gives in
       let at : (j : ℕ) (e : ℕ × Rec) (q : Pending) → slice_get (history log) j ≡ Some e
-      → pending_by tell g log (history log) e ≡ Some q → q.txn.0 ≡ n → IsSubmitted (history log) n j =
+      → pending_by tell (submitted_at log) g log (history log) e ≡ Some q → q.txn.0 ≡ n → IsSubmitted (history log) n j =
       λ j e q there gives same.
       stands_there (history log) j e (Submit (txn_no n)) there
-      ((of_submit tell g log (history log) e q gives).0 ∙ ap (λ m. Submit (txn_no m)) same) in (
-        count_one (pending_by tell g log (history log)) (history log) n c.place c.entry x.one c.there c.gives x.txn_is
+      ((of_submit tell (submitted_at log) g log (history log) e q gives).0 ∙ ap (λ m. Submit (txn_no m)) same) in (
+        count_one (pending_by tell (submitted_at log) g log (history log)) (history log) n c.place c.entry x.one c.there c.gives x.txn_is
             (λ j e q there gives same. one n j c.place (at j e q there gives same) (at c.place c.entry x.one c.there c.gives x.txn_is)),
         subst (λ m. list_any (commits m) (history log) ≡ false) x.txn_is submit.1,
       )

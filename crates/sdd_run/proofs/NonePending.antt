@@ -7,9 +7,9 @@ use Rattle.sdd_invariants.proofs.Bools.{same_number}
 use Rattle.sdd_log.specs.Entries.{Given, Log, history}
 use Rattle.sdd_rest.proofs.Committed.{any_commit, none_left}
 use Rattle.sdd_rest.specs.Committed.{AllCommitted, IsNotLeft}
-use Rattle.sdd_run.specs.Pending.{Telling, commits, pending_by, pending_of}
+use Rattle.sdd_run.specs.Pending.{Telling, commits, pending_by, pending_of, submitted_at}
 
-not_pending : (tell : Telling) (g : Given) (log : Log) (all : History) (x : ℕ × Rec) → IsNotLeft all x → pending_by tell g log all x ≡ None
+not_pending : (tell : Telling) (g : Given) (log : Log) (all : History) (x : ℕ × Rec) → IsNotLeft all x → pending_by tell (submitted_at log) g log all x ≡ None
 not_pending tell g log all (event, Submit n) h = rw (any_commit all (commits n.0) n.0 (λ e attempt reply changes values rows. same_number n.0) h) refl
 not_pending tell g log all (event, Start txn attempt class ts p2 uses) h = refl
 not_pending tell g log all (event, Arrive txn attempt dm) h = refl
@@ -22,4 +22,4 @@ not_pending tell g log all (event, Pass class dm time) h = refl
 not_pending tell g log all (event, Nothing) h = refl
 
 pub none_pending : (tell : Telling) (g : Given) (log : Log) → AllCommitted (history log) → pending_of tell g log ≡ []
-none_pending tell g log all = none_left (history log) (pending_by tell g log (history log)) all (not_pending tell g log (history log))
+none_pending tell g log all = none_left (history log) (pending_by tell (submitted_at log) g log (history log)) all (not_pending tell g log (history log))

@@ -1,5 +1,6 @@
 -- A run has one report, and one summary.
-use Rattle.std.proofs.Common.{ℕ, ◌≡◌, ◌∙◌, List, ap, length, subst, sym}
+use Rattle.std.proofs.Common.{ℕ, ◌≡◌, ◌∙◌, List, [], ◌∷◌, ap, length, refl, subst, sym}
+use Rattle.std.specs.List.{AllZip}
 use Rattle.sdd_catalog.specs.Catalogue.{Catalogue}
 use Rattle.sdd_protocol.specs.Protocols.{IsTable}
 use Rattle.sdd_protocol.specs.declared.entry.Entry.{Entry}
@@ -11,24 +12,38 @@ use Rattle.sdd_log.specs.Lawful.{IsTheLog}
 use Rattle.sdd_log.proofs.One.{one_log}
 use Rattle.sdd_report.specs.Report.{report_text}
 use Rattle.sdd_run.specs.Reports.{report_of}
-use Rattle.sdd_run.specs.Runs.{IsReportOn, IsSummaryOn, given_of}
+use Rattle.sdd_lists.specs.InForce.{eras_in}
+use Rattle.sdd_run.specs.Runs.{AreTables, IsReportOn, IsSummaryOn, given_of}
 
--- what is made of the log of a run by its table is one thing
-one_made : {A : Type 0} (cat : Catalogue) (work : Workload) (make : List Entry → Log → A) (a b : List Entry) (l m : Log) → IsTable cat a → IsTable cat b
+-- the protocol tables of catalogues are one list
+pub one_list_of_tables : (cats : List Catalogue) (a b : List (List Entry)) → AllZip IsTable cats a → AllZip IsTable cats b → a ≡ b
+one_list_of_tables [] [] [] x y = refl
+one_list_of_tables [] (t ∷ ts) b x y = absurd x
+one_list_of_tables [] [] (t ∷ ts) x y = absurd y
+one_list_of_tables (cat ∷ cats) [] b x y = absurd x
+one_list_of_tables (cat ∷ cats) (s ∷ a) [] x y = absurd y
+one_list_of_tables (cat ∷ cats) (s ∷ a) (t ∷ b) x y =
+    ap (λ z. z ∷ a) (one_table cat s t x.0 y.0) ∙ ap (λ zs. t ∷ zs) (one_list_of_tables cats a b x.1 y.1)
+
+-- what is made of the log of a run by its tables is one thing
+one_made : {A : Type 0} (cat : Catalogue) (work : Workload) (make : List (List Entry) → Log → A) (a b : List (List Entry)) (l m : Log)
+    → AreTables cat work a → AreTables cat work b
     → IsTheLog (given_of cat a work) l → IsTheLog (given_of cat b work) m → make a l ≡ make b m
 one_made cat work make a b l m x y h k =
-    let same : a ≡ b = one_table cat a b x y in
+    let same : a ≡ b = one_list_of_tables (eras_in cat work) a b x y in
     let there : IsTheLog (given_of cat b work) l = subst (λ t. IsTheLog (given_of cat t work) l) same h in
     ap (λ t. make t l) same ∙ ap (make b) (one_log (given_of cat b work) l m there k)
 
 pub one_report : (cat : Catalogue) (work : Workload) (text other : List ℕ) → IsReportOn cat work text → IsReportOn cat work other → text ≡ other
 one_report cat work text other r s =
     r.text_is
-    ∙ one_made cat work (λ t log. report_text (report_of (given_of cat t work) log)) r.table s.table r.log s.log r.table_is s.table_is r.log_is s.log_is
+    ∙ one_made cat work (λ t log. report_text (report_of (given_of cat t work) log)) r.tables s.tables r.log s.log
+    r.tables_are s.tables_are r.log_is s.log_is
     ∙ sym s.text_is
 
 pub one_summary : (cat : Catalogue) (work : Workload) (text other : List ℕ) → IsSummaryOn cat work text → IsSummaryOn cat work other → text ≡ other
 one_summary cat work text other r s =
     r.text_is
-    ∙ one_made cat work (λ t log. summary_text (summary_of (length work.txns) (history log) (marks log))) r.table s.table r.log s.log r.table_is s.table_is r.log_is s.log_is
+    ∙ one_made cat work (λ t log. summary_text (summary_of (length work.txns) (history log) (marks log))) r.tables s.tables r.log s.log
+    r.tables_are s.tables_are r.log_is s.log_is
     ∙ sym s.text_is

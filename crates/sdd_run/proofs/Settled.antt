@@ -1,8 +1,7 @@
--- A run that a settle ends leaves nothing undone, where no data module is down at its end.
-use Rattle.std.proofs.Common.{ℕ, ◌≡◌, List, None, ap, length, refl, subst, sym}
+-- A run that a settle or a redeclare ends leaves nothing undone, where no data module is down at its end.
+use Rattle.std.proofs.Common.{ℕ, ◌≡◌, List, None, ap, length, subst, sym}
 use Rattle.std.specs.Prelude.{◌⊎◌, Contains}
 use Rattle.sdd_base.specs.Numbers.{dm_no, txn_no}
-use Rattle.sdd_base.specs.declared.event.Event.TheVariants.{Settle}
 use Rattle.sdd_base.specs.declared.site.Site.TheVariants.{D}
 use Rattle.sdd_base.specs.declared.number.TxnNo.{TxnNo}
 use Rattle.sdd_catalog.specs.Catalogue.{Catalogue, has_copy, numbers_to}
@@ -17,12 +16,10 @@ use Rattle.sdd_log.proofs.NewMarks.{lawful_permitted}
 use Rattle.sdd_log.specs.Due.{next}
 use Rattle.sdd_log.specs.Entries.{Given, Log, history, with_event}
 use Rattle.sdd_log.specs.Lawful.{IsLawful, IsTheLog}
-use Rattle.sdd_log.specs.Locals.{local_of, redeclares, setting_of}
+use Rattle.sdd_log.specs.Locals.{local_of, setting_of}
 use Rattle.sdd_order.specs.Attempts.{Attempt, Committed, HasCommit, IsAttempt, IsCommitted}
 use Rattle.sdd_order.specs.Orders.{IsOrderable, IsSerial}
 use Rattle.sdd_order.specs.Places.{Stands}
-use Rattle.sdd_order.specs.SerialOrder.{serial_order}
-use Rattle.sdd_protocol.specs.Protocols.{IsTable}
 use Rattle.sdd_protocol.specs.declared.entry.Entry.{Entry}
 use Rattle.sdd_script.specs.Valid.{IsValid}
 use Rattle.sdd_script.specs.declared.workload.Workload.{Workload}
@@ -31,26 +28,24 @@ use Rattle.sdd_world.specs.Standings.{standing_at_t, standing_at_u}
 use Rattle.sdd_upheld.specs.Given.{SubmitGiven}
 use Rattle.sdd_upheld.proofs.Numbered.{lawful_numbered}
 use Rattle.sdd_report.specs.declared.copies.CopyTable.{CopyTable}
-use Rattle.sdd_settling.proofs.Settled.{quiet_at_last}
 use Rattle.sdd_rest.proofs.Copies.{applied_at_copies}
 use Rattle.sdd_rest.proofs.Settled.{settled_is_committed, settled_is_finished, settled_is_quiet}
-use Rattle.sdd_rest.proofs.OneList.{one_list, up_in_one}
 use Rattle.sdd_rest.specs.Committed.{AllCommitted, WasCommitted}
-use Rattle.sdd_rest.specs.Premises.{HasOneTable, HasSoundLists}
+use Rattle.sdd_rest.specs.Premises.{HasSoundLists}
 use Rattle.sdd_rest.specs.Settled.{IsAtEnd, IsSettled}
 use Rattle.sdd_run.specs.Copies.{table_of, tables_at, tables_of}
 use Rattle.sdd_run.specs.Reports.{report_of}
-use Rattle.sdd_run.specs.Runs.{given_of}
-use Rattle.sdd_run.specs.Settled.{EndsQuiet, EndsWithSettle, LosesNothing, NoneIsDown, TellsAllCommitted}
+use Rattle.sdd_lists.specs.InForce.{whole_in}
+use Rattle.sdd_run.specs.Runs.{AreTables, given_of, order_of}
+use Rattle.sdd_run.proofs.AtRest.{quiet_at_rest}
+use Rattle.sdd_run.proofs.RunOf.{lists, submit_given, up}
+use Rattle.sdd_run.specs.Settled.{EndsAtRest, EndsQuiet, LosesNothing, NoneIsDown, TellsAllCommitted}
 use Rattle.sdd_run.specs.Standing.{times_in}
 use Rattle.sdd_run.specs.Pending.{IsListed}
-use Rattle.sdd_run.proofs.Goods.{fits_given}
 use Rattle.sdd_run.proofs.Listed.{each_listed}
 use Rattle.sdd_run.proofs.Lossless.{in_one}
-use Rattle.sdd_run.proofs.Marked.{named}
 use Rattle.sdd_run.proofs.NonePending.{none_pending}
 use Rattle.sdd_run.proofs.Once.{each_once}
-use Rattle.sdd_run.proofs.Submissions.{once}
 
 -- a committed transaction stands in a serial order once
 
@@ -70,73 +65,75 @@ stands_once cat h order fine serial n w =
     let t = committed_by h n w.number w.place w.commit a.0 a.1 a.2 a.3 in
     subst (λ m. times_in m order ≡ 1) t.2 (each_once cat h order serial t.0 t.1)
 
-module _ (cat : Catalogue) (table : List Entry) (work : Workload) (sound : IsSound cat) (valid : IsValid cat work) (tabled : IsTable cat table) where
-  one_table : HasOneTable (given_of cat table work)
-  one_table = record { fits = fits_given cat table work sound valid work.events; table = record { table = tabled }; same = refl }
+module _ (cat : Catalogue) (tables : List (List Entry)) (work : Workload) (sound : IsSound (whole_in cat work)) (valid : IsValid cat work)
+    (tabled : AreTables cat work tables) (log : Log) (the_log : IsTheLog (given_of cat tables work) log) where
+  submits : SubmitGiven (given_of cat tables work)
+  submits = submit_given cat tables work sound valid tabled
 
-  submit_given : SubmitGiven (given_of cat table work)
-  submit_given = record { once = once work.events valid.submitted; given = λ n there. named cat (length work.txns) n work.events valid.events there }
+  in_force : HasSoundLists (given_of cat tables work) log
+  in_force = lists cat tables work sound valid tabled log the_log
 
-  module _ (log : Log) (the_log : IsTheLog (given_of cat table work) log) (none : redeclares log ≡ 0) where
-    lists : HasSoundLists (given_of cat table work) log
-    lists = one_list (given_of cat table work) log one_table none
+  at_end : NoneIsDown (whole_in cat work) log → IsAtEnd (given_of cat tables work) log
+  at_end are_up = record {
+    lawful = the_log.lawful;
+    complete = the_log.complete;
+    up_before = up cat tables work sound valid tabled log the_log;
+    up = are_up;
+  }
 
-    at_end : NoneIsDown cat log → IsAtEnd (given_of cat table work) log
-    at_end up = record { lawful = the_log.lawful; complete = the_log.complete; up_before = up_in_one (given_of cat table work) log none; up = up }
+  is_settled : EndsQuiet (given_of cat tables work) log → NoneIsDown (whole_in cat work) log → IsSettled (given_of cat tables work) log
+  is_settled links are_up = record { at_end = at_end are_up; links = links }
 
-    is_settled : EndsQuiet (given_of cat table work) log → NoneIsDown cat log → IsSettled (given_of cat table work) log
-    is_settled links up = record { at_end = at_end up; links = links }
+  -- behind a settle or a redeclare the links are quiet
+  pub quiet_behind : EndsAtRest work.events → EndsQuiet (given_of cat tables work) log
+  quiet_behind ends =
+      let g : Given = given_of cat tables work in
+      let before : Given = record g { events = ends.before } in
+      let same : g ≡ with_event before ends.last = ap (λ es. record g { events = es }) ends.is in
+      quiet_at_rest before ends.last ends.at_rest log (subst (λ x. IsLawful x log) same the_log.lawful)
+      (subst (λ x. next x log ≡ None) same the_log.complete)
 
-    -- behind a settle the links are quiet
-    pub quiet_behind : EndsWithSettle work.events → EndsQuiet (given_of cat table work) log
-    quiet_behind ends =
-        let g : Given = given_of cat table work in
-        let before : Given = record g { events = ends.before } in
-        let same : g ≡ with_event before Settle = ap (λ es. record g { events = es }) ends.is in
-        quiet_at_last before log (subst (λ x. IsLawful x log) same the_log.lawful)
-        (subst (λ x. next x log ≡ None) same the_log.complete)
+  all_committed : EndsQuiet (given_of cat tables work) log → NoneIsDown (whole_in cat work) log → AllCommitted (history log)
+  all_committed links are_up = settled_is_committed (given_of cat tables work) log in_force submits (is_settled links are_up)
 
-    all_committed : EndsQuiet (given_of cat table work) log → NoneIsDown cat log → AllCommitted (history log)
-    all_committed links up = settled_is_committed (given_of cat table work) log lists submit_given (is_settled links up)
+  pub settled : IsOrderable (whole_in cat work) (history log) → IsSerial (whole_in cat work) (history log) (order_of cat work log)
+      → EndsQuiet (given_of cat tables work) log → NoneIsDown (whole_in cat work) log
+      → TellsAllCommitted (report_of (given_of cat tables work) log)
+  settled fine serial links are_up =
+      let all = all_committed links are_up in
+      record {
+        committed = all;
+        in_order = λ n place there. stands_once (whole_in cat work) (history log) (order_of cat work log) fine serial n (all n place there);
+        none_pending = none_pending (standing_at standing_at_u standing_at_t) (given_of cat tables work) log all;
+      }
 
-    pub settled : IsOrderable cat (history log) → IsSerial cat (history log) (serial_order cat (history log))
-        → EndsQuiet (given_of cat table work) log → NoneIsDown cat log
-        → TellsAllCommitted (report_of (given_of cat table work) log)
-    settled fine serial links up =
-        let all = all_committed links up in
-        record {
-          committed = all;
-          in_order = λ n place there. stands_once cat (history log) (serial_order cat (history log)) fine serial n (all n place there);
-          none_pending = none_pending (standing_at standing_at_u standing_at_t) (given_of cat table work) log all;
-        }
+  -- each transaction that was submitted is committed or listed
+  listed : (n place : ℕ) → IsSubmitted (history log) n place
+      → WasCommitted (history log) n ⊎ IsListed (report_of (given_of cat tables work) log).pending n
+  listed =
+      each_listed (given_of cat tables work) log (lawful_permitted (given_of cat tables work) log submits.once the_log.lawful)
+      in_force (lawful_numbered (given_of cat tables work) log submits the_log.lawful)
 
-    -- each transaction that was submitted is committed or listed
-    pub listed : (n place : ℕ) → IsSubmitted (history log) n place
-        → WasCommitted (history log) n ⊎ IsListed (report_of (given_of cat table work) log).pending n
-    listed =
-        each_listed (given_of cat table work) log (lawful_permitted (given_of cat table work) log submit_given.once the_log.lawful)
-        one_table none (lawful_numbered (given_of cat table work) log submit_given the_log.lawful)
+  -- and is so once
+  pub nothing_lost : IsOrderable (whole_in cat work) (history log) → IsSerial (whole_in cat work) (history log) (order_of cat work log)
+      → ((n j k : ℕ) → IsSubmitted (history log) n j → IsSubmitted (history log) n k → j ≡ k)
+      → LosesNothing (report_of (given_of cat tables work) log)
+  nothing_lost fine serial one n place there =
+      in_one (standing_at standing_at_u standing_at_t) (given_of cat tables work) log (whole_in cat work) (order_of cat work log) serial
+      (λ m w. stands_once (whole_in cat work) (history log) (order_of cat work log) fine serial m w) one n (listed n place there)
 
-    -- and is so once
-    pub nothing_lost : IsOrderable cat (history log) → IsSerial cat (history log) (serial_order cat (history log))
-        → ((n j k : ℕ) → IsSubmitted (history log) n j → IsSubmitted (history log) n k → j ≡ k)
-        → LosesNothing (report_of (given_of cat table work) log)
-    nothing_lost fine serial one n place there =
-        in_one (standing_at standing_at_u standing_at_t) (given_of cat table work) log cat (serial_order cat (history log)) serial
-        (λ m w. stands_once cat (history log) (serial_order cat (history log)) fine serial m w) one n (listed n place there)
-
-    -- at each copy all is applied that changed its fragment
-    pub applied : EndsQuiet (given_of cat table work) log → NoneIsDown cat log
-        → (copy : CopyTable) → Contains (tables_of (given_of cat table work) log) copy
-        → AreAllApplied (history log) copy.frag.0 copy.dm.0 (length (history log))
-    applied links up copy there =
-        let g : Given = given_of cat table work in
-        let s = is_settled links up in
-        let h = settled_is_quiet g log submit_given.once s in
-        let done = settled_is_finished g log lists submit_given.once s in
-        let at = Contains-from_flat_map (tables_at g log) (numbers_to cat.dms) copy there in
-        let xs = dated (setting_of g (D (dm_no at.0))) (local_of g (D (dm_no at.0)) log) in
-        let of = Contains-from_map (table_of at.0 xs) _ copy at.2 in
-        let copied = Contains-from_filter (has_copy cat at.0) (numbers_to (length cat.fragments)) of.0 of.1 in
-        subst (λ (t : CopyTable). AreAllApplied (history log) t.frag.0 t.dm.0 (length (history log)))
-        (sym of.2) (applied_at_copies g log of.0 at.0 sound h lists done.idle copied.1)
+  -- at each copy all is applied that changed its fragment
+  pub applied : EndsQuiet (given_of cat tables work) log → NoneIsDown (whole_in cat work) log
+      → (copy : CopyTable) → Contains (tables_of (given_of cat tables work) log) copy
+      → AreAllApplied (history log) copy.frag.0 copy.dm.0 (length (history log))
+  applied links are_up copy there =
+      let g : Given = given_of cat tables work in
+      let s = is_settled links are_up in
+      let h = settled_is_quiet g log submits.once s in
+      let done = settled_is_finished g log in_force submits.once s in
+      let at = Contains-from_flat_map (tables_at g log) (numbers_to g.catalogue.dms) copy there in
+      let xs = dated (setting_of g (D (dm_no at.0))) (local_of g (D (dm_no at.0)) log) in
+      let of = Contains-from_map (table_of at.0 xs) _ copy at.2 in
+      let copied = Contains-from_filter (has_copy g.catalogue at.0) (numbers_to (length g.catalogue.fragments)) of.0 of.1 in
+      subst (λ (t : CopyTable). AreAllApplied (history log) t.frag.0 t.dm.0 (length (history log)))
+      (sym of.2) (applied_at_copies g log of.0 at.0 sound h in_force done.idle copied.1)

@@ -1,5 +1,5 @@
 -- A new world of a workload stands for the empty log of what is given before its first event.
-use Rattle.std.proofs.Common.{◌-◌, ◌≡◌, ◌∙◌, ◌≤◌, List, [], false, refl, sym, subst}
+use Rattle.std.proofs.Common.{◌-◌, ◌≡◌, ◌∙◌, ◌∷◌, ◌≤◌, List, Some, [], ap, drop, get_or, map, refl, sym, subst}
 use Rattle.std.specs.Prelude.{slice_get}
 use Rattle.sdd_base.specs.Kept.{Kept}
 use Rattle.sdd_base.specs.Numbers.{dm_no}
@@ -12,9 +12,7 @@ use Rattle.sdd_catalog.specs.Rules.{IsSound}
 use Rattle.sdd_lang.specs.Database.{Row}
 use Rattle.sdd_lang.specs.declared.transaction.Txn.{Txn}
 use Rattle.sdd_protocol.specs.declared.entry.Entry.{Entry}
-use Rattle.sdd_script.specs.Redeclaring.{has_lists}
 use Rattle.sdd_script.specs.Valid.{IsValid}
-use Rattle.sdd_script.proofs.NoLists.{no_redeclare}
 use Rattle.sdd_script.specs.declared.workload.Workload.{Workload}
 use Rattle.sdd_log.specs.Entries.{Given}
 use Rattle.sdd_log.specs.Locals.{rows_of}
@@ -25,37 +23,75 @@ use Rattle.sdd_world.specs.Schedules.{AreAllowed}
 use Rattle.sdd_world.specs.Standing as standing
 use Rattle.sdd_world.specs.Standing.{StandsFor}
 use Rattle.sdd_world.specs.declared.world.World.{World}
-use Rattle.sdd_run.specs.Runs.{begun}
+use Rattle.sdd_base.specs.Words.{tail_of}
+use Rattle.sdd_catalog.specs.Eras.{eras}
+use Rattle.sdd_catalog.specs.declared.resolved.Class.{Class}
+use Rattle.sdd_lists.specs.InForce.{classes_in, eras_in, whole_in}
+use Rattle.sdd_module.specs.SiteLog.{Force}
+use Rattle.sdd_world.specs.declared.schedule.ClassList.{ClassList}
+use Rattle.sdd_run.specs.Lent.{force_in}
+use Rattle.sdd_run.specs.Runs.{AreTables, begun, forces_of}
 use Rattle.sdd_run.specs.Worlds.{StandsOn}
-use Rattle.sdd_run.proofs.Allowed.{allowed}
+use Rattle.sdd_run.proofs.Allowed.{HasLists, allowed}
 use Rattle.sdd_run.proofs.Beginning.{begins_sound, rows_given}
 use Rattle.sdd_run.proofs.Goods.{good_along, good_begun}
-use Rattle.sdd_run.proofs.Homes.{within}
+use Rattle.sdd_run.proofs.Timely.{timely}
+use Rattle.sdd_run.proofs.Whole.{events_valid}
 
-module _ (cat : Catalogue) (table : List Entry) (work : Workload) (sound : IsSound cat) (valid : IsValid cat work) where
-  -- the events of a valid workload without lists of classes are allowed
-  pub all_allowed : has_lists work ≡ false → (events : List Event) → events ≡ work.events → AreAllowed (begun cat table work) events
-  all_allowed none events e =
-      subst (AreAllowed (begun cat table work)) (sym e)
-      (allowed (begun cat table work) work.events work.events refl valid.events
-      (no_redeclare cat work valid none) (good_along cat table work sound valid))
+abbrev with_table : Catalogue → List Entry → Force
+with_table cat table = record { catalogue = cat; table = table }
+
+-- the lists behind the first
+tail_is : (forces : List Force) → tail_of forces ≡ drop 1 forces
+tail_is [] = refl
+tail_is (f ∷ forces) = refl
+
+-- the first list is that of the catalogue
+first_force : (cat : Catalogue) (lists : List (List Class)) (tables : List (List Entry)) (table : List Entry) (none : Force) → slice_get tables 0 ≡ Some table
+    → get_or (forces_of (eras cat lists) tables) 0 none ≡ record { catalogue = cat; table = table }
+first_force cat lists [] table none e = absurd (cc)
+first_force cat [] (t ∷ tables) table none e = let p : t ≡ table = cc in ap (with_table cat) p
+first_force cat (l ∷ lists) (t ∷ tables) table none e = let p : t ≡ table = cc in ap (with_table cat) p
+
+module _ (cat : Catalogue) (tables : List (List Entry)) (work : Workload) (sound : IsSound (whole_in cat work)) (valid : IsValid cat work)
+    (tabled : AreTables cat work tables) where
+  -- a list is left for each redeclare
+  has_lists : HasLists (begun cat tables work) work.events
+  has_lists front rest is = (timely cat tables work valid tabled front rest is).left
+
+  -- the events of a valid workload are allowed
+  pub all_allowed : (events : List Event) (lists : List ClassList) → events ≡ work.events
+      → map force_in lists ≡ tail_of (forces_of (eras_in cat work) tables) → AreAllowed (begun cat tables work) events lists
+  all_allowed events lists e left =
+      subst (λ es. AreAllowed (begun cat tables work) es lists) (sym e)
+      (allowed work.events work.events (begun cat tables work) lists refl (events_valid cat work valid)
+      (left ∙ tail_is (forces_of (eras_in cat work) tables)) has_lists (good_along cat tables work sound valid tabled))
 
   -- the data modules, each of the rows that are given for it
-  each_made : (rows : List (RelNo × Row)) (dms : List (Kept State)) → rows ≡ work.rows → AllBegin (BeginsD cat rows) cat.dms dms
-      → AllBegin (λ n. BeginsD cat (rows_of (begun cat table work) (D (dm_no n))) n) cat.dms dms
+  each_made : (rows : List (RelNo × Row)) (dms : List (Kept State)) → rows ≡ work.rows
+      → AllBegin (BeginsD (whole_in cat work) rows) (whole_in cat work).dms dms
+      → AllBegin (λ n. BeginsD (whole_in cat work) (rows_of (begun cat tables work) (D (dm_no n))) n) (whole_in cat work).dms dms
   each_made rows dms e all = record {
     count_is = all.count_is;
     each = λ n low high.
-        subst (λ r. There (BeginsD cat r n) (slice_get dms (n - 1)))
-        (e ∙ sym (rows_given cat table work (dm_no n) (within n cat.dms low high))) (all.each n low high);
+        subst (λ r. There (BeginsD (whole_in cat work) r n) (slice_get dms (n - 1)))
+        (e ∙ sym (rows_given cat tables work n low high)) (all.each n low high);
   }
 
-  pub starts : (rows : List (RelNo × Row)) (txns : List Txn) (dms : List (Kept State)) (w : World) → cat.tms ≤ MAX_TMS → cat.dms ≤ MAX_DMS → rows ≡ work.rows
-      → txns ≡ work.txns → AllBegin (BeginsD cat rows) cat.dms dms
-      → ((g : Given) → IsGood g → standing.IsSound g → IsBegun g cat table txns dms → StandsFor w g [])
-      → StandsOn cat w (begun cat table work) []
-  starts rows txns dms w few_tms few_dms r t all made = record {
+  pub starts : (rows : List (RelNo × Row)) (txns : List Txn) (table : List Entry) (dms : List (Kept State)) (w : World)
+      → (whole_in cat work).tms ≤ MAX_TMS → (whole_in cat work).dms ≤ MAX_DMS
+      → slice_get tables 0 ≡ Some table → rows ≡ work.rows → txns ≡ work.txns
+      → AllBegin (BeginsD (whole_in cat work) rows) (whole_in cat work).dms dms
+      → ((g : Given) → IsGood g → standing.IsSound g → IsBegun g (whole_in cat work) cat table txns dms → StandsFor w g [])
+      → StandsOn (whole_in cat work) w (begun cat tables work) []
+  starts rows txns table dms w few_tms few_dms first r t all made = record {
     catalogue_is = refl;
-    stands = made (begun cat table work) (good_begun cat table work sound valid) (begins_sound cat table work few_tms few_dms valid)
-        (record { catalogue_is = refl; force_is = refl; txns_are = t; no_events = refl; made = each_made rows dms r all });
+    stands = made (begun cat tables work) (good_begun cat tables work sound valid tabled) (begins_sound cat tables work few_tms few_dms valid)
+        (record {
+          catalogue_is = refl;
+          force_is = first_force cat (classes_in cat work) tables table (record { catalogue = whole_in cat work; table = [] }) first;
+          txns_are = t;
+          no_events = refl;
+          made = each_made rows dms r all;
+        });
   }

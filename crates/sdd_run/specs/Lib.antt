@@ -1,5 +1,6 @@
 pub mod Copies
 pub mod Free
+pub mod Lent
 pub mod Pending
 pub mod Reports
 pub mod Runs

@@ -1,12 +1,12 @@
 -- What is pending when a run ends: the transactions that were submitted and aren't committed, and why.
-use Rattle.std.specs.Prelude.{ℕ, ◌==◌, ◌≡◌, Bool, false, not, if◌then◌else◌, List, filter_map, find, slice_get, Option, Some, None}
+use Rattle.std.specs.Prelude.{ℕ, ◌==◌, ◌≡◌, Bool, false, not, if◌then◌else◌, List, [], ◌∷◌, filter_map, find, slice_get, Option, Some, None}
 use Rattle.std.specs.List.{list_any}
 use Rattle.std.specs.Option.{option_map}
 use Rattle.sdd_base.specs.Numbers.{dm_no}
 use Rattle.sdd_base.specs.declared.condition.Cond.{Cond}
 use Rattle.sdd_base.specs.declared.number.TxnNo.{TxnNo}
 use Rattle.sdd_base.specs.declared.site.Site.{Site}
-use Rattle.sdd_base.specs.declared.site.Site.TheVariants.{D}
+use Rattle.sdd_base.specs.declared.site.Site.TheVariants.{U, D}
 use Rattle.sdd_catalog.specs.Catalogue.{numbers_to}
 use Rattle.sdd_history.specs.Records.{History}
 use Rattle.sdd_history.specs.declared.record.Rec.{Rec}
@@ -19,8 +19,9 @@ use Rattle.sdd_dm.specs.Due.{is_met}
 use Rattle.sdd_dm.specs.Views.{view_of}
 use Rattle.sdd_dm.specs.Waiting.{waiting_at}
 use Rattle.sdd_log.specs.Due.{home_of}
-use Rattle.sdd_log.specs.Entries.{Given, Log, history}
-use Rattle.sdd_log.specs.Locals.{local_of, setting_of, txn_at}
+use Rattle.sdd_laws.specs.Deeds.{IsSubmitted}
+use Rattle.sdd_log.specs.Entries.{Given, Log, Submitted, history}
+use Rattle.sdd_log.specs.Locals.{force_at, local_of, redeclares, setting_of, txn_at}
 use Rattle.sdd_report.specs.Pending.{under_way}
 use Rattle.sdd_report.specs.declared.pending.Pending.{Pending}
 use Rattle.sdd_report.specs.declared.pending.Waiting.{Waiting}
@@ -64,24 +65,48 @@ commits n _ = false
 abbrev pub Telling : Type 0
 Telling = Site → Setting → site.Log → ℕ → Standing
 
--- how transaction n stands at its site
+-- at which site each transaction, by its number, is looked for
+abbrev pub Homes : Type 0
+Homes = ℕ → Site
+
+-- the site at which a transaction was submitted: that of its class by the list in force then
+abbrev pub submitted_at : Log → Homes
+submitted_at [] n = U
+submitted_at (Submitted at m ∷ log) n = if m == n then at else submitted_at log n
+submitted_at (_ ∷ log) n = submitted_at log n
+
+-- the site of its class by the list in force at the end
+abbrev pub last_home : Given → Log → Homes
+last_home g log n = home_of (force_at g (redeclares log)).catalogue (txn_at g n)
+
+-- how transaction n stands at a site
 abbrev pub stands_at : Telling → Given → Log → Site → ℕ → Standing
 stands_at tell g log at n = tell at (setting_of g at) (local_of g at log) n
 
-abbrev pub reason_of : Telling → Given → Log → ℕ → Option Why
-reason_of tell g log n = why_of g log (stands_at tell g log (home_of g.catalogue (txn_at g n)) n)
+abbrev pub reason_of : Telling → Homes → Given → Log → ℕ → Option Why
+reason_of tell homes g log n = why_of g log (stands_at tell g log (homes n) n)
 
 abbrev pub pending_as : TxnNo → Option Why → Option Pending
 pending_as n why = option_map (λ w. record { txn = n; why = w }) why
 
 -- a transaction that was submitted and that none of these records commits
-abbrev pub pending_by : Telling → Given → Log → History → ℕ × Rec → Option Pending
-pending_by tell g log all (event, Submit n) = if list_any (commits n.0) all then None else pending_as n (reason_of tell g log n.0)
-pending_by tell g log all _ = None
+abbrev pub pending_by : Telling → Homes → Given → Log → History → ℕ × Rec → Option Pending
+pending_by tell homes g log all (event, Submit n) =
+    if list_any (commits n.0) all then None else pending_as n (reason_of tell homes g log n.0)
+pending_by tell homes g log all _ = None
 
 -- in order of submission
+abbrev pub pending_at : Telling → Homes → Given → Log → List Pending
+pending_at tell homes g log = filter_map (pending_by tell homes g log (history log)) (history log)
+
+-- each is looked for at the site at which it was submitted
 abbrev pub pending_of : Telling → Given → Log → List Pending
-pending_of tell g log = filter_map (pending_by tell g log (history log)) (history log)
+pending_of tell g log = pending_at tell (submitted_at log) g log
+
+-- each transaction that was submitted and isn't committed was submitted at the site of its class by the last list
+abbrev pub AreAtLastHomes : Given → Log → Type 0
+AreAtLastHomes g log =
+    (n place : ℕ) → IsSubmitted (history log) n place → list_any (commits n) (history log) ≡ false → submitted_at log n ≡ last_home g log n
 
 -- transaction n is listed as pending
 pub record IsListed (left : List Pending) (n : ℕ) : Type 0 where

@@ -1,10 +1,10 @@
--- A run that a settle ends, and that leaves nothing undone.
+-- A run that a settle or a redeclare ends, and that leaves nothing undone.
 use Rattle.std.specs.Prelude.{ℕ, ◌+◌, ◌==◌, ◌≡◌, false, true, List, [], ◌∷◌, ◌++◌, refl}
 use Rattle.std.proofs.Common.{ap}
 use Rattle.std.proofs.lemmas.Bool.{false≢true}
 use Rattle.sdd_base.specs.Numbers.{class_no, txn_no}
 use Rattle.sdd_base.specs.declared.event.Event.{Event}
-use Rattle.sdd_base.specs.declared.event.Event.TheVariants.{Settle, Submit}
+use Rattle.sdd_base.specs.declared.event.Event.TheVariants.{Redeclare, Settle, Submit}
 use Rattle.sdd_base.specs.declared.number.TxnNo.{TxnNo}
 use Rattle.sdd_catalog.specs.Catalogue.{Catalogue}
 use Rattle.sdd_history.specs.declared.record.Rec.TheVariants.{Submit as Submission}
@@ -20,10 +20,18 @@ use Rattle.sdd_report.specs.declared.pending.Why.TheVariants.{Queued}
 use Rattle.sdd_rest.specs.Committed.{AllCommitted}
 use Rattle.sdd_run.specs.Standing.{times_in, times_pending}
 
--- a settle is the last of the events
-pub record EndsWithSettle (events : List Event) : Type 0 where
+-- an event before which rounds go on until the links are quiet
+abbrev pub IsAtRest : Event → Type 0
+IsAtRest Settle = Unit {0}
+IsAtRest Redeclare = Unit {0}
+IsAtRest _ = ⊥
+
+-- such an event is the last
+pub record EndsAtRest (events : List Event) : Type 0 where
   pub before : List Event
-  pub is : events ≡ before ++ Settle ∷ []
+  pub last : Event
+  pub is : events ≡ before ++ last ∷ []
+  pub at_rest : IsAtRest last
 
 -- at the end of the log no data module is down
 abbrev pub NoneIsDown : Catalogue → Log → Type 0
@@ -44,9 +52,12 @@ pub record TellsAllCommitted (r : Report) : Type 0 where
   pub in_order : (n place : ℕ) → IsSubmitted r.history n place → times_in n r.order ≡ 1
   pub none_pending : r.pending ≡ []
 
--- worked: a submit and a settle
-pub ends_with_settle : EndsWithSettle (Submit (txn_no 1) ∷ Settle ∷ [])
-ends_with_settle = record { before = Submit (txn_no 1) ∷ []; is = refl }
+-- worked: a submit and a settle, or a redeclare
+pub ends_with_settle : EndsAtRest (Submit (txn_no 1) ∷ Settle ∷ [])
+ends_with_settle = record { before = Submit (txn_no 1) ∷ []; last = Settle; is = refl; at_rest = tt }
+
+pub ends_with_redeclare : EndsAtRest (Submit (txn_no 1) ∷ Redeclare ∷ [])
+ends_with_redeclare = record { before = Submit (txn_no 1) ∷ []; last = Redeclare; is = refl; at_rest = tt }
 
 -- worked: transaction 1 is submitted, and a report tells so much of it
 

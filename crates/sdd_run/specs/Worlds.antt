@@ -7,9 +7,9 @@ use Rattle.sdd_catalog.specs.Catalogue.{Catalogue}
 use Rattle.sdd_history.specs.Records.{History}
 use Rattle.sdd_protocol.specs.declared.entry.Entry.{Entry}
 use Rattle.sdd_script.specs.declared.workload.Workload.{Workload}
+use Rattle.sdd_lists.specs.InForce.{whole_in}
 use Rattle.sdd_log.specs.Entries.{Given, Log}
 use Rattle.sdd_log.specs.Lawful.{IsTheLog}
-use Rattle.sdd_log.specs.Locals.{redeclares}
 use Rattle.sdd_world.specs.Standing.{StandsFor}
 use Rattle.sdd_world.specs.declared.world.World.{World}
 use Rattle.sdd_run.specs.Pending.{commits}
@@ -20,13 +20,11 @@ pub record StandsOn (catalogue : Catalogue) (w : World) (g : Given) (log : Log) 
   pub catalogue_is : g.catalogue ≡ catalogue
   pub stands : StandsFor w g log
 
--- A world that has carried out all events of a workload: it stands for the one log of the run, in which no further list of
--- classes is put in force.
-pub record IsRunOf (cat : Catalogue) (table : List Entry) (work : Workload) (w : World) : Type 0 where
+-- A world that has carried out all events of a workload: it stands for the one log of the run.
+pub record IsRunOf (cat : Catalogue) (tables : List (List Entry)) (work : Workload) (w : World) : Type 0 where
   pub log : Log
-  pub log_is : IsTheLog (given_of cat table work) log
-  pub one_era : redeclares log ≡ 0
-  pub stands : StandsOn cat w (given_of cat table work) log
+  pub log_is : IsTheLog (given_of cat tables work) log
+  pub stands : StandsOn (whole_in cat work) w (given_of cat tables work) log
 
 -- the numbers of the transactions that records commit
 abbrev pub AreCommitted : BTreeSet ℕ → History → Type 0

@@ -6,6 +6,7 @@
 
 mod commits;
 mod copies;
+mod in_force;
 mod law;
 mod run;
 mod running;

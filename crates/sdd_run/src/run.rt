@@ -1,39 +1,41 @@
 //! The run of a workload, and what is told of it.
-ghost use Rattle.std.specs.Prelude.{◌≡◌, false, IfOk, IsErrOf};
-ghost use Rattle.sdd_script.specs.Redeclaring.{has_lists};
+ghost use Rattle.std.specs.Prelude.{IfOk, IsErrOf};
 ghost use Rattle.sdd_script.specs.Valid.{IsValid};
 ghost use Rattle.sdd_run.specs.Runs.{EndsAtLimit, IsReportOn, IsSummaryOn};
 
+use crate::in_force::tables_of;
 use crate::running::finished;
 use crate::telling::report_on;
 use sdd_catalog::Catalogue;
+use sdd_lists::lists_of;
 use sdd_make::{summary_of, summary_text};
-use sdd_protocol::table;
 use sdd_script::Workload;
 use sdd_world::WorldEnd;
 use std::alloc::Global;
 
-/// The text of the report on the run of a workload without lists of classes.
+/// The text of the report on the run of a workload.
 ///
-/// Costs what its events cost, the serial order, the copies and the text.
+/// Costs what its events cost, the catalogue and the protocol table of each list of classes, the
+/// serial order, the copies and the text.
 ///
 /// # Errors
 ///
 /// At the first number that is missing, of events or of a link's messages, and for want of memory.
 pub fn run_report(alloc: Global, catalogue: &Catalogue, work: Workload) -> Result<Vec<u8>, WorldEnd>
     requires valid { IsValid catalogue.now work }
-    requires no_lists { has_lists work ≡ false }
     ensures report { IfOk result (λ text. IsReportOn catalogue.now work text.items) }
     ensures limit { IsErrOf result WorldEnd.Limit → EndsAtLimit catalogue.now work }
 {
-    catalogue.known();
-    let table = table(alloc, catalogue)?;
-    let world = finished(alloc, catalogue, &table, work)?;
-    Ok(report_on(alloc, catalogue, &world)?)
+    let lists = lists_of(alloc, catalogue, &work)?;
+    let tables = tables_of(alloc, lists.eras())?;
+    let whole = lists.whole();
+    whole.known();
+    let world = finished(alloc, catalogue, &lists, tables.as_slice(), work)?;
+    Ok(report_on(alloc, whole, &world)?)
 }
 
-/// The text of the summary of the run of a workload without lists of classes. Costs what its events
-/// cost.
+/// The text of the summary of the run of a workload. Costs what its events cost, and the catalogue
+/// and the protocol table of each list of classes.
 ///
 /// # Errors
 ///
@@ -44,13 +46,13 @@ pub fn run_summary(
     work: Workload,
 ) -> Result<Vec<u8>, WorldEnd>
     requires valid { IsValid catalogue.now work }
-    requires no_lists { has_lists work ≡ false }
     ensures summary { IfOk result (λ text. IsSummaryOn catalogue.now work text.items) }
     ensures limit { IsErrOf result WorldEnd.Limit → EndsAtLimit catalogue.now work }
 {
     let transactions = work.txns.as_slice().len() as u32;
-    let table = table(alloc, catalogue)?;
-    let world = finished(alloc, catalogue, &table, work)?;
+    let lists = lists_of(alloc, catalogue, &work)?;
+    let tables = tables_of(alloc, lists.eras())?;
+    let world = finished(alloc, catalogue, &lists, tables.as_slice(), work)?;
     let summary = summary_of(transactions, world.history().as_slice(), world.events());
     Ok(summary_text(alloc, &summary)?)
 }

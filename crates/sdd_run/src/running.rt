@@ -1,19 +1,20 @@
 //! The world of a workload, with all its events carried out.
-ghost use Rattle.std.specs.Prelude.{◌≡◌, false, IfOk, IsErrOf};
-ghost use Rattle.sdd_protocol.specs.Protocols.{IsTable};
-ghost use Rattle.sdd_script.specs.Redeclaring.{has_lists};
+ghost use Rattle.std.specs.Prelude.{◌≡◌, IfOk, IsErrOf};
+ghost use Rattle.sdd_lists.specs.InForce.{eras_in, whole_in};
 ghost use Rattle.sdd_script.specs.Valid.{IsValid};
-ghost use Rattle.sdd_run.specs.Runs.{EndsAtLimit};
+ghost use Rattle.sdd_run.specs.Runs.{AreTables, EndsAtLimit};
 ghost use Rattle.sdd_run.specs.Worlds.{IsRunOf};
 
+use crate::in_force::further;
 use sdd_catalog::Catalogue;
+use sdd_lists::Lists;
 use sdd_protocol::Table;
 use sdd_script::Workload;
 use sdd_world::{World, WorldEnd, carry_out, data_modules};
 use std::alloc::Global;
 
-/// The world of the real modules, begun with the rows of a workload without lists of classes, that has
-/// carried out its events in order. Costs what the events cost.
+/// The world of the real modules, begun with the rows of a workload, that has carried out its events
+/// in order. Costs what the events cost.
 ///
 /// # Errors
 ///
@@ -21,23 +22,27 @@ use std::alloc::Global;
 pub fn finished<'a>(
     alloc: Global,
     catalogue: &'a Catalogue,
-    table: &'a Table,
+    lists: &'a Lists<'a>,
+    tables: &'a [Table],
     work: Workload,
 ) -> Result<World<'a>, WorldEnd>
-    requires tabled { IsTable catalogue.now table.now }
     requires valid { IsValid catalogue.now work }
-    requires no_lists { has_lists work ≡ false }
-    ensures run { IfOk result (λ world. IsRunOf catalogue.now table.now work world) }
+    requires eras { lists.now.eras ≡ eras_in catalogue.now work }
+    requires whole { lists.now.whole ≡ whole_in catalogue.now work }
+    requires tabled { AreTables catalogue.now work tables.now }
+    ensures run { IfOk result (λ world. IsRunOf catalogue.now tables.now work world) }
     ensures limit { IsErrOf result WorldEnd.Limit → EndsAtLimit catalogue.now work }
 {
-    catalogue.known();
+    let whole = lists.whole();
+    whole.known();
+    let further = further(alloc, lists.eras(), tables)?;
     let Workload {
         rows,
         txns,
         events,
         ..
     } = work;
-    let modules = data_modules(alloc, catalogue, rows.as_slice())?;
-    let world = World::new(alloc, catalogue, catalogue, table, txns, modules)?;
-    carry_out(world, events.into_vec(), Vec::new(alloc))
+    let modules = data_modules(alloc, whole, rows.as_slice())?;
+    let world = World::new(alloc, whole, catalogue, &tables[0], txns, modules)?;
+    carry_out(world, events.into_vec(), further)
 }

@@ -3,6 +3,7 @@ ghost use Rattle.std.specs.Prelude.{◌≡◌, IfOk};
 ghost use Rattle.sdd_log.specs.Entries.{Given, Log, history};
 ghost use Rattle.sdd_order.specs.Orders.{IsOrderable};
 ghost use Rattle.sdd_report.specs.Report.{report_text as text_of};
+ghost use Rattle.sdd_run.specs.Pending.{AreAtLastHomes};
 ghost use Rattle.sdd_run.specs.Reports.{report_by};
 ghost use Rattle.sdd_run.specs.Worlds.{StandsOn};
 ghost use Rattle.sdd_world.specs.Standings.{standing_of};
@@ -16,8 +17,9 @@ use sdd_report::{Report, report_text};
 use sdd_world::World;
 use std::alloc::Global;
 
-/// The text of the report on a world whose history has a serial order. Costs what the order, the
-/// pending transactions, the copies and the text cost.
+/// The text of the report on a world whose history has a serial order, and in which each pending
+/// transaction was submitted under the list of classes in force. Costs what the order, the pending
+/// transactions, the copies and the text cost.
 pub fn report_on(
     alloc: Global,
     catalogue: &Catalogue,
@@ -26,7 +28,7 @@ pub fn report_on(
     requires { (g : Given) × (log : Log) × IsOrderable catalogue.now (history log)
         × StandsOn catalogue.now world.now g log }
     ensures { IfOk result (λ text. (g : Given) (log : Log)
-        → StandsOn catalogue.now world.now g log
+        → StandsOn catalogue.now world.now g log → AreAtLastHomes g log
         → text.items ≡ text_of (report_by standing_of g log)) }
 {
     let history = world.history().as_slice();

@@ -2,7 +2,7 @@
 ghost use Rattle.std.specs.Prelude.{◌≡◌, ◌++◌, ◌∷◌, [], filter_map, IfOk, OnOk};
 ghost use Rattle.sdd_history.specs.Records.{History};
 ghost use Rattle.sdd_log.specs.Entries.{Given, Log};
-ghost use Rattle.sdd_run.specs.Pending.{pending_as, pending_by, pending_of, reason_of};
+ghost use Rattle.sdd_run.specs.Pending.{last_home, pending_as, pending_at, pending_by, reason_of};
 ghost use Rattle.sdd_run.specs.Worlds.{AreCommitted, StandsOn};
 ghost use Rattle.sdd_world.specs.Standings.{standing_of};
 
@@ -27,7 +27,7 @@ fn pending_one(
         × StandsOn catalogue.now world.now g log }
     ensures { IfOk result (λ one. (g : Given) (log : Log)
         → StandsOn catalogue.now world.now g log
-        → one ≡ pending_as number (reason_of standing_of g log number.0)) }
+        → one ≡ pending_as number (reason_of standing_of (last_home g log) g log number.0)) }
 {
     match why(alloc, catalogue, world, number)? {
         Some(why) => Ok(Some(Pending { txn: number, why })),
@@ -48,7 +48,7 @@ fn pending_in(
     ensures { IfOk result (λ one. (g : Given) (log : Log) (all : History)
         → StandsOn catalogue.now world.now g log
         → AreCommitted committed.now all
-        → one ≡ pending_by standing_of g log all entry.now) }
+        → one ≡ pending_by standing_of (last_home g log) g log all entry.now) }
 {
     let Rec::Submit(number) = &entry.1 else {
         return Ok(None);
@@ -73,7 +73,9 @@ fn add_pending(
     ensures { OnOk result ((g : Given) (log : Log) (all : History)
         → StandsOn catalogue.now world.now g log
         → AreCommitted committed.now all
-        → found.new.items ≡ found.old.items ++ filter_map (pending_by standing_of g log all) (entry.now ∷ [])) }
+        → found.new.items
+        ≡ found.old.items
+        ++ filter_map (pending_by standing_of (last_home g log) g log all) (entry.now ∷ [])) }
 {
     let Some(one) = pending_in(alloc, catalogue, world, entry, committed)? else {
         return Ok(());
@@ -83,7 +85,7 @@ fn add_pending(
 }
 
 /// The transactions that were submitted and aren't committed, in order of submission, each with what
-/// it waits for.
+/// it waits for. Each is looked for at the site of its class by the list in force.
 ///
 /// O(r log t) for r records of t transactions, and of each that is pending a look at its queue and
 /// at each data module.
@@ -96,7 +98,7 @@ pub fn pending(
         × StandsOn catalogue.now world.now g log }
     ensures { IfOk result (λ found. (g : Given) (log : Log)
         → StandsOn catalogue.now world.now g log
-        → found.items ≡ pending_of standing_of g log) }
+        → found.items ≡ pending_at standing_of (last_home g log) g log) }
 {
     let history = world.history().as_slice();
     let committed = committed(alloc, history)?;

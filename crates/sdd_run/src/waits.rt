@@ -1,12 +1,10 @@
 //! Why a transaction is pending.
 ghost use Rattle.std.specs.Prelude.{◌≡◌, ◌≤◌, ◌++◌, ◌∷◌, [], ℕ, filter_map, length, IfOk, OnOk};
 ghost use Rattle.sdd_base.specs.declared.site.Site.TheVariants.{D};
-ghost use Rattle.sdd_log.specs.Due.{home_of as site_of};
 ghost use Rattle.sdd_log.specs.Entries.{Given, Log};
-ghost use Rattle.sdd_log.specs.Locals.{txn_at};
 ghost use Rattle.sdd_step.specs.Resting.{IsSiteOf};
 ghost use Rattle.sdd_world.specs.Standing.{StandsFor};
-ghost use Rattle.sdd_run.specs.Pending.{reason_of, wait_at, waits_of, why_of};
+ghost use Rattle.sdd_run.specs.Pending.{last_home, reason_of, wait_at, waits_of, why_of};
 ghost use Rattle.sdd_run.specs.Worlds.{StandsOn};
 ghost use Rattle.sdd_world.specs.Standings.{standing_of};
 
@@ -92,12 +90,12 @@ fn why_so(
     }
 }
 
-/// The site of a transaction, by its number.
+/// The site of a transaction's class, by its number and by the list of classes in force.
 fn home_of(world: &World<'_>, number: TxnNo) -> Site
     requires { (g : Given) × (log : Log)
         × StandsFor world.now g log }
     ensures { (g : Given) (log : Log) → StandsFor world.now g log
-        → result ≡ site_of g.catalogue (txn_at g number.0) }
+        → result ≡ last_home g log number.0 }
 {
     let place = number.0.saturating_sub(1);
     match world.transactions().get(place as usize) {
@@ -106,7 +104,8 @@ fn home_of(world: &World<'_>, number: TxnNo) -> Site
     }
 }
 
-/// Why a transaction is pending, or None where its site doesn't have it.
+/// Why a transaction is pending, or None where the site of its class, by the list in force, doesn't
+/// have it.
 pub fn why(
     alloc: Global,
     catalogue: &Catalogue,
@@ -117,7 +116,7 @@ pub fn why(
         × StandsOn catalogue.now world.now g log }
     ensures { IfOk result (λ why. (g : Given) (log : Log)
         → StandsOn catalogue.now world.now g log
-        → why ≡ reason_of standing_of g log number.0) }
+        → why ≡ reason_of standing_of (last_home g log) g log number.0) }
 {
     let at = home_of(world, number);
     let standing = world.standing(at, number);

@@ -1,22 +1,43 @@
+use Rattle.std.proofs.Common.{◌∙◌, subst, sym}
+use Rattle.std.specs.List.{AllZip}
+use Rattle.sdd_catalog.specs.Catalogue.{Catalogue}
+use Rattle.sdd_catalog.specs.Rules.{IsSound}
+use Rattle.sdd_protocol.specs.Protocols.{IsTable}
+use Rattle.sdd_log.specs.Entries.{history}
+use Rattle.sdd_order.specs.Orders.{IsOrderable}
 use Rattle.sdd_run.specs.Runs.{given_of}
+use Rattle.sdd_run.specs.Worlds.{StandsOn}
 use Rattle.sdd_run.proofs.Ordered.{orderable}
-use Rattle.sdd_run.proofs.Reported.{reported}
+use Rattle.sdd_run.proofs.Reported.{last_homes, reported}
 use Rattle.sdd_run.proofs.run.run_report.Goals as goal
+
+pub finished-world-requires-clause-tabled : goal.finished-world-requires-clause-tabled
+finished-world-requires-clause-tabled c =
+    subst (λ cats. AllZip IsTable cats c.in_ok-tables.tables.items) (c.eras.ensures ∙ c.in_ok-lists.ensures.eras) c.in_ok-tables.ensures
 
 pub report_on-requires : goal.report_on-requires
 report_on-requires c =
     let cat = c.args.catalogue.now in
-    let r = c.in_ok-world.ensures.run in (
-      given_of cat c.in_ok-table.table c.args.work,
+    let tables = c.in_ok-tables.tables.items in
+    let r = c.in_ok-world.ensures.run in
+    let is = c.whole-whole.ensures ∙ c.in_ok-lists.ensures.whole in
+    let tabled = subst (λ cats. AllZip IsTable cats tables) (c.eras.ensures ∙ c.in_ok-lists.ensures.eras) c.in_ok-tables.ensures in
+    let sound = subst IsSound is c.known.ensures.sound in (
+      given_of cat tables c.args.work,
       r.log,
-      orderable cat c.in_ok-table.table c.args.work c.known.ensures.sound c.requires.valid c.in_ok-table.ensures r.log r.log_is r.one_era,
-      r.stands,
+      subst (λ (k : Catalogue). IsOrderable k (history r.log)) (sym is) (orderable cat tables c.args.work sound c.requires.valid tabled r.log r.log_is),
+      subst (λ k. StandsOn k c.in_ok-world.world (given_of cat tables c.args.work) r.log) (sym is) r.stands,
     )
 
 pub returns-clause-report : goal.returns-clause-report
 returns-clause-report c =
     let cat = c.args.catalogue.now in
-    let table = c.in_ok-table.table in
+    let tables = c.in_ok-tables.tables.items in
     let r = c.in_ok-world.ensures.run in
-    reported cat table c.args.work r.log c.known.ensures.sound c.requires.valid c.in_ok-table.ensures r.log_is r.one_era c.in_ok-report_on.field-0.items
-    (c.in_ok-report_on.ensures (given_of cat table c.args.work) r.log r.stands)
+    let given = given_of cat tables c.args.work in
+    let is = c.whole-whole.ensures ∙ c.in_ok-lists.ensures.whole in
+    let tabled = subst (λ cats. AllZip IsTable cats tables) (c.eras.ensures ∙ c.in_ok-lists.ensures.eras) c.in_ok-tables.ensures in
+    let sound = subst IsSound is c.known.ensures.sound in
+    let stands = subst (λ k. StandsOn k c.in_ok-world.world given r.log) (sym is) r.stands in
+    reported cat tables c.args.work r.log sound c.requires.valid tabled r.log_is c.in_ok-report_on.field-0.items
+    (c.in_ok-report_on.ensures given r.log stands (last_homes cat tables c.args.work sound c.requires.valid tabled r.log r.log_is))

@@ -1,15 +1,22 @@
-use Rattle.std.proofs.Common.{◌∙◌}
+use Rattle.std.proofs.Common.{◌∙◌, subst}
+use Rattle.std.specs.List.{AllZip}
+use Rattle.sdd_protocol.specs.Protocols.{IsTable}
 use Rattle.sdd_run.specs.Runs.{given_of}
 use Rattle.sdd_run.proofs.Reported.{summed_up}
 use Rattle.sdd_run.proofs.run.run_summary.Goals as goal
 
+pub finished-world-requires-clause-tabled : goal.finished-world-requires-clause-tabled
+finished-world-requires-clause-tabled c =
+    subst (λ cats. AllZip IsTable cats c.in_ok-tables.tables.items) (c.eras.ensures ∙ c.in_ok-lists.ensures.eras) c.in_ok-tables.ensures
+
 pub returns-clause-summary : goal.returns-clause-summary
 returns-clause-summary c =
     let cat = c.args.catalogue.now in
-    let table = c.in_ok-table.table in
+    let tables = c.in_ok-tables.tables.items in
+    let tabled = subst (λ cats. AllZip IsTable cats tables) (c.eras.ensures ∙ c.in_ok-lists.ensures.eras) c.in_ok-tables.ensures in
     let r = c.in_ok-world.ensures.run in
-    let given = given_of cat table c.args.work in
-    summed_up cat table c.args.work c.in_ok-world.world c.in_ok-table.ensures r
+    let given = given_of cat tables c.args.work in
+    summed_up cat tables c.args.work c.in_ok-world.world tabled r
     c.in_ok-summary_text.field-0.items c.summary_of-summary.result c.as_slice.result.now
-    c.as_slice-2.result.now c.events.result c.in_ok-summary_text.ensures c.summary_of-summary.ensures c.as_slice.ensures
-    (c.as_slice-2.ensures ∙ c.history.ensures given r.log r.stands.stands) (c.events.ensures given r.log r.stands.stands)
+    c.as_slice-3.result.now c.events.result c.in_ok-summary_text.ensures c.summary_of-summary.ensures c.as_slice.ensures
+    (c.as_slice-3.ensures ∙ c.history.ensures given r.log r.stands.stands) (c.events.ensures given r.log r.stands.stands)

@@ -1,7 +1,7 @@
 use Rattle.std.proofs.Common.{◌≡◌, take}
 use Rattle.std.specs.Prelude.{filter_map}
 use Rattle.sdd_log.specs.Entries.{Given, Log, history}
-use Rattle.sdd_run.specs.Pending.{pending_by}
+use Rattle.sdd_run.specs.Pending.{last_home, pending_by}
 use Rattle.sdd_run.specs.Worlds.{StandsOn}
 use Rattle.sdd_run.proofs.unfinished.pending.Given as goal
 use Rattle.sdd_world.specs.Standings.{standing_of}
@@ -10,4 +10,4 @@ abbrev pub invariant-loop-entry : goal.invariant-loop-entry
 invariant-loop-entry l = (given : Given) (log : Log)
     → StandsOn l.catalogue l.world
     given log
-    → l.found.items ≡ filter_map (pending_by standing_of given log (history log)) (take l.entry-index l.history)
+    → l.found.items ≡ filter_map (pending_by standing_of (last_home given log) given log (history log)) (take l.entry-index l.history)

@@ -1,0 +1,226 @@
+-- Where a settle or a redeclare is the last of the events, the links are quiet at the end.
+use Rattle.std.proofs.Common.{ℕ, suc, ◌++◌, ◌≡◌, ◌∙◌, ◌∷◌, Bool, List, None, Option, Some, [], ap, false, if◌then◌else◌, inl, inr, refl, subst, sym, true}
+use Rattle.std.specs.Prelude.{◌⊎◌}
+use Rattle.sdd_base.specs.Sites.{sites}
+use Rattle.sdd_base.specs.Words.{tail_of}
+use Rattle.sdd_base.specs.declared.event.Event.{Event}
+use Rattle.sdd_base.specs.declared.event.Event.TheVariants.{Submit, Deliver, Lose, Repeat, Resend, Tick, Settle, Redeclare, Down, Up}
+use Rattle.sdd_base.specs.declared.site.Site.{Site}
+use Rattle.sdd_base.specs.declared.site.Site.TheVariants.{D, T, U}
+use Rattle.sdd_module.specs.SiteLog.{Act, Bases, Force}
+use Rattle.sdd_module.specs.SiteLog as site
+use Rattle.sdd_net.specs.Links.{delivered, quiet, round}
+use Rattle.sdd_log.specs.Due.{does_at, hand_due, hand_number, hand_on, next, next_at, next_in, next_number, site_due}
+use Rattle.sdd_log.specs.Entries.{Does, Entry, Given, Hand, Log, Mark, Notes, Redeclares, Round, Submitted, with_event}
+use Rattle.sdd_log.specs.Lawful.{IsLawful}
+use Rattle.sdd_log.specs.Locals.{force_at, local_of, redeclares, setting_of, with_force}
+use Rattle.sdd_log.specs.Marks.{after_mark, from_event, left, mark_from, mark_of}
+use Rattle.sdd_log.specs.Snapshots.{base_of}
+use Rattle.sdd_log.specs.Traffic.{all_links, calls_of, handed, link_of, takes_part}
+use Rattle.sdd_log.proofs.Steps.{none_any_base}
+use Rattle.sdd_step.proofs.Completing.{complete_parts, none_left}
+use Rattle.sdd_step.proofs.Ticking.{first_none, none_by_redeclare}
+use Rattle.sdd_settling.proofs.Marked.{next_is_of_events}
+use Rattle.sdd_settling.proofs.Settled.{quiet_at_last}
+use Rattle.sdd_rest.proofs.IdleAtRedeclares.{at_redeclare}
+use Rattle.sdd_run.specs.Settled.{IsAtRest}
+
+-- whether the last of the events is a redeclare, where it is told what holds of none
+
+is_redeclare : Event → Bool
+is_redeclare Redeclare = true
+is_redeclare _ = false
+
+ends : Bool → List Event → Bool
+ends b [] = b
+ends b (e ∷ events) = ends (is_redeclare e) events
+
+ends_so : (b : Bool) (events : List Event) → ends b (events ++ Redeclare ∷ []) ≡ true
+unfolding ends is_redeclare
+ends_so b [] = refl
+ends_so b (e ∷ events) = ends_so (is_redeclare e) events
+
+-- it stays the last where another event is marked
+mark_on : (g : Given) (log : Log) (q : Bool) (r ws : List Event) (e : Event) → mark_from g log q r ws ≡ Some (Mark e) → ends false ws ≡ true
+    → ends false (tail_of (from_event ws)) ≡ true
+unfolding ends is_redeclare
+mark_on g log q r [] e h p = absurd (cc)
+mark_on g log true r (Settle ∷ ws) e h p = mark_on g log true r ws e h p
+mark_on g log false r (Settle ∷ ws) e h p = absurd (cc)
+mark_on g log true r (Redeclare ∷ ws) e h p = absurd (cc)
+mark_on g log false r (Redeclare ∷ ws) e h p = absurd (cc)
+mark_on g log q r (Submit n ∷ ws) e h p = p
+mark_on g log q r (Deliver a b k ∷ ws) e h p = p
+mark_on g log q r (Lose a b k ∷ ws) e h p = p
+mark_on g log q r (Repeat a b k ∷ ws) e h p = p
+mark_on g log q r (Resend a b ∷ ws) e h p = p
+mark_on g log q r (Tick t n ∷ ws) e h p = p
+mark_on g log q r (Down d ∷ ws) e h p = p
+mark_on g log q r (Up d ∷ ws) e h p = p
+
+mark_taken : (g : Given) (log : Log) (e : Event) (s : List Event × List Event) → mark_of g log s ≡ Some (Mark e) → ends false s.0 ≡ true
+    → ends false (after_mark s).0 ≡ true
+mark_taken g log e (ws, []) h p = mark_on g log (quiet (all_links g) (calls_of log)) (round (all_links g) (calls_of log)) ws e h p
+mark_taken g log e (ws, x ∷ events) h p = p
+
+-- or is the one that a list of classes was put in force by
+
+last_or_not : (ws : List Event) → ends true ws ≡ true → (ends false ws ≡ true) ⊎ (ws ≡ [])
+unfolding ends is_redeclare
+last_or_not [] p = inr refl
+last_or_not (x ∷ ws) p = inl p
+
+list_on : (g : Given) (log : Log) (q : Bool) (r ws : List Event) (t : ℕ) → mark_from g log q r ws ≡ Some (Redeclares t) → ends false ws ≡ true
+    → (ends false (tail_of (from_event ws)) ≡ true) ⊎ (tail_of (from_event ws) ≡ [])
+unfolding ends is_redeclare
+list_on g log q r [] t h p = absurd (cc)
+list_on g log true r (Settle ∷ ws) t h p = list_on g log true r ws t h p
+list_on g log false r (Settle ∷ ws) t h p = absurd (cc)
+list_on g log q r (Redeclare ∷ ws) t h p = last_or_not ws p
+list_on g log q r (Submit n ∷ ws) t h p = absurd (cc)
+list_on g log q r (Deliver a b k ∷ ws) t h p = absurd (cc)
+list_on g log q r (Lose a b k ∷ ws) t h p = absurd (cc)
+list_on g log q r (Repeat a b k ∷ ws) t h p = absurd (cc)
+list_on g log q r (Resend a b ∷ ws) t h p = absurd (cc)
+list_on g log q r (Tick u n ∷ ws) t h p = absurd (cc)
+list_on g log q r (Down d ∷ ws) t h p = absurd (cc)
+list_on g log q r (Up d ∷ ws) t h p = absurd (cc)
+
+list_taken : (g : Given) (log : Log) (t : ℕ) (s : List Event × List Event) → mark_of g log s ≡ Some (Redeclares t) → ends false s.0 ≡ true
+    → (ends false (after_mark s).0 ≡ true) ⊎ (after_mark s ≡ ([], []))
+list_taken g log t (ws, []) h p =
+    elim (list_on g log (quiet (all_links g) (calls_of log)) (round (all_links g) (calls_of log)) ws t h p) [
+      | inl q ↦ inl q
+      | inr q ↦ inr (ap (λ xs. (xs, [])) q)
+    ]
+list_taken g log t (ws, x ∷ events) h p = absurd (cc)
+
+-- behind that nothing is due
+
+not_due : (at : Site) (o p : Option Act) → (o ≡ None → p ≡ None) → does_at at o ≡ None → does_at at p ≡ None
+not_due at None p k e = ap (does_at at) (k refl)
+not_due at (Some act) p k e = absurd (cc)
+
+forced_none : (g : Given) (x : Site) (bases : Bases) (force : Force) (t : ℕ) (l : site.Log) → next_in g x bases l ≡ None
+    → next_in g x bases (with_force x force t l) ≡ None
+forced_none g U bases force t l k = k
+forced_none g (T n) bases force t l k = none_by_redeclare (setting_of g (T n)) bases l force t k
+forced_none g (D d) bases force t l k = k
+
+none_at_site : (g : Given) (t : ℕ) (log : Log) → site_due g log ≡ None → site_due g (Redeclares t ∷ log) ≡ None
+none_at_site g t log =
+    first_none (λ x. does_at x (next_at g log x)) (λ x. does_at x (next_at g (Redeclares t ∷ log) x)) (sites g.catalogue.tms g.catalogue.dms)
+    (λ x. not_due x (next_at g log x) (next_at g (Redeclares t ∷ log) x) (λ i.
+    forced_none g x (base_of g (Redeclares t ∷ log)) (force_at g (suc (redeclares log))) t (local_of g x log)
+    (none_any_base g x (base_of g log) (base_of g (Redeclares t ∷ log)) (local_of g x log) i)))
+
+same_part : (x : Site) (t : ℕ) (log : Log) → takes_part x (Redeclares t ∷ log) ≡ takes_part x log
+same_part U t log = refl
+same_part (T n) t log = refl
+same_part (D d) t log = refl
+
+same_hand : (t : ℕ) (log : Log) (l : Site × Site) → hand_on (Redeclares t ∷ log) l ≡ hand_on log l
+same_hand t log l =
+    ap (λ b. if b then hand_number log l (next_number (handed l.0 l.1 log) (delivered (link_of l.0 l.1 log).there)) else None) (same_part l.1 t log)
+
+none_to_hand : (g : Given) (t : ℕ) (log : Log) → hand_due g log ≡ None → hand_due g (Redeclares t ∷ log) ≡ None
+none_to_hand g t log = first_none (hand_on log) (hand_on (Redeclares t ∷ log)) (all_links g) (λ l e. same_hand t log l ∙ e)
+
+record IsDone (g : Given) (log : Log) : Type 0 where
+  time : ℕ
+  before : Log
+  is : log ≡ Redeclares time ∷ before
+  none : left g.events log ≡ ([], [])
+
+done_is_over : (g : Given) (t : ℕ) (before : Log) → next g before ≡ Some (Redeclares t) → left g.events (Redeclares t ∷ before) ≡ ([], [])
+    → next g (Redeclares t ∷ before) ≡ None
+done_is_over g t before h e =
+    let m = at_redeclare g before t h in
+    none_left g (Redeclares t ∷ before)
+    (record {
+      no_mark = refl;
+      no_site = none_at_site g t before m.no_site;
+      no_hand = none_to_hand g t before m.no_hand;
+    })
+    e
+
+over : (g : Given) (log : Log) (x : Entry) → IsLawful g log → next g log ≡ Some x → IsDone g log → ⊥
+over g log x h n d =
+    let lawful : IsLawful g (Redeclares d.time ∷ d.before) = subst (IsLawful g) d.is h in
+    let none : next g log ≡ None =
+    ap (next g) d.is ∙ done_is_over g d.time d.before lawful.0 (ap (left g.events) (sym d.is) ∙ d.none) in
+    let wrong : Some x ≡ None = sym n ∙ none in absurd (cc)
+
+-- so the last event is to come, or is done
+
+IsLast : Given → Log → Type 0
+IsLast g log = (ends false (left g.events log).0 ≡ true) ⊎ IsDone g log
+
+to_come : (g : Given) (log : Log) (x : Entry) → IsLawful g (x ∷ log) → IsLast g log → ends false (left g.events log).0 ≡ true
+unfolding IsLast
+to_come g log x h (inl p) = p
+to_come g log x h (inr d) = absurd (over g log x h.1 h.0 d)
+
+last_one : (g : Given) (log : Log) (t : ℕ)
+    → (ends false (after_mark (left g.events log)).0 ≡ true) ⊎ (after_mark (left g.events log) ≡ ([], [])) → IsLast g (Redeclares t ∷ log)
+unfolding IsLast
+last_one g log t (inl p) = inl p
+last_one g log t (inr p) = inr (record { time = t; before = log; is = refl; none = p })
+
+is_last : (g : Given) (log : Log) → IsLawful g log → ends false g.events ≡ true → IsLast g log
+unfolding IsLast
+is_last g [] h p = inl p
+is_last g (Mark e ∷ log) h p =
+    inl (mark_taken g log e (left g.events log) (next_is_of_events g log (Mark e) refl h.0) (to_come g log (Mark e) h (is_last g log h.1 p)))
+is_last g (Redeclares t ∷ log) h p =
+    last_one g log t (list_taken g log t (left g.events log) (next_is_of_events g log (Redeclares t) refl h.0)
+    (to_come g log (Redeclares t) h (is_last g log h.1 p)))
+is_last g (Round es ∷ log) h p = inl (to_come g log (Round es) h (is_last g log h.1 p))
+is_last g (Hand a b n m ∷ log) h p = inl (to_come g log (Hand a b n m) h (is_last g log h.1 p))
+is_last g (Submitted at n ∷ log) h p = inl (to_come g log (Submitted at n) h (is_last g log h.1 p))
+is_last g (Notes ∷ log) h p = inl (to_come g log Notes h (is_last g log h.1 p))
+is_last g (Does at act ∷ log) h p = inl (to_come g log (Does at act) h (is_last g log h.1 p))
+
+-- where it is to come, something is next
+
+none_next : (g : Given) (log : Log) (q : Bool) (r ws : List Event) → mark_from g log q r ws ≡ None → ends false ws ≡ true → ⊥
+unfolding ends is_redeclare
+none_next g log q r [] h p = absurd (cc)
+none_next g log true r (Settle ∷ ws) h p = none_next g log true r ws h p
+none_next g log false r (Settle ∷ ws) h p = absurd (cc)
+none_next g log true r (Redeclare ∷ ws) h p = absurd (cc)
+none_next g log false r (Redeclare ∷ ws) h p = absurd (cc)
+none_next g log q r (Submit n ∷ ws) h p = absurd (cc)
+none_next g log q r (Deliver a b k ∷ ws) h p = absurd (cc)
+none_next g log q r (Lose a b k ∷ ws) h p = absurd (cc)
+none_next g log q r (Repeat a b k ∷ ws) h p = absurd (cc)
+none_next g log q r (Resend a b ∷ ws) h p = absurd (cc)
+none_next g log q r (Tick t n ∷ ws) h p = absurd (cc)
+none_next g log q r (Down d ∷ ws) h p = absurd (cc)
+none_next g log q r (Up d ∷ ws) h p = absurd (cc)
+
+none_to_come : (g : Given) (log : Log) (s : List Event × List Event) → mark_of g log s ≡ None → ends false s.0 ≡ true → ⊥
+none_to_come g log (ws, []) h p = none_next g log (quiet (all_links g) (calls_of log)) (round (all_links g) (calls_of log)) ws h p
+none_to_come g log (ws, x ∷ events) h p = absurd (cc)
+
+quiet_where : (g : Given) (log : Log) → IsLawful g log → next g log ≡ None → IsLast g log → quiet (all_links g) (calls_of log) ≡ true
+unfolding IsLast
+quiet_where g log h n (inl p) = absurd (none_to_come g log (left g.events log) (complete_parts g log n).no_next p)
+quiet_where g log h n (inr d) =
+    let lawful : IsLawful g (Redeclares d.time ∷ d.before) = subst (IsLawful g) d.is h in
+    ap (λ l. quiet (all_links g) (calls_of l)) d.is ∙ (at_redeclare g d.before d.time lawful.0).links
+
+-- an event before which rounds go on is the last
+pub quiet_at_rest : (g : Given) (last : Event) → IsAtRest last → (log : Log) → IsLawful (with_event g last) log → next (with_event g last) log ≡ None
+    → quiet (all_links g) (calls_of log) ≡ true
+quiet_at_rest g Settle at log h n = quiet_at_last g log h n
+quiet_at_rest g Redeclare at log h n =
+    quiet_where (with_event g Redeclare) log h n (is_last (with_event g Redeclare) log h (ends_so false g.events))
+quiet_at_rest g (Submit k) at log h n = absurd at
+quiet_at_rest g (Deliver a b k) at log h n = absurd at
+quiet_at_rest g (Lose a b k) at log h n = absurd at
+quiet_at_rest g (Repeat a b k) at log h n = absurd at
+quiet_at_rest g (Resend a b) at log h n = absurd at
+quiet_at_rest g (Tick t k) at log h n = absurd at
+quiet_at_rest g (Down d) at log h n = absurd at
+quiet_at_rest g (Up d) at log h n = absurd at

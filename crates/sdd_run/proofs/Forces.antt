@@ -1,0 +1,89 @@
+-- The lists of classes of a workload as they are given: each is an era of the whole catalogue, and has its protocol table.
+use Rattle.std.proofs.Common.{ℕ, zero, suc, ◌≤◌, ◌≡◌, ◌∙◌, List, [], ◌∷◌, Some, ap, arith, inl, inr, length, refl, slice_get, subst, sym}
+use Rattle.std.specs.List.{AllZip}
+use Rattle.std.proofs.lemmas.Bool.{cases_lt}
+use Rattle.std.proofs.lemmas.List.{get_or_past}
+use Rattle.std.proofs.lemmas.Option.{slice_get-get_or}
+use Rattle.std.proofs.lemmas.Slice.Zip.{AllZip-long}
+use Rattle.sdd_catalog.specs.Catalogue.{Catalogue}
+use Rattle.sdd_catalog.specs.Eras.{eras, extended, retired}
+use Rattle.sdd_catalog.specs.declared.resolved.Class.{Class}
+use Rattle.sdd_eras.specs.EraOf.{IsEraOf}
+use Rattle.sdd_eras.proofs.EraOfWhole.{era_of_whole}
+use Rattle.sdd_eras.proofs.EraSets.{era_of_itself}
+use Rattle.sdd_lists.specs.InForce.{classes_in, eras_in, whole_in}
+use Rattle.sdd_module.specs.SiteLog.{Force}
+use Rattle.sdd_protocol.specs.Protocols.{IsTable}
+use Rattle.sdd_protocol.specs.declared.entry.Entry.{Entry}
+use Rattle.sdd_script.specs.declared.workload.Workload.{Workload}
+use Rattle.sdd_log.specs.Locals.{IsForce, force_at}
+use Rattle.sdd_facts.specs.Reading.{HasEras}
+use Rattle.sdd_run.specs.Runs.{AreTables, forces_of, given_of}
+
+-- as many as catalogues, that is one more than lists
+
+pub eras_are : (cat : Catalogue) (lists : List (List Class)) → length (eras cat lists) ≡ suc (length lists)
+eras_are cat [] = refl
+eras_are cat (classes ∷ lists) = ap (λ n. suc n) (eras_are (extended classes (retired (length cat.classes) cat)) lists)
+
+forces_are : (cats : List Catalogue) (tables : List (List Entry)) → AllZip IsTable cats tables → length (forces_of cats tables) ≡ length cats
+forces_are [] tables h = refl
+forces_are (cat ∷ cats) [] h = absurd h
+forces_are (cat ∷ cats) (table ∷ tables) h = ap (λ n. suc n) (forces_are cats tables h.1)
+
+pub tables_are : (cat : Catalogue) (tables : List (List Entry)) (work : Workload) → AreTables cat work tables → length tables ≡ length (eras_in cat work)
+tables_are cat tables work tabled = AllZip-long IsTable (eras_in cat work) tables tabled
+
+pub some_table : (cat : Catalogue) (tables : List (List Entry)) (work : Workload) → AreTables cat work tables → 1 ≤ length tables
+some_table cat tables work tabled =
+    let all = tables_are cat tables work tabled in
+    let many = eras_are cat (classes_in cat work) in
+    omega (arith, all, many)
+
+-- the first catalogue in force is the one without the lists
+first_there : (cat : Catalogue) (lists : List (List Class)) → slice_get (eras cat lists) 0 ≡ Some cat
+first_there cat [] = refl
+first_there cat (classes ∷ lists) = refl
+
+pub first_era : (cat : Catalogue) (work : Workload) → IsEraOf (whole_in cat work) cat
+first_era cat work = era_of_whole cat (classes_in cat work) 0 cat (first_there cat (classes_in cat work))
+
+-- that of one list
+pub record IsOfList (cats : List Catalogue) (k : ℕ) (f : Force) : Type 0 where
+  pub there : slice_get cats k ≡ Some f.catalogue
+  pub force : IsForce f
+
+pub of_list : (cats : List Catalogue) (tables : List (List Entry)) → AllZip IsTable cats tables
+    → (k : ℕ) (f : Force) → slice_get (forces_of cats tables) k ≡ Some f → IsOfList cats k f
+of_list [] tables h k f e = cc
+of_list (cat ∷ cats) [] h k f e = absurd h
+of_list (cat ∷ cats) (table ∷ tables) h zero f e =
+    let first : Force = record { catalogue = cat; table = table } in
+    let same : first ≡ f = cc in
+    subst (IsOfList (cat ∷ cats) 0) same (record { there = refl; force = record { table = h.0 } })
+of_list (cat ∷ cats) (table ∷ tables) h (suc k) f e = let i = of_list cats tables h.1 k f e in record { there = i.there; force = i.force }
+
+module _ (cat : Catalogue) (tables : List (List Entry)) (work : Workload) (tabled : AreTables cat work tables) where
+  pub how_many : length (given_of cat tables work).forces ≡ suc (length (classes_in cat work))
+  how_many = forces_are (eras_in cat work) tables tabled ∙ eras_are cat (classes_in cat work)
+
+  -- beyond the last list there is none
+  abbrev none : Force
+  none = record { catalogue = whole_in cat work; table = [] }
+
+  pub list_at : (k : ℕ) → k ≤ length (classes_in cat work) → IsOfList (eras_in cat work) k (force_at (given_of cat tables work) k)
+  list_at k l =
+      let all = how_many in
+      of_list (eras_in cat work) tables tabled k (force_at (given_of cat tables work) k)
+      (slice_get-get_or (given_of cat tables work).forces k none (omega (arith, l, all)))
+
+  pub era_at : (k : ℕ) → k ≤ length (classes_in cat work) → IsEraOf (whole_in cat work) (force_at (given_of cat tables work) k).catalogue
+  era_at k l = era_of_whole cat (classes_in cat work) k (force_at (given_of cat tables work) k).catalogue (list_at k l).there
+
+  pub has_eras : HasEras (given_of cat tables work)
+  has_eras k = elim (cases_lt (length (classes_in cat work)) k) [
+    | inl past ↦ (let all = how_many in
+        subst (λ (f : Force). IsEraOf (whole_in cat work) f.catalogue)
+        (sym (get_or_past (given_of cat tables work).forces k none (omega (arith, past, all)))) (era_of_itself (whole_in cat work)))
+    | inr within ↦ era_at k (omega (arith, within))
+  ]

@@ -1,0 +1,121 @@
+-- A transaction that is pending when a run ends was submitted under the list of classes that is in force then: all that
+-- was submitted under an earlier one is committed. So it is looked for at the site of its class by that list.
+use Rattle.std.proofs.Common.{ℕ, suc, ◌+◌, ◌==◌, ◌++◌, ◌≡◌, ◌∙◌, ◌∷◌, Bool, false, true, if◌then◌else◌, inl, inr, List, [], Option, Some, None, ap, append_assoc, arith, length, refl, slice_get, subst, sym}
+use Rattle.std.specs.Prelude.{filter_map, option_map}
+use Rattle.std.specs.List.{cons_option, list_any}
+use Rattle.std.proofs.lemmas.Bool.{eqb-true}
+use Rattle.std.proofs.lemmas.List.{length-append}
+use Rattle.sdd_base.specs.Numbers.{txn_no}
+use Rattle.sdd_base.specs.declared.number.TxnNo.{TxnNo}
+use Rattle.sdd_base.specs.declared.site.Site.{Site}
+use Rattle.sdd_history.specs.declared.record.Rec.{Rec}
+use Rattle.sdd_history.specs.declared.record.Rec.TheVariants.{Answer, Apply, Arrive, Commit, Nothing, Pass, Reject, Start, Submit, Wait}
+use Rattle.sdd_invariants.proofs.Bools.{not_both, same_number}
+use Rattle.sdd_invariants.proofs.Made.{permitted_before}
+use Rattle.sdd_laws.specs.Deeds.{IsSubmitted}
+use Rattle.sdd_log.specs.Due.{home_of}
+use Rattle.sdd_log.specs.Entries.{Does, Given, Hand, Log, Mark, Notes, Redeclares, Round, Submitted, history}
+use Rattle.sdd_log.specs.Locals.{force_at, redeclares, txn_at}
+use Rattle.sdd_log.specs.Permitted.{IsPermitted}
+use Rattle.sdd_upheld.proofs.Places.{stands_there}
+use Rattle.sdd_upheld.proofs.Submissions.{given_at, one_submit, submit_in}
+use Rattle.sdd_succession.proofs.AtRest.{commit_there, rest}
+use Rattle.sdd_succession.proofs.Fronts.{history_le, redeclare_between, stands_front}
+use Rattle.sdd_succession.proofs.Known.{Known}
+use Rattle.sdd_run.specs.Pending.{AreAtLastHomes, Homes, Telling, commits, last_home, pending_as, pending_at, pending_by, pending_of, reason_of, stands_at, submitted_at, why_of}
+use Rattle.sdd_run.proofs.Lossless.{commits_it}
+
+-- the site that a log tells is that of the one place where it submits the transaction
+
+at_submit : (later rest : Log) (at : Site) (n : ℕ)
+    → ((front after : Log) (other : Site) → later ≡ front ++ Submitted other n ∷ after → ⊥)
+    → submitted_at (later ++ Submitted at n ∷ rest) n ≡ at
+at_submit [] rest at n none = rw (same_number n) refl
+at_submit (Submitted b m ∷ later) rest at n none =
+    elim (m == n) as (λ c. (m == n) ≡ c → (if c then b else submitted_at (later ++ Submitted at n ∷ rest) n) ≡ at) [
+      | true ↦ λ e. absurd (none [] later b (ap (λ k. Submitted b k ∷ later) (eqb-true m n e)))
+      | false ↦ λ e. at_submit later rest at n (λ front after other is. none (Submitted b m ∷ front) after other (ap (λ l. Submitted b m ∷ l) is))
+    ] refl
+at_submit (Mark e ∷ later) rest at n none =
+    at_submit later rest at n (λ front after other is. none (Mark e ∷ front) after other (ap (λ l. Mark e ∷ l) is))
+at_submit (Round es ∷ later) rest at n none =
+    at_submit later rest at n (λ front after other is. none (Round es ∷ front) after other (ap (λ l. Round es ∷ l) is))
+at_submit (Redeclares t ∷ later) rest at n none =
+    at_submit later rest at n (λ front after other is. none (Redeclares t ∷ front) after other (ap (λ l. Redeclares t ∷ l) is))
+at_submit (Hand a b k m ∷ later) rest at n none =
+    at_submit later rest at n (λ front after other is. none (Hand a b k m ∷ front) after other (ap (λ l. Hand a b k m ∷ l) is))
+at_submit (Notes ∷ later) rest at n none =
+    at_submit later rest at n (λ front after other is. none (Notes ∷ front) after other (ap (λ l. Notes ∷ l) is))
+at_submit (Does by act ∷ later) rest at n none =
+    at_submit later rest at n (λ front after other is. none (Does by act ∷ front) after other (ap (λ l. Does by act ∷ l) is))
+
+pub submitted_there : (g : Given) (log later rest : Log) (at : Site) (n : ℕ) → IsPermitted g log → log ≡ later ++ Submitted at n ∷ rest → submitted_at log n ≡ at
+submitted_there g log later rest at n h is =
+    let here : IsSubmitted (history log) n (length (history rest)) =
+    subst (λ l. IsSubmitted (history l) n (length (history rest))) (sym is) (stands_there later (Submitted at n) rest (Submit (txn_no n)) refl) in
+    ap (λ l. submitted_at l n) is
+    ∙ at_submit later rest at n (λ front after other e.
+    (let between : Log = after ++ Submitted at n ∷ rest in
+    let whole : log ≡ front ++ Submitted other n ∷ between =
+    is ∙ ap (λ l. l ++ Submitted at n ∷ rest) e ∙ append_assoc front (Submitted other n ∷ after) (Submitted at n ∷ rest) in
+    let there : IsSubmitted (history log) n (length (history between)) =
+    subst (λ l. IsSubmitted (history l) n (length (history between))) (sym whole) (stands_there front (Submitted other n) between (Submit (txn_no n)) refl) in
+    let one = one_submit g log n (length (history between)) (length (history rest)) h there here in
+    let up = history_le after (Submitted at n ∷ rest) in
+    let more : length (history (Submitted at n ∷ rest)) ≡ length (history rest) + 1 = length-append (history rest) _ in
+    absurd (omega (arith, one, up, more))))
+
+-- what is submitted and not committed was submitted under the last list
+pub at_last_homes : (g : Given) (log : Log) → Known g log → AreAtLastHomes g log
+at_last_homes g log w n k submitted unmade =
+    let s = submit_in g log n k w.permitted submitted in
+    let now : IsPermitted g (Submitted s.at n ∷ s.rest) = permitted_before g s.later (Submitted s.at n ∷ s.rest) (subst (IsPermitted g) s.is w.permitted) in
+    let x = given_at g s.rest s.at n now in
+    elim (redeclare_between (Submitted s.at n) s.rest log s.later s.is) [
+      | inl same ↦
+          (submitted_there g log s.later s.rest s.at n w.permitted s.is ∙ x.at_is
+          ∙ ap (λ i. home_of (force_at g i).catalogue (txn_at g n)) (sym (ap redeclares x.is) ∙ same))
+      | inr b ↦ (let r = rest g log w b.after b.mid b.time b.upper_is in
+          let inside = history_le b.between (Submitted s.at n ∷ s.rest) in
+          let mid_long : length (history b.mid) ≡ length (history (b.between ++ Submitted s.at n ∷ s.rest)) = ap (λ l. length (history l)) b.mid_is in
+          let one : length (history (Submitted s.at n ∷ s.rest)) ≡ length (history s.rest) + 1 = length-append (history s.rest) _ in
+          let place = s.place_is in
+          let before : IsSubmitted (history b.mid) n k =
+          stands_front (history b.mid) r.more k (Submit (txn_no n)) (omega (arith, inside, mid_long, one, place))
+          (subst (λ h. IsSubmitted h n k) r.history_is submitted) in
+          let c = commit_there g log w b.mid r n k before in
+          absurd (not_both (list_any (commits n) (history log)) (commits_it (history log) n (record { place = c.1; number = c.0; commit = c.3 })) unmade))
+    ]
+
+-- so looking there comes to the same
+
+chosen_alike : {A B : Type 0} (f g : A → Option B) (xs : List A) → ((k : ℕ) (x : A) → slice_get xs k ≡ Some x → f x ≡ g x)
+    → filter_map f xs ≡ filter_map g xs
+chosen_alike f g [] h = refl
+chosen_alike f g (x ∷ xs) h =
+    ap (λ o. cons_option o (filter_map f xs)) (h 0 x refl) ∙ ap (cons_option (g x)) (chosen_alike f g xs (λ k y e. h (suc k) y e))
+
+same_if : (tell : Telling) (g : Given) (log : Log) (homes others : Homes) (n : TxnNo) (b : Bool) → (b ≡ false → homes n.0 ≡ others n.0)
+    → (if b then None else pending_as n (reason_of tell homes g log n.0)) ≡ (if b then None else pending_as n (reason_of tell others g log n.0))
+same_if tell g log homes others n true h = refl
+same_if tell g log homes others n false h = ap (λ at. pending_as n (why_of g log (stands_at tell g log at n.0))) (h refl)
+
+same_one : (tell : Telling) (g : Given) (log : Log) → AreAtLastHomes g log → (k : ℕ) (e : ℕ × Rec) → slice_get (history log) k ≡ Some e
+    → pending_by tell (last_home g log) g log (history log) e ≡ pending_by tell (submitted_at log) g log (history log) e
+same_one tell g log h k (event, Submit n) e =
+    same_if tell g log (last_home g log) (submitted_at log) n (list_any (commits n.0) (history log))
+    (λ unmade. sym (h n.0 k (ap (option_map (λ (x : ℕ × Rec). x.1)) e) unmade))
+same_one tell g log h k (event, Start txn attempt class ts p2 uses) e = refl
+same_one tell g log h k (event, Arrive txn attempt dm) e = refl
+same_one tell g log h k (event, Wait txn attempt dm conds) e = refl
+same_one tell g log h k (event, Answer txn attempt dm) e = refl
+same_one tell g log h k (event, Reject txn attempt dm class ts) e = refl
+same_one tell g log h k (event, Commit txn attempt reply changes values rows) e = refl
+same_one tell g log h k (event, Apply txn class dm ts) e = refl
+same_one tell g log h k (event, Pass class dm time) e = refl
+same_one tell g log h k (event, Nothing) e = refl
+
+pub pending_alike : (tell : Telling) (g : Given) (log : Log) → AreAtLastHomes g log → pending_at tell (last_home g log) g log ≡ pending_of tell g log
+pending_alike tell g log h =
+    chosen_alike (pending_by tell (last_home g log) g log (history log)) (pending_by tell (submitted_at log) g log (history log)) (history log)
+    (same_one tell g log h)

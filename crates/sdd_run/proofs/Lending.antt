@@ -1,0 +1,93 @@
+-- The lists of classes as they are lent to a world: one more, and all of them.
+use Rattle.std.proofs.Common.{ℕ, suc, zero, ◌+◌, ◌-◌, ◌++◌, ◌<◌, ◌≤◌, ◌≡◌, ◌∙◌, ◌∷◌, List, Some, [], ap, arith, get_or, length, map, refl, slice_get, subst, sym, take}
+use Rattle.std.specs.List.{AllZip}
+use Rattle.std.proofs.lemmas.List.{map-append, take_all, take_more}
+use Rattle.sdd_base.specs.Words.{tail_of}
+use Rattle.sdd_catalog.specs.Catalogue.{Catalogue}
+use Rattle.sdd_module.specs.SiteLog.{Force}
+use Rattle.sdd_protocol.specs.Protocols.{IsTable}
+use Rattle.sdd_protocol.specs.declared.entry.Entry.{Entry}
+use Rattle.sdd_world.specs.declared.schedule.ClassList.{ClassList}
+use Rattle.sdd_run.specs.Lent.{force_in}
+use Rattle.sdd_run.specs.Runs.{forces_of}
+
+-- one protocol table more
+
+zip_more : (cats : List Catalogue) (tables : List (List Entry)) (cat : Catalogue) (table : List Entry) → AllZip IsTable cats tables → IsTable cat table
+    → AllZip IsTable (cats ++ cat ∷ []) (tables ++ table ∷ [])
+zip_more [] [] cat table h k = (k, tt)
+zip_more [] (t ∷ tables) cat table h k = absurd h
+zip_more (c ∷ cats) [] cat table h k = absurd h
+zip_more (c ∷ cats) (t ∷ tables) cat table h k = (h.0, zip_more cats tables cat table h.1 k)
+
+pub tabled_more : (cats : List Catalogue) (i : ℕ) (cat : Catalogue) (tables : List (List Entry)) (table : List Entry)
+    → i < length cats → cat ≡ get_or cats i cat → AllZip IsTable (take i cats) tables → IsTable cat table
+    → AllZip IsTable (take (i + 1) cats) (tables ++ table ∷ [])
+tabled_more cats i cat tables table l is h k =
+    subst (λ cs. AllZip IsTable cs (tables ++ table ∷ [])) (ap (λ y. take i cats ++ y ∷ []) is ∙ sym (take_more cats i cat l))
+    (zip_more (take i cats) tables cat table h k)
+
+-- the list at a place
+
+at_place : (cats : List Catalogue) (tables : List (List Entry)) (k : ℕ) (cat : Catalogue) (table : List Entry)
+    → slice_get cats k ≡ Some cat → slice_get tables k ≡ Some table → slice_get (forces_of cats tables) k ≡ Some (record { catalogue = cat; table = table })
+at_place [] tables k cat table e f = absurd (cc)
+at_place (c ∷ cats) [] k cat table e f = absurd (cc)
+at_place (c ∷ cats) (t ∷ tables) zero cat table e f =
+    let p : c ≡ cat = cc in
+    let q : t ≡ table = cc in
+    let first : Force = record { catalogue = c; table = t } in
+    let other : Force = record { catalogue = cat; table = table } in
+    let same : first ≡ other = (λ i. record { catalogue = p i; table = q i }) in
+    ap (λ x. Some x) same
+at_place (c ∷ cats) (t ∷ tables) (suc k) cat table e f = at_place cats tables k cat table e f
+
+pub list_there : (cats : List Catalogue) (tables : List (List Entry)) (k : ℕ) (cat : Catalogue) (table : List Entry)
+    → k < length cats → k < length tables → cat ≡ get_or cats k cat → table ≡ get_or tables k table
+    → slice_get (forces_of cats tables) k ≡ Some (record { catalogue = cat; table = table })
+list_there cats tables k cat table l m e f = at_place cats tables k cat table (there cats k cat l e) (there tables k table m f)
+  where
+    there : {A : Type 0} (xs : List A) (k : ℕ) (x : A) → k < length xs → x ≡ get_or xs k x → slice_get xs k ≡ Some x
+    there [] k x l e = absurd (omega (arith, l))
+    there (y ∷ xs) zero x l e = ap (λ z. Some z) (sym e)
+    there (y ∷ xs) (suc k) x l e = there xs k x (omega (arith, l)) e
+
+-- the lists behind the first, one more
+
+at_tail : {A : Type 0} (xs : List A) (k : ℕ) (x : A) → slice_get xs (suc k) ≡ Some x → slice_get (tail_of xs) k ≡ Some x
+at_tail [] k x e = absurd (cc)
+at_tail (y ∷ xs) k x e = e
+
+take_at : {A : Type 0} (xs : List A) (k : ℕ) (x : A) → slice_get xs k ≡ Some x → take (suc k) xs ≡ take k xs ++ x ∷ []
+take_at [] k x e = absurd (cc)
+take_at (y ∷ xs) zero x e = let p : y ≡ x = cc in ap (λ z. z ∷ []) p
+take_at (y ∷ xs) (suc k) x e = ap (λ l. y ∷ l) (take_at xs k x e)
+
+up_one : {A : Type 0} (xs : List A) (k : ℕ) (x : A) → slice_get xs k ≡ Some x → 1 ≤ k → take (k + 1 - 1) (tail_of xs) ≡ take (k - 1) (tail_of xs) ++ x ∷ []
+up_one xs zero x e l = absurd (omega (arith, l))
+up_one xs (suc k) x e l =
+    let a : suc k + 1 - 1 ≡ suc k = omega arith in
+    let b : suc k - 1 ≡ k = omega arith in
+    ap (λ n. take n (tail_of xs)) a ∙ take_at (tail_of xs) k x (at_tail xs k x e) ∙ ap (λ n. take n (tail_of xs) ++ x ∷ []) (sym b)
+
+pub lent_more : (forces : List Force) (k : ℕ) (list : ClassList) (lists more : List ClassList) → slice_get forces k ≡ Some (force_in list) → 1 ≤ k
+    → more ≡ lists ++ list ∷ [] → map force_in lists ≡ take (k - 1) (tail_of forces) → map force_in more ≡ take (k + 1 - 1) (tail_of forces)
+lent_more forces k list lists more e l grown h =
+    ap (map force_in) grown ∙ map-append force_in lists (list ∷ []) ∙ ap (λ xs. xs ++ force_in list ∷ []) h ∙ sym (up_one forces k (force_in list) e l)
+
+-- all of them
+
+pub as_many : (cats : List Catalogue) (tables : List (List Entry)) → length tables ≡ length cats → length (forces_of cats tables) ≡ length cats
+as_many [] tables e = refl
+as_many (c ∷ cats) [] e = absurd (omega (arith, e))
+as_many (c ∷ cats) (t ∷ tables) e = ap (λ n. suc n) (as_many cats tables (omega (arith, e)))
+
+tail_long : {A : Type 0} (xs : List A) → length (tail_of xs) ≡ length xs - 1
+tail_long [] = omega arith
+tail_long (x ∷ xs) = omega arith
+
+pub all_lent : (forces : List Force) (k : ℕ) (lists : List ClassList) → length forces ≤ k → map force_in lists ≡ take (k - 1) (tail_of forces)
+    → map force_in lists ≡ tail_of forces
+all_lent forces k lists l h =
+    let n = tail_long forces in
+    h ∙ take_all (k - 1) (tail_of forces) (omega (arith, l, n))

@@ -1,0 +1,88 @@
+-- What is known of the run of a valid workload, whatever lists of classes it puts in force.
+use Rattle.std.proofs.Common.{◌≤◌, List, arith, length}
+use Rattle.std.specs.List.{All}
+use Rattle.std.proofs.lemmas.List.Elements.{All-weaker}
+use Rattle.sdd_base.specs.declared.number.RelNo.{RelNo}
+use Rattle.sdd_catalog.specs.Catalogue.{Catalogue}
+use Rattle.sdd_catalog.specs.Rules.{IsSound}
+use Rattle.sdd_lang.specs.Database.{Row}
+use Rattle.sdd_lang.specs.Fits.{Fits, FitsStart}
+use Rattle.sdd_lang.specs.Sound.{IsHeld, PutsHeld}
+use Rattle.sdd_lang.specs.declared.transaction.Txn.{Txn}
+use Rattle.sdd_lists.specs.InForce.{classes_in, whole_in}
+use Rattle.sdd_protocol.specs.declared.entry.Entry.{Entry}
+use Rattle.sdd_script.specs.Valid.{HoldsValues, IsValid, IsValidRow, IsValidTxn, IsValue}
+use Rattle.sdd_script.specs.declared.workload.Workload.{Workload}
+use Rattle.sdd_log.proofs.NewMarks.{lawful_permitted}
+use Rattle.sdd_log.specs.Entries.{Log}
+use Rattle.sdd_log.specs.Lawful.{IsTheLog}
+use Rattle.sdd_log.specs.Locals.{redeclares}
+use Rattle.sdd_log.specs.Permitted.{IsPermitted}
+use Rattle.sdd_upheld.specs.Given.{AreErasOf, HasSoundData, SubmitGiven}
+use Rattle.sdd_rest.proofs.ErasOf.{are_eras_of}
+use Rattle.sdd_rest.specs.Eras.{eras_of}
+use Rattle.sdd_rest.specs.Premises.{HasSoundLists, IsUpAtRedeclares}
+use Rattle.sdd_succession.proofs.Known.{Known, known}
+use Rattle.sdd_succession.proofs.Timely.{few_redeclares, up_at_redeclares}
+use Rattle.sdd_run.specs.Runs.{AreTables, given_of}
+use Rattle.sdd_run.proofs.Beginning.{rows_given}
+use Rattle.sdd_run.proofs.Forces.{era_at, how_many, list_at}
+use Rattle.sdd_run.proofs.Goods.{few_ticks, fits_given, held, puts_held}
+use Rattle.sdd_run.proofs.Marked.{named}
+use Rattle.sdd_run.proofs.Submissions.{once}
+use Rattle.sdd_run.proofs.Timely.{timely}
+use Rattle.sdd_run.proofs.Whole.{events_valid, rows_valid, txns_valid}
+
+module _ (cat : Catalogue) (tables : List (List Entry)) (work : Workload) (sound : IsSound (whole_in cat work)) (valid : IsValid cat work)
+    (tabled : AreTables cat work tables) where
+  pub submit_given : SubmitGiven (given_of cat tables work)
+  submit_given = record {
+    once = once work.events valid.submitted;
+    given = λ n there. named (whole_in cat work) (length work.txns) n work.events (events_valid cat work valid) there;
+  }
+
+  pub fine : HasSoundData (given_of cat tables work) work.rows
+  fine =
+      let whole = whole_in cat work in
+      record {
+        txns_fit = All-weaker (IsValidTxn whole) (Fits whole) (λ t v. v.fits) work.txns (txns_valid cat work valid);
+        txns_held = All-weaker (IsValidTxn whole) (λ (t : Txn). All PutsHeld t.statements)
+            (λ t v. All-weaker HoldsValues PutsHeld puts_held t.statements v.values) work.txns (txns_valid cat work valid);
+        rows_fit = All-weaker (IsValidRow whole) (FitsStart whole) (λ r v. v.fits) work.rows (rows_valid cat work valid);
+        rows_held = All-weaker (IsValidRow whole) (λ (r : RelNo × Row). All IsHeld r.1)
+            (λ r v. All-weaker IsValue IsHeld held r.1 v.values) work.rows (rows_valid cat work valid);
+        alike = λ d here. rows_given cat tables work d here.0 here.1;
+      }
+
+  module _ (log : Log) (the_log : IsTheLog (given_of cat tables work) log) where
+    pub permitted : IsPermitted (given_of cat tables work) log
+    permitted = lawful_permitted (given_of cat tables work) log (once work.events valid.submitted) the_log.lawful
+
+    -- no list is put in force beyond the last
+    few_lists : redeclares log ≤ length (classes_in cat work)
+    few_lists =
+        let all = how_many cat tables work tabled in
+        let few = few_redeclares (given_of cat tables work) log (few_ticks (whole_in cat work) (length work.txns) work.events (events_valid cat work valid))
+        the_log.lawful (timely cat tables work valid tabled) (omega (arith, all)) in
+        omega (arith, few, all)
+
+    pub lists : HasSoundLists (given_of cat tables work) log
+    lists k l =
+        let few = few_lists in
+        let within : k ≤ length (classes_in cat work) = omega (arith, l, few) in
+        record {
+          fits = fits_given cat tables work sound valid work.events;
+          era = era_at cat tables work tabled k within;
+          table = (list_at cat tables work tabled k within).force;
+        }
+
+    pub up : IsUpAtRedeclares (given_of cat tables work) log
+    up =
+        up_at_redeclares (given_of cat tables work) log (few_ticks (whole_in cat work) (length work.txns) work.events (events_valid cat work valid))
+        the_log.lawful (timely cat tables work valid tabled)
+
+    pub eras_are : AreErasOf (given_of cat tables work) log (eras_of (given_of cat tables work) log)
+    eras_are = are_eras_of (given_of cat tables work) log lists
+
+    pub known_of : Known (given_of cat tables work) log
+    known_of = known (given_of cat tables work) work.rows log (record { catalogue = sound }) fine submit_given the_log.lawful lists up

@@ -1,0 +1,77 @@
+-- In a valid workload each redeclare stands where it may: a list is left, and no data module is down.
+use Rattle.std.proofs.Common.{ℕ, ◌+◌, ◌≤◌, ◌≡◌, ◌∙◌, Bool, false, cond, List, [], ◌∷◌, Some, ap, arith, length, refl, slice_get, subst, sym, take}
+use Rattle.std.specs.Prelude.{count_by}
+use Rattle.std.specs.List.{fold}
+use Rattle.std.proofs.Math.Seq.{take-append_seam}
+use Rattle.std.proofs.lemmas.List.Sums.{sum_by-cons}
+use Rattle.std.proofs.lemmas.List.{length-map}
+use Rattle.sdd_base.specs.declared.event.Event.{Event}
+use Rattle.sdd_base.specs.declared.event.Event.TheVariants.{Submit, Deliver, Lose, Repeat, Resend, Tick, Settle, Redeclare, Down, Up}
+use Rattle.sdd_catalog.specs.Catalogue.{Catalogue}
+use Rattle.sdd_invariants.proofs.Lists.{at_seam}
+use Rattle.sdd_log.specs.Traffic.{turned_by}
+use Rattle.sdd_facts.specs.AfterEvents.{down_from, redeclares_in}
+use Rattle.sdd_lists.specs.InForce.{classes_in}
+use Rattle.sdd_protocol.specs.declared.entry.Entry.{Entry}
+use Rattle.sdd_script.specs.Redeclaring as script
+use Rattle.sdd_script.specs.Valid.{IsValid}
+use Rattle.sdd_script.specs.declared.workload.Workload.{Workload}
+use Rattle.sdd_succession.specs.Timely.{AreTimely}
+use Rattle.sdd_run.specs.Runs.{AreTables, given_of}
+use Rattle.sdd_run.proofs.Forces.{how_many}
+use Rattle.sdd_run.proofs.Whole.{same_dms}
+
+-- what a workload's events tell, and what the log's definitions count of them
+
+counted_one : (e : Event) (es : List Event) → redeclares_in (e ∷ es) ≡ cond (script.is_redeclare e) 1 0 + redeclares_in es
+counted_one (Submit n) es = omega arith
+counted_one (Deliver a b k) es = omega arith
+counted_one (Lose a b k) es = omega arith
+counted_one (Repeat a b k) es = omega arith
+counted_one (Resend a b) es = omega arith
+counted_one (Tick t n) es = omega arith
+counted_one Settle es = omega arith
+counted_one Redeclare es = omega arith
+counted_one (Down d) es = omega arith
+counted_one (Up d) es = omega arith
+
+pub counted : (es : List Event) → redeclares_in es ≡ count_by script.is_redeclare es
+counted [] = refl
+counted (e ∷ es) =
+    counted_one e es ∙ ap (λ n. cond (script.is_redeclare e) 1 0 + n) (counted es)
+    ∙ sym (sum_by-cons (λ x. cond (script.is_redeclare x) 1 0) e es)
+
+turned_alike : (d : ℕ) (e : Event) (b : Bool) → turned_by d e b ≡ script.turned_by d e b
+turned_alike d (Submit n) b = refl
+turned_alike d (Deliver x y k) b = refl
+turned_alike d (Lose x y k) b = refl
+turned_alike d (Repeat x y k) b = refl
+turned_alike d (Resend x y) b = refl
+turned_alike d (Tick t n) b = refl
+turned_alike d Settle b = refl
+turned_alike d Redeclare b = refl
+turned_alike d (Down m) b = refl
+turned_alike d (Up m) b = refl
+
+down_alike : (d : ℕ) (b : Bool) (es : List Event) → down_from d b es ≡ fold (λ down e. script.turned_by d e down) b es
+down_alike d b [] = refl
+down_alike d b (e ∷ es) =
+    ap (λ c. down_from d c es) (turned_alike d e b) ∙ down_alike d (script.turned_by d e b) es
+
+pub timely : (cat : Catalogue) (tables : List (List Entry)) (work : Workload) → IsValid cat work → AreTables cat work tables → AreTimely (given_of cat tables work)
+timely cat tables work valid tabled front rest is =
+    let there : slice_get work.events (length front) ≡ Some Redeclare = ap (λ es. slice_get es (length front)) is ∙ at_seam front rest Redeclare in
+    let may = valid.timely (length front) there in
+    let before : take (length front) work.events ≡ front = ap (take (length front)) is ∙ take-append_seam front (Redeclare ∷ rest) in
+    let few = may.left in
+    let same : count_by script.is_redeclare (take (length front) work.events) ≡ count_by script.is_redeclare front = ap (λ es. count_by script.is_redeclare es) before in
+    let all = how_many cat tables work tabled in
+    let lists : length (classes_in cat work) ≡ length work.lists = length-map work.lists _ in
+    let done = counted front in
+    record {
+      left = omega (arith, few, same, all, lists, done);
+      up = λ d here.
+          down_alike d false front
+          ∙ ap (λ es. script.is_down d es) (sym before)
+          ∙ may.up d (here.0, subst (λ n. d ≤ n) (same_dms cat work) here.1);
+    }

@@ -1,0 +1,123 @@
+-- The catalogue with the classes of all lists of a workload differs from the catalogue in its classes alone. So what fits
+-- the catalogue fits the whole one.
+use Rattle.std.proofs.Common.{ℕ, ◌≡◌, List, [], ◌∷◌, ap, length, refl, subst, sym}
+use Rattle.std.specs.List.{All}
+use Rattle.std.proofs.lemmas.List.Elements.{All-weaker}
+use Rattle.sdd_base.specs.declared.event.Event.{Event}
+use Rattle.sdd_base.specs.declared.event.Event.TheVariants.{Submit, Deliver, Lose, Repeat, Resend, Tick, Settle, Redeclare, Down, Up}
+use Rattle.sdd_base.specs.declared.number.RelNo.{RelNo}
+use Rattle.sdd_base.specs.declared.site.Site.{Site}
+use Rattle.sdd_base.specs.declared.site.Site.TheVariants.{U, T, D}
+use Rattle.sdd_catalog.specs.Catalogue.{Catalogue}
+use Rattle.sdd_catalog.specs.Eras.{extended, whole}
+use Rattle.sdd_catalog.specs.declared.resolved.Class.{Class}
+use Rattle.sdd_lang.specs.Database.{Row}
+use Rattle.sdd_lang.specs.Fits.{Fits, FitsAssign, FitsCondition, FitsConditions, FitsStart, FitsStatement}
+use Rattle.sdd_lang.specs.declared.assign.Assign.{Assign}
+use Rattle.sdd_lang.specs.declared.assign.Assign.TheVariants.{To, Add}
+use Rattle.sdd_lang.specs.declared.condition.Condition.{Condition}
+use Rattle.sdd_lang.specs.declared.condition.Condition.TheVariants.{Const, Same}
+use Rattle.sdd_lang.specs.declared.statement.Stmt.{Stmt}
+use Rattle.sdd_lang.specs.declared.statement.Stmt.TheVariants.{Put, Query, Update, Delete}
+use Rattle.sdd_lang.specs.declared.transaction.Txn.{Txn}
+use Rattle.sdd_script.specs.Valid.{IsSite, IsValid, IsValidEvent, IsValidRow, IsValidTxn}
+use Rattle.sdd_script.specs.declared.workload.Workload.{Workload}
+use Rattle.sdd_lists.specs.InForce.{classes_in, whole_in}
+
+-- other classes
+abbrev pub with_classes : Catalogue → List Class → Catalogue
+with_classes cat classes = record cat { classes = classes }
+
+whole_is : (cat : Catalogue) (lists : List (List Class)) → whole cat lists ≡ with_classes cat (whole cat lists).classes
+whole_is cat [] = refl
+whole_is cat (classes ∷ lists) = whole_is (extended classes cat) lists
+
+-- what speaks of no classes
+
+module _ (cat : Catalogue) (classes : List Class) where
+  abbrev other : Catalogue
+  other = with_classes cat classes
+
+  cond_fits : (rels : List RelNo) (q : Condition) → FitsCondition cat rels q → FitsCondition other rels q
+  cond_fits rels (Const l op v) h = h
+  cond_fits rels (Same l r) h = h
+
+  conds_fit : (rels : List RelNo) (qs : List Condition) → FitsConditions cat rels qs → FitsConditions other rels qs
+  conds_fit rels qs h = (h.0, All-weaker (FitsCondition cat rels) (FitsCondition other rels) (cond_fits rels) qs h.1)
+
+  assign_fits : (rel : ℕ) (a : Assign) → FitsAssign cat rel a → FitsAssign other rel a
+  assign_fits rel (To column value) h = h
+  assign_fits rel (Add column by) h = h
+
+  statement_fits : (s : Stmt) → FitsStatement cat s → FitsStatement other s
+  statement_fits (Put rel row) h = h
+  statement_fits (Query out rels conds) h = (h.0, h.1, h.2, h.3, conds_fit rels conds h.4)
+  statement_fits (Update rel sets conds) h =
+      (h.0, h.1, All-weaker (FitsAssign cat rel.0) (FitsAssign other rel.0) (assign_fits rel.0) sets h.2, conds_fit (rel ∷ []) conds h.3)
+  statement_fits (Delete rel conds) h = (h.0, conds_fit (rel ∷ []) conds h.1)
+
+  txn_fits : (txn : Txn) → Fits cat txn → Fits other txn
+  txn_fits txn f = record {
+    module_is_there = f.module_is_there;
+    few = f.few;
+    statements = All-weaker (FitsStatement cat) (FitsStatement other) statement_fits txn.statements f.statements;
+  }
+
+  valid_txn : (txn : Txn) → IsValidTxn cat txn → IsValidTxn other txn
+  valid_txn txn v = record { named = v.named; fits = txn_fits txn v.fits; values = v.values }
+
+  valid_row : (r : RelNo × Row) → IsValidRow cat r → IsValidRow other r
+  valid_row r v = record { fits = v.fits; values = v.values }
+
+  site : (at : Site) → IsSite cat at → IsSite other at
+  site U h = h
+  site (T t) h = h
+  site (D d) h = h
+
+  valid_event : (count : ℕ) (e : Event) → IsValidEvent cat count e → IsValidEvent other count e
+  valid_event count (Submit n) h = h
+  valid_event count (Deliver a b k) h = ((site a h.0.0, site b h.0.1, h.0.2), h.1)
+  valid_event count (Lose a b k) h = ((site a h.0.0, site b h.0.1, h.0.2), h.1)
+  valid_event count (Repeat a b k) h = ((site a h.0.0, site b h.0.1, h.0.2), h.1)
+  valid_event count (Resend a b) h = (site a h.0, site b h.1, h.2)
+  valid_event count (Tick t n) h = h
+  valid_event count Settle h = h
+  valid_event count Redeclare h = h
+  valid_event count (Down d) h = h
+  valid_event count (Up d) h = h
+
+-- of a valid workload
+
+pub same_tms : (cat : Catalogue) (work : Workload) → (whole_in cat work).tms ≡ cat.tms
+same_tms cat work = ap (λ (c : Catalogue). c.tms) (whole_is cat (classes_in cat work))
+
+pub same_dms : (cat : Catalogue) (work : Workload) → (whole_in cat work).dms ≡ cat.dms
+same_dms cat work = ap (λ (c : Catalogue). c.dms) (whole_is cat (classes_in cat work))
+
+module _ (cat : Catalogue) (work : Workload) (valid : IsValid cat work) where
+  -- the whole catalogue is one with other classes
+  in_whole : (P : Catalogue → Type 0) → P (with_classes cat (whole_in cat work).classes) → P (whole_in cat work)
+  in_whole P h = subst P (sym (whole_is cat (classes_in cat work))) h
+
+  pub rows_valid : All (IsValidRow (whole_in cat work)) work.rows
+  rows_valid =
+      let classes = (whole_in cat work).classes in
+      in_whole (λ c. All (IsValidRow c) work.rows)
+      (All-weaker (IsValidRow cat) (IsValidRow (with_classes cat classes)) (valid_row cat classes) work.rows valid.rows)
+
+  pub txns_valid : All (IsValidTxn (whole_in cat work)) work.txns
+  txns_valid =
+      let classes = (whole_in cat work).classes in
+      in_whole (λ c. All (IsValidTxn c) work.txns)
+      (All-weaker (IsValidTxn cat) (IsValidTxn (with_classes cat classes)) (valid_txn cat classes) work.txns valid.txns)
+
+  pub events_valid : All (IsValidEvent (whole_in cat work) (length work.txns)) work.events
+  events_valid =
+      let classes = (whole_in cat work).classes in
+      let count = length work.txns in
+      in_whole (λ c. All (IsValidEvent c count) work.events)
+      (All-weaker (IsValidEvent cat count) (IsValidEvent (with_classes cat classes) count) (valid_event cat classes count) work.events valid.events)
+
+  -- the rows fit
+  pub rows_start : All (FitsStart (whole_in cat work)) work.rows
+  rows_start = All-weaker (IsValidRow (whole_in cat work)) (FitsStart (whole_in cat work)) (λ r v. v.fits) work.rows rows_valid

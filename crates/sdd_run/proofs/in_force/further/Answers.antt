@@ -1,0 +1,14 @@
+use Rattle.std.proofs.Common.{arith}
+use Rattle.sdd_run.specs.Runs.{forces_of}
+use Rattle.sdd_run.proofs.Lending.{all_lent, as_many, lent_more}
+use Rattle.sdd_run.proofs.in_force.further.Goals as goal
+
+pub places-preserved : goal.places-preserved
+places-preserved c =
+    lent_more (forces_of c.args.eras.now c.args.tables.now) c.places.place c.list_at.result c.places.lists.items _ c.list_at.ensures
+    c.places.auto.place c.in_ok-push.ensures.items c.places.invariant
+
+pub returns : goal.returns
+returns c =
+    let all = as_many c.args.eras.now c.args.tables.now c.requires in
+    all_lent (forces_of c.args.eras.now c.args.tables.now) c.places.place c.places.lists.items (omega (arith, all)) c.places.invariant

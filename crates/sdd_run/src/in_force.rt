@@ -1,0 +1,55 @@
+//! The lists of classes of a workload, as a world puts them in force.
+ghost use Rattle.std.specs.Prelude.{◌≡◌, ◌<◌, Some, length, map, slice_get, IfOk};
+ghost use Rattle.std.specs.List.{AllZip};
+ghost use Rattle.sdd_base.specs.Words.{tail_of};
+ghost use Rattle.sdd_protocol.specs.Protocols.{IsTable};
+ghost use Rattle.sdd_run.specs.Lent.{force_in};
+ghost use Rattle.sdd_run.specs.Runs.{forces_of};
+
+use sdd_base::NoMemory;
+use sdd_catalog::Catalogue;
+use sdd_protocol::{Table, table};
+use sdd_world::ClassList;
+use std::alloc::Global;
+
+/// The protocol table of each catalogue.
+#[tactic(auto, using(crate::proofs::Lending::tabled_more))]
+pub fn tables_of(alloc: Global, eras: &[Catalogue]) -> Result<Vec<Table>, NoMemory>
+    ensures { IfOk result (λ tables. AllZip IsTable eras.now tables.items) }
+{
+    let mut tables = Vec::new(alloc);
+    'eras: for era in eras {
+        tables.push(table(alloc, era)?)?;
+    }
+    Ok(tables)
+}
+
+/// A catalogue with its protocol table.
+#[tactic(auto, using(crate::proofs::Lending::list_there))]
+fn list_at<'a>(eras: &'a [Catalogue], tables: &'a [Table], place: usize) -> ClassList<'a>
+    requires catalogue { place < length eras.now }
+    requires table { place < length tables.now }
+    ensures { slice_get (forces_of eras.now tables.now) place ≡ Some (force_in result) }
+{
+    ClassList {
+        catalogue: &eras[place],
+        table: &tables[place],
+    }
+}
+
+/// The lists behind the first, in order.
+pub fn further<'a>(
+    alloc: Global,
+    eras: &'a [Catalogue],
+    tables: &'a [Table],
+) -> Result<Vec<ClassList<'a>>, NoMemory>
+    requires { length tables.now ≡ length eras.now }
+    ensures { IfOk result (λ lists.
+        map force_in lists.items ≡ tail_of (forces_of eras.now tables.now)) }
+{
+    let mut lists = Vec::new(alloc);
+    'places: for place in 1..eras.len() {
+        lists.push(list_at(eras, tables, place))?;
+    }
+    Ok(lists)
+}
