@@ -20,22 +20,19 @@ use Rattle.sdd_lang.specs.declared.transaction.Txn.{Txn}
 use Rattle.sdd_laws.specs.Deeds.{txn_at}
 use Rattle.sdd_laws.specs.Replay.{run, texts_of}
 use Rattle.sdd_log.specs.Entries.{Given, history}
-use Rattle.sdd_log.specs.Locals.{redeclares}
 use Rattle.sdd_net.proofs.Lists.{All-at}
 use Rattle.sdd_order.specs.SerialOrder.{serial_order}
 use Rattle.sdd_report.specs.declared.copies.CopyTable.{CopyTable}
 use Rattle.sdd_run.specs.Copies.{tables_of}
 use Rattle.sdd_run.specs.Runs.{IsReportOn, given_of}
 use Rattle.sdd_run.proofs.Left.{told_rows}
-use Rattle.sdd_run.proofs.Ordered.{eras_are, fine, permitted}
-use Rattle.sdd_script.proofs.NoLists.{no_redeclare}
-use Rattle.sdd_script.specs.Redeclaring.{has_lists}
+use Rattle.sdd_run.proofs.RunOf.{eras_are, fine, lists, permitted}
+use Rattle.sdd_rest.specs.Eras.{eras_of}
 use Rattle.sdd_script.specs.Valid.{AssignsValue, HoldsValues, IsValid, IsValidRow, IsValidTxn, IsValue}
 use Rattle.sdd_script.specs.declared.workload.Workload.{Workload}
-use Rattle.sdd_upheld.specs.Given.{one_era}
 use Rattle.sdd_verified.proofs.CleanCopies.{copy_holds}
-use Rattle.sdd_verified.proofs.OneList.{no_lists, one_list}
 use Rattle.sdd_verified.proofs.ValuesKept.{Assigns, Answers, Hold, Holds, Writes, WritesAll, first_holds, serial_answers}
+use Rattle.sdd_lists.specs.InForce.{whole_in}
 
 module _ (P : Value → Type 0) (ints : (n : ℤ) → in_range n ≡ true → P (Int n)) (given : (v : Value) → IsValue v → P v) where
   row_given : (row : Row) → AllByRecursion IsValue row → Holds P ints row
@@ -71,27 +68,27 @@ module _ (P : Value → Type 0) (ints : (n : ℤ) → in_range n ≡ true → P 
   texts_given txns h [] = tt
   texts_given txns h (n ∷ order) = text_onto (txn_at txns n.0) (texts_of txns order) (λ t e. h n.0 t e) (texts_given txns h order)
 
-  module _ (cat : Catalogue) (work : Workload) (text : List ℕ) (sound : IsSound cat) (valid : IsValid cat work)
-      (lists : has_lists work ≡ false) (r : IsReportOn cat work text) where
-    none : redeclares r.log ≡ 0
-    none = one_list (given_of cat r.table work) r.log (no_lists work.events (no_redeclare cat work valid lists)) r.log_is.lawful
+  module _ (cat : Catalogue) (work : Workload) (text : List ℕ) (sound : IsSound (whole_in cat work)) (valid : IsValid cat work)
+      (r : IsReportOn cat work text) where
+    abbrev whole : Catalogue
+    whole = whole_in cat work
 
     writes : (n : ℕ) (t : Txn) → txn_at work.txns n ≡ Some t → WritesAll P ints t
     writes n t e =
         let v = All-at (IsValidTxn cat) work.txns (n - 1) t e valid.txns in
         writes_given t.statements (recursion_from_All HoldsValues t.statements v.values)
 
-    pub answers_given : AllByRecursion (Answers P ints) (run cat work.rows work.txns (serial_order cat (history r.log))).0
+    pub answers_given : AllByRecursion (Answers P ints) (run whole work.rows work.txns (serial_order whole (history r.log))).0
     answers_given =
-        serial_answers P ints cat (database_of cat work.rows) (texts_of work.txns (serial_order cat (history r.log)))
-        (first_holds P ints cat work.rows (rows_given cat work.rows valid.rows)) (texts_given work.txns writes (serial_order cat (history r.log)))
+        serial_answers P ints whole (database_of whole work.rows) (texts_of work.txns (serial_order whole (history r.log)))
+        (first_holds P ints whole work.rows (rows_given cat work.rows valid.rows)) (texts_given work.txns writes (serial_order whole (history r.log)))
 
-    pub copied_given : (table : CopyTable) → Contains (tables_of (given_of cat r.table work) r.log) table → Hold P ints table.rows
+    pub copied_given : (table : CopyTable) → Contains (tables_of (given_of cat r.tables work) r.log) table → Hold P ints table.rows
     copied_given table there =
-        let g : Given = given_of cat r.table work in
-        let goods = fine cat r.table work sound valid r.table_is r.log r.log_is none in
-        let may = permitted cat r.table work sound valid r.table_is r.log r.log_is none in
-        subst (Hold P ints) (sym (told_rows g work.rows r.log sound goods may (record { table = r.table_is }) refl none table there))
-        (copy_holds P ints g work.rows (one_era cat) r.log sound goods may
-        (eras_are cat r.table work sound valid r.table_is r.log r.log_is none) (serial_order cat (history r.log)) r.serial
+        let g : Given = given_of cat r.tables work in
+        let goods = fine cat r.tables work sound valid r.tables_are in
+        let may = permitted cat r.tables work sound valid r.tables_are r.log r.log_is in
+        subst (Hold P ints) (sym (told_rows g work.rows r.log sound goods may (lists cat r.tables work sound valid r.tables_are r.log r.log_is) table there))
+        (copy_holds P ints g work.rows (eras_of (given_of cat r.tables work) r.log) r.log sound goods may
+        (eras_are cat r.tables work sound valid r.tables_are r.log r.log_is) (serial_order whole (history r.log)) r.serial
         (rows_given cat work.rows valid.rows) writes table.dm.0 (length (history r.log)) table.frag.0)

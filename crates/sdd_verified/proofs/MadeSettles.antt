@@ -19,6 +19,7 @@ use Rattle.sdd_make.proofs.ValidWorkloads.{workload_valid}
 use Rattle.sdd_run.specs.Runs.{IsSummaryOn}
 use Rattle.sdd_verified.specs.Summaries.{SettleAll, TellsAllDone, takes_down}
 use Rattle.sdd_verified.proofs.AllSummed.{all_summed}
+use Rattle.sdd_lists.proofs.WholeSound.{whole_sound}
 
 submits_both : (n : ℕ) (xs ys : List Event) → submits_in n (xs ++ ys) ≡ submits_in n xs + submits_in n ys
 submits_both n [] ys = omega arith
@@ -75,7 +76,7 @@ made_settles seed n =
           let both = submits_both k (events_of (turns_of seed n)) (Settle ∷ []) in
           omega (arith, there, both));
       none_down = turns_up n 1 seed (Settle ∷ []) refl;
-      ends = record { before = events_of (turns_of seed n); is = refl };
+      ends = record { before = events_of (turns_of seed n); last = Settle; is = refl; at_rest = tt };
     }
 
 bank_is_sound : IsSound bank
@@ -86,5 +87,5 @@ pub made_summed : (seed n : ℕ) (text : List ℕ) → n ≤ MAX_TXNS → IsSumm
 made_summed seed n text few told =
     let count : length (txns_of (turns_of seed n)) ≡ n = txns_count n 1 seed in
     subst (λ m. TellsAllDone m text) count
-    (all_summed bank (workload_of seed n) text bank_is_sound (workload_valid seed n few) refl
+    (all_summed bank (workload_of seed n) text (whole_sound bank (workload_of seed n) bank_is_sound (workload_valid seed n few)) (workload_valid seed n few)
     (subst (λ m. SettleAll m (workload_of seed n).events) (sym count) (made_settles seed n)) told)

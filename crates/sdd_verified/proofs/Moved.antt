@@ -8,13 +8,13 @@ use Rattle.std.proofs.lemmas.List.Folds.{flat_map-map}
 use Rattle.sdd_base.specs.Numbers.{txn_no}
 use Rattle.sdd_base.specs.declared.number.TxnNo.{TxnNo}
 use Rattle.sdd_catalog.specs.Catalogue.{Catalogue}
-use Rattle.sdd_lang.specs.Classes.{class_for}
 use Rattle.sdd_lang.specs.declared.transaction.Txn.{Txn}
 use Rattle.sdd_report.specs.Committed.{order_line}
 use Rattle.sdd_script.specs.Valid.{IsValid}
 use Rattle.sdd_script.specs.declared.workload.Workload.{Workload}
 use Rattle.sdd_log.specs.Permitted.{submits_in}
-use Rattle.sdd_verify.specs.Submitted.{class_of, submitted, texts_of, txn_of}
+use Rattle.sdd_verify.specs.Classes.{class_of, classes_submitted}
+use Rattle.sdd_verify.specs.Submitted.{submitted, texts_of, txn_of}
 use Rattle.sdd_verify.specs.Verified.{IsInTurn, at}
 use Rattle.sdd_verify.proofs.NamesTold.{IsThere, name_in}
 use Rattle.sdd_verify.proofs.OrderWords.{behind_spaces}
@@ -69,9 +69,6 @@ module _ (cat : Catalogue) (work : Workload) (valid : IsValid cat work) where
       ∙ ap (λ (l : List (List ℕ)). codes "order" ++ (behind_spaces l ++ 10 ∷ [])) (moved_names order some)
       ∙ sym (by_names work.txns order)
 
-  pub moved_class : (n : TxnNo) → IsSubmittedOne n → class_of cat (submitted work) (moved n) ≡ class_of cat work.txns n
-  moved_class n some = ap (λ (o : Option Txn). option_map_or (class_for cat) o 0) (same_text n some)
-
   -- members by their places
 
   moved_at : (order : List TxnNo) (i : ℕ) → i < length order → at (map moved order) i ≡ moved (at order i)
@@ -79,31 +76,25 @@ module _ (cat : Catalogue) (work : Workload) (valid : IsValid cat work) where
   moved_at (n ∷ order) zero lt = refl
   moved_at (n ∷ order) (suc i) lt = moved_at order i (omega arith)
 
-  member_has : (order : List TxnNo) (i : ℕ) → i < length order → All IsSubmittedOne order → IsSubmittedOne (at order i)
-  member_has [] i lt some = absurd (omega arith)
-  member_has (n ∷ order) zero lt some = All-head IsSubmittedOne n order some
-  member_has (n ∷ order) (suc i) lt some = member_has order i (omega arith) (All-tail IsSubmittedOne n order some)
-
   moved_length : (order : List TxnNo) → length (map moved order) ≡ length order
   moved_length [] = refl
   moved_length (n ∷ order) = let more = moved_length order in omega (arith, more)
+
+  abbrev pub Classes : List ℕ
+  Classes = classes_submitted cat work
 
   -- of two in the order the one behind is another one, and of one class the one that is submitted later
   abbrev pub StandInTurn : List TxnNo → Type 0
   StandInTurn order = (i k : ℕ) → i < k → k < length order
       → ((moved (at order i)).0 ≢ (moved (at order k)).0)
-      × (class_of cat work.txns (at order i) ≡ class_of cat work.txns (at order k) → (moved (at order i)).0 < (moved (at order k)).0)
+      × (class_of Classes (moved (at order i)) ≡ class_of Classes (moved (at order k)) → (moved (at order i)).0 < (moved (at order k)).0)
 
-  pub moved_turn : (order : List TxnNo) → All IsSubmittedOne order → StandInTurn order → IsInTurn cat (submitted work) (map moved order)
-  moved_turn order some h i k less within =
+  pub moved_turn : (order : List TxnNo) → StandInTurn order → IsInTurn (classes_submitted cat work) (map moved order)
+  moved_turn order h i k less within =
       let long = moved_length order in
       let lt_k : k < length order = omega (arith, within, long) in
-      let lt_i : i < length order = omega (arith, less, lt_k) in
-      let at_i = moved_at order i lt_i in
+      let at_i = moved_at order i (omega (arith, less, lt_k)) in
       let at_k = moved_at order k lt_k in
-      let turn = h i k less lt_k in
-      let class_i = moved_class (at order i) (member_has order i lt_i some) in
-      let class_k = moved_class (at order k) (member_has order k lt_k some) in
-      let P : TxnNo → TxnNo → Type 0 = λ a b. (a.0 ≢ b.0) × (class_of cat (submitted work) a ≡ class_of cat (submitted work) b → a.0 < b.0) in
-      let here : P (moved (at order i)) (moved (at order k)) = (turn.0, λ same. turn.1 (sym class_i ∙ same ∙ class_k)) in
+      let P : TxnNo → TxnNo → Type 0 = λ a b. (a.0 ≢ b.0) × (class_of Classes a ≡ class_of Classes b → a.0 < b.0) in
+      let here : P (moved (at order i)) (moved (at order k)) = h i k less lt_k in
       subst (λ (a : TxnNo). P a (at (map moved order) k)) (sym at_i) (subst (λ (b : TxnNo). P (moved (at order i)) b) (sym at_k) here)

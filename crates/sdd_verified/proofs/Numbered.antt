@@ -24,11 +24,11 @@ number_in [] n = 0
 number_in (e ∷ events) n = number_by (scripts.submitted_by e) n (number_in events n)
 
 -- what an event submits, as it is counted and as it is read
-abbrev counted_by : Option ℕ → ℕ → ℕ
+abbrev pub counted_by : Option ℕ → ℕ → ℕ
 counted_by None n = 0
 counted_by (Some k) n = one_if (k == n)
 
-counted : (e : Event) (n : ℕ) → submits_by n e ≡ counted_by (scripts.submitted_by e) n
+pub counted : (e : Event) (n : ℕ) → submits_by n e ≡ counted_by (scripts.submitted_by e) n
 counted (Submit k) n = refl
 counted (Deliver from to place) n = refl
 counted (Lose from to place) n = refl
@@ -41,15 +41,15 @@ counted (Down dm) n = refl
 counted (Up dm) n = refl
 
 -- and its text
-record Reads (txns : List Txn) (k : ℕ) (text : Option Txn) : Type 0 where
-  is : text ≡ slice_get txns (k - 1)
-  txn : Txn
-  there : text ≡ Some txn
+pub record Reads (txns : List Txn) (k : ℕ) (text : Option Txn) : Type 0 where
+  pub is : text ≡ slice_get txns (k - 1)
+  pub txn : Txn
+  pub there : text ≡ Some txn
 
-abbrev Submits : List Txn → Option ℕ → Option Txn → Type 0
+abbrev pub Submits : List Txn → Option ℕ → Option Txn → Type 0
 Submits txns number text = MatchOption number (text ≡ None) (λ k. Reads txns k text)
 
-submits : (cat : Catalogue) (txns : List Txn) (e : Event) → IsValidEvent cat (length txns) e → Submits txns (scripts.submitted_by e) (submitted_by txns e)
+pub submits : (cat : Catalogue) (txns : List Txn) (e : Event) → IsValidEvent cat (length txns) e → Submits txns (scripts.submitted_by e) (submitted_by txns e)
 submits cat txns (Submit number) v =
     let from = v.0 in
     let within = v.1 in

@@ -13,9 +13,8 @@ use Rattle.sdd_catalog.specs.Catalogue.{Catalogue}
 use Rattle.sdd_catalog.specs.Naming.{AreNamed}
 use Rattle.sdd_catalog.specs.Rules.{IsSound, repeats}
 use Rattle.sdd_lang.specs.declared.transaction.Txn.{Txn}
-use Rattle.sdd_log.specs.Entries.{Given, history}
+use Rattle.sdd_log.specs.Entries.{Given}
 use Rattle.sdd_order.specs.Numbers.{IsFrom1To}
-use Rattle.sdd_order.specs.SerialOrder.{serial_order}
 use Rattle.sdd_report.specs.Committed.{names_of}
 use Rattle.sdd_report.specs.Names.{txn_name}
 use Rattle.sdd_report.specs.declared.pending.Pending.{Pending}
@@ -23,9 +22,8 @@ use Rattle.sdd_run.proofs.Lossless.{listed_submits}
 use Rattle.sdd_run.proofs.Marked.{named as named_by_events}
 use Rattle.sdd_run.proofs.Submissions.{once}
 use Rattle.sdd_run.specs.Reports.{report_of}
-use Rattle.sdd_run.specs.Runs.{IsReportOn, given_of}
+use Rattle.sdd_run.specs.Runs.{IsReportOn, given_of, order_of}
 use Rattle.sdd_script.proofs.NamePlaces.{place_of_name}
-use Rattle.sdd_script.specs.Redeclaring.{has_lists}
 use Rattle.sdd_script.specs.Valid.{IsValid}
 use Rattle.sdd_script.specs.declared.workload.Workload.{Workload}
 use Rattle.sdd_world.specs.AtSites.{standing_at}
@@ -36,6 +34,8 @@ use Rattle.sdd_verified.proofs.ReportParts.{all_by_member}
 use Rattle.sdd_verified.proofs.Reported.{one_given}
 use Rattle.sdd_verified.proofs.Submitting.{is_in_schedule}
 use Rattle.sdd_verified.specs.Tellings.{TellOfTheSame, pending_names, pending_numbers}
+use Rattle.sdd_lists.specs.InForce.{whole_in}
+use Rattle.sdd_lists.proofs.WholeSound.{whole_named, whole_sound}
 
 abbrev named : List Txn → List (List ℕ)
 named txns = map (λ (t : Txn). t.name) txns
@@ -94,15 +94,15 @@ numbers_there txns (p ∷ left) h = (h.0, numbers_there txns left h.1)
 
 -- the transactions of a report are given
 
-order_there : (cat : Catalogue) (work : Workload) (text : List ℕ) → IsSound cat → AreNamed cat → IsValid cat work → has_lists work ≡ false
-    → (r : IsReportOn cat work text) → AreThere work.txns (serial_order cat (history r.log))
-order_there cat work text sound are valid lists r =
-    all_by_member (λ (n : TxnNo). IsFrom1To (length work.txns) n.0) (serial_order cat (history r.log)) (one_given cat work text sound are valid lists r)
+order_there : (cat : Catalogue) (work : Workload) (text : List ℕ) → IsSound (whole_in cat work) → AreNamed (whole_in cat work) → IsValid cat work
+    → (r : IsReportOn cat work text) → AreThere work.txns (order_of cat work r.log)
+order_there cat work text sound are valid r =
+    all_by_member (λ (n : TxnNo). IsFrom1To (length work.txns) n.0) (order_of cat work r.log) (one_given cat work text sound are valid r)
 
 pending_there : (cat : Catalogue) (work : Workload) (text : List ℕ) → IsValid cat work → (r : IsReportOn cat work text)
-    → AreThere work.txns (pending_numbers (report_of (given_of cat r.table work) r.log).pending)
+    → AreThere work.txns (pending_numbers (report_of (given_of cat r.tables work) r.log).pending)
 pending_there cat work text valid r =
-    let g : Given = given_of cat r.table work in
+    let g : Given = given_of cat r.tables work in
     numbers_there work.txns (report_of g r.log).pending
     (all_by_place (λ (p : Pending). IsFrom1To (length work.txns) p.txn.0) (report_of g r.log).pending (λ j p there.
     (let s = listed_submits (standing_at standing_at_u standing_at_t) g r.log j p there in
@@ -110,17 +110,19 @@ pending_there cat work text valid r =
     (is_in_schedule g r.log r.log_is.lawful (once work.events valid.submitted) p.txn.0 s.0 s.1))))
 
 pub one_text_of_the_same : (cat : Catalogue) (work other : Workload) (text : List ℕ) → IsSound cat → AreNamed cat → IsValid cat work → IsValid cat other
-    → has_lists work ≡ false → has_lists other ≡ false → work.txns ≡ other.txns → (one : IsReportOn cat work text) → (two : IsReportOn cat other text)
+    → work.txns ≡ other.txns → (one : IsReportOn cat work text) → (two : IsReportOn cat other text)
     → TellOfTheSame cat work other text one two
-one_text_of_the_same cat work other text sound are valid fine lists none same one two =
-    let t = one_text cat work other text sound are valid fine lists none one two in
-    let order1 : List TxnNo = serial_order cat (history one.log) in
-    let order2 : List TxnNo = serial_order cat (history two.log) in
-    let left1 : List Pending = (report_of (given_of cat one.table work) one.log).pending in
-    let left2 : List Pending = (report_of (given_of cat two.table other) two.log).pending in
+one_text_of_the_same cat work other text sound are valid fine same one two =
+    let t = one_text cat work other text sound are valid fine one two in
+    let order1 : List TxnNo = order_of cat work one.log in
+    let order2 : List TxnNo = order_of cat other two.log in
+    let left1 : List Pending = (report_of (given_of cat one.tables work) one.log).pending in
+    let left2 : List Pending = (report_of (given_of cat two.tables other) two.log).pending in
     record {
-      order = numbers_back work.txns valid.names order1 order2 (order_there cat work text sound are valid lists one)
-          (subst (λ (txns : List Txn). AreThere txns order2) (sym same) (order_there cat other text sound are fine none two))
+      order = numbers_back work.txns valid.names order1 order2
+          (order_there cat work text (whole_sound cat work sound valid) (whole_named cat work are valid) valid one)
+          (subst (λ (txns : List Txn). AreThere txns order2) (sym same)
+          (order_there cat other text (whole_sound cat other sound fine) (whole_named cat other are fine) fine two))
           (t.order ∙ ap (λ (txns : List Txn). names_of txns order2) (sym same));
       pending = numbers_back work.txns valid.names (pending_numbers left1) (pending_numbers left2) (pending_there cat work text valid one)
           (subst (λ (txns : List Txn). AreThere txns (pending_numbers left2)) (sym same) (pending_there cat other text fine two))

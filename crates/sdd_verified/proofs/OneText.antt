@@ -11,14 +11,16 @@ use Rattle.sdd_catalog.specs.Catalogue.{Catalogue}
 use Rattle.sdd_catalog.specs.Naming.{AreNamed}
 use Rattle.sdd_catalog.specs.Rules.{IsSound}
 use Rattle.sdd_lang.specs.declared.transaction.Txn.{Txn}
+use Rattle.sdd_lists.specs.InForce.{classes_in, whole_in}
+use Rattle.sdd_lists.proofs.OtherClasses.{whole_over}
+use Rattle.sdd_lists.proofs.WholeSound.{whole_named, whole_sound}
 use Rattle.sdd_log.specs.Entries.{history}
-use Rattle.sdd_order.specs.SerialOrder.{serial_order}
 use Rattle.sdd_report.specs.Committed.{names_of}
 use Rattle.sdd_report.specs.Names.{txn_name}
 use Rattle.sdd_report.specs.Report.{Report}
-use Rattle.sdd_run.specs.Runs.{IsReportOn}
+use Rattle.sdd_report.specs.declared.copies.CopyTable.{CopyTable}
+use Rattle.sdd_run.specs.Runs.{IsReportOn, order_of}
 use Rattle.sdd_script.proofs.WordLooks.{name_fine}
-use Rattle.sdd_script.specs.Redeclaring.{has_lists}
 use Rattle.sdd_script.specs.Valid.{IsValid}
 use Rattle.sdd_script.specs.declared.workload.Workload.{Workload}
 use Rattle.sdd_verify.proofs.Submissions.{found_member}
@@ -27,7 +29,7 @@ use Rattle.sdd_verified.proofs.PartsBack.{copies_back, is_pending, is_reply, is_
 use Rattle.sdd_verified.proofs.PassingLines.{pending_pass, replies_pass, shipped_pass}
 use Rattle.sdd_verified.proofs.ReportParts.{answers_told, behind_pending, behind_replies, behind_shipped, copies_values, happened, is_numbered, kept, lines_are, names, replies, replies_long, shipped, tells, trace_passes, waiting}
 use Rattle.sdd_verified.proofs.Reported.{names_of_txns}
-use Rattle.sdd_verified.specs.Parts.{order_words, replies_words}
+use Rattle.sdd_verified.specs.Parts.{copies_words, order_words, replies_words}
 use Rattle.sdd_verified.specs.Tellings.{TellAlike}
 
 -- names
@@ -48,54 +50,66 @@ names_spaceless : (txns : List Txn) → All (λ (t : Txn). IsName t.name) txns �
 names_spaceless txns named [] = tt
 names_spaceless txns named (n ∷ order) = (spaceless txns named n.0, names_spaceless txns named order)
 
+-- the lines of copies know no classes
+copies_of_whole : (cat : Catalogue) (work : Workload) (copies : List CopyTable) → copies_words (whole_in cat work) copies ≡ copies_words cat copies
+copies_of_whole cat work copies = ap (λ (c : Catalogue). copies_words c copies) (whole_over cat cat.classes (classes_in cat work))
+
 pub one_text : (cat : Catalogue) (work other : Workload) (text : List ℕ) → IsSound cat → AreNamed cat → IsValid cat work → IsValid cat other
-    → has_lists work ≡ false → has_lists other ≡ false → (one : IsReportOn cat work text) → (two : IsReportOn cat other text)
+    → (one : IsReportOn cat work text) → (two : IsReportOn cat other text)
     → TellAlike cat work other text one two
-one_text cat work other text sound named valid fine lists none one two =
+one_text cat work other text sound named valid fine one two =
+    let sound1 = whole_sound cat work sound valid in
+    let sound2 = whole_sound cat other sound fine in
+    let named1 = whole_named cat work named valid in
+    let named2 = whole_named cat other named fine in
     let last : List (List ℕ) = codes "end" ∷ [] in
-    let names1 : List (List ℕ) = names cat work text sound named valid lists one in
-    let names2 : List (List ℕ) = names cat other text sound named fine none two in
-    let replies1 : List Reply = replies cat work text sound named valid lists one in
-    let replies2 : List Reply = replies cat other text sound named fine none two in
-    let shipped1 : List (List ℕ) = shipped cat work text sound named valid lists one in
-    let shipped2 : List (List ℕ) = shipped cat other text sound named fine none two in
-    let waiting1 : List (List ℕ) = waiting cat work text sound named valid lists one in
-    let waiting2 : List (List ℕ) = waiting cat other text sound named fine none two in
-    let kept1 : List (List ℕ) = kept cat work text sound named valid lists one in
-    let kept2 : List (List ℕ) = kept cat other text sound named fine none two in
-    let tells1 : Report = tells cat work text sound named valid lists one in
-    let tells2 : Report = tells cat other text sound named fine none two in
+    let names1 : List (List ℕ) = names cat work text sound1 named1 valid one in
+    let names2 : List (List ℕ) = names cat other text sound2 named2 fine two in
+    let replies1 : List Reply = replies cat work text sound1 named1 valid one in
+    let replies2 : List Reply = replies cat other text sound2 named2 fine two in
+    let shipped1 : List (List ℕ) = shipped cat work text sound1 named1 valid one in
+    let shipped2 : List (List ℕ) = shipped cat other text sound2 named2 fine two in
+    let waiting1 : List (List ℕ) = waiting cat work text sound1 named1 valid one in
+    let waiting2 : List (List ℕ) = waiting cat other text sound2 named2 fine two in
+    let kept1 : List (List ℕ) = kept cat work text sound1 named1 valid one in
+    let kept2 : List (List ℕ) = kept cat other text sound2 named2 fine two in
+    let tells1 : Report = tells cat work text sound1 named1 valid one in
+    let tells2 : Report = tells cat other text sound2 named2 fine two in
     let behind1 : List (List ℕ) = shipped1 ++ (waiting1 ++ (kept1 ++ last)) in
     let behind2 : List (List ℕ) = shipped2 ++ (waiting2 ++ (kept2 ++ last)) in
-    let whole = sym (lines_are cat work text sound named valid lists one) ∙ lines_are cat other text sound named fine none two in
-    let a = parted is_numbered (happened cat work text sound named valid lists one) (happened cat other text sound named fine none two)
+    let whole = sym (lines_are cat work text sound1 named1 valid one) ∙ lines_are cat other text sound2 named2 fine two in
+    let a = parted is_numbered (happened cat work text sound1 named1 valid one) (happened cat other text sound2 named2 fine two)
     (order_words names1 ∷ (replies_words names1 replies1 ++ behind1)) (order_words names2 ∷ (replies_words names2 replies2 ++ behind2))
-    (trace_passes cat work text sound named valid lists one) (trace_passes cat other text sound named fine none two) refl refl whole in
+    (trace_passes cat work text sound1 named1 valid one) (trace_passes cat other text sound2 named2 fine two) refl refl whole in
     let b = same_first (order_words names1) (order_words names2) (replies_words names1 replies1 ++ behind1) (replies_words names2 replies2 ++ behind2) a.1 in
     let txns1 = names_of_txns cat work.txns valid.txns in
     let txns2 = names_of_txns cat other.txns fine.txns in
     let same_names : names1 ≡ names2 = order_back names1 names2
-    (names_spaceless work.txns txns1 (serial_order cat (history one.log)))
-    (names_spaceless other.txns txns2 (serial_order cat (history two.log))) b.0 in
+    (names_spaceless work.txns txns1 (order_of cat work one.log))
+    (names_spaceless other.txns txns2 (order_of cat other two.log)) b.0 in
     let c = parted is_reply (replies_words names1 replies1) (replies_words names2 replies2) behind1 behind2
     (replies_pass is_reply (λ line. refl) (λ number rows. refl) (λ name word. refl) names1 replies1)
     (replies_pass is_reply (λ line. refl) (λ number rows. refl) (λ name word. refl) names2 replies2)
-    (behind_replies cat work text sound named valid lists one) (behind_replies cat other text sound named fine none two) b.1 in
+    (behind_replies cat work text sound1 named1 valid one) (behind_replies cat other text sound2 named2 fine two) b.1 in
     let long2 : length names1 ≡ length replies2 =
-    ap (λ (l : List (List ℕ)). length l) same_names ∙ replies_long cat other text sound named fine none two in
+    ap (λ (l : List (List ℕ)). length l) same_names ∙ replies_long cat other text sound2 named2 fine two in
     let d = parted is_shipped shipped1 shipped2 (waiting1 ++ (kept1 ++ last)) (waiting2 ++ (kept2 ++ last))
-    (shipped_pass is_shipped (λ line. refl) work.txns (history one.log) (serial_order cat (history one.log)))
-    (shipped_pass is_shipped (λ line. refl) other.txns (history two.log) (serial_order cat (history two.log)))
-    (behind_shipped cat work text sound named valid lists one) (behind_shipped cat other text sound named fine none two) c.1 in
+    (shipped_pass is_shipped (λ line. refl) work.txns (history one.log) (order_of cat work one.log))
+    (shipped_pass is_shipped (λ line. refl) other.txns (history two.log) (order_of cat other two.log))
+    (behind_shipped cat work text sound1 named1 valid one) (behind_shipped cat other text sound2 named2 fine two) c.1 in
     let e = parted is_pending waiting1 waiting2 (kept1 ++ last) (kept2 ++ last)
-    (pending_pass is_pending (λ line. refl) cat work.txns tells1.pending) (pending_pass is_pending (λ line. refl) cat other.txns tells2.pending)
-    (behind_pending cat work text sound named valid lists one) (behind_pending cat other text sound named fine none two) d.1 in
+    (pending_pass is_pending (λ line. refl) (whole_in cat work) work.txns tells1.pending)
+    (pending_pass is_pending (λ line. refl) (whole_in cat other) other.txns tells2.pending)
+    (behind_pending cat work text sound1 named1 valid one) (behind_pending cat other text sound2 named2 fine two) d.1 in
     record {
       order = same_names;
-      replies = replies_back names1 replies1 replies2 (replies_long cat work text sound named valid lists one) long2
-          (answers_told cat work text sound named valid lists one) (answers_told cat other text sound named fine none two)
+      replies = replies_back names1 replies1 replies2 (replies_long cat work text sound1 named1 valid one) long2
+          (answers_told cat work text sound1 named1 valid one) (answers_told cat other text sound2 named2 fine two)
           (c.0 ∙ ap (λ (l : List (List ℕ)). replies_words l replies2) (sym same_names));
-      pending = pending_back cat work.txns other.txns (spaceless work.txns txns1) (spaceless other.txns txns2) tells1.pending tells2.pending e.0;
-      copies = copies_back cat tells1.copies tells2.copies (copies_values cat work text sound named valid lists one)
-          (copies_values cat other text sound named fine none two) (append_cancel_right kept1 kept2 last e.1);
+      pending = pending_back (whole_in cat work) (whole_in cat other) work.txns other.txns
+          (spaceless work.txns txns1) (spaceless other.txns txns2) tells1.pending tells2.pending e.0;
+      copies = copies_back cat tells1.copies tells2.copies (copies_values cat work text sound1 named1 valid one)
+          (copies_values cat other text sound2 named2 fine two)
+          (sym (copies_of_whole cat work tells1.copies) ∙ append_cancel_right kept1 kept2 last e.1
+          ∙ copies_of_whole cat other tells2.copies);
     }

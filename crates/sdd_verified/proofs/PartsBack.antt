@@ -313,20 +313,20 @@ order_back names others h k e = names_back names others h k (append_cancel_left 
 
 -- pending transactions
 
-pub pending_back : (cat : Catalogue) (mine theirs : List Txn) → ((n : ℕ) → HasNoSpace (txn_name mine n)) → ((n : ℕ) → HasNoSpace (txn_name theirs n))
-    → (left others : List Pending) → all_pending_words cat mine left ≡ all_pending_words cat theirs others
+pub pending_back : (cat other : Catalogue) (mine theirs : List Txn) → ((n : ℕ) → HasNoSpace (txn_name mine n)) → ((n : ℕ) → HasNoSpace (txn_name theirs n))
+    → (left others : List Pending) → all_pending_words cat mine left ≡ all_pending_words other theirs others
     → pending_names mine left ≡ pending_names theirs others
-pending_back cat mine theirs h k [] [] e = refl
-pending_back cat mine theirs h k [] (o ∷ others) e = cc
-pending_back cat mine theirs h k (p ∷ left) [] e = cc
-pending_back cat mine theirs h k (p ∷ left) (o ∷ others) e =
-    let s = same_first (pending_words cat mine p) (pending_words cat theirs o) (all_pending_words cat mine left) (all_pending_words cat theirs others) e in
+pending_back cat other mine theirs h k [] [] e = refl
+pending_back cat other mine theirs h k [] (o ∷ others) e = cc
+pending_back cat other mine theirs h k (p ∷ left) [] e = cc
+pending_back cat other mine theirs h k (p ∷ left) (o ∷ others) e =
+    let s = same_first (pending_words cat mine p) (pending_words other theirs o) (all_pending_words cat mine left) (all_pending_words other theirs others) e in
     let one : List ℕ = spaced (why_words cat p.why) in
-    let two : List ℕ = spaced (why_words cat o.why) in
+    let two : List ℕ = spaced (why_words other o.why) in
     let t = append_cancel_left (codes "pending") (spaced (txn_name mine p.txn.0) ++ one) (spaced (txn_name theirs o.txn.0) ++ two) s.0 in
     let u = same_first 32 32 (txn_name mine p.txn.0 ++ one) (txn_name theirs o.txn.0 ++ two) t in
     let w = word_back (txn_name mine p.txn.0) (txn_name theirs o.txn.0) one two (h p.txn.0) (k o.txn.0) refl refl u.1 in
-    ap (λ x. x ∷ pending_names mine left) w.0 ∙ ap (λ l. txn_name theirs o.txn.0 ∷ l) (pending_back cat mine theirs h k left others s.1)
+    ap (λ x. x ∷ pending_names mine left) w.0 ∙ ap (λ l. txn_name theirs o.txn.0 ∷ l) (pending_back cat other mine theirs h k left others s.1)
 
 -- copies
 

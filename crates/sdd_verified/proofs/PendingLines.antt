@@ -14,7 +14,6 @@ use Rattle.sdd_order.specs.SerialOrder.{serial_order}
 use Rattle.sdd_report.specs.declared.pending.Pending.{Pending}
 use Rattle.sdd_run.specs.Reports.{report_of}
 use Rattle.sdd_run.specs.Runs.{IsReportOn, given_of}
-use Rattle.sdd_script.specs.Redeclaring.{has_lists}
 use Rattle.sdd_script.specs.Valid.{IsValid}
 use Rattle.sdd_script.specs.declared.workload.Workload.{Workload}
 use Rattle.sdd_verify.specs.Lines.{lines_of}
@@ -23,6 +22,7 @@ use Rattle.sdd_verified.proofs.PassingLines.{copies_pass, pending_pass, replies_
 use Rattle.sdd_verified.proofs.ReportParts.{happened, is_numbered, kept, lines_are, names, replies, shipped, trace_passes, waiting}
 use Rattle.sdd_verified.specs.Parts.{order_words, pending_words, replies_words}
 use Rattle.sdd_verified.specs.Lines.{tells_pending}
+use Rattle.sdd_lists.specs.InForce.{whole_in}
 
 -- one for a line that tells of one
 abbrev counts : Bool → ℕ
@@ -102,23 +102,26 @@ counted happened replies shipped waiting copies first last h f a s w c e =
     let none_last = none_counted (last ∷ []) (e, tt) in
     omega (arith, kept, left, behind, answered, ordered, whole, none_happened, none_first, none_replied, none_shipped, all_waiting, none_copied, none_last)
 
-module _ (cat : Catalogue) (work : Workload) (text : List ℕ) (sound : IsSound cat) (named : AreNamed cat)
-    (valid : IsValid cat work) (lists : has_lists work ≡ false) (r : IsReportOn cat work text) where
-  pub as_many_lines : count_by tells_pending (lines_of text) ≡ length (report_of (given_of cat r.table work) r.log).pending
-  as_many_lines =
-      let order : List TxnNo = serial_order cat (history r.log) in
-      ap (λ (l : List (List ℕ)). count_by tells_pending l) (lines_are cat work text sound named valid lists r)
-      ∙ counted (happened cat work text sound named valid lists r)
-      (replies_words (names cat work text sound named valid lists r) (replies cat work text sound named valid lists r))
-      (shipped cat work text sound named valid lists r) (waiting cat work text sound named valid lists r) (kept cat work text sound named valid lists r)
-      (order_words (names cat work text sound named valid lists r)) (codes "end")
-      (all_numbered (happened cat work text sound named valid lists r) (trace_passes cat work text sound named valid lists r)) refl
-      (replies_pass tells_other (λ line. refl) (λ number rows. refl) (λ name word. refl) (names cat work text sound named valid lists r)
-      (replies cat work text sound named valid lists r))
-      (shipped_pass tells_other (λ line. refl) work.txns (history r.log) order)
-      (pending_pass tells_pending (λ line. refl) cat work.txns (report_of (given_of cat r.table work) r.log).pending)
-      (copies_pass tells_other cat (λ line. refl) (λ t. refl) (report_of (given_of cat r.table work) r.log).copies) refl
-      ∙ length-map (report_of (given_of cat r.table work) r.log).pending (pending_words cat work.txns)
+module _ (cat : Catalogue) (work : Workload) (text : List ℕ) (sound : IsSound (whole_in cat work)) (named : AreNamed (whole_in cat work))
+    (valid : IsValid cat work) (r : IsReportOn cat work text) where
+  abbrev whole : Catalogue
+  whole = whole_in cat work
 
-  pub no_line : (report_of (given_of cat r.table work) r.log).pending ≡ [] → (line : List ℕ) → Contains (lines_of text) line → tells_pending line ≡ false
+  pub as_many_lines : count_by tells_pending (lines_of text) ≡ length (report_of (given_of cat r.tables work) r.log).pending
+  as_many_lines =
+      let order : List TxnNo = serial_order whole (history r.log) in
+      ap (λ (l : List (List ℕ)). count_by tells_pending l) (lines_are cat work text sound named valid r)
+      ∙ counted (happened cat work text sound named valid r)
+      (replies_words (names cat work text sound named valid r) (replies cat work text sound named valid r))
+      (shipped cat work text sound named valid r) (waiting cat work text sound named valid r) (kept cat work text sound named valid r)
+      (order_words (names cat work text sound named valid r)) (codes "end")
+      (all_numbered (happened cat work text sound named valid r) (trace_passes cat work text sound named valid r)) refl
+      (replies_pass tells_other (λ line. refl) (λ number rows. refl) (λ name word. refl) (names cat work text sound named valid r)
+      (replies cat work text sound named valid r))
+      (shipped_pass tells_other (λ line. refl) work.txns (history r.log) order)
+      (pending_pass tells_pending (λ line. refl) whole work.txns (report_of (given_of cat r.tables work) r.log).pending)
+      (copies_pass tells_other whole (λ line. refl) (λ t. refl) (report_of (given_of cat r.tables work) r.log).copies) refl
+      ∙ length-map (report_of (given_of cat r.tables work) r.log).pending (pending_words whole work.txns)
+
+  pub no_line : (report_of (given_of cat r.tables work) r.log).pending ≡ [] → (line : List ℕ) → Contains (lines_of text) line → tells_pending line ≡ false
   no_line empty line there = none_there (lines_of text) (as_many_lines ∙ ap (λ (xs : List Pending). length xs) empty) line there

@@ -29,7 +29,6 @@ use Rattle.sdd_report.specs.declared.copies.CopyTable.{CopyTable}
 use Rattle.sdd_run.specs.Reports.{report_of}
 use Rattle.sdd_run.specs.Runs.{IsReportOn, given_of}
 use Rattle.sdd_script.proofs.WordLooks.{value_fine}
-use Rattle.sdd_script.specs.Redeclaring.{has_lists}
 use Rattle.sdd_script.specs.Valid.{IsValid, IsValue}
 use Rattle.sdd_script.specs.declared.workload.Workload.{Workload}
 use Rattle.sdd_words.proofs.Spelled.{cut_again}
@@ -43,6 +42,7 @@ use Rattle.sdd_verified.proofs.SpelledParts.{Spells, all_pending_spell, all_ship
 use Rattle.sdd_verified.proofs.CleanWords.{IsClean, ints_clean, names_are}
 use Rattle.sdd_verified.proofs.ValuesKept.{Hold}
 use Rattle.sdd_verified.specs.Parts.{all_pending_words, all_shipped_words, copies_words, copy_words, order_words, replies_words}
+use Rattle.sdd_lists.specs.InForce.{whole_in}
 
 -- a value of a workload holds no newline
 clean : (v : Value) → IsValue v → IsClean v
@@ -71,34 +71,37 @@ zip_long R (x ∷ xs) (y ∷ ys) h = ap suc (zip_long R xs ys h.1)
 
 -- one report, by its lines
 
-module _ (cat : Catalogue) (work : Workload) (text : List ℕ) (sound : IsSound cat) (named : AreNamed cat)
-    (valid : IsValid cat work) (lists : has_lists work ≡ false) (r : IsReportOn cat work text) where
+module _ (cat : Catalogue) (work : Workload) (text : List ℕ) (sound : IsSound (whole_in cat work)) (named : AreNamed (whole_in cat work))
+    (valid : IsValid cat work) (r : IsReportOn cat work text) where
+  abbrev whole : Catalogue
+  whole = whole_in cat work
+
   abbrev pub order : List TxnNo
-  order = serial_order cat (history r.log)
+  order = serial_order whole (history r.log)
 
   abbrev pub names : List (List ℕ)
-  names = names_of work.txns (serial_order cat (history r.log))
+  names = names_of work.txns (serial_order whole (history r.log))
 
   abbrev pub replies : List Reply
-  replies = (run cat work.rows work.txns (serial_order cat (history r.log))).0
+  replies = (run whole work.rows work.txns (serial_order whole (history r.log))).0
 
   abbrev pub tells : Report
-  tells = report_of (given_of cat r.table work) r.log
+  tells = report_of (given_of cat r.tables work) r.log
 
   pub txns_named : All (λ (t : Txn). IsName t.name) work.txns
   txns_named = names_of_txns cat work.txns valid.txns
 
   abbrev pub happened : List (List ℕ)
-  happened = lines_in cat work.txns named.classes txns_named (history r.log)
+  happened = lines_in whole work.txns named.classes txns_named (history r.log)
 
   abbrev pub shipped : List (List ℕ)
-  shipped = all_shipped_words work.txns (history r.log) (serial_order cat (history r.log))
+  shipped = all_shipped_words work.txns (history r.log) (serial_order whole (history r.log))
 
   abbrev pub waiting : List (List ℕ)
-  waiting = all_pending_words cat work.txns tells.pending
+  waiting = all_pending_words whole work.txns tells.pending
 
   abbrev pub kept : List (List ℕ)
-  kept = copies_words cat tells.copies
+  kept = copies_words whole tells.copies
 
   abbrev pub all_lines : List (List ℕ)
   all_lines = happened ++ (order_words names ∷ (replies_words names replies ++ (shipped ++ (waiting ++ (kept ++ codes "end" ∷ [])))))
@@ -107,22 +110,22 @@ module _ (cat : Catalogue) (work : Workload) (text : List ℕ) (sound : IsSound 
   spelled =
       let c = named.classes in
       let f = named.fragments in
-      let shipped_text = all_shipped_spell cat work.txns c f txns_named (history r.log) order in
-      let copies_text = copies_spell cat work.txns c f txns_named tells.copies
+      let shipped_text = all_shipped_spell whole work.txns c f txns_named (history r.log) order in
+      let copies_text = copies_spell whole work.txns c f txns_named tells.copies
       (all_by_member (λ (table : CopyTable). Hold IsClean ints_clean table.rows) tells.copies
-      (copied_given IsClean ints_clean clean cat work text sound valid lists r)) in
-      let last = spells_both kept (codes "end" ∷ []) (copies_lines cat tells.copies) (codes "end\n") copies_text end_spells in
-      let left = spells_both waiting (kept ++ codes "end" ∷ []) (pending_lines cat work.txns tells.pending) _
-      (all_pending_spell cat work.txns c f txns_named tells.pending) last in
+      (copied_given IsClean ints_clean clean cat work text sound valid r)) in
+      let last = spells_both kept (codes "end" ∷ []) (copies_lines whole tells.copies) (codes "end\n") copies_text end_spells in
+      let left = spells_both waiting (kept ++ codes "end" ∷ []) (pending_lines whole work.txns tells.pending) _
+      (all_pending_spell whole work.txns c f txns_named tells.pending) last in
       let behind = spells_both shipped (waiting ++ (kept ++ codes "end" ∷ [])) _ _ shipped_text left in
       let answered = spells_both (replies_words names replies) (shipped ++ (waiting ++ (kept ++ codes "end" ∷ []))) (replies_along names replies) _
-      (replies_spell names replies (names_are cat work.txns c f txns_named order)
-      (answers_given IsClean ints_clean clean cat work text sound valid lists r)) behind in
+      (replies_spell names replies (names_are whole work.txns c f txns_named order)
+      (answers_given IsClean ints_clean clean cat work text sound valid r)) behind in
       let ordered = spells_both (order_words names ∷ []) (replies_words names replies ++ (shipped ++ (waiting ++ (kept ++ codes "end" ∷ [])))) (order_line work.txns order) _
-      (order_spells cat work.txns c f txns_named order) answered in
-      let whole = spells_both happened (order_words names ∷ (replies_words names replies ++ (shipped ++ (waiting ++ (kept ++ codes "end" ∷ []))))) (trace cat work.txns (history r.log)) _
-      (trace_spells cat work.txns c f txns_named (history r.log)) ordered in
-      subst (Spells all_lines) (sym r.told) whole
+      (order_spells whole work.txns c f txns_named order) answered in
+      let everything = spells_both happened (order_words names ∷ (replies_words names replies ++ (shipped ++ (waiting ++ (kept ++ codes "end" ∷ []))))) (trace whole work.txns (history r.log)) _
+      (trace_spells whole work.txns c f txns_named (history r.log)) ordered in
+      subst (Spells all_lines) (sym r.told) everything
 
   pub lines_are : (cut_lines text).0 ≡ all_lines
   lines_are = ap (λ (l : List ℕ). (cut_lines l).0) spelled.is ∙ ap (λ (cut : List (List ℕ) × List ℕ). cut.0) (cut_again all_lines spelled.are)
@@ -131,11 +134,11 @@ module _ (cat : Catalogue) (work : Workload) (text : List ℕ) (sound : IsSound 
   numbered_by first rest line e most more =
       subst (λ (l : List ℕ). is_numbered (l ++ more) ≡ true) (sym e) (lt-ltb first 58 (omega (arith, most)))
 
-  happened_pass : (h : List (ℕ × Rec)) → AllPass is_numbered (lines_in cat work.txns named.classes txns_named h)
+  happened_pass : (h : List (ℕ × Rec)) → AllPass is_numbered (lines_in whole work.txns named.classes txns_named h)
   happened_pass [] = tt
   happened_pass (made ∷ h) =
       let d = decimal_is made.0 in
-      (numbered_by d.first d.rest _ d.is d.most (spaced (record_words cat work.txns made.1)), happened_pass h)
+      (numbered_by d.first d.rest _ d.is d.most (spaced (record_words whole work.txns made.1)), happened_pass h)
 
   pub trace_passes : AllPass is_numbered happened
   trace_passes = happened_pass (history r.log)
@@ -145,28 +148,28 @@ module _ (cat : Catalogue) (work : Workload) (text : List ℕ) (sound : IsSound 
       length-map order (λ (n : TxnNo). txn_name work.txns n.0) ∙ zip_long (IsReplyOf (history r.log)) order replies r.replies
 
   pub answers_told : AllByRecursion AreAnswers replies
-  answers_told = answers_given IsTold ints_told told cat work text sound valid lists r
+  answers_told = answers_given IsTold ints_told told cat work text sound valid r
 
   pub copies_values : AllByRecursion (λ (t : CopyTable). AreAllValues t.rows) tells.copies
   copies_values =
-      all_by_member (λ (t : CopyTable). AreAllValues t.rows) tells.copies (copied_given IsTold ints_told told cat work text sound valid lists r)
+      all_by_member (λ (t : CopyTable). AreAllValues t.rows) tells.copies (copied_given IsTold ints_told told cat work text sound valid r)
 
   -- what stands behind the replies is none
 
-  copies_fail : (p : List ℕ → Bool) → ((t : CopyTable) → p (copy_words cat t) ≡ false) → p (codes "end") ≡ false
+  copies_fail : (p : List ℕ → Bool) → ((t : CopyTable) → p (copy_words whole t) ≡ false) → p (codes "end") ≡ false
       → FirstFails p (kept ++ codes "end" ∷ [])
-  copies_fail p f e = fails_on p kept (codes "end" ∷ []) (first_copy p cat f tells.copies) e
+  copies_fail p f e = fails_on p kept (codes "end" ∷ []) (first_copy p whole f tells.copies) e
 
   pub behind_pending : FirstFails is_pending (kept ++ codes "end" ∷ [])
   behind_pending = copies_fail is_pending (λ t. refl) refl
 
   pub behind_shipped : FirstFails is_shipped (waiting ++ (kept ++ codes "end" ∷ []))
   behind_shipped =
-      fails_on is_shipped waiting (kept ++ codes "end" ∷ []) (first_pending is_shipped (λ line. refl) cat work.txns tells.pending)
+      fails_on is_shipped waiting (kept ++ codes "end" ∷ []) (first_pending is_shipped (λ line. refl) whole work.txns tells.pending)
       (copies_fail is_shipped (λ t. refl) refl)
 
   pub behind_replies : FirstFails is_reply (shipped ++ (waiting ++ (kept ++ codes "end" ∷ [])))
   behind_replies =
       fails_on is_reply shipped (waiting ++ (kept ++ codes "end" ∷ [])) (first_shipped is_reply (λ line. refl) work.txns (history r.log) order)
-      (fails_on is_reply waiting (kept ++ codes "end" ∷ []) (first_pending is_reply (λ line. refl) cat work.txns tells.pending)
+      (fails_on is_reply waiting (kept ++ codes "end" ∷ []) (first_pending is_reply (λ line. refl) whole work.txns tells.pending)
       (copies_fail is_reply (λ t. refl) refl))

@@ -1,5 +1,5 @@
 -- The report on a run is verified.
-use Rattle.std.proofs.Common.{false, ◌≡◌, ◌≢◌, ℕ, zero, suc, ◌-◌, ◌<◌, ◌≤◌, List, [], ◌∷◌, ◌++◌, length, map, slice_get, Option, Some, refl, sym, ap, ◌∙◌, subst, arith, inl, inr}
+use Rattle.std.proofs.Common.{◌≡◌, ◌≢◌, ℕ, zero, suc, ◌-◌, ◌<◌, ◌≤◌, List, [], ◌∷◌, ◌++◌, length, map, slice_get, Option, Some, refl, sym, ap, ◌∙◌, subst, arith, inl, inr}
 use Rattle.std.specs.Prelude.{Contains, slice_index_or}
 use Rattle.std.specs.List.{All, flat_map}
 use Rattle.std.specs.Option.{option_map_or}
@@ -17,11 +17,13 @@ use Rattle.sdd_lang.specs.Database.{database_of}
 use Rattle.sdd_lang.specs.Serial.{serial}
 use Rattle.sdd_lang.specs.declared.transaction.Txn.{Txn}
 use Rattle.sdd_laws.specs.Deeds.{IsSubmitted}
-use Rattle.sdd_laws.specs.Eras.{begun, in_force}
+use Rattle.sdd_laws.specs.Eras.{in_force}
 use Rattle.sdd_laws.specs.Replay.{run}
 use Rattle.sdd_laws.specs.Starts.{IsOfSubmit, KeepsStarts}
-use Rattle.sdd_log.specs.Entries.{history}
-use Rattle.sdd_log.specs.Locals.{redeclares}
+use Rattle.sdd_log.specs.Entries.{Given, history}
+use Rattle.sdd_log.specs.Locals.{force_at, redeclares}
+use Rattle.sdd_facts.specs.Bounds.{AllFewTicks}
+use Rattle.sdd_rest.specs.Eras.{eras_of}
 use Rattle.sdd_log.specs.Permitted.{AreSubmittedOnce, submits_in}
 use Rattle.sdd_order.specs.Attempts.{Committed, IsCommitted}
 use Rattle.sdd_order.specs.Numbers.{IsFrom1To}
@@ -36,22 +38,26 @@ use Rattle.sdd_run.specs.Reports.{report_of}
 use Rattle.sdd_run.specs.Runs.{IsReportOn, given_of}
 use Rattle.sdd_run.specs.Standing.{IsSubmittedBefore, StandsBefore}
 use Rattle.sdd_run.proofs.Marked.{named as named_by_events}
+use Rattle.sdd_run.proofs.Forces.{list_at as list_at_number}
+use Rattle.sdd_run.proofs.Goods.{few_ticks}
 use Rattle.sdd_run.proofs.Ordered.{starts}
+use Rattle.sdd_run.proofs.RunOf.{eras_are, few_lists}
 use Rattle.sdd_run.proofs.Submissions.{once}
 use Rattle.sdd_script.specs.Valid.{IsValid, IsValidTxn}
 use Rattle.sdd_script.specs.declared.workload.Workload.{Workload}
-use Rattle.sdd_upheld.specs.Given.{one_era}
 use Rattle.sdd_words.specs.Lines.{spelled_lines}
 use Rattle.sdd_verify.specs.Replies.{replies, serial_replies}
-use Rattle.sdd_verify.specs.Submitted.{class_of, submitted, texts_of, txn_of}
+use Rattle.sdd_verify.specs.Classes.{class_of, classes_submitted, era_at}
+use Rattle.sdd_verify.specs.Submitted.{submitted, texts_of, txn_of}
 use Rattle.sdd_verify.specs.Verified.{IsVerified, at}
 use Rattle.sdd_verify.specs.declared.limits.TheConstants.{MAX_REPORT_BYTES}
+use Rattle.sdd_lists.specs.InForce.{classes_in, eras_in, whole_in}
+use Rattle.sdd_lists.proofs.OtherClasses.{whole_over}
+use Rattle.sdd_verified.proofs.ClassPlaces.{class_at, redeclared_at}
+use Rattle.sdd_verified.proofs.ListAt.{event_of_submit, index_or, list_at}
 use Rattle.sdd_verified.proofs.FirstLines.{FirstLine, first_line, whole_end}
 use Rattle.sdd_verified.proofs.Moved.{IsSubmittedOne, StandInTurn, moved, moved_line, moved_texts, moved_there, moved_turn}
 use Rattle.sdd_verified.proofs.Numbered.{one_place, separates}
-use Rattle.sdd_script.specs.Redeclaring.{has_lists}
-use Rattle.sdd_script.proofs.NoLists.{no_redeclare}
-use Rattle.sdd_verified.proofs.OneList.{no_lists, one_list}
 use Rattle.sdd_verified.proofs.Positions.{AreDifferent, all_members, different, member, not_before}
 use Rattle.sdd_verified.proofs.ReportLines.{lines_in, rest_begins, trace_is, trace_lines, trace_others}
 use Rattle.sdd_verified.proofs.Submitting.{is_in_schedule, submitted_first}
@@ -74,36 +80,28 @@ replies_are txns (n ∷ order) (reply ∷ answers) there =
     let more = replies_are txns order answers (All-tail (HasText txns) n order there) in
     rw is (ap (λ (l : List ℕ). reply_lines here.0.name reply ++ l) more)
 
--- one list of classes is in force
-abbrev first_era : Catalogue → ℕ × Catalogue
-first_era cat = (0, cat)
-
-only_one : (cat : Catalogue) (k : ℕ) → slice_index_or (first_era cat ∷ []) k (first_era cat) ≡ first_era cat
-only_one cat zero = refl
-only_one cat (suc k) = refl
-
-era_is : (cat : Catalogue) (event : ℕ) → in_force cat (one_era cat) event ≡ cat
-era_is cat event = ap (λ (e : ℕ × Catalogue). e.1) (only_one cat (begun (one_era cat) event - 1))
-
 pub names_of_txns : (cat : Catalogue) (txns : List Txn) → All (IsValidTxn cat) txns → All (λ (t : Txn). IsName t.name) txns
 names_of_txns cat [] valid = All-nil (λ (t : Txn). IsName t.name)
 names_of_txns cat (t ∷ txns) valid =
     All-cons (λ (u : Txn). IsName u.name) t txns (All-head (IsValidTxn cat) t txns valid).named
     (names_of_txns cat txns (All-tail (IsValidTxn cat) t txns valid))
 
-module _ (cat : Catalogue) (work : Workload) (text : List ℕ) (sound : IsSound cat) (named : AreNamed cat)
-    (valid : IsValid cat work) (lists : has_lists work ≡ false) (r : IsReportOn cat work text) where
+module _ (cat : Catalogue) (work : Workload) (text : List ℕ) (sound : IsSound (whole_in cat work)) (named : AreNamed (whole_in cat work))
+    (valid : IsValid cat work) (r : IsReportOn cat work text) where
+  abbrev whole : Catalogue
+  whole = whole_in cat work
+
+  abbrev given : Given
+  given = given_of cat r.tables work
+
   abbrev Happened : History
   Happened = history r.log
 
   abbrev order : List TxnNo
-  order = serial_order cat (history r.log)
+  order = serial_order whole (history r.log)
 
-  none : redeclares r.log ≡ 0
-  none = one_list (given_of cat r.table work) r.log (no_lists work.events (no_redeclare cat work valid lists)) r.log_is.lawful
-
-  keeps : KeepsStarts cat (one_era cat) work.txns (history r.log)
-  keeps = starts cat r.table work sound valid r.table_is r.log r.log_is none
+  keeps : KeepsStarts whole (eras_of given r.log) work.txns (history r.log)
+  keeps = starts cat r.tables work sound valid r.tables_are r.log r.log_is
 
   few : AreSubmittedOnce work.events
   few = once work.events valid.submitted
@@ -113,7 +111,7 @@ module _ (cat : Catalogue) (work : Workload) (text : List ℕ) (sound : IsSound 
     committed : Committed
     is_committed : IsCommitted (history r.log) committed
     number_is : committed.start.txn ≡ n.0
-    of_submit : IsOfSubmit cat (one_era cat) work.txns (history r.log) committed.start
+    of_submit : IsOfSubmit whole (eras_of given r.log) work.txns (history r.log) committed.start
 
   is_member : (n : TxnNo) → Contains order n → IsMember n
   is_member n there =
@@ -123,30 +121,52 @@ module _ (cat : Catalogue) (work : Workload) (text : List ℕ) (sound : IsSound 
   some : (n : TxnNo) → IsMember n → 1 ≤ submits_in n.0 work.events
   some n m =
       subst (λ (k : ℕ). 1 ≤ submits_in k work.events) m.number_is
-      (is_in_schedule (given_of cat r.table work) r.log r.log_is.lawful few m.committed.start.txn m.of_submit.place m.of_submit.submitted)
+      (is_in_schedule given r.log r.log_is.lawful few m.committed.start.txn m.of_submit.place m.of_submit.submitted)
 
   -- so it is one of the transactions that are given
-  pub one_given : (n : TxnNo) → Contains (serial_order cat (history r.log)) n → IsFrom1To (length work.txns) n.0
+  pub one_given : (n : TxnNo) → Contains (serial_order whole (history r.log)) n → IsFrom1To (length work.txns) n.0
   one_given n there = named_by_events cat (length work.txns) n.0 work.events valid.events (some n (is_member n there))
 
   abbrev has_text : (n : TxnNo) → IsMember n → HasText work.txns n
   has_text n m = (m.of_submit.txn, ap (λ (k : ℕ). slice_get work.txns (k - 1)) (sym m.number_is) ∙ m.of_submit.txn_is)
 
-  class_is : (n : TxnNo) → (m : IsMember n) → class_of cat work.txns n ≡ m.committed.start.class
+  -- its class is that by the list in force where it was submitted
+
+  few_ticks_given : AllFewTicks given.events
+  few_ticks_given = few_ticks cat (length work.txns) work.events valid.events
+
+  list_in_force : (k : ℕ) → k ≤ redeclares r.log → (force_at given k).catalogue ≡ era_at cat (eras_in cat work) k
+  list_in_force k most =
+      let last = few_lists cat r.tables work sound valid r.tables_are r.log r.log_is in
+      sym (index_or (eras_in cat work) k cat (force_at given k).catalogue
+      (list_at_number cat r.tables work r.tables_are k (omega (arith, most, last))).there)
+
+  in_force_is : (n place : ℕ) → IsSubmitted (history r.log) n place
+      → in_force whole (eras_of given r.log) (event_at (history r.log) place) ≡ era_at cat (eras_in cat work) (redeclared_at n 0 work.events)
+  in_force_is n place s =
+      let x = list_at given r.log r.log_is.lawful few few_ticks_given n place s in
+      ap (λ (p : ℕ). in_force whole (eras_of given r.log) (event_at (history r.log) p)) (sym x.place_is)
+      ∙ event_of_submit given r.log (eras_of given r.log) n x.later x.rest x.at
+      (eras_are cat r.tables work sound valid r.tables_are r.log r.log_is) x.is
+      ∙ list_in_force (redeclares x.rest) x.few ∙ ap (era_at cat (eras_in cat work)) x.lists_are
+
+  class_is : (n : TxnNo) → (m : IsMember n) → class_of (classes_submitted cat work) (moved cat work valid n) ≡ m.committed.start.class
   class_is n m =
       let t = has_text n m in
-      ap (λ (o : Option Txn). option_map_or (class_for cat) o 0) t.1
-      ∙ ap (λ (c : Catalogue). class_for c t.0)
-      (sym (era_is cat (event_at (history r.log) m.of_submit.place))) ∙ sym m.of_submit.class_is
+      class_at (era_at cat (eras_in cat work)) work.txns n.0 t.0 t.1 cat 0 work.events valid.events (some n m)
+      ∙ sym (ap (λ (k : ℕ). class_for (era_at cat (eras_in cat work) (redeclared_at k 0 work.events)) t.0) m.number_is)
+      ∙ sym (ap (λ (c : Catalogue). class_for c t.0) (in_force_is m.committed.start.txn m.of_submit.place m.of_submit.submitted))
+      ∙ sym m.of_submit.class_is
 
   all_submitted : All (IsSubmittedOne cat work valid) order
   all_submitted = all_members (IsSubmittedOne cat work valid) order (λ n there. some n (is_member n there))
 
   apart : AreDifferent order
-  apart = different cat (history r.log) order r.serial.along
+  apart = different whole (history r.log) order r.serial.along
 
   -- of one class the one that was submitted first stands first
-  not_turned : (i k : ℕ) → i < k → k < length order → class_of cat work.txns (at order i) ≡ class_of cat work.txns (at order k)
+  not_turned : (i k : ℕ) → i < k → k < length order → class_of (classes_submitted cat work) (moved cat work valid (at order i))
+      ≡ class_of (classes_submitted cat work) (moved cat work valid (at order k))
       → (moved cat work valid (at order k)).0 < (moved cat work valid (at order i)).0 → ⊥
   not_turned i k less within class turned =
       let x = is_member (at order i) (member order i (omega (arith, less, within))) in
@@ -155,7 +175,7 @@ module _ (cat : Catalogue) (work : Workload) (text : List ℕ) (sound : IsSound 
       let other : (at order k).0 ≢ (at order i).0 = λ e. apart i k less within (sym e) in
       let first = subst (λ (n : ℕ). IsSubmitted (history r.log) n y.of_submit.place) y.number_is y.of_submit.submitted in
       let second = subst (λ (n : ℕ). IsSubmitted (history r.log) n x.of_submit.place) x.number_is x.of_submit.submitted in
-      let before = submitted_first (given_of cat r.table work) r.log r.log_is.lawful few (at order k).0
+      let before = submitted_first given r.log r.log_is.lawful few (at order k).0
       (at order i).0 y.of_submit.place x.of_submit.place other s first second in
       let submitted_before : IsSubmittedBefore (history r.log) y.committed x.committed = record {
         first_place = y.of_submit.place;
@@ -191,42 +211,43 @@ module _ (cat : Catalogue) (work : Workload) (text : List ℕ) (sound : IsSound 
   -- the text, part by part
 
   abbrev told : Report
-  told = report_of (given_of cat r.table work) r.log
+  told = report_of given r.log
 
   follows : FirstLine (after_replies told)
   follows =
-      first_line (after_replies told) (rest_begins cat work.txns (history r.log) order told.pending told.copies)
-      (whole_end (flat_map (shipped_of work.txns (history r.log)) order) (pending_lines cat work.txns told.pending) (copies_lines cat told.copies))
+      first_line (after_replies told) (rest_begins whole work.txns (history r.log) order told.pending told.copies)
+      (whole_end (flat_map (shipped_of work.txns (history r.log)) order) (pending_lines whole work.txns told.pending) (copies_lines whole told.copies))
 
   abbrev Placed : List TxnNo
   Placed = map (moved cat work valid) order
 
-  replied : replies_along (names_of work.txns order) (run cat work.rows work.txns order).0 ≡ serial_replies cat work (map (moved cat work valid) order)
+  replied : replies_along (names_of work.txns order) (run whole work.rows work.txns order).0 ≡ serial_replies cat work (map (moved cat work valid) order)
   replied =
-      replies_are work.txns order (run cat work.rows work.txns order).0 (all_members (HasText work.txns) order (λ n there. has_text n (is_member n there)))
+      ap (λ (c : Catalogue). replies_along (names_of work.txns order) (run c work.rows work.txns order).0) (whole_over cat cat.classes (classes_in cat work))
+      ∙ replies_are work.txns order (run cat work.rows work.txns order).0 (all_members (HasText work.txns) order (λ n there. has_text n (is_member n there)))
       ∙ ap (λ (texts : List Txn). replies texts (serial cat (database_of cat work.rows) texts).0) (sym (moved_texts cat work valid order all_submitted))
 
   pub verified : length text ≤ MAX_REPORT_BYTES → IsVerified cat work text
   verified small =
       let names = names_of_txns cat work.txns valid.txns in
-      let before : List (List ℕ) = lines_in cat work.txns named.classes names (history r.log) in
+      let before : List (List ℕ) = lines_in whole work.txns named.classes names (history r.log) in
       let line : List ℕ = order_line work.txns order in
-      let answers : List ℕ = replies_along (names_of work.txns order) (run cat work.rows work.txns order).0 in
+      let answers : List ℕ = replies_along (names_of work.txns order) (run whole work.rows work.txns order).0 in
       let after : List ℕ = after_replies told in
       record {
         small = small;
         order = map (moved cat work valid) order;
         are_submitted = moved_there cat work valid order all_submitted;
-        in_turn = moved_turn cat work valid order all_submitted in_turn;
+        in_turn = moved_turn cat work valid order in_turn;
         before = before;
-        before_lines = trace_lines cat work.txns named.classes names (history r.log);
-        before_order = trace_others cat work.txns named.classes names (history r.log);
+        before_lines = trace_lines whole work.txns named.classes names (history r.log);
+        before_order = trace_others whole work.txns named.classes names (history r.log);
         next = follows.next;
         next_line = follows.line;
         next_other = follows.other;
         rest = follows.rest;
         text_is = r.told
-            ∙ ap (λ (l : List ℕ). l ++ (line ++ (answers ++ after))) (trace_is cat work.txns named.classes names (history r.log))
+            ∙ ap (λ (l : List ℕ). l ++ (line ++ (answers ++ after))) (trace_is whole work.txns named.classes names (history r.log))
             ∙ ap (λ (l : List ℕ). spelled_lines before ++ (l ++ (answers ++ after))) (sym (moved_line cat work valid order all_submitted))
             ∙ ap (λ (l : List ℕ). spelled_lines before ++ (order_line (submitted work) (map (moved cat work valid) order) ++ (l ++ after))) replied
             ∙ ap (λ (l : List ℕ). spelled_lines before ++ (order_line (submitted work)

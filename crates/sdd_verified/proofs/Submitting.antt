@@ -59,7 +59,7 @@ end_left events (Does a act ∷ log) = end_left events log
 
 -- counts of two parts, and of marks
 
-submits_append : (n : ℕ) (xs ys : List Event) → submits_in n (xs ++ ys) ≡ submits_in n xs + submits_in n ys
+pub submits_append : (n : ℕ) (xs ys : List Event) → submits_in n (xs ++ ys) ≡ submits_in n xs + submits_in n ys
 submits_append n [] ys = omega arith
 submits_append n (e ∷ xs) ys = let more = submits_append n xs ys in omega (arith, more)
 
@@ -74,7 +74,7 @@ marked_later n (Notes ∷ later) log = marked_later n later log
 marked_later n (Does a act ∷ later) log = marked_later n later log
 
 -- of two ways to part a list the front of one is a front of the other
-two_fronts : (xs ys fs ss : List Event) → xs ++ ys ≡ fs ++ ss → ((zs : List Event) × (fs ≡ xs ++ zs)) ⊎ ((zs : List Event) × (xs ≡ fs ++ zs))
+pub two_fronts : (xs ys fs ss : List Event) → xs ++ ys ≡ fs ++ ss → ((zs : List Event) × (fs ≡ xs ++ zs)) ⊎ ((zs : List Event) × (xs ≡ fs ++ zs))
 two_fronts [] ys fs ss e = inl (fs, refl)
 two_fronts (x ∷ xs) ys [] ss e = inr (x ∷ xs, refl)
 two_fronts (x ∷ xs) ys (f ∷ fs) ss e =
@@ -85,7 +85,7 @@ two_fronts (x ∷ xs) ys (f ∷ fs) ss e =
       | inr p ↦ inr (p.0, rw same (ap (λ (l : List Event). f ∷ l) p.1))
     ]
 
-lawful_before : (g : Given) (later log : Log) → IsLawful g (later ++ log) → IsLawful g log
+pub lawful_before : (g : Given) (later log : Log) → IsLawful g (later ++ log) → IsLawful g log
 lawful_before g [] log h = h
 lawful_before g (e ∷ later) log h = lawful_before g later log h.1
 
@@ -102,7 +102,7 @@ again m n a b (x ∷ between) rest_m rest_n k l earlier_m earlier_n e f some =
     let later = marked_later m between (Submitted b n ∷ rest_n) in
     subst (λ (log : Log). 1 ≤ marked m log) q (omega (arith, here, later))
 
-own_mark : (n : ℕ) → one_if (n == n) ≡ 1
+pub own_mark : (n : ℕ) → one_if (n == n) ≡ 1
 own_mark n = ap one_if (eq-eqb n n refl)
 
 module _ (g : Given) (log : Log) (lawful : IsLawful g log) (once : AreSubmittedOnce g.events) where

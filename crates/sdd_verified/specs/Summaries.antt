@@ -7,18 +7,18 @@ use Rattle.sdd_base.specs.declared.event.Event.TheVariants.{Down, Settle, Submit
 use Rattle.sdd_log.specs.Permitted.{submits_in}
 use Rattle.sdd_make.specs.Summary.{summary_text}
 use Rattle.sdd_make.specs.declared.summary.Summary.{Summary}
-use Rattle.sdd_run.specs.Settled.{EndsWithSettle}
+use Rattle.sdd_run.specs.Settled.{EndsAtRest}
 
 -- whether an event takes a data module down
 abbrev pub takes_down : Event → Bool
 takes_down (Down d) = true
 takes_down _ = false
 
--- events that submit each of so many transactions, take no data module down, and end with a settle
+-- events that submit each of so many transactions, take no data module down, and end with a settle or a redeclare
 pub record SettleAll (txns : ℕ) (events : List Event) : Type 0 where
   pub submit_all : (n : ℕ) → 1 ≤ n → n ≤ txns → 1 ≤ submits_in n events
   pub none_down : list_any takes_down events ≡ false
-  pub ends : EndsWithSettle events
+  pub ends : EndsAtRest events
 
 -- a summary that tells that all of so many transactions are committed
 pub record TellsAllDone (txns : ℕ) (text : List ℕ) : Type 0 where

@@ -4,16 +4,13 @@ use Rattle.sdd_base.specs.declared.number.TxnNo.{TxnNo}
 use Rattle.sdd_catalog.specs.Catalogue.{Catalogue}
 use Rattle.sdd_lang.specs.Database.{Row}
 use Rattle.sdd_lang.specs.declared.transaction.Txn.{Txn}
-use Rattle.sdd_laws.specs.Replay.{run}
-use Rattle.sdd_log.specs.Entries.{history}
-use Rattle.sdd_order.specs.SerialOrder.{serial_order}
 use Rattle.sdd_report.specs.Committed.{names_of}
 use Rattle.sdd_report.specs.Copies.{place_words}
 use Rattle.sdd_report.specs.Names.{txn_name}
 use Rattle.sdd_report.specs.declared.copies.CopyTable.{CopyTable}
 use Rattle.sdd_report.specs.declared.pending.Pending.{Pending}
 use Rattle.sdd_run.specs.Reports.{report_of}
-use Rattle.sdd_run.specs.Runs.{IsReportOn, given_of}
+use Rattle.sdd_run.specs.Runs.{IsReportOn, given_of, order_of, plain_run}
 use Rattle.sdd_script.specs.declared.workload.Workload.{Workload}
 
 -- the names of the pending transactions, and their numbers
@@ -30,16 +27,16 @@ copies_told cat copies = map (λ (t : CopyTable). (place_words cat t.dm.0 t.frag
 -- two reports tell the same: the names of the committed transactions in their order, the replies along it, the names of
 -- the pending ones, and the copies
 pub record TellAlike (cat : Catalogue) (work other : Workload) (text : List ℕ) (one : IsReportOn cat work text) (two : IsReportOn cat other text) : Type 0 where
-  pub order : names_of work.txns (serial_order cat (history one.log)) ≡ names_of other.txns (serial_order cat (history two.log))
-  pub replies : (run cat work.rows work.txns (serial_order cat (history one.log))).0
-      ≡ (run cat other.rows other.txns (serial_order cat (history two.log))).0
-  pub pending : pending_names work.txns (report_of (given_of cat one.table work) one.log).pending
-      ≡ pending_names other.txns (report_of (given_of cat two.table other) two.log).pending
-  pub copies : copies_told cat (report_of (given_of cat one.table work) one.log).copies
-      ≡ copies_told cat (report_of (given_of cat two.table other) two.log).copies
+  pub order : names_of work.txns (order_of cat work one.log) ≡ names_of other.txns (order_of cat other two.log)
+  pub replies : (plain_run cat work one.log).0
+      ≡ (plain_run cat other two.log).0
+  pub pending : pending_names work.txns (report_of (given_of cat one.tables work) one.log).pending
+      ≡ pending_names other.txns (report_of (given_of cat two.tables other) two.log).pending
+  pub copies : copies_told cat (report_of (given_of cat one.tables work) one.log).copies
+      ≡ copies_told cat (report_of (given_of cat two.tables other) two.log).copies
 
 -- and where they are of the same transactions, these stand in the same order, and the same are pending
 pub record TellOfTheSame (cat : Catalogue) (work other : Workload) (text : List ℕ) (one : IsReportOn cat work text) (two : IsReportOn cat other text) : Type 0 where
-  pub order : serial_order cat (history one.log) ≡ serial_order cat (history two.log)
-  pub pending : pending_numbers (report_of (given_of cat one.table work) one.log).pending
-      ≡ pending_numbers (report_of (given_of cat two.table other) two.log).pending
+  pub order : order_of cat work one.log ≡ order_of cat other two.log
+  pub pending : pending_numbers (report_of (given_of cat one.tables work) one.log).pending
+      ≡ pending_numbers (report_of (given_of cat two.tables other) two.log).pending

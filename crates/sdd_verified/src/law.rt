@@ -1,6 +1,5 @@
-ghost use Rattle.std.specs.Prelude.{ℕ, ◌≡◌, ◌≤◌, false, List, length};
+ghost use Rattle.std.specs.Prelude.{ℕ, ◌≡◌, ◌≤◌, List, length};
 ghost use Rattle.sdd_run.specs.Runs.{IsReportOn};
-ghost use Rattle.sdd_script.specs.Redeclaring.{has_lists};
 ghost use Rattle.sdd_script.specs.Valid.{IsValid};
 ghost use Rattle.sdd_script.specs.declared.workload.Workload.{Workload};
 ghost use Rattle.sdd_verify.specs.Verdict.{verdict};
@@ -9,10 +8,10 @@ ghost use Rattle.sdd_verify.specs.declared.verdict.Verdict.TheVariants.{Yes};
 
 use sdd_catalog::Catalogue;
 
-/// The verdict on the report on the run of a workload without lists of classes is Yes, where the
-/// report isn't too long to be judged. Takes no time and no memory.
+/// The verdict on the report on the run of a workload is Yes, where the report isn't too long to be
+/// judged, whatever lists of classes the workload puts in force. Takes no time and no memory.
 pub fn law_verified(catalogue: &Catalogue)
-    ensures { (work : Workload) (text : List ℕ) → IsValid catalogue.now work → has_lists work ≡ false → IsReportOn catalogue.now work text
+    ensures { (work : Workload) (text : List ℕ) → IsValid catalogue.now work → IsReportOn catalogue.now work text
         → length text ≤ MAX_REPORT_BYTES → verdict catalogue.now work text ≡ Yes }
 {
     catalogue.known();

@@ -5,7 +5,6 @@ ghost use Rattle.sdd_catalog.specs.Naming.{AreNamed};
 ghost use Rattle.sdd_catalog.specs.Rules.{IsSound};
 ghost use Rattle.sdd_run.specs.Reports.{report_of};
 ghost use Rattle.sdd_run.specs.Runs.{IsReportOn, given_of};
-ghost use Rattle.sdd_script.specs.Redeclaring.{has_lists};
 ghost use Rattle.sdd_script.specs.Valid.{IsValid};
 ghost use Rattle.sdd_script.specs.declared.workload.Workload.{Workload};
 ghost use Rattle.sdd_verify.specs.Lines.{lines_of};
@@ -15,10 +14,10 @@ ghost use Rattle.sdd_verified.specs.Lines.{tells_pending};
 /// none is, it has no such line.
 pub fn law_pending_lines()
     ensures as_many { (cat : Catalogue) (work : Workload) (text : List ℕ) → IsSound cat → AreNamed cat → IsValid cat work
-        → has_lists work ≡ false → (told : IsReportOn cat work text)
-        → count_by tells_pending (lines_of text) ≡ length (report_of (given_of cat told.table work) told.log).pending }
+        → (told : IsReportOn cat work text)
+        → count_by tells_pending (lines_of text) ≡ length (report_of (given_of cat told.tables work) told.log).pending }
     ensures no_line { (cat : Catalogue) (work : Workload) (text : List ℕ) → IsSound cat → AreNamed cat → IsValid cat work
-        → has_lists work ≡ false → (told : IsReportOn cat work text)
-        → (report_of (given_of cat told.table work) told.log).pending ≡ []
+        → (told : IsReportOn cat work text)
+        → (report_of (given_of cat told.tables work) told.log).pending ≡ []
         → (line : List ℕ) → Contains (lines_of text) line → tells_pending line ≡ false }
 {}

@@ -1,15 +1,14 @@
 //! Every run has a report, or comes to the limit.
-ghost use Rattle.std.specs.Prelude.{ℕ, ◌≡◌, ◌⊎◌, false, List};
+ghost use Rattle.std.specs.Prelude.{ℕ, ◌≡◌, ◌⊎◌, List};
 ghost use Rattle.sdd_catalog.specs.Catalogue.{Catalogue};
 ghost use Rattle.sdd_catalog.specs.Rules.{IsSound};
 ghost use Rattle.sdd_run.specs.Runs.{EndsAtLimit, IsReportOn};
-ghost use Rattle.sdd_script.specs.Redeclaring.{has_lists};
 ghost use Rattle.sdd_script.specs.Valid.{IsValid};
 ghost use Rattle.sdd_script.specs.declared.workload.Workload.{Workload};
 
-/// A law: the run of a workload without lists of classes has a report, or the limit ends the run,
-/// whatever the modules do and with no regard to memory.
+/// A law: the run of a workload has a report, or the limit ends the run, whatever the modules do and
+/// with no regard to memory.
 pub fn law_has_report()
-    ensures { (cat : Catalogue) (work : Workload) → IsSound cat → IsValid cat work → has_lists work ≡ false
+    ensures { (cat : Catalogue) (work : Workload) → IsSound cat → IsValid cat work
         → ((text : List ℕ) × IsReportOn cat work text) ⊎ EndsAtLimit cat work }
 {}

@@ -1,21 +1,20 @@
 //! The summary of a run that leaves nothing undone.
-ghost use Rattle.std.specs.Prelude.{ℕ, ◌≡◌, ◌≤◌, false, List, length};
+ghost use Rattle.std.specs.Prelude.{ℕ, ◌≡◌, ◌≤◌, List, length};
 ghost use Rattle.sdd_base.specs.declared.limits.TheConstants.{MAX_TXNS};
 ghost use Rattle.sdd_catalog.specs.Catalogue.{Catalogue};
 ghost use Rattle.sdd_catalog.specs.Rules.{IsSound};
 ghost use Rattle.sdd_make.specs.Bank.{bank};
 ghost use Rattle.sdd_make.specs.Turns.{workload_of};
 ghost use Rattle.sdd_run.specs.Runs.{IsSummaryOn};
-ghost use Rattle.sdd_script.specs.Redeclaring.{has_lists};
 ghost use Rattle.sdd_script.specs.Valid.{IsValid};
 ghost use Rattle.sdd_script.specs.declared.workload.Workload.{Workload};
 ghost use Rattle.sdd_verified.specs.Summaries.{SettleAll, TellsAllDone};
 
-/// A law: where the events submit each transaction, take no data module down and end with a settle,
-/// the summary of the run tells as many committed as there are transactions.
+/// A law: where the events submit each transaction, take no data module down and end with a settle
+/// or a redeclare, the summary of the run tells as many committed as there are transactions.
 pub fn law_all_committed()
     ensures { (cat : Catalogue) (work : Workload) (text : List ℕ) → IsSound cat → IsValid cat work
-        → has_lists work ≡ false → SettleAll (length work.txns) work.events → IsSummaryOn cat work text
+        → SettleAll (length work.txns) work.events → IsSummaryOn cat work text
         → TellsAllDone (length work.txns) text }
 {}
 

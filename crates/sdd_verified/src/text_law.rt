@@ -1,10 +1,9 @@
 //! What the text of a report gives back.
-ghost use Rattle.std.specs.Prelude.{ℕ, ◌≡◌, false, List};
+ghost use Rattle.std.specs.Prelude.{ℕ, ◌≡◌, List};
 ghost use Rattle.sdd_catalog.specs.Catalogue.{Catalogue};
 ghost use Rattle.sdd_catalog.specs.Naming.{AreNamed};
 ghost use Rattle.sdd_catalog.specs.Rules.{IsSound};
 ghost use Rattle.sdd_run.specs.Runs.{IsReportOn};
-ghost use Rattle.sdd_script.specs.Redeclaring.{has_lists};
 ghost use Rattle.sdd_script.specs.Valid.{IsValid};
 ghost use Rattle.sdd_script.specs.declared.workload.Workload.{Workload};
 ghost use Rattle.sdd_verified.specs.Tellings.{TellAlike, TellOfTheSame};
@@ -14,10 +13,10 @@ ghost use Rattle.sdd_verified.specs.Tellings.{TellAlike, TellOfTheSame};
 /// their numbers too.
 pub fn law_one_text()
     ensures names { (cat : Catalogue) (work other : Workload) (text : List ℕ) → IsSound cat → AreNamed cat
-        → IsValid cat work → IsValid cat other → has_lists work ≡ false → has_lists other ≡ false
+        → IsValid cat work → IsValid cat other
         → (one : IsReportOn cat work text) → (two : IsReportOn cat other text) → TellAlike cat work other text one two }
     ensures numbers { (cat : Catalogue) (work other : Workload) (text : List ℕ) → IsSound cat → AreNamed cat
-        → IsValid cat work → IsValid cat other → has_lists work ≡ false → has_lists other ≡ false
+        → IsValid cat work → IsValid cat other
         → work.txns ≡ other.txns → (one : IsReportOn cat work text) → (two : IsReportOn cat other text)
         → TellOfTheSame cat work other text one two }
 {}

@@ -4,17 +4,15 @@ use Rattle.std.specs.Prelude.{◌&&◌, ◌||◌, nat_lt}
 use Rattle.std.specs.List.{list_all}
 use Rattle.std.proofs.lemmas.Bool.{eqb-true, ltb-true, ne_eqb, lt-ltb}
 use Rattle.sdd_base.specs.declared.number.TxnNo.{TxnNo}
-use Rattle.sdd_catalog.specs.Catalogue.{Catalogue}
-use Rattle.sdd_lang.specs.declared.transaction.Txn.{Txn}
+use Rattle.sdd_verify.specs.Classes.{class_of}
 use Rattle.sdd_verify.specs.Orders.{is_in_turn, may_follow}
-use Rattle.sdd_verify.specs.Submitted.{class_of}
 use Rattle.sdd_verify.specs.Verified.{IsInTurn, at}
 
-module _ (cat : Catalogue) (txns : List Txn) where
+module _ (classes : List ℕ) where
   abbrev MayFollow : TxnNo → TxnNo → Type 0
-  MayFollow m n = (m.0 ≢ n.0) × (class_of cat txns m ≡ class_of cat txns n → m.0 < n.0)
+  MayFollow m n = (m.0 ≢ n.0) × (class_of classes m ≡ class_of classes n → m.0 < n.0)
 
-  tells_by : (m n : TxnNo) (same class less : Bool) → (m.0 == n.0) ≡ same → (class_of cat txns m == class_of cat txns n) ≡ class → nat_lt m.0 n.0 ≡ less
+  tells_by : (m n : TxnNo) (same class less : Bool) → (m.0 == n.0) ≡ same → (class_of classes m == class_of classes n) ≡ class → nat_lt m.0 n.0 ≡ less
       → (not same && (not class || less)) ≡ true → MayFollow m n
   tells_by m n true class less e f g h = absurd cc
   tells_by m n false true false e f g h = absurd cc
@@ -22,43 +20,43 @@ module _ (cat : Catalogue) (txns : List Txn) where
       (λ is. let t : (m.0 == n.0) ≡ true = eq-eqb m.0 n.0 is in absurd cc, λ _. ltb-true m.0 n.0 g)
   tells_by m n false false less e f g h = (
     λ is. let t : (m.0 == n.0) ≡ true = eq-eqb m.0 n.0 is in absurd cc,
-    λ is. let t : (class_of cat txns m == class_of cat txns n) ≡ true = eq-eqb (class_of cat txns m) (class_of cat txns n) is in absurd cc,
+    λ is. let t : (class_of classes m == class_of classes n) ≡ true = eq-eqb (class_of classes m) (class_of classes n) is in absurd cc,
   )
 
-  tells : (m n : TxnNo) → may_follow cat txns m n ≡ true → MayFollow m n
-  tells m n h = tells_by m n (m.0 == n.0) (class_of cat txns m == class_of cat txns n) (nat_lt m.0 n.0) refl refl refl h
+  tells : (m n : TxnNo) → may_follow classes m n ≡ true → MayFollow m n
+  tells m n h = tells_by m n (m.0 == n.0) (class_of classes m == class_of classes n) (nat_lt m.0 n.0) refl refl refl h
 
-  told_by : (m n : TxnNo) (class : Bool) → (class_of cat txns m == class_of cat txns n) ≡ class → MayFollow m n → may_follow cat txns m n ≡ true
+  told_by : (m n : TxnNo) (class : Bool) → (class_of classes m == class_of classes n) ≡ class → MayFollow m n → may_follow classes m n ≡ true
   told_by m n true e h =
       let other : (m.0 == n.0) ≡ false = ne_eqb m.0 n.0 h.0 in
-      let less : nat_lt m.0 n.0 ≡ true = lt-ltb m.0 n.0 (h.1 (eqb-true (class_of cat txns m) (class_of cat txns n) e)) in
+      let less : nat_lt m.0 n.0 ≡ true = lt-ltb m.0 n.0 (h.1 (eqb-true (class_of classes m) (class_of classes n) e)) in
       rw (other, e, less) refl
   told_by m n false e h =
       let other : (m.0 == n.0) ≡ false = ne_eqb m.0 n.0 h.0 in
       rw (other, e) refl
 
-  told : (m n : TxnNo) → MayFollow m n → may_follow cat txns m n ≡ true
-  told m n h = told_by m n (class_of cat txns m == class_of cat txns n) refl h
+  told : (m n : TxnNo) → MayFollow m n → may_follow classes m n ≡ true
+  told m n h = told_by m n (class_of classes m == class_of classes n) refl h
 
   both : (a b : Bool) → (a && b) ≡ true → (a ≡ true) × (b ≡ true)
   both true b e = (refl, e)
   both false b e = absurd cc
 
-  each : (m : TxnNo) (order : List TxnNo) (k : ℕ) → list_all (may_follow cat txns m) order ≡ true → k < length order → MayFollow m (at order k)
+  each : (m : TxnNo) (order : List TxnNo) (k : ℕ) → list_all (may_follow classes m) order ≡ true → k < length order → MayFollow m (at order k)
   each m [] k h lt = absurd (omega arith)
-  each m (n ∷ order) zero h lt = tells m n (both (may_follow cat txns m n) (list_all (may_follow cat txns m) order) h).0
-  each m (n ∷ order) (suc k) h lt = each m order k (both (may_follow cat txns m n) (list_all (may_follow cat txns m) order) h).1 (omega arith)
+  each m (n ∷ order) zero h lt = tells m n (both (may_follow classes m n) (list_all (may_follow classes m) order) h).0
+  each m (n ∷ order) (suc k) h lt = each m order k (both (may_follow classes m n) (list_all (may_follow classes m) order) h).1 (omega arith)
 
   -- the test tells it of each two members
-  pub in_turn : (order : List TxnNo) → is_in_turn cat txns order ≡ true → IsInTurn cat txns order
+  pub in_turn : (order : List TxnNo) → is_in_turn classes order ≡ true → IsInTurn classes order
   in_turn [] h i k less within = absurd (omega arith)
   in_turn (n ∷ order) h i zero less within = absurd (omega arith)
-  in_turn (n ∷ order) h zero (suc k) less within = each n order k (both (list_all (may_follow cat txns n) order) (is_in_turn cat txns order) h).0 (omega arith)
+  in_turn (n ∷ order) h zero (suc k) less within = each n order k (both (list_all (may_follow classes n) order) (is_in_turn classes order) h).0 (omega arith)
   in_turn (n ∷ order) h (suc i) (suc k) less within =
-      in_turn order (both (list_all (may_follow cat txns n) order) (is_in_turn cat txns order) h).1 i k
+      in_turn order (both (list_all (may_follow classes n) order) (is_in_turn classes order) h).1 i k
       (omega arith) (omega arith)
 
-  all_follow : (m : TxnNo) (order : List TxnNo) → ((k : ℕ) → k < length order → MayFollow m (at order k)) → list_all (may_follow cat txns m) order ≡ true
+  all_follow : (m : TxnNo) (order : List TxnNo) → ((k : ℕ) → k < length order → MayFollow m (at order k)) → list_all (may_follow classes m) order ≡ true
   all_follow m [] h = refl
   all_follow m (n ∷ order) h =
       let first = told m n (h 0 (omega arith)) in
@@ -66,7 +64,7 @@ module _ (cat : Catalogue) (txns : List Txn) where
       rw (first, more) refl
 
   -- and the other way round
-  pub in_turn_again : (order : List TxnNo) → IsInTurn cat txns order → is_in_turn cat txns order ≡ true
+  pub in_turn_again : (order : List TxnNo) → IsInTurn classes order → is_in_turn classes order ≡ true
   in_turn_again [] h = refl
   in_turn_again (n ∷ order) h =
       let first = all_follow n order (λ k lt. h 0 (suc k) (omega arith) (omega arith)) in

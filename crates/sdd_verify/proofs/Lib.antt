@@ -1,3 +1,5 @@
+pub mod ClassesFit
+pub mod ClassesFound
 pub mod DifferentNames
 pub mod InTurn
 pub mod LineCuts

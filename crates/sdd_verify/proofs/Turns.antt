@@ -10,10 +10,8 @@ use Rattle.std.proofs.lemmas.List.{take_more, append-nil, take-append-drop}
 use Rattle.std.proofs.lemmas.List.Folds.{list_all-append}
 use Rattle.sdd_base.specs.Words.{or_else}
 use Rattle.sdd_base.specs.declared.number.TxnNo.{TxnNo}
-use Rattle.sdd_catalog.specs.Catalogue.{Catalogue}
-use Rattle.sdd_lang.specs.declared.transaction.Txn.{Txn}
+use Rattle.sdd_verify.specs.Classes.{class_of}
 use Rattle.sdd_verify.specs.Orders.{allows, is_in_turn, may_follow}
-use Rattle.sdd_verify.specs.Submitted.{class_of}
 
 both : (a b : Bool) → (a && b) ≡ true → (a ≡ true) × (b ≡ true)
 both true b e = (refl, e)
@@ -53,9 +51,9 @@ is_at_number k n =
 same_number : (m n : TxnNo) → m.0 ≡ n.0 → m ≡ n
 same_number m n e = ap (λ (k : ℕ). let t : TxnNo = record { 0 = k } in t) e
 
-module _ (cat : Catalogue) (txns : List Txn) where
+module _ (classes : List ℕ) where
   abbrev Class : TxnNo → ℕ
-  Class n = class_of cat txns n
+  Class n = class_of classes n
 
   -- that it is another one need not be asked
   follows_by_class : (m n : TxnNo) (same class less : Bool) → (m.0 == n.0) ≡ same → (Class m == Class n) ≡ class → nat_lt m.0 n.0 ≡ less
@@ -68,7 +66,7 @@ module _ (cat : Catalogue) (txns : List Txn) where
       let one : (Class m == Class n) ≡ true = eq-eqb (Class m) (Class n) (ap Class is) in
       absurd cc
 
-  by_class : (m n : TxnNo) → may_follow cat txns m n ≡ (not (Class m == Class n) || nat_lt m.0 n.0)
+  by_class : (m n : TxnNo) → may_follow classes m n ≡ (not (Class m == Class n) || nat_lt m.0 n.0)
   by_class m n = follows_by_class m n (m.0 == n.0) (Class m == Class n) (nat_lt m.0 n.0) refl refl refl
 
   -- the last of a class
@@ -93,14 +91,14 @@ module _ (cat : Catalogue) (txns : List Txn) where
       rw more (or_again (cond (Class n == c) (Some n.0) None) (last_of c order) (cond (Class m == c) (Some m.0) None))
 
   pub turn_more : (order : List TxnNo) (n : TxnNo)
-      → is_in_turn cat txns (order ++ n ∷ []) ≡ (is_in_turn cat txns order && list_all
-      (λ m. may_follow cat txns m n) order)
+      → is_in_turn classes (order ++ n ∷ []) ≡ (is_in_turn classes order && list_all
+      (λ m. may_follow classes m n) order)
   turn_more [] n = refl
   turn_more (m ∷ order) n =
       let more = turn_more order n in
-      let front = list_all-append (may_follow cat txns m) order (n ∷ []) in
-      rw (front, more) (regroup (list_all (may_follow cat txns m) order) (may_follow cat txns m n)
-      (is_in_turn cat txns order) (list_all (λ k. may_follow cat txns k n) order))
+      let front = list_all-append (may_follow classes m) order (n ∷ []) in
+      rw (front, more) (regroup (list_all (may_follow classes m) order) (may_follow classes m n)
+      (is_in_turn classes order) (list_all (λ k. may_follow classes k n) order))
     where
       regroup : (a b c d : Bool) → ((a && (b && true)) && (c && d)) ≡ ((a && c) && (b && d))
       regroup true true c d = refl
@@ -110,7 +108,7 @@ module _ (cat : Catalogue) (txns : List Txn) where
 
   -- the last of a class was submitted behind all of it before
 
-  last_by : (c p : ℕ) (m n : TxnNo) (class : Bool) (rest : Option ℕ) → (Class n == c) ≡ class → may_follow cat txns m n ≡ true → Class m ≡ c
+  last_by : (c p : ℕ) (m n : TxnNo) (class : Bool) (rest : Option ℕ) → (Class n == c) ≡ class → may_follow classes m n ≡ true → Class m ≡ c
       → (rest ≡ Some p → m.0 < p) → or_else rest (cond class (Some n.0) None) ≡ Some p → m.0 < p
   last_by c p m n class (Some q) e f is above g = above g
   last_by c p m n false None e f is above g = absurd cc
@@ -120,10 +118,10 @@ module _ (cat : Catalogue) (txns : List Txn) where
       let lt : nat_lt m.0 n.0 ≡ true = rw one at (sym (by_class m n) ∙ f) in
       subst (λ (k : ℕ). m.0 < k) here (ltb-true m.0 n.0 lt)
 
-  last_above : (c p : ℕ) (m : TxnNo) (order : List TxnNo) → list_all (may_follow cat txns m) order ≡ true → Class m ≡ c → last_of c order ≡ Some p → m.0 < p
+  last_above : (c p : ℕ) (m : TxnNo) (order : List TxnNo) → list_all (may_follow classes m) order ≡ true → Class m ≡ c → last_of c order ≡ Some p → m.0 < p
   last_above c p m [] h is e = absurd cc
   last_above c p m (n ∷ order) h is e =
-      let parts = both (may_follow cat txns m n) (list_all (may_follow cat txns m) order) h in
+      let parts = both (may_follow classes m n) (list_all (may_follow classes m) order) h in
       last_by c p m n (Class n == c) (last_of c order) refl parts.0 is (λ there. last_above c p m order parts.1 is there) e
 
   -- so it alone is to be compared
@@ -142,11 +140,11 @@ module _ (cat : Catalogue) (txns : List Txn) where
   compared c m n false less None is e f above = refl
   compared c m n true less None is e f above = and_true less ∙ sym f
 
-  pub followed : (order : List TxnNo) (n : TxnNo) → is_in_turn cat txns order ≡ true
-      → list_all (λ m. may_follow cat txns m n) order ≡ allows (last_of (Class n) order) n.0
+  pub followed : (order : List TxnNo) (n : TxnNo) → is_in_turn classes order ≡ true
+      → list_all (λ m. may_follow classes m n) order ≡ allows (last_of (Class n) order) n.0
   followed [] n h = refl
   followed (m ∷ order) n h =
-      let parts = both (list_all (may_follow cat txns m) order) (is_in_turn cat txns order) h in
+      let parts = both (list_all (may_follow classes m) order) (is_in_turn classes order) h in
       let more = followed order n parts.1 in
       let here = by_class m n in
       rw (here, more) (compared (Class n) m n (Class m == Class n) (nat_lt m.0 n.0) (last_of (Class n) order) refl refl refl
@@ -157,14 +155,14 @@ module _ (cat : Catalogue) (txns : List Txn) where
   and_false : (a b : Bool) → a ≡ false → (a && b) ≡ false
   and_false a b e = rw e refl
 
-  pub never_in_turn : (order rest : List TxnNo) → is_in_turn cat txns order ≡ false → is_in_turn cat txns (order ++ rest) ≡ false
+  pub never_in_turn : (order rest : List TxnNo) → is_in_turn classes order ≡ false → is_in_turn classes (order ++ rest) ≡ false
   never_in_turn order [] h = rw append-nil h
   never_in_turn order (n ∷ rest) h =
-      let more : is_in_turn cat txns (order ++ n ∷ []) ≡ false =
-      turn_more order n ∙ and_false (is_in_turn cat txns order)
-      (list_all (λ m. may_follow cat txns m n) order) h in
+      let more : is_in_turn classes (order ++ n ∷ []) ≡ false =
+      turn_more order n ∙ and_false (is_in_turn classes order)
+      (list_all (λ m. may_follow classes m n) order) h in
       let all : (order ++ n ∷ []) ++ rest ≡ order ++ n ∷ rest = append_assoc order (n ∷ []) rest in
-      subst (λ (l : List TxnNo). is_in_turn cat txns l ≡ false) all (never_in_turn (order ++ n ∷ []) rest more)
+      subst (λ (l : List TxnNo). is_in_turn classes l ≡ false) all (never_in_turn (order ++ n ∷ []) rest more)
 
   -- one step of the loop
 
@@ -173,28 +171,28 @@ module _ (cat : Catalogue) (txns : List Txn) where
   AreLast kept order = (c : ℕ) → kept c ≡ last_of c order
 
   turn_at : (order : List TxnNo) (i : ℕ) (d : TxnNo) (kept : ℕ → Option ℕ) → i < length order
-      → is_in_turn cat txns (take i order) ≡ true → AreLast kept (take i order)
-      → is_in_turn cat txns (take (i + 1) order) ≡ allows (kept (Class (get_or order i d))) (get_or order i d).0
+      → is_in_turn classes (take i order) ≡ true → AreLast kept (take i order)
+      → is_in_turn classes (take (i + 1) order) ≡ allows (kept (Class (get_or order i d))) (get_or order i d).0
   turn_at order i d kept lt so_far last =
       let n : TxnNo = get_or order i d in
-      let one : list_all (λ m. may_follow cat txns m n) (take i order) ≡ allows (kept (Class n)) n.0 =
+      let one : list_all (λ m. may_follow classes m n) (take i order) ≡ allows (kept (Class n)) n.0 =
       followed (take i order) n so_far ∙ ap (λ (o : Option ℕ). allows o n.0) (sym (last (Class n))) in
-      ap (is_in_turn cat txns) (take_more order i d lt) ∙ turn_more (take i order) n ∙ rw (so_far, one) refl
+      ap (is_in_turn classes) (take_more order i d lt) ∙ turn_more (take i order) n ∙ rw (so_far, one) refl
 
   -- one that may not stand there
   pub stops : (order : List TxnNo) (i : ℕ) (d : TxnNo) (class : ℕ) (kept : ℕ → Option ℕ) → i < length order → class ≡ Class (get_or order i d)
-      → is_in_turn cat txns (take i order) ≡ true → AreLast kept (take i order)
-      → allows (kept class) (get_or order i d).0 ≡ false → is_in_turn cat txns order ≡ false
+      → is_in_turn classes (take i order) ≡ true → AreLast kept (take i order)
+      → allows (kept class) (get_or order i d).0 ≡ false → is_in_turn classes order ≡ false
   stops order i d class kept lt is so_far last refused =
       let n : TxnNo = get_or order i d in
-      let turn : is_in_turn cat txns (take (i + 1) order) ≡ false = turn_at order i d kept lt so_far last
+      let turn : is_in_turn classes (take (i + 1) order) ≡ false = turn_at order i d kept lt so_far last
       ∙ ap (λ (c : ℕ). allows (kept c) n.0) (sym is) ∙ refused in
-      subst (λ (l : List TxnNo). is_in_turn cat txns l ≡ false) (take-append-drop (i + 1) order) (never_in_turn (take (i + 1) order) (drop (i + 1) order) turn)
+      subst (λ (l : List TxnNo). is_in_turn classes l ≡ false) (take-append-drop (i + 1) order) (never_in_turn (take (i + 1) order) (drop (i + 1) order) turn)
 
   -- one that may stand there
   pub goes_on : (order : List TxnNo) (i : ℕ) (d : TxnNo) (class : ℕ) (kept : ℕ → Option ℕ) → i < length order → class ≡ Class (get_or order i d)
-      → is_in_turn cat txns (take i order) ≡ true → AreLast kept (take i order)
-      → allows (kept class) (get_or order i d).0 ≡ true → is_in_turn cat txns (take (i + 1) order) ≡ true
+      → is_in_turn classes (take i order) ≡ true → AreLast kept (take i order)
+      → allows (kept class) (get_or order i d).0 ≡ true → is_in_turn classes (take (i + 1) order) ≡ true
   goes_on order i d class kept lt is so_far last allowed =
       turn_at order i d kept lt so_far last ∙ ap (λ (c : ℕ). allows (kept c) (get_or order i d).0) (sym is) ∙ allowed
 

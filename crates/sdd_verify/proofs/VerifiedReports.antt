@@ -19,6 +19,7 @@ use Rattle.sdd_script.proofs.WordLooks.{no_newline-append}
 use Rattle.sdd_words.specs.Lines.{AreLines, HasNoNewline, cut_lines, spelled_lines}
 use Rattle.sdd_words.specs.Words.{HasNoSpace}
 use Rattle.sdd_words.proofs.Spelled.{cut_takes}
+use Rattle.sdd_verify.specs.Classes.{classes_submitted}
 use Rattle.sdd_verify.specs.Lines.{Numbered, begun, ends_replies, is_order_line, lines_of, order_line_in, passed, tells_reply}
 use Rattle.sdd_verify.specs.Orders.{is_in_turn, names_on, order_told}
 use Rattle.sdd_verify.specs.Replies.{serial_replies}
@@ -110,7 +111,7 @@ record Sound (cat : Catalogue) (work : Workload) (report : List ℕ) : Type 0 wh
   small : length report ≤ MAX_REPORT_BYTES
   order : List TxnNo
   there : All (IsThere (submitted work)) order
-  turn : is_in_turn cat (submitted work) order ≡ true
+  turn : is_in_turn (classes_submitted cat work) order ≡ true
   before : List (List ℕ)
   others : All IsOther before
   next : List ℕ
@@ -122,26 +123,29 @@ module _ (cat : Catalogue) (work : Workload) (report : List ℕ) where
   abbrev texts : List Txn
   texts = submitted work
 
+  abbrev Classes : List ℕ
+  Classes = classes_submitted cat work
+
   abbrev After3 : List TxnNo → ℕ → List (List ℕ) → Result (Unit {0}) ℕ
   After3 order number lines = passed number (lines_of (serial_replies cat work order)) lines >>= (λ rest. must rest.0 (ends_replies rest.1))
 
   abbrev After2 : ℕ × List ℕ × Numbered → Result (Unit {0}) ℕ
-  After2 found = order_told cat texts found.0 found.1 >>= (λ order. After3 order found.2.0 found.2.1)
+  After2 found = order_told texts Classes found.0 found.1 >>= (λ order. After3 order found.2.0 found.2.1)
 
   abbrev After1 : Numbered → Result (Unit {0}) ℕ
   After1 whole = order_line_in whole.0 whole.1 >>= After2
 
-  told_by : (number : ℕ) (line : List ℕ) (order : List TxnNo) → is_order_line line ≡ true → order_told cat texts number line ≡ Ok order
-      → (line ≡ words_in texts order) × All (IsThere texts) order × (is_in_turn cat texts order ≡ true)
+  told_by : (number : ℕ) (line : List ℕ) (order : List TxnNo) → is_order_line line ≡ true → order_told texts Classes number line ≡ Ok order
+      → (line ≡ words_in texts order) × All (IsThere texts) order × (is_in_turn Classes order ≡ true)
   told_by number line order is h =
       let a = bind_ok (along (λ _ name. known number (named texts name)) 0 (names_on line))
-      (λ found. must number (is_in_turn cat texts found) >>= λ _. Ok found) order h in
-      let b = bind_ok (must number (is_in_turn cat texts a.0)) (λ _. Ok a.0) order a.2 in
+      (λ found. must number (is_in_turn Classes found) >>= λ _. Ok found) order h in
+      let b = bind_ok (must number (is_in_turn Classes a.0)) (λ _. Ok a.0) order a.2 in
       let same : a.0 ≡ order = ok_is {F = ℕ} a.0 order b.2 in
       let told = all_told number texts 0 (names_on line) a.0 a.1 in
-      let turn = must_ok number (is_in_turn cat texts a.0) b.0 b.1 in
+      let turn = must_ok number (is_in_turn Classes a.0) b.0 b.1 in
       let words : line ≡ words_in texts a.0 = order_line_is line is ∙ ap (λ (l : List (List ℕ)). codes "order" ++ behind_spaces l) told.0 in
-      let P : List TxnNo → Type 0 = λ o. (line ≡ words_in texts o) × All (IsThere texts) o × (is_in_turn cat texts o ≡ true) in
+      let P : List TxnNo → Type 0 = λ o. (line ≡ words_in texts o) × All (IsThere texts) o × (is_in_turn Classes o ≡ true) in
       subst P same (words, told.1, turn)
 
   sound : (u : Unit {0}) → judged cat work report ≡ Ok u → Sound cat work report
@@ -149,7 +153,7 @@ module _ (cat : Catalogue) (work : Workload) (report : List ℕ) where
       let a = bind_ok (begun report) After1 u h in
       let whole = begun_is report a.0 a.1 in
       let b = bind_ok (order_line_in a.0.0 a.0.1) After2 u a.2 in
-      let c = bind_ok (order_told cat texts b.0.0 b.0.1) (λ order. After3 order b.0.2.0 b.0.2.1) u b.2 in
+      let c = bind_ok (order_told texts Classes b.0.0 b.0.1) (λ order. After3 order b.0.2.0 b.0.2.1) u b.2 in
       let d = bind_ok (passed b.0.2.0 (lines_of (serial_replies cat work c.0)) b.0.2.1) (λ rest. must rest.0 (ends_replies rest.1)) u c.2 in
       let first = first_order a.0.0 a.0.1 b.0 b.1 in
       let told = told_by b.0.0 b.0.1 c.0 first.is c.1 in
@@ -191,7 +195,7 @@ module _ (cat : Catalogue) (work : Workload) (report : List ℕ) where
         small = s.small;
         order = s.order;
         are_submitted = s.there;
-        in_turn = in_turn cat texts s.order s.turn;
+        in_turn = in_turn Classes s.order s.turn;
         before = s.before;
         before_lines = front_lines s.before (line ∷ (lines_of answers ++ s.next ∷ s.more)) lines;
         before_order = s.others;
@@ -239,15 +243,15 @@ module _ (cat : Catalogue) (work : Workload) (report : List ℕ) where
       (ap First (line_behind v.next v.rest v.next_line))))
 
   order_told_again : (number : ℕ) (order : List TxnNo) → IsValid cat work → All (IsThere texts) order
-      → IsInTurn cat texts order → HaveNoSpace (map (name_in texts) order)
-      → order_told cat texts number (words_in texts order) ≡ Ok order
+      → IsInTurn Classes order → HaveNoSpace (map (name_in texts) order)
+      → order_told texts Classes number (words_in texts order) ≡ Ok order
   order_told_again number order valid there turn fine =
       let words : List (List ℕ) = map (name_in texts) order in
-      let Rest : Result (List TxnNo) ℕ → Result (List TxnNo) ℕ = λ r. r >>= λ found. must number (is_in_turn cat texts found) >>= λ _. Ok found in
+      let Rest : Result (List TxnNo) ℕ → Result (List TxnNo) ℕ = λ r. r >>= λ found. must number (is_in_turn Classes found) >>= λ _. Ok found in
       let are : names_on (words_in texts order) ≡ words = names_again words fine in
       let told : along (λ _ name. known number (named texts name)) 0 words ≡ Ok order =
       told_again number texts 0 order (submitted_differ cat work valid) there in
-      let turned : is_in_turn cat texts order ≡ true = in_turn_again cat texts order turn in
+      let turned : is_in_turn Classes order ≡ true = in_turn_again Classes order turn in
       ap (λ (l : List (List ℕ)). Rest (along (λ _ name. known number (named texts name)) 0 l)) are ∙ ap Rest told
       ∙ ap (λ (b : Bool). must number b >>= λ _. Ok order) turned
 
@@ -263,7 +267,7 @@ module _ (cat : Catalogue) (work : Workload) (report : List ℕ) where
       let found : order_line_in 1 (v.before ++ words ∷ behind) ≡ Ok (number, words, (number + 1, behind)) =
       order_again 1 v.before words behind v.before_order
       (is_order_line_again (map (name_in texts) v.order)) in
-      let told : order_told cat texts number words ≡ Ok v.order = order_told_again number v.order valid v.are_submitted v.in_turn names_are.0 in
+      let told : order_told texts Classes number words ≡ Ok v.order = order_told_again number v.order valid v.are_submitted v.in_turn names_are.0 in
       let came : passed (number + 1) (lines_of answers) behind ≡ Ok
       (number + 1 + length (lines_of answers), v.next ∷ lines_of v.rest) =
       passed_again (number + 1) (lines_of answers) (v.next ∷ lines_of v.rest) in

@@ -4,20 +4,20 @@ use Rattle.std.specs.List.{list_all, slice_split}
 use Rattle.sdd_base.specs.Readings.{◌>>=◌, along, known, must}
 use Rattle.sdd_base.specs.Words.{tail_of}
 use Rattle.sdd_base.specs.declared.number.TxnNo.{TxnNo}
-use Rattle.sdd_catalog.specs.Catalogue.{Catalogue}
 use Rattle.sdd_lang.specs.declared.transaction.Txn.{Txn}
-use Rattle.sdd_verify.specs.Submitted.{class_of, named}
+use Rattle.sdd_verify.specs.Classes.{class_of}
+use Rattle.sdd_verify.specs.Submitted.{named}
 
--- whether a transaction may stand somewhere behind another: it is another one, and where it has the other's class it was
--- submitted later
-abbrev pub may_follow : Catalogue → List Txn → TxnNo → TxnNo → Bool
-may_follow cat txns first later =
-    not (first.0 == later.0) && (not (class_of cat txns first == class_of cat txns later) || nat_lt first.0 later.0)
+-- whether a transaction may stand somewhere behind another, of the classes of submitted transactions: it is another one, and
+-- where it has the other's class it was submitted later
+abbrev pub may_follow : List ℕ → TxnNo → TxnNo → Bool
+may_follow classes first later =
+    not (first.0 == later.0) && (not (class_of classes first == class_of classes later) || nat_lt first.0 later.0)
 
 -- whether each transaction of an order may stand behind all that stand before it
-abbrev pub is_in_turn : Catalogue → List Txn → List TxnNo → Bool
-is_in_turn cat txns [] = true
-is_in_turn cat txns (first ∷ order) = list_all (may_follow cat txns first) order && is_in_turn cat txns order
+abbrev pub is_in_turn : List ℕ → List TxnNo → Bool
+is_in_turn classes [] = true
+is_in_turn classes (first ∷ order) = list_all (may_follow classes first) order && is_in_turn classes order
 
 -- whether a number may stand behind the last one of its class
 abbrev pub allows : Option ℕ → ℕ → Bool
@@ -34,8 +34,8 @@ names_on line = tail_of (words_of line)
 
 -- the order that an order line with this number tells; the line is at fault where it names what isn't submitted, or one
 -- that may not stand there
-abbrev pub order_told : Catalogue → List Txn → ℕ → List ℕ → Result (List TxnNo) ℕ
-order_told cat txns number line = do
+abbrev pub order_told : List Txn → List ℕ → ℕ → List ℕ → Result (List TxnNo) ℕ
+order_told txns classes number line = do
   order ← along (λ _ name. known number (named txns name)) 0 (names_on line)
-  _ ← must number (is_in_turn cat txns order)
+  _ ← must number (is_in_turn classes order)
   Ok order

@@ -1,14 +1,11 @@
 -- The submitted transactions of a workload in order of submission, and how they are named. Here the number of a
 -- transaction is its place among them, counted from 1.
 use Rattle.std.specs.Prelude.{ℕ, ◌+◌, ◌-◌, ◌≡◌, refl, List, [], ◌∷◌, filter_map, Option, Some, None, slice_get, if◌then◌else◌}
-use Rattle.std.specs.Option.{option_map_or}
 use Rattle.std.specs.Str.{bytes_eq}
 use Rattle.sdd_base.specs.Numbers.{txn_no}
 use Rattle.sdd_base.specs.declared.event.Event.{Event}
 use Rattle.sdd_base.specs.declared.event.Event.TheVariants.{Submit, Settle}
 use Rattle.sdd_base.specs.declared.number.TxnNo.{TxnNo}
-use Rattle.sdd_catalog.specs.Catalogue.{Catalogue}
-use Rattle.sdd_lang.specs.Classes.{class_for}
 use Rattle.sdd_lang.specs.declared.transaction.Txn.{Txn}
 use Rattle.sdd_script.specs.declared.workload.Workload.{Workload}
 
@@ -46,7 +43,3 @@ txn_of txns number = slice_get txns (number.0 - 1)
 -- the transactions with these numbers
 abbrev pub texts_of : List Txn → List TxnNo → List Txn
 texts_of txns order = filter_map (txn_of txns) order
-
--- the class of a transaction
-abbrev pub class_of : Catalogue → List Txn → TxnNo → ℕ
-class_of cat txns number = option_map_or (class_for cat) (txn_of txns number) 0

@@ -4,32 +4,34 @@ use Rattle.std.specs.List.{All}
 use Rattle.sdd_base.specs.declared.number.TxnNo.{TxnNo}
 use Rattle.sdd_catalog.specs.Catalogue.{Catalogue}
 use Rattle.sdd_lang.specs.Fits.{IsFrom1To}
-use Rattle.sdd_lang.specs.declared.transaction.Txn.{Txn}
 use Rattle.sdd_report.specs.Committed.{order_line}
 use Rattle.sdd_script.specs.declared.workload.Workload.{Workload}
 use Rattle.sdd_words.specs.Lines.{AreLines, spelled_lines, HasNoNewline}
+use Rattle.sdd_verify.specs.Classes.{class_of, classes_submitted}
 use Rattle.sdd_verify.specs.Lines.{is_order_line, tells_reply}
 use Rattle.sdd_verify.specs.Replies.{serial_replies}
-use Rattle.sdd_verify.specs.Submitted.{class_of, submitted}
+use Rattle.sdd_verify.specs.Submitted.{submitted}
 use Rattle.sdd_verify.specs.declared.limits.TheConstants.{MAX_REPORT_BYTES}
 
 -- a member of an order
 abbrev pub at : List TxnNo → ℕ → TxnNo
 at order i = slice_index_or order i (record { 0 = 0 })
 
--- Of two transactions in an order the one behind is another one, and where they have one class it is the later submitted.
-abbrev pub IsInTurn : Catalogue → List Txn → List TxnNo → Type 0
-IsInTurn cat txns order = (i k : ℕ) → i < k → k < length order
-    → ((at order i).0 ≢ (at order k).0) × (class_of cat txns (at order i) ≡ class_of cat txns (at order k) → (at order i).0 < (at order k).0)
+-- Of two transactions in an order, of the classes of submitted transactions, the one behind is another one, and where they
+-- have one class it is the later submitted.
+abbrev pub IsInTurn : List ℕ → List TxnNo → Type 0
+IsInTurn classes order = (i k : ℕ) → i < k → k < length order
+    → ((at order i).0 ≢ (at order k).0) × (class_of classes (at order i) ≡ class_of classes (at order k) → (at order i).0 < (at order k).0)
 
--- The report tells an order of submitted transactions, none of them twice and those of one class by submission. Its first
+-- The report tells an order of submitted transactions, none of them twice and those of one class by submission, each by the
+-- list of classes in force when it was submitted. Its first
 -- order line names them; the lines behind it are the replies that one plain database gives which begins with the
 -- workload's rows and runs these transactions in this order; and a line follows that is of no reply.
 pub record IsVerified (cat : Catalogue) (work : Workload) (report : List ℕ) : Type 0 where
   pub small : length report ≤ MAX_REPORT_BYTES
   pub order : List TxnNo
   pub are_submitted : All (λ number. IsFrom1To (length (submitted work)) number.0) order
-  pub in_turn : IsInTurn cat (submitted work) order
+  pub in_turn : IsInTurn (classes_submitted cat work) order
   pub before : List (List ℕ)
   pub before_lines : AreLines before
   pub before_order : All (λ line. is_order_line line ≡ false) before

@@ -5,6 +5,7 @@ ghost use Rattle.sdd_script.specs.Valid.{IsValid};
 ghost use Rattle.sdd_verify.specs.Flaws.{line_in};
 ghost use Rattle.sdd_verify.specs.Verdict.{judged, verdict};
 
+use crate::classes::submitted_classes;
 use crate::flaw::{Flaw, must};
 use crate::lines::Lines;
 use crate::order::told_order;
@@ -14,6 +15,7 @@ use crate::submitted::Submitted;
 use crate::verdict::Verdict;
 use sdd_base::NoMemory;
 use sdd_catalog::Catalogue;
+use sdd_lists::lists_of;
 use sdd_script::Workload;
 use std::alloc::Global;
 
@@ -25,7 +27,9 @@ fn judge(alloc: Global, catalogue: &Catalogue, work: &Workload, report: &[u8]) -
     let lines = Lines::begin(report)?;
     let (number, line, behind) = order_line(lines)?;
     let submitted = Submitted::of(alloc, work)?;
-    let order = told_order(alloc, catalogue, &submitted, number, line)?;
+    let lists = lists_of(alloc, catalogue, work)?;
+    let classes = submitted_classes(alloc, catalogue, lists.eras(), work)?;
+    let order = told_order(alloc, &submitted, classes.as_slice(), number, line)?;
     let texts = submitted.texts(alloc, order.as_slice())?;
     let rest = pass_replies(alloc, catalogue, &work.rows, texts.as_slice(), behind)?;
     must(rest.number, rest.ends_replies())

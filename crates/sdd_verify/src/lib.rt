@@ -5,6 +5,7 @@
 //! `specs/Verified.antt` says in terms of one plain database alone (`law_yes`).
 #![tactic(auto)]
 
+mod classes;
 mod flaw;
 mod judging;
 mod laws;

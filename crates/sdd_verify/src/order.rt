@@ -1,17 +1,15 @@
 //! The order that an order line tells.
-ghost use Rattle.std.specs.Prelude.{◌≡◌, map, All, IfOk};
+ghost use Rattle.std.specs.Prelude.{◌≡◌, map, IfOk};
 ghost use Rattle.std.specs.Option.{option_copied};
 ghost use Rattle.sdd_base.specs.Readings.{Gives, along, known};
-ghost use Rattle.sdd_lang.specs.Fits.{Fits};
+ghost use Rattle.sdd_verify.specs.Classes.{class_of};
 ghost use Rattle.sdd_verify.specs.Flaws.{line_in};
 ghost use Rattle.sdd_verify.specs.Orders.{allows, is_in_turn, names_on, order_told, words_of};
-ghost use Rattle.sdd_verify.specs.Submitted.{class_of, named};
+ghost use Rattle.sdd_verify.specs.Submitted.{named};
 
 use crate::flaw::{Flaw, known, must};
 use crate::submitted::Submitted;
-use sdd_base::{ClassNo, NoMemory, TxnNo};
-use sdd_catalog::Catalogue;
-use sdd_lang::class_for;
+use sdd_base::{NoMemory, TxnNo};
 use std::alloc::{AllocError, Global};
 use std::collections::BTreeMap;
 
@@ -65,14 +63,14 @@ fn named_on(
     }
 }
 
-/// The class of a transaction; a number past the last has class 0.
-fn class_of(catalogue: &Catalogue, submitted: &Submitted, number: TxnNo) -> ClassNo
-    requires { All (Fits catalogue.now) submitted.now }
-    ensures { result.0 ≡ class_of catalogue.now submitted.now number }
+/// The class of a submitted transaction; a number past the last has class 0.
+fn class_of(classes: &[u32], number: TxnNo) -> u32
+    ensures { result ≡ class_of classes.now number }
 {
-    match submitted.txn(number) {
-        Some(txn) => class_for(catalogue, txn),
-        None => ClassNo(0),
+    let place = (number.0 as usize).saturating_sub(1);
+    match classes.get(place) {
+        Some(class) => *class,
+        None => 0,
     }
 }
 
@@ -87,23 +85,17 @@ fn may_stand_behind(last: Option<&u32>, number: TxnNo) -> bool
 }
 
 /// Whether each transaction of an order may stand behind those before it: none stands twice, and those of
-/// one class stand by submission. Costs, for each, what `class_for` costs and a logarithmic step.
-fn is_in_turn(
-    alloc: Global,
-    catalogue: &Catalogue,
-    submitted: &Submitted,
-    order: &[TxnNo],
-) -> Result<bool, NoMemory>
-    requires { All (Fits catalogue.now) submitted.now }
-    ensures { IfOk result (λ is. is ≡ is_in_turn catalogue.now submitted.now order.now) }
+/// one class stand by submission. Costs a logarithmic step for each.
+fn is_in_turn(alloc: Global, classes: &[u32], order: &[TxnNo]) -> Result<bool, NoMemory>
+    ensures { IfOk result (λ is. is ≡ is_in_turn classes.now order.now) }
 {
     let mut last: BTreeMap<u32, u32> = BTreeMap::new(alloc);
     'order: for number in order {
-        let class = class_of(catalogue, submitted, *number);
-        if !may_stand_behind(last.get(&class.0), *number) {
+        let class = class_of(classes, *number);
+        if !may_stand_behind(last.get(&class), *number) {
             return Ok(false);
         }
-        last.insert(class.0, number.0)?;
+        last.insert(class, number.0)?;
     }
     Ok(true)
 }
@@ -111,18 +103,14 @@ fn is_in_turn(
 /// The order that the order line with this number tells.
 pub(crate) fn told_order(
     alloc: Global,
-    catalogue: &Catalogue,
     submitted: &Submitted,
+    classes: &[u32],
     number: u32,
     line: &[u8],
 ) -> Result<Vec<TxnNo>, Flaw>
-    requires { All (Fits catalogue.now) submitted.now }
-    ensures { Gives line_in (λ order. order.items) result (order_told catalogue.now submitted.now number line.now) }
+    ensures { Gives line_in (λ order. order.items) result (order_told submitted.now classes.now number line.now) }
 {
     let order = named_on(alloc, submitted, number, line)?;
-    must(
-        number,
-        is_in_turn(alloc, catalogue, submitted, order.as_slice())?,
-    )?;
+    must(number, is_in_turn(alloc, classes, order.as_slice())?)?;
     Ok(order)
 }

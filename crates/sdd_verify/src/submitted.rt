@@ -38,7 +38,7 @@ impl<'a> Model for Submitted<'a> {
 }
 
 /// The transaction that an event submits.
-fn submitted_by<'a>(txns: &'a [Txn], event: &Event) -> Option<&'a Txn>
+pub(crate) fn submitted_by<'a>(txns: &'a [Txn], event: &Event) -> Option<&'a Txn>
     ensures { option_copied result ≡ submitted_by txns.now event.now }
 {
     match event {

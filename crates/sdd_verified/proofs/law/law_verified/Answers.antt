@@ -1,9 +1,11 @@
+use Rattle.sdd_lists.proofs.WholeSound.{whole_named, whole_sound}
 use Rattle.sdd_verify.proofs.VerifiedReports.{verified_yes}
 use Rattle.sdd_verified.proofs.Reported.{verified}
 use Rattle.sdd_verified.proofs.law.law_verified.Goals as goal
 
 pub returns : goal.returns
-returns c = λ work text valid lists report small.
-    verified_yes c.args.catalogue.now work text valid
-    (verified c.args.catalogue.now work text c.known.ensures.sound c.known.ensures.named valid lists
+returns c = λ work text valid report small.
+    let cat = c.args.catalogue.now in
+    verified_yes cat work text valid
+    (verified cat work text (whole_sound cat work c.known.ensures.sound valid) (whole_named cat work c.known.ensures.named valid) valid
     report small)

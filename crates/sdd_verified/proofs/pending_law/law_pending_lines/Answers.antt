@@ -1,8 +1,11 @@
+use Rattle.sdd_lists.proofs.WholeSound.{whole_named, whole_sound}
 use Rattle.sdd_verified.proofs.PendingLines.{as_many_lines, no_line}
 use Rattle.sdd_verified.proofs.pending_law.law_pending_lines.Goals as goal
 
 pub returns-clause-as_many : goal.returns-clause-as_many
-returns-clause-as_many g = as_many_lines
+returns-clause-as_many g = λ cat work text sound named valid told.
+    as_many_lines cat work text (whole_sound cat work sound valid) (whole_named cat work named valid) valid told
 
 pub returns-clause-no_line : goal.returns-clause-no_line
-returns-clause-no_line g = no_line
+returns-clause-no_line g = λ cat work text sound named valid told.
+    no_line cat work text (whole_sound cat work sound valid) (whole_named cat work named valid) valid told

@@ -12,13 +12,12 @@ returns-then-not-may_stand_behind c =
     let kept : ℕ → Option ℕ = λ n. get nat_cmp c.order.last n in
     let refused = ap (λ (o : Option ℕ). allows o (at c.args.order.now c.order.number-index).0)
     (sym c.get.ensures.value) ∙ sym c.may_stand_behind.ensures ∙ c.if-not-may_stand_behind.true in
-    sym (stops c.args.catalogue.now c.args.submitted.now c.args.order.now c.order.number-index (txn_no 0) c.class_of-class.result.0 kept
+    sym (stops c.args.classes.now c.args.order.now c.order.number-index (txn_no 0) c.class_of-class.result kept
     c.order-test.true c.class_of-class.ensures c.order.invariant.in_turn c.order.invariant.last refused)
 
 pub order-preserved : goal.order-preserved
 order-preserved c =
-    let cat = c.args.catalogue.now in
-    let txns = c.args.submitted.now in
+    let classes = c.args.classes.now in
     let order = c.args.order.now in
     let i = c.order.number-index in
     let within = c.order-test.true in
@@ -29,6 +28,6 @@ order-preserved c =
     let allowed = ap (λ (o : Option ℕ). allows o (at c.args.order.now c.order.number-index).0)
     (sym c.get.ensures.value) ∙ sym c.may_stand_behind.ensures ∙ c.if-not-may_stand_behind.false in
     record {
-      in_turn = goes_on cat txns order i (txn_no 0) c.class_of-class.result.0 kept within class h.in_turn h.last allowed;
-      last = last_at cat txns order i (txn_no 0) c.class_of-class.result.0 kept new within class h.last c.in_ok-insert.ensures.updates.0;
+      in_turn = goes_on classes order i (txn_no 0) c.class_of-class.result kept within class h.in_turn h.last allowed;
+      last = last_at classes order i (txn_no 0) c.class_of-class.result kept new within class h.last c.in_ok-insert.ensures.updates.0;
     }

@@ -1,0 +1,33 @@
+-- The classes of what events submit, one event more.
+use Rattle.std.proofs.Common.{◌≡◌, ℕ, ◌+◌, ◌<◌, ◌≤◌, List, ◌∷◌, ◌++◌, length, drop, get_or, sym, ap, ◌∙◌, append_assoc, arith}
+use Rattle.std.proofs.lemmas.List.{drop_more}
+use Rattle.sdd_base.specs.declared.event.Event.{Event}
+use Rattle.sdd_base.specs.declared.event.Event.TheVariants.{Submit, Deliver, Lose, Repeat, Resend, Tick, Settle, Redeclare, Down, Up}
+use Rattle.sdd_catalog.specs.Catalogue.{Catalogue}
+use Rattle.sdd_lang.specs.declared.transaction.Txn.{Txn}
+use Rattle.sdd_verify.specs.Classes.{class_if, classes_from, redeclared}
+use Rattle.sdd_verify.specs.Submitted.{submitted_by}
+
+pub one_more : (era : ℕ → Catalogue) (txns : List Txn) (events : List Event) (i n next : ℕ) (e : Event) (classes more total : List ℕ)
+    → i < length events → e ≡ get_or events i e → next ≡ redeclared e n → more ≡ classes ++ class_if (era n) (submitted_by txns e)
+    → classes ++ classes_from era txns n (drop i events) ≡ total → more ++ classes_from era txns next (drop (i + 1) events) ≡ total
+one_more era txns events i n next e classes more total within there goes grown so_far =
+    let first : drop i events ≡ e ∷ drop (i + 1) events = drop_more events i e within ∙ ap (λ (x : Event). x ∷ drop (i + 1) events) (sym there) in
+    ap (λ (l : List ℕ). l ++ classes_from era txns next (drop (i + 1) events)) grown
+    ∙ append_assoc classes (class_if (era n) (submitted_by txns e)) (classes_from era txns next (drop (i + 1) events))
+    ∙ ap (λ (k : ℕ). classes ++ (class_if (era n) (submitted_by txns e) ++ classes_from era txns k (drop (i + 1) events))) goes
+    ∙ ap (λ (l : List Event). classes ++ classes_from era txns n l) (sym first)
+    ∙ so_far
+
+-- an event is a `redeclare` or none
+pub few_more : (e : Event) (n i : ℕ) → n ≤ i → redeclared e n ≤ i + 1
+few_more Redeclare n i few = omega (arith, few)
+few_more (Submit k) n i few = omega (arith, few)
+few_more (Deliver from to place) n i few = omega (arith, few)
+few_more (Lose from to place) n i few = omega (arith, few)
+few_more (Repeat from to place) n i few = omega (arith, few)
+few_more (Resend from to) n i few = omega (arith, few)
+few_more (Tick tm k) n i few = omega (arith, few)
+few_more Settle n i few = omega (arith, few)
+few_more (Down dm) n i few = omega (arith, few)
+few_more (Up dm) n i few = omega (arith, few)
