@@ -2,14 +2,16 @@
 use Rattle.std.specs.Prelude.{ℕ, ◌≡◌, [], ◌∷◌, ◌++◌, List, codes, pos, refl}
 use Rattle.std.specs.Fmt.{digits}
 use Rattle.sdd_base.specs.Numbers.{rel_no, tm_no, txn_no}
-use Rattle.sdd_base.specs.declared.event.Event.TheVariants.{Submit, Settle}
+use Rattle.sdd_base.specs.declared.event.Event.TheVariants.{Submit, Settle, Redeclare}
 use Rattle.sdd_base.specs.declared.value.Value.TheVariants.{Int}
+use Rattle.sdd_catalog.specs.declared.parts.ClassPart.{ClassPart}
 use Rattle.sdd_lang.specs.declared.condition.Ref.{Ref}
 use Rattle.sdd_lang.specs.declared.statement.Stmt.TheVariants.{Put, Query}
 use Rattle.sdd_lang.specs.declared.transaction.Txn.{Txn}
 use Rattle.sdd_script.specs.Examples.{accounts}
 use Rattle.sdd_script.specs.declared.workload.Workload.{Workload}
 use Rattle.sdd_words.specs.Lines.{cut_lines}
+use Rattle.sdd_verify.specs.Classes.{classes_submitted}
 use Rattle.sdd_verify.specs.Verdict.{verdict}
 use Rattle.sdd_verify.specs.declared.verdict.Verdict.{Verdict}
 use Rattle.sdd_verify.specs.declared.verdict.Verdict.TheVariants.{Yes, No}
@@ -87,3 +89,31 @@ further_row = refl
 pub no_end : told (codes "order p q\nreply p ok\nreply q ok\nquery 1 1\nrow 5 10\n") ≡ No 7
 unfolding cut_lines digits
 no_end = refl
+
+-- a further list of classes, whose one class reads and writes all
+
+abbrev further : ClassPart
+further =
+    record {
+      name = codes "m";
+      tm = 1;
+      reads = record { fragment = codes "all"; at = 1 } ∷ [];
+      writes = codes "all" ∷ [];
+    }
+
+-- p is submitted before the list is put in force, and q behind it
+abbrev with_list : Workload
+with_list =
+    record put_and_query {
+      lists = (further ∷ []) ∷ [];
+      events = Submit (txn_no 1) ∷ Redeclare ∷ Submit (txn_no 2) ∷ Settle ∷ [];
+    }
+
+-- so q has the list's class: that of p has retired
+pub by_the_list_in_force : classes_submitted accounts with_list ≡ 1 ∷ 2 ∷ []
+by_the_list_in_force = refl
+
+-- and of two classes the one that is submitted later may stand first
+pub exchanged_apart : verdict accounts with_list (codes "order q p\nreply q ok\nquery 1 0\nreply p ok\nend\n") ≡ Yes
+unfolding cut_lines digits
+exchanged_apart = refl
