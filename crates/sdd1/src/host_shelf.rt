@@ -36,7 +36,7 @@ impl<'a, R: Files + Drop> Shelf for HostShelf<'a, R> {
 
     ghost is_open = { λ s f. f < s.count };
 
-    ghost unread = { λ s f. None };
+    ghost opened = { λ s f. None };
 
     ghost faults = { λ s. s.faults };
 

@@ -1,16 +1,16 @@
 -- What reading a file says of what is in it.
 use Rattle.std.proofs.Common.{◌≡◌, ℕ, ◌<◌, ◌≤◌, List, [], false, length, Option, Some, None, Result, Ok, Err, refl, ap, sym, subst, ◌∙◌, arith, inl, inr}
 use Rattle.std.proofs.lemmas.Bool.{cases_lt, lt-leb, lt-ltb}
-use Rattle.std.specs.Prelude.{IsSome, IfSome, IfErr, IsErrOf, OnOk, MatchResult, take, ◌+◌, nat_le, nat_lt, true}
+use Rattle.std.specs.Prelude.{IsSome, IfSome, IfErr, IsErrOf, OnOk, MatchResult, take, drop, ◌+◌, nat_le, nat_lt, true}
 use Rattle.std.specs.Option.{option_map}
 use Rattle.sdd_base.specs.declared.limits.TheConstants.{MAX_CATALOGUE_BYTES, MAX_WORKLOAD_BYTES}
-use Rattle.sdd_base.specs.Outside.{ReadsTo, find_file}
+use Rattle.sdd_base.specs.Outside.{HasRead, Opened, ReadsTo, find_file}
 use Rattle.sdd_base.specs.declared.files.ShelfFile.{ShelfFile}
 use Rattle.sdd_control.specs.Walk.{control_script, most_bytes}
 use Rattle.sdd_control.specs.declared.script.ControlScript.{ControlScript}
 use Rattle.sdd_app.specs.Answer.{BlamesScript, script_named, BlamesCatalogue, BlamesWorkload, catalogue_named, workload_named}
 use Rattle.sdd_app.specs.Answer.{judged_as}
-use Rattle.sdd_app.specs.Endings.{IsReadTo, ToItsLimit}
+use Rattle.sdd_app.specs.Endings.{IsRead, IsReadTo, ToItsEnd, ToItsLimit}
 use Rattle.sdd_app.specs.Judging.{verdict_line}
 use Rattle.sdd_app.specs.Verdict.{Prints, ComesOfFiles, Explains}
 use Rattle.sdd_verify.specs.declared.limits.TheConstants.{MAX_REPORT_BYTES}
@@ -132,17 +132,30 @@ pub long_reports : (cat : Catalogue) (work : Workload) (a b : List ℕ) → MAX_
     → MAX_REPORT_BYTES < length b → judged_as cat work a ≡ judged_as cat work b
 long_reports cat work a b la lb = long_report cat work a la ∙ sym (long_report cat work b lb)
 
--- a file that was read to its end, or one byte past the limit, has its end where the limit says so
-pub read_to_limit : (files : Option (List ShelfFile)) (limit : ℕ) (name read : List ℕ) (unread : Option (List ℕ))
-    → ((fs : List ShelfFile) → files ≡ Some fs → ReadsTo limit (find_file fs name) read) → (length read ≤ limit → IfSome unread (λ left. left ≡ []))
-    → IsReadTo files (ToItsLimit limit name) unread
-read_to_limit None limit name read unread reads ended = tt
-read_to_limit (Some fs) limit name read unread reads ended = of_file (find_file fs name) (reads fs refl)
+-- a file that was read and has at most as many bytes as the limit was read to its end
+pub read_to_end : (files : Option (List ShelfFile)) (limit : ℕ) (was stands : ℕ → Type 0) (told : ℕ → Option Opened)
+    (name read : List ℕ) (f : ℕ) → HasRead limit files was stands told name read f → length read ≤ limit
+    → IsRead files was stands told (ToItsEnd name) f
+read_to_end files limit was stands told name read f h few =
+    record { fresh = h.fresh; opened = h.opened; ended = of_told (told f) h.named (h.ended few) }
   where
-    of_file : (file : Option (List ℕ)) → ReadsTo limit file read → IfSome file (λ bytes. length bytes ≤ limit → IfSome unread (λ left. left ≡ []))
-    of_file None r = tt
-    of_file (Some bytes) r = λ few.
-        elim (cases_lt limit (length read)) [ inl past ↦ absurd (let more = (r.past past).1 in omega (arith, few, more)) | inr within ↦ ended within ]
+    of_told : (opened : Option Opened) → IfSome opened (λ file. file.name ≡ name)
+        → IfSome opened (λ file. file.unread ≡ []) → IsReadTo files (ToItsEnd name) opened
+    of_told None named ended = tt
+    of_told (Some file) named ended = (named, ended)
+
+-- and any other exactly one byte past the limit
+pub read_to_limit : (files : Option (List ShelfFile)) (limit : ℕ) (was stands : ℕ → Type 0) (told : ℕ → Option Opened)
+    (name read : List ℕ) (f : ℕ) → HasRead limit files was stands told name read f
+    → IsRead files was stands told (ToItsLimit limit name) f
+read_to_limit files limit was stands told name read f h =
+    record { fresh = h.fresh; opened = h.opened; ended = of_told (told f) h.named h.rest }
+  where
+    of_told : (opened : Option Opened) → IfSome opened (λ file. file.name ≡ name)
+        → IfSome files (λ fs. IfSome (find_file fs name) (λ bytes. IfSome opened (λ file. file.unread ≡ drop (limit + 1) bytes)))
+        → IsReadTo files (ToItsLimit limit name) opened
+    of_told None named rest = tt
+    of_told (Some file) named rest = (named, rest)
 
 -- what follows where a call went well
 pub on_ok_by : {T : Type 0} (r : Result T Status) (P : T → Type 0) (Q : Status → Type 0) (R : Type 0) → MatchResult r P Q → ((v : T) → P v → R) → OnOk r R

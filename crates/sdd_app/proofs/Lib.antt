@@ -1,3 +1,4 @@
+pub mod AtFault
 pub mod Counts
 pub mod Entries
 pub mod FileReads

@@ -3,7 +3,7 @@ use Rattle.std.proofs.Common.{◌≡◌, ℕ, List, [], ◌∷◌, Bool, true, f
 use Rattle.std.specs.Prelude.{IsSome, MatchBool, MatchOption, MatchResult, OnOk}
 use Rattle.std.specs.Option.{option_map}
 use Rattle.sdd_base.specs.declared.files.ShelfFile.{ShelfFile}
-use Rattle.sdd_base.specs.Outside.{KeepsOpen, find_file}
+use Rattle.sdd_base.specs.Outside.{KeepsOpen, Opened, find_file}
 use Rattle.sdd_catalog.specs.Catalogue.{Catalogue}
 use Rattle.sdd_catalog.specs.declared.fault.CatFault.{CatFault}
 use Rattle.sdd_catread.specs.Reading.{catalogue_in}
@@ -21,8 +21,9 @@ use Rattle.sdd_control.specs.Report.{report}
 use Rattle.sdd_control.specs.Walk.{control_script}
 use Rattle.sdd_control.specs.declared.script.ControlScript.{ControlScript}
 use Rattle.sdd_app.specs.Answer.{script_named, control_verdict, ComesToControl, BlamesScript, catalogue_named, workload_named, OverCatalogue, ComesToListing, plain_verdict, ComesToPlain, ComesToReport, ComesToRun, ComesToSummary, ComesToJudgement, ComesToVerdict, ComesToVerify, TellsOfRun, judged_as, FormComesTo, ComesTo, FilesOf, FilesAreThere, BlamesCatalogue, BlamesWorkload}
-use Rattle.sdd_app.specs.Command.{Form, Check, Graph, Table, Run, Plain, Control, Make, Verify, Advise, form_in}
-use Rattle.sdd_app.specs.Endings.{FilesRead, IsRead, ToItsEnd, ToItsLimit}
+use Rattle.sdd_app.specs.Command.{Form, Check, Graph, Table, Run, Plain, Control, Make, Verify, Advise, form_of, form_in}
+use Rattle.sdd_app.specs.declared.command.Command.{Command}
+use Rattle.sdd_app.specs.Endings.{Ending, FilesRead, FormHasRoom, FormIsOver, IsRead, ToItsEnd, ToItsLimit}
 use Rattle.sdd_app.specs.Serially.{serial_text}
 use Rattle.sdd_app.specs.Verdict.{Verdict, NoForm, Prints, FaultyCatalogue, FaultyWorkload, PastLimit, NotBuilt, status_of, status_of_end, IsRefusal, Explains, Answers}
 use Rattle.sdd_app.specs.declared.listing.Listing.{Listing}
@@ -133,6 +134,26 @@ pub words_answer : {T : Type 0} (r : Result T Status) (text : T → List ℕ) (f
     → Answers r text (FormComesTo fs form) → Answers r text (ComesTo fs ws)
 words_answer (Ok x) text fs ws form e p = comes_by fs ws form (Prints (text x)) e p
 words_answer (Err s) text fs ws form e p = explains_more s (FormComesTo fs form) (ComesTo fs ws) (λ v q. comes_by fs ws form v e q) p
+
+-- what is answered to a command, by its form
+
+pub answers_so : {T : Type 0} (r : Result T Status) (text : T → List ℕ) (shelved : Option (List ShelfFile))
+    (fs : List ShelfFile) (command is : Command) → command ≡ is
+    → (FormIsOver shelved fs (form_of is) → Answers r text (FormComesTo fs (form_of is)))
+    → FormIsOver shelved fs (form_of command) → Answers r text (FormComesTo fs (form_of command))
+answers_so r text shelved fs command is e answers over =
+    subst (λ x. Answers r text (FormComesTo fs (form_of x))) (sym e)
+    (answers (subst (λ x. FormIsOver shelved fs (form_of x)) e over))
+
+pub surely_so : (P : Type 0) (sure : ℕ → Type 0) (shelved : Option (List ShelfFile)) (free : ℕ) (fs : List ShelfFile)
+    (command is : Command) → command ≡ is
+    → (FormHasRoom sure free (form_of is) → FormIsOver shelved fs (form_of is) → FilesOf fs (form_of is) → P)
+    → FormHasRoom sure free (form_of command) → FormIsOver shelved fs (form_of command)
+    → FilesOf fs (form_of command) → P
+surely_so P sure shelved free fs command is e holds =
+    subst
+    (λ x. FormHasRoom sure free (form_of x) → FormIsOver shelved fs (form_of x) → FilesOf fs (form_of x) → P)
+    (sym e) holds
 
 -- a call comes to one status
 
@@ -371,35 +392,36 @@ words_there fs (Some form) v p = form_there fs form v p
 pub files_there : (fs : List ShelfFile) (ws : List (List ℕ)) (v : Verdict) → ComesTo fs ws v → FilesAreThere fs ws
 files_there fs ws v p = words_there fs (form_in ws) v p
 
--- two files that were opened one after the other and read to their ends
-pub two_ended : (files files2 : Option (List ShelfFile)) (was between now : ℕ → Type 0) (unread_between unread_now was_unread : ℕ → Option (List ℕ)) (f g : ℕ)
-    → IsRead files was between unread_between ToItsEnd f → KeepsOpen (λ _. Unit {0}) was between was_unread unread_between
-    → IsRead files2 between now unread_now ToItsEnd g → KeepsOpen (λ _. Unit {0}) between now unread_between unread_now
-    → FilesRead files was now unread_now (ToItsEnd ∷ ToItsEnd ∷ [])
-two_ended files files2 was between now unread_between unread_now was_unread f g first keep1 second keep2 =
+-- two files that were opened one after the other, the first of which was read to its end
+pub two_ended : (files files2 : Option (List ShelfFile)) (was between now : ℕ → Type 0)
+    (told_was told_between told_now : ℕ → Option Opened) (a : List ℕ) (ending : Ending) (f g : ℕ) → files2 ≡ files
+    → IsRead files was between told_between (ToItsEnd a) f → KeepsOpen (λ _. Unit {0}) was between told_was told_between
+    → IsRead files2 between now told_now ending g → KeepsOpen (λ _. Unit {0}) between now told_between told_now
+    → FilesRead files was now told_now (ToItsEnd a ∷ ending ∷ [])
+two_ended files files2 was between now told_was told_between told_now a ending f g same first keep1 read keep2 =
     let later = keep2 f tt first.opened in
+    let second = subst (λ fs. IsRead fs between now told_now ending g) same read in
     record {
       files = f ∷ g ∷ [];
       read = (
         record { fresh = first.fresh; opened = later.0; ended = rw later.1 first.ended },
-        ((λ same. second.fresh (subst between same first.opened)), tt),
+        ((λ e. second.fresh (subst between e first.opened)), tt),
         (record { fresh = λ was_g. second.fresh (keep1 g tt was_g).0; opened = second.opened; ended = second.ended }, tt, tt),
       );
     }
 
 -- and a third
 pub three_ended : (files files2 files3 : Option (List ShelfFile)) (was second third now : ℕ → Type 0)
-    (was_unread unread2 unread3 unread : ℕ → Option (List ℕ)) (limit : ℕ)
-    (name : List ℕ) (f g h : ℕ) → files3 ≡ files
-    → IsRead files was second unread2 ToItsEnd f → KeepsOpen (λ _. Unit {0}) was second was_unread unread2
-    → IsRead files2 second third unread3 ToItsEnd g → KeepsOpen (λ _. Unit {0}) second third unread2 unread3
-    → IsRead files3 third now unread (ToItsLimit limit name) h → KeepsOpen (λ _. Unit {0}) third now unread3 unread
-    → FilesRead files was now unread (ToItsEnd ∷ ToItsEnd ∷ ToItsLimit limit name ∷ [])
-three_ended files files2 files3 was second third now was_unread unread2 unread3 unread limit name f g h same a keep1 b keep2 c keep3 =
+    (told_was told2 told3 told : ℕ → Option Opened) (limit : ℕ) (a_name b_name name : List ℕ) (f g h : ℕ) → files3 ≡ files
+    → IsRead files was second told2 (ToItsEnd a_name) f → KeepsOpen (λ _. Unit {0}) was second told_was told2
+    → IsRead files2 second third told3 (ToItsEnd b_name) g → KeepsOpen (λ _. Unit {0}) second third told2 told3
+    → IsRead files3 third now told (ToItsLimit limit name) h → KeepsOpen (λ _. Unit {0}) third now told3 told
+    → FilesRead files was now told (ToItsEnd a_name ∷ ToItsEnd b_name ∷ ToItsLimit limit name ∷ [])
+three_ended files files2 files3 was second third now told_was told2 told3 told limit a_name b_name name f g h same a keep1 b keep2 c keep3 =
     let a2 = keep2 f tt a.opened in
     let a3 = keep3 f tt a2.0 in
     let b3 = keep3 g tt b.opened in
-    let c' = subst (λ fs. IsRead fs third now unread (ToItsLimit limit name) h) same c in
+    let c' = subst (λ fs. IsRead fs third now told (ToItsLimit limit name) h) same c in
     record {
       files = f ∷ g ∷ h ∷ [];
       read = (
@@ -417,12 +439,12 @@ three_ended files files2 files3 was second third now was_unread unread2 unread3 
       );
     }
 
-pub one_ended : (files : Option (List ShelfFile)) (was now : ℕ → Type 0) (unread : ℕ → Option (List ℕ)) (f : ℕ) → IsRead files was now unread ToItsEnd f
-    → FilesRead files was now unread (ToItsEnd ∷ [])
-one_ended files was now unread f first = record { files = f ∷ []; read = (first, tt, tt) }
+pub one_ended : (files : Option (List ShelfFile)) (was now : ℕ → Type 0) (told : ℕ → Option Opened) (ending : Ending)
+    (f : ℕ) → IsRead files was now told ending f → FilesRead files was now told (ending ∷ [])
+one_ended files was now told ending f first = record { files = f ∷ []; read = (first, tt, tt) }
 
 -- of a command that reads no file
 pub none_read : {T : Type 0} (r : Result T Status) (files : Option (List ShelfFile)) (was now : ℕ → Type 0)
-    (unread : ℕ → Option (List ℕ)) → OnOk r (FilesRead files was now unread [])
-none_read (Ok v) files was now unread = record { files = []; read = tt }
-none_read (Err s) files was now unread = tt
+    (told : ℕ → Option Opened) → OnOk r (FilesRead files was now told [])
+none_read (Ok v) files was now told = record { files = []; read = tt }
+none_read (Err s) files was now told = tt

@@ -64,6 +64,12 @@ ComesOfFiles statuses.Usage = ⊥
 ComesOfFiles statuses.WriteFault = ⊥
 ComesOfFiles status = Unit {0}
 
+-- where a status tells of a fault of the catalogue, or of one of the workload or script, such a thing holds
+abbrev pub AtFault : Type 0 → Type 0 → Status → Type 0
+AtFault OfCatalogue OfWorkload (statuses.BadCatalogue fault) = OfCatalogue
+AtFault OfCatalogue OfWorkload (statuses.BadWorkload fault) = OfWorkload
+AtFault OfCatalogue OfWorkload status = Unit {0}
+
 -- the statuses of what may go wrong below
 abbrev pub status_of_reading : ReadError → Status
 status_of_reading reads.Fault = statuses.ReadFault

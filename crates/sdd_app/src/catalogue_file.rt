@@ -1,11 +1,12 @@
 //! Reading files, and the catalogue's among them.
-ghost use Rattle.std.specs.Prelude.{◌≡◌, ◌≤◌, ◌+◌, ◌^◌, ◌<◌, ℕ, List, [], length, IfOk, OnOk, IfSome, IfErr, IsSome, MatchResult, Some, Ok};
+ghost use Rattle.std.specs.Prelude.{◌≡◌, ◌≤◌, ◌+◌, ◌^◌, ◌<◌, ℕ, List, IfOk, OnOk, IfErr, IsSome, MatchResult, Some, Ok};
 ghost use Rattle.sdd_base.specs.declared.files.ShelfFile.{ShelfFile};
-ghost use Rattle.sdd_base.specs.Outside.{Rose, KeepsOpen, ReadsTo, find_file};
+ghost use Rattle.sdd_base.specs.declared.limits.TheConstants.{MAX_CATALOGUE_BYTES};
+ghost use Rattle.sdd_base.specs.Outside.{HasRead, Rose, KeepsOpen, ReadsTo, find_file};
 ghost use Rattle.sdd_catread.specs.Reading.{catalogue_in};
 ghost use Rattle.sdd_app.specs.Answer.{BlamesCatalogue, catalogue_named};
-ghost use Rattle.sdd_app.specs.Endings.{IsRead, ToItsEnd};
-ghost use Rattle.sdd_app.specs.Verdict.{ComesOfFiles, Explains};
+ghost use Rattle.sdd_app.specs.Endings.{IsRead, ToItsEnd, ToItsLimit};
+ghost use Rattle.sdd_app.specs.Verdict.{AtFault, ComesOfFiles, Explains};
 
 use crate::status::Status;
 use sdd_base::{MAX_CATALOGUE_BYTES, Shelf, read_file};
@@ -22,9 +23,9 @@ pub fn read_named<S: Shelf>(
 ) -> Result<Vec<u8>, Status>
     requires { limit < 2 ^ 32 }
     ensures read { IfOk result (λ v. (fs : List ShelfFile) → S.files shelf.old ≡ Some fs → ReadsTo limit (find_file fs name.now) v.items) }
-    ensures ended { IfOk result (λ v. (f : ℕ) × (S.is_open shelf.old f → ⊥) × S.is_open shelf.new f
-        × (length v.items ≤ limit → IfSome (S.unread shelf.new f) (λ left. left ≡ []))) }
-    ensures others { KeepsOpen (λ _. Unit {0}) (S.is_open shelf.old) (S.is_open shelf.new) (S.unread shelf.old) (S.unread shelf.new) }
+    ensures ended { IfOk result (λ v. (f : ℕ) × HasRead limit (S.files shelf.old) (S.is_open shelf.old)
+        (S.is_open shelf.new) (S.opened shelf.new) name.now v.items f) }
+    ensures others { KeepsOpen (λ _. Unit {0}) (S.is_open shelf.old) (S.is_open shelf.new) (S.opened shelf.old) (S.opened shelf.new) }
     ensures files { S.files shelf.new ≡ S.files shelf.old }
     ensures later { S.faults shelf.old ≤ S.faults shelf.new }
     ensures fault { IfErr result (λ s. s ≡ Status.ReadFault → Rose (S.faults shelf.old) (S.faults shelf.new)) }
@@ -53,8 +54,10 @@ pub fn accepted_catalogue<S: Shelf>(
 ) -> Result<Catalogue, Status>
     ensures told { (fs : List ShelfFile) → S.files shelf.old ≡ Some fs → MatchResult result
         (λ cat. catalogue_named fs name.now ≡ Some (Ok cat)) (λ s. Explains s (BlamesCatalogue (catalogue_named fs name.now))) }
-    ensures ended { OnOk result ((file : ℕ) × IsRead (S.files shelf.old) (S.is_open shelf.old) (S.is_open shelf.new) (S.unread shelf.new) ToItsEnd file) }
-    ensures others { KeepsOpen (λ _. Unit {0}) (S.is_open shelf.old) (S.is_open shelf.new) (S.unread shelf.old) (S.unread shelf.new) }
+    ensures ended { OnOk result ((file : ℕ) × IsRead (S.files shelf.old) (S.is_open shelf.old) (S.is_open shelf.new) (S.opened shelf.new) (ToItsEnd name.now) file) }
+    ensures at_fault { IfErr result (AtFault ((file : ℕ) × IsRead (S.files shelf.old) (S.is_open shelf.old)
+        (S.is_open shelf.new) (S.opened shelf.new) (ToItsLimit MAX_CATALOGUE_BYTES name.now) file) ⊥) }
+    ensures others { KeepsOpen (λ _. Unit {0}) (S.is_open shelf.old) (S.is_open shelf.new) (S.opened shelf.old) (S.opened shelf.new) }
     ensures files { S.files shelf.new ≡ S.files shelf.old }
     ensures later { S.faults shelf.old ≤ S.faults shelf.new }
     ensures fault { IfErr result (λ s. s ≡ Status.ReadFault → Rose (S.faults shelf.old) (S.faults shelf.new)) }

@@ -1,12 +1,13 @@
 //! The command that carries out transaction control.
 ghost use Rattle.std.specs.Prelude.{◌≡◌, ◌≤◌, ◌+◌, ◌∷◌, [], ℕ, List, IfOk, OnOk, IfErr, IsSome, MatchResult, Some, Ok};
 ghost use Rattle.sdd_base.specs.declared.files.ShelfFile.{ShelfFile};
+ghost use Rattle.sdd_base.specs.declared.limits.TheConstants.{MAX_WORKLOAD_BYTES};
 ghost use Rattle.sdd_base.specs.Outside.{Rose, find_file};
 ghost use Rattle.sdd_control.specs.Script.{IsSound};
 ghost use Rattle.sdd_control.specs.Walk.{control_script};
 ghost use Rattle.sdd_app.specs.Answer.{BlamesScript, ComesToControl, script_named};
-ghost use Rattle.sdd_app.specs.Endings.{FilesRead, IsRead, ToItsEnd};
-ghost use Rattle.sdd_app.specs.Verdict.{Answers, ComesOfFiles, Explains};
+ghost use Rattle.sdd_app.specs.Endings.{FilesRead, IsRead, ToItsEnd, ToItsLimit};
+ghost use Rattle.sdd_app.specs.Verdict.{Answers, AtFault, ComesOfFiles, Explains};
 
 use crate::catalogue_file::read_named;
 use crate::status::Status;
@@ -33,7 +34,9 @@ fn accepted_script<S: Shelf>(
     ensures told { (fs : List ShelfFile) → S.files shelf.old ≡ Some fs → MatchResult result
         (λ s. script_named fs name.now ≡ Some (Ok s)) (λ s. Explains s (BlamesScript (script_named fs name.now))) }
     ensures sound { IfOk result IsSound }
-    ensures ended { OnOk result ((file : ℕ) × IsRead (S.files shelf.old) (S.is_open shelf.old) (S.is_open shelf.new) (S.unread shelf.new) ToItsEnd file) }
+    ensures ended { OnOk result ((file : ℕ) × IsRead (S.files shelf.old) (S.is_open shelf.old) (S.is_open shelf.new) (S.opened shelf.new) (ToItsEnd name.now) file) }
+    ensures at_fault { IfErr result (AtFault ⊥ ((file : ℕ) × IsRead (S.files shelf.old) (S.is_open shelf.old)
+        (S.is_open shelf.new) (S.opened shelf.new) (ToItsLimit MAX_WORKLOAD_BYTES name.now) file)) }
     ensures fault { IfErr result (λ s. s ≡ Status.ReadFault → Rose (S.faults shelf.old) (S.faults shelf.new)) }
     ensures errors { IfErr result ComesOfFiles }
     ensures surely { (free : ℕ) (fs : List ShelfFile) → S.sure shelf.old (free + 1) → S.files shelf.old ≡ Some fs → IsSome (find_file fs name.now)
@@ -46,7 +49,9 @@ fn accepted_script<S: Shelf>(
 /// What `control` answers over the script in the file.
 pub fn control_answer<S: Shelf>(alloc: Global, shelf: &mut S, file: &str) -> Result<Vec<u8>, Status>
     ensures told { (fs : List ShelfFile) → S.files shelf.old ≡ Some fs → Answers result (λ v. v.items) (ComesToControl fs file.now) }
-    ensures ended { OnOk result (FilesRead (S.files shelf.old) (S.is_open shelf.old) (S.is_open shelf.new) (S.unread shelf.new) (ToItsEnd ∷ [])) }
+    ensures ended { OnOk result (FilesRead (S.files shelf.old) (S.is_open shelf.old) (S.is_open shelf.new) (S.opened shelf.new) (ToItsEnd file.now ∷ [])) }
+    ensures at_fault { IfErr result (AtFault ⊥ (FilesRead (S.files shelf.old) (S.is_open shelf.old)
+        (S.is_open shelf.new) (S.opened shelf.new) (ToItsLimit MAX_WORKLOAD_BYTES file.now ∷ []))) }
     ensures fault { IfErr result (λ s. s ≡ Status.ReadFault → Rose (S.faults shelf.old) (S.faults shelf.new)) }
     ensures errors { IfErr result ComesOfFiles }
     ensures surely { (free : ℕ) (fs : List ShelfFile) → S.sure shelf.old (free + 1) → S.files shelf.old ≡ Some fs → IsSome (find_file fs file.now)

@@ -1,6 +1,7 @@
 //! The command that judges a report.
 ghost use Rattle.std.specs.Prelude.{◌≡◌, ◌≤◌, ◌++◌, ◌+◌, ◌∷◌, [], ℕ, List, false, IfOk, OnOk, IfErr, IsSome, Some};
 ghost use Rattle.sdd_base.specs.declared.files.ShelfFile.{ShelfFile};
+ghost use Rattle.sdd_base.specs.declared.limits.TheConstants.{MAX_CATALOGUE_BYTES, MAX_WORKLOAD_BYTES};
 ghost use Rattle.sdd_base.specs.Outside.{KeepsOpen, Rose, find_file};
 ghost use Rattle.sdd_script.specs.Redeclaring.{has_lists};
 ghost use Rattle.sdd_script.specs.Valid.{IsValid};
@@ -8,7 +9,7 @@ ghost use Rattle.sdd_verify.specs.Verdict.{verdict};
 ghost use Rattle.sdd_app.specs.Answer.{ComesToJudgement, ComesToVerdict, ComesToVerify, HasFiles, HasReport, OverCatalogue};
 ghost use Rattle.sdd_app.specs.Endings.{FilesRead, IsRead, ToItsEnd, ToItsLimit};
 ghost use Rattle.sdd_app.specs.Judging.{verdict_line};
-ghost use Rattle.sdd_app.specs.Verdict.{Answers, ComesOfFiles};
+ghost use Rattle.sdd_app.specs.Verdict.{Answers, AtFault, ComesOfFiles};
 
 use crate::catalogue_file::{accepted_catalogue, read_named};
 use crate::status::Status;
@@ -60,10 +61,11 @@ fn report_answer<S: Shelf>(
     requires { IsValid catalogue.now work.now }
     ensures told { (fs : List ShelfFile) → S.files shelf.old ≡ Some fs
         → Answers result (λ v. v.items) (ComesToVerdict fs report.now catalogue.now work.now) }
-    ensures ended { OnOk result ((file : ℕ) × IsRead (S.files shelf.old) (S.is_open shelf.old) (S.is_open shelf.new) (S.unread shelf.new) (ToItsLimit MAX_REPORT_BYTES report.now) file) }
-    ensures others { KeepsOpen (λ _. Unit {0}) (S.is_open shelf.old) (S.is_open shelf.new) (S.unread shelf.old) (S.unread shelf.new) }
+    ensures ended { OnOk result ((file : ℕ) × IsRead (S.files shelf.old) (S.is_open shelf.old) (S.is_open shelf.new) (S.opened shelf.new) (ToItsLimit MAX_REPORT_BYTES report.now) file) }
+    ensures others { KeepsOpen (λ _. Unit {0}) (S.is_open shelf.old) (S.is_open shelf.new) (S.opened shelf.old) (S.opened shelf.new) }
     ensures later { S.faults shelf.old ≤ S.faults shelf.new }
     ensures fault { IfErr result (λ s. s ≡ Status.ReadFault → Rose (S.faults shelf.old) (S.faults shelf.new)) }
+    ensures no_fault { IfErr result (AtFault ⊥ ⊥) }
     ensures errors { IfErr result ComesOfFiles }
     ensures surely { (free : ℕ) (fs : List ShelfFile) → S.sure shelf.old (free + 1) → S.files shelf.old ≡ Some fs → IsSome (find_file fs report.now)
         → IfErr result (λ s. s ≡ Status.ReadFault → ⊥) × (S.faults shelf.new ≡ S.faults shelf.old) }
@@ -84,10 +86,11 @@ fn report_answer_if_built<S: Shelf>(
     requires { IsValid catalogue.now work.now }
     ensures told { (fs : List ShelfFile) → S.files shelf.old ≡ Some fs
         → Answers result (λ v. v.items) (ComesToJudgement fs report.now catalogue.now work.now) }
-    ensures ended { OnOk result ((file : ℕ) × IsRead (S.files shelf.old) (S.is_open shelf.old) (S.is_open shelf.new) (S.unread shelf.new) (ToItsLimit MAX_REPORT_BYTES report.now) file) }
-    ensures others { OnOk result (KeepsOpen (λ _. Unit {0}) (S.is_open shelf.old) (S.is_open shelf.new) (S.unread shelf.old) (S.unread shelf.new)) }
+    ensures ended { OnOk result ((file : ℕ) × IsRead (S.files shelf.old) (S.is_open shelf.old) (S.is_open shelf.new) (S.opened shelf.new) (ToItsLimit MAX_REPORT_BYTES report.now) file) }
+    ensures others { OnOk result (KeepsOpen (λ _. Unit {0}) (S.is_open shelf.old) (S.is_open shelf.new) (S.opened shelf.old) (S.opened shelf.new)) }
     ensures fault { IfErr result (λ s. s ≡ Status.ReadFault → Rose (S.faults shelf.old) (S.faults shelf.new)) }
     ensures later { S.faults shelf.old ≤ S.faults shelf.new }
+    ensures no_fault { IfErr result (AtFault ⊥ ⊥) }
     ensures errors { IfErr result ComesOfFiles }
     ensures surely { (free : ℕ) (fs : List ShelfFile) → S.sure shelf.old (free + 1) → S.files shelf.old ≡ Some fs
         → (has_lists work.now ≡ false → IsSome (find_file fs report.now))
@@ -110,8 +113,13 @@ pub fn verify_answer<S: Shelf>(
 ) -> Result<Vec<u8>, Status>
     ensures told { (fs : List ShelfFile) → S.files shelf.old ≡ Some fs
         → Answers result (λ v. v.items) (OverCatalogue fs catalogue.now (ComesToVerify fs workload.now report.now)) }
-    ensures ended { OnOk result (FilesRead (S.files shelf.old) (S.is_open shelf.old) (S.is_open shelf.new) (S.unread shelf.new)
-        (ToItsEnd ∷ ToItsEnd ∷ ToItsLimit MAX_REPORT_BYTES report.now ∷ [])) }
+    ensures ended { OnOk result (FilesRead (S.files shelf.old) (S.is_open shelf.old) (S.is_open shelf.new) (S.opened shelf.new)
+        (ToItsEnd catalogue.now ∷ ToItsEnd workload.now ∷ ToItsLimit MAX_REPORT_BYTES report.now ∷ [])) }
+    ensures at_fault { IfErr result (AtFault
+        (FilesRead (S.files shelf.old) (S.is_open shelf.old) (S.is_open shelf.new) (S.opened shelf.new)
+        (ToItsLimit MAX_CATALOGUE_BYTES catalogue.now ∷ []))
+        (FilesRead (S.files shelf.old) (S.is_open shelf.old) (S.is_open shelf.new) (S.opened shelf.new)
+        (ToItsEnd catalogue.now ∷ ToItsLimit MAX_WORKLOAD_BYTES workload.now ∷ []))) }
     ensures fault { IfErr result (λ s. s ≡ Status.ReadFault → Rose (S.faults shelf.old) (S.faults shelf.new)) }
     ensures errors { IfErr result ComesOfFiles }
     ensures surely { (free : ℕ) (fs : List ShelfFile) → S.sure shelf.old (free + 1 + 1 + 1) → S.files shelf.old ≡ Some fs

@@ -1,11 +1,12 @@
 //! The commands that tell what is in a catalogue.
 ghost use Rattle.std.specs.Prelude.{◌≡◌, ◌+◌, ◌∷◌, [], ℕ, List, IfOk, OnOk, IfErr, IsSome, Some};
 ghost use Rattle.sdd_base.specs.declared.files.ShelfFile.{ShelfFile};
+ghost use Rattle.sdd_base.specs.declared.limits.TheConstants.{MAX_CATALOGUE_BYTES};
 ghost use Rattle.sdd_base.specs.Outside.{Rose, find_file};
 ghost use Rattle.sdd_app.specs.Answer.{ComesToListing, OverCatalogue};
-ghost use Rattle.sdd_app.specs.Endings.{FilesRead, ToItsEnd};
+ghost use Rattle.sdd_app.specs.Endings.{FilesRead, ToItsEnd, ToItsLimit};
 ghost use Rattle.sdd_app.specs.Listing.{Tells};
-ghost use Rattle.sdd_app.specs.Verdict.{Answers, ComesOfFiles};
+ghost use Rattle.sdd_app.specs.Verdict.{Answers, AtFault, ComesOfFiles};
 
 use crate::catalogue_file::accepted_catalogue;
 use crate::check::counts;
@@ -57,7 +58,9 @@ pub fn listing_answer<S: Shelf>(
 ) -> Result<Vec<u8>, Status>
     ensures told { (fs : List ShelfFile) → S.files shelf.old ≡ Some fs
         → Answers result (λ v. v.items) (OverCatalogue fs catalogue.now (ComesToListing listing)) }
-    ensures ended { OnOk result (FilesRead (S.files shelf.old) (S.is_open shelf.old) (S.is_open shelf.new) (S.unread shelf.new) (ToItsEnd ∷ [])) }
+    ensures ended { OnOk result (FilesRead (S.files shelf.old) (S.is_open shelf.old) (S.is_open shelf.new) (S.opened shelf.new) (ToItsEnd catalogue.now ∷ [])) }
+    ensures at_fault { IfErr result (AtFault (FilesRead (S.files shelf.old) (S.is_open shelf.old)
+        (S.is_open shelf.new) (S.opened shelf.new) (ToItsLimit MAX_CATALOGUE_BYTES catalogue.now ∷ [])) ⊥) }
     ensures fault { IfErr result (λ s. s ≡ Status.ReadFault → Rose (S.faults shelf.old) (S.faults shelf.new)) }
     ensures errors { IfErr result ComesOfFiles }
     ensures surely { (free : ℕ) (fs : List ShelfFile) → S.sure shelf.old (free + 1) → S.files shelf.old ≡ Some fs → IsSome (find_file fs catalogue.now)

@@ -6,7 +6,7 @@ ghost use Rattle.sdd_make.specs.Turns.{workload_of};
 ghost use Rattle.sdd_script.specs.Redeclaring.{has_lists};
 ghost use Rattle.sdd_script.specs.Valid.{IsValid};
 ghost use Rattle.sdd_app.specs.Answer.{ComesToSummary};
-ghost use Rattle.sdd_app.specs.Verdict.{Answers, ComesOfFiles};
+ghost use Rattle.sdd_app.specs.Verdict.{Answers, AtFault, ComesOfFiles};
 
 use crate::status::Status;
 use sdd_catalog::Catalogue;
@@ -21,6 +21,7 @@ fn summed_up(alloc: Global, catalogue: &Catalogue, work: Workload) -> Result<Vec
     requires no_lists { has_lists work ≡ false }
     ensures told { Answers result (λ v. v.items) (ComesToSummary catalogue.now work) }
     ensures errors { IfErr result ComesOfFiles }
+    ensures no_fault { IfErr result (AtFault ⊥ ⊥) }
     ensures read { IfErr result (λ s. s ≡ Status.ReadFault → ⊥) }
 {
     Ok(run_summary(alloc, catalogue, work)?)
@@ -32,6 +33,7 @@ pub fn make_answer(alloc: Global, seed: u32, count: u32) -> Result<Vec<u8>, Stat
     requires { count ≤ MAX_TXNS }
     ensures told { Answers result (λ v. v.items) (ComesToSummary bank (workload_of seed count)) }
     ensures errors { IfErr result ComesOfFiles }
+    ensures no_fault { IfErr result (AtFault ⊥ ⊥) }
     ensures read { IfErr result (λ s. s ≡ Status.ReadFault → ⊥) }
 {
     law_workload_allowed(seed, count);

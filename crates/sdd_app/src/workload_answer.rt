@@ -1,13 +1,14 @@
 //! The commands that run a workload.
 ghost use Rattle.std.specs.Prelude.{◌≡◌, ◌+◌, ◌∷◌, [], ℕ, List, false, OnOk, IfErr, Some};
 ghost use Rattle.sdd_base.specs.declared.files.ShelfFile.{ShelfFile};
+ghost use Rattle.sdd_base.specs.declared.limits.TheConstants.{MAX_CATALOGUE_BYTES, MAX_WORKLOAD_BYTES};
 ghost use Rattle.sdd_base.specs.Outside.{Rose};
 ghost use Rattle.sdd_script.specs.Redeclaring.{has_lists};
 ghost use Rattle.sdd_script.specs.Valid.{IsValid};
 ghost use Rattle.sdd_run.specs.Runs.{IsReportOn};
 ghost use Rattle.sdd_app.specs.Answer.{ComesToPlain, ComesToReport, ComesToRun, HasFiles, OverCatalogue, TellsOfRun};
-ghost use Rattle.sdd_app.specs.Endings.{FilesRead, ToItsEnd};
-ghost use Rattle.sdd_app.specs.Verdict.{Answers, ComesOfFiles};
+ghost use Rattle.sdd_app.specs.Endings.{FilesRead, ToItsEnd, ToItsLimit};
+ghost use Rattle.sdd_app.specs.Verdict.{Answers, AtFault, ComesOfFiles};
 
 use crate::catalogue_file::accepted_catalogue;
 use crate::serially::serial_text;
@@ -25,6 +26,7 @@ fn reported(alloc: Global, catalogue: &Catalogue, work: Workload) -> Result<Vec<
     requires no_lists { has_lists work ≡ false }
     ensures told { Answers result (λ v. v.items) (TellsOfRun (IsReportOn catalogue.now work) catalogue.now work) }
     ensures errors { IfErr result ComesOfFiles }
+    ensures no_fault { IfErr result (AtFault ⊥ ⊥) }
     ensures read { IfErr result (λ s. s ≡ Status.ReadFault → ⊥) }
 {
     Ok(run_report(alloc, catalogue, work)?)
@@ -39,6 +41,7 @@ fn reported_if_built(
     requires { IsValid catalogue.now work }
     ensures told { Answers result (λ v. v.items) (ComesToReport catalogue.now work) }
     ensures errors { IfErr result ComesOfFiles }
+    ensures no_fault { IfErr result (AtFault ⊥ ⊥) }
     ensures read { IfErr result (λ s. s ≡ Status.ReadFault → ⊥) }
 {
     if work.has_lists() {
@@ -56,7 +59,13 @@ pub fn plain_answer<S: Shelf>(
 ) -> Result<Vec<u8>, Status>
     ensures told { (fs : List ShelfFile) → S.files shelf.old ≡ Some fs
         → Answers result (λ v. v.items) (OverCatalogue fs catalogue.now (ComesToPlain fs workload.now)) }
-    ensures ended { OnOk result (FilesRead (S.files shelf.old) (S.is_open shelf.old) (S.is_open shelf.new) (S.unread shelf.new) (ToItsEnd ∷ ToItsEnd ∷ [])) }
+    ensures ended { OnOk result (FilesRead (S.files shelf.old) (S.is_open shelf.old) (S.is_open shelf.new) (S.opened shelf.new)
+        (ToItsEnd catalogue.now ∷ ToItsEnd workload.now ∷ [])) }
+    ensures at_fault { IfErr result (AtFault
+        (FilesRead (S.files shelf.old) (S.is_open shelf.old) (S.is_open shelf.new) (S.opened shelf.new)
+        (ToItsLimit MAX_CATALOGUE_BYTES catalogue.now ∷ []))
+        (FilesRead (S.files shelf.old) (S.is_open shelf.old) (S.is_open shelf.new) (S.opened shelf.new)
+        (ToItsEnd catalogue.now ∷ ToItsLimit MAX_WORKLOAD_BYTES workload.now ∷ []))) }
     ensures fault { IfErr result (λ s. s ≡ Status.ReadFault → Rose (S.faults shelf.old) (S.faults shelf.new)) }
     ensures errors { IfErr result ComesOfFiles }
     ensures surely { (free : ℕ) (fs : List ShelfFile) → S.sure shelf.old (free + 1 + 1) → S.files shelf.old ≡ Some fs
@@ -77,7 +86,13 @@ pub fn run_answer<S: Shelf>(
 ) -> Result<Vec<u8>, Status>
     ensures told { (fs : List ShelfFile) → S.files shelf.old ≡ Some fs
         → Answers result (λ v. v.items) (OverCatalogue fs catalogue.now (ComesToRun fs workload.now)) }
-    ensures ended { OnOk result (FilesRead (S.files shelf.old) (S.is_open shelf.old) (S.is_open shelf.new) (S.unread shelf.new) (ToItsEnd ∷ ToItsEnd ∷ [])) }
+    ensures ended { OnOk result (FilesRead (S.files shelf.old) (S.is_open shelf.old) (S.is_open shelf.new) (S.opened shelf.new)
+        (ToItsEnd catalogue.now ∷ ToItsEnd workload.now ∷ [])) }
+    ensures at_fault { IfErr result (AtFault
+        (FilesRead (S.files shelf.old) (S.is_open shelf.old) (S.is_open shelf.new) (S.opened shelf.new)
+        (ToItsLimit MAX_CATALOGUE_BYTES catalogue.now ∷ []))
+        (FilesRead (S.files shelf.old) (S.is_open shelf.old) (S.is_open shelf.new) (S.opened shelf.new)
+        (ToItsEnd catalogue.now ∷ ToItsLimit MAX_WORKLOAD_BYTES workload.now ∷ []))) }
     ensures fault { IfErr result (λ s. s ≡ Status.ReadFault → Rose (S.faults shelf.old) (S.faults shelf.new)) }
     ensures errors { IfErr result ComesOfFiles }
     ensures surely { (free : ℕ) (fs : List ShelfFile) → S.sure shelf.old (free + 1 + 1) → S.files shelf.old ≡ Some fs

@@ -1,12 +1,13 @@
 //! Reading the workload's file.
 ghost use Rattle.std.specs.Prelude.{◌≡◌, ◌≤◌, ◌+◌, ℕ, List, IfOk, OnOk, IfErr, IsSome, MatchResult, Some, Ok};
 ghost use Rattle.sdd_base.specs.declared.files.ShelfFile.{ShelfFile};
+ghost use Rattle.sdd_base.specs.declared.limits.TheConstants.{MAX_WORKLOAD_BYTES};
 ghost use Rattle.sdd_base.specs.Outside.{Rose, KeepsOpen, find_file};
 ghost use Rattle.sdd_script.specs.Valid.{IsValid};
 ghost use Rattle.sdd_script.specs.Walk.{workload};
 ghost use Rattle.sdd_app.specs.Answer.{BlamesWorkload, workload_named};
-ghost use Rattle.sdd_app.specs.Endings.{IsRead, ToItsEnd};
-ghost use Rattle.sdd_app.specs.Verdict.{ComesOfFiles, Explains};
+ghost use Rattle.sdd_app.specs.Endings.{IsRead, ToItsEnd, ToItsLimit};
+ghost use Rattle.sdd_app.specs.Verdict.{AtFault, ComesOfFiles, Explains};
 
 use crate::catalogue_file::read_named;
 use crate::status::Status;
@@ -37,8 +38,10 @@ pub fn accepted_workload<S: Shelf>(
         (λ w. workload_named fs catalogue.now name.now ≡ Some (Ok w))
         (λ s. Explains s (BlamesWorkload (workload_named fs catalogue.now name.now))) }
     ensures valid { IfOk result (λ w. IsValid catalogue.now w) }
-    ensures ended { OnOk result ((file : ℕ) × IsRead (S.files shelf.old) (S.is_open shelf.old) (S.is_open shelf.new) (S.unread shelf.new) ToItsEnd file) }
-    ensures others { KeepsOpen (λ _. Unit {0}) (S.is_open shelf.old) (S.is_open shelf.new) (S.unread shelf.old) (S.unread shelf.new) }
+    ensures ended { OnOk result ((file : ℕ) × IsRead (S.files shelf.old) (S.is_open shelf.old) (S.is_open shelf.new) (S.opened shelf.new) (ToItsEnd name.now) file) }
+    ensures at_fault { IfErr result (AtFault ⊥ ((file : ℕ) × IsRead (S.files shelf.old) (S.is_open shelf.old)
+        (S.is_open shelf.new) (S.opened shelf.new) (ToItsLimit MAX_WORKLOAD_BYTES name.now) file)) }
+    ensures others { KeepsOpen (λ _. Unit {0}) (S.is_open shelf.old) (S.is_open shelf.new) (S.opened shelf.old) (S.opened shelf.new) }
     ensures files { S.files shelf.new ≡ S.files shelf.old }
     ensures later { S.faults shelf.old ≤ S.faults shelf.new }
     ensures fault { IfErr result (λ s. s ≡ Status.ReadFault → Rose (S.faults shelf.old) (S.faults shelf.new)) }

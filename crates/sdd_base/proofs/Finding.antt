@@ -1,10 +1,11 @@
 -- The first file of a name, by a walk from the front.
-use Rattle.std.proofs.Common.{◌≡◌, ℕ, zero, suc, ◌+◌, ◌<◌, ◌≤◌, None, List, [], ◌∷◌, length, get_or, drop, Some, true, false, cond, refl, ap, ◌∙◌, drop-cons, add-one, arith}
+use Rattle.std.proofs.Common.{◌≡◌, ℕ, zero, suc, ◌+◌, ◌<◌, ◌≤◌, None, List, [], ◌∷◌, length, get_or, drop, Some, true, false, cond, refl, ap, sym, ◌∙◌, drop-cons, add-one, arith}
 use Rattle.std.specs.Str.{bytes_eq}
 use Rattle.std.proofs.lemmas.List.{drop_all}
+use Rattle.std.proofs.lemmas.Slice.Eq.{bytes_eq-Decides}
 use Rattle.sdd_base.specs.declared.files.ShelfFile.{ShelfFile}
 use Rattle.sdd_base.specs.Outside.{find_file}
-use Rattle.sdd_base.specs.Memory.{file_at}
+use Rattle.sdd_base.specs.Memory.{file_at, name_at}
 
 file_at-get : (fs : List ShelfFile) (i : ℕ) (f : ShelfFile) → i < length fs → file_at fs i ≡ (get_or fs i f).bytes
 file_at-get [] i f lt = absurd (omega arith)
@@ -22,3 +23,14 @@ find-on fs i f name lt is other = split fs i f name lt is ∙ rw other refl
 
 pub find-past : (fs : List ShelfFile) (i : ℕ) (name : List ℕ) → length fs ≤ i → find_file (drop i fs) name ≡ None
 find-past fs i name past = ap (λ (l : List ShelfFile). find_file l name) (drop_all i fs past)
+
+name_at-get : (fs : List ShelfFile) (i : ℕ) (f : ShelfFile) → i < length fs → name_at fs i ≡ (get_or fs i f).name
+name_at-get [] i f lt = absurd (omega arith)
+name_at-get (x ∷ fs) zero f lt = refl
+name_at-get (x ∷ fs) (suc i) f lt = name_at-get fs i f (omega arith)
+
+-- and it has the name that was looked for
+pub find-named : (fs : List ShelfFile) (i : ℕ) (f : ShelfFile) (name : List ℕ) → i < length fs → f ≡ get_or fs i f
+    → bytes_eq f.name name ≡ true → name_at fs i ≡ name
+find-named fs i f name lt is same =
+    name_at-get fs i f lt ∙ ap (λ (x : ShelfFile). x.name) (sym is) ∙ (bytes_eq-Decides f.name name).0 same

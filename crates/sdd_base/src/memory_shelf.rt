@@ -1,6 +1,6 @@
 ghost use Rattle.std.specs.Prelude.{◌≡◌, ℕ, ◌≤◌, ◌<◌, ◌+◌, ◌-◌, ◌^◌, ◌↔◌, List, [], length, slice_get, take, drop, min, Some, None, IfOk, IfSome, IsOk, IsErr, MatchOption};
 ghost use Rattle.sdd_base.specs.Outside.{HasCause, Opens, KeepsOpen, ReadGives, find_file};
-ghost use Rattle.sdd_base.specs.Memory.{CannotOpen, RefusesToOpen, IsListed, called, file_at, rest_at};
+ghost use Rattle.sdd_base.specs.Memory.{CannotOpen, RefusesToOpen, IsListed, called, file_at, name_at, rest_at};
 
 use crate::failures::Failures;
 use crate::files::{CallNos, Files, ShelfFile};
@@ -19,11 +19,11 @@ pub struct SureShelf {
 
 impl Model for SureShelf {
     ghost use Rattle.std.specs.Prelude.{map};
-    ghost use Rattle.sdd_base.specs.Memory.{ShelfState, rest_at};
+    ghost use Rattle.sdd_base.specs.Memory.{ShelfState, opened_at};
 
     ghost Value = { ShelfState };
 
-    ghost view = { λ s. record { files = s.files; opened = map (rest_at s.files) s.opened; faults = s.faults } };
+    ghost view = { λ s. record { files = s.files; opened = map (opened_at s.files) s.opened; faults = s.faults } };
 }
 
 impl SureShelf {
@@ -54,7 +54,7 @@ impl Shelf for SureShelf {
 
     ghost is_open = { λ s f. f < length s.opened };
 
-    ghost unread = { λ s f. slice_get s.opened f };
+    ghost opened = { λ s f. slice_get s.opened f };
 
     ghost faults = { λ s. s.faults };
 
@@ -94,7 +94,7 @@ impl Shelf for SureShelf {
 
         // It never fails, and gives all that fits.
         ensures succeeds { IsOk result }
-        ensures count { IfOk result (λ n. IfSome (slice_get self.old.opened f.0) (λ rest. n ≡ min (length buf.new) (length rest))) }
+        ensures count { IfOk result (λ n. IfSome (slice_get self.old.opened f.0) (λ file. n ≡ min (length buf.new) (length file.unread))) }
     {
         let opened = self.opened.at(f.0);
         let (n, next) = read_at(self.files.as_slice(), opened, buf);
@@ -105,7 +105,8 @@ impl Shelf for SureShelf {
 
 /// The index of the first file of that name.
 fn find(files: &[ShelfFile], name: &str) -> Option<usize>
-    ensures { MatchOption result (find_file files.now name.now ≡ None) (λ i. find_file files.now name.now ≡ Some (file_at files.now i)) }
+    ensures first { MatchOption result (find_file files.now name.now ≡ None) (λ i. find_file files.now name.now ≡ Some (file_at files.now i)) }
+    ensures named { IfSome result (λ i. name_at files.now i ≡ name.now) }
 {
     'files: for (i, file) in files.iter().enumerate() {
         if file.name.as_slice() == name.as_bytes() {
@@ -193,7 +194,7 @@ impl Shelf for MemShelf {
 
     ghost is_open = { λ s f. f < length s.shelf.opened };
 
-    ghost unread = { λ s f. slice_get s.shelf.opened f };
+    ghost opened = { λ s f. slice_get s.shelf.opened f };
 
     ghost faults = { λ s. s.shelf.faults };
 
@@ -230,7 +231,7 @@ impl Shelf for MemShelf {
 
         // It fails exactly where it is listed, and else gives all that it may.
         ensures fails { IsErr result ↔ IsListed self.old.failing }
-        ensures count { IfOk result (λ n. IfSome (slice_get self.old.shelf.opened f.0) (λ rest. n ≡ min (min self.old.failing.most (length buf.new)) (length rest))) }
+        ensures count { IfOk result (λ n. IfSome (slice_get self.old.shelf.opened f.0) (λ file. n ≡ min (min self.old.failing.most (length buf.new)) (length file.unread))) }
         ensures called { self.new.failing ≡ called self.old.failing }
     {
         if self.failures.next_call_fails() {

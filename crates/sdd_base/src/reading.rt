@@ -1,6 +1,6 @@
-ghost use Rattle.std.specs.Prelude.{◌≡◌, ℕ, ◌≤◌, ◌+◌, ◌<◌, ◌^◌, List, [], length, take, IfOk, IfSome, IsOk, IsErrOf, IsSome, Some};
+ghost use Rattle.std.specs.Prelude.{◌≡◌, ℕ, ◌≤◌, ◌+◌, ◌<◌, ◌^◌, List, length, take, IfOk, IfSome, IsOk, IsErrOf, IsSome, Some};
 ghost use Rattle.sdd_base.specs.declared.files.ShelfFile.{ShelfFile};
-ghost use Rattle.sdd_base.specs.Outside.{Rose, ReadsTo, KeepsOpen, find_file};
+ghost use Rattle.sdd_base.specs.Outside.{HasRead, Rose, ReadsTo, KeepsOpen, find_file};
 ghost use Rattle.sdd_base.specs.declared.reading.ReadError.TheVariants.{NoMemory};
 
 use crate::shelf::{Failed, Shelf};
@@ -20,6 +20,7 @@ pub enum ReadError {
 /// Reads a file to its end, or one byte past the limit, by which a caller tells that it is too long.
 ///
 /// Takes time linear in the bytes read, and one of the shelf's numbers of open files.
+#[tactic(auto, using(crate::proofs::Taken::more_front, crate::proofs::Taken::no_front))]
 pub fn read_file<S: Shelf>(
     alloc: Global,
     shelf: &mut S,
@@ -29,9 +30,10 @@ pub fn read_file<S: Shelf>(
     requires { limit < 2 ^ 32 }
     ensures bytes { IfOk result (λ v. IfSome (S.files shelf.old) (λ fs. ReadsTo limit (find_file fs name.now) v.items)) }
 
-    // The file was opened here, and where it fits the limit nothing of it is unread.
-    ensures ended { IfOk result (λ v. (f : ℕ) × (S.is_open shelf.old f → ⊥) × S.is_open shelf.new f × (length v.items ≤ limit → IfSome (S.unread shelf.new f) (λ left. left ≡ []))) }
-    ensures others { KeepsOpen (λ _. Unit {0}) (S.is_open shelf.old) (S.is_open shelf.new) (S.unread shelf.old) (S.unread shelf.new) }
+    // The file was opened here, by its name, and read to its end, or exactly one byte past the limit.
+    ensures ended { IfOk result (λ v. (f : ℕ) × HasRead limit (S.files shelf.old) (S.is_open shelf.old)
+        (S.is_open shelf.new) (S.opened shelf.new) name.now v.items f) }
+    ensures others { KeepsOpen (λ _. Unit {0}) (S.is_open shelf.old) (S.is_open shelf.new) (S.opened shelf.old) (S.opened shelf.new) }
     ensures files { S.files shelf.new ≡ S.files shelf.old }
     ensures later { S.faults shelf.old ≤ S.faults shelf.new }
     ensures fault { IsErrOf result ReadError.Fault → Rose (S.faults shelf.old) (S.faults shelf.new) }

@@ -19,7 +19,7 @@ abbrev pub is_wait : ℕ × Rec → Bool
 is_wait (event, Wait txn attempt dm conds) = true
 is_wait _ = false
 
--- how many transactions were submitted, how many Commits, Rejects and Waits were recorded, and the
+-- how many transactions the workload has, how many Commits, Rejects and Waits were recorded, and the
 -- number of the last event
 abbrev pub summary_of : ℕ → List (ℕ × Rec) → ℕ → Summary
 summary_of transactions history events =

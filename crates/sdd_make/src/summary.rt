@@ -10,7 +10,7 @@ use std::alloc::Global;
 /// What a run comes to.
 #[derive(Clone, Copy, Debug, PartialEq, Eq)]
 pub struct Summary {
-    /// How many transactions were submitted.
+    /// How many transactions the workload has.
     pub transactions: u32,
     pub committed: u64,
     /// How many READs were rejected.
@@ -57,8 +57,8 @@ fn waits(history: &[(u32, Rec)]) -> usize
     history.iter().filter(|made| is_wait(made)).count()
 }
 
-/// The summary of a run with this history, to which so many transactions were submitted and whose last
-/// event has this number. Costs time in the records, and takes no memory.
+/// The summary of a run with this history, on a workload of so many transactions, whose last event
+/// has this number. Costs time in the records, and takes no memory.
 pub fn summary_of(transactions: u32, history: &[(u32, Rec)], events: u32) -> Summary
     ensures { result ≡ summary_of transactions history.now events }
 {

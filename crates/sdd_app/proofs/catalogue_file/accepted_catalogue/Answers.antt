@@ -4,8 +4,10 @@ use Rattle.sdd_catread.specs.Reading.{catalogue_in}
 use Rattle.sdd_app.specs.Answer.{BlamesCatalogue, catalogue_named}
 use Rattle.sdd_app.specs.Verdict.{Explains}
 use Rattle.sdd_app.specs.declared.status.Status.TheVariants.{ReadFault}
-use Rattle.sdd_app.proofs.FileReads.{catalogue_gives, accepted_small, on_ok_by, if_err_more}
+use Rattle.sdd_app.proofs.FileReads.{catalogue_gives, accepted_small, on_ok_by, if_err_more, read_to_end, read_to_limit}
 use Rattle.sdd_app.proofs.Verdicts.{explains_more}
+use Rattle.sdd_base.specs.declared.limits.TheConstants.{MAX_CATALOGUE_BYTES}
+use Rattle.sdd_app.proofs.AtFault.{catalogue_at, err_by, silent_at}
 use Rattle.sdd_app.proofs.catalogue_file.accepted_catalogue.Goals as goal
 
 pub returns-in_err-bytes-clause-told : goal.returns-in_err-bytes-clause-told
@@ -30,7 +32,7 @@ returns-clause-ended g c =
     let e = c.in_ok-bytes.ensures.ended in
     let bytes = c.as_slice.result.now in
     on_ok_by c.judged.result (λ cat. catalogue_in bytes ≡ Ok cat) (λ s. Explains s (BlamesCatalogue (Some (catalogue_in bytes)))) _ c.judged.ensures.told
-    (λ cat ok. (e.0, record { fresh = e.1; opened = e.2; ended = e.3 (rw (← c.as_slice.ensures.value) (accepted_small bytes cat ok)) }))
+    (λ cat ok. (e.0, read_to_end _ _ _ _ _ c.args.name.now _ e.0 e.1 (rw (← c.as_slice.ensures.value) (accepted_small bytes cat ok))))
 
 pub returns-clause-fault : goal.returns-clause-fault
 returns-clause-fault g c = if_err_more c.judged.result (λ s. s ≡ ReadFault → ⊥) _ c.judged.ensures.read (λ s no is. absurd (no is))
@@ -39,3 +41,16 @@ pub returns-clause-surely : goal.returns-clause-surely
 returns-clause-surely g c = λ free fs sure told some.
     let k = c.in_ok-bytes.ensures.surely free fs sure told some in
     (c.judged.ensures.read, k.1, k.2)
+
+pub returns-in_err-bytes-clause-at_fault : goal.returns-in_err-bytes-clause-at_fault
+returns-in_err-bytes-clause-at_fault g c =
+    let p = err_from_is_err_and c.from_residual.result c.from_residual.ensures.1 in
+    rw (p.1, p.2) (silent_at _ _ c.in_err-bytes.field-0.0 c.in_err-bytes.ensures.silent)
+
+pub returns-clause-at_fault : goal.returns-clause-at_fault
+returns-clause-at_fault g c =
+    let e = c.in_ok-bytes.ensures.ended in
+    let bytes = c.as_slice.result.now in
+    let read = read_to_limit _ MAX_CATALOGUE_BYTES _ _ _ c.args.name.now _ e.0 e.1 in
+    err_by c.judged.result (λ cat. catalogue_in bytes ≡ Ok cat) (λ s. Explains s (BlamesCatalogue (Some (catalogue_in bytes)))) _ c.judged.ensures.told
+    (λ s told. catalogue_at _ (Some (catalogue_in bytes)) s (e.0, read) told)

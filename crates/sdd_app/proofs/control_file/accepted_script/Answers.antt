@@ -4,8 +4,10 @@ use Rattle.sdd_control.specs.Walk.{control_script}
 use Rattle.sdd_app.specs.Answer.{BlamesScript, script_named}
 use Rattle.sdd_app.specs.Verdict.{Explains}
 use Rattle.sdd_app.specs.declared.status.Status.TheVariants.{ReadFault}
-use Rattle.sdd_app.proofs.FileReads.{script_gives, accepted_script_short, on_ok_by, if_err_more}
+use Rattle.sdd_app.proofs.FileReads.{script_gives, accepted_script_short, on_ok_by, if_err_more, read_to_end, read_to_limit}
 use Rattle.sdd_app.proofs.Verdicts.{explains_more}
+use Rattle.sdd_base.specs.declared.limits.TheConstants.{MAX_WORKLOAD_BYTES}
+use Rattle.sdd_app.proofs.AtFault.{script_at, err_by, silent_at}
 use Rattle.sdd_app.proofs.control_file.accepted_script.Goals as goal
 
 pub returns-in_err-bytes-clause-told : goal.returns-in_err-bytes-clause-told
@@ -29,7 +31,7 @@ returns-clause-ended g c =
     let e = c.in_ok-bytes.ensures.ended in
     let bytes = c.as_slice.result.now in
     on_ok_by c.judged.result (λ w. control_script bytes ≡ Ok w) (λ s. Explains s (BlamesScript (Some (control_script bytes)))) _ c.judged.ensures.told
-    (λ w ok. (e.0, record { fresh = e.1; opened = e.2; ended = e.3 (rw (← c.as_slice.ensures.value) (accepted_script_short bytes w ok)) }))
+    (λ w ok. (e.0, read_to_end _ _ _ _ _ c.args.name.now _ e.0 e.1 (rw (← c.as_slice.ensures.value) (accepted_script_short bytes w ok))))
 
 pub returns-clause-fault : goal.returns-clause-fault
 returns-clause-fault g c = if_err_more c.judged.result (λ s. s ≡ ReadFault → ⊥) _ c.judged.ensures.read (λ s no is. absurd (no is))
@@ -38,3 +40,16 @@ pub returns-clause-surely : goal.returns-clause-surely
 returns-clause-surely g c = λ free fs sure told some.
     let k = c.in_ok-bytes.ensures.surely free fs sure told some in
     (c.judged.ensures.read, k.1, k.2)
+
+pub returns-in_err-bytes-clause-at_fault : goal.returns-in_err-bytes-clause-at_fault
+returns-in_err-bytes-clause-at_fault g c =
+    let p = err_from_is_err_and c.from_residual.result c.from_residual.ensures.1 in
+    rw (p.1, p.2) (silent_at _ _ c.in_err-bytes.field-0.0 c.in_err-bytes.ensures.silent)
+
+pub returns-clause-at_fault : goal.returns-clause-at_fault
+returns-clause-at_fault g c =
+    let e = c.in_ok-bytes.ensures.ended in
+    let bytes = c.as_slice.result.now in
+    let read = read_to_limit _ MAX_WORKLOAD_BYTES _ _ _ c.args.name.now _ e.0 e.1 in
+    err_by c.judged.result (λ w. control_script bytes ≡ Ok w) (λ s. Explains s (BlamesScript (Some (control_script bytes)))) _ c.judged.ensures.told
+    (λ s told. script_at _ (Some (control_script bytes)) s (e.0, read) told)

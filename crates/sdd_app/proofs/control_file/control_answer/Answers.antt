@@ -1,6 +1,7 @@
 use Rattle.std.proofs.lemmas.Result.{err_from_is_err_and}
 use Rattle.sdd_app.specs.Answer.{BlamesScript, ComesToControl, script_named}
 use Rattle.sdd_app.proofs.Verdicts.{explains_more, blamed_control, reports_control, one_ended}
+use Rattle.sdd_app.proofs.AtFault.{at_more}
 use Rattle.sdd_app.proofs.control_file.control_answer.Goals as goal
 
 pub returns-in_err-script-clause-told : goal.returns-in_err-script-clause-told
@@ -16,7 +17,7 @@ returns-clause-told g c = λ fs told.
     (c.in_ok-script.ensures.told fs told) (rw c.into_vec.ensures c.in_ok-text.ensures)
 
 pub returns-clause-ended : goal.returns-clause-ended
-returns-clause-ended g c = let e = c.in_ok-script.ensures.ended in one_ended _ _ _ _ e.0 e.1
+returns-clause-ended g c = let e = c.in_ok-script.ensures.ended in one_ended _ _ _ _ _ e.0 e.1
 
 pub returns-in_err-script-clause-surely : goal.returns-in_err-script-clause-surely
 returns-in_err-script-clause-surely g c = λ free fs sure told some.
@@ -33,3 +34,14 @@ returns-in_err-text-clause-surely g c = λ free fs sure told some.
 pub returns-clause-surely : goal.returns-clause-surely
 returns-clause-surely g c = λ free fs sure told some.
     let k = c.in_ok-script.ensures.surely free fs sure told some in (tt, k.2)
+
+pub returns-in_err-script-clause-at_fault : goal.returns-in_err-script-clause-at_fault
+returns-in_err-script-clause-at_fault g c =
+    let p = err_from_is_err_and c.from_residual.result c.from_residual.ensures.1 in
+    rw (p.1, p.2) (at_more c.in_err-script.field-0.0 c.in_err-script.ensures.at_fault
+    (λ no. no) (λ h. one_ended _ _ _ _ _ h.0 h.1))
+
+pub returns-in_err-text-clause-at_fault : goal.returns-in_err-text-clause-at_fault
+returns-in_err-text-clause-at_fault g c =
+    let p = err_from_is_err_and c.from_residual-in_err-text.result c.from_residual-in_err-text.ensures.1 in
+    rw (p.1, p.2) tt

@@ -6,6 +6,7 @@ use Rattle.sdd_app.specs.Answer.{ComesToVerdict, judged_as}
 use Rattle.sdd_app.specs.Verdict.{Prints}
 use Rattle.sdd_app.proofs.FileReads.{long_reports, read_gives, read_to_limit}
 use Rattle.sdd_app.proofs.Verdicts.{explains_more}
+use Rattle.sdd_app.proofs.AtFault.{silent_at}
 use Rattle.sdd_app.proofs.judging.report_answer.Goals as goal
 
 pub returns-in_err-bytes-clause-told : goal.returns-in_err-bytes-clause-told
@@ -38,17 +39,19 @@ returns-clause-told g c = λ fs told.
 
 pub returns-clause-ended : goal.returns-clause-ended
 returns-clause-ended g c =
-    let e = c.in_ok-bytes.ensures.ended in (
-      e.0,
-      record {
-        fresh = e.1;
-        opened = e.2;
-        ended =
-            read_to_limit _ MAX_REPORT_BYTES c.args.report.now c.in_ok-bytes.bytes.items _
-            c.in_ok-bytes.ensures.read e.3;
-      },
-    )
+    let e = c.in_ok-bytes.ensures.ended in
+    (e.0, read_to_limit _ MAX_REPORT_BYTES _ _ _ c.args.report.now _ e.0 e.1)
 
 pub returns-clause-surely : goal.returns-clause-surely
 returns-clause-surely g c = λ free fs sure told some.
     let k = c.in_ok-bytes.ensures.surely free fs sure told some in (tt, k.2)
+
+pub returns-in_err-bytes-clause-no_fault : goal.returns-in_err-bytes-clause-no_fault
+returns-in_err-bytes-clause-no_fault g c =
+    let p = err_from_is_err_and c.from_residual.result c.from_residual.ensures.1 in
+    rw (p.1, p.2) (silent_at _ _ c.in_err-bytes.field-0.0 c.in_err-bytes.ensures.silent)
+
+pub returns-in_err-judged-clause-no_fault : goal.returns-in_err-judged-clause-no_fault
+returns-in_err-judged-clause-no_fault g c =
+    let p = err_from_is_err_and c.from_residual-in_err-judged.result c.from_residual-in_err-judged.ensures.1 in
+    rw (p.1, p.2) tt

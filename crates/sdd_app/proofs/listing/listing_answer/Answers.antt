@@ -2,6 +2,7 @@ use Rattle.std.proofs.lemmas.Result.{err_from_is_err_and}
 use Rattle.sdd_app.specs.Answer.{BlamesCatalogue, ComesToListing, OverCatalogue, catalogue_named}
 use Rattle.sdd_app.specs.Verdict.{Prints}
 use Rattle.sdd_app.proofs.Verdicts.{explains_more, blamed, goes_on, one_ended}
+use Rattle.sdd_app.proofs.AtFault.{at_more}
 use Rattle.sdd_app.proofs.listing.listing_answer.Goals as goal
 
 pub returns-in_err-catalogue-clause-told : goal.returns-in_err-catalogue-clause-told
@@ -25,7 +26,7 @@ returns-clause-told g c = λ fs told.
     (Prints c.in_ok-listed.field-0.items) (c.in_ok-catalogue.ensures.told fs told) c.in_ok-listed.ensures
 
 pub returns-clause-ended : goal.returns-clause-ended
-returns-clause-ended g c = let e = c.in_ok-catalogue.ensures.ended in one_ended _ _ _ _ e.0 e.1
+returns-clause-ended g c = let e = c.in_ok-catalogue.ensures.ended in one_ended _ _ _ _ _ e.0 e.1
 
 pub returns-in_err-listed-clause-surely : goal.returns-in_err-listed-clause-surely
 returns-in_err-listed-clause-surely g c = λ free fs sure told some.
@@ -36,3 +37,14 @@ returns-in_err-listed-clause-surely g c = λ free fs sure told some.
 pub returns-clause-surely : goal.returns-clause-surely
 returns-clause-surely g c = λ free fs sure told some.
     let k = c.in_ok-catalogue.ensures.surely free fs sure told some in (tt, k.2)
+
+pub returns-in_err-catalogue-clause-at_fault : goal.returns-in_err-catalogue-clause-at_fault
+returns-in_err-catalogue-clause-at_fault g c =
+    let p = err_from_is_err_and c.from_residual.result c.from_residual.ensures.1 in
+    rw (p.1, p.2) (at_more c.in_err-catalogue.field-0.0 c.in_err-catalogue.ensures.at_fault
+    (λ h. one_ended _ _ _ _ _ h.0 h.1) (λ no. no))
+
+pub returns-in_err-listed-clause-at_fault : goal.returns-in_err-listed-clause-at_fault
+returns-in_err-listed-clause-at_fault g c =
+    let p = err_from_is_err_and c.from_residual-in_err-listed.result c.from_residual-in_err-listed.ensures.1 in
+    rw (p.1, p.2) tt

@@ -14,12 +14,18 @@ returns-in-Some-clause-told g c = λ fs told.
     let found = c.in-Some.ensures.found in
     let words = map string_bytes c.args.words.now in
     let form = form_of c.in-Some.command in
-    words_answer c.carried_out.result (λ v. v.items) fs words form (found_form words form found.0 found.1) (c.carried_out.ensures.told fs told)
+    let is = found_form words form found.0 found.1 in
+    words_answer c.carried_out.result (λ v. v.items) fs words form is (c.carried_out.ensures.told fs (rw is at told))
 
 pub returns-in-Some-clause-ended : goal.returns-in-Some-clause-ended
 returns-in-Some-clause-ended g c =
     let found = c.in-Some.ensures.found in
     rw (found_form (map string_bytes c.args.words.now) (form_of c.in-Some.command) found.0 found.1) c.carried_out.ensures.ended
+
+pub returns-in-Some-clause-at_fault : goal.returns-in-Some-clause-at_fault
+returns-in-Some-clause-at_fault g c =
+    let found = c.in-Some.ensures.found in
+    rw (found_form (map string_bytes c.args.words.now) (form_of c.in-Some.command) found.0 found.1) c.carried_out.ensures.at_fault
 
 pub returns-in-Some-clause-usage : goal.returns-in-Some-clause-usage
 returns-in-Some-clause-usage g c =
@@ -37,6 +43,7 @@ returns-in-Some-clause-untouched g c = λ none.
     c.carried_out.ensures.untouched (rw (found_form (map string_bytes c.args.words.now) (form_of c.in-Some.command) found.0 found.1) at none)
 
 pub returns-in-Some-clause-surely : goal.returns-in-Some-clause-surely
-returns-in-Some-clause-surely g c = λ free fs sure told there.
+returns-in-Some-clause-surely g c = λ free fs sure over there.
     let found = c.in-Some.ensures.found in
-    c.carried_out.ensures.surely free fs sure told (rw (found_form (map string_bytes c.args.words.now) (form_of c.in-Some.command) found.0 found.1) at there)
+    let is = found_form (map string_bytes c.args.words.now) (form_of c.in-Some.command) found.0 found.1 in
+    c.carried_out.ensures.surely free fs (rw is at sure) (rw is at over) (rw is at there)

@@ -2,6 +2,7 @@ use Rattle.std.proofs.Common.{map, string_bytes, subst}
 use Rattle.sdd_app.specs.Answer.{ComesTo}
 use Rattle.sdd_app.specs.Verdict.{Prints, Explains}
 use Rattle.sdd_app.proofs.Verdicts.{told_status, files_there, prints_or_refuses}
+use Rattle.sdd_app.proofs.AtFault.{of_catalogue, of_workload}
 use Rattle.sdd_app.proofs.run.run_sdd1.Goals as goal
 
 pub returns-clause-bad_catalogue : goal.returns-clause-bad_catalogue
@@ -66,3 +67,9 @@ returns-in-Ok-clause-surely_refused g c = λ free fs v shelf told comes refusal.
 
 pub returns-in-Ok-clause-shelf_still : goal.returns-in-Ok-clause-shelf_still
 returns-in-Ok-clause-shelf_still g c = λ free fs shelf told there. (c.in-Ok.ensures.surely free fs shelf told there).1
+
+pub returns-clause-catalogue_read : goal.returns-clause-catalogue_read
+returns-clause-catalogue_read g c = λ f is. of_catalogue _ _ c.in-Err.status f c.in-Err.ensures.at_fault is
+
+pub returns-clause-workload_read : goal.returns-clause-workload_read
+returns-clause-workload_read g c = λ f is. of_workload _ _ c.in-Err.status f c.in-Err.ensures.at_fault is

@@ -2,7 +2,8 @@ use Rattle.std.proofs.Common.{◌+◌, ◌∙◌}
 use Rattle.std.proofs.lemmas.Result.{err_from_is_err_and}
 use Rattle.sdd_app.specs.Answer.{BlamesCatalogue, BlamesWorkload, ComesToPlain, OverCatalogue, catalogue_named, workload_named}
 use Rattle.sdd_app.specs.Verdict.{Prints}
-use Rattle.sdd_app.proofs.Verdicts.{explains_more, blamed, goes_on, blamed_plain, replies_plain, two_ended}
+use Rattle.sdd_app.proofs.Verdicts.{explains_more, blamed, goes_on, blamed_plain, replies_plain, two_ended, one_ended}
+use Rattle.sdd_app.proofs.AtFault.{at_more}
 use Rattle.sdd_app.proofs.workload_answer.plain_answer.Goals as goal
 
 pub returns-in_err-catalogue-clause-told : goal.returns-in_err-catalogue-clause-told
@@ -38,7 +39,7 @@ pub returns-clause-ended : goal.returns-clause-ended
 returns-clause-ended g c =
     let first = c.in_ok-catalogue.ensures in
     let second = c.in_ok-work.ensures in
-    two_ended _ _ _ _ _ _ _ _ first.ended.0 second.ended.0 first.ended.1 first.others second.ended.1 second.others
+    two_ended _ _ _ _ _ _ _ _ c.args.catalogue.now _ first.ended.0 second.ended.0 first.files first.ended.1 first.others second.ended.1 second.others
 
 pub returns-in_err-catalogue-clause-surely : goal.returns-in_err-catalogue-clause-surely
 returns-in_err-catalogue-clause-surely g c = λ free fs sure told has.
@@ -68,3 +69,22 @@ returns-clause-surely g c = λ free fs sure told has.
     let k = c.in_ok-work.ensures.surely free fs first.1 (c.in_ok-catalogue.ensures.files ∙ told)
     (has.1 c.in_ok-catalogue.catalogue (c.in_ok-catalogue.ensures.told fs told) tt) in
     (tt, k.2 ∙ first.2)
+
+pub returns-in_err-catalogue-clause-at_fault : goal.returns-in_err-catalogue-clause-at_fault
+returns-in_err-catalogue-clause-at_fault g c =
+    let p = err_from_is_err_and c.from_residual.result c.from_residual.ensures.1 in
+    rw (p.1, p.2) (at_more c.in_err-catalogue.field-0.0 c.in_err-catalogue.ensures.at_fault
+    (λ h. one_ended _ _ _ _ _ h.0 h.1) (λ no. absurd no))
+
+pub returns-in_err-work-clause-at_fault : goal.returns-in_err-work-clause-at_fault
+returns-in_err-work-clause-at_fault g c =
+    let p = err_from_is_err_and c.from_residual-in_err-work.result c.from_residual-in_err-work.ensures.1 in
+    let first = c.in_ok-catalogue.ensures in
+    let second = c.in_err-work.ensures in
+    rw (p.1, p.2) (at_more c.in_err-work.field-0.0 second.at_fault (λ no. absurd no)
+    (λ h. two_ended _ _ _ _ _ _ _ _ c.args.catalogue.now _ first.ended.0 h.0 first.files first.ended.1 first.others h.1 second.others))
+
+pub returns-in_err-serial_text-clause-at_fault : goal.returns-in_err-serial_text-clause-at_fault
+returns-in_err-serial_text-clause-at_fault g c =
+    let p = err_from_is_err_and c.from_residual-in_err-serial_text.result c.from_residual-in_err-serial_text.ensures.1 in
+    rw (p.1, p.2) tt

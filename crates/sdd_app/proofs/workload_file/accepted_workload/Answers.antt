@@ -4,8 +4,10 @@ use Rattle.sdd_script.specs.Walk.{workload}
 use Rattle.sdd_app.specs.Answer.{BlamesWorkload, workload_named}
 use Rattle.sdd_app.specs.Verdict.{Explains}
 use Rattle.sdd_app.specs.declared.status.Status.TheVariants.{ReadFault}
-use Rattle.sdd_app.proofs.FileReads.{workload_gives, accepted_short, on_ok_by, if_err_more}
+use Rattle.sdd_app.proofs.FileReads.{workload_gives, accepted_short, on_ok_by, if_err_more, read_to_end, read_to_limit}
 use Rattle.sdd_app.proofs.Verdicts.{explains_more}
+use Rattle.sdd_base.specs.declared.limits.TheConstants.{MAX_WORKLOAD_BYTES}
+use Rattle.sdd_app.proofs.AtFault.{workload_at, err_by, silent_at}
 use Rattle.sdd_app.proofs.workload_file.accepted_workload.Goals as goal
 
 pub returns-in_err-bytes-clause-told : goal.returns-in_err-bytes-clause-told
@@ -31,7 +33,7 @@ returns-clause-ended g c =
     let bytes = c.as_slice.result.now in
     let cat = c.args.catalogue.now in
     on_ok_by c.judged.result (λ w. workload cat bytes ≡ Ok w) (λ s. Explains s (BlamesWorkload (Some (workload cat bytes)))) _ c.judged.ensures.told
-    (λ w ok. (e.0, record { fresh = e.1; opened = e.2; ended = e.3 (rw (← c.as_slice.ensures.value) (accepted_short cat bytes w ok)) }))
+    (λ w ok. (e.0, read_to_end _ _ _ _ _ c.args.name.now _ e.0 e.1 (rw (← c.as_slice.ensures.value) (accepted_short cat bytes w ok))))
 
 pub returns-clause-fault : goal.returns-clause-fault
 returns-clause-fault g c = if_err_more c.judged.result (λ s. s ≡ ReadFault → ⊥) _ c.judged.ensures.read (λ s no is. absurd (no is))
@@ -40,3 +42,17 @@ pub returns-clause-surely : goal.returns-clause-surely
 returns-clause-surely g c = λ free fs sure told some.
     let k = c.in_ok-bytes.ensures.surely free fs sure told some in
     (c.judged.ensures.read, k.1, k.2)
+
+pub returns-in_err-bytes-clause-at_fault : goal.returns-in_err-bytes-clause-at_fault
+returns-in_err-bytes-clause-at_fault g c =
+    let p = err_from_is_err_and c.from_residual.result c.from_residual.ensures.1 in
+    rw (p.1, p.2) (silent_at _ _ c.in_err-bytes.field-0.0 c.in_err-bytes.ensures.silent)
+
+pub returns-clause-at_fault : goal.returns-clause-at_fault
+returns-clause-at_fault g c =
+    let e = c.in_ok-bytes.ensures.ended in
+    let bytes = c.as_slice.result.now in
+    let cat = c.args.catalogue.now in
+    let read = read_to_limit _ MAX_WORKLOAD_BYTES _ _ _ c.args.name.now _ e.0 e.1 in
+    err_by c.judged.result (λ w. workload cat bytes ≡ Ok w) (λ s. Explains s (BlamesWorkload (Some (workload cat bytes)))) _ c.judged.ensures.told
+    (λ s told. workload_at _ (Some (workload cat bytes)) s (e.0, read) told)
