@@ -11,7 +11,7 @@ use Rattle.sdd_world.specs.declared.ends.WorldEnd.TheVariants as ends
 use Rattle.sdd_app.specs.Answer.{BlamesCatalogue, BlamesScript, BlamesWorkload}
 use Rattle.sdd_app.specs.Verdict.{AtFault, Explains, status_of_end}
 use Rattle.sdd_app.specs.declared.status.Status.{Status}
-use Rattle.sdd_app.specs.declared.status.Status.TheVariants.{Done, Usage, BadCatalogue, BadWorkload, ReadFault, WriteFault, NoMemory, Limit, Unbuilt}
+use Rattle.sdd_app.specs.declared.status.Status.TheVariants.{Done, Usage, BadCatalogue, BadWorkload, ReadFault, WriteFault, NoMemory, Limit}
 
 -- what follows from what is said of a fault
 pub at_more : {A B C D : Type 0} (s : Status) → AtFault A B s → (A → C) → (B → D) → AtFault C D s
@@ -23,7 +23,6 @@ at_more ReadFault h f g = tt
 at_more WriteFault h f g = tt
 at_more NoMemory h f g = tt
 at_more Limit h f g = tt
-at_more Unbuilt h f g = tt
 
 -- a status that tells of no fault
 pub silent_at : (A B : Type 0) (s : Status) → Explains s (λ _. ⊥) → AtFault A B s
@@ -35,7 +34,6 @@ silent_at A B ReadFault e = tt
 silent_at A B WriteFault e = tt
 silent_at A B NoMemory e = tt
 silent_at A B Limit e = tt
-silent_at A B Unbuilt e = tt
 
 -- one that blames a catalogue
 pub catalogue_at : (A : Type 0) (reading : Option (Result Catalogue CatFault)) (s : Status) → A
@@ -48,7 +46,6 @@ catalogue_at A reading ReadFault a e = tt
 catalogue_at A reading WriteFault a e = tt
 catalogue_at A reading NoMemory a e = tt
 catalogue_at A reading Limit a e = tt
-catalogue_at A reading Unbuilt a e = tt
 
 -- a workload
 pub workload_at : (B : Type 0) (reading : Option (Result Workload WorkFault)) (s : Status) → B
@@ -61,7 +58,6 @@ workload_at B reading ReadFault b e = tt
 workload_at B reading WriteFault b e = tt
 workload_at B reading NoMemory b e = tt
 workload_at B reading Limit b e = tt
-workload_at B reading Unbuilt b e = tt
 
 -- a script
 pub script_at : (B : Type 0) (reading : Option (Result ControlScript WorkFault)) (s : Status) → B
@@ -74,7 +70,6 @@ script_at B reading ReadFault b e = tt
 script_at B reading WriteFault b e = tt
 script_at B reading NoMemory b e = tt
 script_at B reading Limit b e = tt
-script_at B reading Unbuilt b e = tt
 
 -- a status in place of a report
 pub end_at : (A B : Type 0) (end : WorldEnd) → AtFault A B (status_of_end end)

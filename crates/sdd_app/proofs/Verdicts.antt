@@ -1,13 +1,12 @@
 -- What a call comes to, from what was read of its files; that it comes to one status.
 use Rattle.std.proofs.Common.{◌≡◌, ℕ, List, [], ◌∷◌, Bool, true, false, Option, Some, None, Result, Ok, Err, refl, ap, sym, ◌∙◌, subst, ◌⊎◌, inl, inr}
-use Rattle.std.specs.Prelude.{IsSome, MatchBool, MatchOption, MatchResult, OnOk}
+use Rattle.std.specs.Prelude.{IsSome, MatchOption, MatchResult, OnOk}
 use Rattle.std.specs.Option.{option_map}
 use Rattle.sdd_base.specs.declared.files.ShelfFile.{ShelfFile}
 use Rattle.sdd_base.specs.Outside.{KeepsOpen, Opened, find_file}
 use Rattle.sdd_catalog.specs.Catalogue.{Catalogue}
 use Rattle.sdd_catalog.specs.declared.fault.CatFault.{CatFault}
 use Rattle.sdd_catread.specs.Reading.{catalogue_in}
-use Rattle.sdd_script.specs.Redeclaring.{has_lists}
 use Rattle.sdd_script.specs.Walk.{workload}
 use Rattle.sdd_script.specs.declared.fault.WorkFault.{WorkFault}
 use Rattle.sdd_script.specs.declared.workload.Workload.{Workload}
@@ -20,16 +19,16 @@ use Rattle.sdd_run.proofs.Apart.{report_or_limit, summary_or_limit}
 use Rattle.sdd_control.specs.Report.{report}
 use Rattle.sdd_control.specs.Walk.{control_script}
 use Rattle.sdd_control.specs.declared.script.ControlScript.{ControlScript}
-use Rattle.sdd_app.specs.Answer.{script_named, control_verdict, ComesToControl, BlamesScript, catalogue_named, workload_named, OverCatalogue, ComesToListing, plain_verdict, ComesToPlain, ComesToReport, ComesToRun, ComesToSummary, ComesToJudgement, ComesToVerdict, ComesToVerify, TellsOfRun, judged_as, FormComesTo, ComesTo, FilesOf, FilesAreThere, BlamesCatalogue, BlamesWorkload}
+use Rattle.sdd_app.specs.Answer.{script_named, control_verdict, ComesToControl, BlamesScript, catalogue_named, workload_named, OverCatalogue, ComesToListing, plain_verdict, ComesToPlain, ComesToReport, ComesToRun, ComesToSummary, ComesToVerdict, ComesToVerify, TellsOfRun, judged_as, FormComesTo, ComesTo, FilesOf, FilesAreThere, BlamesCatalogue, BlamesWorkload}
 use Rattle.sdd_app.specs.Command.{Form, Check, Graph, Table, Run, Plain, Control, Make, Verify, Advise, form_of, form_in}
 use Rattle.sdd_app.specs.declared.command.Command.{Command}
 use Rattle.sdd_app.specs.Endings.{Ending, FilesRead, FormHasRoom, FormIsOver, IsRead, ToItsEnd, ToItsLimit}
 use Rattle.sdd_app.specs.Serially.{serial_text}
-use Rattle.sdd_app.specs.Verdict.{Verdict, NoForm, Prints, FaultyCatalogue, FaultyWorkload, PastLimit, NotBuilt, status_of, status_of_end, IsRefusal, Explains, Answers}
+use Rattle.sdd_app.specs.Verdict.{Verdict, NoForm, Prints, FaultyCatalogue, FaultyWorkload, PastLimit, status_of, status_of_end, IsRefusal, Explains, Answers}
 use Rattle.sdd_app.specs.declared.listing.Listing.{Listing}
 use Rattle.sdd_app.specs.declared.listing.Listing.TheVariants as listings
 use Rattle.sdd_app.specs.declared.status.Status.{Status}
-use Rattle.sdd_app.specs.declared.status.Status.TheVariants.{Done, Usage, BadCatalogue, BadWorkload, ReadFault, WriteFault, NoMemory, Limit, Unbuilt}
+use Rattle.sdd_app.specs.declared.status.Status.TheVariants.{Done, Usage, BadCatalogue, BadWorkload, ReadFault, WriteFault, NoMemory, Limit}
 
 -- a status tells what follows from what it tells
 pub explains_more : (s : Status) (P Q : Verdict → Type 0) → ((v : Verdict) → P v → Q v) → Explains s P → Explains s Q
@@ -41,7 +40,6 @@ explains_more ReadFault P Q more e = tt
 explains_more WriteFault P Q more e = e
 explains_more NoMemory P Q more e = tt
 explains_more Limit P Q more e = more PastLimit e
-explains_more Unbuilt P Q more e = more NotBuilt e
 
 -- what is read of the catalogue's file is what the command comes to
 
@@ -54,7 +52,6 @@ blamed_at reading G NoForm e = absurd e
 blamed_at reading G (Prints text) e = absurd e
 blamed_at reading G (FaultyWorkload f) e = absurd e
 blamed_at reading G PastLimit e = absurd e
-blamed_at reading G NotBuilt e = absurd e
 
 pub blamed : (fs : List ShelfFile) (name : List ℕ) (G : Catalogue → Verdict → Type 0) (v : Verdict)
     → BlamesCatalogue (catalogue_named fs name) v → OverCatalogue fs name G v
@@ -76,7 +73,6 @@ blamed_plain fs work cat NoForm e = absurd e
 blamed_plain fs work cat (Prints text) e = absurd e
 blamed_plain fs work cat (FaultyCatalogue f) e = absurd e
 blamed_plain fs work cat PastLimit e = absurd e
-blamed_plain fs work cat NotBuilt e = absurd e
 
 abbrev OverWork : Option (Result Workload WorkFault) → (Workload → Verdict → Type 0) → Verdict → Type 0
 OverWork reading GoesOn verdict = MatchOption reading ⊥ (λ r. MatchResult r (λ work. GoesOn work verdict) (λ fault. verdict ≡ FaultyWorkload fault))
@@ -87,7 +83,6 @@ blamed_work reading G NoForm e = absurd e
 blamed_work reading G (Prints text) e = absurd e
 blamed_work reading G (FaultyCatalogue f) e = absurd e
 blamed_work reading G PastLimit e = absurd e
-blamed_work reading G NotBuilt e = absurd e
 
 pub blamed_run : (fs : List ShelfFile) (work : List ℕ) (cat : Catalogue) (v : Verdict)
     → BlamesWorkload (workload_named fs cat work) v → ComesToRun fs work cat v
@@ -95,7 +90,7 @@ blamed_run fs work cat v e = blamed_work (workload_named fs cat work) (ComesToRe
 
 pub blamed_verify : (fs : List ShelfFile) (work report : List ℕ) (cat : Catalogue) (v : Verdict) → BlamesWorkload (workload_named fs cat work) v
     → ComesToVerify fs work report cat v
-blamed_verify fs work report cat v e = blamed_work (workload_named fs cat work) (ComesToJudgement fs report cat) v e
+blamed_verify fs work report cat v e = blamed_work (workload_named fs cat work) (ComesToVerdict fs report cat) v e
 
 -- over a workload that was read
 pub replies_plain : (fs : List ShelfFile) (work : List ℕ) (cat : Catalogue) (w : Workload) (text : List ℕ)
@@ -109,8 +104,8 @@ pub reports_run : (fs : List ShelfFile) (work : List ℕ) (cat : Catalogue) (w :
 reports_run fs work cat w v e p = subst (λ r. OverWork r (ComesToReport cat) v) (sym e) p
 
 pub judges_report : (fs : List ShelfFile) (work report : List ℕ) (cat : Catalogue) (w : Workload) (v : Verdict) → workload_named fs cat work ≡ Some (Ok w)
-    → ComesToJudgement fs report cat w v → ComesToVerify fs work report cat v
-judges_report fs work report cat w v e p = subst (λ r. OverWork r (ComesToJudgement fs report cat) v) (sym e) p
+    → ComesToVerdict fs report cat w v → ComesToVerify fs work report cat v
+judges_report fs work report cat w v e p = subst (λ r. OverWork r (ComesToVerdict fs report cat) v) (sym e) p
 
 -- a faulty script is what `control` comes to, and so is what a sound one gives
 pub blamed_control : (fs : List ShelfFile) (name : List ℕ) (v : Verdict) → BlamesScript (script_named fs name) v → ComesToControl fs name v
@@ -119,7 +114,6 @@ blamed_control fs name NoForm e = absurd e
 blamed_control fs name (Prints text) e = absurd e
 blamed_control fs name (FaultyCatalogue f) e = absurd e
 blamed_control fs name PastLimit e = absurd e
-blamed_control fs name NotBuilt e = absurd e
 
 pub reports_control : (fs : List ShelfFile) (name : List ℕ) (script : ControlScript) (text : List ℕ)
     → script_named fs name ≡ Some (Ok script) → text ≡ report script
@@ -166,12 +160,10 @@ one_listing listing cat (Prints a) NoForm p q = absurd q
 one_listing listing cat (Prints a) (FaultyCatalogue f) p q = absurd q
 one_listing listing cat (Prints a) (FaultyWorkload f) p q = absurd q
 one_listing listing cat (Prints a) PastLimit p q = absurd q
-one_listing listing cat (Prints a) NotBuilt p q = absurd q
 one_listing listing cat NoForm w p q = absurd p
 one_listing listing cat (FaultyCatalogue f) w p q = absurd p
 one_listing listing cat (FaultyWorkload f) w p q = absurd p
 one_listing listing cat PastLimit w p q = absurd p
-one_listing listing cat NotBuilt w p q = absurd p
 
 one_plain : (fs : List ShelfFile) (work : List ℕ) (cat : Catalogue) (v w : Verdict)
     → ComesToPlain fs work cat v → ComesToPlain fs work cat w → status_of v ≡ status_of w
@@ -185,38 +177,17 @@ one_of_run S cat work apart (Prints a) PastLimit p q = absurd (apart a p q)
 one_of_run S cat work apart (Prints a) NoForm p q = absurd q
 one_of_run S cat work apart (Prints a) (FaultyCatalogue f) p q = absurd q
 one_of_run S cat work apart (Prints a) (FaultyWorkload f) p q = absurd q
-one_of_run S cat work apart (Prints a) NotBuilt p q = absurd q
 one_of_run S cat work apart PastLimit (Prints b) p q = absurd (apart b q p)
 one_of_run S cat work apart PastLimit PastLimit p q = refl
 one_of_run S cat work apart PastLimit NoForm p q = absurd q
 one_of_run S cat work apart PastLimit (FaultyCatalogue f) p q = absurd q
 one_of_run S cat work apart PastLimit (FaultyWorkload f) p q = absurd q
-one_of_run S cat work apart PastLimit NotBuilt p q = absurd q
 one_of_run S cat work apart NoForm w p q = absurd p
 one_of_run S cat work apart (FaultyCatalogue f) w p q = absurd p
 one_of_run S cat work apart (FaultyWorkload f) w p q = absurd p
-one_of_run S cat work apart NotBuilt w p q = absurd p
-
--- a workload with lists of classes, or without
-
-abbrev Unless : Bool → Catalogue → Workload → Verdict → Type 0
-Unless lists cat work verdict = MatchBool lists (verdict ≡ NotBuilt) (TellsOfRun (IsReportOn cat work) cat work verdict)
-
-one_unless : (lists : Bool) (cat : Catalogue) (work : Workload) (v w : Verdict) → Unless lists cat work v → Unless lists cat work w → status_of v ≡ status_of w
-one_unless true cat work v w p q = ap status_of (p ∙ sym q)
-one_unless false cat work v w p q = one_of_run (IsReportOn cat work) cat work (report_or_limit cat work) v w p q
 
 one_report : (cat : Catalogue) (work : Workload) (v w : Verdict) → ComesToReport cat work v → ComesToReport cat work w → status_of v ≡ status_of w
-one_report cat work v w p q = one_unless (has_lists work) cat work v w p q
-
-pub is_not_built : (cat : Catalogue) (work : Workload) → has_lists work ≡ true → ComesToReport cat work NotBuilt
-is_not_built cat work lists = subst (λ b. Unless b cat work NotBuilt) (sym lists) refl
-
-pub answers_if_built : {T : Type 0} (r : Result T Status) (text : T → List ℕ) (cat : Catalogue) (work : Workload) → has_lists work ≡ false
-    → Answers r text (TellsOfRun (IsReportOn cat work) cat work) → Answers r text (ComesToReport cat work)
-answers_if_built (Ok x) text cat work none p = subst (λ b. Unless b cat work (Prints (text x))) (sym none) p
-answers_if_built (Err s) text cat work none p =
-    explains_more s (TellsOfRun (IsReportOn cat work) cat work) (ComesToReport cat work) (λ v q. subst (λ b. Unless b cat work v) (sym none) q) p
+one_report cat work v w p q = one_of_run (IsReportOn cat work) cat work (report_or_limit cat work) v w p q
 
 one_summary : (cat : Catalogue) (work : Workload) (v w : Verdict) → ComesToSummary cat work v → ComesToSummary cat work w → status_of v ≡ status_of w
 one_summary cat work v w p q = one_of_run (IsSummaryOn cat work) cat work (summary_or_limit cat work) v w p q
@@ -232,34 +203,12 @@ one_run : (fs : List ShelfFile) (work : List ℕ) (cat : Catalogue) (v w : Verdi
     → ComesToRun fs work cat w → status_of v ≡ status_of w
 one_run fs work cat v w p q = one_over_work (workload_named fs cat work) (ComesToReport cat) v w (λ k a b. one_report cat k v w a b) p q
 
--- the report on a workload with lists of classes, or without
-
-abbrev JudgedUnless : Bool → List ShelfFile → List ℕ → Catalogue → Workload → Verdict → Type 0
-JudgedUnless lists fs report cat work verdict = MatchBool lists (verdict ≡ NotBuilt) (ComesToVerdict fs report cat work verdict)
-
-one_judgement : (lists : Bool) (fs : List ShelfFile) (report : List ℕ) (cat : Catalogue) (work : Workload)
-    (v w : Verdict) → JudgedUnless lists fs report cat work v
-    → JudgedUnless lists fs report cat work w → status_of v ≡ status_of w
-one_judgement true fs report cat work v w p q = ap status_of (p ∙ sym q)
-one_judgement false fs report cat work v w p q = ap status_of (one_verdict (option_map (judged_as cat work) (find_file fs report)) v w p q)
-
-pub is_not_judged : (fs : List ShelfFile) (report : List ℕ) (cat : Catalogue) (work : Workload)
-    → has_lists work ≡ true → ComesToJudgement fs report cat work NotBuilt
-is_not_judged fs report cat work lists = subst (λ b. JudgedUnless b fs report cat work NotBuilt) (sym lists) refl
-
-pub judged_if_built : {T : Type 0} (r : Result T Status) (text : T → List ℕ) (fs : List ShelfFile)
-    (report : List ℕ) (cat : Catalogue) (work : Workload) → has_lists work ≡ false
-    → Answers r text (ComesToVerdict fs report cat work) → Answers r text (ComesToJudgement fs report cat work)
-judged_if_built (Ok x) text fs report cat work none p = subst (λ b. JudgedUnless b fs report cat work (Prints (text x))) (sym none) p
-judged_if_built (Err s) text fs report cat work none p =
-    explains_more s (ComesToVerdict fs report cat work) (ComesToJudgement fs report cat work)
-    (λ v q. subst (λ b. JudgedUnless b fs report cat work v) (sym none) q) p
-
 one_judged : (fs : List ShelfFile) (work report : List ℕ) (cat : Catalogue) (v w : Verdict)
     → ComesToVerify fs work report cat v → ComesToVerify fs work report cat w
     → status_of v ≡ status_of w
 one_judged fs work report cat v w p q =
-    one_over_work (workload_named fs cat work) (ComesToJudgement fs report cat) v w (λ k a b. one_judgement (has_lists k) fs report cat k v w a b) p q
+    one_over_work (workload_named fs cat work) (ComesToVerdict fs report cat) v w
+    (λ k a b. ap status_of (one_verdict (option_map (judged_as cat k) (find_file fs report)) v w a b)) p q
 
 one_over : (reading : Option (Result Catalogue CatFault)) (G : Catalogue → Verdict → Type 0) (v w : Verdict)
     → ((cat : Catalogue) → G cat v → G cat w → status_of v ≡ status_of w)
@@ -303,7 +252,6 @@ by_status ReadFault P v one e read = absurd (read refl)
 by_status WriteFault P v one e read = absurd e
 by_status NoMemory P v one e read = inr refl
 by_status Limit P v one e read = inl (one PastLimit e)
-by_status Unbuilt P v one e read = inl (one NotBuilt e)
 
 pub told_status : (s : Status) (fs : List ShelfFile) (ws : List (List ℕ)) (v : Verdict) → ComesTo fs ws v
     → Explains s (ComesTo fs ws) → (s ≡ ReadFault → ⊥) → (s ≡ status_of v) ⊎ (s ≡ NoMemory)
@@ -315,7 +263,6 @@ done_refuses (Prints text) r e = r
 done_refuses (FaultyCatalogue f) r e = absurd cc
 done_refuses (FaultyWorkload f) r e = absurd cc
 done_refuses PastLimit r e = absurd cc
-done_refuses NotBuilt r e = absurd cc
 
 -- a call that prints isn't refused
 pub prints_or_refuses : (fs : List ShelfFile) (ws : List (List ℕ)) (text : List ℕ) (v : Verdict)
@@ -350,7 +297,7 @@ over_work_at reading G work v over e = subst (λ r. OverWork r G v) e over
 
 verify_there : (fs : List ShelfFile) (work report : List ℕ) (cat : Catalogue) (v : Verdict) → ComesToVerify fs work report cat v → IsSome (find_file fs work)
 verify_there fs work report cat v p =
-    file_there (workload cat) (λ r. MatchResult r (λ w. ComesToJudgement fs report cat w v) (λ fault. v ≡ FaultyWorkload fault)) (find_file fs work) p
+    file_there (workload cat) (λ r. MatchResult r (λ w. ComesToVerdict fs report cat w v) (λ fault. v ≡ FaultyWorkload fault)) (find_file fs work) p
 
 -- a status in place of a report
 pub explains_end : (end : WorldEnd) (P : Verdict → Type 0) → (end ≡ ends.Limit → P PastLimit) → Explains (status_of_end end) P
@@ -376,11 +323,10 @@ form_there fs (Verify cat work report) v p = (
     over_there fs cat (ComesToVerify fs work report) v p,
     λ says e first. verify_there fs work report says v (over_at (catalogue_named fs cat) (ComesToVerify fs work report) says v p e),
   ),
-  λ says asks e f none.
+  λ says asks e f.
       some_there (judged_as says asks) v (find_file fs report)
-      (subst (λ b. JudgedUnless b fs report says asks v) none
-      (over_work_at (workload_named fs says work) (ComesToJudgement fs report says) asks v
-      (over_at (catalogue_named fs cat) (ComesToVerify fs work report) says v p e) f)),
+      (over_work_at (workload_named fs says work) (ComesToVerdict fs report says) asks v
+      (over_at (catalogue_named fs cat) (ComesToVerify fs work report) says v p e) f),
 )
 form_there fs (Advise cat) v p = over_there fs cat (ComesToListing listings.Advice) v p
 

@@ -1,5 +1,5 @@
 -- What a call comes to, by its words and the files that they name.
-use Rattle.std.specs.Prelude.{◌≡◌, ℕ, false, List, Option, Some, Result, Ok, Err, IsSome, MatchBool, MatchOption, MatchResult}
+use Rattle.std.specs.Prelude.{◌≡◌, ℕ, List, Option, Some, Result, Ok, Err, IsSome, MatchOption, MatchResult}
 use Rattle.std.specs.Option.{option_map}
 use Rattle.sdd_base.specs.declared.files.ShelfFile.{ShelfFile}
 use Rattle.sdd_base.specs.Outside.{find_file}
@@ -9,7 +9,6 @@ use Rattle.sdd_catread.specs.Reading.{catalogue_in}
 use Rattle.sdd_control.specs.Report.{report}
 use Rattle.sdd_control.specs.Walk.{control_script}
 use Rattle.sdd_control.specs.declared.script.ControlScript.{ControlScript}
-use Rattle.sdd_script.specs.Redeclaring.{has_lists}
 use Rattle.sdd_script.specs.Walk.{workload}
 use Rattle.sdd_script.specs.declared.fault.WorkFault.{WorkFault}
 use Rattle.sdd_script.specs.declared.workload.Workload.{Workload}
@@ -23,7 +22,7 @@ use Rattle.sdd_app.specs.Command.{Form, Check, Graph, Table, Run, Plain, Control
 use Rattle.sdd_app.specs.Judging.{verdict_line}
 use Rattle.sdd_app.specs.Listing.{Tells}
 use Rattle.sdd_app.specs.Serially.{serial_text}
-use Rattle.sdd_app.specs.Verdict.{Verdict, NoForm, Prints, FaultyCatalogue, FaultyWorkload, PastLimit, NotBuilt}
+use Rattle.sdd_app.specs.Verdict.{Verdict, NoForm, Prints, FaultyCatalogue, FaultyWorkload, PastLimit}
 
 -- the catalogue that the file of this name gives, or its first fault
 abbrev pub catalogue_named : List ShelfFile → List ℕ → Option (Result Catalogue CatFault)
@@ -66,9 +65,9 @@ TellsOfRun IsSuch cat work (Prints text) = IsSuch text
 TellsOfRun IsSuch cat work PastLimit = EndsAtLimit cat work
 TellsOfRun IsSuch cat work verdict = ⊥
 
--- the run of a workload is reported; that of one with lists of classes isn't built
+-- the run of a workload is reported
 abbrev pub ComesToReport : Catalogue → Workload → Verdict → Type 0
-ComesToReport cat work verdict = MatchBool (has_lists work) (verdict ≡ NotBuilt) (TellsOfRun (IsReportOn cat work) cat work verdict)
+ComesToReport cat work verdict = TellsOfRun (IsReportOn cat work) cat work verdict
 
 -- or it is summed up
 abbrev pub ComesToSummary : Catalogue → Workload → Verdict → Type 0
@@ -84,12 +83,8 @@ judged_as cat work report = Prints (verdict_line (judging.verdict cat work repor
 abbrev pub ComesToVerdict : List ShelfFile → List ℕ → Catalogue → Workload → Verdict → Type 0
 ComesToVerdict files report cat work verdict = option_map (judged_as cat work) (find_file files report) ≡ Some verdict
 
--- where the workload has lists of classes, that isn't built
-abbrev pub ComesToJudgement : List ShelfFile → List ℕ → Catalogue → Workload → Verdict → Type 0
-ComesToJudgement files report cat work verdict = MatchBool (has_lists work) (verdict ≡ NotBuilt) (ComesToVerdict files report cat work verdict)
-
 abbrev pub ComesToVerify : List ShelfFile → List ℕ → List ℕ → Catalogue → Verdict → Type 0
-ComesToVerify files work report cat verdict = OverWorkload files cat work (ComesToJudgement files report cat) verdict
+ComesToVerify files work report cat verdict = OverWorkload files cat work (ComesToVerdict files report cat) verdict
 
 -- the script of transaction control that the file of this name gives, or its first fault
 abbrev pub script_named : List ShelfFile → List ℕ → Option (Result ControlScript WorkFault)
@@ -126,11 +121,11 @@ HasFiles files cat work GoesOn =
     IsSome (find_file files cat)
     × ((says : Catalogue) → catalogue_named files cat ≡ Some (Ok says) → GoesOn says → IsSome (find_file files work))
 
--- where it goes on over both and the workload has no lists of classes, that of a report
+-- where it goes on over both, that of a report
 abbrev pub HasReport : List ShelfFile → List ℕ → List ℕ → List ℕ → Type 0
 HasReport files cat work report =
     (says : Catalogue) (asks : Workload) → catalogue_named files cat ≡ Some (Ok says) → workload_named files says work ≡ Some (Ok asks)
-    → has_lists asks ≡ false → IsSome (find_file files report)
+    → IsSome (find_file files report)
 
 -- the files that a command of this form reads are there
 abbrev pub FilesOf : List ShelfFile → Form → Type 0

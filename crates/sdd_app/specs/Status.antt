@@ -14,7 +14,7 @@ use Rattle.sdd_script.specs.declared.fault.WorkFault.{WorkFault}
 use Rattle.sdd_script.specs.declared.fault.WorkRule.{WorkRule}
 use Rattle.sdd_script.specs.declared.fault.WorkRule.TheVariants as work_rules
 use Rattle.sdd_app.specs.declared.status.Status.{Status}
-use Rattle.sdd_app.specs.declared.status.Status.TheVariants.{Done, Usage, BadCatalogue, BadWorkload, ReadFault, WriteFault, NoMemory, Limit, Unbuilt}
+use Rattle.sdd_app.specs.declared.status.Status.TheVariants.{Done, Usage, BadCatalogue, BadWorkload, ReadFault, WriteFault, NoMemory, Limit}
 
 -- the place of a fault: the top, or a part with its number
 abbrev pub part_word : Part → List ℕ
@@ -110,7 +110,6 @@ line_of ReadFault = codes "read fault\n"
 line_of WriteFault = codes "write fault\n"
 line_of NoMemory = codes "no memory\n"
 line_of Limit = codes "limit\n"
-line_of Unbuilt = codes "unbuilt\n"
 
 -- the number that the process ends with
 abbrev pub number_of_status : Status → ℕ
@@ -122,7 +121,6 @@ number_of_status Limit = 5
 number_of_status ReadFault = 6
 number_of_status WriteFault = 7
 number_of_status NoMemory = 8
-number_of_status Unbuilt = 9
 
 -- worked: a gap before the second fragment, and too many classes
 pub gap_line : line_of (BadCatalogue (record {

@@ -23,8 +23,6 @@ pub data Verdict : Type 0 where
   FaultyWorkload : WorkFault → Verdict
   -- the limit of events, or of messages on a link, ends the run
   PastLimit : Verdict
-  -- the command isn't built
-  NotBuilt : Verdict
 
 -- the status by which a call tells what it comes to
 abbrev pub status_of : Verdict → Status
@@ -33,7 +31,6 @@ status_of (Prints text) = statuses.Done
 status_of (FaultyCatalogue fault) = statuses.BadCatalogue fault
 status_of (FaultyWorkload fault) = statuses.BadWorkload fault
 status_of PastLimit = statuses.Limit
-status_of NotBuilt = statuses.Unbuilt
 
 -- nothing is printed
 abbrev pub IsRefusal : Verdict → Type 0
@@ -47,7 +44,6 @@ Explains statuses.Usage P = P NoForm
 Explains (statuses.BadCatalogue fault) P = P (FaultyCatalogue fault)
 Explains (statuses.BadWorkload fault) P = P (FaultyWorkload fault)
 Explains statuses.Limit P = P PastLimit
-Explains statuses.Unbuilt P = P NotBuilt
 Explains statuses.ReadFault P = Unit {0}
 Explains statuses.NoMemory P = Unit {0}
 Explains statuses.Done P = ⊥

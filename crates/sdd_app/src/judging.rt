@@ -1,12 +1,11 @@
 //! The command that judges a report.
-ghost use Rattle.std.specs.Prelude.{◌≡◌, ◌≤◌, ◌++◌, ◌+◌, ◌∷◌, [], ℕ, List, false, IfOk, OnOk, IfErr, IsSome, Some};
+ghost use Rattle.std.specs.Prelude.{◌≡◌, ◌≤◌, ◌++◌, ◌+◌, ◌∷◌, [], ℕ, List, IfOk, OnOk, IfErr, IsSome, Some};
 ghost use Rattle.sdd_base.specs.declared.files.ShelfFile.{ShelfFile};
 ghost use Rattle.sdd_base.specs.declared.limits.TheConstants.{MAX_CATALOGUE_BYTES, MAX_WORKLOAD_BYTES};
 ghost use Rattle.sdd_base.specs.Outside.{KeepsOpen, Rose, find_file};
-ghost use Rattle.sdd_script.specs.Redeclaring.{has_lists};
 ghost use Rattle.sdd_script.specs.Valid.{IsValid};
 ghost use Rattle.sdd_verify.specs.Verdict.{verdict};
-ghost use Rattle.sdd_app.specs.Answer.{ComesToJudgement, ComesToVerdict, ComesToVerify, HasFiles, HasReport, OverCatalogue};
+ghost use Rattle.sdd_app.specs.Answer.{ComesToVerdict, ComesToVerify, HasFiles, HasReport, OverCatalogue};
 ghost use Rattle.sdd_app.specs.Endings.{FilesRead, IsRead, ToItsEnd, ToItsLimit};
 ghost use Rattle.sdd_app.specs.Judging.{verdict_line};
 ghost use Rattle.sdd_app.specs.Verdict.{Answers, AtFault, ComesOfFiles};
@@ -74,34 +73,6 @@ fn report_answer<S: Shelf>(
     Ok(judged(alloc, catalogue, work, bytes.as_slice())?)
 }
 
-/// What is told of the report in the file. Where the workload has lists of classes none is judged,
-/// since the class of a transaction would be that of the list in force at its submission.
-fn report_answer_if_built<S: Shelf>(
-    alloc: Global,
-    shelf: &mut S,
-    catalogue: &Catalogue,
-    work: &Workload,
-    report: &str,
-) -> Result<Vec<u8>, Status>
-    requires { IsValid catalogue.now work.now }
-    ensures told { (fs : List ShelfFile) → S.files shelf.old ≡ Some fs
-        → Answers result (λ v. v.items) (ComesToJudgement fs report.now catalogue.now work.now) }
-    ensures ended { OnOk result ((file : ℕ) × IsRead (S.files shelf.old) (S.is_open shelf.old) (S.is_open shelf.new) (S.opened shelf.new) (ToItsLimit MAX_REPORT_BYTES report.now) file) }
-    ensures others { OnOk result (KeepsOpen (λ _. Unit {0}) (S.is_open shelf.old) (S.is_open shelf.new) (S.opened shelf.old) (S.opened shelf.new)) }
-    ensures fault { IfErr result (λ s. s ≡ Status.ReadFault → Rose (S.faults shelf.old) (S.faults shelf.new)) }
-    ensures later { S.faults shelf.old ≤ S.faults shelf.new }
-    ensures no_fault { IfErr result (AtFault ⊥ ⊥) }
-    ensures errors { IfErr result ComesOfFiles }
-    ensures surely { (free : ℕ) (fs : List ShelfFile) → S.sure shelf.old (free + 1) → S.files shelf.old ≡ Some fs
-        → (has_lists work.now ≡ false → IsSome (find_file fs report.now))
-        → IfErr result (λ s. s ≡ Status.ReadFault → ⊥) × (S.faults shelf.new ≡ S.faults shelf.old) }
-{
-    if work.has_lists() {
-        return Err(Status::Unbuilt);
-    }
-    report_answer(alloc, shelf, catalogue, work, report)
-}
-
 /// What `verify` answers over the catalogue in the first file, the workload in the second and the
 /// report in the third.
 pub fn verify_answer<S: Shelf>(
@@ -128,6 +99,6 @@ pub fn verify_answer<S: Shelf>(
 {
     let catalogue = accepted_catalogue(alloc, shelf, catalogue)?;
     let work = accepted_workload(alloc, shelf, workload, &catalogue)?;
-    let text = report_answer_if_built(alloc, shelf, &catalogue, &work, report)?;
+    let text = report_answer(alloc, shelf, &catalogue, &work, report)?;
     Ok(text)
 }

@@ -1,9 +1,8 @@
 //! The command that runs made input.
-ghost use Rattle.std.specs.Prelude.{◌≡◌, ◌≤◌, false, IfErr};
+ghost use Rattle.std.specs.Prelude.{◌≡◌, ◌≤◌, IfErr};
 ghost use Rattle.sdd_base.specs.declared.limits.TheConstants.{MAX_TXNS};
 ghost use Rattle.sdd_make.specs.Bank.{bank};
 ghost use Rattle.sdd_make.specs.Turns.{workload_of};
-ghost use Rattle.sdd_script.specs.Redeclaring.{has_lists};
 ghost use Rattle.sdd_script.specs.Valid.{IsValid};
 ghost use Rattle.sdd_app.specs.Answer.{ComesToSummary};
 ghost use Rattle.sdd_app.specs.Verdict.{Answers, AtFault, ComesOfFiles};
@@ -17,8 +16,7 @@ use std::alloc::Global;
 
 /// The summary of the run of the workload.
 fn summed_up(alloc: Global, catalogue: &Catalogue, work: Workload) -> Result<Vec<u8>, Status>
-    requires valid { IsValid catalogue.now work }
-    requires no_lists { has_lists work ≡ false }
+    requires { IsValid catalogue.now work }
     ensures told { Answers result (λ v. v.items) (ComesToSummary catalogue.now work) }
     ensures errors { IfErr result ComesOfFiles }
     ensures no_fault { IfErr result (AtFault ⊥ ⊥) }

@@ -8,7 +8,7 @@ ghost use Rattle.sdd_app.specs.Command.{IsForm, IsNoForm, form_of};
 ghost use Rattle.sdd_app.specs.Endings.{AreEnded, FilesRead, FormHasRoom, FormIsOver, HasRoomFor, IsOver, IsWithoutFiles, OpensNoFile, endings_at_catalogue, endings_at_workload, endings_of};
 ghost use Rattle.sdd_app.specs.Status.{line_of};
 ghost use Rattle.sdd_app.specs.Taking.{TakesOrFaults};
-ghost use Rattle.sdd_app.specs.Verdict.{Verdict, Prints, FaultyCatalogue, FaultyWorkload, PastLimit, NotBuilt, Answers, AtFault, ComesOfFiles, IsRefusal, status_of};
+ghost use Rattle.sdd_app.specs.Verdict.{Verdict, Prints, FaultyCatalogue, FaultyWorkload, PastLimit, Answers, AtFault, ComesOfFiles, IsRefusal, status_of};
 
 use crate::command::{Command, parse_words};
 use crate::control_file::control_answer;
@@ -111,8 +111,6 @@ pub fn run_sdd1<S: Shelf, O: Sink, E: Sink>(
         → ComesTo fs (map string_bytes words.now) (FaultyWorkload f) }
     ensures limit { result ≡ Status.Limit → (fs : List ShelfFile)
         → IsOver (S.files shelf.old) fs (map string_bytes words.now) → ComesTo fs (map string_bytes words.now) PastLimit }
-    ensures unbuilt { result ≡ Status.Unbuilt → (fs : List ShelfFile)
-        → IsOver (S.files shelf.old) fs (map string_bytes words.now) → ComesTo fs (map string_bytes words.now) NotBuilt }
 
     // How far the files were read where one of them is at fault: those before it to their end, and it to its end, or
     // exactly one byte past the most that such a file may have.

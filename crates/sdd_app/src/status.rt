@@ -24,8 +24,6 @@ pub enum Status {
     NoMemory,
     /// There is no number left for the next event of the run, or for the next message of a link.
     Limit,
-    /// The words, or the files that they name, have a form that isn't built yet.
-    Unbuilt,
 }
 
 impl Status {
@@ -42,7 +40,6 @@ impl Status {
             Status::WriteFault => 7,
             Status::NoMemory => 8,
             Status::Limit => 5,
-            Status::Unbuilt => 9,
         }
     }
 }

@@ -187,6 +187,5 @@ pub fn tell<E: Sink>(err: &mut E, status: Status)
         Status::WriteFault => tell_pieces(err, &[b"write fault\n"]),
         Status::NoMemory => tell_pieces(err, &[b"no memory\n"]),
         Status::Limit => tell_pieces(err, &[b"limit\n"]),
-        Status::Unbuilt => tell_pieces(err, &[b"unbuilt\n"]),
     }
 }

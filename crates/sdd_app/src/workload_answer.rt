@@ -1,12 +1,10 @@
 //! The commands that run a workload.
-ghost use Rattle.std.specs.Prelude.{◌≡◌, ◌+◌, ◌∷◌, [], ℕ, List, false, OnOk, IfErr, Some};
+ghost use Rattle.std.specs.Prelude.{◌≡◌, ◌+◌, ◌∷◌, [], ℕ, List, OnOk, IfErr, Some};
 ghost use Rattle.sdd_base.specs.declared.files.ShelfFile.{ShelfFile};
 ghost use Rattle.sdd_base.specs.declared.limits.TheConstants.{MAX_CATALOGUE_BYTES, MAX_WORKLOAD_BYTES};
 ghost use Rattle.sdd_base.specs.Outside.{Rose};
-ghost use Rattle.sdd_script.specs.Redeclaring.{has_lists};
 ghost use Rattle.sdd_script.specs.Valid.{IsValid};
-ghost use Rattle.sdd_run.specs.Runs.{IsReportOn};
-ghost use Rattle.sdd_app.specs.Answer.{ComesToPlain, ComesToReport, ComesToRun, HasFiles, OverCatalogue, TellsOfRun};
+ghost use Rattle.sdd_app.specs.Answer.{ComesToPlain, ComesToReport, ComesToRun, HasFiles, OverCatalogue};
 ghost use Rattle.sdd_app.specs.Endings.{FilesRead, ToItsEnd, ToItsLimit};
 ghost use Rattle.sdd_app.specs.Verdict.{Answers, AtFault, ComesOfFiles};
 
@@ -20,34 +18,15 @@ use sdd_run::run_report;
 use sdd_script::Workload;
 use std::alloc::Global;
 
-/// The report on the run of the workload, which has no lists of classes.
+/// The report on the run of the workload.
 fn reported(alloc: Global, catalogue: &Catalogue, work: Workload) -> Result<Vec<u8>, Status>
-    requires valid { IsValid catalogue.now work }
-    requires no_lists { has_lists work ≡ false }
-    ensures told { Answers result (λ v. v.items) (TellsOfRun (IsReportOn catalogue.now work) catalogue.now work) }
-    ensures errors { IfErr result ComesOfFiles }
-    ensures no_fault { IfErr result (AtFault ⊥ ⊥) }
-    ensures read { IfErr result (λ s. s ≡ Status.ReadFault → ⊥) }
-{
-    Ok(run_report(alloc, catalogue, work)?)
-}
-
-/// The report on the run of the workload. Lists of classes aren't put in force yet.
-fn reported_if_built(
-    alloc: Global,
-    catalogue: &Catalogue,
-    work: Workload,
-) -> Result<Vec<u8>, Status>
     requires { IsValid catalogue.now work }
     ensures told { Answers result (λ v. v.items) (ComesToReport catalogue.now work) }
     ensures errors { IfErr result ComesOfFiles }
     ensures no_fault { IfErr result (AtFault ⊥ ⊥) }
     ensures read { IfErr result (λ s. s ≡ Status.ReadFault → ⊥) }
 {
-    if work.has_lists() {
-        return Err(Status::Unbuilt);
-    }
-    reported(alloc, catalogue, work)
+    Ok(run_report(alloc, catalogue, work)?)
 }
 
 /// What `plain` answers over the catalogue in the first file and the workload in the second.
@@ -101,6 +80,6 @@ pub fn run_answer<S: Shelf>(
 {
     let catalogue = accepted_catalogue(alloc, shelf, catalogue)?;
     let work = accepted_workload(alloc, shelf, workload, &catalogue)?;
-    let text = reported_if_built(alloc, &catalogue, work)?;
+    let text = reported(alloc, &catalogue, work)?;
     Ok(text)
 }

@@ -1,7 +1,7 @@
 use Rattle.std.proofs.Common.{◌+◌, ◌∙◌}
 use Rattle.std.proofs.lemmas.Result.{err_from_is_err_and}
 use Rattle.sdd_verify.specs.declared.limits.TheConstants.{MAX_REPORT_BYTES}
-use Rattle.sdd_app.specs.Answer.{BlamesCatalogue, BlamesWorkload, ComesToJudgement, ComesToVerify, OverCatalogue, catalogue_named, workload_named}
+use Rattle.sdd_app.specs.Answer.{BlamesCatalogue, BlamesWorkload, ComesToVerdict, ComesToVerify, OverCatalogue, catalogue_named, workload_named}
 use Rattle.sdd_app.specs.Verdict.{Prints}
 use Rattle.sdd_app.proofs.Verdicts.{explains_more, blamed, goes_on, blamed_verify, judges_report, three_ended, one_ended, two_ended}
 use Rattle.sdd_app.proofs.AtFault.{at_more}
@@ -38,7 +38,7 @@ returns-in_err-text-clause-told g c = λ fs told.
     let cat = c.in_ok-catalogue.catalogue in
     let over = ComesToVerify fs work report in
     let second = c.in_ok-catalogue.ensures.files ∙ told in
-    rw (p.1, p.2) (explains_more c.in_err-text.field-0.0 (ComesToJudgement fs report cat c.in_ok-work.work) (OverCatalogue fs name over)
+    rw (p.1, p.2) (explains_more c.in_err-text.field-0.0 (ComesToVerdict fs report cat c.in_ok-work.work) (OverCatalogue fs name over)
     (λ v is. goes_on fs name over cat v (c.in_ok-catalogue.ensures.told fs told)
     (judges_report fs work report cat c.in_ok-work.work v (c.in_ok-work.ensures.told fs second) is))
     (c.in_err-text.ensures.told fs (c.in_ok-work.ensures.files ∙ second)))

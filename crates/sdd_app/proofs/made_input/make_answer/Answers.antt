@@ -1,17 +1,13 @@
-use Rattle.std.proofs.Common.{◌≡◌, false, refl, sym, subst}
+use Rattle.std.proofs.Common.{◌≡◌, sym, subst}
 use Rattle.sdd_make.specs.Bank.{bank}
 use Rattle.sdd_make.specs.Turns.{workload_of}
-use Rattle.sdd_script.specs.Redeclaring.{has_lists}
 use Rattle.sdd_script.specs.Valid.{IsValid}
 use Rattle.sdd_app.specs.Answer.{ComesToSummary}
 use Rattle.sdd_app.specs.Verdict.{Answers}
 use Rattle.sdd_app.proofs.made_input.make_answer.Goals as goal
 
-pub summed_up-requires-clause-no_lists : goal.summed_up-requires-clause-no_lists
-summed_up-requires-clause-no_lists c = subst (λ work. has_lists work ≡ false) (sym c.in_ok-work.ensures) refl
-
-pub summed_up-requires-clause-valid : goal.summed_up-requires-clause-valid
-summed_up-requires-clause-valid c =
+pub summed_up-requires : goal.summed_up-requires
+summed_up-requires c =
     subst (λ cat. IsValid cat c.in_ok-work.work) (sym c.in_ok-catalogue.ensures)
     (subst (IsValid bank) (sym c.in_ok-work.ensures) c.law_workload_allowed.ensures)
 

@@ -14,9 +14,6 @@ returns-clause-bad_workload g c = λ f is fs told. subst (λ s. Explains s (Come
 pub returns-clause-limit : goal.returns-clause-limit
 returns-clause-limit g c = λ is fs told. subst (λ s. Explains s (ComesTo fs (map string_bytes c.args.words.now))) is (c.in-Err.ensures.told fs told)
 
-pub returns-clause-unbuilt : goal.returns-clause-unbuilt
-returns-clause-unbuilt g c = λ is fs told. subst (λ s. Explains s (ComesTo fs (map string_bytes c.args.words.now))) is (c.in-Err.ensures.told fs told)
-
 pub returns-clause-complete : goal.returns-clause-complete
 returns-clause-complete g c = λ fs text told comes shelf out.
     let e = c.in-Err.ensures in
