@@ -18,6 +18,7 @@ use Rattle.sdd_graph.specs.Graph.{conflict_graph, ends}
 use Rattle.sdd_protocol.specs.declared.protocol.Protocol.TheVariants.{P1, P2, P3}
 use Rattle.sdd_advise.specs.Advices.{ShowsP1, ShowsP2, ShowsP3, ShowsFor, EndsWith, AreAdvices, advice_of, is_diagonal}
 use Rattle.sdd_advise.specs.Cycles.{GoesAlong, IsCycleFrom}
+use Rattle.sdd_advise.specs.Pairs.{IsClosed, LieApart}
 use Rattle.sdd_advise.specs.Reach.{Joins, AreReached, IsOther, IsAway}
 use Rattle.sdd_advise.specs.Readers.{IsReadOf}
 use Rattle.sdd_advise.specs.Searches.{place_of, placed_nodes}
@@ -32,7 +33,7 @@ none_has : {o : Option ℕ} → o ≡ None → is_some o ≡ true → ⊥
 none_has {o} e t = false≢true (ap is_some (sym e) ∙ t)
 
 -- what has no place isn't among those that have
-apart_from : (places : List (Option ℕ)) (node : ℕ) → place_of places node ≡ None
+pub apart_from : (places : List (Option ℕ)) (node : ℕ) → place_of places node ≡ None
     → ¬ Contains (placed_nodes places) node
 apart_from places node none m =
     none_has none (contained_passes (λ a. is_some (place_of places a)) (length places) node m)
@@ -112,16 +113,16 @@ module _ (edges : List Edge) (edge : Edge) (there : Contains edges edge) (apart 
       }
 
   -- P2: the reader's own write node wasn't reached
-  pub shown_beside : (own : ℕ) (way : List Edge) (places : List (Option ℕ))
+  pub shown_beside : (own : ℕ) (way : List Edge) (nodes : List ℕ)
       → IsWay edges (IsOther edge) (ends edge).1 (ends edge).0 way
-      → AreReached edges (IsAway (ends edge).0) (ends edge).1 (placed_nodes places) → place_of places own ≡ None
-      → ShowsP2 edges edge (ends edge).0 (ends edge).1 own (advice_of edge P2 (edge ∷ way) (placed_nodes places))
-  shown_beside own way places w r none =
+      → AreReached edges (IsAway (ends edge).0) (ends edge).1 nodes → ¬ Contains nodes own
+      → ShowsP2 edges edge (ends edge).0 (ends edge).1 own (advice_of edge P2 (edge ∷ way) nodes)
+  shown_beside own way nodes w r apart_so =
       record {
         begins = refl;
         cycle = closed_by w.steps way w.along w.walk w.differ;
         reached = r;
-        own_apart = apart_from places own none;
+        own_apart = apart_so;
       }
 
   -- P3: it was, by a way that the reader's vertical edge closes
@@ -202,39 +203,39 @@ pub way_moved : (edges : List Edge) (Goes : Edge → Type 0) (a b c d : ℕ) (wa
 way_moved edges Goes a b c d way same w p q e =
     subst (λ z. IsWay edges Goes c d z) (sym e) (subst (λ z. IsWay edges Goes c z way) q (subst (λ z. IsWay edges Goes z b way) p w))
 
-module _ (edges : List Edge) (edge : Edge) (reader : ClassNo) (there : Contains edges edge) (r : IsReadOf reader edge) (named : All NamesClasses edges) (p : ℕ × ℕ) (is : p ≡ ends edge) where
+module _ (edges : List Edge) (edge : Edge) (reader : ClassNo) (there : Contains edges edge) (r : IsReadOf reader edge) (named : All NamesClasses edges) where
   apart : (ends edge).1 ≢ (ends edge).0
   apart = diagonal_apart edge reader r (All-contains NamesClasses edges edge named there)
 
   -- the three advices are good
-  pub good_off_cycles : (places : List (Option ℕ)) (advice : Advice) → AreReached edges (IsOther edge) p.1 (placed_nodes places)
-      → place_of places p.0 ≡ None → advice ≡ advice_of edge P1 [] (placed_nodes places) → ShowsFor edges advice edge
-  good_off_cycles places advice reached none e =
-      let apart_nodes = placed_nodes places in
+  pub good_off_cycles : (p : ℕ × ℕ) (places : List (Option ℕ)) (advice : Advice) → p ≡ ends edge
+      → AreReached edges (IsOther edge) p.1 (placed_nodes places) → place_of places p.0 ≡ None
+      → advice ≡ advice_of edge P1 [] (placed_nodes places) → ShowsFor edges advice edge
+  good_off_cycles p places advice is reached none e =
+      let nodes = placed_nodes places in
       subst (λ z. ShowsFor edges z edge) (sym e)
-      (shown_of edges (advice_of edge P1 [] apart_nodes) reader edge P1 r there refl
-      (shown_off_cycles edges edge there apart places (subst (λ (z : ℕ × ℕ). AreReached edges (IsOther edge) z.1 apart_nodes) is reached)
+      (shown_of edges (advice_of edge P1 [] nodes) reader edge P1 r there refl
+      (shown_off_cycles edges edge there apart places (subst (λ (z : ℕ × ℕ). AreReached edges (IsOther edge) z.1 nodes) is reached)
       (ap (λ (z : ℕ × ℕ). place_of places z.0) (sym is) ∙ none)))
 
-  pub good_beside : (way : List Edge) (places : List (Option ℕ)) (q : ℕ) (advice : Advice) → q ≡ (ends (Vertical reader)).1
+  pub good_beside : (way : List Edge) (nodes : List ℕ) (advice : Advice)
       → IsWay edges (IsOther edge) (ends edge).1 (ends edge).0 way
-      → AreReached edges (IsAway p.0) p.1 (placed_nodes places) → place_of places q ≡ None
-      → advice ≡ advice_of edge P2 (edge ∷ way) (placed_nodes places) → ShowsFor edges advice edge
-  good_beside way places q advice own w reached none e =
-      let apart_nodes = placed_nodes places in
+      → LieApart edges reader (ends edge).1 nodes
+      → advice ≡ advice_of edge P2 (edge ∷ way) nodes → ShowsFor edges advice edge
+  good_beside way nodes advice w lie e =
       subst (λ z. ShowsFor edges z edge) (sym e)
-      (shown_of edges (advice_of edge P2 (edge ∷ way) apart_nodes) reader edge P2 r there refl
-      (shown_beside edges edge there apart (ends (Vertical reader)).1 way places w
-      (subst (λ (z : ℕ × ℕ). AreReached edges (IsAway z.0) z.1 apart_nodes) is reached)
-      (ap (place_of places) (sym own) ∙ none)))
+      (shown_of edges (advice_of edge P2 (edge ∷ way) nodes) reader edge P2 r there refl
+      (shown_beside edges edge there apart (ends (Vertical reader)).1 way nodes w
+      (subst (λ z. AreReached edges (IsAway z) (ends edge).1 nodes) (one_read_node edge reader r) lie.reached)
+      lie.own_apart))
 
-  pub good_by_way : (way closed : List Edge) (q : ℕ) (advice : Advice) → Contains edges (Vertical reader)
-      → q ≡ (ends (Vertical reader)).1 → IsWay edges (IsAway p.0) p.1 q way → closed ≡ way ++ Vertical reader ∷ []
+  pub good_linked : (closed : List Edge) (advice : Advice) → Contains edges (Vertical reader)
+      → IsClosed edges reader (ends edge).1 closed
       → advice ≡ advice_of edge P3 (edge ∷ closed) [] → ShowsFor edges advice edge
-  good_by_way way closed q advice upright own w is_closed e =
-      let moved : IsWay edges (IsAway (ends edge).0) (ends edge).1 (ends (Vertical reader)).1 way =
-      subst (λ z. IsWay edges (IsAway (ends edge).0) (ends edge).1 z way) own
-      (subst (λ (z : ℕ × ℕ). IsWay edges (IsAway z.0) z.1 q way) is w) in
+  good_linked closed advice upright k e =
+      let leads : IsWay edges (IsAway (ends edge).0) (ends edge).1 (ends (Vertical reader)).1 k.way =
+      subst (λ z. IsWay edges (IsAway z) (ends edge).1 (ends (Vertical reader)).1 k.way) (one_read_node edge reader r) k.leads in
       subst (λ z. ShowsFor edges z edge) (sym e)
       (shown_of edges (advice_of edge P3 (edge ∷ closed) []) reader edge P3 r there refl
-      (shown_by_way edges edge there apart (Vertical reader) way closed upright (not_vertical edge reader r) (one_read_node edge reader r) moved is_closed))
+      (shown_by_way edges edge there apart (Vertical reader) k.way closed upright (not_vertical edge reader r)
+      (one_read_node edge reader r) leads k.ends))

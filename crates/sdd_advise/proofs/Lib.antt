@@ -8,6 +8,8 @@ pub mod Found
 pub mod Going
 pub mod Known
 pub mod Laid
+pub mod Left
+pub mod Linking
 pub mod Members
 pub mod Places
 pub mod Right

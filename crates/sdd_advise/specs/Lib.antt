@@ -2,6 +2,7 @@ pub mod Advices
 pub mod Cycles
 pub mod Laws
 pub mod Neighbours
+pub mod Pairs
 pub mod Passing
 pub mod Reach
 pub mod Readers

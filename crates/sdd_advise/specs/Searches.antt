@@ -4,7 +4,7 @@ use Rattle.std.specs.List.{range_with_len}
 use Rattle.sdd_graph.specs.declared.edge.Edge.{Edge}
 use Rattle.sdd_advise.specs.Neighbours.{Network}
 use Rattle.sdd_advise.specs.Passing.{Passes}
-use Rattle.sdd_advise.specs.Reach.{Joins}
+use Rattle.sdd_advise.specs.Reach.{Joins, AreReached}
 use Rattle.sdd_advise.specs.declared.search.Came.{Came}
 use Rattle.sdd_advise.specs.declared.search.Reached.{Reached}
 use Rattle.sdd_advise.specs.declared.search.Search.{Search}
@@ -57,3 +57,11 @@ IsSearching network without place search =
 -- the search is done
 abbrev pub IsDone : Network → Without → Search → Type 0
 IsDone network without search = IsSearching network without (length search.reached.items) search
+
+-- the search was left once it had reached a wanted node, or else when it was done
+pub record IsLeftAt (network : Network) (without : Without) (start wanted : ℕ) (search : Search) : Type 0 where
+  pub place : ℕ
+  pub searching : IsSearching network without place search
+  pub first : (reached_at search.reached.items 0).node ≡ start
+  pub whole : place_of search.places.items wanted ≡ None
+      → AreReached network.edges (Passes without) start (placed_nodes search.places.items)

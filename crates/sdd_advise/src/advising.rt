@@ -2,13 +2,13 @@ ghost use Rattle.std.specs.Prelude.{◌≡◌, ◌^◌, ◌<◌, ◌++◌, ◌�
 ghost use Rattle.sdd_graph.specs.Graph.{ends};
 ghost use Rattle.sdd_protocol.specs.declared.protocol.Protocol.TheVariants.{P1, P2, P3};
 ghost use Rattle.sdd_advise.specs.Advices.{AreAdvices, ShowsFor, advice_of, is_diagonal};
-ghost use Rattle.sdd_advise.specs.Reach.{IsOther};
+ghost use Rattle.sdd_advise.specs.Pairs.{IsClosed, IsLink, IsSoundLast, LieApart};
 ghost use Rattle.sdd_advise.specs.Readers.{IsReadOf};
 ghost use Rattle.sdd_advise.specs.Searches.{placed_nodes};
-ghost use Rattle.sdd_advise.specs.Ways.{IsWay};
 
 use crate::advice::Advice;
-use crate::graph::{Graph, write_node};
+use crate::graph::Graph;
+use crate::pair::{Link, Pair};
 use crate::search::Search;
 use crate::without::Without;
 use sdd_base::{ClassNo, Listed, NoMemory};
@@ -20,8 +20,10 @@ use std::alloc::Global;
 /// A good advice for each diagonal of the catalogue's conflict graph, in their order. Of several cycles
 /// any may be given.
 ///
-/// Costs one pass over the edges of the graph for each of its nodes, and at most two searches of it for
-/// each diagonal, each linear in the edges and nodes.
+/// Costs one pass over the edges of the graph for each of its nodes, at most one search of it for each
+/// pair of a reader and a writer, and at most one for each diagonal whose protocol isn't P3. A search is
+/// linear in the edges and nodes, and ends as soon as it has what it looks for: at its first node, where
+/// the pair has another diagonal.
 pub fn advise(alloc: Global, cat: &Catalogue) -> Result<Vec<Advice>, NoMemory>
     ensures { IfOk result (λ advices. AreAdvices cat.now advices.items) }
 {
@@ -36,20 +38,25 @@ fn advices_of(alloc: Global, graph: &Graph) -> Result<Vec<Advice>, NoMemory>
     ensures good { IfOk result (λ advices. All (λ a. ShowsFor graph.now.edges a a.edge) advices.items) }
 {
     let mut advices = Vec::new(alloc);
+    let mut last = None;
     'edges: for edge in graph.edges() {
-        add_advice(alloc, graph, edge, &mut advices)?;
+        last = add_advice(alloc, graph, edge, last, &mut advices)?;
     }
     Ok(advices)
 }
 
-/// Adds the advice for the edge, where it is a diagonal.
+/// Adds the advice for the edge, where it is a diagonal. Takes and gives the last pair of reader and
+/// writer: the diagonals of a pair stand one behind the other.
 fn add_advice(
     alloc: Global,
     graph: &Graph,
     edge: &Edge,
+    last: Option<Pair>,
     advices: &mut Vec<Advice>,
-) -> Result<(), NoMemory>
-    requires { Contains graph.now.edges edge.now }
+) -> Result<Option<Pair>, NoMemory>
+    requires there { Contains graph.now.edges edge.now }
+    requires last { IsSoundLast graph.now.edges last }
+    ensures last { IfOk result (IsSoundLast graph.now.edges) }
     ensures edges { OnOk result (
         map (λ a. a.edge) advices.new.items
         ≡ map (λ a. a.edge) advices.old.items ++ filter is_diagonal (edge.now ∷ [])) }
@@ -58,31 +65,73 @@ fn add_advice(
         → All (λ a. ShowsFor graph.now.edges a a.edge) advices.new.items) }
 {
     if let Edge::Diagonal(reader, _, _) = edge {
-        advices.push(advice_for(alloc, graph, edge, *reader)?)?;
+        let pair = Pair::of(alloc, graph, edge, *reader, last)?;
+        advices.push(advice_for(alloc, graph, edge, *reader, &pair.link)?)?;
+        return Ok(Some(pair));
     }
-    Ok(())
+    Ok(last)
 }
 
-/// The advice for a diagonal of the reader.
+/// The advice for a diagonal of the reader, by what links the two.
 fn advice_for(
     alloc: Global,
     graph: &Graph,
     edge: &Edge,
     reader: ClassNo,
+    link: &Link,
 ) -> Result<Advice, NoMemory>
     requires reader { IsReadOf reader edge.now }
     requires there { Contains graph.now.edges edge.now }
+    requires link { IsLink graph.now.edges reader (ends edge.now).1 link.now }
+    ensures edge { IfOk result (λ advice. advice.edge ≡ edge.now) }
+    ensures shown { IfOk result (λ advice. ShowsFor graph.now.edges advice edge.now) }
+{
+    match link {
+        Link::Linked(way) => advice_linked(alloc, graph, edge, reader, way),
+        Link::Apart(apart) => advice_apart(alloc, graph, edge, reader, apart),
+    }
+}
+
+/// The advice for a diagonal of the reader, linked with its vertical edge by the way.
+fn advice_linked(
+    alloc: Global,
+    graph: &Graph,
+    edge: &Edge,
+    reader: ClassNo,
+    way: &[Edge],
+) -> Result<Advice, NoMemory>
+    requires reader { IsReadOf reader edge.now }
+    requires there { Contains graph.now.edges edge.now }
+    requires way { IsClosed graph.now.edges reader (ends edge.now).1 way.now }
+    ensures edge { IfOk result (λ advice. advice.edge ≡ edge.now) }
+    ensures shown { IfOk result (λ advice. ShowsFor graph.now.edges advice edge.now) }
+{
+    graph.known();
+    advice_by_way(alloc, edge, way)
+}
+
+/// The advice for a diagonal of the reader, from whose vertical edge these nodes lie apart.
+fn advice_apart(
+    alloc: Global,
+    graph: &Graph,
+    edge: &Edge,
+    reader: ClassNo,
+    apart: &[u32],
+) -> Result<Advice, NoMemory>
+    requires reader { IsReadOf reader edge.now }
+    requires there { Contains graph.now.edges edge.now }
+    requires apart { LieApart graph.now.edges reader (ends edge.now).1 apart.now }
     ensures edge { IfOk result (λ advice. advice.edge ≡ edge.now) }
     ensures shown { IfOk result (λ advice. ShowsFor graph.now.edges advice edge.now) }
 {
     graph.known();
     let (read, write) = ends(edge);
-    let around = Search::of(alloc, graph, write, &Without::OneEdge(*edge))?;
+    let around = Search::until(alloc, graph, write, &Without::OneEdge(*edge), read)?;
     match around.place(read) {
         None => advice_off_cycles(alloc, edge, &around),
         Some(place) => {
             let way = around.way_to(alloc, place)?;
-            advice_on_cycle(alloc, graph, edge, reader, &way)
+            advice_beside(alloc, edge, &way, apart)
         }
     }
 }
@@ -102,54 +151,24 @@ fn advice_off_cycles(alloc: Global, edge: &Edge, around: &Search) -> Result<Advi
     })
 }
 
-/// The advice for a diagonal on a cycle, which the way from the writer's write node to the reader's read
-/// node closes.
-fn advice_on_cycle(
-    alloc: Global,
-    graph: &Graph,
-    edge: &Edge,
-    reader: ClassNo,
-    way: &[Edge],
-) -> Result<Advice, NoMemory>
-    requires reader { IsReadOf reader edge.now }
-    requires there { Contains graph.now.edges edge.now }
-    requires way { IsWay graph.now.edges (IsOther edge.now) (ends edge.now).1 (ends edge.now).0 way.now }
-    ensures edge { IfOk result (λ advice. advice.edge ≡ edge.now) }
-    ensures shown { IfOk result (λ advice. ShowsFor graph.now.edges advice edge.now) }
-{
-    graph.known();
-    let (read, write) = ends(edge);
-    let vertical = Edge::Vertical(reader);
-    let own = write_node(reader);
-    let beside = Search::of(alloc, graph, write, &Without::OneNode(read))?;
-    match beside.place(own) {
-        None => advice_beside(alloc, edge, way, &beside),
-        Some(place) => {
-            let mut way = beside.way_to(alloc, place)?;
-            way.push(vertical)?;
-            advice_by_way(alloc, edge, &way)
-        }
-    }
-}
-
 /// The advice for a diagonal that no chain of cycles links with the reader's vertical edge.
 fn advice_beside(
     alloc: Global,
     edge: &Edge,
     way: &[Edge],
-    beside: &Search,
+    apart: &[u32],
 ) -> Result<Advice, NoMemory>
-    requires { length beside.now.places.items < 2 ^ 32 }
     ensures { IfOk result (λ advice.
-        advice ≡ advice_of edge.now P2 (edge.now ∷ way.now) (placed_nodes beside.now.places.items)) }
+        advice ≡ advice_of edge.now P2 (edge.now ∷ way.now) apart.now) }
 {
     let cycle = cycle_of(alloc, edge, way)?;
-    let apart = beside.nodes(alloc)?;
+    let mut nodes = Vec::new(alloc);
+    nodes.extend_from_slice(apart)?;
     Ok(Advice {
         edge: *edge,
         protocol: Protocol::P2,
         cycle: Listed::from_vec(cycle),
-        apart: Listed::from_vec(apart),
+        apart: Listed::from_vec(nodes),
     })
 }
 

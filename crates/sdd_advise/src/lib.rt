@@ -14,6 +14,7 @@ mod cycle;
 mod graph;
 mod law;
 mod neighbour;
+mod pair;
 mod search;
 mod spelling;
 mod without;

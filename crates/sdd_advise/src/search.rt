@@ -1,8 +1,8 @@
-ghost use Rattle.std.specs.Prelude.{◌≡◌, ◌+◌, ◌<◌, ◌^◌, ◌++◌, ◌∷◌, [], length, replicate, None, Some, is_some, slice_set, true, IfOk, OnOk};
+ghost use Rattle.std.specs.Prelude.{ℕ, ◌≡◌, ◌+◌, ◌<◌, ◌^◌, ◌++◌, ◌∷◌, [], length, replicate, None, Some, is_some, slice_set, true, IfOk, OnOk};
 ghost use Rattle.sdd_advise.specs.Neighbours.{Network};
 ghost use Rattle.sdd_advise.specs.Passing.{Passes};
 ghost use Rattle.sdd_advise.specs.Reach.{AreReached};
-ghost use Rattle.sdd_advise.specs.Searches.{IsDone, IsSearching, IsTraced, place_of, placed_nodes, reached_at};
+ghost use Rattle.sdd_advise.specs.Searches.{IsDone, IsLeftAt, IsSearching, IsTraced, place_of, placed_nodes, reached_at};
 ghost use Rattle.sdd_advise.specs.Ways.{IsWay};
 ghost use Rattle.sdd_advise.specs.declared.without.Without.{Without};
 
@@ -52,6 +52,31 @@ impl Search {
         let mut search = Search::begun(alloc, graph.nodes(), start)?;
         let mut place = 0u32;
         'places: while (place as usize) < search.reached.len() {
+            search.go_on(graph, without, place)?;
+            place += 1;
+        }
+        Ok(search)
+    }
+
+    /// Searches the graph without an edge or a node until it has reached the wanted node: the whole
+    /// graph where it can't be reached.
+    pub(crate) fn until(
+        alloc: Global,
+        graph: &Graph,
+        start: u32,
+        without: &Without,
+        wanted: u32,
+    ) -> Result<Search, NoMemory>
+        requires start { start < graph.now.nodes }
+        requires wanted { wanted < graph.now.nodes }
+        ensures { IfOk result (IsLeftAt graph.now without.now start wanted) }
+    {
+        let mut search = Search::begun(alloc, graph.nodes(), start)?;
+        let mut place = 0u32;
+        'places: while (place as usize) < search.reached.len() {
+            if search.place(wanted).is_some() {
+                return Ok(search);
+            }
             search.go_on(graph, without, place)?;
             place += 1;
         }
@@ -159,8 +184,8 @@ impl Search {
     pub(crate) fn way_to(&self, alloc: Global, place: u32) -> Result<Vec<Edge>, NoMemory>
         requires traced { IsTraced self.now.places.items self.now.reached.items }
         requires within { place < length self.now.reached.items }
-        ensures { IfOk result (λ way. (network : Network) (without : Without)
-            → IsDone network without self.now
+        ensures { IfOk result (λ way. (network : Network) (without : Without) (gone : ℕ)
+            → IsSearching network without gone self.now
             → IsWay network.edges (Passes without) (reached_at self.now.reached.items 0).node
             (reached_at self.now.reached.items place).node way.items) }
     {

@@ -1,7 +1,7 @@
-use Rattle.std.proofs.Common.{◌<◌, length}
+use Rattle.std.proofs.Common.{ℕ, ◌<◌, length}
 use Rattle.sdd_advise.specs.Neighbours.{Network}
 use Rattle.sdd_advise.specs.Passing.{Passes}
-use Rattle.sdd_advise.specs.Searches.{IsDone, reached_at}
+use Rattle.sdd_advise.specs.Searches.{IsSearching, reached_at}
 use Rattle.sdd_advise.specs.declared.without.Without.{Without}
 use Rattle.sdd_advise.proofs.WayBack.{IsWayBack}
 use Rattle.sdd_advise.proofs.search.Search.way_to.Given as goal
@@ -9,7 +9,7 @@ use Rattle.sdd_advise.proofs.search.Search.way_to.Given as goal
 abbrev pub invariant-way : goal.invariant-way
 invariant-way l =
     (l.at < length l.self.reached.items)
-    × ((network : Network) (without : Without) → IsDone network without l.self
+    × ((network : Network) (without : Without) (gone : ℕ) → IsSearching network without gone l.self
     → IsWayBack network.edges (Passes without) l.self.places.items l.self.reached.items (reached_at l.self.reached.items l.place).node l.at l.way.items)
 
 abbrev pub decreases-way : goal.decreases-way
