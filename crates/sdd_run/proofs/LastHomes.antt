@@ -66,8 +66,9 @@ submitted_there g log later rest at n h is =
     absurd (omega (arith, one, up, more))))
 
 -- what is submitted and not committed was submitted under the last list
-pub at_last_homes : (g : Given) (log : Log) → Known g log → AreAtLastHomes g log
-at_last_homes g log w n k submitted unmade =
+last_home_is : (g : Given) (log : Log) → Known g log → (n k : ℕ) → IsSubmitted (history log) n k
+    → list_any (commits n) (history log) ≡ false → submitted_at log n ≡ last_home g log n
+last_home_is g log w n k submitted unmade =
     let s = submit_in g log n k w.permitted submitted in
     let now : IsPermitted g (Submitted s.at n ∷ s.rest) = permitted_before g s.later (Submitted s.at n ∷ s.rest) (subst (IsPermitted g) s.is w.permitted) in
     let x = given_at g s.rest s.at n now in
@@ -87,6 +88,9 @@ at_last_homes g log w n k submitted unmade =
           absurd (not_both (list_any (commits n) (history log)) (commits_it (history log) n (record { place = c.1; number = c.0; commit = c.3 })) unmade))
     ]
 
+pub at_last_homes : (g : Given) (log : Log) → Known g log → AreAtLastHomes g log
+at_last_homes g log w = record { same = last_home_is g log w }
+
 -- so looking there comes to the same
 
 chosen_alike : {A B : Type 0} (f g : A → Option B) (xs : List A) → ((k : ℕ) (x : A) → slice_get xs k ≡ Some x → f x ≡ g x)
@@ -104,7 +108,7 @@ same_one : (tell : Telling) (g : Given) (log : Log) → AreAtLastHomes g log →
     → pending_by tell (last_home g log) g log (history log) e ≡ pending_by tell (submitted_at log) g log (history log) e
 same_one tell g log h k (event, Submit n) e =
     same_if tell g log (last_home g log) (submitted_at log) n (list_any (commits n.0) (history log))
-    (λ unmade. sym (h n.0 k (ap (option_map (λ (x : ℕ × Rec). x.1)) e) unmade))
+    (λ unmade. sym (h.same n.0 k (ap (option_map (λ (x : ℕ × Rec). x.1)) e) unmade))
 same_one tell g log h k (event, Start txn attempt class ts p2 uses) e = refl
 same_one tell g log h k (event, Arrive txn attempt dm) e = refl
 same_one tell g log h k (event, Wait txn attempt dm conds) e = refl

@@ -52,6 +52,10 @@ list_there cats tables k cat table l m e f = at_place cats tables k cat table (t
     there (y ∷ xs) zero x l e = ap (λ z. Some z) (sym e)
     there (y ∷ xs) (suc k) x l e = there xs k x (omega (arith, l)) e
 
+pub first_there : (tables : List (List Entry)) (table : List Entry) → 0 < length tables → table ≡ get_or tables 0 table → slice_get tables 0 ≡ Some table
+first_there [] table l e = absurd (omega (arith, l))
+first_there (t ∷ tables) table l e = ap (λ z. Some z) (sym e)
+
 -- the lists behind the first, one more
 
 at_tail : {A : Type 0} (xs : List A) (k : ℕ) (x : A) → slice_get xs (suc k) ≡ Some x → slice_get (tail_of xs) k ≡ Some x

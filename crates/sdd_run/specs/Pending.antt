@@ -104,9 +104,9 @@ abbrev pub pending_of : Telling → Given → Log → List Pending
 pending_of tell g log = pending_at tell (submitted_at log) g log
 
 -- each transaction that was submitted and isn't committed was submitted at the site of its class by the last list
-abbrev pub AreAtLastHomes : Given → Log → Type 0
-AreAtLastHomes g log =
-    (n place : ℕ) → IsSubmitted (history log) n place → list_any (commits n) (history log) ≡ false → submitted_at log n ≡ last_home g log n
+pub record AreAtLastHomes (g : Given) (log : Log) : Type 0 where
+  pub same : (n place : ℕ) → IsSubmitted (history log) n place → list_any (commits n) (history log) ≡ false
+      → submitted_at log n ≡ last_home g log n
 
 -- transaction n is listed as pending
 pub record IsListed (left : List Pending) (n : ℕ) : Type 0 where

@@ -37,6 +37,15 @@ fn list_at<'a>(eras: &'a [Catalogue], tables: &'a [Table], place: usize) -> Clas
     }
 }
 
+/// The protocol table of the first list.
+#[tactic(auto, using(crate::proofs::Lending::first_there))]
+pub fn first_table(tables: &[Table]) -> &Table
+    requires { 0 < length tables.now }
+    ensures { slice_get tables.now 0 ≡ Some result.now }
+{
+    &tables[0]
+}
+
 /// The lists behind the first, in order.
 pub fn further<'a>(
     alloc: Global,

@@ -5,7 +5,7 @@ ghost use Rattle.sdd_script.specs.Valid.{IsValid};
 ghost use Rattle.sdd_run.specs.Runs.{AreTables, EndsAtLimit};
 ghost use Rattle.sdd_run.specs.Worlds.{IsRunOf};
 
-use crate::in_force::further;
+use crate::in_force::{first_table, further};
 use sdd_catalog::Catalogue;
 use sdd_lists::Lists;
 use sdd_protocol::Table;
@@ -43,6 +43,6 @@ pub fn finished<'a>(
         ..
     } = work;
     let modules = data_modules(alloc, whole, rows.as_slice())?;
-    let world = World::new(alloc, whole, catalogue, &tables[0], txns, modules)?;
+    let world = World::new(alloc, whole, catalogue, first_table(tables), txns, modules)?;
     carry_out(world, events.into_vec(), further)
 }

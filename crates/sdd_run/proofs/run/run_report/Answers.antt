@@ -2,6 +2,7 @@ use Rattle.std.proofs.Common.{◌∙◌, subst, sym}
 use Rattle.std.specs.List.{AllZip}
 use Rattle.sdd_catalog.specs.Catalogue.{Catalogue}
 use Rattle.sdd_catalog.specs.Rules.{IsSound}
+use Rattle.sdd_lists.specs.InForce.{eras_in}
 use Rattle.sdd_protocol.specs.Protocols.{IsTable}
 use Rattle.sdd_log.specs.Entries.{history}
 use Rattle.sdd_order.specs.Orders.{IsOrderable}
@@ -11,17 +12,21 @@ use Rattle.sdd_run.proofs.Ordered.{orderable}
 use Rattle.sdd_run.proofs.Reported.{last_homes, reported}
 use Rattle.sdd_run.proofs.run.run_report.Goals as goal
 
-pub finished-world-requires-clause-tabled : goal.finished-world-requires-clause-tabled
-finished-world-requires-clause-tabled c =
-    subst (λ cats. AllZip IsTable cats c.in_ok-tables.tables.items) (c.eras.ensures ∙ c.in_ok-lists.ensures.eras) c.in_ok-tables.ensures
+pub finished-requires-clause-tabled : goal.finished-requires-clause-tabled
+finished-requires-clause-tabled c =
+    let cat = c.args.catalogue.now in
+    let tabled = subst (λ ts. AllZip IsTable (eras_in cat c.args.work) ts) (sym c.as_slice.ensures.value)
+    (subst (λ cats. AllZip IsTable cats c.in_ok-tables.tables.items) (c.eras.ensures ∙ c.in_ok-lists.ensures.eras) c.in_ok-tables.ensures) in
+    tabled
 
 pub report_on-requires : goal.report_on-requires
 report_on-requires c =
     let cat = c.args.catalogue.now in
-    let tables = c.in_ok-tables.tables.items in
+    let tables = c.as_slice.result.now in
     let r = c.in_ok-world.ensures.run in
     let is = c.whole-whole.ensures ∙ c.in_ok-lists.ensures.whole in
-    let tabled = subst (λ cats. AllZip IsTable cats tables) (c.eras.ensures ∙ c.in_ok-lists.ensures.eras) c.in_ok-tables.ensures in
+    let tabled = subst (λ ts. AllZip IsTable (eras_in cat c.args.work) ts) (sym c.as_slice.ensures.value)
+    (subst (λ cats. AllZip IsTable cats c.in_ok-tables.tables.items) (c.eras.ensures ∙ c.in_ok-lists.ensures.eras) c.in_ok-tables.ensures) in
     let sound = subst IsSound is c.known.ensures.sound in (
       given_of cat tables c.args.work,
       r.log,
@@ -32,11 +37,12 @@ report_on-requires c =
 pub returns-clause-report : goal.returns-clause-report
 returns-clause-report c =
     let cat = c.args.catalogue.now in
-    let tables = c.in_ok-tables.tables.items in
+    let tables = c.as_slice.result.now in
     let r = c.in_ok-world.ensures.run in
     let given = given_of cat tables c.args.work in
     let is = c.whole-whole.ensures ∙ c.in_ok-lists.ensures.whole in
-    let tabled = subst (λ cats. AllZip IsTable cats tables) (c.eras.ensures ∙ c.in_ok-lists.ensures.eras) c.in_ok-tables.ensures in
+    let tabled = subst (λ ts. AllZip IsTable (eras_in cat c.args.work) ts) (sym c.as_slice.ensures.value)
+    (subst (λ cats. AllZip IsTable cats c.in_ok-tables.tables.items) (c.eras.ensures ∙ c.in_ok-lists.ensures.eras) c.in_ok-tables.ensures) in
     let sound = subst IsSound is c.known.ensures.sound in
     let stands = subst (λ k. StandsOn k c.in_ok-world.world given r.log) (sym is) r.stands in
     reported cat tables c.args.work r.log sound c.requires.valid tabled r.log_is c.in_ok-report_on.field-0.items

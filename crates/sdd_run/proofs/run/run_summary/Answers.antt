@@ -1,19 +1,24 @@
-use Rattle.std.proofs.Common.{◌∙◌, subst}
+use Rattle.std.proofs.Common.{◌∙◌, subst, sym}
 use Rattle.std.specs.List.{AllZip}
+use Rattle.sdd_lists.specs.InForce.{eras_in}
 use Rattle.sdd_protocol.specs.Protocols.{IsTable}
 use Rattle.sdd_run.specs.Runs.{given_of}
 use Rattle.sdd_run.proofs.Reported.{summed_up}
 use Rattle.sdd_run.proofs.run.run_summary.Goals as goal
 
-pub finished-world-requires-clause-tabled : goal.finished-world-requires-clause-tabled
-finished-world-requires-clause-tabled c =
-    subst (λ cats. AllZip IsTable cats c.in_ok-tables.tables.items) (c.eras.ensures ∙ c.in_ok-lists.ensures.eras) c.in_ok-tables.ensures
+pub finished-requires-clause-tabled : goal.finished-requires-clause-tabled
+finished-requires-clause-tabled c =
+    let cat = c.args.catalogue.now in
+    let tabled = subst (λ ts. AllZip IsTable (eras_in cat c.args.work) ts) (sym c.as_slice-2.ensures.value)
+    (subst (λ cats. AllZip IsTable cats c.in_ok-tables.tables.items) (c.eras.ensures ∙ c.in_ok-lists.ensures.eras) c.in_ok-tables.ensures) in
+    tabled
 
 pub returns-clause-summary : goal.returns-clause-summary
 returns-clause-summary c =
     let cat = c.args.catalogue.now in
-    let tables = c.in_ok-tables.tables.items in
-    let tabled = subst (λ cats. AllZip IsTable cats tables) (c.eras.ensures ∙ c.in_ok-lists.ensures.eras) c.in_ok-tables.ensures in
+    let tables = c.as_slice-2.result.now in
+    let tabled = subst (λ ts. AllZip IsTable (eras_in cat c.args.work) ts) (sym c.as_slice-2.ensures.value)
+    (subst (λ cats. AllZip IsTable cats c.in_ok-tables.tables.items) (c.eras.ensures ∙ c.in_ok-lists.ensures.eras) c.in_ok-tables.ensures) in
     let r = c.in_ok-world.ensures.run in
     let given = given_of cat tables c.args.work in
     summed_up cat tables c.args.work c.in_ok-world.world tabled r

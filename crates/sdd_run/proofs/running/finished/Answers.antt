@@ -1,12 +1,107 @@
-use Rattle.std.proofs.Common.{[], ◌∙◌, Some, arith, get_or, refl, slice_get, subst, sym}
+use Rattle.std.proofs.Common.{[], ◌≤◌, ◌∙◌, ap, arith, length, refl, subst, sym}
 use Rattle.std.specs.List.{All}
+use Rattle.sdd_base.specs.Words.{tail_of}
+use Rattle.sdd_base.specs.declared.limits.TheConstants.{MAX_DMS, MAX_TMS}
 use Rattle.sdd_catalog.specs.Catalogue.{Catalogue}
 use Rattle.sdd_catalog.specs.Rules.{IsSound}
 use Rattle.sdd_eras.specs.EraOf.{IsEraOf}
 use Rattle.sdd_lang.specs.Fits.{FitsStart}
-use Rattle.sdd_run.specs.Runs.{begun}
+use Rattle.sdd_lists.specs.InForce.{whole_in}
+use Rattle.sdd_log.specs.Entries.{Given}
+use Rattle.sdd_facts.specs.Real.{IsGood}
+use Rattle.sdd_world.specs.Beginnings.{AllBegin, BeginsD, IsBegun}
+use Rattle.sdd_world.specs.Standing as standing
+use Rattle.sdd_world.specs.Standing.{StandsFor}
+use Rattle.sdd_run.specs.Runs.{begun, forces_of}
 use Rattle.sdd_run.proofs.Forces.{first_era, some_table, tables_are}
 use Rattle.sdd_run.proofs.Reported.{ended, if_ok, run_of}
 use Rattle.sdd_run.proofs.Starting.{all_allowed, starts}
 use Rattle.sdd_run.proofs.Whole.{rows_start}
 use Rattle.sdd_run.proofs.running.finished.Goals as goal
+
+pub further-requires : goal.further-requires
+further-requires c =
+    tables_are c.args.catalogue.now c.args.tables.now c.args.work c.requires.tabled ∙ ap length (sym (c.eras.ensures ∙ c.requires.eras))
+
+pub data_modules-requires : goal.data_modules-requires
+data_modules-requires c =
+    let cat = c.args.catalogue.now in
+    let is = c.whole-whole.ensures ∙ c.requires.whole in
+    subst (λ (k : Catalogue). All (FitsStart k) c.as_slice.result.now) (sym is)
+    (subst (λ rows. All (FitsStart (whole_in cat c.args.work)) rows) (sym c.as_slice.ensures) (rows_start cat c.args.work c.requires.valid))
+
+pub first_table-requires : goal.first_table-requires
+first_table-requires c = let some = some_table c.args.catalogue.now c.args.tables.now c.args.work c.requires.tabled in omega (arith, some)
+
+pub new-requires : goal.new-requires
+new-requires c =
+    let is = c.whole-whole.ensures ∙ c.requires.whole in
+    subst (λ (k : Catalogue). IsEraOf k c.args.catalogue.now) (sym is) (first_era c.args.catalogue.now c.args.work)
+
+pub carry_out-requires : goal.carry_out-requires
+carry_out-requires c =
+    let cat = c.args.catalogue.now in
+    let work = c.args.work in
+    let tables = c.args.tables.now in
+    let tabled = c.requires.tabled in
+    let is = c.whole-whole.ensures ∙ c.requires.whole in
+    let sound = subst IsSound is c.known.ensures.sound in
+    let few_tms = subst (λ (k : Catalogue). k.tms ≤ MAX_TMS) is (let few = c.known.ensures.whole.few_tms in omega (arith, few)) in
+    let few_dms = subst (λ (k : Catalogue). k.dms ≤ MAX_DMS) is (let few = c.known.ensures.whole.few_dms in omega (arith, few)) in
+    let dms = c.in_ok-modules.modules.items in
+    let table = c.first_table.result.now in
+    let made = subst (λ (k : Catalogue). AllBegin (BeginsD k c.as_slice.result.now) k.dms dms) is c.in_ok-modules.ensures in
+    let new = subst (λ k. (g : Given) → IsGood g → standing.IsSound g → IsBegun g k cat table work.txns dms → StandsFor c.in_ok-world.world g [])
+    is c.in_ok-world.ensures in
+    let begins = (starts cat tables work sound c.requires.valid tabled c.as_slice.result.now work.txns table dms c.in_ok-world.world
+    few_tms few_dms c.first_table.ensures c.as_slice.ensures refl made new).stands in
+    let lent = c.in_ok-further.ensures ∙ ap (λ cats. tail_of (forces_of cats tables)) (c.eras.ensures ∙ c.requires.eras) in
+    let allowed = all_allowed cat tables work sound c.requires.valid tabled c.into_vec.result.items c.in_ok-further.further.items c.into_vec.ensures lent in
+    (begun cat tables work, [], begins, allowed)
+
+pub returns-clause-run : goal.returns-clause-run
+returns-clause-run c =
+    let cat = c.args.catalogue.now in
+    let work = c.args.work in
+    let tables = c.args.tables.now in
+    let tabled = c.requires.tabled in
+    let is = c.whole-whole.ensures ∙ c.requires.whole in
+    let sound = subst IsSound is c.known.ensures.sound in
+    let few_tms = subst (λ (k : Catalogue). k.tms ≤ MAX_TMS) is (let few = c.known.ensures.whole.few_tms in omega (arith, few)) in
+    let few_dms = subst (λ (k : Catalogue). k.dms ≤ MAX_DMS) is (let few = c.known.ensures.whole.few_dms in omega (arith, few)) in
+    let dms = c.in_ok-modules.modules.items in
+    let table = c.first_table.result.now in
+    let made = subst (λ (k : Catalogue). AllBegin (BeginsD k c.as_slice.result.now) k.dms dms) is c.in_ok-modules.ensures in
+    let new = subst (λ k. (g : Given) → IsGood g → standing.IsSound g → IsBegun g k cat table work.txns dms → StandsFor c.in_ok-world.world g [])
+    is c.in_ok-world.ensures in
+    let begins = (starts cat tables work sound c.requires.valid tabled c.as_slice.result.now work.txns table dms c.in_ok-world.world
+    few_tms few_dms c.first_table.ensures c.as_slice.ensures refl made new).stands in
+    let lent = c.in_ok-further.ensures ∙ ap (λ cats. tail_of (forces_of cats tables)) (c.eras.ensures ∙ c.requires.eras) in
+    let allowed = all_allowed cat tables work sound c.requires.valid tabled c.into_vec.result.items c.in_ok-further.further.items c.into_vec.ensures lent in
+    if_ok c.carry_out.result _ _
+    (λ world carried.
+    let all = carried (begun cat tables work) [] begins allowed in
+    run_of cat tables work c.into_vec.result.items c.into_vec.ensures world all.0 all.1)
+    c.carry_out.ensures.log
+
+pub returns-clause-limit : goal.returns-clause-limit
+returns-clause-limit c = λ is_limit.
+    let cat = c.args.catalogue.now in
+    let work = c.args.work in
+    let tables = c.args.tables.now in
+    let tabled = c.requires.tabled in
+    let is = c.whole-whole.ensures ∙ c.requires.whole in
+    let sound = subst IsSound is c.known.ensures.sound in
+    let few_tms = subst (λ (k : Catalogue). k.tms ≤ MAX_TMS) is (let few = c.known.ensures.whole.few_tms in omega (arith, few)) in
+    let few_dms = subst (λ (k : Catalogue). k.dms ≤ MAX_DMS) is (let few = c.known.ensures.whole.few_dms in omega (arith, few)) in
+    let dms = c.in_ok-modules.modules.items in
+    let table = c.first_table.result.now in
+    let made = subst (λ (k : Catalogue). AllBegin (BeginsD k c.as_slice.result.now) k.dms dms) is c.in_ok-modules.ensures in
+    let new = subst (λ k. (g : Given) → IsGood g → standing.IsSound g → IsBegun g k cat table work.txns dms → StandsFor c.in_ok-world.world g [])
+    is c.in_ok-world.ensures in
+    let begins = (starts cat tables work sound c.requires.valid tabled c.as_slice.result.now work.txns table dms c.in_ok-world.world
+    few_tms few_dms c.first_table.ensures c.as_slice.ensures refl made new).stands in
+    let lent = c.in_ok-further.ensures ∙ ap (λ cats. tail_of (forces_of cats tables)) (c.eras.ensures ∙ c.requires.eras) in
+    let allowed = all_allowed cat tables work sound c.requires.valid tabled c.into_vec.result.items c.in_ok-further.further.items c.into_vec.ensures lent in
+    ended cat tables work tabled c.into_vec.result.items c.into_vec.ensures
+    (c.carry_out.ensures.limit is_limit (begun cat tables work) [] begins allowed)
