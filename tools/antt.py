@@ -7,6 +7,7 @@ SIGNATURE = re.compile(r"(?:(?:pub|abbrev|unfoldable|opaque|private)\s+)*(?:(dat
 NOT_NAMES = {"use", "module", "where", "unfolding", "open", "mod", "let", "in", "syntax", "infix", "infixl", "infixr", "tactic", "pub"}
 WORD = re.compile(r"[^\s(){}\[\];,=λ→:×∧∨]+")
 IMPORT = re.compile(r"^\s*(?:pub\s+)?(?:ghost\s+)?use\s+Rattle\.(\w+)\.([\w.]+?)\.\{([^}]*)\}", re.M)
+WHOLE = re.compile(r"^\s*(?:pub\s+)?use\s+Rattle\.(\w+)\.(specs|proofs)\.([\w.]+)\s+as\s+(\w+)\s*$", re.M)
 
 
 class Part:
@@ -35,6 +36,11 @@ def imports_of(text):
             if name:
                 found[(other or name).strip()] = crate, kind, module, name.strip()
     return found
+
+
+def modules_of(text):
+    """The modules that a file's imports call by a name of their own: that name to (crate, kind, module)."""
+    return {name: (crate, kind, module) for crate, kind, module, name in WHOLE.findall(text)}
 
 
 def is_signature(line, here):
@@ -105,12 +111,14 @@ def read_crate(crate):
                 with open(path, encoding="utf-8") as it:
                     text = it.read()
                 module = os.path.relpath(path, folder)[: -len(".antt")].replace(os.sep, ".")
-                parts, calls = parts_of(crate, kind, module, path, text), imports_of(text)
+                parts, calls, modules = parts_of(crate, kind, module, path, text), imports_of(text), modules_of(text)
                 here = {it.name: it.key for it in parts}
                 for it in parts:
                     for word in WORD.findall("\n".join(it.lines)):
-                        head = word.split(".")[0]
+                        head, *rest = word.split(".")
                         key = here.get(head) or calls.get(head) or here.get(word) or calls.get(word)
+                        if not key and rest and head in modules:
+                            key = (*modules[head], rest[0])
                         if key and key != it.key:
                             it.uses.add(key)
                 found += parts
