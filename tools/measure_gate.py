@@ -1,15 +1,21 @@
 #!/usr/bin/env python3
-"""Runs a command of the gate and tells what each crate took of it, in processor time and memory.
+"""Runs a command of the gate and prints what each crate took of it, in processor time and memory.
 
     tools/measure_gate.py [--log FILE] [--into docs/GATE.md] [-- COMMAND ..]
 
-COMMAND is `rt ci` if left out, at the top of the repository. While it runs, the processes that prove, build or
-run a crate are looked at twice a second; what a process did after the last look is lost, half a second at most.
-The table has a line for each crate: processor minutes of its proof and of its edits that must be refused, and
-the most memory that one process had. Ends with the command's status.
+COMMAND is `rt ci` if left out, at the top of the repository. While it runs, the processes below it are looked at
+twice a second; what a process did after the last look is missing, half a second at most. A process belongs to the
+crate that its words name, or else those of the nearest process above it that names one.
+
+The table has a line for each crate: processor minutes of its proof with the building of its library, of its edits that
+must be refused, and of its programs (clang, and what it built, as it runs); and the most memory that one process had.
+Above it are the sums, the time from start to end, and all processor time, which the system counts itself.
+What an earlier run on the machine has passed isn't proved again, and so takes nothing. Ends with the command's status.
 """
 import argparse
 import os
+import re
+import resource
 import subprocess
 import sys
 import threading
@@ -17,38 +23,60 @@ import time
 
 TICKS = os.sysconf("SC_CLK_TCK")
 PAUSE = 0.5
+KINDS = ["proof", "edits", "programs"]
+RUNNING = re.compile(r"/rt-run-[^/]*/bin/(\w+?)(_tests)?$")
 
 
-def descendants(root):
-    """The processes below one, by their numbers."""
-    parents = {}
+def parents():
+    """Who started whom: of each process its parent, by their numbers."""
+    found = {}
     for name in os.listdir("/proc"):
         if name.isdigit():
             try:
                 with open("/proc/%s/stat" % name, "rb") as it:
-                    parents[int(name)] = int(it.read().rpartition(b")")[2].split()[1])
+                    found[int(name)] = int(it.read().rpartition(b")")[2].split()[1])
             except OSError:
                 pass
-    found = {root}
-    while True:
-        more = {pid for pid, parent in parents.items() if parent in found} - found
-        if not more:
-            return found - {root}
-        found |= more
+    return found
 
 
-def look(pid):
-    """What a process is doing for which crate, its processor seconds and its memory; None where it is of no crate."""
-    with open("/proc/%d/cmdline" % pid, "rb") as it:
-        words = it.read().decode(errors="replace").split("\0")
-    if "--crate-name" not in words[:-1]:
+def line_to(root, pid, above):
+    """The processes from this one up to the one below the root; none where it isn't below the root."""
+    line = []
+    while pid in above and pid != root:
+        line.append(pid)
+        pid = above[pid]
+    return line if pid == root else []
+
+
+def crate_of(words):
+    """The crate that the words of a process name, or None."""
+    if "--crate-name" in words[:-1]:
+        return words[words.index("--crate-name") + 1]
+    running = next(filter(None, map(RUNNING.search, words)), None)
+    return running[1] if running else None
+
+
+def words_of(pid):
+    try:
+        with open("/proc/%d/cmdline" % pid, "rb") as it:
+            return it.read().decode(errors="replace").split("\0")
+    except OSError:
+        return []
+
+
+def look(line):
+    """What the first process of the line is doing for which crate, its processor seconds and memory; None where for none."""
+    crate = next(filter(None, (crate_of(words_of(pid)) for pid in line)), None)
+    if crate is None:
         return None
-    crate = words[words.index("--crate-name") + 1]
-    with open("/proc/%d/stat" % pid, "rb") as it:
+    with open("/proc/%d/stat" % line[0], "rb") as it:
         fields = it.read().rpartition(b")")[2].split()
     seconds = (int(fields[11]) + int(fields[12])) / TICKS
-    is_edit = "/rt-edit-" in os.readlink("/proc/%d/cwd" % pid)
-    return crate, "edits" if is_edit else "proof", seconds, int(fields[21]) * os.sysconf("SC_PAGE_SIZE"), fields[19]
+    room, own = os.readlink("/proc/%d/cwd" % line[0]), words_of(line[0])
+    is_program = "/rt-run-" in room or os.path.basename(own[0]).startswith("clang")
+    kind = "edits" if "/rt-edit-" in room else "programs" if is_program else "proof"
+    return crate, kind, seconds, int(fields[21]) * os.sysconf("SC_PAGE_SIZE"), fields[19]
 
 
 class Sampler(threading.Thread):
@@ -60,9 +88,11 @@ class Sampler(threading.Thread):
 
     def run(self):
         while not self.is_over.wait(PAUSE):
-            for pid in descendants(self.root):
+            above = parents()
+            for pid in above:
+                line = line_to(self.root, pid, above)
                 try:
-                    found = look(pid)
+                    found = look(line) if line else None
                 except (OSError, ValueError, IndexError):
                     continue
                 if found:
@@ -74,23 +104,33 @@ class Sampler(threading.Thread):
     def table(self):
         rows = {}
         for crate, kind, seconds, memory in self.seen.values():
-            row = rows.setdefault(crate, {"proof": 0.0, "edits": 0.0, "memory": 0})
+            row = rows.setdefault(crate, dict.fromkeys(KINDS + ["memory"], 0))
             row[kind] += seconds
             row["memory"] = max(row["memory"], memory)
         return rows
 
 
-def text_of(rows, minutes, command, status):
-    """The table as a page."""
-    proof, edits = (sum(row[kind] for row in rows.values()) / 60 for kind in ("proof", "edits"))
+def minutes_of(row, kind):
+    return "%.1f" % (row[kind] / 60) if row[kind] else "-"
+
+
+def text_of(rows, seconds, overall, command, status):
+    """The table as a page; SECONDS from start to end, and OVERALL of the processors."""
+    sums = {kind: sum(row[kind] for row in rows.values()) for kind in KINDS}
     lines = ["# What the gate takes", "",
-             "Made by `tools/measure_gate.py` from one run of `%s` (status %d) on %d processors, %s." % (
+             "Made by `tools/measure_gate.py` from one run of `%s` (status %d) on %d processors, %s. What an earlier run on the machine"
+             " has passed isn't proved again: where there was one, its crates are missing below." % (
                  " ".join(command), status, os.cpu_count(), time.strftime("%Y-%m-%d")), "",
-             "%.0f minutes from start to end; %.0f processor minutes of proofs and builds, %.0f of edits that must be refused." % (minutes, proof, edits), "",
-             "| crate | proof, processor minutes | edits | most memory of a process, GB |", "|---|---|---|---|"]
-    for crate, row in sorted(rows.items(), key=lambda it: -(it[1]["proof"] + it[1]["edits"])):
-        told = "%.1f" % (row["edits"] / 60) if row["edits"] else "none"
-        lines.append("| `%s` | %.1f | %s | %.1f |" % (crate, row["proof"] / 60, told, row["memory"] / 1e9))
+             "| | minutes |", "|---|---|", "| from start to end | %.0f |" % (seconds / 60)]
+    told = [("proofs, with the building of libraries", sums["proof"]), ("edits that must be refused", sums["edits"]),
+            ("compiling and running programs", sums["programs"]), ("all, with what no crate is named for", overall)]
+    lines += ["| processor time: %s | %.0f |" % (what, each / 60) for what, each in told]
+    lines += ["", "Processor minutes of each crate, and the most memory that one process had, in GB:", "",
+              "| crate | proof | edits | programs | memory |", "|---|---|---|---|---|"]
+    for crate, row in sorted(rows.items(), key=lambda it: -sum(it[1][kind] for kind in KINDS)):
+        lines.append("| `%s` | %s | %.1f |" % (crate, " | ".join(minutes_of(row, kind) for kind in KINDS), row["memory"] / 1e9))
+    most = max((row["memory"] for row in rows.values()), default=0)
+    lines.append("| all | %s | %.1f |" % (" | ".join(minutes_of(sums, kind) for kind in KINDS), most / 1e9))
     return "\n".join(lines) + "\n"
 
 
@@ -115,7 +155,8 @@ def main(words):
     status = started.wait()
     sampler.is_over.set()
     sampler.join()
-    page = text_of(sampler.table(), (time.time() - began) / 60, command, status)
+    used = resource.getrusage(resource.RUSAGE_CHILDREN)
+    page = text_of(sampler.table(), time.time() - began, used.ru_utime + used.ru_stime, command, status)
     if options.into:
         with open(options.into, "w", encoding="utf-8") as it:
             it.write(page)
