@@ -1,108 +1,137 @@
 #!/usr/bin/env python3
 """Measures `sdd1` on made workloads, and prints a table.
 
-    tools/benchmark.py [--program COMMAND] [--reference COMMAND] [--only KIND ..] [--part N] [--seconds N]
+    tools/benchmark.py [--program COMMAND] [--beside COMMAND] [--into FILE] [--note TEXT] [--only KIND ..]
+                       [--part N] [--runs N] [--seconds N]
 
 COMMAND is a built `sdd1`. Without --program the program is proved and built first, by `rt run` in
 crates/sdd1 (which proves all crates that aren't proved yet), and crates/sdd1/out/sdd1 is measured. Of the
-reference the same is measured, and each figure is told as a ratio: how many times what the reference
-takes. Where both print a text for a call, it is also told whether it is the same.
+program given by --beside the same is measured, and each figure is compared by a ratio: how many times what
+the other takes. The last column says whether both print the same text.
 
-The workloads are those of tools/make_workload.py and crates/sdd1/data: `small` is bank.work under
-`run`; bank, flood, scatter, resends, classes and readers are run; scans and replies are run, and given to `plain` too.
---part N takes an Nth of each. Time is that of the processor in this and all that it starts, memory the
-most that was in use at once. An event is one of the run: those of a settle are counted, by an event
-behind it that finds nothing. A call that takes longer than --seconds (600) is ended and told.
+The table goes to standard output; with --into it takes the place of what stands in that file between the
+lines `<!-- benchmark: begin -->` and `<!-- benchmark: end -->`, with --note above it, which should say how
+the programs were built.
+
+The workloads are those of `tools/make_workload.py --help`, with the number that stands behind the name;
+`small` is bank.work of crates/sdd1/data. --part N takes an Nth of each. Time is that of the processor in the
+program and the system, memory the most that was in use at once, both the least of some runs (--runs, 3).
+Instructions are counted in one further run by valgrind's callgrind, in the program alone; where there is no
+valgrind, or a run takes too long, a dash stands in their place. An event is one of the run: those of a
+settle are counted, by an event after it that finds nothing. A call that takes longer than --seconds (600)
+is ended, and the table says so. Time and memory have a floor, some 2 ms and 2 MB, which is what starting
+a program costs. The whole table takes some 15 minutes with two programs and their instructions.
 """
-import hashlib
 import os
 import subprocess
 import sys
 import tempfile
-import threading
+import time
 from typing import NamedTuple
 
-from command import parser, parts_of, start
+from command import count, parser, parts_of, start
 from make_workload import MEASURED, write_workload
+from measuring import Room
 from program import CRATE
 from report import BadInput
 
-CALLS = [("small", "run")] + [(kind, "run") for kind in MEASURED] + [("scans", "plain"), ("replies", "plain")]
-COUNTER = "lose T1 D1 1\n"
-HEAD = ["workload", "command", "events", "seconds", "MB", "events/s"]
+FINDS_NOTHING = "lose T1 D1 1\n"
+BEGIN, END = "<!-- benchmark: begin -->\n", "<!-- benchmark: end -->\n"
+HEAD = ["workload", "command", "events", "seconds", "MB", "million instructions", "an event"]
+RATIOS = ["ratio: seconds", "MB", "instructions", "same text"]
 
 
-class Measured(NamedTuple):
-    seconds: float
-    megabytes: float
-    events: int             # the number of the last event that is told; None where none is
-    text: str               # a digest of what was printed
-    fault: str
+class Call(NamedTuple):
+    kind: str
+    n: int
+    command: str
 
 
-def files_of(kind, folder, part):
+def several(kind, sizes, *commands):
+    return [Call(kind, n, command) for n in sizes for command in commands]
+
+
+CALLS = (several("small", [1], "run") + several("bank", [42, 420], "run") + several("bank", [2048], "run", "verify")
+         + several("mesh", [1000, 10000, 100000], "run") + several("fragments", [10000], "run") + several("rows", [1000, 10000], "run", "plain")
+         + several("joins", [1000, 10000], "plain") + several("scans", [100], "run", "plain")
+         + several("replies", [200], "run", "plain") + several("texts", [200], "run", "plain")
+         + several("flood", [100000], "run") + several("scatter", [100000], "run") + several("classes", [2048], "run")
+         + several("readers", [270, 2048], "run") + several("resends", [500], "run")
+         + several("largest", [64], "check", "table"))
+
+
+def files_of(kind, folder, n):
     """A catalogue and a workload, with an event at the end that finds nothing."""
     if kind == "small":
-        paths = [os.path.join(CRATE, "data", x) for x in ("bank.toml", "bank.work")]
-        with open(paths[1], encoding="utf-8") as f:
-            text = f.read()
-        paths[1] = os.path.join(folder, "workload")
+        catalogue, given = (os.path.join(CRATE, "data", x) for x in ("bank.toml", "bank.work"))
     else:
-        paths = write_workload(folder, kind, max(1, MEASURED[kind].usual // part))
-        with open(paths[1], encoding="utf-8") as f:
-            text = f.read()
-    with open(paths[1], "w", encoding="utf-8") as f:
-        f.write(text.removesuffix("end\n") + COUNTER + "end\n")
-    return paths
+        catalogue, given = write_workload(folder, kind, n)
+    with open(given, encoding="utf-8") as f:
+        text = f.read()
+    workload = os.path.join(folder, "workload")
+    with open(workload, "w", encoding="utf-8") as f:
+        f.write(text.removesuffix("end\n") + FINDS_NOTHING + "end\n")
+    return [catalogue, workload]
 
 
-def measure(command, words, seconds, folder):
-    """Runs it once; its output goes to a file, and is read behind the clock."""
-    out = os.path.join(folder, "out")
-    with open(out, "wb") as f:
-        try:
-            started = subprocess.Popen(command + words, stdout=f, stderr=subprocess.PIPE, start_new_session=True)
-        except OSError as fault:
-            raise BadInput("%s doesn't run: %s" % (command[0], fault.strerror.lower())) from None
-        late = threading.Timer(seconds, started.kill)
-        late.start()
-        told = started.stderr.read().decode(errors="replace").strip()
-        _, status, used = os.wait4(started.pid, 0)
-        started.returncode = os.waitstatus_to_exitcode(status)
-        ended = not late.is_alive()
-        late.cancel()
-    digest, events = hashlib.sha256(), None
-    with open(out, "rb") as f:
-        for line in f:
-            digest.update(line)
-            number = line.split(b" ", 1)[0]
-            events = int(number) if number.isdigit() else events
-    fault = "over %d s" % seconds if ended else told.split("\n")[0] if status else ""
-    if status and not fault:
-        fault = "status %d" % started.returncode
-    return Measured(used.ru_utime + used.ru_stime, used.ru_maxrss / 1024, events, digest.hexdigest(), fault)
+def words_of(call, program, folder, part):
+    """The words of the call; a report that is judged is made by the program itself."""
+    files = files_of(call.kind, folder, max(1, call.n // part))
+    if call.command in ("check", "table"):
+        return [call.command, files[0]]
+    if call.command == "verify":
+        report = os.path.join(folder, "report")
+        with open(report, "wb") as f:
+            subprocess.run(program + ["run"] + files, stdout=f, check=True)
+        files.append(report)
+    return [call.command] + files
+
+
+class Figures(NamedTuple):
+    """What was measured of one program, and the instructions, where they were counted."""
+    run: object
+    instructions: object
+
+
+def figures(program, words, room, runs):
+    got = room.least(program + words, runs)
+    return Figures(got, None if got.fault else room.instructions(program + words))
 
 
 def cells(got):
-    if got.fault:
-        return ["-", got.fault, "-", "-"]
-    pace = "%d" % (got.events / got.seconds) if got.events and got.seconds else "-"
-    return [str(got.events or "-"), "%.2f" % got.seconds, "%.0f" % got.megabytes, pace]
+    run, counted = got
+    if run.fault:
+        return ["-", run.fault, "-", "-", "-"]
+    each = "%d" % (counted / run.events) if counted and run.events else "-"
+    return [str(run.events or "-"), "%.3f" % run.seconds, "%.0f" % run.megabytes, "%.1f" % (counted / 1e6) if counted else "-", each]
+
+
+def ratio(mine, other):
+    return "%.2f" % (mine / other) if mine and other else "-"
 
 
 def ratios(got, other):
-    if got.fault or other.fault:
-        return ["-", "-", other.fault or "-"]
-    return ["%.3f" % (got.seconds / other.seconds) if other.seconds else "-", "%.2f" % (got.megabytes / other.megabytes),
-            "yes" if got.text == other.text else "NO"]
+    if got.run.fault or other.run.fault:
+        return ["-", "-", "-", other.run.fault or "-"]
+    return [ratio(got.run.seconds, other.run.seconds), ratio(got.run.megabytes, other.run.megabytes),
+            ratio(got.instructions, other.instructions), "yes" if got.run.text == other.run.text else "NO"]
 
 
-def show(rows):
+def table(rows):
+    """The rows as lines of a table, the first one as its head."""
     widths = [max(len(row[k]) for row in rows) for k in range(len(rows[0]))]
-    for k, row in enumerate(rows):
-        print("| %s |" % " | ".join(x.ljust(w) for x, w in zip(row, widths)))
-        if k == 0:
-            print("|%s|" % "|".join("-" * (w + 2) for w in widths))
+    lines = ["| %s |" % " | ".join(x.ljust(w) for x, w in zip(row, widths)) for row in rows]
+    return "\n".join(lines[:1] + ["|%s|" % "|".join("-" * (w + 2) for w in widths)] + lines[1:]) + "\n"
+
+
+def halves(path):
+    """What stands before and after the table in a file."""
+    with open(path, encoding="utf-8") as f:
+        text = f.read()
+    if text.count(BEGIN) != 1 or text.count(END) != 1 or text.index(BEGIN) > text.index(END):
+        raise BadInput("%s: the lines %s and %s don't stand there once each" % (path, BEGIN.strip(), END.strip()))
+    before, rest = text.split(BEGIN)
+    return before + BEGIN, END + rest.split(END)[1]
 
 
 def built():
@@ -118,31 +147,52 @@ def built():
     return [program]
 
 
-def main():
+def demanded():
+    """What the words ask for."""
     asked = parser(__doc__)
     asked.add_argument("--program", metavar="COMMAND", help="a built `sdd1`")
-    asked.add_argument("--reference", metavar="COMMAND", help="a program that takes the same words")
-    asked.add_argument("--only", metavar="KIND", nargs="+", choices=list(dict(CALLS)), help="these workloads alone")
-    asked.add_argument("--part", metavar="N", type=int, default=1, help="an Nth of each workload")
-    asked.add_argument("--seconds", metavar="N", type=int, default=600, help="the most that a call may take")
+    asked.add_argument("--beside", metavar="COMMAND", help="a program that takes the same words")
+    asked.add_argument("--into", metavar="FILE", help="a file with a table that is replaced")
+    asked.add_argument("--note", metavar="TEXT", default="", help="what is said above the table")
+    asked.add_argument("--only", metavar="KIND", nargs="+", choices=["small"] + list(MEASURED), help="these workloads alone")
+    asked.add_argument("--part", metavar="N", type=count, default=1, help="an Nth of each workload")
+    asked.add_argument("--runs", metavar="N", type=count, default=3, help="how often each call is timed")
+    asked.add_argument("--seconds", metavar="N", type=count, default=600, help="the most that a call may take")
     asked = asked.parse_args()
-    if asked.part < 1 or asked.seconds < 1:
-        raise BadInput("--part and --seconds are 1 or more")
+    if 0 in (asked.part, asked.runs, asked.seconds):
+        raise BadInput("--part, --runs and --seconds are 1 or more")
+    return asked
+
+
+def row_of(call, program, beside, asked):
+    """The line of one call."""
+    with tempfile.TemporaryDirectory(prefix="benchmark-") as folder:
+        room, words = Room(folder, asked.seconds), words_of(call, program, folder, asked.part)
+        got = figures(program, words, room, asked.runs)
+        name = call.kind if call.kind == "small" else "%s %d" % (call.kind, max(1, call.n // asked.part))
+        row = [name, call.command] + cells(got)
+        return row + (ratios(got, figures(beside, words, room, asked.runs)) if beside else [])
+
+
+def main():
+    asked = demanded()
     program = built() if asked.program is None else parts_of(asked.program)
-    reference = None if asked.reference is None else parts_of(asked.reference)
-    rows = [HEAD + (["time: ratio", "MB: ratio", "same text"] if reference else [])]
-    for kind, command in CALLS:
-        if asked.only and kind not in asked.only:
-            continue
-        with tempfile.TemporaryDirectory(prefix="benchmark-") as folder:
-            words = [command] + files_of(kind, folder, asked.part)
-            got = measure(program, words, asked.seconds, folder)
-            row = [kind, command] + cells(got)
-            if reference:
-                row += ratios(got, measure(reference, words, asked.seconds, folder))
-        print(" ".join(row), file=sys.stderr)
-        rows.append(row)
-    show(rows)
+    beside = None if asked.beside is None else parts_of(asked.beside)
+    if asked.into:
+        halves(asked.into)
+    rows = [HEAD + (RATIOS if beside else [])]
+    for call in CALLS:
+        if asked.only is None or call.kind in asked.only:
+            rows.append(row_of(call, program, beside, asked))
+            print(" | ".join(rows[-1]), file=sys.stderr)
+    if asked.into is None:
+        print(table(rows), end="")
+        return
+    made = "Made by `tools/benchmark.py` on %d processors, %s; times are the least of %d runs. %s" % (
+        os.cpu_count(), time.strftime("%Y-%m-%d"), asked.runs, asked.note)
+    before, after = halves(asked.into)
+    with open(asked.into, "w", encoding="utf-8") as f:
+        f.write("%s\n%s\n\n%s\n%s" % (before, made.strip(), table(rows), after))
 
 
 if __name__ == "__main__":

@@ -13,6 +13,14 @@ scatter    as `flood`, where each delivery takes a copy at a drawn place of thos
 resends    N times all unacknowledged messages of a link of 1,024, and a settle that delivers all packets
 scans      N queries over 65,536 rows, each of which answers few
 replies    N queries that answer 4,096 rows each
+texts      as `replies`, where each row has a text of 250 bytes: a megabyte a reply
+rows       100 transactions over N rows in 16 fragments at 4 data modules: ranges, scans, joins, changes of one or all
+joins      20 queries over two relations and 20 over three uses of them, N rows in both together
+mesh       a schedule of N lines with losses, repetitions and resends; N/10 small transactions, 8 by 8 modules, 16
+           fragments with up to two copies, 32 classes
+fragments  as `mesh` with 16 by 16 modules, 256 fragments and 64 classes
+largest    a catalogue at its limits: 64 relations of 16 columns, 256 fragments with 16 copies, N classes that read 32
+           fragments and write all; nothing runs
 classes    N transactions in the queues of 64 classes, with one fragment for each two of them
 readers    as `classes`, where each reads all fragments at 16 data modules, and asks its writers there
 
@@ -29,6 +37,7 @@ from typing import Callable, NamedTuple
 from applications import smallbank, tatp, tpcc, ycsb
 from command import count, parser, start
 from drawing import Random
+from large_inputs import fragments, joins, largest, mesh, rows, texts
 from report import BadInput
 
 BANK = os.path.join(os.path.dirname(os.path.abspath(__file__)), "..", "crates", "sdd1", "data", "bank.toml")
@@ -154,6 +163,12 @@ MEASURED = {                # what tools/benchmark.py measures
     "resends": Kind(resends, 200, 4000),
     "scans": Kind(scans, 100, 2048),
     "replies": Kind(replies, 200, 2048),
+    "texts": Kind(texts, 200, 2048),
+    "rows": Kind(rows, 10000, 65536),
+    "joins": Kind(joins, 10000, 65536),
+    "mesh": Kind(mesh, 10000, 250000),
+    "fragments": Kind(fragments, 10000, 250000),
+    "largest": Kind(largest, 64, 64),
     "classes": Kind(classes, 2048, 2048),
     "readers": Kind(readers, 2048, 2048),
 }

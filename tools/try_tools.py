@@ -37,7 +37,9 @@ GOOD = [
     ["make_examples.py", "--check", "--only", "bridge", "two_protocols"] + P,
     ["fuzz.py", "0", "3", "run", "plain"] + P,
     ["all_orders.py", REPORT, WORK, CAT],
-    ["benchmark.py", "--only", "small"] + P,
+    ["benchmark.py", "--only", "small", "--runs", "1"] + P,
+    ["benchmark.py", "--only", "bank", "rows", "largest", "--part", "100", "--beside", "PROGRAM"] + P,
+    ["measure_gate.py", "--log", "ROOM/log", "--into", "ROOM/gate", "--", "true"],
 ]
 BAD = [
     ["make_workload.py"], ["make_workload.py", "nokind", "--into", "ROOM/x"], ["make_workload.py", "bank", "-5", "--into", "ROOM/x"],
@@ -61,7 +63,9 @@ BAD = [
     ["all_orders.py", REPORT, "/no/a", CAT], ["find_broken.py"], ["find_broken.py", "norule"], ["make_broken.py", "x"],
     ["picture.py"], ["picture.py", "/no/a"], ["picture.py", REPORT, "examples/bank/catalogue.toml"], ["graph_picture.py"],
     ["graph_picture.py", "/no/a"] + P, ["page.py"], ["page.py", "/no/a", "/no/b", "--into", "ROOM/x"], ["play.py"], ["play.py", "/no/a"],
-    ["benchmark.py", "--only", "nokind"], ["benchmark.py", "--program", "/no/p"], ["benchmark.py", "--program", ""],
+    ["benchmark.py", "--only", "nokind"], ["benchmark.py", "--only", "small", "--program", "/no/p"], ["benchmark.py", "--program", ""],
+    ["benchmark.py", "--part", "0"] + P, ["benchmark.py", "--only", "small", "--into", "README.md"] + P,
+    ["benchmark.py", "--only", "small", "--beside", "/no/p"] + P, ["measure_gate.py", "--", "/no/p"],
     ["program.py"], ["program.py", "nonsense"], ["program.py", "check", "/no/a"],
     ["write_log_rows.py", "x"],
 ]
