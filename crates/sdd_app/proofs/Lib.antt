@@ -3,6 +3,7 @@ pub mod Counts
 pub mod Entries
 pub mod FileReads
 pub mod Forms
+pub mod MadeSummary
 pub mod Submissions
 pub mod TextPieces
 pub mod Told

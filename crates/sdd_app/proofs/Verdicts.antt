@@ -1,5 +1,5 @@
 -- What a call comes to, from what was read of its files; that it comes to one status.
-use Rattle.std.proofs.Common.{◌≡◌, ℕ, List, [], ◌∷◌, Bool, true, false, Option, Some, None, Result, Ok, Err, refl, ap, sym, ◌∙◌, subst, ◌⊎◌, inl, inr}
+use Rattle.std.proofs.Common.{◌≡◌, ℕ, List, [], ◌∷◌, Option, Some, None, Result, Ok, Err, refl, ap, sym, ◌∙◌, subst, ◌⊎◌, inl, inr}
 use Rattle.std.specs.Prelude.{IsSome, MatchOption, MatchResult, OnOk}
 use Rattle.std.specs.Option.{option_map}
 use Rattle.sdd_base.specs.declared.files.ShelfFile.{ShelfFile}
@@ -14,12 +14,12 @@ use Rattle.sdd_world.specs.declared.ends.WorldEnd.{WorldEnd}
 use Rattle.sdd_world.specs.declared.ends.WorldEnd.TheVariants as ends
 use Rattle.sdd_make.specs.Bank.{bank}
 use Rattle.sdd_make.specs.Turns.{workload_of}
-use Rattle.sdd_run.specs.Runs.{EndsAtLimit, IsReportOn, IsSummaryOn}
+use Rattle.sdd_run.specs.Runs.{EndsAtLimit, IsReportOn}
 use Rattle.sdd_run.proofs.Apart.{report_or_limit, summary_or_limit}
 use Rattle.sdd_control.specs.Report.{report}
 use Rattle.sdd_control.specs.Walk.{control_script}
 use Rattle.sdd_control.specs.declared.script.ControlScript.{ControlScript}
-use Rattle.sdd_app.specs.Answer.{script_named, control_verdict, ComesToControl, BlamesScript, catalogue_named, workload_named, OverCatalogue, ComesToListing, plain_verdict, ComesToPlain, ComesToReport, ComesToRun, ComesToSummary, ComesToVerdict, ComesToVerify, TellsOfRun, judged_as, FormComesTo, ComesTo, FilesOf, FilesAreThere, BlamesCatalogue, BlamesWorkload}
+use Rattle.sdd_app.specs.Answer.{script_named, control_verdict, ComesToControl, BlamesScript, catalogue_named, workload_named, OverCatalogue, ComesToListing, plain_verdict, ComesToPlain, ComesToReport, ComesToRun, ComesToMade, IsMadeSummary, ComesToVerdict, ComesToVerify, TellsOfRun, judged_as, FormComesTo, ComesTo, FilesOf, FilesAreThere, BlamesCatalogue, BlamesWorkload}
 use Rattle.sdd_app.specs.Command.{Form, Check, Graph, Table, Run, Plain, Control, Make, Verify, Advise, form_of, form_in}
 use Rattle.sdd_app.specs.declared.command.Command.{Command}
 use Rattle.sdd_app.specs.Endings.{Ending, FilesRead, FormHasRoom, FormIsOver, IsRead, ToItsEnd, ToItsLimit}
@@ -189,8 +189,10 @@ one_of_run S cat work apart (FaultyWorkload f) w p q = absurd p
 one_report : (cat : Catalogue) (work : Workload) (v w : Verdict) → ComesToReport cat work v → ComesToReport cat work w → status_of v ≡ status_of w
 one_report cat work v w p q = one_of_run (IsReportOn cat work) cat work (report_or_limit cat work) v w p q
 
-one_summary : (cat : Catalogue) (work : Workload) (v w : Verdict) → ComesToSummary cat work v → ComesToSummary cat work w → status_of v ≡ status_of w
-one_summary cat work v w p q = one_of_run (IsSummaryOn cat work) cat work (summary_or_limit cat work) v w p q
+one_made : (seed count : ℕ) (v w : Verdict) → ComesToMade seed count v → ComesToMade seed count w → status_of v ≡ status_of w
+one_made seed count v w p q =
+    one_of_run (IsMadeSummary seed count) bank (workload_of seed count)
+    (λ text told ends. summary_or_limit bank (workload_of seed count) text told.summary ends) v w p q
 
 one_over_work : (reading : Option (Result Workload WorkFault)) (G : Workload → Verdict → Type 0)
     (v w : Verdict) → ((work : Workload) → G work v → G work w → status_of v ≡ status_of w)
@@ -224,7 +226,7 @@ one_of_form fs (Table cat) v w p q = one_over (catalogue_named fs cat) (ComesToL
 one_of_form fs (Run cat work) v w p q = one_over (catalogue_named fs cat) (ComesToRun fs work) v w (λ c a b. one_run fs work c v w a b) p q
 one_of_form fs (Plain cat work) v w p q = one_over (catalogue_named fs cat) (ComesToPlain fs work) v w (λ c a b. one_plain fs work c v w a b) p q
 one_of_form fs (Control file) v w p q = ap status_of (one_verdict (option_map control_verdict (script_named fs file)) v w p q)
-one_of_form fs (Make seed count) v w p q = one_summary bank (workload_of seed count) v w p q
+one_of_form fs (Make seed count) v w p q = one_made seed count v w p q
 one_of_form fs (Verify cat work report) v w p q =
     one_over (catalogue_named fs cat) (ComesToVerify fs work report) v w
     (λ c a b. one_judged fs work report c v w a b) p q

@@ -16,6 +16,7 @@ use Rattle.sdd_verify.specs.Verdict as judging
 use Rattle.sdd_make.specs.Bank.{bank}
 use Rattle.sdd_make.specs.Turns.{workload_of}
 use Rattle.sdd_run.specs.Runs.{EndsAtLimit, IsReportOn, IsSummaryOn}
+use Rattle.sdd_verified.specs.Summaries.{TellsAllDone}
 use Rattle.sdd_app.specs.declared.listing.Listing.{Listing}
 use Rattle.sdd_app.specs.declared.listing.Listing.TheVariants as listings
 use Rattle.sdd_app.specs.Command.{Form, Check, Graph, Table, Run, Plain, Control, Make, Verify, Advise, form_in}
@@ -73,6 +74,15 @@ ComesToReport cat work verdict = TellsOfRun (IsReportOn cat work) cat work verdi
 abbrev pub ComesToSummary : Catalogue → Workload → Verdict → Type 0
 ComesToSummary cat work verdict = TellsOfRun (IsSummaryOn cat work) cat work verdict
 
+-- The summary of the run on the bank of the workload that is made of a seed, with so many transactions: it tells that all
+-- of them are committed.
+pub record IsMadeSummary (seed count : ℕ) (text : List ℕ) : Type 0 where
+  pub summary : IsSummaryOn bank (workload_of seed count) text
+  pub all_committed : TellsAllDone count text
+
+abbrev pub ComesToMade : ℕ → ℕ → Verdict → Type 0
+ComesToMade seed count verdict = TellsOfRun (IsMadeSummary seed count) bank (workload_of seed count) verdict
+
 abbrev pub ComesToRun : List ShelfFile → List ℕ → Catalogue → Verdict → Type 0
 ComesToRun files work cat verdict = OverWorkload files cat work (ComesToReport cat) verdict
 
@@ -106,7 +116,7 @@ FormComesTo files (Table cat) verdict = OverCatalogue files cat (ComesToListing 
 FormComesTo files (Run cat work) verdict = OverCatalogue files cat (ComesToRun files work) verdict
 FormComesTo files (Plain cat work) verdict = OverCatalogue files cat (ComesToPlain files work) verdict
 FormComesTo files (Control file) verdict = ComesToControl files file verdict
-FormComesTo files (Make seed count) verdict = ComesToSummary bank (workload_of seed count) verdict
+FormComesTo files (Make seed count) verdict = ComesToMade seed count verdict
 FormComesTo files (Verify cat work report) verdict = OverCatalogue files cat (ComesToVerify files work report) verdict
 FormComesTo files (Advise cat) verdict = OverCatalogue files cat (ComesToListing listings.Advice) verdict
 

@@ -1,10 +1,8 @@
 //! The command that runs made input.
 ghost use Rattle.std.specs.Prelude.{◌≡◌, ◌≤◌, IfErr};
 ghost use Rattle.sdd_base.specs.declared.limits.TheConstants.{MAX_TXNS};
-ghost use Rattle.sdd_make.specs.Bank.{bank};
-ghost use Rattle.sdd_make.specs.Turns.{workload_of};
 ghost use Rattle.sdd_script.specs.Valid.{IsValid};
-ghost use Rattle.sdd_app.specs.Answer.{ComesToSummary};
+ghost use Rattle.sdd_app.specs.Answer.{ComesToMade, ComesToSummary};
 ghost use Rattle.sdd_app.specs.Verdict.{Answers, AtFault, ComesOfFiles};
 
 use crate::status::Status;
@@ -29,7 +27,7 @@ fn summed_up(alloc: Global, catalogue: &Catalogue, work: Workload) -> Result<Vec
 /// with so many transactions.
 pub fn make_answer(alloc: Global, seed: u32, count: u32) -> Result<Vec<u8>, Status>
     requires { count ≤ MAX_TXNS }
-    ensures told { Answers result (λ v. v.items) (ComesToSummary bank (workload_of seed count)) }
+    ensures told { Answers result (λ v. v.items) (ComesToMade seed count) }
     ensures errors { IfErr result ComesOfFiles }
     ensures no_fault { IfErr result (AtFault ⊥ ⊥) }
     ensures read { IfErr result (λ s. s ≡ Status.ReadFault → ⊥) }

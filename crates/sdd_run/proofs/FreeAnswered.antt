@@ -66,7 +66,7 @@ till_over g after rest h over = elim (till g after rest h) [
   | inr x ↦ x
 ]
 
-lawful_end : (g : Given) (front log : Log) → IsLawful g (front ++ log) → IsLawful g log
+pub lawful_end : (g : Given) (front log : Log) → IsLawful g (front ++ log) → IsLawful g log
 lawful_end g [] log h = h
 lawful_end g (e ∷ front) log h = lawful_end g front log h.1
 

@@ -29,5 +29,8 @@ pub mod Settled
 pub mod OneReport
 pub mod Listed
 pub mod Lossless
+pub mod LowClocks
 pub mod FreeAttempts
 pub mod FreeAnswered
+pub mod Standings
+pub mod Reasons

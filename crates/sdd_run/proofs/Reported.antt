@@ -24,12 +24,16 @@ use Rattle.sdd_run.specs.Pending.{AreAtLastHomes}
 use Rattle.sdd_run.specs.Runs.{AreTables, EndsAtLimit, IsReportOn, IsSummaryOn, begun, given_of, order_of}
 use Rattle.sdd_run.specs.Worlds.{IsRunOf}
 use Rattle.sdd_run.proofs.Beginning.{all_given}
+use Rattle.sdd_run.proofs.Goods.{fits_given}
 use Rattle.sdd_run.proofs.InTurn.{in_turn}
 use Rattle.sdd_run.proofs.LastHomes.{at_last_homes}
+use Rattle.sdd_run.proofs.LowClocks.{low_clocks}
 use Rattle.sdd_run.proofs.Once.{each_once}
 use Rattle.sdd_run.proofs.Ordered.{alike, few, free_undisturbed, left, orderable, replayed, serial, starts}
+use Rattle.sdd_run.proofs.Reasons.{reasons_are}
 use Rattle.sdd_run.proofs.Retold.{retold}
-use Rattle.sdd_run.proofs.RunOf.{known_of}
+use Rattle.sdd_run.proofs.RunOf.{known_of, permitted}
+use Rattle.sdd_waiting.proofs.EventOver.{none_due, over_at_end}
 use Rattle.sdd_run.proofs.Settled.{applied, nothing_lost, quiet_behind, settled}
 
 pub if_ok : {A E : Type 0} (res : Result A E) (P Q : A → Type 0) → ((x : A) → P x → Q x) → IfOk res P → IfOk res Q
@@ -96,7 +100,10 @@ reported cat tables work log sound valid tabled the_log text is =
       alike = alike cat tables work sound valid tabled log the_log;
       free = free_undisturbed cat tables work sound valid tabled log the_log;
       rejections = few cat tables work sound valid tabled log the_log;
+      low_clocks = low_clocks cat tables work sound valid tabled log the_log.lawful;
       nothing_lost = nothing_lost cat tables work sound valid tabled log the_log fine along starting.one_submit;
+      reasons = reasons_are (given_of cat tables work) log (permitted cat tables work sound valid tabled log the_log)
+          (fits_given cat tables work sound valid work.events) (none_due (given_of cat tables work) log (over_at_end (given_of cat tables work) log the_log));
       quiet = quiet_behind cat tables work sound valid tabled log the_log;
       settled = settled cat tables work sound valid tabled log the_log fine along;
       left = λ links up copy there.

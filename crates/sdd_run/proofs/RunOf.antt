@@ -15,7 +15,7 @@ use Rattle.sdd_script.specs.Valid.{HoldsValues, IsValid, IsValidRow, IsValidTxn,
 use Rattle.sdd_script.specs.declared.workload.Workload.{Workload}
 use Rattle.sdd_log.proofs.NewMarks.{lawful_permitted}
 use Rattle.sdd_log.specs.Entries.{Log}
-use Rattle.sdd_log.specs.Lawful.{IsTheLog}
+use Rattle.sdd_log.specs.Lawful.{IsLawful, IsTheLog}
 use Rattle.sdd_log.specs.Locals.{redeclares}
 use Rattle.sdd_log.specs.Permitted.{IsPermitted}
 use Rattle.sdd_upheld.specs.Given.{AreErasOf, HasSoundData, SubmitGiven}
@@ -54,20 +54,17 @@ module _ (cat : Catalogue) (tables : List (List Entry)) (work : Workload) (sound
         alike = λ d here. rows_given cat tables work d here.0 here.1;
       }
 
-  module _ (log : Log) (the_log : IsTheLog (given_of cat tables work) log) where
-    pub permitted : IsPermitted (given_of cat tables work) log
-    permitted = lawful_permitted (given_of cat tables work) log (once work.events valid.submitted) the_log.lawful
-
+  module _ (log : Log) (lawful : IsLawful (given_of cat tables work) log) where
     -- no list is put in force beyond the last
-    pub few_lists : redeclares log ≤ length (classes_in cat work)
+    few_lists : redeclares log ≤ length (classes_in cat work)
     few_lists =
         let all = how_many cat tables work tabled in
         let few = few_redeclares (given_of cat tables work) log (few_ticks (whole_in cat work) (length work.txns) work.events (events_valid cat work valid))
-        the_log.lawful (timely cat tables work valid tabled) (omega (arith, all)) in
+        lawful (timely cat tables work valid tabled) (omega (arith, all)) in
         omega (arith, few, all)
 
-    pub lists : HasSoundLists (given_of cat tables work) log
-    lists k l =
+    pub lawful_lists : HasSoundLists (given_of cat tables work) log
+    lawful_lists k l =
         let few = few_lists in
         let within : k ≤ length (classes_in cat work) = omega (arith, l, few) in
         record {
@@ -75,6 +72,13 @@ module _ (cat : Catalogue) (tables : List (List Entry)) (work : Workload) (sound
           era = era_at cat tables work tabled k within;
           table = (list_at cat tables work tabled k within).force;
         }
+
+  module _ (log : Log) (the_log : IsTheLog (given_of cat tables work) log) where
+    pub permitted : IsPermitted (given_of cat tables work) log
+    permitted = lawful_permitted (given_of cat tables work) log (once work.events valid.submitted) the_log.lawful
+
+    pub lists : HasSoundLists (given_of cat tables work) log
+    lists = lawful_lists log the_log.lawful
 
     pub up : IsUpAtRedeclares (given_of cat tables work) log
     up =

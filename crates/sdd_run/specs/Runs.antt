@@ -26,12 +26,15 @@ use Rattle.sdd_report.specs.Replies.{replies_along}
 use Rattle.sdd_report.specs.Report.{after_replies, report_text}
 use Rattle.sdd_report.specs.Trace.{trace}
 use Rattle.sdd_report.specs.declared.copies.CopyTable.{CopyTable}
+use Rattle.sdd_report.specs.declared.pending.Pending.{Pending}
+use Rattle.sdd_run.specs.Clocks.{HasLowClocks}
 use Rattle.sdd_run.specs.Copies.{rows_left, tables_of}
 use Rattle.sdd_rejections.specs.Few.{AreFewRejected}
 use Rattle.sdd_waiting.specs.Free.{IsFree}
 use Rattle.sdd_run.specs.Free.{IsUndisturbed}
 use Rattle.sdd_run.specs.Settled.{EndsAtRest, EndsQuiet, LosesNothing, NoneIsDown, TellsAllCommitted}
 use Rattle.sdd_run.specs.Standing.{IsSubmittedBefore, StandsBefore, times_in}
+use Rattle.sdd_run.specs.Reasons.{IsReason}
 use Rattle.sdd_run.specs.Reports.{report_of}
 
 -- each list of classes with its protocol table
@@ -106,8 +109,13 @@ pub record IsReportOn (cat : Catalogue) (work : Workload) (text : List ℕ) : Ty
   pub free : (a : Attempt) → IsAttempt (history log) a → IsClassOf (whole_in cat work) a.class → IsFreeInEach cat work a.class
       → IsUndisturbed (history log) a
   pub rejections : AreFewRejected (history log)
+  -- At each moment of the run each clock stands below 2^39 ticks.
+  pub low_clocks : HasLowClocks (given_of cat tables work) log
   -- Each transaction that was submitted stands in the order once, or is listed as pending once, and none does both.
   pub nothing_lost : LosesNothing (report_of (given_of cat tables work) log)
+  -- Each that is listed as pending is told to wait for its turn in a class, for a class at a data module, or for a message
+  -- of a transaction or data module: never for one of U.
+  pub reasons : (one : Pending) → Contains (report_of (given_of cat tables work) log).pending one → IsReason (whole_in cat work) one.why
   -- Where a settle or a redeclare is the last event, the links are quiet at the end. Where they are, and no data module is
   -- down then, each transaction that was submitted is committed, so it stands in the order, and none is pending; and each
   -- copy lists the rows that this database is left with.

@@ -1,5 +1,5 @@
 //! What holds of every run of a workload, told or not.
-ghost use Rattle.std.specs.Prelude.{ℕ, ◌≡◌, ◌≤◌, ◌++◌, ◌∷◌, List};
+ghost use Rattle.std.specs.Prelude.{ℕ, ◌≡◌, ◌≤◌, ◌++◌, ◌∷◌, List, None};
 ghost use Rattle.sdd_base.specs.declared.condition.Cond.{Cond};
 ghost use Rattle.sdd_base.specs.declared.number.ClassNo.{ClassNo};
 ghost use Rattle.sdd_base.specs.declared.number.DmNo.{DmNo};
@@ -10,14 +10,22 @@ ghost use Rattle.sdd_base.specs.declared.site.Site.TheVariants.{D};
 ghost use Rattle.sdd_base.specs.declared.usage.Use.{Use};
 ghost use Rattle.sdd_catalog.specs.Rules.{IsSound};
 ghost use Rattle.sdd_wire.specs.declared.msg.Msg.TheVariants.{Read};
+ghost use Rattle.sdd_log.specs.Due.{site_due};
 ghost use Rattle.sdd_log.specs.Entries.{Given, Hand, Log, history, marks};
-ghost use Rattle.sdd_log.specs.Lawful.{IsTheLog};
-ghost use Rattle.sdd_log.specs.Permitted.{AreSubmittedOnce};
+ghost use Rattle.sdd_log.specs.Lawful.{IsLawful, IsTheLog};
+ghost use Rattle.sdd_log.specs.Locals.{local_of, setting_of};
+ghost use Rattle.sdd_log.specs.Permitted.{AreSubmittedOnce, IsPermitted};
+ghost use Rattle.sdd_facts.specs.Fitting.{FitsGiven};
+ghost use Rattle.sdd_world.specs.Standings.{standing_of};
+ghost use Rattle.sdd_run.specs.Reasons.{IsStanding};
 ghost use Rattle.sdd_waiting.specs.Free.{IsFreeClass};
 ghost use Rattle.sdd_run.specs.Free.{IsAnsweredWithin};
 ghost use Rattle.sdd_catalog.specs.Catalogue.{Catalogue};
 ghost use Rattle.sdd_script.specs.declared.workload.Workload.{Workload};
-ghost use Rattle.sdd_run.specs.Runs.{EndsAtLimit, IsReportOn, IsSummaryOn};
+ghost use Rattle.sdd_protocol.specs.declared.entry.Entry.{Entry};
+ghost use Rattle.sdd_script.specs.Valid.{IsValid};
+ghost use Rattle.sdd_run.specs.Clocks.{HasLowClocks};
+ghost use Rattle.sdd_run.specs.Runs.{AreTables, EndsAtLimit, IsReportOn, IsSummaryOn, given_of};
 
 /// A law: there is one report on the run of a workload at most, and one summary; and none where the
 /// limit ends the run.
@@ -28,6 +36,22 @@ pub fn law_one_report()
         → IsSummaryOn cat work text → IsSummaryOn cat work other → text ≡ other }
     ensures not_both { (cat : Catalogue) (work : Workload) (text : List ℕ) → IsReportOn cat work text
         → EndsAtLimit cat work → ⊥ }
+{}
+
+/// A law: at each moment of the run of a workload each clock stands below 2^39 ticks, whether the run
+/// ends with its last event or at the limit.
+pub fn law_low_clocks()
+    ensures { (cat : Catalogue) (work : Workload) (tables : List (List Entry)) (log : Log) → IsSound cat
+        → IsValid cat work → AreTables cat work tables → IsLawful (given_of cat tables work) log
+        → HasLowClocks (given_of cat tables work) log }
+{}
+
+/// A law: where nothing is due at any site, a transaction that is under way at its site lacks a message
+/// of a transaction or data module, never of U; and one that is queued there has a place from 1 in a class.
+pub fn law_standings()
+    ensures { (given : Given) (log : Log) (at : Site) (n : ℕ) → FitsGiven given → IsPermitted given log
+        → site_due given log ≡ None
+        → IsStanding given.catalogue (standing_of at (setting_of given at) (local_of given at log) n) }
 {}
 
 /// A law: in the log of a run each READ of a class that lies on no simple cycle is answered in the

@@ -4,6 +4,7 @@ use Rattle.sdd_make.specs.Turns.{workload_of}
 use Rattle.sdd_script.specs.Valid.{IsValid}
 use Rattle.sdd_app.specs.Answer.{ComesToSummary}
 use Rattle.sdd_app.specs.Verdict.{Answers}
+use Rattle.sdd_app.proofs.MadeSummary.{all_made}
 use Rattle.sdd_app.proofs.made_input.make_answer.Goals as goal
 
 pub summed_up-requires : goal.summed_up-requires
@@ -13,5 +14,6 @@ summed_up-requires c =
 
 pub returns-clause-told : goal.returns-clause-told
 returns-clause-told c =
-    subst (λ cat. Answers c.summed_up.result (λ v. v.items) (ComesToSummary cat (workload_of c.args.seed c.args.count))) c.in_ok-catalogue.ensures
-    (subst (λ work. Answers c.summed_up.result (λ v. v.items) (ComesToSummary c.in_ok-catalogue.catalogue work)) c.in_ok-work.ensures c.summed_up.ensures.told)
+    all_made c.args.seed c.args.count c.requires c.summed_up.result (λ v. v.items)
+    (subst (λ cat. Answers c.summed_up.result (λ v. v.items) (ComesToSummary cat (workload_of c.args.seed c.args.count))) c.in_ok-catalogue.ensures
+    (subst (λ work. Answers c.summed_up.result (λ v. v.items) (ComesToSummary c.in_ok-catalogue.catalogue work)) c.in_ok-work.ensures c.summed_up.ensures.told))

@@ -1,0 +1,44 @@
+-- The clocks of a run stay low: its events are few, and so are its attempts.
+use Rattle.std.proofs.Common.{List, subst}
+use Rattle.sdd_catalog.proofs.Sound.{sound_whole}
+use Rattle.sdd_catalog.specs.Catalogue.{Catalogue}
+use Rattle.sdd_catalog.specs.Rules.{IsSound}
+use Rattle.sdd_facts.proofs.LowClocks.{clock_low}
+use Rattle.sdd_facts.specs.Bounds.{IsSmall}
+use Rattle.sdd_lists.specs.InForce.{whole_in}
+use Rattle.sdd_log.proofs.NewMarks.{lawful_permitted}
+use Rattle.sdd_log.specs.Entries.{Given, Log}
+use Rattle.sdd_log.specs.Lawful.{IsLawful}
+use Rattle.sdd_protocol.specs.declared.entry.Entry.{Entry}
+use Rattle.sdd_rejections.proofs.OfLogs.{few_in_limit}
+use Rattle.sdd_rest.proofs.ErasOf.{are_eras_of}
+use Rattle.sdd_rest.specs.Eras.{eras_of}
+use Rattle.sdd_run.proofs.FreeAnswered.{lawful_end}
+use Rattle.sdd_run.proofs.Goods.{few_ticks}
+use Rattle.sdd_run.proofs.RunOf.{fine, lawful_lists, submit_given}
+use Rattle.sdd_run.proofs.Whole.{events_valid}
+use Rattle.sdd_run.specs.Clocks.{HasLowClocks}
+use Rattle.sdd_run.specs.Runs.{AreTables, given_of}
+use Rattle.sdd_script.specs.Valid.{IsValid}
+use Rattle.sdd_script.specs.declared.workload.Workload.{Workload}
+use Rattle.sdd_upheld.proofs.Numbered.{lawful_numbered}
+
+pub low_clocks : (cat : Catalogue) (tables : List (List Entry)) (work : Workload) → IsSound (whole_in cat work) → IsValid cat work
+    → AreTables cat work tables → (log : Log) → IsLawful (given_of cat tables work) log → HasLowClocks (given_of cat tables work) log
+low_clocks cat tables work sound valid tabled log lawful later before at is =
+    let g : Given = given_of cat tables work in
+    let whole = sound_whole (whole_in cat work) sound in
+    let submits = submit_given cat tables work sound valid tabled in
+    let now : IsLawful g before = lawful_end g later before (subst (IsLawful g) is lawful) in
+    let small : IsSmall g = record {
+      few_tms = whole.few_tms;
+      few_dms = whole.few_dms;
+      few_classes = whole.few_classes;
+      few_ticks = few_ticks (whole_in cat work) _ work.events (events_valid cat work valid);
+      once = submits.once;
+    } in
+    clock_low g before at small now valid.few_events
+    (few_in_limit g work.rows before (eras_of g before) sound (fine cat tables work sound valid tabled)
+    (lawful_permitted g before submits.once now)
+    (are_eras_of g before (lawful_lists cat tables work sound valid tabled before now))
+    (lawful_numbered g before submits now) valid.few_txns)

@@ -1,0 +1,368 @@
+-- Between calls no attempt waits for a message of U: it lacks the answer of a data module; and an undeclared transaction
+-- whose attempt hasn't begun waits for a transaction module.
+use Rattle.std.proofs.Common.{ℕ, suc, zero, ◌==◌, ◌-◌, ◌≡◌, ◌≤◌, ◌∷◌, ◌⊎◌, ◌∙◌, Bool, List, None, Option, Some, [], ap, arith, false, if◌then◌else◌, inl, inr, is_none, length, map, min, not, refl, slice_get, subst, sym, true}
+use Rattle.std.specs.List.{find, fold, list_all}
+use Rattle.std.specs.Prelude.{option_map, position}
+use Rattle.std.proofs.Math.Decide.{dec_le}
+use Rattle.std.proofs.lemmas.Bool.{eq-eqb, eqb-true}
+use Rattle.sdd_base.specs.Numbers.{tm_no}
+use Rattle.sdd_base.specs.Sites.{sites}
+use Rattle.sdd_base.specs.Words.{contains, head_of, is_empty}
+use Rattle.sdd_base.specs.declared.number.ClassNo.{ClassNo}
+use Rattle.sdd_base.specs.declared.site.Site.{Site}
+use Rattle.sdd_base.specs.declared.site.Site.TheVariants.{D, T, U}
+use Rattle.sdd_catalog.proofs.Sound.{sound_whole}
+use Rattle.sdd_catalog.specs.Catalogue.{Catalogue, class_at, numbers_to}
+use Rattle.sdd_catalog.specs.Rules.{IsSound}
+use Rattle.sdd_wire.specs.declared.msg.Msg.{Msg}
+use Rattle.sdd_net.specs.Nets.{is_site}
+use Rattle.sdd_module.specs.SiteLog.{Act}
+use Rattle.sdd_order.specs.Numbers.{IsClass, IsFrom1To, IsModule}
+use Rattle.sdd_attempt.specs.Acts.{attempt_due}
+use Rattle.sdd_attempt.specs.Attempts.{Attempt, active}
+use Rattle.sdd_attempt.specs.Exchange.{Exchange, first_send, is_over, send_due}
+use Rattle.sdd_attempt.specs.Lines.{Line}
+use Rattle.sdd_attempt.specs.Queues.{Queued, queue}
+use Rattle.sdd_attempt.specs.Standings.{lower, lowest, or_standing, queued_at, site_of, standing_among, standing_by, standing_of, underway, waiting}
+use Rattle.sdd_attempt.specs.declared.standing.Standing.{Standing}
+use Rattle.sdd_attempt.specs.declared.standing.Standing.TheVariants as standings
+use Rattle.sdd_tm.specs.Due as tm
+use Rattle.sdd_tm.specs.State as tm_states
+use Rattle.sdd_tm.specs.Views as tm_views
+use Rattle.sdd_umod.specs.Due as um
+use Rattle.sdd_umod.specs.Standing as u_standing
+use Rattle.sdd_umod.specs.State as um_states
+use Rattle.sdd_umod.specs.Steps.{tm_of}
+use Rattle.sdd_umod.specs.Views as um_views
+use Rattle.sdd_umod.specs.Views.{TmCounts, counts, last_served}
+use Rattle.sdd_log.specs.Due.{does_at, next_at, site_due}
+use Rattle.sdd_log.specs.Entries.{Given, Log}
+use Rattle.sdd_log.specs.Locals.{local_of, setting_of}
+use Rattle.sdd_log.specs.Permitted.{IsPermitted}
+use Rattle.sdd_log.specs.Snapshots.{base_of}
+use Rattle.sdd_invariants.proofs.Bools.{and_left, both, not_both, not_zero, or_left, or_right, same_or_not}
+use Rattle.sdd_invariants.proofs.Fair.{home_fair}
+use Rattle.sdd_invariants.proofs.Holding.{at_map}
+use Rattle.sdd_invariants.proofs.Lists.{in_filtered, in_mapped, in_range}
+use Rattle.sdd_invariants.proofs.Serving.{counts_tm}
+use Rattle.sdd_invariants.specs.AtU.{AllZero}
+use Rattle.sdd_invariants.specs.Steps.{home}
+use Rattle.sdd_facts.proofs.AtTurn.{StandsAt, answered_last, apart, awaited, unsent}
+use Rattle.sdd_facts.proofs.Halves.{home_turns}
+use Rattle.sdd_facts.proofs.Hearing.{AtTurn}
+use Rattle.sdd_facts.proofs.HoldsFit.{chain_at}
+use Rattle.sdd_facts.proofs.Modules.{firsts}
+use Rattle.sdd_facts.proofs.Near.{HasNear, IsNear, IsNearBy, active_near}
+use Rattle.sdd_facts.proofs.OfNext.{site_there}
+use Rattle.sdd_facts.proofs.Spoken.{spoken}
+use Rattle.sdd_facts.proofs.Starts.{small_home}
+use Rattle.sdd_facts.specs.Fitting.{FitsGiven}
+use Rattle.sdd_facts.specs.Turns.{Turn, turn_at}
+use Rattle.sdd_rest.proofs.Lacking.{goes_on}
+use Rattle.sdd_rest.proofs.Lists.{all_true, either, if_none, none_at}
+use Rattle.sdd_rest.proofs.NoRejects.{all_served}
+use Rattle.sdd_rest.proofs.Still.{run_at, runs_place, t_site}
+use Rattle.sdd_rest.specs.Quiet.{at_home}
+use Rattle.sdd_step.proofs.Ticking.{or_none}
+use Rattle.sdd_upheld.proofs.Homes.{positive}
+use Rattle.sdd_world.specs.AtSites.{standing_at}
+use Rattle.sdd_world.specs.Standings.{standing_at_t, standing_at_u}
+use Rattle.sdd_run.specs.Reasons.{IsNumberedSite, IsStanding}
+
+-- the lowest of some numbers is one of them
+
+lower_one : (m n : ℕ) → (min m n ≡ m) ⊎ (min m n ≡ n)
+lower_one m n = elim (dec_le m n) [ yes p ↦ inl (omega (arith, p)) | no p ↦ inr (omega (arith, p)) ]
+
+lowest_behind : (m : ℕ) (ns : List ℕ) → (d : ℕ) × (fold lower (Some m) ns ≡ Some d) × ((d ≡ m) ⊎ (contains ns d ≡ true))
+lowest_behind m [] = (m, refl, inl refl)
+lowest_behind m (n ∷ ns) =
+    let i = lowest_behind (min m n) ns in (
+      i.0,
+      i.1,
+      elim i.2 [
+        | inl p ↦ elim (lower_one m n) [
+          | inl q ↦ inl (p ∙ q)
+          | inr q ↦ inr (or_left (n == i.0) (contains ns i.0) (eq-eqb n i.0 (sym (p ∙ q))))
+        ]
+        | inr p ↦ inr (or_right (n == i.0) (contains ns i.0) p)
+      ],
+    )
+
+lowest_there : (ns : List ℕ) → is_empty ns ≡ false → (d : ℕ) × (lowest ns ≡ Some d) × (contains ns d ≡ true)
+lowest_there [] e = cc
+lowest_there (n ∷ ns) e =
+    let i = lowest_behind n ns in (
+      i.0,
+      i.1,
+      elim i.2 [
+        | inl p ↦ or_left (n == i.0) (contains ns i.0) (eq-eqb n i.0 (sym p))
+        | inr p ↦ or_right (n == i.0) (contains ns i.0) p
+      ],
+    )
+
+-- the first item that passes a test is one of the list
+record IsFound {A : Type 0} (p : A → Bool) (xs : List A) : Type 0 where
+  place : ℕ
+  item : A
+  there : slice_get xs place ≡ Some item
+  found : find p xs ≡ Some item
+
+abbrev FailAll : {A : Type 0} → (A → Bool) → List A → Type 0
+FailAll {A = A} p xs = (k : ℕ) (x : A) → slice_get xs k ≡ Some x → p x ≡ false
+
+fail_more : {A : Type 0} (p : A → Bool) (y : A) (xs : List A) → p y ≡ false → FailAll p xs → FailAll p (y ∷ xs)
+fail_more p y xs e none zero x is = let q : y ≡ x = cc in subst (λ z. p z ≡ false) q e
+fail_more p y xs e none (suc k) x is = none k x is
+
+found_or_none : {A : Type 0} (p : A → Bool) (xs : List A) → IsFound p xs ⊎ FailAll p xs
+found_or_none p [] = inr (λ k x e. cc)
+found_or_none {A = A} p (y ∷ xs) =
+    elim (p y) as (λ b. p y ≡ b → IsFound p (y ∷ xs) ⊎ FailAll p (y ∷ xs)) [
+      | true ↦ λ e. inl (record { place = 0; item = y; there = refl; found = rw e refl })
+      | false ↦ λ e. elim (found_or_none p xs) [
+        | inl f ↦ inl (record { place = suc f.place; item = f.item; there = f.there; found = rw e f.found })
+        | inr none ↦ inr (fail_more p y xs e none)
+      ]
+    ] refl
+
+-- nothing is due at a site
+
+no_act : (at : Site) (o : Option Act) → does_at at o ≡ None → o ≡ None
+no_act at None e = refl
+no_act at (Some act) e = cc
+
+module _ (g : Given) (log : Log) (idle : site_due g log ≡ None) where
+  none_next : (at : Site) → is_site g.catalogue.tms g.catalogue.dms at ≡ true → next_at g log at ≡ None
+  none_next at e =
+      let i = site_there g.catalogue.tms g.catalogue.dms at e in
+      no_act at (next_at g log at) (none_at (λ x. does_at x (next_at g log x)) (sites g.catalogue.tms g.catalogue.dms) i.0 at idle i.1)
+
+  -- nor of the active attempt of a class
+
+  none_at_u : attempt_due g.catalogue (base_of g log) 0 (active (setting_of g U) 0 (local_of g U log)) ≡ None
+  none_at_u =
+      let v = um_views.view_of (setting_of g U) (local_of g U log) in
+      let e : um.due g.catalogue (base_of g log) v ≡ None = none_next U refl in
+      (or_none (attempt_due g.catalogue (base_of g log) 0 v.active) _ e).0
+
+  none_started : um.start_due g.catalogue (um_views.view_of (setting_of g U) (local_of g U log)) ≡ None
+  none_started =
+      let v = um_views.view_of (setting_of g U) (local_of g U log) in
+      let e : um.due g.catalogue (base_of g log) v ≡ None = none_next U refl in
+      let p = or_none (attempt_due g.catalogue (base_of g log) 0 v.active) _ e in
+      let q = or_none _ _ p.1 in
+      (or_none (um.start_due g.catalogue v) _ q.1).0
+
+  none_at_t : (t j c : ℕ) → 1 ≤ t → t ≤ g.catalogue.tms → slice_get (tm_views.runs (setting_of g (T (tm_no t)))) j ≡ Some c
+      → attempt_due g.catalogue (base_of g log) c (active (setting_of g (T (tm_no t))) c (local_of g (T (tm_no t)) log)) ≡ None
+  none_at_t t j c l m i =
+      let s = setting_of g (T (tm_no t)) in
+      let lt = local_of g (T (tm_no t)) log in
+      let v = tm_views.view_of s lt in
+      let e : tm.due g.catalogue (base_of g log) v ≡ None = none_next (T (tm_no t)) (t_site g.catalogue t l m) in
+      none_at (tm.exchange_due g.catalogue (base_of g log)) v.classes j (tm_views.class_view s lt c) (or_none _ _ e).0
+      (at_map (tm_views.class_view s lt) (tm_views.runs s) j c i)
+
+  none_of_class : (c : ℕ) → IsSound g.catalogue → IsClass g.catalogue c
+      → attempt_due g.catalogue (base_of g log) c (active (setting_of g (home g.catalogue c)) c (at_home g c log)) ≡ None
+  none_of_class c sound l = elim (same_or_not c 0) [
+    | inl p ↦ subst (λ k. attempt_due g.catalogue (base_of g log) k (active (setting_of g (home g.catalogue k)) k (at_home g k log)) ≡ None) (sym p) none_at_u
+    | inr p ↦ (let r = run_at g.catalogue c sound p l in
+        let j = runs_place g c r.t (positive c p) l r.number_is in
+        subst (λ x. attempt_due g.catalogue (base_of g log) c (active (setting_of g x) c (local_of g x log)) ≡ None) (sym r.home_is)
+        (none_at_t r.t j.0 c r.from r.to j.1))
+  ]
+
+-- an attempt that has nothing to send and isn't over lacks the answer of a data module
+
+no_sends : (ms : List (ℕ × Msg)) → first_send ms ≡ None → ms ≡ []
+no_sends [] e = refl
+no_sends (m ∷ ms) e = cc
+
+asked_there : (d : ℕ) (x : Exchange) (v : Turn) → x.to_send ≡ [] → contains x.lacks d ≡ true → StandsAt d x v → contains (firsts x.modules) d ≡ true
+asked_there d x v e l (unsent m q ns a b s t u w f h) = h
+asked_there d x v e l (awaited m ns a b s w f h) = h
+asked_there d x v e l (answered_last q ns a b s t f h) = h
+asked_there d x v e l (apart a b s h) = absurd (not_both (contains x.lacks d) l b)
+
+near_one : (n d : ℕ) (ms : List (ℕ × List ℕ)) (x : Exchange) → IsNearBy n (record x { modules = ms }) → contains (firsts ms) d ≡ true → IsNear n d
+near_one n d [] x h e = cc
+near_one n d (m ∷ ms) x h e = elim (either (m.0 == d) (contains (firsts ms) d) e) [
+  | inl p ↦ subst (IsNear n) (eqb-true m.0 d p) h.modules.0
+  | inr p ↦ near_one n d ms x (record { modules = h.modules.1; sends = h.sends }) p
+]
+
+module _ (g : Given) (log : Log) (permitted : IsPermitted g log) (good : FitsGiven g) (idle : site_due g log ≡ None) where
+  lacks_answer : (c : ℕ) (a : Attempt) → IsClass g.catalogue c → active (setting_of g (home g.catalogue c)) c (at_home g c log) ≡ Some a
+      → IsNumberedSite g.catalogue (site_of (lowest a.exchange.lacks))
+  lacks_answer c a l e =
+      let s = setting_of g (home g.catalogue c) in
+      let going = goes_on g log c a permitted good l e in
+      let due : attempt_due g.catalogue (base_of g log) c (Some a) ≡ None =
+      subst (λ o. attempt_due g.catalogue (base_of g log) c o ≡ None) e (none_of_class g log idle c good.sound l) in
+      let p = or_none (send_due a.exchange) _ due in
+      let low = lowest_there a.exchange.lacks (going.lacks (if_none (is_over a.exchange.phase) _ p.1)) in
+      let d : ℕ = low.0 in
+      let turns = home_turns g c log permitted (spoken g c log permitted (small_home g.catalogue good.sound c l)) in
+      let stands : AtTurn a.ts d (Some a) (turn_at a.ts c d (at_home g c log)) =
+      subst (λ o. AtTurn a.ts d o (turn_at a.ts c d (at_home g c log))) e (turns.turns a.ts d) in
+      let near : IsNearBy g.catalogue.dms a.exchange =
+      subst (HasNear g.catalogue.dms) e (active_near s c (at_home g c log) (sound_whole g.catalogue good.sound) (home_fair g c log permitted)) in
+      let m : IsModule g.catalogue d = near_one g.catalogue.dms d a.exchange.modules a.exchange near
+      (asked_there d a.exchange (turn_at a.ts c d (at_home g c log)) (no_sends a.exchange.to_send p.0) low.2 (stands.0 refl)) in
+      subst (λ o. IsNumberedSite g.catalogue (site_of o)) (sym low.1) m
+
+-- so in the line of a class each transaction stands as it may
+
+queued_stands : (cat : Catalogue) (c : ℕ) (o : Option ℕ) → IsClass cat c → IsStanding cat (queued_at c o)
+queued_stands cat c None l = tt
+queued_stands cat c (Some place) l = (l, omega arith)
+
+line_stands : (cat : Catalogue) (c : ℕ) (qs : List Queued) (o : Option Attempt) (n : ℕ) → IsClass cat c
+    → ((a : Attempt) → o ≡ Some a → IsNumberedSite cat (site_of (lowest a.exchange.lacks))) → IsStanding cat (standing_by c qs o n)
+line_stands cat c qs None n l f = queued_stands cat c (position (λ (q : Queued). q.number == n) qs) l
+line_stands cat c qs (Some a) n l f =
+    elim (a.txn == n)
+    as (λ b. IsStanding cat (if b then underway c a.ts a.exchange else queued_at c (position (λ (q : Queued). q.number == n) (waiting (Some a) qs)))) [
+      | true ↦ f a refl
+      | false ↦ queued_stands cat c (position (λ (q : Queued). q.number == n) (waiting (Some a) qs)) l
+    ]
+
+first_stands : (cat : Catalogue) (s next : Standing) → IsStanding cat s → IsStanding cat next → IsStanding cat (or_standing s next)
+first_stands cat standings.Absent next h i = i
+first_stands cat (standings.Queued class place) next h i = h
+first_stands cat (standings.Underway class ts at) next h i = h
+
+among_stands : (cat : Catalogue) (ls : List Line) (n : ℕ) → ((j : ℕ) (l : Line) → slice_get ls j ≡ Some l → IsStanding cat (standing_of l n))
+    → IsStanding cat (standing_among ls n)
+among_stands cat [] n h = tt
+among_stands cat (l ∷ ls) n h =
+    first_stands cat (standing_of l n) (standing_among ls n) (h 0 l refl) (among_stands cat ls n (λ j x e. h (suc j) x e))
+
+-- a class that runs at a transaction module
+run_here : (g : Given) (t j c : ℕ) → slice_get (tm_views.runs (setting_of g (T (tm_no t)))) j ≡ Some c
+    → IsClass g.catalogue c × (home g.catalogue c ≡ T (tm_no t))
+run_here g t j c e =
+    let i = in_filtered (λ k. (class_at g.catalogue k).tm.0 == t) (numbers_to (length g.catalogue.classes)) j c e in
+    let r = in_range 1 (length g.catalogue.classes) i.1 c i.2 in
+    let at : (class_at g.catalogue c).tm.0 ≡ t = eqb-true (class_at g.catalogue c).tm.0 t i.0 in
+    let here : home g.catalogue c ≡ T (tm_no (class_at g.catalogue c).tm.0) = rw (not_zero c r.0) refl in
+    (omega (arith, r.1), here ∙ ap (λ n. T (tm_no n)) at)
+
+-- at U, before an attempt begins
+
+zero_head : (qs : List Queued) (q : Queued) → AllZero qs → head_of qs ≡ Some q → q.tries ≡ 0
+zero_head [] q h e = cc
+zero_head (x ∷ qs) q h e = let p : x ≡ q = cc in ap (λ (y : Queued). y.tries) (sym p) ∙ h.0
+
+no_active : (o : Option Attempt) → is_none o ≡ true → o ≡ None
+no_active None e = refl
+no_active (Some a) e = cc
+
+has_head : (c : ℕ) (qs : List Queued) (n : ℕ) (class : ClassNo) (place : ℕ) → standing_by c qs None n ≡ standings.Queued class place
+    → (q : Queued) × (head_of qs ≡ Some q)
+has_head c [] n class place e = cc
+has_head c (q ∷ qs) n class place e = (q, refl)
+
+not_false : (b : Bool) → not b ≡ false → b ≡ true
+not_false true e = refl
+not_false false e = cc
+
+one_less : (place : ℕ) → 1 ≤ place → (place == 1) ≡ false → 1 ≤ place - 1
+one_less zero l e = omega (arith, l)
+one_less (suc zero) l e = cc
+one_less (suc (suc place)) l e = omega arith
+
+first_underway_stands : (cat : Catalogue) (at : Site) (s : Standing) → IsStanding cat s
+    → ((class : ClassNo) (place : ℕ) → s ≡ standings.Queued class place → IsNumberedSite cat at) → IsStanding cat (u_standing.first_underway at s)
+first_underway_stands cat at standings.Absent h f = tt
+first_underway_stands cat at (standings.Queued class place) h f =
+    elim (place == 1)
+    as (λ b. (place == 1) ≡ b → IsStanding cat (if b then standings.Underway class None at else standings.Queued class (place - 1))) [
+      | true ↦ λ e. f class place refl
+      | false ↦ λ e. (h.0, one_less place h.1 e)
+    ] refl
+first_underway_stands cat at (standings.Underway class ts site) h f = h
+
+module _ (g : Given) (log : Log) (permitted : IsPermitted g log) (good : FitsGiven g) (idle : site_due g log ≡ None) where
+  -- of each T what was counted
+  of_t : (k : ℕ) (x : TmCounts) → slice_get (map (λ t. counts t (local_of g U log)) (numbers_to g.catalogue.tms)) k ≡ Some x
+      → (t : ℕ) × IsFrom1To g.catalogue.tms t × (counts t (local_of g U log) ≡ x)
+  of_t k x e =
+      let r = in_mapped (λ t. counts t (local_of g U log)) (numbers_to g.catalogue.tms) k x e in
+      let i = in_range 1 g.catalogue.tms k r.0 r.1 in
+      (r.0, (i.0, omega (arith, i.1)), r.2)
+
+  -- where no HELD lacks, each T holds
+  all_hold : FailAll (u_standing.lacks_held (suc (last_served (setting_of g U) (local_of g U log)).commits))
+      (map (λ t. counts t (local_of g U log)) (numbers_to g.catalogue.tms))
+      → list_all (um.is_holding (um_views.view_of (setting_of g U) (local_of g U log)))
+      (map (λ t. counts t (local_of g U log)) (numbers_to g.catalogue.tms)) ≡ true
+  all_hold none =
+      let lu = local_of g U log in
+      let v = um_views.view_of (setting_of g U) lu in
+      let n : ℕ = (last_served (setting_of g U) lu).commits in
+      all_true (um.is_holding v) (map (λ t. counts t lu) (numbers_to g.catalogue.tms)) (λ k x e.
+      (let r = of_t k x e in
+      let c = chain_at g (tm_no r.0) log r.1.0 r.1.1 permitted in
+      let same : (counts r.0 lu).helds ≡ x.helds = ap (λ (y : TmCounts). y.helds) r.2 in
+      let told : (counts r.0 lu).helds ≡ suc n = same ∙ eqb-true x.helds (suc n) (not_false _ (none k x e)) in
+      let held : (counts r.0 lu).holds ≡ suc n = omega (arith, told, c.put_held, c.got_hold, c.put_hold, c.one_ahead, c.committed) in
+      ap (um.is_holding v) (sym r.2) ∙ both _ _ (eq-eqb _ _ held) (eq-eqb _ _ told)))
+
+  waits_for_t : (n : ℕ) (class : ClassNo) (place : ℕ) → active (setting_of g U) 0 (local_of g U log) ≡ None
+      → standing_by 0 (queue (setting_of g U) 0 (local_of g U log)) (active (setting_of g U) 0 (local_of g U log)) n ≡ standings.Queued class place
+      → IsNumberedSite g.catalogue (u_standing.lacking_site (um_states.state_of (setting_of g U) (local_of g U log)))
+  waits_for_t n class place none e =
+      let s = setting_of g U in
+      let lu = local_of g U log in
+      let v = um_views.view_of s lu in
+      elim (found_or_none (u_standing.lacks_held (suc (last_served s lu).commits)) (map (λ t. counts t lu) (numbers_to g.catalogue.tms))) [
+        | inl f ↦
+            (let r = of_t f.place f.item f.there in
+            let number : r.0 ≡ f.item.tm = sym (counts_tm r.0 lu) ∙ ap (λ (y : TmCounts). y.tm) r.2 in
+            subst (λ o. IsNumberedSite g.catalogue (u_standing.site_of (option_map tm_of o))) (sym f.found) (subst (IsFrom1To g.catalogue.tms) number r.1))
+        | inr all ↦
+            (let q = has_head 0 (queue s 0 lu) n class place (subst (λ o. standing_by 0 (queue s 0 lu) o n ≡ standings.Queued class place) none e) in
+            let served = all_served g log (sound_whole g.catalogue good.sound) permitted none in
+            let fresh : q.0.tries ≡ 0 = zero_head (queue s 0 lu) q.0 served.1 q.1 in
+            let due : um.start_of g.catalogue v (Some q.0) ≡ None = subst (λ o. um.start_of g.catalogue v o ≡ None) q.1 (none_started g log idle) in
+            absurd (not_both _ (both _ _ (eq-eqb _ _ fresh) (all_hold all)) (if_none _ _ due)))
+      ]
+
+  stands_at_u : (n : ℕ) → IsStanding g.catalogue (standing_at_u (setting_of g U) (local_of g U log) n)
+  stands_at_u n =
+      let s = setting_of g U in
+      let lu = local_of g U log in
+      let state = um_states.state_of s lu in
+      let line = line_stands g.catalogue 0 (queue s 0 lu) (active s 0 lu) n (omega arith) (λ a e. lacks_answer g log permitted good idle 0 a (omega arith) e) in
+      elim (u_standing.is_awaiting_helds state)
+      as (λ b. u_standing.is_awaiting_helds state ≡ b
+      → IsStanding g.catalogue (if b then u_standing.first_underway (u_standing.lacking_site state) (standing_of state.line n) else standing_of state.line n)) [
+        | true ↦ λ e.
+            first_underway_stands g.catalogue (u_standing.lacking_site state) (standing_of state.line n) line (λ class place is.
+            waits_for_t n class place (no_active (active s 0 lu) (and_left _ _ e)) is)
+        | false ↦ λ e. line
+      ] refl
+
+  stands_at_t : (t n : ℕ) → IsStanding g.catalogue (standing_at_t (setting_of g (T (tm_no t))) (local_of g (T (tm_no t)) log) n)
+  stands_at_t t n =
+      let s = setting_of g (T (tm_no t)) in
+      let lt = local_of g (T (tm_no t)) log in
+      let states = map (tm_states.class_of s lt) (tm_views.runs s) in
+      among_stands g.catalogue (map (λ (k : tm_states.ClassState). k.line) states) n (λ j l e.
+      (let r = in_mapped (λ (k : tm_states.ClassState). k.line) states j l e in
+      let q = in_mapped (tm_states.class_of s lt) (tm_views.runs s) j r.0 r.1 in
+      let run = run_here g t j q.0 q.1 in
+      let line : (tm_states.class_of s lt q.0).line ≡ l = ap (λ (k : tm_states.ClassState). k.line) q.2 ∙ r.2 in
+      subst (λ x. IsStanding g.catalogue (standing_of x n)) line
+      (line_stands g.catalogue q.0 (queue s q.0 lt) (active s q.0 lt) n run.0 (λ a is.
+      lacks_answer g log permitted good idle q.0 a run.0
+      (subst (λ y. active (setting_of g y) q.0 (local_of g y log) ≡ Some a) (sym run.1) is)))))
+
+  -- at each site each transaction stands as it may
+  pub each_stands : (at : Site) (n : ℕ) → IsStanding g.catalogue (standing_at standing_at_u standing_at_t at (setting_of g at) (local_of g at log) n)
+  each_stands U n = stands_at_u n
+  each_stands (T t) n = stands_at_t t.0 n
+  each_stands (D d) n = tt

@@ -1,0 +1,46 @@
+-- What a pending transaction may be told to wait for.
+use Rattle.std.specs.Prelude.{◌≡◌, ◌≤◌, ◌∷◌, [], Some, refl}
+use Rattle.sdd_base.specs.Numbers.{class_no, dm_no, time_at, tm_no, txn_no}
+use Rattle.sdd_base.specs.declared.event.Event.TheVariants.{Submit}
+use Rattle.sdd_base.specs.declared.site.Site.{Site}
+use Rattle.sdd_base.specs.declared.site.Site.TheVariants.{D, T, U}
+use Rattle.sdd_catalog.specs.Catalogue.{Catalogue}
+use Rattle.sdd_order.specs.Numbers.{IsClass, IsFrom1To, IsModule}
+use Rattle.sdd_attempt.specs.declared.standing.Standing.{Standing}
+use Rattle.sdd_attempt.specs.declared.standing.Standing.TheVariants as standings
+use Rattle.sdd_log.specs.Due.{extended}
+use Rattle.sdd_log.specs.Entries.{Log}
+use Rattle.sdd_log.specs.Locals.{local_of, setting_of}
+use Rattle.sdd_report.specs.declared.pending.Why.{Why}
+use Rattle.sdd_report.specs.declared.pending.Why.TheVariants.{Queued, Underway, Waits}
+use Rattle.sdd_rest.specs.Examples.{crossing_with}
+use Rattle.sdd_world.specs.Standings.{standing_of}
+
+-- a transaction or data module of the catalogue: a site other than U
+abbrev pub IsNumberedSite : Catalogue → Site → Type 0
+IsNumberedSite cat U = ⊥
+IsNumberedSite cat (T t) = IsFrom1To cat.tms t.0
+IsNumberedSite cat (D d) = IsModule cat d.0
+
+-- its turn in a class, at a place from 1; a class at a data module; or a message of a site, never of U
+abbrev pub IsReason : Catalogue → Why → Type 0
+IsReason cat (Queued class place) = IsClass cat class.0 × (1 ≤ place)
+IsReason cat (Waits waiting) = IsModule cat waiting.dm.0
+IsReason cat (Underway at) = IsNumberedSite cat at
+
+-- the same of how a site has a transaction
+abbrev pub IsStanding : Catalogue → Standing → Type 0
+IsStanding cat standings.Absent = Unit {0}
+IsStanding cat (standings.Queued class place) = IsClass cat class.0 × (1 ≤ place)
+IsStanding cat (standings.Underway class ts at) = IsNumberedSite cat at
+
+-- worked: a query has begun, and lacks the answer of the data module
+
+abbrev begun : Log
+begun = extended 3 (crossing_with (Submit (txn_no 1) ∷ [])) []
+
+pub lacks_answer
+    : standing_of (T (tm_no 1)) (setting_of (crossing_with (Submit (txn_no 1) ∷ [])) (T (tm_no 1)))
+    (local_of (crossing_with (Submit (txn_no 1) ∷ [])) (T (tm_no 1)) begun) 1
+    ≡ standings.Underway (class_no 1) (Some (time_at 65)) (D (dm_no 1))
+lacks_answer = refl
