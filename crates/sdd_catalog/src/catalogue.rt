@@ -242,14 +242,13 @@ fn resolve(alloc: Global, parts: &Parts) -> Result<Catalogue, NoMemory>
 {
     let relations = parts.relations.as_slice();
     let fragments = parts.fragments.as_slice();
-    let classes = parts.classes.as_slice();
     Ok(Catalogue {
         alloc,
         tms: parts.tms,
         dms: parts.dms,
         relations: resolve_relations(alloc, relations)?,
         fragments: resolve_fragments(alloc, relations, fragments)?,
-        classes: resolve_classes(alloc, fragments, classes)?,
+        classes: resolve_classes(alloc, parts)?,
         ranges: range_table(alloc, relations, fragments)?,
     })
 }

@@ -31,5 +31,5 @@ pub(crate) fn first_fault(alloc: Global, parts: &Parts) -> Result<Option<CatFaul
     if let Some(fault) = range_fault(alloc, relations, fragments)? {
         return Ok(Some(fault));
     }
-    Ok(class_fault(parts, parts.classes.as_slice()))
+    Ok(class_fault(alloc, parts)?)
 }

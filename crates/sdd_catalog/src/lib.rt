@@ -7,6 +7,7 @@ mod count_rules;
 mod fault;
 mod first_fault;
 mod fragment_rules;
+mod indexed;
 mod named;
 mod naming;
 mod parts;

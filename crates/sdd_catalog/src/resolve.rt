@@ -6,8 +6,9 @@ ghost use Rattle.sdd_base.specs.Numbers.{dm_no, frag_no};
 ghost use Rattle.sdd_catalog.specs.Naming.{IsNamed};
 ghost use Rattle.sdd_catalog.specs.Resolving.{HaveNumbers, IsModule, IsAtModules, RunsAtModules};
 
+use crate::indexed::IndexedParts;
 use crate::named::{copied, number_of};
-use crate::parts::{ClassPart, ColumnPart, FragmentPart, ReadPart, RelationPart};
+use crate::parts::{ClassPart, ColumnPart, FragmentPart, Parts, ReadPart, RelationPart};
 use crate::resolved::{
     Class, Classes, Column, Columns, Copies, Fragment, Fragments, Read, Reads, Relation, Relations,
 };
@@ -112,80 +113,78 @@ pub(crate) fn resolve_fragments(
     Ok(Listed::from_vec(resolved))
 }
 
-fn resolve_read(fragments: &[FragmentPart], read: &ReadPart) -> Read
-    requires fragments { length fragments.now < 2 ^ 32 - 1 }
+fn resolve_read(parts: &IndexedParts, read: &ReadPart) -> Read
+    requires fragments { length parts.now.fragments < 2 ^ 32 - 1 }
     requires module { IsModule read.now.at }
-    ensures { result ≡ read_of (fragment_names fragments.now) read.now }
+    ensures { result ≡ read_of (fragment_names parts.now.fragments) read.now }
 {
     Read {
-        fragment: FragNo(number_of(&read.fragment, fragments)),
+        fragment: FragNo(parts.number_of(&read.fragment)),
         at: DmNo(read.at as u8),
     }
 }
 
-fn resolve_reads(
-    alloc: Global,
-    fragments: &[FragmentPart],
-    reads: &[ReadPart],
-) -> Result<Reads, NoMemory>
-    requires fragments { length fragments.now < 2 ^ 32 - 1 }
+fn resolve_reads(alloc: Global, parts: &IndexedParts, reads: &[ReadPart]) -> Result<Reads, NoMemory>
+    requires fragments { length parts.now.fragments < 2 ^ 32 - 1 }
     requires modules { All (λ r. IsModule r.at) reads.now }
-    ensures { IfOk result (λ resolved. resolved ≡ map (read_of (fragment_names fragments.now)) reads.now) }
+    ensures { IfOk result (λ resolved. resolved ≡ map (read_of (fragment_names parts.now.fragments)) reads.now) }
 {
     let mut resolved = Vec::new(alloc);
     for read in reads {
-        resolved.push(resolve_read(fragments, read))?;
+        resolved.push(resolve_read(parts, read))?;
     }
     Ok(Listed::from_vec(resolved))
 }
 
-fn resolve_writes(
-    alloc: Global,
-    fragments: &[FragmentPart],
-    writes: &[Name],
-) -> Result<Frags, NoMemory>
-    requires { length fragments.now < 2 ^ 32 - 1 }
-    ensures { IfOk result (λ resolved. resolved ≡ map (λ name. frag_no (number_of name (fragment_names fragments.now))) writes.now) }
+fn resolve_writes(alloc: Global, parts: &IndexedParts, writes: &[Name]) -> Result<Frags, NoMemory>
+    requires { length parts.now.fragments < 2 ^ 32 - 1 }
+    ensures { IfOk result (λ resolved. resolved ≡ map (λ name. frag_no (number_of name (fragment_names parts.now.fragments))) writes.now) }
 {
     let mut resolved = Vec::new(alloc);
     for name in writes {
-        resolved.push(FragNo(number_of(name, fragments)))?;
+        resolved.push(FragNo(parts.number_of(name)))?;
     }
     Ok(Listed::from_vec(resolved))
 }
 
-fn resolve_class(
-    alloc: Global,
-    fragments: &[FragmentPart],
-    class: &ClassPart,
-) -> Result<Class, NoMemory>
-    requires fragments { length fragments.now < 2 ^ 32 - 1 }
+fn resolve_class(alloc: Global, parts: &IndexedParts, class: &ClassPart) -> Result<Class, NoMemory>
+    requires fragments { length parts.now.fragments < 2 ^ 32 - 1 }
     requires modules { RunsAtModules class.now }
-    ensures value { IfOk result (λ resolved. resolved ≡ class_of (fragment_names fragments.now) class.now) }
+    ensures value { IfOk result (λ resolved. resolved ≡ class_of (fragment_names parts.now.fragments) class.now) }
     ensures named { IfOk result (λ resolved. IsName resolved.name) }
 {
     Ok(Class {
         name: copied(&class.name)?,
         tm: TmNo(class.tm as u8),
-        reads: resolve_reads(alloc, fragments, class.reads.as_slice())?,
-        writes: resolve_writes(alloc, fragments, class.writes.as_slice())?,
+        reads: resolve_reads(alloc, parts, class.reads.as_slice())?,
+        writes: resolve_writes(alloc, parts, class.writes.as_slice())?,
     })
 }
 
-/// The classes with the numbers of the fragments that they read and write.
-pub(crate) fn resolve_classes(
+fn resolve_each_class(
     alloc: Global,
-    fragments: &[FragmentPart],
+    parts: &IndexedParts,
     classes: &[ClassPart],
 ) -> Result<Classes, NoMemory>
-    requires fragments { length fragments.now < 2 ^ 32 - 1 }
+    requires fragments { length parts.now.fragments < 2 ^ 32 - 1 }
     requires modules { All RunsAtModules classes.now }
-    ensures value { IfOk result (λ resolved. resolved ≡ map (class_of (fragment_names fragments.now)) classes.now) }
+    ensures value { IfOk result (λ resolved. resolved ≡ map (class_of (fragment_names parts.now.fragments)) classes.now) }
     ensures named { IfOk result (λ resolved. All (λ c. IsName c.name) resolved) }
 {
     let mut resolved = Vec::new(alloc);
     for class in classes {
-        resolved.push(resolve_class(alloc, fragments, class)?)?;
+        resolved.push(resolve_class(alloc, parts, class)?)?;
     }
     Ok(Listed::from_vec(resolved))
+}
+
+/// The classes of the parts, with the numbers of the fragments that they read and write.
+pub(crate) fn resolve_classes(alloc: Global, parts: &Parts) -> Result<Classes, NoMemory>
+    requires fragments { length parts.now.fragments < 2 ^ 32 - 1 }
+    requires modules { All RunsAtModules parts.now.classes }
+    ensures value { IfOk result (λ resolved. resolved ≡ map (class_of (fragment_names parts.now.fragments)) parts.now.classes) }
+    ensures named { IfOk result (λ resolved. All (λ c. IsName c.name) resolved) }
+{
+    let indexed = IndexedParts::of(alloc, parts)?;
+    resolve_each_class(alloc, &indexed, parts.classes.as_slice())
 }

@@ -1,6 +1,41 @@
+use Rattle.std.proofs.Common.{◌≡◌, ◌+◌, ◌∷◌, ◌++◌, [], List, length, take, refl, sym, ap, ◌∙◌, subst}
+use Rattle.std.proofs.lemmas.List.{length-map, take_more}
+use Rattle.sdd_catalog.specs.Catalogue.{fragment_names}
+use Rattle.sdd_catalog.specs.Marks.{AreMarked}
+use Rattle.sdd_catalog.specs.Names.{Text}
 use Rattle.sdd_catalog.specs.Rules.{write_rules}
-use Rattle.sdd_catalog.proofs.Firsts.{found_here}
+use Rattle.sdd_catalog.specs.declared.parts.FragmentPart.{FragmentPart}
+use Rattle.sdd_catalog.specs.declared.parts.Parts.{Parts}
+use Rattle.sdd_catalog.proofs.Firsts.{found_here, found_later}
+use Rattle.sdd_catalog.proofs.Marking.{no_marks}
 use Rattle.sdd_catalog.proofs.class_rules.broken_by_writes.Goals as goal
 
+pub loop-index-init : goal.loop-index-init
+loop-index-init c =
+    let fragments = c.args.parts.now.fragments in
+    let count = ap length (c.as_slice.ensures ∙ ap (λ (p : Parts). p.fragments) c.parts.ensures) ∙ sym (length-map fragments (λ (f : FragmentPart). f.name)) in
+    record {
+      rest = refl;
+      marks = subst (AreMarked (fragment_names fragments) []) (sym (c.in_ok-marks.ensures.items_if_clones_equal (λ y e. e))) (no_marks (fragment_names fragments) _ count);
+    }
+
+pub broken_by_write-requires : goal.broken_by_write-requires
+broken_by_write-requires c = c.loop-index.invariant.marks.one_each ∙ length-map c.args.parts.now.fragments (λ (f : FragmentPart). f.name)
+
+pub loop-index-preserved : goal.loop-index-preserved
+loop-index-preserved c =
+    let writes = c.args.writes.now in
+    let i = c.loop-index.index in
+    let x = c.index-writes-index.result in
+    let before = take i writes in
+    let within = c.loop-index-test.true in
+    let more : take (i + 1) writes ≡ before ++ x ∷ [] = take_more writes i x within ∙ ap (λ (z : Text). before ++ z ∷ []) (sym c.index-writes-index.is) in
+    record {
+      rest = c.loop-index.invariant.rest ∙ found_later (write_rules c.args.parts.now) writes i x c.index-writes-index.is within (sym (c.in_default.ensures.rule before c.loop-index.invariant.marks));
+      marks = subst (λ (z : List Text). AreMarked (fragment_names c.args.parts.now.fragments) z c.broken_by_write.new.marks.items) (sym more) (c.in_default.ensures.marks before c.loop-index.invariant.marks refl);
+    }
+
 pub returns-in-Some : goal.returns-in-Some
-returns-in-Some c = found_here (write_rules c.args.parts.now) _ _ _ _ c.loop-index.invariant c.index-writes-index.is c.loop-index-test.true c.in-Some.ensures
+returns-in-Some c =
+    found_here (write_rules c.args.parts.now) _ _ _ _ c.loop-index.invariant.rest c.index-writes-index.is c.loop-index-test.true
+    (c.in-Some.ensures.rule _ c.loop-index.invariant.marks)

@@ -1,8 +1,13 @@
 use Rattle.std.proofs.Common.{◌≡◌, take, drop}
 use Rattle.sdd_base.specs.Words.{head_of}
+use Rattle.sdd_catalog.specs.Catalogue.{fragment_names}
+use Rattle.sdd_catalog.specs.Marks.{AreMarked}
 use Rattle.sdd_catalog.specs.Rules.{write_rules, found_from, found_in}
 use Rattle.sdd_catalog.proofs.class_rules.broken_by_writes.Given as goal
 
--- nothing is found so far
+-- nothing is found so far, and what was written is marked
 abbrev pub invariant-loop-index : goal.invariant-loop-index
-invariant-loop-index l = head_of (found_in (write_rules l.parts) l.writes) ≡ head_of (found_from (write_rules l.parts) (take l.index l.writes) (drop l.index l.writes))
+invariant-loop-index l = record {
+  rest : head_of (found_in (write_rules l.parts) l.writes) ≡ head_of (found_from (write_rules l.parts) (take l.index l.writes) (drop l.index l.writes));
+  marks : AreMarked (fragment_names l.parts.fragments) (take l.index l.writes) l.marks.items;
+}

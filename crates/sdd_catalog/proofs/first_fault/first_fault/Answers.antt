@@ -1,9 +1,8 @@
 use Rattle.std.proofs.Common.{List, Some, None, refl, ap, sym, ◌∙◌}
 use Rattle.sdd_base.specs.Words.{head_of}
-use Rattle.sdd_catalog.specs.Rules.{faults_of_relation, faults_of_fragment, faults_of_ranges, faults_of_class, found_in}
+use Rattle.sdd_catalog.specs.Rules.{faults_of_relation, faults_of_fragment, faults_of_ranges, found_in}
 use Rattle.sdd_catalog.specs.declared.parts.RelationPart.{RelationPart}
 use Rattle.sdd_catalog.specs.declared.parts.FragmentPart.{FragmentPart}
-use Rattle.sdd_catalog.specs.declared.parts.ClassPart.{ClassPart}
 use Rattle.sdd_catalog.proofs.FirstFault.{first_of_all}
 use Rattle.sdd_catalog.proofs.first_fault.first_fault.Goals as goal
 
@@ -38,7 +37,6 @@ returns c =
     let fragments = ap (λ (fs : List FragmentPart). head_of (found_in (faults_of_fragment c.args.parts.now) fs)) c.as_slice-fragments.ensures in
     let ranges_a = ap (λ (rs : List RelationPart). head_of (found_in (faults_of_ranges c.as_slice-fragments.result.now) rs)) c.as_slice-relations.ensures in
     let ranges_b = ap (λ (fs : List FragmentPart). head_of (found_in (faults_of_ranges fs) c.args.parts.now.relations)) c.as_slice-fragments.ensures in
-    let classes = ap (λ (cs : List ClassPart). head_of (found_in (faults_of_class c.args.parts.now) cs)) c.as_slice.ensures in
-    first_of_all c.args.parts.now None None None None c.class_fault.result
+    first_of_all c.args.parts.now None None None None c.in_ok-class_fault.field-0
     c.in_default.ensures (c.in_default-relation_fault.ensures ∙ relations) (c.in_default-fragment_fault.ensures ∙ fragments)
-    (sym c.in_default-2.is ∙ c.in_ok-fault.ensures ∙ ranges_a ∙ ranges_b) (c.class_fault.ensures ∙ classes)
+    (sym c.in_default-2.is ∙ c.in_ok-fault.ensures ∙ ranges_a ∙ ranges_b) c.in_ok-class_fault.ensures

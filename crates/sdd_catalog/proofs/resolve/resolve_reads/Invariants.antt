@@ -4,4 +4,4 @@ use Rattle.sdd_catalog.proofs.resolve.resolve_reads.Given as goal
 
 -- what is resolved are the parts so far
 abbrev pub invariant-loop-read : goal.invariant-loop-read
-invariant-loop-read l = l.resolved.items ≡ map (read_of (fragment_names l.fragments)) (take l.read-index l.reads)
+invariant-loop-read l = l.resolved.items ≡ map (read_of (fragment_names l.parts.fragments)) (take l.read-index l.reads)

@@ -2,11 +2,11 @@ use Rattle.std.proofs.Common.{◌≡◌, map, take}
 use Rattle.std.specs.List.{All}
 use Rattle.sdd_base.specs.Name.{IsName}
 use Rattle.sdd_catalog.specs.Catalogue.{class_of, fragment_names}
-use Rattle.sdd_catalog.proofs.resolve.resolve_classes.Given as goal
+use Rattle.sdd_catalog.proofs.resolve.resolve_each_class.Given as goal
 
 -- what is resolved are the parts so far, whose names are names
 abbrev pub invariant-loop-class : goal.invariant-loop-class
 invariant-loop-class l = record {
-  value : l.resolved.items ≡ map (class_of (fragment_names l.fragments)) (take l.class-index l.classes);
+  value : l.resolved.items ≡ map (class_of (fragment_names l.parts.fragments)) (take l.class-index l.classes);
   named : All (λ c. IsName c.name) l.resolved.items;
 }

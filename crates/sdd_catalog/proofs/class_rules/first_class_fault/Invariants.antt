@@ -1,7 +1,7 @@
 use Rattle.std.proofs.Common.{◌≡◌, ◌≤◌, take, drop}
 use Rattle.sdd_base.specs.Words.{head_of}
 use Rattle.sdd_catalog.specs.Rules.{faults_of_class, found_from, found_in}
-use Rattle.sdd_catalog.proofs.class_rules.class_fault.Given as goal
+use Rattle.sdd_catalog.proofs.class_rules.first_class_fault.Given as goal
 
 -- nothing is found so far
 abbrev pub invariant-loop-index : goal.invariant-loop-index

@@ -1,0 +1,72 @@
+-- Marks for the fragments that are written.
+use Rattle.std.proofs.Common.{ℕ, ◌≡◌, ◌<◌, ◌≢◌, length, Bool, true, false, not, cond, ◌||◌, List, [], ◌∷◌, ◌++◌, get_or, set, replicate, Some, None, refl, ap, sym, ◌∙◌, inl, inr, arith, length-set, get_or-set_same, get_or-set_other}
+use Rattle.std.specs.Str.{bytes_eq}
+use Rattle.std.proofs.lemmas.Bool.{cases_Bool}
+use Rattle.std.proofs.lemmas.List.{length-replicate, get_or-replicate}
+use Rattle.std.proofs.lemmas.List.Folds.{list_any-append}
+use Rattle.std.proofs.lemmas.Option.{same_Some}
+use Rattle.std.proofs.lemmas.Slice.Eq.{bytes_eq-Decides}
+use Rattle.sdd_base.specs.Words.{head_of}
+use Rattle.sdd_catalog.specs.Marks.{AreMarked}
+use Rattle.sdd_catalog.specs.Names.{Text, place_of}
+use Rattle.sdd_catalog.specs.Rules.{has_name, when}
+use Rattle.sdd_catalog.specs.declared.fault.CatRule.TheVariants.{DuplicateName, UnknownName}
+use Rattle.sdd_catalog.proofs.Places.{found_place}
+
+-- before the first name nothing is marked
+pub no_marks : (names : List Text) (n : ℕ) → n ≡ length names → AreMarked names [] (replicate n false)
+no_marks names n count =
+    record {
+      one_each = length-replicate n false ∙ count;
+      marked = λ name place e.
+          let bound : place < length names = (found_place (bytes_eq name) names [] place e).within in
+          get_or-replicate n place false false (omega arith);
+    }
+
+has_name-push : (before : List Text) (name q : Text) → has_name (before ++ name ∷ []) q ≡ (has_name before q || (bytes_eq q name || false))
+has_name-push before name q = list_any-append (bytes_eq q) before (name ∷ [])
+
+or_true : (a : Bool) → (a || (true || false)) ≡ true
+or_true true = refl
+or_true false = refl
+
+or_false : (a : Bool) → (a || (false || false)) ≡ a
+or_false true = refl
+or_false false = refl
+
+-- a name has one place, and a place has one name
+name_at_place : (names : List Text) (name : Text) (k : ℕ) → place_of name names ≡ Some k → name ≡ get_or names k []
+name_at_place names name k e = (bytes_eq-Decides name (get_or names k [])).0 (found_place (bytes_eq name) names [] k e).passes
+
+-- a name more, whose place is marked
+pub name_marked : (names before : List Text) (marks : List Bool) (name : Text) (place : ℕ) → AreMarked names before marks → place_of name names ≡ Some place → AreMarked names (before ++ name ∷ []) (set marks place true)
+name_marked names before marks name place so_far e =
+    let bound : place < length names = (found_place (bytes_eq name) names [] place e).within in
+    let within : place < length marks = omega (arith, so_far.one_each) in
+    record {
+      one_each = length-set marks place true ∙ so_far.one_each;
+      marked = λ q k at. elim (cases_Bool (bytes_eq q name)) [
+        | inl y ↦
+            let same : q ≡ name = (bytes_eq-Decides q name).0 y in
+            let here : k ≡ place = same_Some k place (sym at ∙ ap (λ n. place_of n names) same ∙ e) in
+            ap (λ n. get_or (set marks place true) n false) here ∙ get_or-set_same marks place true false within
+            ∙ sym (has_name-push before name q ∙ ap (λ b. has_name before q || (b || false)) y ∙ or_true (has_name before q))
+        | inr n ↦
+            let apart : k ≢ place = λ h.
+            let same : q ≡ name = name_at_place names q k at ∙ ap (λ n. get_or names n []) h ∙ sym (name_at_place names name place e) in
+            let yes : bytes_eq q name ≡ true = (bytes_eq-Decides q name).1 same in
+            cc in
+            get_or-set_other marks place k true false apart ∙ so_far.marked q k at
+            ∙ sym (has_name-push before name q ∙ ap (λ b. has_name before q || (b || false)) n ∙ or_false (has_name before q))
+      ];
+    }
+
+both : (a b : Bool) → cond a (cond b (Some DuplicateName) None) (Some UnknownName) ≡ head_of (when (not a) UnknownName ++ when b DuplicateName)
+both true true = refl
+both true false = refl
+both false b = refl
+
+-- the first rule on a write that is broken
+pub first_write_rule : (names before : List Text) (name : Text) (a b : Bool) → a ≡ has_name names name → b ≡ has_name before name → cond a (cond b (Some DuplicateName) None) (Some UnknownName) ≡ head_of (when (not (has_name names name)) UnknownName ++ when (has_name before name) DuplicateName)
+first_write_rule names before name a b e f =
+    both a b ∙ ap (λ z. head_of (when (not z) UnknownName ++ when b DuplicateName)) e ∙ ap (λ z. head_of (when (not (has_name names name)) UnknownName ++ when z DuplicateName)) f

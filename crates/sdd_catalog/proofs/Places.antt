@@ -1,0 +1,89 @@
+-- The place of the first item with a name.
+use Rattle.std.proofs.Common.{ℕ, ◌≡◌, ◌+◌, ◌<◌, ◌≤◌, length, Bool, true, false, cond, ◌||◌, List, [], ◌∷◌, map, get_or, drop, Option, Some, None, is_some, refl, ap, sym, ◌∙◌, subst, arith}
+use Rattle.std.specs.BTreeMap.{is_at}
+use Rattle.std.specs.Cmp.Lexicographic.{slice_cmp}
+use Rattle.std.specs.List.{position_from, list_any, find}
+use Rattle.std.specs.Option.{IfSome}
+use Rattle.std.specs.Ordering.{nat_cmp}
+use Rattle.std.specs.Str.{bytes_eq}
+use Rattle.std.proofs.lemmas.Cmp.{nat_list_eq_equiv}
+use Rattle.std.proofs.lemmas.List.{drop_more}
+use Rattle.std.proofs.lemmas.Map.Text.{is_eq-slice_cmp}
+use Rattle.std.proofs.lemmas.Option.{none-some, same_Some}
+use Rattle.sdd_catalog.specs.Catalogue.{fragment_names}
+use Rattle.sdd_catalog.specs.Names.{Text, place_of}
+use Rattle.sdd_catalog.specs.Rules.{has_name}
+use Rattle.sdd_catalog.specs.declared.parts.FragmentPart.{FragmentPart}
+use Rattle.sdd_catalog.proofs.NameLemmas.{IsFound, found_at, position_from-map}
+
+-- there is a place exactly where some item passes
+pub some_place : {A : Type 0} (p : A → Bool) (i : ℕ) (xs : List A) → is_some (position_from p i xs) ≡ list_any p xs
+some_place p i [] = refl
+some_place p i (x ∷ xs) =
+    elim (p x) as (λ b. is_some (cond b (Some i) (position_from p (i + 1) xs)) ≡ (b || list_any p xs)) [
+      | true ↦ refl
+      | false ↦ some_place p (i + 1) xs
+    ]
+
+-- the first item that passes stands at the place
+pub found_place : {A : Type 0} (p : A → Bool) (xs : List A) (d : A) (k : ℕ) → position_from p 0 xs ≡ Some k → IsFound p 0 xs d k
+found_place p xs d k e =
+    let there : list_any p xs ≡ true = sym (some_place p 0 xs) ∙ ap is_some e in
+    let found = found_at p 0 xs d there in
+    let same : 0 + found.0 ≡ k = same_Some (0 + found.0) k (sym found.1.place ∙ e) in
+    let place : found.0 ≡ k = omega arith in
+    subst (IsFound p 0 xs d) place found.1
+
+-- the item at the place of a name among the names of items
+pub named_place : {A : Type 0} (f : A → Text) (name : Text) (xs : List A) (d : A) (k : ℕ) → place_of name (map f xs) ≡ Some k → IsFound (λ x. bytes_eq name (f x)) 0 xs d k
+named_place f name xs d k e = found_place (λ x. bytes_eq name (f x)) xs d k (sym (position_from-map (bytes_eq name) f 0 xs) ∙ e)
+
+-- a place is that of an item
+pub place_within : {A : Type 0} (f : A → Text) (name : Text) (xs : List A) (o : Option ℕ) → o ≡ place_of name (map f xs) → IfSome o (λ place. place < length xs)
+place_within f name xs None e = tt
+place_within f name [] (Some k) e = absurd (none-some k (sym e))
+place_within f name (x ∷ xs) (Some k) e = (named_place f name (x ∷ xs) x k (sym e)).within
+
+-- the first item with a name
+pub item_at_place : {A : Type 0} (f : A → Text) (name : Text) (xs : List A) (k : ℕ) (x : A) → Some k ≡ place_of name (map f xs) → x ≡ get_or xs k x → Some x ≡ find (λ x. bytes_eq name (f x)) xs
+item_at_place f name xs k x e is = ap Some is ∙ sym (named_place f name xs x k (sym e)).item
+
+-- where a name has no place, no item has it
+none_found : {A : Type 0} (p : A → Bool) (xs : List A) → list_any p xs ≡ false → find p xs ≡ None
+none_found p [] e = refl
+none_found p (x ∷ xs) e =
+    elim (p x) as (λ b. (b || list_any p xs) ≡ false → cond b (Some x) (find p xs) ≡ None) [
+      | true ↦ λ h. cc
+      | false ↦ λ h. none_found p xs h
+    ] e
+
+pub no_item_at_place : {A : Type 0} (f : A → Text) (name : Text) (xs : List A) → None ≡ place_of name (map f xs) → None ≡ find (λ x. bytes_eq name (f x)) xs
+no_item_at_place {A} f name xs e =
+    let p : A → Bool = λ x. bytes_eq name (f x) in
+    sym (none_found p xs (sym (some_place p 0 xs) ∙ ap is_some (sym (position_from-map (bytes_eq name) f 0 xs)) ∙ ap is_some (sym e)))
+
+-- whether a name has a place
+pub place_there : (name : Text) (names : List Text) (o : Option ℕ) → o ≡ place_of name names → is_some o ≡ has_name names name
+place_there name names o e = ap is_some e ∙ some_place (bytes_eq name) 0 names
+
+-- the places of names from an item on, by those behind it
+pub one_place_back : (fragments : List FragmentPart) (i j : ℕ) (f : FragmentPart) (key : List ℕ) (old new : List ℕ → Option ℕ)
+    → j ≡ i + 1 → i < length fragments → f ≡ get_or fragments i f → key ≡ f.name
+    → ((name : List ℕ) → new name ≡ cond (is_at (slice_cmp nat_cmp key) name) (Some i) (old name))
+    → ((name : List ℕ) → old name ≡ position_from (λ f. bytes_eq name f.name) j (drop j fragments))
+    → (name : List ℕ) → new name ≡ position_from (λ f. bytes_eq name f.name) i (drop i fragments)
+one_place_back fragments i j f key old new next within is same updates before name =
+    let split : drop i fragments ≡ f ∷ drop (i + 1) fragments = drop_more fragments i f within ∙ ap (λ z. z ∷ drop (i + 1) fragments) (sym is) in
+    let rest : old name ≡ position_from (λ f. bytes_eq name f.name) (i + 1) (drop (i + 1) fragments) = subst (λ n. old name ≡ position_from (λ f. bytes_eq name f.name) n (drop n fragments)) next (before name) in
+    let test : is_at (slice_cmp nat_cmp key) name ≡ bytes_eq name f.name = is_eq-slice_cmp key name ∙ nat_list_eq_equiv.symm key name ∙ ap (bytes_eq name) same in
+    updates name ∙ ap (λ b. cond b (Some i) (old name)) test ∙ ap (λ o. cond (bytes_eq name f.name) (Some i) o) rest
+    ∙ ap (position_from (λ f. bytes_eq name f.name) i) (sym split)
+
+-- the places from the first item on are all places
+pub all_places : (fragments : List FragmentPart) (i : ℕ) (made : List ℕ → Option ℕ) → i ≤ 0
+    → ((name : List ℕ) → made name ≡ position_from (λ f. bytes_eq name f.name) i (drop i fragments))
+    → (name : List ℕ) → made name ≡ place_of name (fragment_names fragments)
+all_places fragments i made done places name =
+    let start : i ≡ 0 = omega arith in
+    subst (λ n. made name ≡ position_from (λ f. bytes_eq name f.name) n (drop n fragments)) start (places name)
+    ∙ sym (position_from-map (bytes_eq name) (λ (f : FragmentPart). f.name) 0 fragments)

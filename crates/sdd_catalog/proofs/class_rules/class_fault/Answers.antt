@@ -1,6 +1,0 @@
-use Rattle.sdd_catalog.specs.Rules.{faults_of_class}
-use Rattle.sdd_catalog.proofs.Firsts.{found_here}
-use Rattle.sdd_catalog.proofs.class_rules.class_fault.Goals as goal
-
-pub returns-in-Some : goal.returns-in-Some
-returns-in-Some c = found_here (faults_of_class c.args.parts.now) _ _ _ _ c.loop-index.invariant.rest c.index-classes-index.is c.loop-index-test.true c.in-Some.ensures
