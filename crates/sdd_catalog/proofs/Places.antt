@@ -1,14 +1,10 @@
 -- The place of the first item with a name.
 use Rattle.std.proofs.Common.{ℕ, ◌≡◌, ◌+◌, ◌<◌, ◌≤◌, length, Bool, true, false, cond, ◌||◌, List, [], ◌∷◌, map, get_or, drop, Option, Some, None, is_some, refl, ap, sym, ◌∙◌, subst, arith}
-use Rattle.std.specs.BTreeMap.{is_at}
-use Rattle.std.specs.Cmp.Lexicographic.{slice_cmp}
 use Rattle.std.specs.List.{position_from, list_any, find}
 use Rattle.std.specs.Option.{IfSome}
-use Rattle.std.specs.Ordering.{nat_cmp}
 use Rattle.std.specs.Str.{bytes_eq}
 use Rattle.std.proofs.lemmas.Cmp.{nat_list_eq_equiv}
 use Rattle.std.proofs.lemmas.List.{drop_more}
-use Rattle.std.proofs.lemmas.Map.Text.{is_eq-slice_cmp}
 use Rattle.std.proofs.lemmas.Option.{none-some, same_Some}
 use Rattle.sdd_catalog.specs.Catalogue.{fragment_names}
 use Rattle.sdd_catalog.specs.Names.{Text, place_of}
@@ -69,13 +65,13 @@ place_there name names o e = ap is_some e ∙ some_place (bytes_eq name) 0 names
 -- the places of names from an item on, by those behind it
 pub one_place_back : (fragments : List FragmentPart) (i j : ℕ) (f : FragmentPart) (key : List ℕ) (old new : List ℕ → Option ℕ)
     → j ≡ i + 1 → i < length fragments → f ≡ get_or fragments i f → key ≡ f.name
-    → ((name : List ℕ) → new name ≡ cond (is_at (slice_cmp nat_cmp key) name) (Some i) (old name))
+    → ((name : List ℕ) → new name ≡ cond (bytes_eq key name) (Some i) (old name))
     → ((name : List ℕ) → old name ≡ position_from (λ f. bytes_eq name f.name) j (drop j fragments))
     → (name : List ℕ) → new name ≡ position_from (λ f. bytes_eq name f.name) i (drop i fragments)
 one_place_back fragments i j f key old new next within is same updates before name =
     let split : drop i fragments ≡ f ∷ drop (i + 1) fragments = drop_more fragments i f within ∙ ap (λ z. z ∷ drop (i + 1) fragments) (sym is) in
     let rest : old name ≡ position_from (λ f. bytes_eq name f.name) (i + 1) (drop (i + 1) fragments) = subst (λ n. old name ≡ position_from (λ f. bytes_eq name f.name) n (drop n fragments)) next (before name) in
-    let test : is_at (slice_cmp nat_cmp key) name ≡ bytes_eq name f.name = is_eq-slice_cmp key name ∙ nat_list_eq_equiv.symm key name ∙ ap (bytes_eq name) same in
+    let test : bytes_eq key name ≡ bytes_eq name f.name = nat_list_eq_equiv.symm key name ∙ ap (bytes_eq name) same in
     updates name ∙ ap (λ b. cond b (Some i) (old name)) test ∙ ap (λ o. cond (bytes_eq name f.name) (Some i) o) rest
     ∙ ap (position_from (λ f. bytes_eq name f.name) i) (sym split)
 

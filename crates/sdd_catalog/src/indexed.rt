@@ -1,8 +1,6 @@
 ghost use Rattle.std.specs.Prelude.{◌≡◌, ◌<◌, ◌-◌, ◌^◌, ℕ, List, length, find, bytes_eq, IfOk, IfSome};
-ghost use Rattle.std.specs.BTreeMap.{get};
-ghost use Rattle.std.specs.Cmp.Lexicographic.{slice_cmp};
+ghost use Rattle.std.specs.HashMap.{get};
 ghost use Rattle.std.specs.Option.{option_copied};
-ghost use Rattle.std.specs.Ordering.{nat_cmp};
 ghost use Rattle.sdd_catalog.specs.Catalogue.{fragment_names};
 ghost use Rattle.sdd_catalog.specs.Names.{number_of, place_of};
 ghost use Rattle.sdd_catalog.specs.Rules.{has_name};
@@ -11,7 +9,7 @@ use crate::named::copied;
 use crate::parts::{FragmentPart, Parts};
 use sdd_base::{Name, NoMemory};
 use std::alloc::Global;
-use std::collections::BTreeMap;
+use std::collections::HashMap;
 use std::marker::Model;
 
 /// The parts of a catalogue, with an index of the fragments by name. Of fragments with one name the
@@ -19,14 +17,12 @@ use std::marker::Model;
 #[derive(Drop)]
 pub(crate) struct IndexedParts<'a> {
     parts: &'a Parts,
-    places: BTreeMap<Name, usize>,
+    places: HashMap<Name, usize>,
 }
 
 impl<'a> Model for IndexedParts<'a> {
-    ghost use Rattle.std.specs.Prelude.{ℕ, ◌≡◌, List};
-    ghost use Rattle.std.specs.BTreeMap.{get};
-    ghost use Rattle.std.specs.Cmp.Lexicographic.{slice_cmp};
-    ghost use Rattle.std.specs.Ordering.{nat_cmp};
+    ghost use Rattle.std.specs.Prelude.{ℕ, ◌≡◌, List, bytes_eq};
+    ghost use Rattle.std.specs.HashMap.{get};
     ghost use Rattle.sdd_catalog.specs.Catalogue.{fragment_names};
     ghost use Rattle.sdd_catalog.specs.Names.{place_of};
     ghost use Rattle.sdd_catalog.specs.declared.parts.Parts.{Parts as AllParts};
@@ -35,18 +31,18 @@ impl<'a> Model for IndexedParts<'a> {
 
     ghost view = { λ i. i.parts.now };
 
-    ghost invariant = { λ i. (name : List ℕ) → get (slice_cmp nat_cmp) i.places name ≡ place_of name (fragment_names i.parts.now.fragments) };
+    ghost invariant = { λ i. (name : List ℕ) → get bytes_eq i.places name ≡ place_of name (fragment_names i.parts.now.fragments) };
 }
 
 /// The place of the first fragment of each name.
 fn places_by_name(
     alloc: Global,
     fragments: &[FragmentPart],
-) -> Result<BTreeMap<Name, usize>, NoMemory>
+) -> Result<HashMap<Name, usize>, NoMemory>
     ensures { IfOk result (λ made. (name : List ℕ)
-        → get (slice_cmp nat_cmp) made name ≡ place_of name (fragment_names fragments.now)) }
+        → get bytes_eq made name ≡ place_of name (fragment_names fragments.now)) }
 {
-    let mut made = BTreeMap::new(alloc);
+    let mut made = HashMap::new(alloc);
     let mut place = fragments.len();
     while place > 0 {
         place -= 1;
@@ -57,7 +53,7 @@ fn places_by_name(
 }
 
 impl<'a> IndexedParts<'a> {
-    /// Costs time in n log n for n fragments, and memory for their names.
+    /// Costs about a step for each fragment, and memory for their names.
     pub(crate) fn of(alloc: Global, parts: &'a Parts) -> Result<IndexedParts<'a>, NoMemory>
         ensures { IfOk result (λ indexed. indexed ≡ parts.now) }
     {

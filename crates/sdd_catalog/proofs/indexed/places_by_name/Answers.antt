@@ -1,15 +1,14 @@
 use Rattle.std.proofs.Common.{ℕ, ◌-◌, List, Option, sym, ap, ◌∙◌, arith}
-use Rattle.std.specs.BTreeMap.{get}
-use Rattle.std.specs.Cmp.Lexicographic.{slice_cmp}
-use Rattle.std.specs.Ordering.{nat_cmp}
+use Rattle.std.specs.HashMap.{get}
+use Rattle.std.specs.Str.{bytes_eq}
 use Rattle.sdd_catalog.specs.declared.parts.FragmentPart.{FragmentPart}
 use Rattle.sdd_catalog.proofs.Places.{one_place_back, all_places}
 use Rattle.sdd_catalog.proofs.indexed.places_by_name.Goals as goal
 
 pub loop-place-preserved : goal.loop-place-preserved
 loop-place-preserved c =
-    let old : List ℕ → Option ℕ = λ n. get (slice_cmp nat_cmp) c.loop-place.made n in
-    let new : List ℕ → Option ℕ = λ n. get (slice_cmp nat_cmp) c.insert.new.self n in
+    let old : List ℕ → Option ℕ = λ n. get bytes_eq c.loop-place.made n in
+    let new : List ℕ → Option ℕ = λ n. get bytes_eq c.insert.new.self n in
     let f = c.index-fragments-place.result in
     let is = c.index-fragments-place.is in
     let same = c.in_ok-name.ensures.value ∙ ap (λ (part : FragmentPart). part.name) (sym is) in
@@ -21,5 +20,5 @@ loop-place-preserved c =
 
 pub returns : goal.returns
 returns c =
-    let made : List ℕ → Option ℕ = λ n. get (slice_cmp nat_cmp) c.loop-place.made n in
+    let made : List ℕ → Option ℕ = λ n. get bytes_eq c.loop-place.made n in
     all_places c.args.fragments.now c.loop-place.place made c.loop-place-test.false c.loop-place.invariant.places

@@ -1,8 +1,6 @@
 use Rattle.std.proofs.Common.{ℕ, ◌≡◌, ◌≤◌, List, length, drop}
-use Rattle.std.specs.BTreeMap.{get}
-use Rattle.std.specs.Cmp.Lexicographic.{slice_cmp}
+use Rattle.std.specs.HashMap.{get}
 use Rattle.std.specs.List.{position_from}
-use Rattle.std.specs.Ordering.{nat_cmp}
 use Rattle.std.specs.Str.{bytes_eq}
 use Rattle.sdd_catalog.proofs.indexed.places_by_name.Given as goal
 
@@ -10,7 +8,7 @@ use Rattle.sdd_catalog.proofs.indexed.places_by_name.Given as goal
 abbrev pub invariant-loop-place : goal.invariant-loop-place
 invariant-loop-place l = record {
   within : l.place ≤ length l.fragments;
-  places : (name : List ℕ) → get (slice_cmp nat_cmp) l.made name ≡ position_from (λ f. bytes_eq name f.name) l.place (drop l.place l.fragments);
+  places : (name : List ℕ) → get bytes_eq l.made name ≡ position_from (λ f. bytes_eq name f.name) l.place (drop l.place l.fragments);
 }
 
 abbrev pub decreases-loop-place : goal.decreases-loop-place
