@@ -14,6 +14,7 @@ pub mod Numbering
 pub mod OneNumbering
 pub mod Places
 pub mod Results
+pub mod RunEdges
 pub mod Ties
 pub mod Trees
 pub mod Walks

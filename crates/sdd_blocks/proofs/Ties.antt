@@ -1,5 +1,5 @@
 -- Pairs that tie neighbours together, one edge after the other, and one node after the other.
-use Rattle.std.proofs.Common.{ℕ, ◌+◌, ◌<◌, ◌≤◌, ◌≢◌, List, [], ◌∷◌, ◌++◌, length, set, get_or, ◌≡◌, sym, ap, ◌∙◌, arith, subst, ◌⊎◌, inl, inr, Option, Some, None, length-set}
+use Rattle.std.proofs.Common.{ℕ, zero, suc, ◌+◌, ◌<◌, ◌≤◌, ◌≢◌, List, [], ◌∷◌, ◌++◌, length, set, get_or, ◌≡◌, sym, ap, ◌∙◌, arith, subst, ◌⊎◌, inl, inr, Option, Some, None, length-set}
 use Rattle.std.specs.Prelude.{slice_index, slice_get, All}
 use Rattle.std.proofs.lemmas.Bool.{cases_eq, cases_lt}
 use Rattle.std.proofs.lemmas.Bool.Decides.{nat_tests}
@@ -205,6 +205,18 @@ module _ (edges : List (ℕ × ℕ)) (node : ℕ) (labels : List ℕ) (before : 
       let n = some r e in
       subst (λ z. IsTyingAt edges node labels before z next (count + 1)) (sym n.1)
       (subst (λ z. IsTyingAt edges node labels before (pairs ++ (count, r) ∷ []) z (count + 1)) (sym n.0) (tied_to_first pairs first count a b s here x o components ends r e))
+
+  -- edges that lead to no other node
+  pub none_tied : (pairs : List (ℕ × ℕ)) (first : List (Option ℕ)) (from n a b : ℕ)
+      → IsTyingAt edges node labels before pairs first from
+      → ((k : ℕ) → from ≤ k → k < from + n → slice_get edges k ≡ Some (a, b))
+      → other_end (a, b) node ≡ None → IsTyingAt edges node labels before pairs first (from + n)
+  none_tied pairs first from zero a b s here o =
+      let e : from ≡ from + 0 = omega arith in subst (IsTyingAt edges node labels before pairs first) e s
+  none_tied pairs first from (suc n) a b s here o =
+      let e : from + n + 1 ≡ from + suc n = omega arith in
+      let so_far = none_tied pairs first from n a b s (λ k h g. here k h (omega arith)) o in
+      subst (IsTyingAt edges node labels before pairs first) e (not_tied pairs first (from + n) a b so_far (here (from + n) (omega arith) (omega arith)) o)
 
   -- after all edges the neighbours that meet at the node are tied
   pub all_tied : (pairs : List (ℕ × ℕ)) (first : List (Option ℕ)) (count : ℕ)

@@ -6,3 +6,4 @@ pub mod Laws
 pub mod Marked
 pub mod Neighbours
 pub mod Numbered
+pub mod Runs

@@ -14,6 +14,7 @@ mod law;
 mod marks;
 mod neighbours;
 mod numbers;
+mod runs;
 
 use crate::components::components;
 use crate::marks::marks;

@@ -1,8 +1,10 @@
-ghost use Rattle.std.specs.Prelude.{◌≡◌, ◌<◌, ◌≤◌, ◌^◌, ◌∷◌, ◌++◌, [], ℕ, IfOk, OnOk, All, length, slice_index_or, slice_set};
+ghost use Rattle.std.specs.Prelude.{◌≡◌, ◌<◌, ◌≤◌, ◌^◌, ◌∷◌, ◌++◌, [], ℕ, IfOk, OnOk, All, length, map, slice_index_or, slice_set};
 ghost use Rattle.sdd_blocks.specs.Components.{AreComponents};
 ghost use Rattle.sdd_blocks.specs.Neighbours.{other_end, TieAt, TieNeighbours};
+ghost use Rattle.sdd_blocks.specs.Runs.{edges_in};
 
 use crate::components::components;
+use crate::runs::{Run, ends_of, runs_of};
 use sdd_base::NoMemory;
 use std::alloc::Global;
 
@@ -48,23 +50,49 @@ fn tie(
 /// Ties the edges at the node whose other ends have one label, each to the first of them.
 fn tie_at(
     alloc: Global,
-    edges: &[(u32, u32)],
+    runs: &[Run],
     node: u32,
     labels: &[u32],
     pairs: &mut Vec<(u32, u32)>,
 ) -> Result<(), NoMemory>
-    requires few { length edges.now < 2 ^ 32 }
-    requires ends { All (λ e. (e.0 < length labels.now) × (e.1 < length labels.now)) edges.now }
-    requires components { AreComponents edges.now node labels.now }
-    ensures { OnOk result (TieAt edges.now node pairs.old.items pairs.new.items) }
+    requires few { length (edges_in runs.now) < 2 ^ 32 }
+    requires ends { All (λ e. (e.0 < length labels.now) × (e.1 < length labels.now)) (edges_in runs.now) }
+    requires components { AreComponents (edges_in runs.now) node labels.now }
+    ensures { OnOk result (TieAt (edges_in runs.now) node pairs.old.items pairs.new.items) }
 {
     let mut first = vec![in alloc; None; labels.len()]?;
-    for edge in 0..edges.len() as u32 {
-        if let Some(end) = other_end(edges[edge as usize], node) {
-            tie(&mut first, labels[end as usize], edge, pairs)?;
+    let mut from = 0;
+    for run in runs {
+        let past = from + run.count;
+        if let Some(end) = other_end(run.ends, node) {
+            for edge in from..past {
+                tie(&mut first, labels[end as usize], edge, pairs)?;
+            }
         }
+        from = past;
     }
     Ok(())
+}
+
+/// Pairs that tie the neighbours among the edges of the runs.
+fn pairs_of_runs(
+    alloc: Global,
+    runs: &[Run],
+    ends: &[(u32, u32)],
+    nodes: u32,
+) -> Result<Vec<(u32, u32)>, NoMemory>
+    requires few { length (edges_in runs.now) < 2 ^ 32 }
+    requires some { All (λ r. 1 ≤ r.count) runs.now }
+    requires each { ends.now ≡ map (λ r. r.ends) runs.now }
+    requires ends { All (λ e. (e.0 < nodes) × (e.1 < nodes)) (edges_in runs.now) }
+    ensures { IfOk result (λ pairs. TieNeighbours (edges_in runs.now) pairs.items) }
+{
+    let mut pairs = Vec::new(alloc);
+    for node in 0..nodes {
+        let labels = components(alloc, ends, nodes, node)?;
+        tie_at(alloc, runs, node, &labels, &mut pairs)?;
+    }
+    Ok(pairs)
 }
 
 /// Pairs that tie all neighbours together: edges that meet at a node, and whose other ends are joined
@@ -78,10 +106,8 @@ pub(crate) fn neighbour_pairs(
     requires ends { All (λ e. (e.0 < nodes) × (e.1 < nodes)) edges.now }
     ensures { IfOk result (λ pairs. TieNeighbours edges.now pairs.items) }
 {
-    let mut pairs = Vec::new(alloc);
-    for node in 0..nodes {
-        let labels = components(alloc, edges, nodes, node)?;
-        tie_at(alloc, edges, node, &labels, &mut pairs)?;
-    }
+    let runs = runs_of(alloc, edges)?;
+    let ends = ends_of(alloc, &runs)?;
+    let pairs = pairs_of_runs(alloc, &runs, &ends, nodes)?;
     Ok(pairs)
 }

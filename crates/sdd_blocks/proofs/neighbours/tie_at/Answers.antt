@@ -1,28 +1,92 @@
-use Rattle.std.proofs.Common.{◌+◌, subst, sym, refl, ◌∙◌}
-use Rattle.std.proofs.lemmas.Option.{slice_get-get_or}
-use Rattle.sdd_blocks.proofs.Ties.{IsTyingAt, not_tied, edge_tied, all_tied}
+use Rattle.std.proofs.Common.{ℕ, List, Some, ◌≡◌, ◌+◌, ◌<◌, ◌≤◌, length, take, get_or, subst, sym, refl, ap, ◌∙◌, arith}
+use Rattle.std.specs.Prelude.{slice_get, All}
+use Rattle.std.proofs.lemmas.List.{get_or_default, take_all}
+use Rattle.sdd_blocks.specs.Neighbours.{other_end}
+use Rattle.sdd_blocks.specs.Runs.{edges_in}
+use Rattle.sdd_blocks.specs.declared.runs.Run.{Run}
+use Rattle.sdd_blocks.proofs.RunEdges.{run_at, count_more, count_within}
+use Rattle.sdd_blocks.proofs.Ties.{IsTyingAt, edge_tied, none_tied, all_tied, other_end_joins, joins_end_within}
 use Rattle.sdd_blocks.proofs.neighbours.tie_at.Goals as goal
-use Rattle.sdd_blocks.proofs.neighbours.tie_at.Goals.{in-Some+in_ok-tie, in_default}
+use Rattle.sdd_blocks.proofs.neighbours.tie_at.Goals.{in-Some+else-loop-edge-test, in_default}
+
+-- the edges up to the next run
+past_run : (runs : List Run) (i from : ℕ) → i < length runs → from ≡ length (edges_in (take i runs))
+    → from + (get_or runs i (record { ends = (0, 0); count = 0 })).count ≡ length (edges_in (take (i + 1) runs))
+past_run runs i from within is =
+    let r : Run = get_or runs i (record { ends = (0, 0); count = 0 }) in
+    ap (λ n. n + r.count) is ∙ sym (count_more runs i r within (get_or_default runs i (record { ends = (0, 0); count = 0 }) r within))
+
+edge_at : (runs : List Run) (i from k : ℕ) → i < length runs → from ≡ length (edges_in (take i runs)) → from ≤ k
+    → k < from + (get_or runs i (record { ends = (0, 0); count = 0 })).count
+    → slice_get (edges_in runs) k ≡ Some (get_or runs i (record { ends = (0, 0); count = 0 })).ends
+edge_at runs i from k within is low high =
+    let r : Run = get_or runs i (record { ends = (0, 0); count = 0 }) in
+    run_at runs i r within (get_or_default runs i (record { ends = (0, 0); count = 0 }) r within) k (omega arith) (omega arith)
+
+end_within : (edges : List (ℕ × ℕ)) (labels : List ℕ) (k node x : ℕ) (e : ℕ × ℕ) → slice_get edges k ≡ Some e
+    → Some x ≡ other_end e node → All (λ e. (e.0 < length labels) × (e.1 < length labels)) edges → x < length labels
+end_within edges labels k node x e here o ends =
+    joins_end_within edges (length labels) ends k node x (other_end_joins edges k e.0 e.1 node x here (sym o)).0
+
+pub overflow_add-past : goal.overflow_add-past
+overflow_add-past c =
+    let runs = c.args.runs.now in
+    let i = c.loop-run.run-index in
+    omega (arith, past_run runs i c.loop-run.from c.loop-run-test.true c.loop-run.invariant.from, count_within runs (i + 1), c.requires.few)
+
+pub bounds-labels-end : goal.bounds-labels-end
+bounds-labels-end c =
+    let here = edge_at c.args.runs.now c.loop-run.run-index c.loop-run.from c.loop-edge.edge c.loop-run-test.true c.loop-run.invariant.from c.loop-edge.auto.edge c.loop-edge-test.true in
+    end_within (edges_in c.args.runs.now) c.args.labels.now c.loop-edge.edge c.args.node c.in-Some.end _ here c.in-Some.ensures c.requires.ends
+
+pub tie-requires : goal.tie-requires
+tie-requires c =
+    let here = edge_at c.args.runs.now c.loop-run.run-index c.loop-run.from c.loop-edge.edge c.loop-run-test.true c.loop-run.invariant.from c.loop-edge.auto.edge c.loop-edge-test.true in
+    let within = end_within (edges_in c.args.runs.now) c.args.labels.now c.loop-edge.edge c.args.node c.in-Some.end _ here c.in-Some.ensures c.requires.ends in
+    let below = c.requires.components.below c.in-Some.end 0 within in
+    omega (arith, below, c.loop-edge.invariant.one_each)
 
 pub loop-edge-preserved : goal.loop-edge-preserved
 loop-edge-preserved c =
-    let edges = c.args.edges.now in
+    let here = edge_at c.args.runs.now c.loop-run.run-index c.loop-run.from c.loop-edge.edge c.loop-run-test.true c.loop-run.invariant.from c.loop-edge.auto.edge c.loop-edge-test.true in
+    edge_tied (edges_in c.args.runs.now) c.args.node c.args.labels.now c.args.pairs.now.items c.loop-edge.pairs.items c.tie.new.pairs.items c.loop-edge.first.items c.tie.new.first.items c.loop-edge.edge _ _ c.in-Some.end
+    c.loop-edge.invariant here (sym c.in-Some.ensures) c.requires.components c.requires.ends c.in_ok-tie.ensures.none c.in_ok-tie.ensures.some _ refl
+
+pub loop-run-preserved : goal.loop-run-preserved
+loop-run-preserved c =
+    let runs = c.args.runs.now in
+    let edges = edges_in runs in
     let node = c.args.node in
     let labels = c.args.labels.now in
     let before = c.args.pairs.now.items in
-    let count = c.loop-edge.edge in
-    let here = slice_get-get_or edges count (0, 0) c.loop-edge-test.true in
+    let i = c.loop-run.run-index in
+    let from = c.loop-run.from in
+    let new = c.match-other_end in
+    let within = c.loop-run-test.true in
+    let more = past_run runs i from within c.loop-run.invariant.from in
     elim c.match-other_end.branch [
-      | in-Some+in_ok-tie w ↦
-          subst (λ z. IsTyingAt edges node labels before c.match-other_end.pairs.items z.items (count + 1)) (sym w.first-is)
-          (subst (λ z. IsTyingAt edges node labels before z.items w.tie.new.first.items (count + 1)) (sym w.pairs-is)
-          (edge_tied edges node labels before c.loop-edge.pairs.items w.tie.new.pairs.items c.loop-edge.first.items w.tie.new.first.items count _ _ w.in-Some.end
-          c.loop-edge.invariant here (sym w.in-Some.ensures) c.requires.components c.requires.ends w.in_ok-tie.ensures.none w.in_ok-tie.ensures.some _ refl))
+      | in-Some+else-loop-edge-test w ↦
+          let end : w.loop-edge.edge ≡ new.from = let low = w.loop-edge.auto.edge in let high = w.loop-edge.auto.edge-end in let past = w.loop-edge-test.false in omega (arith, w.from-is) in
+          record {
+            tying = subst (λ z. IsTyingAt edges node labels before z.items new.first.items new.from) (sym w.pairs-is)
+                (subst (λ z. IsTyingAt edges node labels before w.loop-edge.pairs.items z.items new.from) (sym w.first-is)
+                (subst (IsTyingAt edges node labels before w.loop-edge.pairs.items w.loop-edge.first.items) end w.loop-edge.invariant));
+            from = w.from-is ∙ more;
+          }
       | in_default w ↦
-          subst (λ z. IsTyingAt edges node labels before c.match-other_end.pairs.items z.items (count + 1)) (sym w.first-is)
-          (subst (λ z. IsTyingAt edges node labels before z.items c.loop-edge.first.items (count + 1)) (sym w.pairs-is)
-          (not_tied edges node labels before c.loop-edge.pairs.items c.loop-edge.first.items count _ _ c.loop-edge.invariant here (sym c.other_end.ensures ∙ w.in_default.is)))
+          record {
+            tying = subst (λ z. IsTyingAt edges node labels before z.items new.first.items new.from) (sym w.pairs-is)
+                (subst (λ z. IsTyingAt edges node labels before c.loop-run.pairs.items z.items new.from) (sym w.first-is)
+                (subst (IsTyingAt edges node labels before c.loop-run.pairs.items c.loop-run.first.items) (sym w.from-is)
+                (none_tied edges node labels before c.loop-run.pairs.items c.loop-run.first.items from _ _ _ c.loop-run.invariant.tying
+                (λ k low high. edge_at runs i from k within c.loop-run.invariant.from low high) (sym w.in_default.ensures))));
+            from = w.from-is ∙ more;
+          }
     ]
 
 pub returns : goal.returns
-returns c = all_tied c.args.edges.now c.args.node c.args.labels.now c.args.pairs.now.items _ _ c.loop-edge.edge c.loop-edge.invariant c.loop-edge-test.false c.requires.components
+returns c =
+    let runs = c.args.runs.now in
+    let i = c.loop-run.run-index in
+    let all = ap (λ (z : List Run). length (edges_in z)) (take_all i runs c.loop-run-test.false) in
+    all_tied (edges_in runs) c.args.node c.args.labels.now c.args.pairs.now.items _ _ c.loop-run.from c.loop-run.invariant.tying (omega (arith, all, c.loop-run.invariant.from)) c.requires.components
