@@ -62,7 +62,7 @@ fn parts_in(alloc: Global, bytes: &[u8]) -> Result<Parts, CatError>
 /// The catalogue that a TOML file of these bytes gives, or its first fault: of its length, of
 /// TOML's grammar, of the form of its tables, and at last of what its parts say of each other.
 ///
-/// Costs time in the square of what there is.
+/// Costs the reading of the TOML, and what `Catalogue::build` does.
 #[tactic(auto, unfolding(crate::specs::Reading::catalogue_in))]
 pub fn read_catalogue(alloc: Global, bytes: &[u8]) -> Result<Catalogue, CatError>
     ensures exact { Gives fault_in (λ built. built) result (catalogue_in bytes.now) }

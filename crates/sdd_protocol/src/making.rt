@@ -16,8 +16,8 @@ use std::alloc::Global;
 /// The protocol table of the catalogue: the edges of its conflict graph in their order, each with its
 /// block and its protocol.
 ///
-/// Costs what the conflict graph and its blocks do, of which most is `4 * classes` passes over the edges,
-/// and memory for a few numbers for each edge and for each two classes.
+/// Costs what the conflict graph and its blocks do, of which most is `4 * classes` passes over the pairs
+/// of nodes that edges join, and memory for a few numbers for each edge and for each two classes.
 pub fn table(alloc: Global, cat: &Catalogue) -> Result<Table, NoMemory>
     ensures { IfOk result (λ table. IsTable cat.now table) }
 {
