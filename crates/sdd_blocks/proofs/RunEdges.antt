@@ -122,7 +122,8 @@ run_of_edge (r ∷ runs) k e h =
       | inl l ↦ (0, sym (get_in_run r.count r.ends (edges_in runs) k l) ∙ h)
       | inr l ↦
           let split : k ≡ r.count + (k - r.count) = omega arith in
-          let there : slice_get (edges_in runs) (k - r.count) ≡ Some e = sym (get_past_run r.count r.ends (edges_in runs) (k - r.count)) ∙ ap (slice_get (edges_in (r ∷ runs))) (sym split) ∙ h in
+          let there : slice_get (edges_in runs) (k - r.count) ≡ Some e =
+          sym (get_past_run r.count r.ends (edges_in runs) (k - r.count)) ∙ ap (slice_get (edges_in (r ∷ runs))) (sym split) ∙ h in
           let found = run_of_edge runs (k - r.count) e there in
           (suc found.0, found.1)
     ]
@@ -166,7 +167,8 @@ joined_along xs ys has without a b j =
     record { steps = w.0; walk = w.1; avoids = λ h. j.avoids (subst (λ z. Has (a ∷ z) without) w.2 h) }
 
 -- edges with the same ends have the same components
-pub same_components : (xs ys : List (ℕ × ℕ)) → HasEdgesOf xs ys → HasEdgesOf ys xs → (without : ℕ) (labels : List ℕ) → AreComponents xs without labels → AreComponents ys without labels
+pub same_components : (xs ys : List (ℕ × ℕ)) → HasEdgesOf xs ys → HasEdgesOf ys xs → (without : ℕ) (labels : List ℕ)
+    → AreComponents xs without labels → AreComponents ys without labels
 same_components xs ys to back without labels are =
     record {
       below = are.below;
@@ -175,6 +177,7 @@ same_components xs ys to back without labels are =
     }
 
 -- the components of the runs are those of the edges
-pub components_of_runs : (runs : List Run) → All (λ r. 1 ≤ r.count) runs → (without : ℕ) (labels : List ℕ) → AreComponents (map (λ r. r.ends) runs) without labels → AreComponents (edges_in runs) without labels
+pub components_of_runs : (runs : List Run) → All (λ r. 1 ≤ r.count) runs → (without : ℕ) (labels : List ℕ)
+    → AreComponents (map (λ r. r.ends) runs) without labels → AreComponents (edges_in runs) without labels
 components_of_runs runs some without labels are =
     same_components (map (λ r. r.ends) runs) (edges_in runs) (edge_of_run runs some) (run_of_edge runs) without labels are

@@ -39,7 +39,8 @@ name_at_place : (names : List Text) (name : Text) (k : ℕ) → place_of name na
 name_at_place names name k e = (bytes_eq-Decides name (get_or names k [])).0 (found_place (bytes_eq name) names [] k e).passes
 
 -- a name more, whose place is marked
-pub name_marked : (names before : List Text) (marks : List Bool) (name : Text) (place : ℕ) → AreMarked names before marks → place_of name names ≡ Some place → AreMarked names (before ++ name ∷ []) (set marks place true)
+pub name_marked : (names before : List Text) (marks : List Bool) (name : Text) (place : ℕ)
+    → AreMarked names before marks → place_of name names ≡ Some place → AreMarked names (before ++ name ∷ []) (set marks place true)
 name_marked names before marks name place so_far e =
     let bound : place < length names = (found_place (bytes_eq name) names [] place e).within in
     let within : place < length marks = omega (arith, so_far.one_each) in
@@ -67,6 +68,9 @@ both true false = refl
 both false b = refl
 
 -- the first rule on a write that is broken
-pub first_write_rule : (names before : List Text) (name : Text) (a b : Bool) → a ≡ has_name names name → b ≡ has_name before name → cond a (cond b (Some DuplicateName) None) (Some UnknownName) ≡ head_of (when (not (has_name names name)) UnknownName ++ when (has_name before name) DuplicateName)
+pub first_write_rule : (names before : List Text) (name : Text) (a b : Bool) → a ≡ has_name names name → b ≡ has_name before name
+    → cond a (cond b (Some DuplicateName) None) (Some UnknownName)
+    ≡ head_of (when (not (has_name names name)) UnknownName ++ when (has_name before name) DuplicateName)
 first_write_rule names before name a b e f =
-    both a b ∙ ap (λ z. head_of (when (not z) UnknownName ++ when b DuplicateName)) e ∙ ap (λ z. head_of (when (not (has_name names name)) UnknownName ++ when z DuplicateName)) f
+    both a b ∙ ap (λ z. head_of (when (not z) UnknownName ++ when b DuplicateName)) e
+    ∙ ap (λ z. head_of (when (not (has_name names name)) UnknownName ++ when z DuplicateName)) f

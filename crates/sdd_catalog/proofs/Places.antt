@@ -31,7 +31,8 @@ found_place p xs d k e =
     subst (IsFound p 0 xs d) place found.1
 
 -- the item at the place of a name among the names of items
-pub named_place : {A : Type 0} (f : A → Text) (name : Text) (xs : List A) (d : A) (k : ℕ) → place_of name (map f xs) ≡ Some k → IsFound (λ x. bytes_eq name (f x)) 0 xs d k
+pub named_place : {A : Type 0} (f : A → Text) (name : Text) (xs : List A) (d : A) (k : ℕ) → place_of name (map f xs) ≡ Some k
+    → IsFound (λ x. bytes_eq name (f x)) 0 xs d k
 named_place f name xs d k e = found_place (λ x. bytes_eq name (f x)) xs d k (sym (position_from-map (bytes_eq name) f 0 xs) ∙ e)
 
 -- a place is that of an item
@@ -41,7 +42,8 @@ place_within f name [] (Some k) e = absurd (none-some k (sym e))
 place_within f name (x ∷ xs) (Some k) e = (named_place f name (x ∷ xs) x k (sym e)).within
 
 -- the first item with a name
-pub item_at_place : {A : Type 0} (f : A → Text) (name : Text) (xs : List A) (k : ℕ) (x : A) → Some k ≡ place_of name (map f xs) → x ≡ get_or xs k x → Some x ≡ find (λ x. bytes_eq name (f x)) xs
+pub item_at_place : {A : Type 0} (f : A → Text) (name : Text) (xs : List A) (k : ℕ) (x : A)
+    → Some k ≡ place_of name (map f xs) → x ≡ get_or xs k x → Some x ≡ find (λ x. bytes_eq name (f x)) xs
 item_at_place f name xs k x e is = ap Some is ∙ sym (named_place f name xs x k (sym e)).item
 
 -- where a name has no place, no item has it
@@ -70,7 +72,8 @@ pub one_place_back : (fragments : List FragmentPart) (i j : ℕ) (f : FragmentPa
     → (name : List ℕ) → new name ≡ position_from (λ f. bytes_eq name f.name) i (drop i fragments)
 one_place_back fragments i j f key old new next within is same updates before name =
     let split : drop i fragments ≡ f ∷ drop (i + 1) fragments = drop_more fragments i f within ∙ ap (λ z. z ∷ drop (i + 1) fragments) (sym is) in
-    let rest : old name ≡ position_from (λ f. bytes_eq name f.name) (i + 1) (drop (i + 1) fragments) = subst (λ n. old name ≡ position_from (λ f. bytes_eq name f.name) n (drop n fragments)) next (before name) in
+    let rest : old name ≡ position_from (λ f. bytes_eq name f.name) (i + 1) (drop (i + 1) fragments) =
+    subst (λ n. old name ≡ position_from (λ f. bytes_eq name f.name) n (drop n fragments)) next (before name) in
     let test : bytes_eq key name ≡ bytes_eq name f.name = nat_list_eq_equiv.symm key name ∙ ap (bytes_eq name) same in
     updates name ∙ ap (λ b. cond b (Some i) (old name)) test ∙ ap (λ o. cond (bytes_eq name f.name) (Some i) o) rest
     ∙ ap (position_from (λ f. bytes_eq name f.name) i) (sym split)

@@ -44,8 +44,8 @@ impl Catalogue {
     /// The catalogue of the parts, or their first fault. The rules on form and length are a
     /// reader's, and are never told from here.
     ///
-    /// Costs time in the square of the relations, of the fragments, of the classes and of the reads of
-    /// a class, and some steps for each fragment that a class reads or writes.
+    /// Costs time in the square of the relations, of the fragments, of the classes and of the reads
+    /// of a class, and some steps for each fragment that a class reads or writes.
     #[tactic(auto, using(crate::proofs::RoundTrip::parts_back, crate::proofs::FirstFault::valid_without_fault))]
     pub fn build(alloc: Global, parts: &Parts) -> Result<Catalogue, CatError>
         ensures valid { IfOk result (λ _. IsValid parts.now) }

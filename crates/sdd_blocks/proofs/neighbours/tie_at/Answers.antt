@@ -36,20 +36,27 @@ overflow_add-past c =
 
 pub bounds-labels-end : goal.bounds-labels-end
 bounds-labels-end c =
-    let here = edge_at c.args.runs.now c.loop-run.run-index c.loop-run.from c.loop-edge.edge c.loop-run-test.true c.loop-run.invariant.from c.loop-edge.auto.edge c.loop-edge-test.true in
+    let from = c.loop-run.invariant.from in
+    let here = edge_at c.args.runs.now c.loop-run.run-index c.loop-run.from c.loop-edge.edge c.loop-run-test.true from
+    c.loop-edge.auto.edge c.loop-edge-test.true in
     end_within (edges_in c.args.runs.now) c.args.labels.now c.loop-edge.edge c.args.node c.in-Some.end _ here c.in-Some.ensures c.requires.ends
 
 pub tie-requires : goal.tie-requires
 tie-requires c =
-    let here = edge_at c.args.runs.now c.loop-run.run-index c.loop-run.from c.loop-edge.edge c.loop-run-test.true c.loop-run.invariant.from c.loop-edge.auto.edge c.loop-edge-test.true in
+    let from = c.loop-run.invariant.from in
+    let here = edge_at c.args.runs.now c.loop-run.run-index c.loop-run.from c.loop-edge.edge c.loop-run-test.true from
+    c.loop-edge.auto.edge c.loop-edge-test.true in
     let within = end_within (edges_in c.args.runs.now) c.args.labels.now c.loop-edge.edge c.args.node c.in-Some.end _ here c.in-Some.ensures c.requires.ends in
     let below = c.requires.components.below c.in-Some.end 0 within in
     omega (arith, below, c.loop-edge.invariant.one_each)
 
 pub loop-edge-preserved : goal.loop-edge-preserved
 loop-edge-preserved c =
-    let here = edge_at c.args.runs.now c.loop-run.run-index c.loop-run.from c.loop-edge.edge c.loop-run-test.true c.loop-run.invariant.from c.loop-edge.auto.edge c.loop-edge-test.true in
-    edge_tied (edges_in c.args.runs.now) c.args.node c.args.labels.now c.args.pairs.now.items c.loop-edge.pairs.items c.tie.new.pairs.items c.loop-edge.first.items c.tie.new.first.items c.loop-edge.edge _ _ c.in-Some.end
+    let from = c.loop-run.invariant.from in
+    let here = edge_at c.args.runs.now c.loop-run.run-index c.loop-run.from c.loop-edge.edge c.loop-run-test.true from
+    c.loop-edge.auto.edge c.loop-edge-test.true in
+    edge_tied (edges_in c.args.runs.now) c.args.node c.args.labels.now c.args.pairs.now.items
+    c.loop-edge.pairs.items c.tie.new.pairs.items c.loop-edge.first.items c.tie.new.first.items c.loop-edge.edge _ _ c.in-Some.end
     c.loop-edge.invariant here (sym c.in-Some.ensures) c.requires.components c.requires.ends c.in_ok-tie.ensures.none c.in_ok-tie.ensures.some _ refl
 
 pub loop-run-preserved : goal.loop-run-preserved
@@ -66,7 +73,9 @@ loop-run-preserved c =
     let more = past_run runs i from within c.loop-run.invariant.from in
     elim c.match-other_end.branch [
       | in-Some+else-loop-edge-test w ↦
-          let end : w.loop-edge.edge ≡ new.from = let low = w.loop-edge.auto.edge in let high = w.loop-edge.auto.edge-end in let past = w.loop-edge-test.false in omega (arith, w.from-is) in
+          let high = w.loop-edge.auto.edge-end in
+          let past = w.loop-edge-test.false in
+          let end : w.loop-edge.edge ≡ new.from = omega (arith, w.from-is) in
           record {
             tying = subst (λ z. IsTyingAt edges node labels before z.items new.first.items new.from) (sym w.pairs-is)
                 (subst (λ z. IsTyingAt edges node labels before w.loop-edge.pairs.items z.items new.from) (sym w.first-is)
@@ -89,4 +98,5 @@ returns c =
     let runs = c.args.runs.now in
     let i = c.loop-run.run-index in
     let all = ap (λ (z : List Run). length (edges_in z)) (take_all i runs c.loop-run-test.false) in
-    all_tied (edges_in runs) c.args.node c.args.labels.now c.args.pairs.now.items _ _ c.loop-run.from c.loop-run.invariant.tying (omega (arith, all, c.loop-run.invariant.from)) c.requires.components
+    all_tied (edges_in runs) c.args.node c.args.labels.now c.args.pairs.now.items _ _ c.loop-run.from c.loop-run.invariant.tying
+    (omega (arith, all, c.loop-run.invariant.from)) c.requires.components

@@ -18,5 +18,6 @@ loop-place-preserved c =
       | else-not-is_repeated w ↦
           subst (λ z. AreRunsSoFar edges z.items c.if-not-is_repeated.count (i + 1)) (sym w.runs-is)
           (subst (λ n. AreRunsSoFar edges runs n (i + 1)) (sym w.count-is)
-          (run_goes_on edges runs count i c.loop-place.invariant (c.is_repeated.ensures.within w.if-not-is_repeated.false) (c.is_repeated.ensures.same w.if-not-is_repeated.false)))
+          (run_goes_on edges runs count i c.loop-place.invariant
+          (c.is_repeated.ensures.within w.if-not-is_repeated.false) (c.is_repeated.ensures.same w.if-not-is_repeated.false)))
     ]

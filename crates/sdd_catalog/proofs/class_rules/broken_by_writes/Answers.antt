@@ -16,7 +16,8 @@ loop-index-init c =
     let count = ap length (c.as_slice.ensures ∙ ap (λ (p : Parts). p.fragments) c.parts.ensures) ∙ sym (length-map fragments (λ (f : FragmentPart). f.name)) in
     record {
       rest = refl;
-      marks = subst (AreMarked (fragment_names fragments) []) (sym (c.in_ok-marks.ensures.items_if_clones_equal (λ y e. e))) (no_marks (fragment_names fragments) _ count);
+      marks = subst (AreMarked (fragment_names fragments) []) (sym (c.in_ok-marks.ensures.items_if_clones_equal (λ y e. e)))
+          (no_marks (fragment_names fragments) _ count);
     }
 
 pub broken_by_write-requires : goal.broken_by_write-requires
@@ -30,9 +31,12 @@ loop-index-preserved c =
     let before = take i writes in
     let within = c.loop-index-test.true in
     let more : take (i + 1) writes ≡ before ++ x ∷ [] = take_more writes i x within ∙ ap (λ (z : Text). before ++ z ∷ []) (sym c.index-writes-index.is) in
+    let marked = c.loop-index.invariant.marks in
+    let names = fragment_names c.args.parts.now.fragments in
+    let fine = sym (c.in_default.ensures.rule before marked) in
     record {
-      rest = c.loop-index.invariant.rest ∙ found_later (write_rules c.args.parts.now) writes i x c.index-writes-index.is within (sym (c.in_default.ensures.rule before c.loop-index.invariant.marks));
-      marks = subst (λ (z : List Text). AreMarked (fragment_names c.args.parts.now.fragments) z c.broken_by_write.new.marks.items) (sym more) (c.in_default.ensures.marks before c.loop-index.invariant.marks refl);
+      rest = c.loop-index.invariant.rest ∙ found_later (write_rules c.args.parts.now) writes i x c.index-writes-index.is within fine;
+      marks = subst (λ (z : List Text). AreMarked names z c.broken_by_write.new.marks.items) (sym more) (c.in_default.ensures.marks before marked refl);
     }
 
 pub returns-in-Some : goal.returns-in-Some
