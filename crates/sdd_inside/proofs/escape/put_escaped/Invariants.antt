@@ -1,0 +1,7 @@
+use Rattle.std.proofs.Common.{◌≡◌, ◌++◌, drop}
+use Rattle.sdd_inside.specs.Json.{escaped}
+use Rattle.sdd_inside.proofs.escape.put_escaped.Given as goal
+
+-- what was written and what is left to write is all of it
+abbrev pub invariant-part : goal.invariant-part
+invariant-part l = l.text.items ++ escaped (drop l.byte-index l.part) ≡ l.fn.text.items ++ escaped l.fn.part

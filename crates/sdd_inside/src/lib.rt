@@ -1,0 +1,28 @@
+//! The text of what happens inside a run: one line of JSON for each event, which tells what the event changed.
+//!
+//! The contract to the layer above: `put_line` puts exactly `line` of `specs/Lines.antt`, a function of the
+//! values that a `Delta` holds, and `put_beginning` the first line of the text. `specs/Json.antt` says how strings,
+//! lists and members are spelled, `specs/Words.antt` names and rows, `specs/Messages.antt` packets, and
+//! `specs/Standings.antt` how a site stands. docs/INSIDE.md describes the same for readers of the text.
+//!
+//! JSON is spelled here, and not by a crate that writes a tree of values: the text is made of a few kinds of
+//! lists and objects whose members stand in a fixed order, so each piece goes straight to the end of the text,
+//! and no tree is made of a line first.
+#![tactic(auto)]
+
+mod delta;
+mod escape;
+mod events;
+mod lines;
+mod messages;
+mod names;
+mod standing;
+mod standings;
+mod told;
+mod words;
+
+pub use delta::{
+    Delta, Found, Handed, InFlight, PipeDelta, Put, QueueDelta, RowDelta, Taken,
+};
+pub use lines::{put_beginning, put_line};
+pub use standing::{Active, DmState, Head, Phase, Question, SiteState, Stage, TmState, UState};

@@ -1,0 +1,250 @@
+//! How sites stand, in a line.
+ghost use Rattle.std.specs.Prelude.{◌≡◌, ◌++◌, ◌∷◌, [], codes, OnOk};
+ghost use Rattle.std.specs.Fmt.{decimal};
+ghost use Rattle.sdd_base.specs.declared.site.Site.TheVariants as sites;
+ghost use Rattle.sdd_inside.specs.Json.{quoted, also};
+ghost use Rattle.sdd_inside.specs.Standings.{phase_word, stage_word, attempt_members, phase_members, active_json, question_json, head_json, standing, tm_flags, tm_lists, u_stage, u_lists, dm_members, site_state_json};
+
+use crate::escape::put_quoted;
+use crate::messages::put_attempt_member;
+use crate::standing::{Active, DmState, Head, Phase, Question, SiteState, Stage, TmState, UState};
+use crate::told::{
+    Told, put_also, put_if, put_name, tell_also, tell_first, tell_list, tell_some, tell_triple,
+};
+use sdd_base::{NoMemory, Site};
+use sdd_catalog::Catalogue;
+use sdd_lang::Txn;
+use sdd_words::put;
+
+fn phase_word(phase: Phase) -> &'static [u8]
+    ensures { result.now ≡ phase_word phase }
+{
+    match phase {
+        Phase::Reading => b"reading",
+        Phase::Fetching => b"fetching",
+        Phase::Reducing => b"reducing",
+        Phase::Shipping => b"shipping",
+    }
+}
+
+fn stage_word(stage: Stage) -> &'static [u8]
+    ensures { result.now ≡ stage_word stage }
+{
+    match stage {
+        Stage::Idle => b"idle",
+        Stage::Holding => b"holding",
+        Stage::Reading => b"reading",
+        Stage::Writing => b"writing",
+    }
+}
+
+/// Puts a member that is one of a few words.
+#[tactic(auto, using(crate::proofs::Members::member_put))]
+fn put_phase(text: &mut Vec<u8>, word: &[u8]) -> Result<(), NoMemory>
+    ensures { OnOk result (text.new.items ≡ text.old.items ++ also (codes "phase") (quoted word.now)) }
+{
+    put_name(text, b"phase")?;
+    put_quoted(text, word)
+}
+
+fn put_active_attempt(
+    text: &mut Vec<u8>,
+    active: &Active,
+    txns: &[Txn],
+) -> Result<(), NoMemory>
+    ensures { OnOk result (text.new.items ≡ text.old.items ++ attempt_members txns.now active.now) }
+{
+    put_attempt_member(text, txns, active.txn, active.attempt)?;
+    put_also(text, b"time", active.time.0)
+}
+
+fn put_active_phase(
+    text: &mut Vec<u8>,
+    active: &Active,
+    catalogue: &Catalogue,
+    txns: &[Txn],
+) -> Result<(), NoMemory>
+    ensures { OnOk result (text.new.items ≡ text.old.items ++ phase_members catalogue.now txns.now active.now) }
+{
+    put_phase(text, phase_word(active.phase))?;
+    tell_some(text, b"lacks", &active.lacks, catalogue, txns)
+}
+
+impl Told for Active {
+    ghost json = { active_json };
+
+    #[tactic(auto, using(crate::proofs::Members::object_of_two))]
+    fn tell(
+        &self,
+        text: &mut Vec<u8>,
+        catalogue: &Catalogue,
+        txns: &[Txn],
+    ) -> Result<(), NoMemory> {
+        tell_first(text, b"class", &self.class, catalogue, txns)?;
+        put_active_attempt(text, self, txns)?;
+        put_active_phase(text, self, catalogue, txns)?;
+        put(text, b"}")
+    }
+}
+
+impl Told for Question {
+    ghost json = { question_json };
+
+    fn tell(
+        &self,
+        text: &mut Vec<u8>,
+        catalogue: &Catalogue,
+        txns: &[Txn],
+    ) -> Result<(), NoMemory> {
+        tell_triple(text, &self.class, &self.from, &self.time, catalogue, txns)
+    }
+}
+
+impl Told for Head {
+    ghost json = { head_json };
+
+    #[tactic(auto, using(crate::proofs::Members::object_put))]
+    fn tell(
+        &self,
+        text: &mut Vec<u8>,
+        catalogue: &Catalogue,
+        txns: &[Txn],
+    ) -> Result<(), NoMemory> {
+        match self {
+            Head::Waits { class, conds } => {
+                tell_first(text, b"class", class, catalogue, txns)?;
+                tell_list(text, b"waits", conds.as_slice(), catalogue, txns)?;
+                put(text, b"}")
+            }
+            Head::Held { class, readers } => {
+                tell_first(text, b"class", class, catalogue, txns)?;
+                tell_list(text, b"held", readers.as_slice(), catalogue, txns)?;
+                put(text, b"}")
+            }
+        }
+    }
+}
+
+fn put_tm_flags(text: &mut Vec<u8>, state: &TmState) -> Result<(), NoMemory>
+    ensures { OnOk result (text.new.items ≡ text.old.items ++ tm_flags state.now) }
+{
+    put_also(text, b"clock", state.clock)?;
+    put_if(text, b"hold", state.on_hold)?;
+    put_if(text, b"owes", state.owes_held)
+}
+
+fn put_tm_lists(
+    text: &mut Vec<u8>,
+    state: &TmState,
+    catalogue: &Catalogue,
+    txns: &[Txn],
+) -> Result<(), NoMemory>
+    ensures { OnOk result (text.new.items ≡ text.old.items ++ tm_lists catalogue.now txns.now state.now) }
+{
+    tell_some(text, b"asks", &state.asks, catalogue, txns)?;
+    tell_some(text, b"active", &state.active, catalogue, txns)
+}
+
+fn put_u_stage(text: &mut Vec<u8>, state: &UState) -> Result<(), NoMemory>
+    ensures { OnOk result (text.new.items ≡ text.old.items ++ u_stage state.now) }
+{
+    put_also(text, b"clock", state.clock)?;
+    put_phase(text, stage_word(state.stage))
+}
+
+fn put_u_lists(
+    text: &mut Vec<u8>,
+    state: &UState,
+    catalogue: &Catalogue,
+    txns: &[Txn],
+) -> Result<(), NoMemory>
+    ensures { OnOk result (text.new.items ≡ text.old.items ++ u_lists catalogue.now txns.now state.now) }
+{
+    tell_some(text, b"lacks", &state.lacks, catalogue, txns)?;
+    tell_some(text, b"active", &state.active, catalogue, txns)
+}
+
+fn put_dm_members(
+    text: &mut Vec<u8>,
+    state: &DmState,
+    catalogue: &Catalogue,
+    txns: &[Txn],
+) -> Result<(), NoMemory>
+    ensures { OnOk result (text.new.items ≡ text.old.items ++ dm_members catalogue.now txns.now state.now) }
+{
+    put_if(text, b"down", state.is_down)?;
+    tell_some(text, b"heads", &state.heads, catalogue, txns)
+}
+
+#[tactic(auto, using(crate::proofs::Members::object_of_two))]
+fn put_u(
+    text: &mut Vec<u8>,
+    state: &UState,
+    catalogue: &Catalogue,
+    txns: &[Txn],
+) -> Result<(), NoMemory>
+    ensures { OnOk result (
+        text.new.items
+        ≡ text.old.items
+        ++ standing catalogue.now txns.now sites.U
+        (u_stage state.now ++ u_lists catalogue.now txns.now state.now)) }
+{
+    tell_first(text, b"at", &Site::U, catalogue, txns)?;
+    put_u_stage(text, state)?;
+    put_u_lists(text, state, catalogue, txns)?;
+    put(text, b"}")
+}
+
+#[tactic(auto, using(crate::proofs::Members::object_of_two))]
+fn put_tm(
+    text: &mut Vec<u8>,
+    state: &TmState,
+    catalogue: &Catalogue,
+    txns: &[Txn],
+) -> Result<(), NoMemory>
+    ensures { OnOk result (
+        text.new.items
+        ≡ text.old.items
+        ++ standing catalogue.now txns.now (sites.T state.now.tm)
+        (tm_flags state.now ++ tm_lists catalogue.now txns.now state.now)) }
+{
+    tell_first(text, b"at", &Site::T(state.tm), catalogue, txns)?;
+    put_tm_flags(text, state)?;
+    put_tm_lists(text, state, catalogue, txns)?;
+    put(text, b"}")
+}
+
+#[tactic(auto, using(crate::proofs::Members::object_put))]
+fn put_dm(
+    text: &mut Vec<u8>,
+    state: &DmState,
+    catalogue: &Catalogue,
+    txns: &[Txn],
+) -> Result<(), NoMemory>
+    ensures { OnOk result (
+        text.new.items
+        ≡ text.old.items
+        ++ standing catalogue.now txns.now (sites.D state.now.dm)
+        (dm_members catalogue.now txns.now state.now)) }
+{
+    tell_first(text, b"at", &Site::D(state.dm), catalogue, txns)?;
+    put_dm_members(text, state, catalogue, txns)?;
+    put(text, b"}")
+}
+
+impl Told for SiteState {
+    ghost json = { site_state_json };
+
+    fn tell(
+        &self,
+        text: &mut Vec<u8>,
+        catalogue: &Catalogue,
+        txns: &[Txn],
+    ) -> Result<(), NoMemory> {
+        match self {
+            SiteState::U(state) => put_u(text, state, catalogue, txns),
+            SiteState::T(state) => put_tm(text, state, catalogue, txns),
+            SiteState::D(state) => put_dm(text, state, catalogue, txns),
+        }
+    }
+}

@@ -1,0 +1,234 @@
+//! Numbers, names, times and rows in a line.
+ghost use Rattle.std.specs.Prelude.{◌≡◌, ◌++◌, ◌∷◌, [], map, IfOk, OnOk};
+ghost use Rattle.std.specs.Fmt.{decimal};
+ghost use Rattle.sdd_words.specs.Values.{value_word};
+ghost use Rattle.sdd_words.specs.Words.{line_bytes};
+ghost use Rattle.sdd_inside.specs.Json.{escaped};
+ghost use Rattle.sdd_inside.specs.Words.{number_json, time_json, class_json, fragment_json, txn_json, attempt_json, site_json, dm_json, key_json, row_json, row_or_null_json, cond_json, change_json};
+
+use crate::escape::{put_escaped, put_escaped_count, put_quoted};
+use crate::names::{class_word, fragment_name, txn_name};
+use crate::told::{Told, parted, tell_pair, tell_triple};
+use itoa::Buffer;
+use sdd_base::{Change, ClassNo, Cond, DmNo, FragNo, NoMemory, Row, Site, Ts, TxnNo, Value};
+use sdd_catalog::Catalogue;
+use sdd_lang::Txn;
+use sdd_words::{put, put_count, put_value, put_values};
+use std::alloc::Global;
+
+impl Told for u32 {
+    ghost json = { number_json };
+
+    fn tell(
+        &self,
+        text: &mut Vec<u8>,
+        _catalogue: &Catalogue,
+        _txns: &[Txn],
+    ) -> Result<(), NoMemory> {
+        put_count(text, u64::from(*self))
+    }
+}
+
+impl Told for Ts {
+    ghost json = { time_json };
+
+    fn tell(
+        &self,
+        text: &mut Vec<u8>,
+        _catalogue: &Catalogue,
+        _txns: &[Txn],
+    ) -> Result<(), NoMemory> {
+        put_count(text, self.0)
+    }
+}
+
+impl Told for ClassNo {
+    ghost json = { class_json };
+
+    fn tell(
+        &self,
+        text: &mut Vec<u8>,
+        catalogue: &Catalogue,
+        _txns: &[Txn],
+    ) -> Result<(), NoMemory> {
+        put_quoted(text, class_word(catalogue, *self))
+    }
+}
+
+impl Told for FragNo {
+    ghost json = { fragment_json };
+
+    fn tell(
+        &self,
+        text: &mut Vec<u8>,
+        catalogue: &Catalogue,
+        _txns: &[Txn],
+    ) -> Result<(), NoMemory> {
+        put_quoted(text, fragment_name(catalogue, *self))
+    }
+}
+
+impl Told for TxnNo {
+    ghost json = { txn_json };
+
+    fn tell(
+        &self,
+        text: &mut Vec<u8>,
+        _catalogue: &Catalogue,
+        txns: &[Txn],
+    ) -> Result<(), NoMemory> {
+        put_quoted(text, txn_name(txns, *self))
+    }
+}
+
+/// Puts the word of a module: a letter and its number.
+fn put_module(text: &mut Vec<u8>, number: u8) -> Result<(), NoMemory>
+    ensures { OnOk result (text.new.items ≡ text.old.items ++ (escaped (decimal number) ++ 34 ∷ [])) }
+{
+    put_escaped_count(text, u64::from(number))?;
+    put(text, b"\"")
+}
+
+impl Told for DmNo {
+    ghost json = { dm_json };
+
+    fn tell(
+        &self,
+        text: &mut Vec<u8>,
+        _catalogue: &Catalogue,
+        _txns: &[Txn],
+    ) -> Result<(), NoMemory> {
+        put(text, b"\"D")?;
+        put_module(text, self.0)
+    }
+}
+
+impl Told for Site {
+    ghost json = { site_json };
+
+    fn tell(
+        &self,
+        text: &mut Vec<u8>,
+        _catalogue: &Catalogue,
+        _txns: &[Txn],
+    ) -> Result<(), NoMemory> {
+        match self {
+            Site::U => put(text, b"\"U\""),
+            Site::T(tm) => {
+                put(text, b"\"T")?;
+                put_module(text, tm.0)
+            }
+            Site::D(dm) => {
+                put(text, b"\"D")?;
+                put_module(text, dm.0)
+            }
+        }
+    }
+}
+
+/// Puts an attempt of a transaction.
+#[tactic(auto, using(crate::proofs::Strings::attempt_put))]
+pub(crate) fn put_attempt(
+    text: &mut Vec<u8>,
+    txns: &[Txn],
+    txn: TxnNo,
+    attempt: u64,
+) -> Result<(), NoMemory>
+    ensures { OnOk result (text.new.items ≡ text.old.items ++ attempt_json txns.now txn attempt) }
+{
+    put(text, b"\"")?;
+    put_escaped(text, txn_name(txns, txn))?;
+    put(text, b"#")?;
+    put_escaped_count(text, attempt)?;
+    put(text, b"\"")
+}
+
+impl Told for i64 {
+    ghost json = { key_json };
+
+    fn tell(
+        &self,
+        text: &mut Vec<u8>,
+        _catalogue: &Catalogue,
+        _txns: &[Txn],
+    ) -> Result<(), NoMemory> {
+        let mut buffer = Buffer::new();
+        put_quoted(text, buffer.format(*self).as_bytes())
+    }
+}
+
+#[tactic(auto, using(crate::proofs::Strings::values_put))]
+fn put_row_words(text: &mut Vec<u8>, first: &Value, rest: &[Value]) -> Result<(), NoMemory>
+    ensures { OnOk result (text.new.items ≡ text.old.items ++ line_bytes (map value_word (first.now ∷ rest.now))) }
+{
+    put_value(text, first)?;
+    put_values(text, rest)
+}
+
+/// The values of a row as a workload spells them.
+fn row_words(alloc: Global, values: &[Value]) -> Result<Vec<u8>, NoMemory>
+    ensures { IfOk result (λ words. words.items ≡ line_bytes (map value_word values.now)) }
+{
+    let mut words = Vec::new(alloc);
+    match parted(values) {
+        Some((first, rest)) => put_row_words(&mut words, first, rest)?,
+        None => {}
+    }
+    Ok(words)
+}
+
+impl Told for Row {
+    ghost json = { row_json };
+
+    fn tell(
+        &self,
+        text: &mut Vec<u8>,
+        _catalogue: &Catalogue,
+        _txns: &[Txn],
+    ) -> Result<(), NoMemory> {
+        let words = row_words(*text.allocator(), self.as_slice())?;
+        put_quoted(text, words.as_slice())
+    }
+}
+
+impl Told for Option<Row> {
+    ghost json = { row_or_null_json };
+
+    fn tell(
+        &self,
+        text: &mut Vec<u8>,
+        catalogue: &Catalogue,
+        txns: &[Txn],
+    ) -> Result<(), NoMemory> {
+        match self {
+            Some(row) => row.tell(text, catalogue, txns),
+            None => put(text, b"null"),
+        }
+    }
+}
+
+impl Told for Cond {
+    ghost json = { cond_json };
+
+    fn tell(
+        &self,
+        text: &mut Vec<u8>,
+        catalogue: &Catalogue,
+        txns: &[Txn],
+    ) -> Result<(), NoMemory> {
+        tell_pair(text, &self.class, &self.time, catalogue, txns)
+    }
+}
+
+impl Told for Change {
+    ghost json = { change_json };
+
+    fn tell(
+        &self,
+        text: &mut Vec<u8>,
+        catalogue: &Catalogue,
+        txns: &[Txn],
+    ) -> Result<(), NoMemory> {
+        tell_triple(text, &self.frag, &self.key, &self.row, catalogue, txns)
+    }
+}
