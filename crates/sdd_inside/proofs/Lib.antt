@@ -1,3 +1,4 @@
+pub mod Changes
 pub mod Loops
 pub mod Members
 pub mod Strings

@@ -1,9 +1,8 @@
 -- Strings that are put piece by piece.
-use Rattle.std.proofs.Common.{◌≡◌, ℕ, List, [], ◌∷◌, ◌++◌, map, flat_map, refl, sym, ap, ◌∙◌, append_assoc}
-use Rattle.std.specs.Fmt.{decimal}
+use Rattle.std.proofs.Common.{◌≡◌, ℕ, List, [], ◌∷◌, ◌++◌, map, flat_map, sym, ap, ◌∙◌, append_assoc}
 use Rattle.sdd_base.specs.declared.value.Value.{Value}
 use Rattle.sdd_words.specs.Values.{value_word}
-use Rattle.sdd_words.specs.Words.{word_bytes, line_bytes, more_bytes, spaced}
+use Rattle.sdd_words.specs.Words.{word_bytes, line_bytes, spaced}
 use Rattle.sdd_words.specs.declared.word.Word.{Word}
 use Rattle.sdd_words.specs.declared.word.Word.TheVariants.{Plain}
 use Rattle.sdd_words.proofs.Written.{flat_map-append, words_spaced}
@@ -31,5 +30,6 @@ values_put out first rest =
     ∙ ap (λ (l : List ℕ). out ++ (word_bytes (value_word first) ++ l)) (words_spaced value_word rest)
 
 -- a line of four words
-pub key_three : (out key : List ℕ) (a b c : Word) → (((out ++ key) ++ spaced a) ++ spaced b) ++ spaced c ≡ out ++ line_bytes (Plain key ∷ a ∷ b ∷ c ∷ [])
+pub key_three : (out key : List ℕ) (a b c : Word)
+    → (((out ++ key) ++ spaced a) ++ spaced b) ++ spaced c ≡ out ++ line_bytes (Plain key ∷ a ∷ b ∷ c ∷ [])
 key_three out key a b c = three_words (out ++ key) a b c ∙ keyed out key (a ∷ b ∷ c ∷ [])

@@ -1,5 +1,5 @@
 -- Worked lines: what the reference prints of runs of examples/, event by event.
-use Rattle.std.specs.Prelude.{ℕ, ◌≡◌, [], ◌∷◌, ◌++◌, List, map, codes, pos, negsuc, true, false, Option, Some, None, refl}
+use Rattle.std.specs.Prelude.{ℕ, ◌≡◌, [], ◌∷◌, ◌++◌, List, map, codes, pos, true, false, Option, Some, None, refl}
 use Rattle.std.specs.Fmt.{digits}
 use Rattle.sdd_base.specs.Numbers.{class_no, dm_no, frag_no, rel_no, time_at, tm_no, txn_no}
 use Rattle.sdd_base.specs.declared.change.Change.{Change}
@@ -126,7 +126,7 @@ abbrev pub one_submitted : Delta
 one_submitted =
     record (step 1 1 (events.Submit (txn_no 1)) founds.Something) {
       put = (on t1 d1 ((First 1 (messages.Write (time_at 65) (class_no 1) (txn_no 1) ((change 1 1 (Some (whole 1 ∷ whole 1 ∷ [])) ∷ []))) ∷ []))
-        ∷ []);
+          ∷ []);
       sites = ((states.T (record { tm = tm_no 1; clock = 1; on_hold = false; owes_held = false; asks = []; active = [] })) ∷ []);
     }
 
@@ -227,8 +227,15 @@ hold_owed =
       round = Some 1;
       handed = (handed U t1 1 ∷ []);
       put = (on t1 U ((Ack 1) ∷ []) ∷ []);
-      sites = ((states.T (record { tm = tm_no 1; clock = 1; on_hold = true; owes_held = true; asks = []; active = (active 1 1 1 65 phases.Reading
-        ((dm_no 1) ∷ []) ∷ []) })) ∷ []);
+      sites = ((states.T (record {
+        tm = tm_no 1;
+        clock = 1;
+        on_hold = true;
+        owes_held = true;
+        asks = [];
+        active = (active 1 1 1 65 phases.Reading
+            ((dm_no 1) ∷ []) ∷ []);
+      })) ∷ []);
     }
 
 pub hold_owed_text
@@ -245,10 +252,15 @@ undeclared_reads =
       round = Some 7;
       handed = (handed t1 U 1 ∷ []);
       put = (on U t1 ((Ack 1) ∷ []) ∷ on U d1 ((First 1 (messages.Read (time_at 128) (class_no 0) (txn_no 2) 1 (cond 1 128 ∷ cond 2 128
-        ∷ []) [])) ∷ []) ∷ on U d2 ((First 1 (messages.Read (time_at 128) (class_no 0) (txn_no 2) 1 (cond 1 128 ∷ cond 2 128 ∷ []) [])) ∷ [])
-        ∷ []);
-      sites = ((states.U (record { clock = 2; stage = stages.Reading; lacks = (d1 ∷ d2 ∷ []); active = (active 0 2 1 128 phases.Reading
-        ((dm_no 1) ∷ (dm_no 2) ∷ []) ∷ []) })) ∷ []);
+          ∷ []) [])) ∷ []) ∷ on U d2 ((First 1 (messages.Read (time_at 128) (class_no 0) (txn_no 2) 1 (cond 1 128 ∷ cond 2 128 ∷ []) [])) ∷ [])
+          ∷ []);
+      sites = ((states.U (record {
+        clock = 2;
+        stage = stages.Reading;
+        lacks = (d1 ∷ d2 ∷ []);
+        active = (active 0 2 1 128 phases.Reading
+            ((dm_no 1) ∷ (dm_no 2) ∷ []) ∷ []);
+      })) ∷ []);
     }
 
 pub undeclared_reads_text
@@ -319,8 +331,18 @@ question_open =
       round = Some 2;
       handed = (handed d2 t1 1 ∷ []);
       put = (on t1 d2 ((Ack 1) ∷ []) ∷ []);
-      sites = ((states.T (record { tm = tm_no 1; clock = 1; on_hold = false; owes_held = false; asks = ((record { class = (class_no 1);
-        from = d2; time = (time_at 66) }) ∷ []); active = (active 1 1 1 65 phases.Reading ((dm_no 1) ∷ []) ∷ []) })) ∷ []);
+      sites = ((states.T (record {
+        tm = tm_no 1;
+        clock = 1;
+        on_hold = false;
+        owes_held = false;
+        asks = ((record {
+          class = (class_no 1);
+          from = d2;
+          time = (time_at 66);
+        }) ∷ []);
+        active = (active 1 1 1 65 phases.Reading ((dm_no 1) ∷ []) ∷ []);
+      })) ∷ []);
     }
 
 pub question_open_text

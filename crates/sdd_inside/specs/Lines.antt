@@ -1,11 +1,10 @@
 -- The lines of the text: the first one, and one for each event.
 use Rattle.std.specs.Prelude.{ℕ, List, [], ◌∷◌, ◌++◌, codes, Option, Some, None}
 use Rattle.std.specs.Fmt.{decimal}
-use Rattle.sdd_base.specs.declared.change.Change.{Change}
 use Rattle.sdd_catalog.specs.Catalogue.{Catalogue}
 use Rattle.sdd_lang.specs.declared.transaction.Txn.{Txn}
 use Rattle.sdd_report.specs.declared.copies.CopyTable.{CopyTable}
-use Rattle.sdd_inside.specs.Json.{array, pair, triple, member, also, object, unless_empty, unless_zero, further}
+use Rattle.sdd_inside.specs.Json.{array, triple, member, also, object, unless_empty, unless_zero}
 use Rattle.sdd_inside.specs.Messages.{ack_json, packet_json}
 use Rattle.sdd_inside.specs.Standings.{site_state_json}
 use Rattle.sdd_inside.specs.Words.{number_json, class_json, txn_json, fragment_json, site_json, dm_json, event_json, key_json, row_json, row_or_null_json}

@@ -1,5 +1,5 @@
 -- Packets as JSON. A message is told in full with its first packet, and then by its number.
-use Rattle.std.specs.Prelude.{ℕ, List, [], ◌∷◌, ◌++◌, codes, length, map, sum}
+use Rattle.std.specs.Prelude.{ℕ, List, [], ◌++◌, codes, length, map, sum}
 use Rattle.std.specs.Fmt.{decimal}
 use Rattle.sdd_base.specs.declared.number.ClassNo.{ClassNo}
 use Rattle.sdd_base.specs.declared.number.Ts.{Ts}

@@ -1,5 +1,5 @@
 -- Names, sites, times and rows as JSON.
-use Rattle.std.specs.Prelude.{ℕ, ℤ, List, [], ◌∷◌, ◌++◌, codes, map, Option, Some, None}
+use Rattle.std.specs.Prelude.{ℕ, ℤ, List, codes, map, Option, Some, None}
 use Rattle.std.specs.Fmt.{decimal, signed_decimal}
 use Rattle.sdd_base.specs.declared.change.Change.{Change}
 use Rattle.sdd_base.specs.declared.condition.Cond.{Cond}

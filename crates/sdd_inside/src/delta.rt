@@ -21,7 +21,7 @@ pub enum Found {
     Something,
     /// A packet, which is lost.
     Lost(Taken),
-    /// A message, which arrived. Of its link the messages from 1 to `delivered` have arrived.
+    /// A message, which arrived. Of its link those from 1 to `delivered` have arrived.
     Arrived { number: u32, delivered: u32 },
     /// An acknowledgement of the messages from 1 to `upto`, which arrived. Its receiver knows of the
     /// messages from 1 to `acked` that they have arrived.

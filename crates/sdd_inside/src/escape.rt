@@ -1,5 +1,5 @@
 //! Strings as JSON spells them.
-ghost use Rattle.std.specs.Prelude.{◌≡◌, ◌++◌, ◌∷◌, [], ◌<◌, OnOk};
+ghost use Rattle.std.specs.Prelude.{◌≡◌, ◌++◌, ◌<◌, OnOk};
 ghost use Rattle.std.specs.Fmt.{decimal};
 ghost use Rattle.sdd_inside.specs.Json.{hex_digit, numbered, escaped_byte, escaped, quoted};
 

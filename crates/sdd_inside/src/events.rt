@@ -120,11 +120,7 @@ fn put_words(words: &mut Vec<u8>, txns: &[Txn], event: Event) -> Result<(), NoMe
 }
 
 /// Puts an event as a string.
-pub(crate) fn put_event(
-    text: &mut Vec<u8>,
-    txns: &[Txn],
-    event: Event,
-) -> Result<(), NoMemory>
+pub(crate) fn put_event(text: &mut Vec<u8>, txns: &[Txn], event: Event) -> Result<(), NoMemory>
     ensures { OnOk result (text.new.items ≡ text.old.items ++ event_json txns.now event) }
 {
     let mut words = Vec::new(*text.allocator());

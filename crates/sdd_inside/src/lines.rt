@@ -1,7 +1,7 @@
 //! The lines of the text.
-ghost use Rattle.std.specs.Prelude.{◌≡◌, ◌++◌, ◌∷◌, [], codes, OnOk};
+ghost use Rattle.std.specs.Prelude.{◌≡◌, ◌++◌, codes, OnOk};
 ghost use Rattle.std.specs.Fmt.{decimal};
-ghost use Rattle.sdd_inside.specs.Json.{array, also};
+ghost use Rattle.sdd_inside.specs.Json.{also};
 ghost use Rattle.sdd_inside.specs.Words.{event_json};
 ghost use Rattle.sdd_inside.specs.Messages.{ack_json};
 ghost use Rattle.sdd_inside.specs.Lines.{taken_json, found_members, round_member, handed_json, put_json, queue_json, pipe_moves, pipe_json, row_delta_json, place_members, event_members, link_members, module_members, site_members, changes_of, line, copy_json, module_counts, beginning};

@@ -1,7 +1,6 @@
 //! Packets and their messages in a line.
-ghost use Rattle.std.specs.Prelude.{◌≡◌, ◌++◌, ◌∷◌, [], codes, length, OnOk};
-ghost use Rattle.std.specs.Fmt.{decimal};
-ghost use Rattle.sdd_inside.specs.Json.{quoted, array, also};
+ghost use Rattle.std.specs.Prelude.{◌≡◌, ◌++◌, codes, length, OnOk};
+ghost use Rattle.sdd_inside.specs.Json.{array, also};
 ghost use Rattle.sdd_inside.specs.Messages.{of_kind, at_time, of_class, rows_of, rows_json, values_json, message_json, ack_json, packet_json};
 ghost use Rattle.sdd_inside.specs.Words.{time_json, class_json, txn_json, attempt_json, cond_json, change_json};
 
@@ -252,13 +251,22 @@ impl Told for Msg {
                 put_class(text, b"FETCH", catalogue, txns, *class, *ts)
             }
             Msg::Values {
-                ts, class, values, ..
+                ts,
+                class,
+                values,
+                ..
             } => put_valued(text, b"VALUES", catalogue, txns, *class, *ts, values),
             Msg::Reduce {
-                ts, class, values, ..
+                ts,
+                class,
+                values,
+                ..
             } => put_valued(text, b"REDUCE", catalogue, txns, *class, *ts, values),
             Msg::Reduced {
-                ts, class, count, ..
+                ts,
+                class,
+                count,
+                ..
             } => put_counted(
                 text,
                 b"REDUCED",

@@ -26,7 +26,7 @@ pub struct Active {
     pub lacks: Listed<DmNo>,
 }
 
-/// The question of a data module, up to which time a class has passed, to which there is no answer yet.
+/// The question of a data module whether a class has passed a time, to which there is no answer yet.
 #[derive(Drop, Debug)]
 pub struct Question {
     pub class: ClassNo,
@@ -75,7 +75,10 @@ pub struct UState {
 #[derive(Drop, Debug)]
 pub enum Head {
     /// A READ, with its conditions that aren't met.
-    Waits { class: ClassNo, conds: Conds },
+    Waits {
+        class: ClassNo,
+        conds: Conds,
+    },
     /// A WRITE, with the classes whose READ waits and must not see it.
     Held {
         class: ClassNo,

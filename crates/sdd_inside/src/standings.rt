@@ -1,6 +1,5 @@
 //! How sites stand, in a line.
-ghost use Rattle.std.specs.Prelude.{◌≡◌, ◌++◌, ◌∷◌, [], codes, OnOk};
-ghost use Rattle.std.specs.Fmt.{decimal};
+ghost use Rattle.std.specs.Prelude.{◌≡◌, ◌++◌, codes, OnOk};
 ghost use Rattle.sdd_base.specs.declared.site.Site.TheVariants as sites;
 ghost use Rattle.sdd_inside.specs.Json.{quoted, also};
 ghost use Rattle.sdd_inside.specs.Standings.{phase_word, stage_word, attempt_members, phase_members, active_json, question_json, head_json, standing, tm_flags, tm_lists, u_stage, u_lists, dm_members, site_state_json};
@@ -47,11 +46,7 @@ fn put_phase(text: &mut Vec<u8>, word: &[u8]) -> Result<(), NoMemory>
     put_quoted(text, word)
 }
 
-fn put_active_attempt(
-    text: &mut Vec<u8>,
-    active: &Active,
-    txns: &[Txn],
-) -> Result<(), NoMemory>
+fn put_active_attempt(text: &mut Vec<u8>, active: &Active, txns: &[Txn]) -> Result<(), NoMemory>
     ensures { OnOk result (text.new.items ≡ text.old.items ++ attempt_members txns.now active.now) }
 {
     put_attempt_member(text, txns, active.txn, active.attempt)?;

@@ -16,12 +16,7 @@ pub(crate) trait Told: Sized {
     ghost json: { Names → List Named → Self → List ℕ };
 
     /// Puts its JSON.
-    fn tell(
-        &self,
-        text: &mut Vec<u8>,
-        catalogue: &Catalogue,
-        txns: &[Txn],
-    ) -> Result<(), NoMemory>
+    fn tell(&self, text: &mut Vec<u8>, catalogue: &Catalogue, txns: &[Txn]) -> Result<(), NoMemory>
         ensures { OnOk result (text.new.items ≡ text.old.items ++ json catalogue.now txns.now self.now) };
 }
 
