@@ -7,3 +7,8 @@ pub mod Product
 pub mod Keyed
 pub mod Shipping
 pub mod Serving
+pub mod Splices
+pub mod Sieves
+pub mod Inside
+pub mod Sifted
+pub mod Enough

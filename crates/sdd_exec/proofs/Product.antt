@@ -37,7 +37,7 @@ choice_of (rows ∷ parts) u h =
     let there : nat_lt place.0 (length rows) ≡ true = lt-ltb _ _ place.1 in
     (place.0 ∷ rest.0, rw there rest.1, rw (place.2, rest.2) two.2)
 
-found_row : (there met : Bool) (row x : Row) → cond there (cond met (Some row) None) None ≡ Some x → (there ≡ true) × (met ≡ true) × (row ≡ x)
+pub found_row : (there met : Bool) (row x : Row) → cond there (cond met (Some row) None) None ≡ Some x → (there ≡ true) × (met ≡ true) × (row ≡ x)
 found_row true true row x e = (refl, refl, cc)
 found_row true false row x e = absurd cc
 found_row false met row x e = absurd cc

@@ -129,6 +129,10 @@ flat_map_next f xs i x before after piece h e p g b =
     let one : flat_map f (get_or xs i x ∷ []) ≡ piece = rw append-nil last in
     rw (g, b, take_more xs i x h, flat_map-append, one)
 
+pub flat_map_same : {X Y : Type 0} (f g : X → List Y) (xs : List X) → ((x : X) → f x ≡ g x) → flat_map f xs ≡ flat_map g xs
+flat_map_same f g [] same = refl
+flat_map_same f g (x ∷ xs) same = rw (same x, flat_map_same f g xs same)
+
 pub found_next : {X : Type 0} (f : X → Option Row) (kept : List X) (i : ℕ) (choice : X) (before after : List Row)
     → i < length kept → choice ≡ get_or kept i choice → after ≡ with_found (f choice) before → before ≡ distinct (filter_map f (take i kept)) → after ≡ distinct (filter_map f (take (i + 1) kept))
 found_next f kept i choice before after h e g b =

@@ -13,7 +13,7 @@ use std::alloc::Global;
 pub type Choice = Listed<usize>;
 
 /// The place of a part in a choice.
-fn place_at(choice: &[usize], part: usize) -> usize
+pub fn place_at(choice: &[usize], part: usize) -> usize
     ensures { result ≡ slice_index choice.now part }
 {
     choice.get(part).copied().unwrap_or(0)

@@ -1,8 +1,9 @@
-ghost use Rattle.std.specs.Prelude.{◌≡◌, [], length, IfOk, OnOk};
+ghost use Rattle.std.specs.Prelude.{◌≡◌, [], nat_lt, length, IfOk, OnOk};
 ghost use Rattle.std.specs.BTreeSet.{insert_key};
 ghost use Rattle.sdd_base.specs.Order.{row_cmp};
 ghost use Rattle.sdd_lang.specs.Query.{distinct};
 ghost use Rattle.sdd_exec.specs.Rising.{to_last};
+ghost use Rattle.sdd_exec.specs.Choices.{NoRepeats};
 
 use sdd_base::{NoMemory, Row, RowList};
 use std::alloc::Global;
@@ -78,6 +79,18 @@ impl Found {
             return self.set.len();
         }
         self.rising.len()
+    }
+
+    /// Whether there are more rows than so many. Takes no memory.
+    #[tactic(auto, using(crate::proofs::Distinct::once_steps))]
+    pub fn is_over(&self, room: usize) -> bool
+        ensures more { result ≡ nat_lt room (length self.now) }
+        ensures once { NoRepeats self.now }
+    {
+        if self.in_set {
+            return room < self.set.len();
+        }
+        room < self.rising.len()
     }
 
     /// The rows, in their order.

@@ -138,7 +138,7 @@ fn add_place(alloc: Global, index: &mut Index, key: &Row, place: usize) -> Resul
 
 /// The places by their keys.
 #[tactic(auto, using(crate::proofs::Steps::places_more))]
-fn grouped(alloc: Global, keyed: &[(Row, usize)]) -> Result<Index, NoMemory>
+pub fn grouped(alloc: Global, keyed: &[(Row, usize)]) -> Result<Index, NoMemory>
     ensures { IfOk result (λ m. (q : List Value) → option_map_or (λ v. v.items) (hash.get joins.same_row m q) [] ≡ joins.places keyed.now q) }
 {
     let mut index: Index = HashMap::new(alloc);

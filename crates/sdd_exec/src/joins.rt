@@ -1,5 +1,5 @@
 //! The join of a query's parts.
-ghost use Rattle.std.specs.Prelude.{◌≡◌, ◌<◌, ◌++◌, ◌∷◌, true, ℕ, length, map, List, [], IfOk, slice_index_or, filter_map};
+ghost use Rattle.std.specs.Prelude.{◌≡◌, ◌<◌, ◌≤◌, ◌++◌, ◌∷◌, true, ℕ, length, map, List, [], IfOk, IfSome, slice_index_or, filter_map};
 ghost use Rattle.std.specs.List.{flat_map};
 ghost use Rattle.std.specs.HashMap as hash;
 ghost use Rattle.std.specs.Option.{option_map_or};
@@ -7,11 +7,13 @@ ghost use Rattle.sdd_lang.specs.Query.{product, selection, projection, distinct}
 ghost use Rattle.sdd_lang.specs.Source.{within};
 ghost use Rattle.sdd_lang.specs.Tuples.{rows_lent};
 ghost use Rattle.sdd_exec.specs.Choices as joins;
+ghost use Rattle.sdd_exec.specs.Sifting as sift;
 
 use crate::choice::{Choice, fill, placed};
 use crate::found::Found;
 use crate::index::{Index, index, places_of, untied};
 use crate::parts::Parts;
+use crate::sifting::sifted;
 use crate::tie::{Tie, key_for, ties};
 use sdd_base::{NoMemory, Row, RowList};
 use sdd_lang::{Condition, Ref, meets_all, project};
@@ -67,7 +69,8 @@ fn extend(
     Ok(())
 }
 
-/// The choices with each place of a part that the index has for them.
+/// The choices with each place of a part that the index has for them; left where they are more than
+/// so many.
 fn extend_all(
     alloc: Global,
     parts: &Parts,
@@ -75,9 +78,10 @@ fn extend_all(
     part: usize,
     ties: &[Tie],
     index: &Index,
+    most: usize,
 ) -> Result<Vec<Choice>, NoMemory>
     ensures { let found = λ (choice : List ℕ). option_map_or (λ v. v.items) (hash.get joins.same_row index.now (joins.key_for ties.now (joins.picked parts.now choice))) [] in
-        IfOk result (λ extended. extended.items ≡ flat_map (λ (choice : List ℕ). map (joins.placed (length parts.now) choice part) (found choice)) kept.now) }
+        IfOk result (λ extended. length extended.items ≤ most → extended.items ≡ flat_map (λ (choice : List ℕ). map (joins.placed (length parts.now) choice part) (found choice)) kept.now) }
 {
     let mut made = Vec::new(alloc);
     for choice in kept {
@@ -91,43 +95,52 @@ fn extend_all(
             part,
             places,
         )?;
+        if made.len() > most {
+            return Ok(made);
+        }
     }
     Ok(made)
 }
 
-/// The choices with each of these places of a part.
+/// The choices with each of these places of a part; left where they are more than so many.
 fn extend_each(
     alloc: Global,
     parts: usize,
     kept: &[Choice],
     part: usize,
     places: &[usize],
+    most: usize,
 ) -> Result<Vec<Choice>, NoMemory>
-    ensures { IfOk result (λ extended. extended.items ≡ flat_map (λ (choice : List ℕ). map (joins.placed parts choice part) places.now) kept.now) }
+    ensures { IfOk result (λ extended. length extended.items ≤ most → extended.items ≡ flat_map (λ (choice : List ℕ). map (joins.placed parts choice part) places.now) kept.now) }
 {
     let mut made = Vec::new(alloc);
     for choice in kept {
         extend(alloc, &mut made, parts, choice.as_slice(), part, places)?;
+        if made.len() > most {
+            return Ok(made);
+        }
     }
     Ok(made)
 }
 
-/// The choices with the rows of one more part, which nothing ties.
+/// The choices with the rows of one more part, which nothing ties; left where they are more than so
+/// many.
 fn take_untied(
     alloc: Global,
     parts: &Parts,
     conds: &[Condition],
     kept: &[Choice],
     part: usize,
+    most: usize,
 ) -> Result<Vec<Choice>, NoMemory>
     requires { part < length parts.now }
-    ensures { IfOk result (λ extended. extended.items ≡ flat_map (joins.extended parts.now part [] (joins.keyed part conds.now [] 0 (slice_index_or parts.now part []))) kept.now) }
+    ensures { IfOk result (λ extended. length extended.items ≤ most → extended.items ≡ flat_map (joins.extended parts.now part [] (joins.keyed part conds.now [] 0 (slice_index_or parts.now part []))) kept.now) }
 {
     let places = untied(alloc, parts.rows(part), part, conds)?;
-    extend_each(alloc, parts.count(), kept, part, &places)
+    extend_each(alloc, parts.count(), kept, part, &places, most)
 }
 
-/// The choices with the rows of one more part.
+/// The choices with the rows of one more part; left where they are more than so many.
 fn take_part(
     alloc: Global,
     parts: &Parts,
@@ -135,16 +148,17 @@ fn take_part(
     taken: &[usize],
     kept: &[Choice],
     part: usize,
+    most: usize,
 ) -> Result<Vec<Choice>, NoMemory>
     requires { part < length parts.now }
-    ensures { IfOk result (λ extended. extended.items ≡ flat_map (joins.extensions parts.now conds.now taken.now part) kept.now) }
+    ensures { IfOk result (λ extended. length extended.items ≤ most → extended.items ≡ flat_map (joins.extensions parts.now conds.now taken.now part) kept.now) }
 {
     let ties = ties(alloc, taken, part, conds)?;
     if ties.is_empty() {
-        return take_untied(alloc, parts, conds, kept, part);
+        return take_untied(alloc, parts, conds, kept, part, most);
     }
     let index = index(alloc, parts.rows(part), part, conds, &ties)?;
-    extend_all(alloc, parts, kept, part, &ties, &index)
+    extend_all(alloc, parts, kept, part, &ties, &index, most)
 }
 
 /// What a join has reached: the parts that it took, and choices that have places of these.
@@ -175,10 +189,11 @@ fn take(
     conds: &[Condition],
     reached: Reached,
     part: usize,
+    most: usize,
 ) -> Result<Reached, NoMemory>
     requires part { part < length parts.now }
     requires complete { joins.IsComplete parts.now conds.now reached.taken.items reached.kept.items }
-    ensures complete { IfOk result (λ next. joins.IsComplete parts.now conds.now next.taken.items next.kept.items) }
+    ensures complete { IfOk result (λ next. length next.kept.items ≤ most → joins.IsComplete parts.now conds.now next.taken.items next.kept.items) }
     ensures taken { IfOk result (λ next. joins.is_taken next.taken.items part ≡ true) }
     ensures still { IfOk result (λ next. (p : ℕ) → joins.is_taken reached.taken.items p ≡ true → joins.is_taken next.taken.items p ≡ true) }
 {
@@ -186,26 +201,63 @@ fn take(
     if taken.contains(&part) {
         return Ok(Reached { taken, kept });
     }
-    let kept = take_part(alloc, parts, conds, &taken, &kept, part)?;
+    let kept = take_part(alloc, parts, conds, &taken, &kept, part, most)?;
     taken.push(part)?;
     Ok(Reached { taken, kept })
 }
 
-/// Choices among which are all whose rows meet the conditions.
+/// So many choices a step may make before they are sifted.
+fn most_choices(parts: &Parts) -> usize {
+    let mut most = 4096usize;
+    for part in 0..parts.count() {
+        most = most.saturating_add(parts.rows(part).len().saturating_mul(4));
+    }
+    most
+}
+
+/// Choices among which are all whose rows meet the conditions; None where a step makes more than so
+/// many.
 #[tactic(auto, using(crate::proofs::Complete::choice_steps))]
-fn choices(alloc: Global, parts: &Parts, conds: &[Condition]) -> Result<Vec<Choice>, NoMemory>
-    ensures { IfOk result (λ kept. joins.HasAll parts.now conds.now kept.items) }
+fn few(
+    alloc: Global,
+    parts: &Parts,
+    conds: &[Condition],
+    most: usize,
+) -> Result<Option<Vec<Choice>>, NoMemory>
+    ensures { IfOk result (λ few. IfSome few (λ kept. joins.HasAll parts.now conds.now kept.items)) }
 {
     let mut reached = begin(alloc)?;
     for _step in 0..parts.count() {
         let part = next_part(alloc, parts.count(), reached.taken.as_slice(), conds)?;
-        reached = take(alloc, parts, conds, reached, part)?;
+        reached = take(alloc, parts, conds, reached, part, most)?;
+        if reached.kept.len() > most {
+            return Ok(None);
+        }
     }
     for part in 0..parts.count() {
-        reached = take(alloc, parts, conds, reached, part)?;
+        reached = take(alloc, parts, conds, reached, part, most)?;
+        if reached.kept.len() > most {
+            return Ok(None);
+        }
     }
     let Reached { taken: _, kept } = reached;
-    Ok(kept)
+    Ok(Some(kept))
+}
+
+/// Choices that are enough to tell the answer: as they come, or sifted where there are many.
+fn choices(
+    alloc: Global,
+    parts: &Parts,
+    conds: &[Condition],
+    out: &[Ref],
+    room: usize,
+) -> Result<Vec<Choice>, NoMemory>
+    ensures { IfOk result (λ kept. sift.TellsAnswer parts.now conds.now out.now room kept.items) }
+{
+    match few(alloc, parts, conds, most_choices(parts))? {
+        Some(kept) => Ok(kept),
+        None => sifted(alloc, parts, conds, out, room),
+    }
 }
 
 /// Adds the listed columns of a tuple, where it meets the conditions.
@@ -301,7 +353,7 @@ fn answers_of_all(
     if parts.count() == 1 {
         return answers_of_one(alloc, parts.rows(0), conds, out, room);
     }
-    let kept = choices(alloc, parts, conds)?;
+    let kept = choices(alloc, parts, conds, out, room)?;
     answers(alloc, parts, conds, out, &kept, room)
 }
 

@@ -18,7 +18,7 @@ pub struct Tie {
 }
 
 /// The part of a column, counted from 0.
-fn part_of(column: Ref) -> usize
+pub fn part_of(column: Ref) -> usize
     ensures { result ≡ column.part - 1 }
 {
     column.part.saturating_sub(1) as usize

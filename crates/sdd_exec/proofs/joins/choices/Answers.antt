@@ -1,8 +1,8 @@
-use Rattle.std.proofs.Common.{arith}
-use Rattle.sdd_exec.proofs.Complete.{complete_end}
+use Rattle.std.proofs.Common.{ap}
+use Rattle.sdd_lang.specs.Source.{within}
+use Rattle.sdd_exec.proofs.Product.{join_is_answer}
 use Rattle.sdd_exec.proofs.joins.choices.Goals as goal
 
-pub returns : goal.returns
-returns c =
-    complete_end c.args.parts.now c.args.conds.now c.loop-part.reached.taken.items c.loop-part.reached.kept.items
-    (λ p less. c.loop-part.invariant.taken p (omega (arith, c.loop-part-test.false))) c.loop-part.invariant.complete
+pub returns-in-Some : goal.returns-in-Some
+returns-in-Some c =
+    ap (within c.args.room) (join_is_answer c.args.parts.now c.args.out.now c.args.conds.now c.in-Some.kept.items (rw c.in-Some.is at c.in_ok-kept.ensures))

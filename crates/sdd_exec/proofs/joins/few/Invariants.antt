@@ -1,6 +1,6 @@
 use Rattle.std.proofs.Common.{◌≡◌, ◌<◌, ℕ, true}
 use Rattle.sdd_exec.specs.Choices.{IsComplete, is_taken}
-use Rattle.sdd_exec.proofs.joins.choices.Given as goal
+use Rattle.sdd_exec.proofs.joins.few.Given as goal
 
 abbrev pub invariant-loop-step : goal.invariant-loop-step
 invariant-loop-step l = IsComplete l.parts l.conds l.reached.taken.items l.reached.kept.items

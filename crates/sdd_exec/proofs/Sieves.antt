@@ -1,0 +1,198 @@
+-- What a sieve covers.
+use Rattle.std.specs.Prelude.{ℕ, ◌+◌, ◌-◌, ◌==◌, ◌<◌, ◌≡◌, ◌⊎◌, Bool, true, false, not, ◌&&◌, cond, List, [], ◌∷◌, ◌++◌, length, map, take, slice_index, refl}
+use Rattle.std.specs.BTreeSet.{insert_key}
+use Rattle.std.specs.List.{flat_map}
+use Rattle.std.proofs.Common.{sym, ◌∙◌, ap, inl, inr, ⊎_elim, arith, get_or, subst, append-nil}
+use Rattle.std.proofs.lemmas.Bool.{cases_Bool, eqb-true, eqb-false, eq-eqb}
+use Rattle.std.proofs.lemmas.List.{take_more, map-append}
+use Rattle.std.proofs.lemmas.List.Concat.{flat_map-append}
+use Rattle.sdd_base.specs.Order.{row_cmp}
+use Rattle.sdd_base.specs.Exactly.{lists_decide}
+use Rattle.sdd_base.specs.ValueOrder.{value_decides}
+use Rattle.sdd_lang.specs.declared.condition.Ref.{Ref}
+use Rattle.sdd_lang.specs.declared.condition.Condition.{Condition}
+use Rattle.sdd_lang.specs.Database.{Row}
+use Rattle.sdd_lang.specs.Condition.{value_at}
+use Rattle.sdd_exec.specs.declared.sieve.Mesh.{Mesh}
+use Rattle.sdd_exec.specs.declared.sieve.Sieve.{Sieve}
+use Rattle.sdd_exec.specs.Choices.{Choice, picked, placed, same_row, Has, NoRepeats}
+use Rattle.sdd_exec.specs.Sifting.{values_of, links_of, outs_of, is_apart, TooMany, HasLike, IsCovered, found_with, IsSieve, Offered, IsSifted}
+use Rattle.sdd_exec.proofs.Complete.{both, value_agrees, placed_at}
+use Rattle.sdd_exec.proofs.Distinct.{new_or_old}
+use Rattle.sdd_exec.proofs.Members.{Has-left, Has-right, Has-append, Has-map_from}
+
+-- what holds of more rows than there is room for
+pub many_more : (room : ℕ) (P Q : Row → Type 0) → ((row : Row) → P row → Q row) → TooMany room P → TooMany room Q
+many_more room P Q each many = (many.0, many.1, many.2, λ row has. each row (many.3 row has))
+
+like_still : (parts : List (List Row)) (links outs : List Ref) (kept next : List Choice) (l o : Row) → ((c : Choice) → Has kept c → Has next c)
+    → HasLike parts links outs kept l o → HasLike parts links outs next l o
+like_still parts links outs kept next l o still like = (like.0, still like.0 like.1, like.2, like.3)
+
+covered_still : (parts : List (List Row)) (links outs : List Ref) (room : ℕ) (kept next : List Choice) (c : Choice) → ((d : Choice) → Has kept d → Has next d)
+    → IsCovered parts links outs room kept c → IsCovered parts links outs room next c
+covered_still parts links outs room kept next c still covered =
+    ⊎_elim
+    (λ like. inl (like_still parts links outs kept next _ _ still like))
+    (λ many. inr (many_more room _ _ (λ row like. like_still parts links outs kept next _ row still like) many))
+    covered
+
+-- a sieve that has found more than there is room for
+pub full_is_many : (parts : List (List Row)) (mesh : Mesh) (sieve : Sieve) (room : ℕ) (l : Row) → IsSieve parts mesh sieve
+    → (room < length (found_with sieve l)) × NoRepeats (found_with sieve l)
+    → TooMany room (HasLike parts mesh.links.items mesh.outs.items sieve.kept.items l)
+full_is_many parts mesh sieve room l is full = (found_with sieve l, full.0, full.1, λ o has. is l o has)
+
+pub offered_none : (parts : List (List Row)) (mesh : Mesh) (sieve : Sieve) → IsSieve parts mesh sieve → Offered parts mesh sieve sieve []
+offered_none parts mesh sieve is = record { sieve = is; covered = λ c has. absurd has; still = λ c has. has; only = λ c has. inl has }
+
+-- offered some choices, and then others
+pub offered_append : (parts : List (List Row)) (mesh : Mesh) (a b c : Sieve) (xs ys : List Choice) → Offered parts mesh a b xs → Offered parts mesh b c ys → Offered parts mesh a c (xs ++ ys)
+offered_append parts mesh a b c xs ys first second =
+    record {
+      sieve = second.sieve;
+      covered =
+          λ d has.
+              ⊎_elim
+              (λ before. covered_still parts _ _ _ _ _ d second.still (first.covered d before))
+              (λ after. second.covered d after)
+              (Has-append xs ys d has);
+      still = λ d has. second.still d (first.still d has);
+      only =
+          λ d has.
+              ⊎_elim
+              (λ old. ⊎_elim (λ older. inl older) (λ x. inr (Has-left xs ys d x)) (first.only d old))
+              (λ y. inr (Has-right xs ys d y))
+              (second.only d has);
+    }
+
+-- a sieve that is full for choices needn't keep them
+pub offered_full : (parts : List (List Row)) (mesh : Mesh) (sieve : Sieve) (choices : List Choice) (l : Row) → IsSieve parts mesh sieve
+    → TooMany mesh.room (HasLike parts mesh.links.items mesh.outs.items sieve.kept.items l)
+    → ((c : Choice) → Has choices c → values_of parts mesh.links.items c ≡ l) → Offered parts mesh sieve sieve choices
+offered_full parts mesh sieve choices l is many alike =
+    record {
+      sieve = is;
+      covered =
+          λ c has.
+              inr
+              (subst (λ (k : Row). TooMany mesh.room (HasLike parts mesh.links.items mesh.outs.items sieve.kept.items k)) (sym (alike c has)) many);
+      still = λ c has. has;
+      only = λ c has. inl has;
+    }
+
+pub offered_full_one : (parts : List (List Row)) (mesh : Mesh) (sieve : Sieve) (choice : Choice) → IsSieve parts mesh sieve
+    → (mesh.room < length (found_with sieve (values_of parts mesh.links.items choice))) × NoRepeats (found_with sieve (values_of parts mesh.links.items choice))
+    → Offered parts mesh sieve sieve (choice ∷ [])
+offered_full_one parts mesh sieve choice is full =
+    offered_full parts mesh sieve (choice ∷ []) (values_of parts mesh.links.items choice) is (full_is_many parts mesh sieve mesh.room _ is full)
+    (λ c has. ⊎_elim (λ (same : choice ≡ c). ap (values_of parts mesh.links.items) (sym same)) (λ none. absurd none) has)
+
+abbrev pub IsFoundWith : Sieve → Sieve → Row → Row → Type 0
+IsFoundWith old new l o = (q : Row) → found_with new q ≡ cond (same_row l q) (insert_key row_cmp (found_with old l) o) (found_with old q)
+
+module _ (parts : List (List Row)) (mesh : Mesh) (old new : Sieve) (choice : Choice) where
+  abbrev l : Row
+  l = values_of parts mesh.links.items choice
+
+  abbrev o : Row
+  o = values_of parts mesh.outs.items choice
+
+  abbrev Like : List Choice → Row → Row → Type 0
+  Like = HasLike parts mesh.links.items mesh.outs.items
+
+  -- what was found before, or the new row
+  found_by : IsSieve parts mesh old → IsFoundWith old new l o → Like new.kept.items l o → ((c : Choice) → Has old.kept.items c → Has new.kept.items c) → IsSieve parts mesh new
+  found_by is found like still k r has =
+      ⊎_elim
+      (λ (yes : same_row l k ≡ true).
+      let same : l ≡ k = (lists_decide value_decides l k).0 yes in
+      let among : Has (insert_key row_cmp (found_with old l) o) r = rw yes at (rw (found k) at has) in
+      ⊎_elim
+      (λ (new_row : o ≡ r). subst (λ (q : Row). Like new.kept.items q r) same (subst (λ (q : Row). Like new.kept.items l q) new_row like))
+      (λ before. subst (λ (q : Row). Like new.kept.items q r) same (like_still parts _ _ old.kept.items new.kept.items l r still (is l r before)))
+      (new_or_old (found_with old l) o r among))
+      (λ (no : same_row l k ≡ false).
+      let before : Has (found_with old k) r = rw no at (rw (found k) at has) in
+      like_still parts _ _ old.kept.items new.kept.items k r still (is k r before))
+      (cases_Bool (same_row l k))
+
+  -- a choice that was kept
+  pub offered_kept : IsSieve parts mesh old → IsFoundWith old new l o → new.kept.items ≡ old.kept.items ++ choice ∷ [] → Offered parts mesh old new (choice ∷ [])
+  offered_kept is found kept =
+      let there : Has new.kept.items choice = rw kept (Has-right old.kept.items (choice ∷ []) choice (inl refl)) in
+      let still : (c : Choice) → Has old.kept.items c → Has new.kept.items c = λ c has. rw kept (Has-left old.kept.items (choice ∷ []) c has) in
+      let like : Like new.kept.items l o = (choice, there, refl, refl) in
+      record {
+        sieve = found_by is found like still;
+        covered = λ c has. ⊎_elim (λ (same : choice ≡ c). subst (λ (d : Choice). IsCovered parts mesh.links.items mesh.outs.items mesh.room new.kept.items d) same (inl like)) (λ none. absurd none) has;
+        still = still;
+        only = λ c has. Has-append old.kept.items (choice ∷ []) c (rw kept at has);
+      }
+
+  -- a choice beside which one with its row was kept before
+  pub offered_again : IsSieve parts mesh old → IsFoundWith old new l o → Has (found_with old l) o → new.kept.items ≡ old.kept.items → Offered parts mesh old new (choice ∷ [])
+  offered_again is found there kept =
+      let still : (c : Choice) → Has old.kept.items c → Has new.kept.items c = λ c has. rw kept has in
+      let like : Like new.kept.items l o = like_still parts _ _ old.kept.items new.kept.items l o still (is l o there) in
+      record {
+        sieve = found_by is found like still;
+        covered = λ c has. ⊎_elim (λ (same : choice ≡ c). subst (λ (d : Choice). IsCovered parts mesh.links.items mesh.outs.items mesh.room new.kept.items d) same (inl like)) (λ none. absurd none) has;
+        still = still;
+        only = λ c has. inl (rw kept at has);
+      }
+
+not_true : (b : Bool) → not b ≡ true → b ≡ false
+not_true true h = absurd cc
+not_true false h = refl
+
+-- the links of a choice with another place of a part of which no link is
+values_apart : (parts : List (List Row)) (columns : List Ref) (choice : Choice) (part place : ℕ) → is_apart part columns ≡ true
+    → values_of parts columns (placed (length parts) choice part place) ≡ values_of parts columns choice
+values_apart parts [] choice part place h = refl
+values_apart parts (r ∷ columns) choice part place h =
+    let b = both _ _ h in
+    let apart : (r.part - 1 == part) ≡ false = not_true (r.part - 1 == part) b.0 in
+    let rest = values_apart parts columns choice part place b.1 in
+    let one : value_at (picked parts (placed (length parts) choice part place)) r ≡ value_at (picked parts choice) r =
+    value_agrees parts (placed (length parts) choice part place) choice r (λ less. placed_at (length parts) choice part place (r.part - 1) less ∙ rw apart refl) in
+    cc
+
+pub offered_apart : (parts : List (List Row)) (mesh : Mesh) (sieve : Sieve) (choice : Choice) (part : ℕ) (places : List ℕ) → IsSieve parts mesh sieve
+    → is_apart part mesh.links.items ≡ true
+    → TooMany mesh.room (HasLike parts mesh.links.items mesh.outs.items sieve.kept.items (values_of parts mesh.links.items choice))
+    → Offered parts mesh sieve sieve (map (placed (length parts) choice part) places)
+offered_apart parts mesh sieve choice part places is apart many =
+    offered_full parts mesh sieve (map (placed (length parts) choice part) places) (values_of parts mesh.links.items choice) is many
+    (λ c has.
+    let one = Has-map_from (placed (length parts) choice part) places c has in
+    subst (λ (d : Choice). values_of parts mesh.links.items d ≡ values_of parts mesh.links.items choice) one.2 (values_apart parts mesh.links.items choice part one.0 apart))
+
+-- one item more of those that are offered in turn
+pub offered_next : {X : Type 0} (parts : List (List Row)) (mesh : Mesh) (a b c : Sieve) (f : X → Choice) (xs : List X) (i : ℕ) (x : X) → i < length xs
+    → Offered parts mesh a b (map f (take i xs)) → Offered parts mesh b c (f (get_or xs i x) ∷ []) → Offered parts mesh a c (map f (take (i + 1) xs))
+offered_next parts mesh a b c f xs i x h before one =
+    let split : map f (take (i + 1) xs) ≡ map f (take i xs) ++ f (get_or xs i x) ∷ [] = ap (map f) (take_more xs i x h) ∙ map-append f (take i xs) (get_or xs i x ∷ []) in
+    subst (Offered parts mesh a c) (sym split) (offered_append parts mesh a b c (map f (take i xs)) (f (get_or xs i x) ∷ []) before one)
+
+pub offered_more : {X : Type 0} (parts : List (List Row)) (mesh : Mesh) (a b c : Sieve) (f : X → List Choice) (xs : List X) (i : ℕ) (x : X) → i < length xs → x ≡ get_or xs i x
+    → Offered parts mesh a b (flat_map f (take i xs)) → Offered parts mesh b c (f x) → Offered parts mesh a c (flat_map f (take (i + 1) xs))
+offered_more parts mesh a b c f xs i x h e before one =
+    let last : flat_map f (get_or xs i x ∷ []) ≡ f x = append-nil (f (get_or xs i x)) ∙ ap f (sym e) in
+    let split : flat_map f (take (i + 1) xs) ≡ flat_map f (take i xs) ++ f x =
+    ap (flat_map f) (take_more xs i x h) ∙ flat_map-append f (take i xs) (get_or xs i x ∷ []) ∙ ap (λ (ys : List Choice). flat_map f (take i xs) ++ ys) last in
+    subst (Offered parts mesh a c) (sym split) (offered_append parts mesh a b c (flat_map f (take i xs)) (f x) before one)
+
+-- what a sieve keeps that began with nothing
+pub sifted_by : (parts : List (List Row)) (conds : List Condition) (out : List Ref) (room : ℕ) (group : List ℕ) (mesh : Mesh) (old new : Sieve) (choices : List Choice)
+    → mesh.links.items ≡ links_of group conds → mesh.outs.items ≡ outs_of group out → mesh.room ≡ room → old.kept.items ≡ []
+    → Offered parts mesh old new choices → IsSifted parts conds out room group choices new.kept.items
+sifted_by parts conds out room group mesh old new choices links outs is_room none offered =
+    record {
+      covered = λ c has. rw (links, outs, is_room) at (offered.covered c has);
+      only = λ c has. ⊎_elim (λ before. absurd (rw none at before)) (λ offered_one. offered_one) (offered.only c has);
+    }
+
+-- a sieve that found nothing is one
+pub empty_is_sieve : (parts : List (List Row)) (mesh : Mesh) (sieve : Sieve) → ((l : Row) → found_with sieve l ≡ []) → IsSieve parts mesh sieve
+empty_is_sieve parts mesh sieve none l o has = absurd (rw (none l) at has)

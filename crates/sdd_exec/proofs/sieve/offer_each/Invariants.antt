@@ -1,0 +1,7 @@
+use Rattle.std.proofs.Common.{length, map, take}
+use Rattle.sdd_exec.specs.Choices.{placed}
+use Rattle.sdd_exec.specs.Sifting.{Offered}
+use Rattle.sdd_exec.proofs.sieve.offer_each.Given as goal
+
+abbrev pub invariant-loop-place : goal.invariant-loop-place
+invariant-loop-place l = Offered l.parts l.mesh l.fn.sieve l.sieve (map (placed (length l.parts) l.choice l.part) (take l.place-index l.places))

@@ -1,0 +1,6 @@
+use Rattle.std.proofs.Common.{take}
+use Rattle.sdd_exec.specs.Sifting.{Offered, extended_by}
+use Rattle.sdd_exec.proofs.sifting.offer_all.Given as goal
+
+abbrev pub invariant-loop-choice : goal.invariant-loop-choice
+invariant-loop-choice l = Offered l.parts l.mesh l.fn.sieve l.sieve (extended_by l.parts l.part l.ties l.pairs (take l.choice-index l.kept))
