@@ -1,7 +1,7 @@
 -- The kept choices stay enough to tell the answer.
-use Rattle.std.specs.Prelude.{ℕ, ◌+◌, ◌==◌, ◌<◌, ◌≤◌, ◌≡◌, ◌⊎◌, nat_lt, Bool, true, false, ◌||◌, cond, List, [], ◌∷◌, ◌++◌, length, map, filter_map, Option, Some, None, slice_index, slice_index_or, refl}
+use Rattle.std.specs.Prelude.{ℕ, ◌+◌, ◌==◌, ◌<◌, ◌≤◌, ◌≡◌, ◌⊎◌, nat_lt, true, false, List, [], ◌∷◌, ◌++◌, length, map, filter_map, Some, None, slice_index, slice_index_or, refl}
 use Rattle.std.proofs.Common.{sym, ◌∙◌, ap, inl, inr, ⊎_elim, arith, subst}
-use Rattle.std.proofs.lemmas.Bool.{cases_Bool, eqb-true, eqb-false, eq-eqb, lt-ltb}
+use Rattle.std.proofs.lemmas.Bool.{cases_Bool, eq-eqb, lt-ltb}
 use Rattle.sdd_lang.specs.declared.condition.Ref.{Ref}
 use Rattle.sdd_lang.specs.declared.condition.Condition.{Condition}
 use Rattle.sdd_lang.specs.Database.{Row}
@@ -9,7 +9,7 @@ use Rattle.sdd_lang.specs.Condition.{Tuple, value_at, meets_all}
 use Rattle.sdd_lang.specs.Query.{product, selection, distinct}
 use Rattle.sdd_lang.specs.Source.{within}
 use Rattle.sdd_exec.specs.declared.tie.Tie.{Tie}
-use Rattle.sdd_exec.specs.Choices.{Choice, picked, is_there, placed, passes, is_taken, ties_of, key_of, key_for, keyed, places, extended, row_from, Has, NoRepeats}
+use Rattle.sdd_exec.specs.Choices.{Choice, picked, is_there, placed, passes, is_taken, ties_of, key_of, key_for, keyed, extended, row_from, Has, NoRepeats}
 use Rattle.sdd_exec.specs.Splicing.{Agrees, AreSound, Answers, IsOutside}
 use Rattle.sdd_exec.specs.Sifting.{TooMany, IsSifted, choices_of_part, pair_of, pairs_of, joined, all_rows, Stands, AreEnough, TellsAnswer}
 use Rattle.sdd_exec.proofs.Complete.{place_is_there, passes_all, ties_hold, keys_meet, keys_agree, has_keyed, has_place, placed_at, taken_or_new, same_places}
@@ -58,19 +58,19 @@ module _ (parts : List (List Row)) (conds : List Condition) (out : List Ref) (ro
 
   before_outside : IsOutside parts (part ∷ []) Before
   before_outside s t same before = (
-      before.0,
-      before.1,
-      λ p within old.
-          let apart : is_taken (part ∷ []) p ≡ false =
-          ⊎_elim
-          (λ (yes : is_taken (part ∷ []) p ≡ true).
-          let is : part ≡ p = one_part part p yes in
-          let never : true ≡ false = sym old ∙ subst (λ (q : ℕ). is_taken taken q ≡ false) is new in
-          absurd cc)
-          (λ (not : is_taken (part ∷ []) p ≡ false). not)
-          (cases_Bool (is_taken (part ∷ []) p)) in
-          before.2 p within old ∙ same p within apart,
-    )
+    before.0,
+    before.1,
+    λ p within old.
+        let apart : is_taken (part ∷ []) p ≡ false =
+        ⊎_elim
+        (λ (yes : is_taken (part ∷ []) p ≡ true).
+        let is : part ≡ p = one_part part p yes in
+        let never : true ≡ false = sym old ∙ subst (λ (q : ℕ). is_taken taken q ≡ false) is new in
+        absurd cc)
+        (λ (not : is_taken (part ∷ []) p ≡ false). not)
+        (cases_Bool (is_taken (part ∷ []) p)) in
+        before.2 p within old ∙ same p within apart,
+  )
 
   in_part : (row : Row) → Stands parts conds out taken kept row → Answers parts conds out Before (part ∷ []) (choices_of_part parts conds part) row
   in_part row a =
@@ -83,8 +83,7 @@ module _ (parts : List (List Row)) (conds : List Condition) (out : List Ref) (ro
       let passing : passes part conds (slice_index_or rows place []) ≡ true = rw is_row at (passes_all (picked parts t) part conds met) in
       let in_pairs : Has (keyed part conds [] 0 rows) ([], 0 + place) = has_keyed part conds [] 0 rows place (place_is_there parts t part less there) passing in
       let zero_first : 0 + place ≡ place = omega arith in
-      let found : Has (keyed part conds [] 0 rows) ([], place) = rw zero_first at in_pairs in
-      (
+      let found : Has (keyed part conds [] 0 rows) ([], place) = rw zero_first at in_pairs in (
         t,
         there,
         met,
@@ -122,8 +121,7 @@ module _ (parts : List (List Row)) (conds : List Condition) (out : List Ref) (ro
       let pair : pair_of parts ties part th ≡ Some (key_of ties (slice_index_or rows place []), place) = rw (at, here) refl in
       let in_pairs : Has (pairs_of parts ties part thin) (key_of ties (slice_index_or rows place []), place) = Has-filter_map (pair_of parts ties part) thin th _ a.5.1 pair in
       let found : Has (pairs_of parts ties part thin) (key_for ties (picked parts c), place) = rw key at in_pairs in
-      let next : Choice = placed (length parts) c part place in
-      (
+      let next : Choice = placed (length parts) c part place in (
         t,
         there,
         met,
@@ -141,7 +139,8 @@ module _ (parts : List (List Row)) (conds : List Condition) (out : List Ref) (ro
         ),
       )
 
-  sound_kept : (group : List ℕ) (choices some : List Choice) → AreSound parts conds group choices → ((c : Choice) → Has some c → Has choices c) → AreSound parts conds group some
+  sound_kept : (group : List ℕ) (choices some : List Choice) → AreSound parts conds group choices → ((c : Choice) → Has some c → Has choices c)
+      → AreSound parts conds group some
   sound_kept group choices some sound only c has = sound c (only c has)
 
   -- one more part
@@ -157,8 +156,7 @@ module _ (parts : List (List Row)) (conds : List Condition) (out : List Ref) (ro
       let all : List Row = all_rows parts conds out in
       let thinned : IsEnough all room (Answers parts conds out Before (part ∷ []) thin) =
       enough_step all room (Stands parts conds out taken kept) (Answers parts conds out Before (part ∷ []) thin)
-      (λ row a. sifted_answers parts conds out room Before (part ∷ []) (choices_of_part parts conds part) thin row before_outside sound_thin first (in_part row a)) enough in
-      (
+      (λ row a. sifted_answers parts conds out room Before (part ∷ []) (choices_of_part parts conds part) thin row before_outside sound_thin first (in_part row a)) enough in (
         sound_next,
         enough_step all room (Answers parts conds out Before (part ∷ []) thin) (Stands parts conds out group next)
             (λ row a. sifted_answers parts conds out room (λ t. Unit {0}) group (joined parts conds taken part thin kept) next row (λ s t same rest. tt) sound_next second (in_joined thin row a)) thinned,
@@ -176,7 +174,8 @@ enough_start parts conds out room =
     (t.0, t.1, met, is_row, tt, ([], inl refl, λ p within yes. absurd cc)))
 
 -- a row that stands when all parts are taken is found, and is one of the answer
-found_at_end : (parts : List (List Row)) (conds : List Condition) (out : List Ref) (taken : List ℕ) (kept : List Choice) → ((p : ℕ) → p < length parts → is_taken taken p ≡ true)
+found_at_end : (parts : List (List Row)) (conds : List Condition) (out : List Ref) (taken : List ℕ) (kept : List Choice)
+    → ((p : ℕ) → p < length parts → is_taken taken p ≡ true)
     → (row : Row) → Stands parts conds out taken kept row → Has (filter_map (row_from parts out conds) kept) row × Has (all_rows parts conds out) row
 found_at_end parts conds out taken kept all row a =
     let t : Choice = a.0 in
@@ -184,14 +183,14 @@ found_at_end parts conds out taken kept all row a =
     let same = same_places parts c t (λ p within. a.5.2 p within (all p within)) in
     let there : is_there parts c ≡ true = same.1 ∙ a.1 in
     let is_row : row_from parts out conds c ≡ Some row = rw (there, same.0, a.2, a.3) refl in
-    let in_all : Has (selection conds (product parts)) (picked parts t) = Has-filter (meets_all conds) (product parts) (picked parts t) (picked_in_product parts t a.1) a.2 in
-    (
+    let in_all : Has (selection conds (product parts)) (picked parts t) = Has-filter (meets_all conds) (product parts) (picked parts t) (picked_in_product parts t a.1) a.2 in (
       Has-filter_map (row_from parts out conds) kept c row a.5.1 is_row,
       subst (Has (all_rows parts conds out)) a.3 (Has-map (λ (tuple : Tuple). map (value_at tuple) out) _ (picked parts t) in_all),
     )
 
 -- what is found is of the answer
-pub found_is_answer : (parts : List (List Row)) (conds : List Condition) (out : List Ref) (kept : List Choice) (row : Row) → Has (filter_map (row_from parts out conds) kept) row → Has (all_rows parts conds out) row
+pub found_is_answer : (parts : List (List Row)) (conds : List Condition) (out : List Ref) (kept : List Choice) (row : Row)
+    → Has (filter_map (row_from parts out conds) kept) row → Has (all_rows parts conds out) row
 found_is_answer parts conds out kept row has =
     let one = Has-filter_map_from (row_from parts out conds) kept row has in
     let c : Choice = one.0 in
@@ -199,7 +198,8 @@ found_is_answer parts conds out kept row has =
     let in_all : Has (selection conds (product parts)) (picked parts c) = Has-filter (meets_all conds) (product parts) (picked parts c) (picked_in_product parts c f.0) f.1 in
     subst (Has (all_rows parts conds out)) f.2 (Has-map (λ (tuple : Tuple). map (value_at tuple) out) _ (picked parts c) in_all)
 
-no_room_for : (room : ℕ) (rows xs : List Row) → room < length rows → NoRepeats rows → ((row : Row) → Has rows row → Has xs row) → within room (distinct xs) ≡ None
+no_room_for : (room : ℕ) (rows xs : List Row) → room < length rows → NoRepeats rows → ((row : Row) → Has rows row → Has xs row)
+    → within room (distinct xs) ≡ None
 no_room_for room rows xs more once all =
     let fewer : length rows ≤ length (distinct xs) = no_more_rows rows (distinct xs) once (λ row has. in_distinct xs row (all row has)) in
     let yes : nat_lt room (length (distinct xs)) ≡ true = lt-ltb _ _ (omega arith) in

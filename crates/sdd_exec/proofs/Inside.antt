@@ -1,8 +1,8 @@
 -- Choices that were extended by a row which its ties and its own conditions allow: their rows are there, and meet the conditions inside.
-use Rattle.std.specs.Prelude.{ℕ, ◌+◌, ◌-◌, ◌==◌, ◌<◌, ◌≡◌, ◌⊎◌, nat_lt, Bool, true, false, ◌&&◌, ◌||◌, not, cond, List, [], ◌∷◌, ◌++◌, length, map, filter, filter_map, Option, Some, None, slice_index, slice_index_or, refl}
-use Rattle.std.specs.List.{flat_map, cons_option}
-use Rattle.std.proofs.Common.{sym, ◌∙◌, ap, inl, inr, ⊎_elim, arith, zero, suc, subst}
-use Rattle.std.proofs.lemmas.Bool.{cases_Bool, eqb-true, eqb-false, eq-eqb, ltb-true, true≢false}
+use Rattle.std.specs.Prelude.{ℕ, ◌+◌, ◌-◌, ◌==◌, ◌<◌, ◌≡◌, nat_lt, Bool, true, false, cond, List, [], ◌∷◌, ◌++◌, length, Option, Some, None, slice_index, slice_index_or, refl}
+use Rattle.std.specs.List.{cons_option}
+use Rattle.std.proofs.Common.{sym, ◌∙◌, ap, ⊎_elim, arith, suc, subst}
+use Rattle.std.proofs.lemmas.Bool.{cases_Bool, eqb-true, eq-eqb, true≢false}
 use Rattle.sdd_base.specs.Order.{column}
 use Rattle.sdd_base.specs.Exactly.{lists_decide}
 use Rattle.sdd_base.specs.ValueOrder.{value_decides}
@@ -30,11 +30,13 @@ other_part taken part p new old =
     (λ (other : (p == part) ≡ false). other)
     (cases_Bool (p == part))
 
-keys_tail : (row : Row) (tuple : Tuple) (o : Option Tie) (ts : List Tie) → key_of (cons_option o ts) row ≡ key_for (cons_option o ts) tuple → key_of ts row ≡ key_for ts tuple
+keys_tail : (row : Row) (tuple : Tuple) (o : Option Tie) (ts : List Tie) → key_of (cons_option o ts) row ≡ key_for (cons_option o ts) tuple
+    → key_of ts row ≡ key_for ts tuple
 keys_tail row tuple None ts e = e
 keys_tail row tuple (Some t) ts e = cc
 
-keys_head : (row : Row) (tuple : Tuple) (t : Tie) (o : Option Tie) (ts : List Tie) → o ≡ Some t → key_of (cons_option o ts) row ≡ key_for (cons_option o ts) tuple
+keys_head : (row : Row) (tuple : Tuple) (t : Tie) (o : Option Tie) (ts : List Tie) → o ≡ Some t
+    → key_of (cons_option o ts) row ≡ key_for (cons_option o ts) tuple
     → column row t.column ≡ value_at tuple t.to
 keys_head row tuple t None ts same e = absurd cc
 keys_head row tuple t (Some u) ts same e =
@@ -83,12 +85,14 @@ module _ (parts : List (List Row)) (taken : List ℕ) (part place : ℕ) (c : Ch
       (λ (same : part ≡ p). subst (λ (q : ℕ). slice_index d q < length (slice_index_or parts q [])) same (rw place_new here))
       (taken_or_new taken part p among)
 
-  tie_left : (left right : Ref) → part ≡ left.part - 1 → is_taken taken (right.part - 1) ≡ true → tie_of taken part (Same left right) ≡ Some (record { column = left.column; to = right })
+  tie_left : (left right : Ref) → part ≡ left.part - 1 → is_taken taken (right.part - 1) ≡ true
+      → tie_of taken part (Same left right) ≡ Some (record { column = left.column; to = right })
   tie_left left right same old =
       let here : (left.part - 1 == part) ≡ true = eq-eqb (left.part - 1) part (sym same) in
       either_first _ (tie_between taken part left right) (tie_between taken part right left) (rw (here, old) refl)
 
-  tie_right : (left right : Ref) → is_taken taken (left.part - 1) ≡ true → part ≡ right.part - 1 → tie_of taken part (Same left right) ≡ Some (record { column = right.column; to = left })
+  tie_right : (left right : Ref) → is_taken taken (left.part - 1) ≡ true → part ≡ right.part - 1
+      → tie_of taken part (Same left right) ≡ Some (record { column = right.column; to = left })
   tie_right left right old same =
       let other : (left.part - 1 == part) ≡ false = other_part taken part (left.part - 1) new old in
       let here : (right.part - 1 == part) ≡ true = eq-eqb (right.part - 1) part (sym same) in
@@ -148,16 +152,17 @@ module _ (parts : List (List Row)) (taken : List ℕ) (part place : ℕ) (c : Ch
         inside_extended conds inside.1 b.1 (keys_tail row (picked parts c) (tie_of taken part (Same left right)) (ties_of taken part conds) keys),
       )
 
-keyed_from : (part : ℕ) (conds : List Condition) (ties : List Tie) (i : ℕ) (rows : List Row) (key : Row) (place : ℕ) → Has (keyed part conds ties i rows) (key, place)
+keyed_from : (part : ℕ) (conds : List Condition) (ties : List Tie) (i : ℕ) (rows : List Row) (key : Row) (place : ℕ)
+    → Has (keyed part conds ties i rows) (key, place)
     → (j : ℕ) × (j < length rows) × (i + j ≡ place) × (passes part conds (slice_index_or rows j []) ≡ true)
 keyed_from part conds ties i [] key place has = absurd has
 keyed_from part conds ties i (row ∷ rows) key place has =
     let later : Has (keyed part conds ties (i + 1) rows) (key, place) → (j : ℕ) × (j < length (row ∷ rows)) × (i + j ≡ place) × (passes part conds (slice_index_or (row ∷ rows) j []) ≡ true) =
     λ more.
-        let r = keyed_from part conds ties (i + 1) rows key place more in
-        let less : r.0 < length rows = r.1 in
-        let at : i + 1 + r.0 ≡ place = r.2 in
-        (suc r.0, omega arith, omega arith, r.3) in
+    let r = keyed_from part conds ties (i + 1) rows key place more in
+    let less : r.0 < length rows = r.1 in
+    let at : i + 1 + r.0 ≡ place = r.2 in
+    (suc r.0, omega arith, omega arith, r.3) in
     ⊎_elim
     (λ (yes : passes part conds row ≡ true).
     let among : Has ((key_of ties row, i) ∷ keyed part conds ties (i + 1) rows) (key, place) = rw yes at has in
@@ -204,13 +209,13 @@ inside_none parts c (Same left right ∷ conds) = (λ yes also. absurd cc, insid
 pub sound_start : (parts : List (List Row)) (conds : List Condition) → AreSound parts conds [] ([] ∷ [])
 sound_start parts conds c has = (λ p less yes. absurd cc, inside_none parts c conds)
 
-pub sound_part : (parts : List (List Row)) (conds : List Condition) (part : ℕ) → part < length parts → AreSound parts conds (part ∷ []) (choices_of_part parts conds part)
+pub sound_part : (parts : List (List Row)) (conds : List Condition) (part : ℕ) → part < length parts
+    → AreSound parts conds (part ∷ []) (choices_of_part parts conds part)
 sound_part parts conds part less d has =
     let one = choice_of_part parts conds part d has in
     let row : Row = slice_index_or (slice_index_or parts part []) one.0 [] in
     let keys : key_of (ties_of [] part conds) row ≡ key_for (ties_of [] part conds) (picked parts []) = rw (no_ties part conds) refl in
-    subst (λ (e : Choice). IsThereIn parts (part ∷ []) e × AllInside parts (part ∷ []) e conds) one.1
-    (
+    subst (λ (e : Choice). IsThereIn parts (part ∷ []) e × AllInside parts (part ∷ []) e conds) one.1 (
       there_extended parts [] part one.0 [] less refl (λ p within yes. absurd cc) one.2,
       inside_extended parts [] part one.0 [] less refl conds (inside_none parts [] conds) one.3 keys,
     )
@@ -219,7 +224,8 @@ found_pair : (here : Bool) (pair found : Row × ℕ) → cond here (Some pair) N
 found_pair true pair found e = (refl, cc)
 found_pair false pair found e = absurd cc
 
-pub sound_joined : (parts : List (List Row)) (conds : List Condition) (taken : List ℕ) (part : ℕ) (thin kept : List Choice) → part < length parts → is_taken taken part ≡ false
+pub sound_joined : (parts : List (List Row)) (conds : List Condition) (taken : List ℕ) (part : ℕ) (thin kept : List Choice) → part < length parts
+    → is_taken taken part ≡ false
     → AreSound parts conds taken kept → ((c : Choice) → Has thin c → Has (choices_of_part parts conds part) c)
     → AreSound parts conds (taken ++ part ∷ []) (joined parts conds taken part thin kept)
 sound_joined parts conds taken part thin kept less new sound only d has =
@@ -243,8 +249,7 @@ sound_joined parts conds taken part thin kept less new sound only d has =
     let keys : key_of ties (slice_index_or rows place []) ≡ key_for ties (picked parts c) =
     subst (λ (p : ℕ). key_of ties (slice_index_or rows p []) ≡ key_for ties (picked parts c)) (at_place ∙ three.2) (row_key ∙ key) in
     let before = sound c one.1 in
-    subst (λ (e : Choice). IsThereIn parts (taken ++ part ∷ []) e × AllInside parts (taken ++ part ∷ []) e conds) two.2
-    (
+    subst (λ (e : Choice). IsThereIn parts (taken ++ part ∷ []) e × AllInside parts (taken ++ part ∷ []) e conds) two.2 (
       there_extended parts taken part place c less new before.0 (subst (λ (p : ℕ). p < length rows) same seven.2),
       inside_extended parts taken part place c less new conds before.1 (subst (λ (p : ℕ). passes part conds (slice_index_or rows p []) ≡ true) same seven.3) keys,
     )

@@ -1,9 +1,9 @@
 -- What a sieve covers.
-use Rattle.std.specs.Prelude.{ℕ, ◌+◌, ◌-◌, ◌==◌, ◌<◌, ◌≡◌, ◌⊎◌, Bool, true, false, not, ◌&&◌, cond, List, [], ◌∷◌, ◌++◌, length, map, take, slice_index, refl}
+use Rattle.std.specs.Prelude.{ℕ, ◌+◌, ◌-◌, ◌==◌, ◌<◌, ◌≡◌, Bool, true, false, not, cond, List, [], ◌∷◌, ◌++◌, length, map, take, refl}
 use Rattle.std.specs.BTreeSet.{insert_key}
 use Rattle.std.specs.List.{flat_map}
-use Rattle.std.proofs.Common.{sym, ◌∙◌, ap, inl, inr, ⊎_elim, arith, get_or, subst, append-nil}
-use Rattle.std.proofs.lemmas.Bool.{cases_Bool, eqb-true, eqb-false, eq-eqb}
+use Rattle.std.proofs.Common.{sym, ◌∙◌, ap, inl, inr, ⊎_elim, get_or, subst, append-nil}
+use Rattle.std.proofs.lemmas.Bool.{cases_Bool}
 use Rattle.std.proofs.lemmas.List.{take_more, map-append}
 use Rattle.std.proofs.lemmas.List.Concat.{flat_map-append}
 use Rattle.sdd_base.specs.Order.{row_cmp}
@@ -47,23 +47,24 @@ pub offered_none : (parts : List (List Row)) (mesh : Mesh) (sieve : Sieve) → I
 offered_none parts mesh sieve is = record { sieve = is; covered = λ c has. absurd has; still = λ c has. has; only = λ c has. inl has }
 
 -- offered some choices, and then others
-pub offered_append : (parts : List (List Row)) (mesh : Mesh) (a b c : Sieve) (xs ys : List Choice) → Offered parts mesh a b xs → Offered parts mesh b c ys → Offered parts mesh a c (xs ++ ys)
+pub offered_append : (parts : List (List Row)) (mesh : Mesh) (a b c : Sieve) (xs ys : List Choice) → Offered parts mesh a b xs → Offered parts mesh b c ys
+    → Offered parts mesh a c (xs ++ ys)
 offered_append parts mesh a b c xs ys first second =
     record {
       sieve = second.sieve;
       covered =
           λ d has.
-              ⊎_elim
-              (λ before. covered_still parts _ _ _ _ _ d second.still (first.covered d before))
-              (λ after. second.covered d after)
-              (Has-append xs ys d has);
+          ⊎_elim
+          (λ before. covered_still parts _ _ _ _ _ d second.still (first.covered d before))
+          (λ after. second.covered d after)
+          (Has-append xs ys d has);
       still = λ d has. second.still d (first.still d has);
       only =
           λ d has.
-              ⊎_elim
-              (λ old. ⊎_elim (λ older. inl older) (λ x. inr (Has-left xs ys d x)) (first.only d old))
-              (λ y. inr (Has-right xs ys d y))
-              (second.only d has);
+          ⊎_elim
+          (λ old. ⊎_elim (λ older. inl older) (λ x. inr (Has-left xs ys d x)) (first.only d old))
+          (λ y. inr (Has-right xs ys d y))
+          (second.only d has);
     }
 
 -- a sieve that is full for choices needn't keep them
@@ -75,8 +76,8 @@ offered_full parts mesh sieve choices l is many alike =
       sieve = is;
       covered =
           λ c has.
-              inr
-              (subst (λ (k : Row). TooMany mesh.room (HasLike parts mesh.links.items mesh.outs.items sieve.kept.items k)) (sym (alike c has)) many);
+          inr
+          (subst (λ (k : Row). TooMany mesh.room (HasLike parts mesh.links.items mesh.outs.items sieve.kept.items k)) (sym (alike c has)) many);
       still = λ c has. has;
       only = λ c has. inl has;
     }
@@ -102,7 +103,8 @@ module _ (parts : List (List Row)) (mesh : Mesh) (old new : Sieve) (choice : Cho
   Like = HasLike parts mesh.links.items mesh.outs.items
 
   -- what was found before, or the new row
-  found_by : IsSieve parts mesh old → IsFoundWith old new l o → Like new.kept.items l o → ((c : Choice) → Has old.kept.items c → Has new.kept.items c) → IsSieve parts mesh new
+  found_by : IsSieve parts mesh old → IsFoundWith old new l o → Like new.kept.items l o → ((c : Choice) → Has old.kept.items c → Has new.kept.items c)
+      → IsSieve parts mesh new
   found_by is found like still k r has =
       ⊎_elim
       (λ (yes : same_row l k ≡ true).
@@ -118,7 +120,8 @@ module _ (parts : List (List Row)) (mesh : Mesh) (old new : Sieve) (choice : Cho
       (cases_Bool (same_row l k))
 
   -- a choice that was kept
-  pub offered_kept : IsSieve parts mesh old → IsFoundWith old new l o → new.kept.items ≡ old.kept.items ++ choice ∷ [] → Offered parts mesh old new (choice ∷ [])
+  pub offered_kept : IsSieve parts mesh old → IsFoundWith old new l o → new.kept.items ≡ old.kept.items ++ choice ∷ []
+      → Offered parts mesh old new (choice ∷ [])
   offered_kept is found kept =
       let there : Has new.kept.items choice = rw kept (Has-right old.kept.items (choice ∷ []) choice (inl refl)) in
       let still : (c : Choice) → Has old.kept.items c → Has new.kept.items c = λ c has. rw kept (Has-left old.kept.items (choice ∷ []) c has) in
@@ -131,7 +134,8 @@ module _ (parts : List (List Row)) (mesh : Mesh) (old new : Sieve) (choice : Cho
       }
 
   -- a choice beside which one with its row was kept before
-  pub offered_again : IsSieve parts mesh old → IsFoundWith old new l o → Has (found_with old l) o → new.kept.items ≡ old.kept.items → Offered parts mesh old new (choice ∷ [])
+  pub offered_again : IsSieve parts mesh old → IsFoundWith old new l o → Has (found_with old l) o → new.kept.items ≡ old.kept.items
+      → Offered parts mesh old new (choice ∷ [])
   offered_again is found there kept =
       let still : (c : Choice) → Has old.kept.items c → Has new.kept.items c = λ c has. rw kept has in
       let like : Like new.kept.items l o = like_still parts _ _ old.kept.items new.kept.items l o still (is l o there) in
@@ -175,7 +179,8 @@ offered_next parts mesh a b c f xs i x h before one =
     let split : map f (take (i + 1) xs) ≡ map f (take i xs) ++ f (get_or xs i x) ∷ [] = ap (map f) (take_more xs i x h) ∙ map-append f (take i xs) (get_or xs i x ∷ []) in
     subst (Offered parts mesh a c) (sym split) (offered_append parts mesh a b c (map f (take i xs)) (f (get_or xs i x) ∷ []) before one)
 
-pub offered_more : {X : Type 0} (parts : List (List Row)) (mesh : Mesh) (a b c : Sieve) (f : X → List Choice) (xs : List X) (i : ℕ) (x : X) → i < length xs → x ≡ get_or xs i x
+pub offered_more : {X : Type 0} (parts : List (List Row)) (mesh : Mesh) (a b c : Sieve) (f : X → List Choice) (xs : List X) (i : ℕ) (x : X) → i < length xs
+    → x ≡ get_or xs i x
     → Offered parts mesh a b (flat_map f (take i xs)) → Offered parts mesh b c (f x) → Offered parts mesh a c (flat_map f (take (i + 1) xs))
 offered_more parts mesh a b c f xs i x h e before one =
     let last : flat_map f (get_or xs i x ∷ []) ≡ f x = append-nil (f (get_or xs i x)) ∙ ap f (sym e) in

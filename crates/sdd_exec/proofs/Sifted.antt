@@ -1,17 +1,17 @@
 -- Sifting the choices of a group loses no row of the answer, or else more rows are left than there is room for.
-use Rattle.std.specs.Prelude.{ℕ, ◌+◌, ◌-◌, ◌<◌, ◌≡◌, ◌⊎◌, Bool, true, false, cond, List, [], ◌∷◌, length, map, Option, Some, None, refl}
+use Rattle.std.specs.Prelude.{ℕ, ◌-◌, ◌<◌, ◌≡◌, ◌⊎◌, true, false, cond, List, [], ◌∷◌, length, map, Option, Some, None, refl}
 use Rattle.std.specs.List.{cons_option}
-use Rattle.std.proofs.Common.{sym, ◌∙◌, ap, inl, inr, ⊎_elim, arith, subst}
+use Rattle.std.proofs.Common.{sym, ◌∙◌, inl, inr, ⊎_elim, arith, subst}
 use Rattle.std.proofs.lemmas.Bool.{cases_Bool}
 use Rattle.sdd_base.specs.declared.value.Value.{Value}
 use Rattle.sdd_lang.specs.declared.condition.Ref.{Ref}
 use Rattle.sdd_lang.specs.declared.condition.Condition.{Condition}
 use Rattle.sdd_lang.specs.declared.condition.Condition.TheVariants.{Const, Same}
 use Rattle.sdd_lang.specs.Database.{Row}
-use Rattle.sdd_lang.specs.Condition.{Tuple, value_at, meets_all}
+use Rattle.sdd_lang.specs.Condition.{value_at, meets_all}
 use Rattle.sdd_exec.specs.Choices.{Choice, picked, is_there, is_taken, Has, NoRepeats}
 use Rattle.sdd_exec.specs.Splicing.{spliced, Agrees, AllAlike, OutsAlike, AreSound, Answers, IsOutside}
-use Rattle.sdd_exec.specs.Sifting.{link_between, links_of, outs_of, values_of, TooMany, HasLike, IsSifted}
+use Rattle.sdd_exec.specs.Sifting.{link_between, links_of, outs_of, values_of, TooMany, IsSifted}
 use Rattle.sdd_exec.proofs.Splices.{new_in, new_out, value_in, new_there, meets_new, outs_new, links_on, outs_on}
 
 values_tail : (f g : Ref → Value) (o : Option Ref) (rs : List Ref) → map f (cons_option o rs) ≡ map g (cons_option o rs) → map f rs ≡ map g rs
@@ -26,7 +26,8 @@ values_head f g r (Some q) rs same e =
     subst (λ (p : Ref). f p ≡ g p) one first
 
 -- choices with one value in each link are alike
-alike_by_values : (parts : List (List Row)) (group : List ℕ) (d c : Choice) (conds : List Condition) → values_of parts (links_of group conds) d ≡ values_of parts (links_of group conds) c → AllAlike parts group d c conds
+alike_by_values : (parts : List (List Row)) (group : List ℕ) (d c : Choice) (conds : List Condition)
+    → values_of parts (links_of group conds) d ≡ values_of parts (links_of group conds) c → AllAlike parts group d c conds
 alike_by_values parts group d c [] e = tt
 alike_by_values parts group d c (Const left op value ∷ conds) e = (tt, alike_by_values parts group d c conds e)
 alike_by_values parts group d c (Same left right ∷ conds) e =
@@ -41,7 +42,8 @@ alike_by_values parts group d c (Same left right ∷ conds) e =
       alike_by_values parts group d c conds (values_tail f g o rs e),
     )
 
-outs_by_values : (parts : List (List Row)) (group : List ℕ) (d c : Choice) (out : List Ref) → values_of parts (outs_of group out) d ≡ values_of parts (outs_of group out) c → OutsAlike parts group d c out
+outs_by_values : (parts : List (List Row)) (group : List ℕ) (d c : Choice) (out : List Ref)
+    → values_of parts (outs_of group out) d ≡ values_of parts (outs_of group out) c → OutsAlike parts group d c out
 outs_by_values parts group d c [] e = tt
 outs_by_values parts group d c (r ∷ out) e =
     ⊎_elim
@@ -61,7 +63,8 @@ listed group [] row = []
 listed group (r ∷ out) [] = []
 listed group (r ∷ out) (v ∷ row) = cond (is_taken group (r.part - 1)) (v ∷ listed group out row) (listed group out row)
 
-listed_values : (parts : List (List Row)) (group : List ℕ) (t : Choice) (out : List Ref) → listed group out (values_of parts out t) ≡ values_of parts (outs_of group out) t
+listed_values : (parts : List (List Row)) (group : List ℕ) (t : Choice) (out : List Ref)
+    → listed group out (values_of parts out t) ≡ values_of parts (outs_of group out) t
 listed_values parts group t [] = refl
 listed_values parts group t (r ∷ out) =
     let rest = listed_values parts group t out in
@@ -102,7 +105,8 @@ many_rows f P (o ∷ os) once each =
     )
 
 pub sifted_answers : (parts : List (List Row)) (conds : List Condition) (out : List Ref) (room : ℕ) (Rest : Choice → Type 0) (group : List ℕ) (choices kept : List Choice) (row : Row)
-    → IsOutside parts group Rest → AreSound parts conds group kept → IsSifted parts conds out room group choices kept → Answers parts conds out Rest group choices row
+    → IsOutside parts group Rest → AreSound parts conds group kept → IsSifted parts conds out room group choices kept
+    → Answers parts conds out Rest group choices row
     → Answers parts conds out Rest group kept row ⊎ TooMany room (Answers parts conds out Rest group kept)
 sifted_answers parts conds out room Rest group choices kept row outside sound sifted a =
     let t : Choice = a.0 in
@@ -115,13 +119,13 @@ sifted_answers parts conds out room Rest group choices kept row outside sound si
     let Kept : Row → Type 0 = Answers parts conds out Rest group kept in
     let put_in : (d : Choice) → Has kept d → values_of parts (links_of group conds) d ≡ values_of parts (links_of group conds) c → Kept (values_of parts out (spliced (length parts) group d t)) =
     λ d has links. (
-        spliced (length parts) group d t,
-        new_there parts group d t (sound d has).0 there,
-        meets_new parts group d t conds (sound d has).1 (links_on parts group d c t conds agrees (alike_by_values parts group d c conds links)) met,
-        refl,
-        outside t (spliced (length parts) group d t) (new_out parts group d t) rest,
-        (d, has, new_in parts group d t),
-      ) in
+      spliced (length parts) group d t,
+      new_there parts group d t (sound d has).0 there,
+      meets_new parts group d t conds (sound d has).1 (links_on parts group d c t conds agrees (alike_by_values parts group d c conds links)) met,
+      refl,
+      outside t (spliced (length parts) group d t) (new_out parts group d t) rest,
+      (d, has, new_in parts group d t),
+    ) in
     ⊎_elim
     (λ like.
     let d : Choice = like.0 in
@@ -132,8 +136,7 @@ sifted_answers parts conds out room Rest group choices kept row outside sound si
     let made = many_rows (listed group out) Kept many.0 many.2
     (λ o has.
     let like = many.3 o has in
-    let d : Choice = like.0 in
-    (
+    let d : Choice = like.0 in (
       values_of parts out (spliced (length parts) group d t),
       put_in d like.1 like.2,
       listed_values parts group (spliced (length parts) group d t) out ∙ outs_put_in parts group d t out ∙ like.3,

@@ -1,9 +1,8 @@
 -- Choices that agree in the linked and listed columns of a group stand for each other.
-use Rattle.std.specs.Prelude.{ℕ, ◌+◌, ◌-◌, ◌<◌, ◌≡◌, Bool, true, false, ◌&&◌, nat_lt, cond, List, [], ◌∷◌, length, map, drop, slice_index, slice_index_or, refl}
-use Rattle.std.specs.List.{range_with_len}
-use Rattle.std.proofs.Common.{sym, ◌∙◌, ap, ⊎_elim, arith, zero, suc}
-use Rattle.std.proofs.lemmas.Bool.{cases_Bool, cases_lt, ltb-true, lt-ltb}
-use Rattle.std.proofs.lemmas.List.{get_or_past, get_or-drop}
+use Rattle.std.specs.Prelude.{ℕ, ◌+◌, ◌-◌, ◌<◌, ◌≡◌, true, false, nat_lt, cond, List, [], ◌∷◌, length, map, drop, slice_index, slice_index_or, refl}
+use Rattle.std.proofs.Common.{sym, ◌∙◌, ⊎_elim, arith, suc}
+use Rattle.std.proofs.lemmas.Bool.{cases_Bool, lt-ltb}
+use Rattle.std.proofs.lemmas.List.{get_or-drop}
 use Rattle.std.proofs.lemmas.List.FromFn.{get_or-map-range_with_len}
 use Rattle.sdd_base.specs.ValueOrder.{value_decides}
 use Rattle.sdd_lang.specs.declared.condition.Ref.{Ref}
@@ -16,7 +15,8 @@ use Rattle.sdd_exec.specs.Splicing.{spliced, Agrees, IsThereIn, MeetsInside, Lin
 use Rattle.sdd_exec.proofs.Complete.{both, place_is_there, value_agrees}
 
 -- a choice each of whose places is one of its part is there
-there_by_places : (parts : List (List Row)) (t : Choice) → ((p : ℕ) → p < length parts → slice_index t p < length (slice_index_or parts p [])) → is_there parts t ≡ true
+there_by_places : (parts : List (List Row)) (t : Choice) → ((p : ℕ) → p < length parts → slice_index t p < length (slice_index_or parts p []))
+    → is_there parts t ≡ true
 there_by_places [] t h = refl
 there_by_places (rows ∷ parts) t h =
     let first : nat_lt (slice_index t 0) (length rows) ≡ true = lt-ltb _ _ (h 0 (omega arith)) in
@@ -24,7 +24,8 @@ there_by_places (rows ∷ parts) t h =
     λ p less. let one : 1 + p ≡ suc p = omega arith in rw (get_or-drop 1 t p 0, one) (h (suc p) (omega arith)) in
     rw first (there_by_places parts (drop 1 t) later)
 
-pub spliced_at : (n : ℕ) (group : List ℕ) (c t : Choice) (p : ℕ) → p < n → slice_index (spliced n group c t) p ≡ cond (is_taken group p) (slice_index c p) (slice_index t p)
+pub spliced_at : (n : ℕ) (group : List ℕ) (c t : Choice) (p : ℕ) → p < n
+    → slice_index (spliced n group c t) p ≡ cond (is_taken group p) (slice_index c p) (slice_index t p)
 spliced_at n group c t p h = get_or-map-range_with_len (λ (q : ℕ). cond (is_taken group q) (slice_index c q) (slice_index t q)) 0 n p p 0 h (omega arith)
 
 module _ (parts : List (List Row)) (group : List ℕ) (c t : Choice) where
@@ -52,7 +53,8 @@ module _ (parts : List (List Row)) (group : List ℕ) (c t : Choice) where
       (λ (no : is_taken group p ≡ false). rw (← new_out p less no) (place_is_there parts t p less there))
       (cases_Bool (is_taken group p)))
 
-  meets_one : (k : Condition) → MeetsInside parts group c k → LinksAlike parts group c t k → meets (picked parts t) k ≡ true → meets (picked parts new) k ≡ true
+  meets_one : (k : Condition) → MeetsInside parts group c k → LinksAlike parts group c t k → meets (picked parts t) k ≡ true
+      → meets (picked parts new) k ≡ true
   meets_one (Const left op value) inside alike h =
       ⊎_elim
       (λ (yes : is_taken group (left.part - 1) ≡ true). rw (← value_in left yes) (inside yes))
@@ -78,7 +80,8 @@ module _ (parts : List (List Row)) (group : List ℕ) (c t : Choice) where
       (cases_Bool (is_taken group (right.part - 1))))
       (cases_Bool (is_taken group (left.part - 1)))
 
-  pub meets_new : (conds : List Condition) → AllInside parts group c conds → AllAlike parts group c t conds → meets_all conds (picked parts t) ≡ true → meets_all conds (picked parts new) ≡ true
+  pub meets_new : (conds : List Condition) → AllInside parts group c conds → AllAlike parts group c t conds → meets_all conds (picked parts t) ≡ true
+      → meets_all conds (picked parts new) ≡ true
   meets_new [] inside alike h = refl
   meets_new (k ∷ conds) inside alike h =
       let b = both _ _ h in
@@ -97,20 +100,22 @@ module _ (parts : List (List Row)) (group : List ℕ) (c t : Choice) where
       cc
 
 -- what is alike with one choice is alike with each that agrees with it in the group
-pub links_on : (parts : List (List Row)) (group : List ℕ) (d c t : Choice) (conds : List Condition) → Agrees parts group c t → AllAlike parts group d c conds → AllAlike parts group d t conds
+pub links_on : (parts : List (List Row)) (group : List ℕ) (d c t : Choice) (conds : List Condition) → Agrees parts group c t → AllAlike parts group d c conds
+    → AllAlike parts group d t conds
 links_on parts group d c t [] agrees h = tt
 links_on parts group d c t (Const left op value ∷ conds) agrees h = (tt, links_on parts group d c t conds agrees h.1)
 links_on parts group d c t (Same left right ∷ conds) agrees h = (
-    (
-      λ yes no. h.0.0 yes no ∙ value_agrees parts c t left (λ less. agrees (left.part - 1) less yes),
-      λ no yes. h.0.1 no yes ∙ value_agrees parts c t right (λ less. agrees (right.part - 1) less yes),
-    ),
-    links_on parts group d c t conds agrees h.1,
-  )
+  (
+    λ yes no. h.0.0 yes no ∙ value_agrees parts c t left (λ less. agrees (left.part - 1) less yes),
+    λ no yes. h.0.1 no yes ∙ value_agrees parts c t right (λ less. agrees (right.part - 1) less yes),
+  ),
+  links_on parts group d c t conds agrees h.1,
+)
 
-pub outs_on : (parts : List (List Row)) (group : List ℕ) (d c t : Choice) (out : List Ref) → Agrees parts group c t → OutsAlike parts group d c out → OutsAlike parts group d t out
+pub outs_on : (parts : List (List Row)) (group : List ℕ) (d c t : Choice) (out : List Ref) → Agrees parts group c t → OutsAlike parts group d c out
+    → OutsAlike parts group d t out
 outs_on parts group d c t [] agrees h = tt
 outs_on parts group d c t (r ∷ out) agrees h = (
-    λ yes. h.0 yes ∙ value_agrees parts c t r (λ less. agrees (r.part - 1) less yes),
-    outs_on parts group d c t out agrees h.1,
-  )
+  λ yes. h.0 yes ∙ value_agrees parts c t r (λ less. agrees (r.part - 1) less yes),
+  outs_on parts group d c t out agrees h.1,
+)

@@ -1,5 +1,5 @@
 -- Sifting choices: what of the choices of some parts, a group, has to be kept.
-use Rattle.std.specs.Prelude.{ℕ, ◌-◌, ◌<◌, ◌≡◌, ◌⊎◌, nat_lt, Bool, true, not, ◌==◌, cond, List, [], ◌∷◌, Option, Some, None, length, map, filter_map, slice_index, slice_index_or}
+use Rattle.std.specs.Prelude.{ℕ, ◌-◌, ◌<◌, ◌≡◌, ◌⊎◌, nat_lt, Bool, not, ◌==◌, cond, List, [], Option, Some, None, length, map, filter_map, slice_index, slice_index_or}
 use Rattle.std.specs.HashMap as hash
 use Rattle.std.specs.List.{flat_map, list_all}
 use Rattle.std.specs.Option.{option_map_or}
@@ -7,7 +7,7 @@ use Rattle.sdd_lang.specs.declared.condition.Ref.{Ref}
 use Rattle.sdd_lang.specs.declared.condition.Condition.{Condition}
 use Rattle.sdd_lang.specs.declared.condition.Condition.TheVariants.{Const, Same}
 use Rattle.sdd_lang.specs.Database.{Row}
-use Rattle.sdd_lang.specs.Condition.{value_at, meets_all}
+use Rattle.sdd_lang.specs.Condition.{value_at}
 use Rattle.sdd_lang.specs.Query.{product, selection, projection, distinct}
 use Rattle.sdd_lang.specs.Source.{within}
 use Rattle.sdd_exec.specs.declared.tie.Tie.{Tie}

@@ -1,5 +1,6 @@
 //! The join of a query's parts.
-ghost use Rattle.std.specs.Prelude.{◌≡◌, ◌<◌, ◌≤◌, ◌++◌, ◌∷◌, true, ℕ, length, map, List, [], IfOk, IfSome, slice_index_or, filter_map};
+ghost use Rattle.std.specs.Prelude.{◌≡◌, ◌<◌, ◌≤◌, ◌++◌, ◌∷◌, true, ℕ, length, map, List, []};
+ghost use Rattle.std.specs.Prelude.{IfOk, IfSome, slice_index_or, filter_map};
 ghost use Rattle.std.specs.List.{flat_map};
 ghost use Rattle.std.specs.HashMap as hash;
 ghost use Rattle.std.specs.Option.{option_map_or};
@@ -364,6 +365,8 @@ fn answers_of_all(
 /// those that were taken, where there is one; its rows are found by a hash of the tied columns. So
 /// it costs time with the rows, the tuples that meet the equalities of the parts taken so far, and
 /// for each row that is found one comparison; a logarithmic step each, where these don't ascend.
+/// Where a step makes many choices the join begins anew and sifts them at each step: then memory
+/// follows the values in tied columns and the answers, up to `room`, and not the choices.
 pub fn join(
     alloc: Global,
     parts: &Parts,

@@ -1,7 +1,8 @@
 //! Joins, and the effect of a transaction, computed from the rows that were shipped for its uses.
 //!
 //! The one contract to the layer above: `join` answers what the product of the parts' rows defines
-//! (`sdd_lang/specs/Query.antt`), through an index, part by part; and on every database that a
+//! (`sdd_lang/specs/Query.antt`), through an index, part by part, and by sieves where there are many
+//! choices (`specs/Sifting.antt` says what has to be kept); and on every database that a
 //! `Snapshot` serves (`specs/Serves.antt`), `effect` is the plain meaning of the transaction
 //! (`sdd_lang/specs/Effect.antt`).
 #![tactic(auto)]

@@ -75,7 +75,7 @@ fn add_found(
     ensures rows { IfOk result (λ _. (q : List Value) →
         option_map_or (λ rows. rows) (hash.get joins.same_row found.new q) []
         ≡ cond (joins.same_row links q) (insert_key row_cmp (option_map_or (λ rows. rows) (hash.get joins.same_row found.old links) []) outs)
-            (option_map_or (λ rows. rows) (hash.get joins.same_row found.old q) [])) }
+        (option_map_or (λ rows. rows) (hash.get joins.same_row found.old q) [])) }
     ensures there { IfOk result (λ new. new ≡ false → joins.Has (option_map_or (λ rows. rows) (hash.get joins.same_row found.old links) []) outs) }
 {
     let mut rows = take_found(alloc, found, &links);
@@ -103,7 +103,8 @@ pub fn is_full_for(
     choice: &[usize],
 ) -> Result<bool, NoMemory>
     requires { sift.IsSieve parts.now mesh.now sieve.now }
-    ensures { IfOk result (λ full. IsTrue full → sift.TooMany mesh.now.room (sift.HasLike parts.now mesh.now.links.items mesh.now.outs.items sieve.now.kept.items (sift.values_of parts.now mesh.now.links.items choice.now))) }
+    ensures { let links = sift.values_of parts.now mesh.now.links.items choice.now in
+        IfOk result (λ full. IsTrue full → sift.TooMany mesh.now.room (sift.HasLike parts.now mesh.now.links.items mesh.now.outs.items sieve.now.kept.items links)) }
 {
     let links = values_of(alloc, parts, mesh.links.as_slice(), choice)?;
     Ok(is_full(sieve, &links, mesh.room))

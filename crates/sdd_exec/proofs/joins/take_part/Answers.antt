@@ -1,6 +1,5 @@
 use Rattle.std.specs.HashMap as hash
 use Rattle.std.specs.Prelude.{IfOk, slice_index_or}
-use Rattle.std.specs.List.{flat_map}
 use Rattle.std.specs.Option.{option_map_or}
 use Rattle.std.proofs.Common.{◌≡◌, ◌≤◌, ◌∙◌, [], List, ℕ, ap, arith, sym, subst, length, map}
 use Rattle.std.proofs.lemmas.Bool.{eqb-true}
