@@ -7,7 +7,7 @@ use Rattle.sdd_graph.specs.Graph.{conflict_graph}
 use Rattle.sdd_protocol.specs.Protocols.{IsTable}
 use Rattle.sdd_protocol.specs.declared.entry.Entry.{Entry}
 use Rattle.sdd_protocol.proofs.Tables.{blocks_of}
-use Rattle.sdd_topological.specs.Paths.{IsOrderly}
+use Rattle.sdd_order.specs.Paths.{IsOrderly}
 use Rattle.sdd_acyclic.specs.Deeds.{Deeds, Txn, Touches, system, Starts, Applies, ZeroAlone, ErasApart}
 use Rattle.sdd_acyclic.specs.Eras.{Ranked, of_era}
 use Rattle.sdd_acyclic.specs.Fits.{Fits, Meets}
@@ -20,7 +20,7 @@ use Rattle.sdd_acyclic.proofs.Covers.{covers}
 use Rattle.sdd_acyclic.proofs.Deeds.{facts, bounds_rise, barriers, answer_at}
 use Rattle.sdd_acyclic.proofs.Orderly.{orderly}
 use Rattle.sdd_acyclic.proofs.Over.{precedes_over, precedes_from_over, facts_over}
-use Rattle.sdd_topological.proofs.Paths.{path_as}
+use Rattle.sdd_order.proofs.Paths.{path_as}
 use Rattle.sdd_acyclic.proofs.EachTable.{each_table}
 use Rattle.sdd_acyclic.proofs.Splits.{waits}
 

@@ -1,11 +1,11 @@
 -- No transaction of class 0 is on a cycle of precedence.
 use Rattle.std.proofs.Common.{◌<◌, ◌≤◌, ◌≡◌, List, [], ◌∷◌, ◌++◌, ◌⊎◌, inl, inr, arith}
 use Rattle.std.proofs.lemmas.Bool.{cases_lt}
-use Rattle.sdd_topological.specs.Paths.{IsPath, IsOrderly}
+use Rattle.sdd_order.specs.Paths.{IsPath, IsOrderly}
 use Rattle.sdd_acyclic.specs.System.{System, Precedes}
 use Rattle.sdd_acyclic.specs.Undeclared.{HasBarriers, Declared, declared}
 use Rattle.sdd_acyclic.proofs.Over.{precedes_over}
-use Rattle.sdd_topological.proofs.Paths.{path_join}
+use Rattle.sdd_order.proofs.Paths.{path_join}
 
 -- a path comes by a transaction of class 0
 pub record ComesBy {T : Type 0} (S : System T) (x y : T) : Type 0 where

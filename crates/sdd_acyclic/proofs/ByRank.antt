@@ -1,6 +1,6 @@
 -- A relation under which a rank never falls is orderly where it is so among those of each rank.
 use Rattle.std.proofs.Common.{ℕ, ◌≤◌, ◌≡◌, List, [], ◌∷◌, refl, arith}
-use Rattle.sdd_topological.specs.Paths.{IsPath, IsOrderly}
+use Rattle.sdd_order.specs.Paths.{IsPath, IsOrderly}
 use Rattle.sdd_acyclic.specs.Eras.{Ranked}
 
 module _ {T : Type 0} (R : T → T → Type 0) (rank : T → ℕ)

@@ -13,7 +13,7 @@ use Rattle.sdd_graph.specs.declared.edge.Edge.TheVariants.{Vertical, Horizontal,
 use Rattle.sdd_acyclic.specs.Fits.{IsFragmentOf, Fits}
 use Rattle.sdd_acyclic.specs.Graphs.{IsVertical, IsHorizontal, IsDiagonal, Covers}
 use Rattle.sdd_acyclic.specs.System.{System}
-use Rattle.sdd_topological.proofs.Members.{place_of, Contains-map, Contains-filter, Contains-flat_map, Contains-range, passes_member}
+use Rattle.sdd_order.proofs.Members.{place_of, Contains-map, Contains-filter, Contains-flat_map, Contains-range, passes_member}
 
 module _ (cat : Catalogue) where
   pub class_is : (i : ℕ) → IsClassOf cat i → Contains (classes_of cat) i

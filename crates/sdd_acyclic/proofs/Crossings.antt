@@ -6,7 +6,7 @@ use Rattle.sdd_base.specs.declared.number.FragNo.{FragNo}
 use Rattle.sdd_base.specs.Numbers.{class_no, frag_no}
 use Rattle.sdd_graph.specs.declared.edge.Edge.{Edge}
 use Rattle.sdd_acyclic.specs.Graphs.{IsHorizontal, IsDiagonal, Covers}
-use Rattle.sdd_topological.specs.Paths.{IsPath}
+use Rattle.sdd_order.specs.Paths.{IsPath}
 use Rattle.sdd_acyclic.specs.System.{System, Precedes, Below, Facts}
 use Rattle.sdd_acyclic.specs.System.Precedes.{by_class, by_writes, by_unseen, by_seen}
 use Rattle.sdd_acyclic.proofs.Tours.{Crosses, Crossing, Run, below_on, run_on}

@@ -28,7 +28,7 @@ use Rattle.sdd_protocol.proofs.Tables.{edges_of, blocks_of, all_at, vertical_blo
 use Rattle.sdd_acyclic.specs.Fits.{Fits, Meets}
 use Rattle.sdd_acyclic.specs.Graphs.{IsDiagonal, Waits, time_in}
 use Rattle.sdd_acyclic.specs.System.{System}
-use Rattle.sdd_topological.proofs.Members.{Contains-filter_map, Contains-map, passes_member}
+use Rattle.sdd_order.proofs.Members.{Contains-filter_map, Contains-map, passes_member}
 use Rattle.sdd_acyclic.proofs.Covers.{class_is}
 
 -- an edge is a diagonal between the two classes

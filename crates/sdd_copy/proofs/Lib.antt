@@ -1,6 +1,9 @@
 pub mod Contents
 pub mod Initial
+pub mod Members
 pub mod OneKey
 pub mod Order
 pub mod Ranges
+pub mod Sorting
 pub mod Standing
+pub mod Uses

@@ -8,10 +8,14 @@
 
 mod copies;
 mod frag_copy;
+mod freezing;
 mod kept_items;
 mod law;
 mod near;
+mod reducing;
+mod space;
 
 pub use copies::Copies;
 pub use frag_copy::FragCopy;
 pub use law::{law_contents, law_copies_order, law_order};
+pub use space::Space;

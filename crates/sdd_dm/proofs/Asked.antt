@@ -13,7 +13,7 @@ use Rattle.sdd_module.specs.Notes.{Notes, nothing_noted}
 use Rattle.sdd_module.specs.Making.{Reached}
 use Rattle.sdd_module.proofs.Making.{made_nothing, made_one}
 use Rattle.sdd_copy.specs.Sets.{DatesDiffer}
-use Rattle.sdd_space.specs.Frozen.{Frozen, values_in}
+use Rattle.sdd_copy.specs.Frozen.{Frozen, values_in}
 use Rattle.sdd_pipe.specs.Pipes.{update}
 use Rattle.sdd_pipe.proofs.Updates.{length-update}
 use Rattle.sdd_dm.specs.Copies.{frozen, given_up, frozen_handed, reduced_at, rows_held, all_held}

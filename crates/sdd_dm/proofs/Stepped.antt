@@ -22,8 +22,8 @@ use Rattle.sdd_copy.specs.Contents.{Dated, contents}
 use Rattle.sdd_copy.specs.Sets.{DatesDiffer, AreSame}
 use Rattle.sdd_copy.specs.Copies.{Held, is_here, rows_at, with_change, StandFor, AreHere}
 use Rattle.sdd_copy.proofs.Standing.{stand_all, here_all, stand_same}
-use Rattle.sdd_space.specs.Frozen.{Frozen, frozen_for}
-use Rattle.sdd_space.proofs.Uses.{held_for, frozen_told}
+use Rattle.sdd_copy.specs.Frozen.{Frozen, frozen_for}
+use Rattle.sdd_copy.proofs.Uses.{held_for, frozen_told}
 use Rattle.sdd_pipe.specs.Pipe.{head, head_processed}
 use Rattle.sdd_pipe.specs.Digest.{empty_digest, IsDigest, take_digest}
 use Rattle.sdd_pipe.specs.Pipes.{update, pipe_at}

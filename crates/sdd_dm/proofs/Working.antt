@@ -10,7 +10,7 @@ use Rattle.sdd_module.specs.Notes.{Notes, nothing_noted, with_act}
 use Rattle.sdd_module.specs.Making.{Reached}
 use Rattle.sdd_module.proofs.Does.{reached_more}
 use Rattle.sdd_copy.specs.Items as items
-use Rattle.sdd_space.specs.Frozen.{Frozen, counts_of}
+use Rattle.sdd_copy.specs.Frozen.{Frozen, counts_of}
 use Rattle.sdd_pipe.specs.Pipe.{head}
 use Rattle.sdd_dm.specs.declared.step.Step.{Step}
 use Rattle.sdd_dm.specs.declared.step.Step.TheVariants.{Processes, Refuses, Waits}

@@ -13,7 +13,7 @@ use Rattle.sdd_wire.specs.declared.msg.Msg.TheVariants.{Read, Write, Reduce, Row
 use Rattle.sdd_module.specs.SiteLog.{Setting, Log, Handed, Did, Act, Records, Sends}
 use Rattle.sdd_copy.specs.Contents.{Dated, contents}
 use Rattle.sdd_pipe.specs.Pipe.{Pipe, head}
-use Rattle.sdd_space.specs.Frozen.{Frozen, CopyRows, frozen_for, rows_of, reduced, counts_of, all_rows}
+use Rattle.sdd_copy.specs.Frozen.{Frozen, CopyRows, frozen_for, rows_of, reduced, counts_of, all_rows}
 use Rattle.sdd_dm.specs.Pipes.{pipe}
 
 -- class 0 and the classes of the catalogue

@@ -12,7 +12,7 @@ use Rattle.sdd_history.specs.declared.record.Rec.TheVariants.{Arrive, Wait, Answ
 use Rattle.sdd_wire.specs.declared.msg.Msg.{Msg}
 use Rattle.sdd_wire.specs.declared.msg.Msg.TheVariants.{Read, Ready, Reject, Fetch, Values, Reduce, Reduced, Ship, Rows, Write, Null, Ask, Done}
 use Rattle.sdd_module.specs.SiteLog.{Setting, Bases, Log, Act, Records, Sends}
-use Rattle.sdd_space.specs.Frozen.{values_in}
+use Rattle.sdd_copy.specs.Frozen.{values_in}
 use Rattle.sdd_pipe.specs.Pipe.{head, passed, last_write, touches}
 use Rattle.sdd_dm.specs.declared.step.Step.{Step}
 use Rattle.sdd_dm.specs.declared.step.Step.TheVariants.{Processes, Refuses, Waits}

@@ -15,7 +15,7 @@ use Rattle.sdd_wire.specs.declared.msg.Msg.TheVariants.{Read, Fetch, Reduce, Shi
 use Rattle.sdd_wire.specs.Piped.{time_of}
 use Rattle.sdd_module.specs.SiteLog.{Setting, Bases, Log, Handed}
 use Rattle.sdd_pipe.specs.Pipe.{Pipe}
-use Rattle.sdd_space.specs.Frozen.{Frozen}
+use Rattle.sdd_copy.specs.Frozen.{Frozen}
 use Rattle.sdd_dm.specs.Pipes.{pipe}
 use Rattle.sdd_dm.specs.Copies.{frozen}
 use Rattle.sdd_dm.specs.Views.{home_of, source_of}

@@ -11,7 +11,7 @@ use Rattle.sdd_module.specs.SiteLog.{Act, Records, Sends}
 use Rattle.sdd_module.specs.Notes.{Notes, with_act}
 use Rattle.sdd_copy.specs.Items.{dated}
 use Rattle.sdd_copy.specs.Copies.{Held, rows_at, with_change}
-use Rattle.sdd_space.specs.Frozen.{Frozen, frozen_for, values_in, counts_of}
+use Rattle.sdd_copy.specs.Frozen.{Frozen, frozen_for, values_in, counts_of}
 use Rattle.sdd_pipe.specs.Digest.{Digest, put_digest, take_digest}
 use Rattle.sdd_pipe.specs.Pipes.{update}
 use Rattle.sdd_dm.specs.declared.step.Step.{Step}

@@ -8,7 +8,7 @@ use Rattle.sdd_base.specs.declared.site.Site.TheVariants.{U, T}
 use Rattle.sdd_base.specs.declared.number.DmNo.{DmNo}
 use Rattle.sdd_module.specs.SiteLog.{Setting, Log, Entry, Handed, Did, hands}
 use Rattle.sdd_copy.specs.Contents.{Dated}
-use Rattle.sdd_space.specs.Frozen.{Frozen}
+use Rattle.sdd_copy.specs.Frozen.{Frozen}
 use Rattle.sdd_pipe.specs.Pipe.{Pipe, empty_pipe}
 use Rattle.sdd_dm.specs.Pipes.{pipe, waits, pipe_handed, pipe_acted, waits_acted}
 use Rattle.sdd_dm.specs.Copies.{classes_of, applied, applied_acted, first_rows, frozen, frozen_handed, frozen_acted}

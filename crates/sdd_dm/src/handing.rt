@@ -1,7 +1,7 @@
 //! What a message does that is handed to the module.
 ghost use Rattle.std.specs.Prelude.{◌≡◌, ◌<◌, ℕ, OnOk, IfOk, IsTrue, length, Some, None};
 ghost use Rattle.std.specs.Option.{option_map};
-ghost use Rattle.sdd_space.specs.Frozen.{values_in};
+ghost use Rattle.sdd_copy.specs.Frozen.{values_in};
 ghost use Rattle.sdd_pipe.specs.Pipes.{update};
 ghost use Rattle.sdd_dm.specs.Copies.{rows_held, all_held, reduced_at};
 ghost use Rattle.sdd_dm.specs.State.{State, frozen_of, class_piped, arrived, state_told, told, state_handed, notes_handed};

@@ -20,7 +20,7 @@ use sdd_copy::Copies;
 use sdd_lang::law_rows_make_database;
 use sdd_module::Draft;
 use sdd_pipe::Pipes;
-use sdd_space::Space;
+use sdd_copy::Space;
 use sdd_wire::Msg;
 use std::alloc::Global;
 use std::marker::Model;

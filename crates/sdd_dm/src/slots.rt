@@ -6,7 +6,7 @@ ghost use Rattle.sdd_dm.specs.Heads.{waits_at};
 ghost use Rattle.sdd_dm.specs.State.{frozen_of};
 
 use sdd_base::{ClassNo, NoMemory, Ts, Value};
-use sdd_space::Space;
+use sdd_copy::Space;
 
 /// Whether the head of a class waits.
 pub fn waits_at(waits: &[bool], class: ClassNo) -> bool

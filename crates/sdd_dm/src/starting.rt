@@ -14,7 +14,7 @@ use sdd_base::{Change, ClassNo, DmNo, FragNo, NoMemory, Parcel, RelNo, Row, Site
 use sdd_catalog::Catalogue;
 use sdd_copy::Copies;
 use sdd_lang::{key_of, law_rows_make_database};
-use sdd_space::Space;
+use sdd_copy::Space;
 use std::alloc::Global;
 use std::collections::BTreeMap;
 

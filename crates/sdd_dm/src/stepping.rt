@@ -1,6 +1,6 @@
 //! What the head of a pipe does.
 ghost use Rattle.std.specs.Prelude.{◌≡◌, ◌<◌, ◌++◌, ◌∷◌, [], OnOk, IfOk, IsTrue, length, map, Some};
-ghost use Rattle.sdd_space.specs.Frozen.{counts_of};
+ghost use Rattle.sdd_copy.specs.Frozen.{counts_of};
 ghost use Rattle.sdd_module.specs.Notes.{with_sends};
 ghost use Rattle.sdd_pipe.specs.Pipes.{update};
 ghost use Rattle.sdd_dm.specs.declared.step.Step.TheVariants.{Processes, Refuses, Waits};
@@ -14,7 +14,7 @@ use crate::step::Step;
 use sdd_base::{ClassNo, Cond, Conds, NoMemory, Site, Ts, Use};
 use sdd_history::Rec;
 use sdd_module::Draft;
-use sdd_space::Space;
+use sdd_copy::Space;
 use sdd_wire::{Msg, UseCounts};
 
 impl Parts {

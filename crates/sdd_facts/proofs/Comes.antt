@@ -10,7 +10,7 @@ use Rattle.sdd_wire.specs.declared.msg.Msg.TheVariants.{Fetch, Reduce, Ship}
 use Rattle.sdd_attempt.specs.Attempts.{active, asks_rows}
 use Rattle.sdd_dm.specs.Copies.{frozen}
 use Rattle.sdd_dm.specs.Fits.{AreFor, FitsShip, HaveUse}
-use Rattle.sdd_space.specs.Frozen.{Frozen}
+use Rattle.sdd_copy.specs.Frozen.{Frozen}
 use Rattle.sdd_log.specs.Entries.{Given, Hand}
 use Rattle.sdd_log.specs.Entries as all
 use Rattle.sdd_log.specs.Locals.{local_of, setting_of}

@@ -31,8 +31,8 @@ use Rattle.sdd_module.specs.SiteLog as site
 use Rattle.sdd_copy.specs.Contents.{Dated}
 use Rattle.sdd_exec.specs.Choices.{Has}
 use Rattle.sdd_exec.proofs.Members.{Has-filter, Has-filter_map, Has-filter_map_from, Has-flat_map, Has-flat_map_from, Has-map, Has-map_from}
-use Rattle.sdd_contents.specs.Values.{ArePlaced, IsPlaced}
-use Rattle.sdd_contents.proofs.Members.{each_has}
+use Rattle.sdd_laws.specs.Values.{ArePlaced, IsPlaced}
+use Rattle.sdd_laws.proofs.Members.{each_has}
 use Rattle.sdd_attempt.specs.Acts.{modules_of, use_there, with_frags}
 use Rattle.sdd_attempt.specs.Attempts.{Attempt, active}
 use Rattle.sdd_attempt.specs.Exchange.{is_over}
@@ -55,7 +55,7 @@ use Rattle.sdd_serving.proofs.Members.{of_has, to_has}
 use Rattle.sdd_serving.proofs.Together.{IsPiece, IsUsed, has_copies}
 use Rattle.sdd_invariants.proofs.Bools.{same_number}
 use Rattle.sdd_invariants.specs.Steps.{home, modules_asked}
-use Rattle.sdd_topological.proofs.Members.{Contains-range}
+use Rattle.sdd_order.proofs.Members.{Contains-range}
 use Rattle.sdd_invariants.proofs.Made.{local_grows, own_act}
 use Rattle.sdd_facts.specs.Fitting.{FitsGiven, IsItemChange}
 use Rattle.sdd_facts.proofs.EffectsHeld.{HandFits, all_items}

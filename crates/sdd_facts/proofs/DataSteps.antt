@@ -12,7 +12,7 @@ use Rattle.sdd_history.specs.declared.record.Rec.TheVariants.{Answer, Apply, Arr
 use Rattle.sdd_wire.specs.declared.msg.Msg.{Msg}
 use Rattle.sdd_wire.specs.declared.msg.Msg.TheVariants.{Done, Fetch, Null, Read, Ready, Reduce, Reduced, Reject, Rows, Ship, Values, Write}
 use Rattle.sdd_module.specs.SiteLog.{Act, Log, Records, Sends, Setting}
-use Rattle.sdd_space.specs.Frozen.{Frozen, counts_of, frozen_for, values_in}
+use Rattle.sdd_copy.specs.Frozen.{Frozen, counts_of, frozen_for, values_in}
 use Rattle.sdd_pipe.specs.Pipe.{head}
 use Rattle.sdd_dm.specs.Copies.{all_held, copies, frozen, rows_held}
 use Rattle.sdd_dm.specs.Due.{IsDue, act_by, act_where, answer_of, answer_to, ask_for, by_head, by_open, done_for, head_due, is_held, is_met, judged, open_due, step_on}

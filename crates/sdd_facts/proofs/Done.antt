@@ -10,9 +10,9 @@ use Rattle.sdd_log.specs.Locals.{redeclares}
 use Rattle.sdd_log.specs.Marks.{after_mark, from_event, left, mark_from, mark_of}
 use Rattle.sdd_log.specs.Traffic.{all_links, calls_of, is_down, turned_by}
 use Rattle.sdd_log.proofs.Grows.{mark_is_next}
-use Rattle.sdd_step.specs.Resting.{AtEach}
-use Rattle.sdd_step.proofs.Marking.{TurnsNone}
-use Rattle.sdd_step.proofs.Rounding.{each_of_round}
+use Rattle.sdd_log.specs.Resting.{AtEach}
+use Rattle.sdd_log.proofs.Marking.{TurnsNone}
+use Rattle.sdd_log.proofs.Rounding.{each_of_round}
 use Rattle.sdd_facts.proofs.OfNext.{of_next}
 use Rattle.sdd_facts.specs.Bounds.{AllFewTicks}
 use Rattle.sdd_facts.specs.AfterEvents.{down_from, is_down_after, redeclares_in}

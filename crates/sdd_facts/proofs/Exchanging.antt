@@ -14,7 +14,7 @@ use Rattle.sdd_wire.specs.declared.msg.Msg.{Msg}
 use Rattle.sdd_wire.specs.declared.msg.Msg.TheVariants.{Fetch, Read, Ready, Reduce, Reduced, Reject, Rows, Ship, Values}
 use Rattle.sdd_semijoin.specs.Steps.{Move, next_move}
 use Rattle.sdd_semijoin.specs.declared.step.Step.{Step}
-use Rattle.sdd_space.specs.Frozen.{Frozen, all_rows, rows_of, values_in}
+use Rattle.sdd_copy.specs.Frozen.{Frozen, all_rows, rows_of, values_in}
 use Rattle.sdd_attempt.specs.Exchange.{Asking, Exchange, Fetching, Over, Phase, Reading, Reducing, Shipping, after_hand, after_send, answered, counted, counts_for, fetches, fetches_from, goes_on, lacking, move_at, phase_ends, with_use, without}
 use Rattle.sdd_facts.proofs.AtTurn.{awaits}
 use Rattle.sdd_facts.proofs.Modules.{firsts, without_other}

@@ -20,7 +20,7 @@ use Rattle.sdd_module.specs.SiteLog.{Act, Did, Handed, Log, Records, Sends, Sett
 use Rattle.sdd_attempt.specs.Attempts.{asks_rows}
 use Rattle.sdd_attempt.specs.Fits.{is_read}
 use Rattle.sdd_pipe.specs.Pipe.{head}
-use Rattle.sdd_space.specs.Frozen.{CopyRows, Frozen, is_among, reduced, rows_for, values_in}
+use Rattle.sdd_copy.specs.Frozen.{CopyRows, Frozen, is_among, reduced, rows_for, values_in}
 use Rattle.sdd_dm.specs.Copies.{all_held, copies, dated, frozen, frozen_at, frozen_handed, given_up, is_answer as is_answer_record, reduced_at, rows_held}
 use Rattle.sdd_dm.specs.Due.{ask_for, done_for}
 use Rattle.sdd_dm.specs.Opens.{Open, class_asked, is_asked_of, is_number, opens}

@@ -16,7 +16,7 @@ use Rattle.sdd_attempt.specs.Attempts.{Attempt}
 use Rattle.sdd_attempt.specs.Exchange.{Exchange, Fetching, Over, Phase, Reading, Reducing, Shipping, first_phase}
 use Rattle.sdd_history.specs.declared.record.Rec.TheVariants.{Answer}
 use Rattle.sdd_invariants.proofs.Places.{longer}
-use Rattle.sdd_space.specs.Frozen.{Frozen}
+use Rattle.sdd_copy.specs.Frozen.{Frozen}
 use Rattle.sdd_log.specs.Entries.{Does, Given, Hand, Log}
 use Rattle.sdd_log.specs.Locals.{local_of}
 use Rattle.sdd_log.specs.Permitted.{IsPermitted}

@@ -16,7 +16,7 @@ use Rattle.sdd_history.specs.declared.record.Rec.TheVariants.{Answer}
 use Rattle.sdd_wire.specs.declared.msg.Msg.{Msg}
 use Rattle.sdd_wire.specs.declared.msg.Msg.TheVariants.{Read, Reduce, Rows}
 use Rattle.sdd_module.specs.SiteLog.{Act, Did, Entry, Handed, Log, Records, Redeclared, Sends, Setting, Submits, Ticked}
-use Rattle.sdd_space.specs.Frozen.{Frozen, frozen_for, reduced}
+use Rattle.sdd_copy.specs.Frozen.{Frozen, frozen_for, reduced}
 use Rattle.sdd_pipe.specs.Pipe.{head}
 use Rattle.sdd_dm.specs.Copies.{copies, dated, frozen, frozen_at, is_answer, reduced_at}
 use Rattle.sdd_dm.specs.Pipes.{pipe}

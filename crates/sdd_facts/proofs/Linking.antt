@@ -42,7 +42,7 @@ use Rattle.sdd_log.specs.Lawful.{IsLawful}
 use Rattle.sdd_log.specs.Locals.{local_of, setting_of}
 use Rattle.sdd_log.specs.Permitted.{IsDueAt, IsPermitted}
 use Rattle.sdd_log.specs.Snapshots.{base_of}
-use Rattle.sdd_step.specs.Resting.{AllLinked}
+use Rattle.sdd_log.specs.Resting.{AllLinked}
 use Rattle.sdd_invariants.proofs.PutBy.{was_handed}
 use Rattle.sdd_invariants.specs.PutsBy.{WasAsked}
 use Rattle.sdd_invariants.proofs.Bools.{both}

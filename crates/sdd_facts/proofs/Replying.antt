@@ -14,7 +14,7 @@ use Rattle.sdd_module.specs.SiteLog.{Act, Did, Entry, Handed, Log, Records, Rede
 use Rattle.sdd_attempt.specs.Attempts.{asks_rows}
 use Rattle.sdd_attempt.specs.Fits.{is_read}
 use Rattle.sdd_pipe.specs.Pipe.{Pipe, head, head_processed, one_or_none, put}
-use Rattle.sdd_space.specs.Frozen.{Frozen, values_in}
+use Rattle.sdd_copy.specs.Frozen.{Frozen, values_in}
 use Rattle.sdd_dm.specs.Copies.{all_held, rows_held}
 use Rattle.sdd_dm.specs.Opens.{Open, class_asked, is_asked_of, is_read_of, opens, opens_handed}
 use Rattle.sdd_dm.specs.Pipes.{is_processing, pipe, pipe_acted}

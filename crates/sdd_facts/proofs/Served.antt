@@ -20,7 +20,7 @@ use Rattle.sdd_attempt.specs.Exchange.{Exchange, Over, Shipping, after_hand, ans
 use Rattle.sdd_attempt.specs.Fits.{ServesIfLast}
 use Rattle.sdd_copy.specs.Contents.{contents}
 use Rattle.sdd_dm.specs.Copies.{dated}
-use Rattle.sdd_space.specs.Frozen.{CopyRows, all_rows}
+use Rattle.sdd_copy.specs.Frozen.{CopyRows, all_rows}
 use Rattle.sdd_log.specs.Entries.{Given, Hand, Log}
 use Rattle.sdd_log.specs.Locals.{local_of, setting_of}
 use Rattle.sdd_log.specs.Permitted.{IsPermitted}

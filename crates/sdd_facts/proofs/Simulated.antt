@@ -25,7 +25,7 @@ use Rattle.sdd_copy.specs.Contents.{contents}
 use Rattle.sdd_pipe.specs.Pipe.{head}
 use Rattle.sdd_dm.specs.Pipes.{pipe}
 use Rattle.sdd_dm.specs.Copies.{dated}
-use Rattle.sdd_space.specs.Frozen.{CopyRows, Frozen, frozen_for, reduced}
+use Rattle.sdd_copy.specs.Frozen.{CopyRows, Frozen, frozen_for, reduced}
 use Rattle.sdd_log.specs.Entries.{Does, Entry, Given, Hand, Log, Mark, Notes, Redeclares, Round, Submitted}
 use Rattle.sdd_log.specs.Locals.{beginning, local_of, setting_of}
 use Rattle.sdd_log.specs.Permitted.{IsPermitted}

@@ -14,7 +14,7 @@ use Rattle.sdd_module.specs.SiteLog as site
 use Rattle.sdd_attempt.specs.Attempts.{active}
 use Rattle.sdd_copy.specs.Contents.{contents}
 use Rattle.sdd_dm.specs.Copies.{dated}
-use Rattle.sdd_space.specs.Frozen.{CopyRows, Frozen}
+use Rattle.sdd_copy.specs.Frozen.{CopyRows, Frozen}
 use Rattle.sdd_log.specs.Entries.{Does, Entry, Given, Hand, Log, Mark, Notes, Redeclares, Round, Submitted}
 use Rattle.sdd_log.specs.Locals.{force_at, local_of, redeclares, setting_of, txn_at}
 use Rattle.sdd_serving.specs.Reducing.{Space}

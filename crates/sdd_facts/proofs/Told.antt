@@ -16,7 +16,7 @@ use Rattle.sdd_wire.specs.declared.msg.Msg.TheVariants.{Done, Fetch, Read, Ready
 use Rattle.sdd_module.specs.SiteLog.{Act, Did, Handed, Log, Records, Sends, Setting, sends_of_act}
 use Rattle.sdd_attempt.specs.Attempts.{asks_rows}
 use Rattle.sdd_attempt.specs.Fits.{is_read}
-use Rattle.sdd_space.specs.Frozen.{Frozen, all_rows, rows_of, values_in}
+use Rattle.sdd_copy.specs.Frozen.{Frozen, all_rows, rows_of, values_in}
 use Rattle.sdd_pipe.specs.Pipe.{head}
 use Rattle.sdd_dm.specs.Copies.{frozen}
 use Rattle.sdd_dm.specs.Due.{ask_for, done_for}

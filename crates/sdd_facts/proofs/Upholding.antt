@@ -18,7 +18,7 @@ use Rattle.sdd_log.specs.Lawful.{IsLawful, IsWithin}
 use Rattle.sdd_log.specs.Locals.{local_of, setting_of, txn_at}
 use Rattle.sdd_log.proofs.EachLocal.{allowed_act}
 use Rattle.sdd_log.proofs.NewMarks.{lawful_permitted}
-use Rattle.sdd_step.specs.Resting.{AllLinked, IsSiteOf}
+use Rattle.sdd_log.specs.Resting.{AllLinked, IsSiteOf}
 use Rattle.sdd_facts.proofs.OfNext.{of_next}
 use Rattle.sdd_facts.specs.Given.{IsFit}
 use Rattle.sdd_facts.specs.Upheld.{IsUpheldD, IsUpheldR}

@@ -7,7 +7,7 @@ use Rattle.sdd_wire.specs.declared.msg.Msg.{Msg}
 use Rattle.sdd_wire.specs.declared.msg.Msg.TheVariants.{Fetch, Reduce, Rows, Ship, Values}
 use Rattle.sdd_module.specs.SiteLog.{Log, Setting}
 use Rattle.sdd_attempt.specs.Exchange.{Exchange, Fetching, Over, Phase, Reading, Reducing, Shipping}
-use Rattle.sdd_space.specs.Frozen.{Frozen, all_rows, rows_of, values_in}
+use Rattle.sdd_copy.specs.Frozen.{Frozen, all_rows, rows_of, values_in}
 use Rattle.sdd_dm.specs.Copies.{frozen}
 use Rattle.sdd_facts.specs.Turns.{Asks, Turn, is_a_read}
 

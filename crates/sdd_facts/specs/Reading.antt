@@ -7,7 +7,7 @@ use Rattle.sdd_eras.specs.EraOf.{IsEraOf}
 use Rattle.sdd_module.specs.SiteLog.{Did, Log, Records}
 use Rattle.sdd_copy.specs.Contents.{contents}
 use Rattle.sdd_pipe.specs.Pipe.{head}
-use Rattle.sdd_space.specs.Frozen.{CopyRows}
+use Rattle.sdd_copy.specs.Frozen.{CopyRows}
 use Rattle.sdd_dm.specs.Copies.{dated}
 use Rattle.sdd_dm.specs.Pipes.{pipe}
 use Rattle.sdd_log.specs.Entries.{Given}

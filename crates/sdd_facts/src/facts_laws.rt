@@ -16,7 +16,7 @@ ghost use Rattle.sdd_log.specs.Entries.{Does, Given, Hand, Log, Submitted};
 ghost use Rattle.sdd_log.specs.Lawful.{IsLawful, IsWithin};
 ghost use Rattle.sdd_log.specs.Locals.{local_of, setting_of, txn_at};
 ghost use Rattle.sdd_log.specs.Permitted.{IsPermitted};
-ghost use Rattle.sdd_step.specs.Resting.{AllLinked, IsSiteOf};
+ghost use Rattle.sdd_log.specs.Resting.{AllLinked, IsSiteOf};
 ghost use Rattle.sdd_invariants.specs.Traffic.{puts_to};
 ghost use Rattle.sdd_facts.specs.Facts.{Facts};
 ghost use Rattle.sdd_facts.specs.Given.{IsFit};

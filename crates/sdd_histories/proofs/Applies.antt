@@ -13,7 +13,7 @@ use Rattle.sdd_order.specs.Attempts.{Attempt, Committed, IsCommitted, committed}
 use Rattle.sdd_order.specs.Places.{Stands}
 use Rattle.sdd_order.proofs.Before.{or_cases, or_left, or_right}
 use Rattle.sdd_order.proofs.Found.{from_committed}
-use Rattle.sdd_topological.proofs.Members.{member_passes, passes_member}
+use Rattle.sdd_order.proofs.Members.{member_passes, passes_member}
 use Rattle.sdd_laws.specs.Applies.{IsOfCommit, IsEarlier, KeepsApplies}
 use Rattle.sdd_laws.specs.Deeds.{IsAnswered, IsApplied, AppliedBefore, Touches, GoesTo}
 use Rattle.sdd_laws.specs.Deeds.GoesTo.{by_change, by_no_class}

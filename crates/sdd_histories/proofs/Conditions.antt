@@ -15,7 +15,7 @@ use Rattle.sdd_protocol.proofs.Laws.{one_table}
 use Rattle.sdd_order.specs.Attempts.{Attempt, Committed, IsCommitted, attempts, committed}
 use Rattle.sdd_order.specs.Places.{event_at}
 use Rattle.sdd_order.proofs.Found.{in_attempts}
-use Rattle.sdd_topological.proofs.Members.{member_passes, passes_member}
+use Rattle.sdd_order.proofs.Members.{member_passes, passes_member}
 use Rattle.sdd_laws.specs.Conditions.{conditions_of, IsConditionOf, KeepsConditions}
 use Rattle.sdd_laws.specs.Deeds.{TouchesOne}
 use Rattle.sdd_laws.specs.Eras.{Eras, in_force}

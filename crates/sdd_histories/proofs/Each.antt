@@ -6,7 +6,7 @@ use Rattle.std.proofs.lemmas.Bool.{and_parts}
 use Rattle.sdd_base.specs.Words.{contains}
 use Rattle.sdd_base.proofs.Membership.{Contains-nil, Contains-cases}
 use Rattle.sdd_catalog.specs.Catalogue.{numbers_to}
-use Rattle.sdd_topological.proofs.Members.{Contains-range}
+use Rattle.sdd_order.proofs.Members.{Contains-range}
 use Rattle.sdd_eras.proofs.Lists.{each_passes, at_member}
 
 -- a test that counts only where another passes

@@ -10,7 +10,7 @@ use Rattle.sdd_history.specs.Records.{History}
 use Rattle.sdd_order.specs.Attempts.{Attempt, Committed, IsAttempt, IsCommitted, attempts, committed}
 use Rattle.sdd_order.specs.Places.{event_at}
 use Rattle.sdd_order.proofs.Found.{in_attempts}
-use Rattle.sdd_topological.proofs.Members.{member_passes}
+use Rattle.sdd_order.proofs.Members.{member_passes}
 use Rattle.sdd_laws.specs.Deeds.{GoesTo}
 use Rattle.sdd_laws.specs.Deeds.GoesTo.{by_change, by_no_class}
 use Rattle.sdd_laws.specs.Eras.{Eras, begun}

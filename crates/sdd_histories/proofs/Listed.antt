@@ -11,7 +11,7 @@ use Rattle.sdd_order.specs.Attempts.{Attempt, Committed, HasCommit, attempts, co
 use Rattle.sdd_order.specs.Places.{Stands, placed}
 use Rattle.sdd_order.proofs.Found.{at_place, from_attempts, from_committed}
 use Rattle.sdd_order.proofs.Places.{commit_of}
-use Rattle.sdd_topological.proofs.Members.{Contains-filter_map, member_passes}
+use Rattle.sdd_order.proofs.Members.{Contains-filter_map, member_passes}
 use Rattle.sdd_laws.specs.Deeds.{IsSubmitted, StartedBefore, CommittedBefore}
 
 -- a transaction and the place of its Submit

@@ -14,7 +14,7 @@ use Rattle.sdd_order.proofs.Found.{in_attempts, in_committed}
 use Rattle.sdd_laws.specs.Deeds.{txn_at, IsSubmitted, CommittedBefore}
 use Rattle.sdd_laws.specs.Eras.{Eras, in_force}
 use Rattle.sdd_laws.specs.Starts.{IsOfSubmit, starts_before, IsBound, KeepsStarts}
-use Rattle.sdd_laws.proofs.Counts.{one_start}
+use Rattle.sdd_laws.proofs.NumberedStarts.{one_start}
 use Rattle.sdd_histories.proofs.Each.{same, same_is, if_so, so, each, all_pairs, each_pair, each_has}
 use Rattle.sdd_histories.proofs.Listed.{CommitAt, submits, in_submits, commits, in_commits, is_committed, committed_before}
 

@@ -18,7 +18,7 @@ use Rattle.sdd_laws.specs.Deeds.Asks.{by_use}
 use Rattle.sdd_laws.specs.Eras.{Eras, begun}
 use Rattle.sdd_laws.specs.Kept.{FitTogether, KeepsLaws}
 use Rattle.sdd_laws.specs.Snapshots.{base_of}
-use Rattle.sdd_laws.proofs.Counts.{one_start}
+use Rattle.sdd_laws.proofs.NumberedStarts.{one_start}
 use Rattle.sdd_laws.proofs.Deeds.{deeds, are_starts, are_applies, are_alone, are_apart}
 use Rattle.sdd_laws.proofs.Fitting.{frags_of, force, fits, meets}
 use Rattle.sdd_laws.proofs.Reading.{reads_there}

@@ -16,7 +16,7 @@ use Rattle.sdd_catalog.specs.declared.resolved.Fragment.{Fragment}
 use Rattle.sdd_catalog.proofs.Found.{both_empty, each_unfound, empty_of_map}
 use Rattle.sdd_catalog.proofs.Sound.{at_number, each_image, sound_fragments}
 use Rattle.sdd_catalog.proofs.Validity.{no_faults, unbroken}
-use Rattle.sdd_topological.proofs.Members.{Contains-range, passes_member}
+use Rattle.sdd_order.proofs.Members.{Contains-range, passes_member}
 use Rattle.sdd_laws.proofs.Lists.{found_where_any}
 
 abbrev HasCopies : Fragment → Type 0

@@ -24,7 +24,7 @@ use Rattle.sdd_laws.specs.Eras.{Eras, AreEras, begun}
 use Rattle.sdd_laws.specs.Redeclares.{IsOfEarlierEra, KeepsEras}
 use Rattle.sdd_laws.specs.Starts.{KeepsStarts}
 use Rattle.sdd_laws.specs.Undeclared.{KeepsUndeclared}
-use Rattle.sdd_laws.proofs.Counts.{one_start}
+use Rattle.sdd_laws.proofs.NumberedStarts.{one_start}
 use Rattle.sdd_order.proofs.Places.{one_submitted, same_start, commit_of, one_of_txn}
 use Rattle.sdd_laws.proofs.Reading.{reads_there}
 

@@ -22,7 +22,7 @@ use Rattle.sdd_laws.specs.Few.{is_commit_of_other, starts_of, commits_of_others,
 use Rattle.sdd_laws.specs.Rejections.{IsAgain, KeepsRejections}
 use Rattle.sdd_laws.specs.Starts.{is_start_of, starts_before, KeepsStarts}
 use Rattle.sdd_order.proofs.Before.{or_left, or_right}
-use Rattle.sdd_laws.proofs.Counts.{one_start, start_counts}
+use Rattle.sdd_laws.proofs.NumberedStarts.{one_start, start_counts}
 use Rattle.sdd_order.proofs.Places.{same_start, same_commit}
 use Rattle.sdd_laws.proofs.Times.{condition_time}
 

@@ -37,7 +37,7 @@ use Rattle.sdd_acyclic.specs.Deeds.{IsSeen}
 use Rattle.sdd_acyclic.specs.Eras.{of_era}
 use Rattle.sdd_acyclic.specs.Fits.{IsFragmentOf, Fits, Meets}
 use Rattle.sdd_acyclic.specs.Undeclared.{Declared, declared}
-use Rattle.sdd_topological.proofs.Members.{member_passes}
+use Rattle.sdd_order.proofs.Members.{member_passes}
 use Rattle.sdd_laws.specs.Answers.{KeepsAnswers}
 use Rattle.sdd_laws.specs.Applies.{KeepsApplies}
 use Rattle.sdd_laws.specs.Conditions.{IsConditionOf, KeepsConditions}

@@ -17,22 +17,22 @@ use Rattle.sdd_lang.specs.Database.{Row}
 use Rattle.sdd_lang.specs.Fits.{Fits}
 use Rattle.sdd_lang.specs.Sound.{PutsHeld}
 use Rattle.std.specs.List.{All}
-use Rattle.sdd_replay.specs.Ledger.{Reads}
-use Rattle.sdd_replay.specs.Order as agreeing
-use Rattle.sdd_replay.specs.Order.{MayStandFirst, Meets, may_stand_first}
-use Rattle.sdd_replay.specs.Order.Meets.{both_write, writes_read, reads_write}
+use Rattle.sdd_laws.specs.Ledger.{Reads}
+use Rattle.sdd_laws.specs.Order as agreeing
+use Rattle.sdd_laws.specs.Order.{MayStandFirst, Meets, may_stand_first}
+use Rattle.sdd_laws.specs.Order.Meets.{both_write, writes_read, reads_write}
 use Rattle.sdd_order.specs.Attempts.{Committed, IsCommitted, changes, committed}
 use Rattle.sdd_order.specs.Orders.{IsAlong, IsSerial}
 use Rattle.sdd_order.specs.Precedence.{module_of, was_seen, is_earlier, is_overwritten, misses, is_read_by, precedes}
 use Rattle.sdd_order.proofs.Before.{or_left, or_right}
 use Rattle.sdd_order.proofs.Found.{from_committed, in_committed}
-use Rattle.sdd_topological.proofs.Members.{member_passes, passes_member}
+use Rattle.sdd_order.proofs.Members.{member_passes, passes_member}
 use Rattle.sdd_order.proofs.Places.{same_start}
 use Rattle.sdd_laws.specs.Answers.{KeepsAnswers}
 use Rattle.sdd_laws.specs.Applies.{KeepsApplies}
 use Rattle.sdd_laws.specs.Eras.{Eras, AreEras}
 use Rattle.sdd_laws.specs.Starts.{KeepsStarts}
-use Rattle.sdd_laws.proofs.Counts.{one_start}
+use Rattle.sdd_laws.proofs.NumberedStarts.{one_start}
 use Rattle.sdd_laws.proofs.Deeds.{same_txn}
 use Rattle.sdd_laws.proofs.Precedes.{changes_member}
 use Rattle.sdd_laws.proofs.Recorded.{ledger, reads_by_start}

@@ -11,13 +11,13 @@ use Rattle.sdd_history.specs.declared.record.Rec.TheVariants.{Submit, Start, Arr
 use Rattle.sdd_history.specs.Records.{History}
 use Rattle.sdd_lang.specs.Classes.{fragments_in}
 use Rattle.sdd_order.specs.Attempts.{Attempt, Committed, IsCommitted, reads, changes}
-use Rattle.sdd_topological.specs.Paths.{IsPath, IsOrderly}
+use Rattle.sdd_order.specs.Paths.{IsPath, IsOrderly}
 use Rattle.sdd_order.specs.Places.{Stands}
 use Rattle.sdd_order.specs.Precedence.{module_of, is_answer, is_apply, was_seen, is_earlier, is_overwritten, misses, is_read_by, precedes, Precedes, HasNoCycle}
 use Rattle.sdd_acyclic.specs.Deeds.{Txn, IsSeen, system}
 use Rattle.sdd_acyclic.specs.System as core
 use Rattle.sdd_acyclic.specs.System.Precedes.{by_class, by_writes, by_unseen, by_seen}
-use Rattle.sdd_topological.proofs.Members.{member_passes, passes_member}
+use Rattle.sdd_order.proofs.Members.{member_passes, passes_member}
 use Rattle.sdd_laws.specs.Deeds.{IsSubmitted, IsApplied}
 use Rattle.sdd_order.proofs.Before.{or_cases, in_turn, comes_from, apply_passes, answer_passes, is_answered}
 use Rattle.sdd_laws.proofs.Deeds.{Placed, deeds}

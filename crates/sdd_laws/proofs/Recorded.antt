@@ -10,7 +10,7 @@ use Rattle.sdd_base.specs.declared.number.RelNo.{RelNo}
 use Rattle.sdd_base.proofs.Membership.{Contains-here, Contains-later}
 use Rattle.sdd_catalog.specs.Catalogue.{Catalogue}
 use Rattle.sdd_catalog.specs.Rules.{IsSound}
-use Rattle.sdd_contents.proofs.Members.{Contains-flat_map, Contains-from_flat_map}
+use Rattle.sdd_laws.proofs.Members.{Contains-flat_map, Contains-from_flat_map}
 use Rattle.sdd_copy.specs.Contents.{contents}
 use Rattle.sdd_history.specs.declared.record.Rec.{Rec}
 use Rattle.sdd_history.specs.declared.record.Rec.TheVariants.{Answer}
@@ -23,9 +23,9 @@ use Rattle.sdd_lang.specs.Fits.{Fits}
 use Rattle.sdd_lang.specs.Sound.{IsDatabase, PutsHeld}
 use Rattle.sdd_lang.proofs.Sets.{All-ascending}
 use Rattle.sdd_protocol.proofs.Tables.{all_at}
-use Rattle.sdd_replay.specs.Ledger.{Ledger, Reads, snapshot as snapshot_by}
-use Rattle.sdd_replay.specs.Recorded.{ArePieces, AreRecorded}
-use Rattle.sdd_replay.proofs.Snapshots.{bases_are}
+use Rattle.sdd_laws.specs.Ledger.{Ledger, Reads, snapshot as snapshot_by}
+use Rattle.sdd_laws.specs.Recorded.{ArePieces, AreRecorded}
+use Rattle.sdd_laws.proofs.Snapshots.{bases_are}
 use Rattle.sdd_order.specs.Attempts.{Attempt, Committed, IsCommitted, reads, committed}
 use Rattle.sdd_order.specs.Places.{Stands, comes_before}
 use Rattle.sdd_order.specs.Precedence.{module_of, is_answer, is_apply, was_seen}
@@ -41,7 +41,7 @@ use Rattle.sdd_laws.specs.Deeds.Asks.{by_use}
 use Rattle.sdd_laws.specs.Eras.{Eras, AreEras}
 use Rattle.sdd_laws.specs.Snapshots.{is_applied, first_rows, dated, answer_place, snapshot, items_of, base_of}
 use Rattle.sdd_laws.specs.Starts.{IsOfSubmit, KeepsStarts}
-use Rattle.sdd_laws.proofs.Counts.{one_start}
+use Rattle.sdd_laws.proofs.NumberedStarts.{one_start}
 use Rattle.sdd_laws.proofs.Deeds.{deeds, are_starts, are_applies, same_txn, apply_after}
 use Rattle.sdd_laws.proofs.Fitting.{each_here}
 use Rattle.sdd_laws.proofs.Precedes.{seen_is, at_place}

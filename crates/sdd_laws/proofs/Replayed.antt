@@ -13,9 +13,9 @@ use Rattle.sdd_lang.specs.Database.{Row, database_of}
 use Rattle.sdd_lang.specs.Fits.{Fits}
 use Rattle.sdd_lang.specs.Serial.{serial}
 use Rattle.sdd_lang.specs.Sound.{IsDatabase, PutsHeld}
-use Rattle.sdd_replay.specs.Ledger.{Ledger}
-use Rattle.sdd_replay.specs.Replayed.{IsReplayed}
-use Rattle.sdd_replay.proofs.Run.{replayed}
+use Rattle.sdd_laws.specs.Ledger.{Ledger}
+use Rattle.sdd_laws.specs.Replayed.{IsReplayed}
+use Rattle.sdd_laws.proofs.Run.{replayed}
 use Rattle.sdd_order.specs.Attempts.{Committed, IsCommitted, changes, committed}
 use Rattle.sdd_order.specs.Orders.{IsSerial}
 use Rattle.sdd_order.proofs.Found.{from_committed}

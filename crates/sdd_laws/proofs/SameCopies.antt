@@ -2,8 +2,8 @@
 use Rattle.std.proofs.Common.{ℕ, ◌≡◌, subst, true, List}
 use Rattle.sdd_base.specs.declared.number.RelNo.{RelNo}
 use Rattle.sdd_catalog.specs.Catalogue.{Catalogue}
-use Rattle.sdd_contents.specs.Committed.{Writers}
-use Rattle.sdd_contents.proofs.SameCopies.{same_copies}
+use Rattle.sdd_laws.specs.Committed.{Writers}
+use Rattle.sdd_laws.proofs.SameContents.{same_copies}
 use Rattle.sdd_history.specs.Records.{History}
 use Rattle.sdd_lang.specs.Database.{Row, database_of}
 use Rattle.sdd_order.specs.Attempts.{Committed, changes, committed}

@@ -14,7 +14,7 @@ use Rattle.sdd_protocol.specs.Conditions.{is_asked, asked_by, cond_of, cond_for,
 use Rattle.sdd_protocol.specs.declared.entry.Entry.{Entry}
 use Rattle.sdd_protocol.specs.declared.protocol.Protocol.TheVariants.{P2, P3}
 use Rattle.sdd_order.specs.Attempts.{Attempt, p2_time}
-use Rattle.sdd_topological.proofs.Members.{Contains-from_map, Contains-from_filter_map}
+use Rattle.sdd_order.proofs.Members.{Contains-from_map, Contains-from_filter_map}
 use Rattle.sdd_laws.specs.Conditions.{conditions_of}
 
 -- the time of a condition for fragments

@@ -6,6 +6,7 @@ pub mod Joined
 pub mod Lists
 pub mod Matching
 pub mod Places
+pub mod Queues
 pub mod Receives
 pub mod Rises
 pub mod Rounds

@@ -1,4 +1,5 @@
 pub mod Links
+pub mod Mailboxes
 pub mod Nets
 pub mod Parts
 pub mod Sound

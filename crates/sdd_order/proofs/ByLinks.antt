@@ -19,14 +19,14 @@ use Rattle.sdd_order.specs.Numbers.{UseExists, IsClass}
 use Rattle.sdd_order.specs.Orders.{IsOrderable}
 use Rattle.sdd_order.specs.Precedence.{precedes}
 use Rattle.sdd_order.specs.SerialOrder.{in_order, serial_order}
-use Rattle.sdd_topological.specs.Paths.{IsPath}
-use Rattle.sdd_topological.specs.Taken.{taken}
-use Rattle.sdd_topological.specs.Taking.{Links, has_link, nodes, order_of}
-use Rattle.sdd_topological.proofs.Alike.{taken_by_members, taken-map, taken_by_links}
-use Rattle.sdd_topological.proofs.Ascending.{from_range}
-use Rattle.sdd_topological.proofs.Members.{All-members, Contains-range, member_passes, passes_member}
-use Rattle.sdd_topological.proofs.Paths.{path_as}
-use Rattle.sdd_topological.proofs.Taken.{taken_is}
+use Rattle.sdd_order.specs.Paths.{IsPath}
+use Rattle.sdd_order.specs.Taken.{taken}
+use Rattle.sdd_order.specs.Taking.{Links, has_link, nodes, order_of}
+use Rattle.sdd_order.proofs.Alike.{taken_by_members, taken-map, taken_by_links}
+use Rattle.sdd_order.proofs.Ascending.{from_range}
+use Rattle.sdd_order.proofs.Members.{All-members, Contains-range, member_passes, passes_member}
+use Rattle.sdd_order.proofs.Paths.{path_as}
+use Rattle.sdd_order.proofs.Taken.{taken_is}
 use Rattle.sdd_order.proofs.EachLink.{class_exists, uses_exist, link_precedes}
 use Rattle.sdd_order.proofs.EachPrecedence.{precedence_linked}
 use Rattle.sdd_order.proofs.Implied.{AreInOrder}

@@ -21,10 +21,10 @@ use Rattle.sdd_order.specs.Numbers.{ExistsIn, UseExists, ChangeExists, IsClass, 
 use Rattle.sdd_order.specs.Orders.{IsOrderable}
 use Rattle.sdd_order.specs.Places.{Stands}
 use Rattle.sdd_order.specs.Precedence.{module_of, was_seen}
-use Rattle.sdd_topological.specs.Groups.{Groups, group, groups, chains}
-use Rattle.sdd_topological.proofs.Chained.{from_group, chains_are}
-use Rattle.sdd_topological.proofs.Grouped.{group_at}
-use Rattle.sdd_topological.proofs.Members.{Contains-from_flat_map, Contains-from_map, member_passes}
+use Rattle.sdd_order.specs.Groups.{Groups, group, groups, chains}
+use Rattle.sdd_order.proofs.Chained.{from_group, chains_are}
+use Rattle.sdd_order.proofs.Grouped.{group_at}
+use Rattle.sdd_order.proofs.Members.{Contains-from_flat_map, Contains-from_map, member_passes}
 use Rattle.sdd_order.proofs.Halves.{end_of_is}
 use Rattle.sdd_order.proofs.Implied.{overwrites, goes_before, reads_from, misses_it, by_class_order, by_writing, by_missing, by_reading, AreInOrder, Precedence, other_time, other_changes, seen_is}
 use Rattle.sdd_order.proofs.Nodes.{at_enumerated, from_class, from_fragment, classes_rise, fragments_rise}

@@ -16,11 +16,11 @@ use Rattle.sdd_order.specs.Linked.{by_class, by_fragment, has_seen, links_at, fr
 use Rattle.sdd_order.specs.Numbers.{IsFragment}
 use Rattle.sdd_order.specs.Orders.{IsOrderable}
 use Rattle.sdd_order.specs.Precedence.{module_of, was_seen, is_earlier, is_overwritten, misses, is_read_by, precedes, Precedes}
-use Rattle.sdd_topological.specs.Groups.{group, groups, chains}
-use Rattle.sdd_topological.specs.Taking.{Links}
-use Rattle.sdd_topological.proofs.Chained.{Rises, Linked, linked_by, in_group, group_rises, chains_link}
-use Rattle.sdd_topological.proofs.Members.{Contains-flat_map, passes_member, member_passes}
-use Rattle.sdd_topological.proofs.Paths.{path_join}
+use Rattle.sdd_order.specs.Groups.{group, groups, chains}
+use Rattle.sdd_order.specs.Taking.{Links}
+use Rattle.sdd_order.proofs.Chained.{Rises, Linked, linked_by, in_group, group_rises, chains_link}
+use Rattle.sdd_order.proofs.Members.{Contains-flat_map, passes_member, member_passes}
+use Rattle.sdd_order.proofs.Paths.{path_join}
 use Rattle.sdd_order.proofs.Before.{or_cases}
 use Rattle.sdd_order.proofs.EachLink.{class_exists, read_exists, change_exists, writers_of, writers_are, Writer, writer_at, seen_by}
 use Rattle.sdd_order.proofs.Halves.{end_of_is}

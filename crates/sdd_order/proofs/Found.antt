@@ -10,7 +10,7 @@ use Rattle.sdd_history.specs.declared.record.Rec.TheVariants.{Submit, Start, Arr
 use Rattle.sdd_history.specs.Records.{History}
 use Rattle.sdd_order.specs.Attempts.{Attempt, Committed, IsAttempt, IsCommitted, attempt_of, attempts, is_attempt_of, committed_of, committed}
 use Rattle.sdd_order.specs.Places.{Stands, placed}
-use Rattle.sdd_topological.proofs.Members.{Contains-filter_map, Contains-from_filter_map}
+use Rattle.sdd_order.proofs.Members.{Contains-filter_map, Contains-from_filter_map}
 use Rattle.sdd_order.proofs.Places.{same_start, one_attempt}
 
 -- each record is there with its place

@@ -16,10 +16,10 @@ use Rattle.sdd_order.specs.Finding.{AreMarks, pair_cmp, triple_cmp, is_below, la
 use Rattle.sdd_order.specs.Linked.{by_class, by_fragment, end_of, has_seen, links_at, fragment_links, read_links, links}
 use Rattle.sdd_order.specs.Orders.{IsOrderable}
 use Rattle.sdd_order.specs.Precedence.{module_of, is_apply, is_answer, was_seen, is_earlier, is_overwritten, misses, is_read_by, precedes}
-use Rattle.sdd_topological.specs.Groups.{group, groups}
-use Rattle.sdd_topological.proofs.Chained.{from_group, chains_are}
-use Rattle.sdd_topological.proofs.Grouped.{group_at}
-use Rattle.sdd_topological.proofs.Members.{Contains-from_flat_map, passes_member, member_passes}
+use Rattle.sdd_order.specs.Groups.{group, groups}
+use Rattle.sdd_order.proofs.Chained.{from_group, chains_are}
+use Rattle.sdd_order.proofs.Grouped.{group_at}
+use Rattle.sdd_order.proofs.Members.{Contains-from_flat_map, passes_member, member_passes}
 use Rattle.sdd_order.proofs.Before.{or_left, or_right}
 use Rattle.sdd_order.proofs.Firsts.{comes_before_is}
 use Rattle.sdd_order.proofs.Halves.{end_of_is}

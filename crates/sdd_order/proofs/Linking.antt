@@ -14,7 +14,7 @@ use Rattle.sdd_order.specs.Attempts.{Committed, changes}
 use Rattle.sdd_order.specs.declared.seen.Marks.{Marks}
 use Rattle.sdd_order.specs.Linked.{end_of, has_seen, links_at, fragment_links}
 use Rattle.sdd_order.specs.Precedence.{module_of}
-use Rattle.sdd_topological.specs.Groups.{Groups}
+use Rattle.sdd_order.specs.Groups.{Groups}
 
 -- a module that may not be there
 pub number_or : (o : Option DmNo) → (unwrap_or o (dm_no 0)).0 ≡ unwrap_or (option_map (λ d. d.0) o) 0

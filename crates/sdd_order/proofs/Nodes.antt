@@ -9,8 +9,8 @@ use Rattle.sdd_base.proofs.Membership.{Contains-nil, Contains-here, Contains-lat
 use Rattle.sdd_base.specs.declared.change.Change.{Change}
 use Rattle.sdd_order.specs.Attempts.{Committed, changes}
 use Rattle.sdd_order.specs.Linked.{by_class, by_fragment}
-use Rattle.sdd_topological.proofs.Chained.{NumbersRise}
-use Rattle.sdd_topological.proofs.Members.{Contains-map, Contains-from_map, Contains-flat_map, Contains-from_flat_map, passes_member, member_passes}
+use Rattle.sdd_order.proofs.Chained.{NumbersRise}
+use Rattle.sdd_order.proofs.Members.{Contains-map, Contains-from_map, Contains-flat_map, Contains-from_flat_map, passes_member, member_passes}
 
 -- each item with its place
 

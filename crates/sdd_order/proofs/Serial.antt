@@ -12,10 +12,10 @@ use Rattle.sdd_order.specs.Orders.{IsFirst, IsAlong, IsSerial, IsOrderable}
 use Rattle.sdd_order.specs.Precedence.{precedes, Precedes}
 use Rattle.sdd_order.specs.SerialOrder.{in_order, serial_order}
 use Rattle.sdd_order.proofs.Found.{from_committed, in_committed}
-use Rattle.sdd_topological.proofs.Members.{Contains-map, Contains-from_map}
+use Rattle.sdd_order.proofs.Members.{Contains-map, Contains-from_map}
 use Rattle.sdd_order.proofs.Places.{same_start, one_of_txn}
-use Rattle.sdd_topological.proofs.Ready.{ready_for}
-use Rattle.sdd_topological.proofs.Taken.{Differ, taken_is, taken_whole, IsAlongBy, taken_along}
+use Rattle.sdd_order.proofs.Ready.{ready_for}
+use Rattle.sdd_order.proofs.Taken.{Differ, taken_is, taken_whole, IsAlongBy, taken_along}
 
 abbrev pub time_of : Committed → ℕ
 time_of t = t.start.ts

@@ -9,7 +9,7 @@ use Rattle.sdd_order.specs.Attempts.{Committed, changes}
 use Rattle.sdd_order.specs.declared.seen.Marks.{Marks}
 use Rattle.sdd_order.specs.Finding.{sees}
 use Rattle.sdd_order.specs.Precedence.{module_of}
-use Rattle.sdd_topological.specs.Groups.{Groups, groups, chains}
+use Rattle.sdd_order.specs.Groups.{Groups, groups, chains}
 
 -- The transactions are numbered by their places in a list.
 

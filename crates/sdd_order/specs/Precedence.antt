@@ -7,7 +7,7 @@ use Rattle.sdd_history.specs.declared.record.Rec.TheVariants.{Answer, Apply}
 use Rattle.sdd_history.specs.Records.{History}
 use Rattle.sdd_lang.specs.Classes.{fragments_in}
 use Rattle.sdd_order.specs.Attempts.{Attempt, Committed, IsCommitted, reads, changes}
-use Rattle.sdd_topological.specs.Paths.{IsOrderly}
+use Rattle.sdd_order.specs.Paths.{IsOrderly}
 use Rattle.sdd_order.specs.Places.{comes_before}
 
 -- the module at which a class reads a fragment

@@ -6,7 +6,7 @@ use Rattle.sdd_base.specs.declared.number.TxnNo.{TxnNo}
 use Rattle.sdd_catalog.specs.Catalogue.{Catalogue}
 use Rattle.sdd_history.specs.Records.{History}
 use Rattle.sdd_order.specs.Attempts.{Committed, committed}
-use Rattle.sdd_topological.specs.Taken.{taken}
+use Rattle.sdd_order.specs.Taken.{taken}
 use Rattle.sdd_order.specs.Precedence.{precedes}
 
 abbrev pub in_order : Catalogue → History → List Committed

@@ -6,10 +6,15 @@
 #![tactic(auto)]
 
 mod attempts;
+mod chain;
+mod groups;
 mod links;
 mod order;
 mod reads;
 mod seen;
+mod taking;
 
 pub use attempts::{Attempt, Committed};
+pub use groups::Groups;
 pub use order::serial_order;
+pub use taking::order_of;

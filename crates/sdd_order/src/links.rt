@@ -9,7 +9,7 @@ use crate::reads::link_uses;
 use crate::seen::Marks;
 use sdd_base::{Change, NoMemory};
 use sdd_catalog::Catalogue;
-use sdd_topological::Groups;
+use crate::groups::Groups;
 use std::alloc::Global;
 
 /// The links between transactions, which are numbered by their places: from each to the next of

@@ -12,7 +12,7 @@ use crate::seen::Marks;
 use sdd_base::{NoMemory, TxnNo};
 use sdd_catalog::Catalogue;
 use sdd_history::Rec;
-use sdd_topological::order_of;
+use crate::taking::order_of;
 use std::alloc::Global;
 
 /// The serial order of what was committed: again and again the transaction with the least

@@ -9,7 +9,7 @@ use crate::attempts::Committed;
 use crate::seen::Marks;
 use sdd_base::{Change, DmNo, FragNo, NoMemory, Use};
 use sdd_catalog::Catalogue;
-use sdd_topological::Groups;
+use crate::groups::Groups;
 
 /// Adds the links of one reader for the fragments of its uses.
 pub fn link_uses(

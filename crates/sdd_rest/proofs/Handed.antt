@@ -24,7 +24,7 @@ use Rattle.sdd_invariants.proofs.Split.{le_is}
 use Rattle.sdd_invariants.specs.Traffic.{hands_from, puts_to}
 use Rattle.sdd_facts.proofs.OfNext.{IsThere, site_there}
 use Rattle.sdd_facts.specs.Stages.{flight}
-use Rattle.sdd_step.proofs.FirstHand.{one_on}
+use Rattle.sdd_log.proofs.FirstHand.{one_on}
 use Rattle.sdd_rest.proofs.Lists.{none_at}
 use Rattle.sdd_rest.specs.Quiet.{IsQuiet}
 

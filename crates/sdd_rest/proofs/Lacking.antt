@@ -57,7 +57,7 @@ use Rattle.sdd_rest.proofs.Going.{is_going}
 use Rattle.sdd_rest.proofs.Handed.{none_in_flight}
 use Rattle.sdd_rest.proofs.Lists.{either, head_at, no_head, none_at}
 use Rattle.sdd_rest.proofs.Still.{d_still, exchange_none, home_linked}
-use Rattle.sdd_step.proofs.Ticking.{or_none}
+use Rattle.sdd_log.proofs.Ticking.{or_none}
 use Rattle.sdd_rest.specs.Asked.{IsUnanswered}
 use Rattle.sdd_rest.specs.Going.{AllAskParts, AllHaveParts, HasParts, IsGoing}
 use Rattle.sdd_rest.specs.Quiet.{IsQuiet, at_home, at_module}

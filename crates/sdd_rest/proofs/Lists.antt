@@ -3,7 +3,7 @@ use Rattle.std.specs.List.{list_all}
 use Rattle.std.proofs.Common.{ℕ, ◌&&◌, ◌||◌, ◌∷◌, ◌≡◌, ◌⊎◌, Bool, List, None, Option, Some, [], cond, false, filter, if◌then◌else◌, inl, inr, refl, slice_get, subst, suc, sym, true, zero}
 use Rattle.sdd_base.specs.Words.{first_some, head_of}
 use Rattle.sdd_invariants.proofs.Bools.{both}
-use Rattle.sdd_step.proofs.Ticking.{or_none}
+use Rattle.sdd_log.proofs.Ticking.{or_none}
 
 pub either : (a b : Bool) → (a || b) ≡ true → (a ≡ true) ⊎ (b ≡ true)
 either true b e = inl refl

@@ -42,12 +42,12 @@ use Rattle.sdd_invariants.proofs.Recorded.{start_of_active}
 use Rattle.sdd_invariants.proofs.Undeclared.{part_of, permitted_part, read_classes}
 use Rattle.sdd_invariants.specs.Seen.{all_of}
 use Rattle.sdd_invariants.specs.Steps.{bound, home}
-use Rattle.sdd_quiet.proofs.Descent.{none_waits}
-use Rattle.sdd_quiet.proofs.Listed.{diagonals_listed}
-use Rattle.sdd_quiet.proofs.TableFits.{table_fits}
-use Rattle.sdd_quiet.specs.WaitGraph.{Fits, WaitGraph}
-use Rattle.sdd_quiet.specs.WaitGraphs.{HasDiagonal, wait_graph, wait_protocol}
-use Rattle.sdd_quiet.specs.Waiting.{IsStamped, IsTimestamp, WaitingRead, WaitsOn, holder, reader, wait_time}
+use Rattle.sdd_waiting.proofs.Descent.{none_waits}
+use Rattle.sdd_waiting.proofs.Listed.{diagonals_listed}
+use Rattle.sdd_waiting.proofs.TableFits.{table_fits}
+use Rattle.sdd_waiting.specs.WaitGraph.{Fits, WaitGraph}
+use Rattle.sdd_waiting.specs.WaitGraphs.{HasDiagonal, wait_graph, wait_protocol}
+use Rattle.sdd_waiting.specs.WaitingReads.{IsStamped, IsTimestamp, WaitingRead, WaitsOn, holder, reader, wait_time}
 use Rattle.sdd_upheld.proofs.Homes.{home_small}
 use Rattle.sdd_waiting.proofs.FromTable.{conditions_at_put}
 use Rattle.sdd_waiting.proofs.StuckHeads.{head_stuck}

@@ -10,9 +10,9 @@ use Rattle.sdd_log.specs.Permitted.{AreSubmittedOnce}
 use Rattle.sdd_log.specs.Traffic.{all_links, calls_of, is_down}
 use Rattle.sdd_log.proofs.NewMarks.{lawful_permitted}
 use Rattle.sdd_settling.proofs.Settled.{quiet_at_last}
-use Rattle.sdd_step.proofs.Completing.{complete_parts}
-use Rattle.sdd_step.proofs.FirstHand.{none_to_hand}
-use Rattle.sdd_step.specs.Resting.{Rests}
+use Rattle.sdd_log.proofs.Completing.{complete_parts}
+use Rattle.sdd_log.proofs.FirstHand.{none_to_hand}
+use Rattle.sdd_log.specs.Resting.{Rests}
 use Rattle.sdd_upheld.proofs.Numbered.{lawful_numbered}
 use Rattle.sdd_upheld.specs.Given.{SubmitGiven}
 use Rattle.sdd_rest.proofs.Committed.{all_committed}

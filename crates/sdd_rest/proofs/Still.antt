@@ -30,7 +30,7 @@ use Rattle.sdd_invariants.specs.Steps.{home}
 use Rattle.sdd_facts.proofs.HoldsFit.{at_place}
 use Rattle.sdd_facts.proofs.OfNext.{site_there}
 use Rattle.sdd_upheld.proofs.Homes.{positive, served}
-use Rattle.sdd_step.proofs.Ticking.{or_none}
+use Rattle.sdd_log.proofs.Ticking.{or_none}
 use Rattle.sdd_rest.proofs.Lists.{kept_there, none_at}
 use Rattle.sdd_rest.specs.Quiet.{IsQuiet, at_home, at_module}
 

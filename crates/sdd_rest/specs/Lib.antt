@@ -2,9 +2,12 @@ pub mod Asked
 pub mod Committed
 pub mod Eras
 pub mod Examples
+pub mod Few
 pub mod Finished
 pub mod Going
 pub mod Premises
 pub mod Quiet
+pub mod Rejects
 pub mod Settled
+pub mod Timely
 pub mod Waiting

@@ -26,7 +26,7 @@ ghost use Rattle.sdd_log.specs.Lawful.{IsLawful};
 ghost use Rattle.sdd_log.specs.Locals.{local_of, redeclares, setting_of};
 ghost use Rattle.sdd_log.specs.Permitted.{AreSubmittedOnce};
 ghost use Rattle.sdd_log.specs.Traffic.{all_links, calls_of, is_down};
-ghost use Rattle.sdd_step.specs.Resting.{Rests};
+ghost use Rattle.sdd_log.specs.Resting.{Rests};
 ghost use Rattle.sdd_upheld.specs.Given.{AreErasOf, AreNumbered, HasSoundData, SubmitGiven};
 ghost use Rattle.sdd_rest.specs.Committed.{AllCommitted, IsNotLeft, WasCommitted};
 ghost use Rattle.sdd_rest.specs.Eras.{eras_of};

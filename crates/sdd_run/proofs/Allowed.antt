@@ -12,7 +12,7 @@ use Rattle.sdd_catalog.specs.Catalogue.{Catalogue}
 use Rattle.sdd_net.specs.Nets.{is_site, is_link}
 use Rattle.sdd_script.specs.Valid.{IsLink, IsSite, IsValidEvent}
 use Rattle.sdd_log.specs.Entries.{Given, with_event}
-use Rattle.sdd_step.specs.Resting.{IsPossible}
+use Rattle.sdd_log.specs.Resting.{IsPossible}
 use Rattle.sdd_facts.specs.Real.{IsGood}
 use Rattle.sdd_facts.specs.AfterEvents.{redeclares_in}
 use Rattle.sdd_facts.proofs.Done.{count_join}

@@ -18,8 +18,8 @@ use Rattle.sdd_log.specs.Marks.{after_mark, from_event, left, mark_from, mark_of
 use Rattle.sdd_log.specs.Snapshots.{base_of}
 use Rattle.sdd_log.specs.Traffic.{all_links, calls_of, handed, link_of, takes_part}
 use Rattle.sdd_log.proofs.Steps.{none_any_base}
-use Rattle.sdd_step.proofs.Completing.{complete_parts, none_left}
-use Rattle.sdd_step.proofs.Ticking.{first_none, none_by_redeclare}
+use Rattle.sdd_log.proofs.Completing.{complete_parts, none_left}
+use Rattle.sdd_log.proofs.Ticking.{first_none, none_by_redeclare}
 use Rattle.sdd_settling.proofs.Marked.{next_is_of_events}
 use Rattle.sdd_settling.proofs.Settled.{quiet_at_last}
 use Rattle.sdd_rest.proofs.IdleAtRedeclares.{at_redeclare}

@@ -25,7 +25,7 @@ use Rattle.sdd_laws.specs.Eras.{Eras}
 use Rattle.sdd_laws.specs.Starts.{KeepsStarts}
 use Rattle.sdd_order.specs.Attempts.{Attempt, IsAttempt}
 use Rattle.sdd_order.specs.Places.{Stands}
-use Rattle.sdd_rejections.proofs.Writers.{one_class}
+use Rattle.sdd_rest.proofs.Writers.{one_class}
 use Rattle.sdd_upheld.proofs.Answered.{read_of_some}
 use Rattle.sdd_upheld.proofs.Applied.{IsDataIn, data_in}
 use Rattle.sdd_waiting.proofs.FreeClasses.{never_rejected, never_waits}

@@ -14,7 +14,7 @@ use Rattle.sdd_net.specs.Nets.{is_site}
 use Rattle.sdd_log.specs.Due.{home_of}
 use Rattle.sdd_log.specs.Entries.{Given, Log}
 use Rattle.sdd_log.specs.Locals.{force_at, redeclares, txn_at}
-use Rattle.sdd_step.specs.Resting.{IsSiteOf}
+use Rattle.sdd_log.specs.Resting.{IsSiteOf}
 use Rattle.sdd_world.specs.Standing.{IsSound}
 use Rattle.sdd_run.specs.Pending.{last_home}
 

@@ -19,9 +19,9 @@ use Rattle.sdd_log.specs.Locals.{force_at, redeclares, txn_at}
 use Rattle.sdd_log.specs.Permitted.{IsPermitted}
 use Rattle.sdd_upheld.proofs.Places.{stands_there}
 use Rattle.sdd_upheld.proofs.Submissions.{given_at, one_submit, submit_in}
-use Rattle.sdd_succession.proofs.AtRest.{commit_there, rest}
-use Rattle.sdd_succession.proofs.Fronts.{history_le, redeclare_between, stands_front}
-use Rattle.sdd_succession.proofs.Known.{Known}
+use Rattle.sdd_rest.proofs.AtRest.{commit_there, rest}
+use Rattle.sdd_rest.proofs.Fronts.{history_le, redeclare_between, stands_front}
+use Rattle.sdd_rest.proofs.Known.{Known}
 use Rattle.sdd_run.specs.Pending.{AreAtLastHomes, Homes, Telling, commits, last_home, pending_as, pending_at, pending_by, pending_of, reason_of, stands_at, submitted_at, why_of}
 use Rattle.sdd_run.proofs.Lossless.{commits_it}
 

@@ -15,7 +15,7 @@ use Rattle.sdd_base.specs.declared.site.Site.TheVariants.{U, D}
 use Rattle.sdd_catalog.specs.Catalogue.{Catalogue, has_copy, numbers_to}
 use Rattle.sdd_catalog.specs.Rules.{IsSound}
 use Rattle.sdd_catalog.proofs.Found.{map-map}
-use Rattle.sdd_contents.proofs.Members.{Contains-from_filter, Contains-from_flat_map, Contains-from_map}
+use Rattle.sdd_laws.proofs.Members.{Contains-from_filter, Contains-from_flat_map, Contains-from_map}
 use Rattle.sdd_copy.specs.Contents.{Dated, contents}
 use Rattle.sdd_dm.specs.Copies.{dated}
 use Rattle.sdd_history.specs.Records.{History}

@@ -10,7 +10,7 @@ use Rattle.sdd_log.proofs.NewMarks.{lawful_permitted}
 use Rattle.sdd_log.specs.Entries.{Given, Log}
 use Rattle.sdd_log.specs.Lawful.{IsLawful}
 use Rattle.sdd_protocol.specs.declared.entry.Entry.{Entry}
-use Rattle.sdd_rejections.proofs.OfLogs.{few_in_limit}
+use Rattle.sdd_rest.proofs.OfLogs.{few_in_limit}
 use Rattle.sdd_rest.proofs.ErasOf.{are_eras_of}
 use Rattle.sdd_rest.specs.Eras.{eras_of}
 use Rattle.sdd_run.proofs.FreeAnswered.{lawful_end}

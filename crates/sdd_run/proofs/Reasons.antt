@@ -10,7 +10,7 @@ use Rattle.sdd_catalog.specs.Catalogue.{Catalogue, numbers_to}
 use Rattle.sdd_history.specs.Records.{History}
 use Rattle.sdd_history.specs.declared.record.Rec.{Rec}
 use Rattle.sdd_history.specs.declared.record.Rec.TheVariants.{Submit}
-use Rattle.sdd_contents.proofs.Members.{Contains-from_filter_map}
+use Rattle.sdd_laws.proofs.Members.{Contains-from_filter_map}
 use Rattle.sdd_order.specs.Numbers.{IsModule}
 use Rattle.sdd_attempt.specs.declared.standing.Standing.{Standing}
 use Rattle.sdd_attempt.specs.declared.standing.Standing.TheVariants as standings

@@ -8,7 +8,7 @@ use Rattle.sdd_catalog.specs.Catalogue.{Catalogue, has_copy, numbers_to}
 use Rattle.sdd_catalog.specs.Rules.{IsSound}
 use Rattle.sdd_history.specs.Records.{History}
 use Rattle.sdd_history.specs.declared.record.Rec.TheVariants.{Commit}
-use Rattle.sdd_contents.proofs.Members.{Contains-from_filter, Contains-from_flat_map, Contains-from_map}
+use Rattle.sdd_laws.proofs.Members.{Contains-from_filter, Contains-from_flat_map, Contains-from_map}
 use Rattle.sdd_dm.specs.Copies.{dated}
 use Rattle.sdd_laws.specs.Deeds.{IsSubmitted}
 use Rattle.sdd_laws.specs.Replay.{AreAllApplied}

@@ -63,7 +63,7 @@ use Rattle.sdd_rest.proofs.Lists.{all_true, either, if_none, none_at}
 use Rattle.sdd_rest.proofs.NoRejects.{all_served}
 use Rattle.sdd_rest.proofs.Still.{run_at, runs_place, t_site}
 use Rattle.sdd_rest.specs.Quiet.{at_home}
-use Rattle.sdd_step.proofs.Ticking.{or_none}
+use Rattle.sdd_log.proofs.Ticking.{or_none}
 use Rattle.sdd_upheld.proofs.Homes.{positive}
 use Rattle.sdd_world.specs.AtSites.{standing_at}
 use Rattle.sdd_world.specs.Standings.{standing_at_t, standing_at_u}

@@ -16,7 +16,7 @@ use Rattle.sdd_protocol.specs.declared.entry.Entry.{Entry}
 use Rattle.sdd_script.specs.Redeclaring as script
 use Rattle.sdd_script.specs.Valid.{IsValid}
 use Rattle.sdd_script.specs.declared.workload.Workload.{Workload}
-use Rattle.sdd_succession.specs.Timely.{AreTimely}
+use Rattle.sdd_rest.specs.Timely.{AreTimely}
 use Rattle.sdd_run.specs.Runs.{AreTables, given_of}
 use Rattle.sdd_run.proofs.Forces.{how_many}
 use Rattle.sdd_run.proofs.Whole.{same_dms}

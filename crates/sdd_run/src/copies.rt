@@ -5,7 +5,7 @@ ghost use Rattle.sdd_catalog.specs.Catalogue.{has_copy};
 ghost use Rattle.sdd_copy.specs.Contents.{Dated, contents};
 ghost use Rattle.sdd_copy.specs.Copies.{is_here, StandFor};
 ghost use Rattle.sdd_log.specs.Entries.{Given, Log};
-ghost use Rattle.sdd_step.specs.Resting.{IsSiteOf};
+ghost use Rattle.sdd_log.specs.Resting.{IsSiteOf};
 ghost use Rattle.sdd_run.specs.Copies.{table_of, tables_in, tables_at, tables_of};
 ghost use Rattle.sdd_run.specs.Worlds.{StandsOn};
 

@@ -2,7 +2,7 @@
 ghost use Rattle.std.specs.Prelude.{◌≡◌, ◌≤◌, ◌++◌, ◌∷◌, [], ℕ, filter_map, length, IfOk, OnOk};
 ghost use Rattle.sdd_base.specs.declared.site.Site.TheVariants.{D};
 ghost use Rattle.sdd_log.specs.Entries.{Given, Log};
-ghost use Rattle.sdd_step.specs.Resting.{IsSiteOf};
+ghost use Rattle.sdd_log.specs.Resting.{IsSiteOf};
 ghost use Rattle.sdd_world.specs.Standing.{StandsFor};
 ghost use Rattle.sdd_run.specs.Pending.{last_home, reason_of, wait_at, waits_of, why_of};
 ghost use Rattle.sdd_run.specs.Worlds.{StandsOn};

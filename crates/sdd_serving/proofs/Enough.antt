@@ -27,7 +27,7 @@ use Rattle.sdd_serving.proofs.Keeps.{Leads, HoldEnough, HoldEnoughAlong, HasPart
 use Rattle.sdd_serving.proofs.Uses.{one_use, HasPart, parts_there}
 use Rattle.sdd_lang.proofs.Sources.{length-statement_uses}
 use Rattle.sdd_lang.specs.Uses.{uses_of}
-use Rattle.sdd_space.specs.Frozen.{all_rows}
+use Rattle.sdd_copy.specs.Frozen.{all_rows}
 
 -- what is held at first: rows of the database for the uses of the transaction, and each row that a use wants somewhere
 pub record Begins (cat : Catalogue) (txn : Txn) (db : Database) (ds : List ℕ) (first : Space) : Type 0 where

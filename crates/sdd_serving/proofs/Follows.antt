@@ -18,7 +18,7 @@ use Rattle.sdd_exec.specs.Choices.{Has}
 use Rattle.sdd_exec.proofs.Members.{Has-append, Has-map, Has-filter_from, Has-filter_map}
 use Rattle.sdd_semijoin.specs.declared.step.Step.{Step}
 use Rattle.sdd_semijoin.specs.Steps.{Move, moves, rows_at, is_candidate, better, fewest, next_move}
-use Rattle.sdd_space.specs.Frozen.{reduced}
+use Rattle.sdd_copy.specs.Frozen.{reduced}
 use Rattle.sdd_wire.specs.declared.msg.Msg.{Msg}
 use Rattle.sdd_wire.specs.declared.msg.Msg.TheVariants.{Ready, Values, Reduced, Rows}
 use Rattle.sdd_attempt.specs.Acts.{read_to}

@@ -31,12 +31,12 @@ use Rattle.sdd_lang.proofs.SortedEntries.{item_cmp_total, item_cmp_exact, sorted
 use Rattle.sdd_exec.specs.Choices.{Has}
 use Rattle.sdd_exec.specs.Serves.{IsRowOf}
 use Rattle.sdd_exec.proofs.Members.{Has-append, Has-map, Has-map_from, Has-filter, Has-filter_from, Has-flat_map, Has-flat_map_from, Has-filter_map, Has-filter_map_from}
-use Rattle.sdd_space.specs.Frozen.{CopyRows, chosen, with_keyed, rows_for, all_rows}
+use Rattle.sdd_copy.specs.Frozen.{CopyRows, chosen, with_keyed, rows_for, all_rows}
 use Rattle.sdd_attempt.specs.Acts.{with_frags, use_there}
-use Rattle.sdd_contents.specs.Committed.{entries_of}
-use Rattle.sdd_contents.proofs.Gathered.{gathered_from, gathered_there}
-use Rattle.sdd_contents.proofs.LookUps.{one_entry}
-use Rattle.sdd_contents.proofs.Members.{Contains-map, Contains-from_map, Contains-filter, Contains-from_filter}
+use Rattle.sdd_laws.specs.Committed.{entries_of}
+use Rattle.sdd_laws.proofs.Gathered.{gathered_from, gathered_there}
+use Rattle.sdd_laws.proofs.LookUps.{one_entry}
+use Rattle.sdd_laws.proofs.Members.{Contains-map, Contains-from_map, Contains-filter, Contains-from_filter}
 use Rattle.sdd_serving.specs.Freezing.{uses_at, frozen_space, HasCopies}
 use Rattle.sdd_serving.specs.Reducing.{IsHeldAt}
 use Rattle.sdd_serving.proofs.Enough.{Begins}

@@ -9,7 +9,7 @@ use Rattle.sdd_lang.specs.Database.{Row}
 use Rattle.sdd_exec.specs.Choices.{Has}
 use Rattle.sdd_exec.specs.Snapshots.{rows_for}
 use Rattle.sdd_exec.proofs.Members.{Has-map, Has-map_from, Has-filter, Has-filter_from, Has-flat_map, Has-flat_map_from, Has-filter_map, Has-filter_map_from}
-use Rattle.sdd_space.specs.Frozen.{Frozen, reduced, is_among, all_rows}
+use Rattle.sdd_copy.specs.Frozen.{Frozen, reduced, is_among, all_rows}
 use Rattle.sdd_serving.specs.Reducing.{Space, IsHeldAt, all_held}
 
 -- the rows of a use, as they are kept

@@ -20,7 +20,7 @@ use Rattle.sdd_lang.specs.Uses.{restrictions_of}
 use Rattle.sdd_exec.specs.Serves.{IsRowOf}
 use Rattle.sdd_exec.specs.Choices.{Has}
 use Rattle.sdd_semijoin.specs.Steps.{Move}
-use Rattle.sdd_space.specs.Frozen.{all_rows, reduced, is_among}
+use Rattle.sdd_copy.specs.Frozen.{all_rows, reduced, is_among}
 use Rattle.sdd_attempt.specs.Exchange.{use_at}
 use Rattle.sdd_serving.specs.Reducing.{Space, IsHeldAt, IsMoveOf, IsMoveAlong}
 use Rattle.sdd_serving.proofs.Held.{reduced_from, stays_held}

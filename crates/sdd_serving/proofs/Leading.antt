@@ -7,7 +7,7 @@ use Rattle.sdd_lang.specs.declared.statement.Stmt.{Stmt}
 use Rattle.sdd_lang.specs.Database.{Row}
 use Rattle.sdd_exec.specs.Choices.{Has}
 use Rattle.sdd_exec.proofs.Members.{Has-filter}
-use Rattle.sdd_space.specs.Frozen.{all_rows, is_among}
+use Rattle.sdd_copy.specs.Frozen.{all_rows, is_among}
 use Rattle.sdd_serving.specs.Reducing.{Space, IsHeldAt, IsMoveAlong}
 use Rattle.sdd_serving.specs.Runs.{Stage, Runs, may_reduce}
 use Rattle.sdd_serving.specs.Runs.Stage.{Resting, Telling, Reducing}

@@ -14,7 +14,7 @@ use Rattle.sdd_exec.specs.Serves.{Serves}
 use Rattle.sdd_exec.specs.Snapshots.{found_for, chosen_for}
 use Rattle.sdd_exec.proofs.Members.{Has-map_from}
 use Rattle.sdd_exec.proofs.Serving.{served_effect}
-use Rattle.sdd_space.specs.Frozen.{CopyRows, rows_for, all_rows}
+use Rattle.sdd_copy.specs.Frozen.{CopyRows, rows_for, all_rows}
 use Rattle.sdd_serving.specs.Freezing.{uses_at, names_use, asked_at, frozen_space, HasCopies}
 use Rattle.sdd_serving.specs.Reducing.{Space, all_held}
 use Rattle.sdd_serving.specs.Runs.{Stage, Runs}

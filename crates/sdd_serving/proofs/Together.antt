@@ -16,10 +16,10 @@ use Rattle.sdd_lang.specs.Uses.{uses_of}
 use Rattle.sdd_lang.proofs.SortedEntries.{sorted_nil}
 use Rattle.sdd_copy.specs.Contents.{Dated, contents}
 use Rattle.sdd_exec.specs.Choices.{Has}
-use Rattle.sdd_contents.specs.Committed.{entries_of}
-use Rattle.sdd_contents.specs.Values.{ArePlaced}
-use Rattle.sdd_contents.proofs.CopyEntries.{entries_ascend, lies_there}
-use Rattle.sdd_contents.proofs.Together.{together, has_copy}
+use Rattle.sdd_laws.specs.Committed.{entries_of}
+use Rattle.sdd_laws.specs.Values.{ArePlaced}
+use Rattle.sdd_laws.proofs.CopyEntries.{entries_ascend, lies_there}
+use Rattle.sdd_laws.proofs.Together.{together, has_copy}
 use Rattle.sdd_base.proofs.Membership.{Contains-nil}
 use Rattle.sdd_serving.specs.Freezing.{HasCopies}
 

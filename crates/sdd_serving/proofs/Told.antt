@@ -17,7 +17,7 @@ use Rattle.sdd_lang.specs.Database.{Row}
 use Rattle.sdd_lang.specs.Uses.{uses_of}
 use Rattle.sdd_exec.specs.Choices.{Has}
 use Rattle.sdd_exec.proofs.Members.{Has-map_from, Has-filter_map_from}
-use Rattle.sdd_space.specs.Frozen.{CopyRows, Frozen, or_nothing, rows_for, rows_of, reduced, is_among, values_in, all_rows}
+use Rattle.sdd_copy.specs.Frozen.{CopyRows, Frozen, or_nothing, rows_for, rows_of, reduced, is_among, values_in, all_rows}
 use Rattle.sdd_attempt.specs.Acts.{use_there}
 use Rattle.sdd_serving.specs.Freezing.{uses_at, frozen_space}
 use Rattle.sdd_serving.specs.Reducing.{TellsAll}

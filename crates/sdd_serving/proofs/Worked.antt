@@ -20,9 +20,9 @@ use Rattle.sdd_lang.specs.Sound.{IsDatabase, IsEntry}
 use Rattle.sdd_lang.specs.Uses.{uses_of}
 use Rattle.sdd_exec.specs.Choices.{Has}
 use Rattle.sdd_semijoin.specs.Steps.{Move}
-use Rattle.sdd_space.specs.Frozen.{CopyRows, reduced, rows_of, values_in}
-use Rattle.sdd_contents.specs.Committed.{entries_of}
-use Rattle.sdd_contents.proofs.LookUps.{sorted_nil, sorted_cons}
+use Rattle.sdd_copy.specs.Frozen.{CopyRows, reduced, rows_of, values_in}
+use Rattle.sdd_laws.specs.Committed.{entries_of}
+use Rattle.sdd_laws.proofs.LookUps.{sorted_nil, sorted_cons}
 use Rattle.sdd_serving.specs.Freezing.{asked_at, frozen_space, HasCopies}
 use Rattle.sdd_serving.specs.Reducing.{Space, move_by, all_held}
 use Rattle.sdd_serving.specs.Runs.{Stage, Runs}

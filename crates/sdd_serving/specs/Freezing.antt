@@ -11,9 +11,9 @@ use Rattle.sdd_lang.specs.Database.{Database}
 use Rattle.sdd_lang.specs.Sound.{IsDatabase}
 use Rattle.sdd_lang.specs.Uses.{uses_of}
 use Rattle.sdd_exec.specs.Choices.{Has}
-use Rattle.sdd_space.specs.Frozen.{CopyRows, frozen_for}
+use Rattle.sdd_copy.specs.Frozen.{CopyRows, frozen_for}
 use Rattle.sdd_attempt.specs.Acts.{use_there}
-use Rattle.sdd_contents.specs.Committed.{entries_of}
+use Rattle.sdd_laws.specs.Committed.{entries_of}
 use Rattle.sdd_serving.specs.Reducing.{Space}
 
 -- the uses in the READ of an attempt of class c to module d

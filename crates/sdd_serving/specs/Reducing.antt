@@ -11,7 +11,7 @@ use Rattle.sdd_lang.specs.Database.{Row}
 use Rattle.sdd_lang.specs.Source.{uses_in}
 use Rattle.sdd_exec.specs.Choices.{Has}
 use Rattle.sdd_exec.specs.Snapshots.{Shipped}
-use Rattle.sdd_space.specs.Frozen.{Frozen, all_rows, is_among}
+use Rattle.sdd_copy.specs.Frozen.{Frozen, all_rows, is_among}
 use Rattle.sdd_semijoin.specs.Steps.{Join, Move, moves, moves_by}
 use Rattle.sdd_attempt.specs.Exchange.{move_at}
 

@@ -6,7 +6,7 @@ use Rattle.sdd_base.specs.Words.{is_empty}
 use Rattle.sdd_base.specs.declared.value.Value.{Value}
 use Rattle.sdd_lang.specs.declared.statement.Stmt.{Stmt}
 use Rattle.sdd_exec.specs.Choices.{Has}
-use Rattle.sdd_space.specs.Frozen.{reduced}
+use Rattle.sdd_copy.specs.Frozen.{reduced}
 use Rattle.sdd_semijoin.specs.Steps.{Move}
 use Rattle.sdd_attempt.specs.Exchange.{without}
 use Rattle.sdd_serving.specs.Reducing.{Space, IsMoveAlong, TellsAll}

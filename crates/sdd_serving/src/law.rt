@@ -11,7 +11,7 @@ ghost use Rattle.sdd_lang.specs.Uses.{uses_of};
 ghost use Rattle.sdd_exec.specs.Choices.{Has};
 ghost use Rattle.sdd_exec.specs.Serves.{Serves};
 ghost use Rattle.sdd_exec.specs.Snapshots.{Shipped, found_for, chosen_for};
-ghost use Rattle.sdd_space.specs.Frozen.{CopyRows, reduced};
+ghost use Rattle.sdd_copy.specs.Frozen.{CopyRows, reduced};
 ghost use Rattle.sdd_semijoin.specs.Steps.{Move};
 ghost use Rattle.sdd_wire.specs.declared.msg.Msg as message;
 ghost use Rattle.sdd_attempt.specs.Acts.{read_to};

@@ -9,8 +9,8 @@ use Rattle.sdd_log.specs.Due.{next}
 use Rattle.sdd_log.specs.Entries.{Given, Log, Round}
 use Rattle.sdd_log.specs.Marks.{left, mark_from, mark_of}
 use Rattle.sdd_log.specs.Traffic.{all_links, calls_of}
-use Rattle.sdd_step.specs.Resting.{AtEach}
-use Rattle.sdd_step.proofs.Rounding.{each_of_round, no_events_quiet}
+use Rattle.sdd_log.specs.Resting.{AtEach}
+use Rattle.sdd_log.proofs.Rounding.{each_of_round, no_events_quiet}
 use Rattle.sdd_settling.specs.Rounds.{IsOfRound}
 use Rattle.sdd_settling.proofs.Marked.{next_is_of_events}
 

@@ -6,7 +6,7 @@ use Rattle.sdd_base.specs.declared.limits.TheConstants.{MAX_RUN_EVENTS}
 use Rattle.sdd_log.specs.Entries.{Does, Given, Hand, Log, Mark, Notes, Redeclares, Round, Submitted, marks}
 use Rattle.sdd_log.specs.Lawful.{IsLawful, IsTheLog, IsWithin}
 use Rattle.sdd_log.specs.Marks.{after_mark, left, mark_of}
-use Rattle.sdd_step.proofs.Completing.{complete_parts}
+use Rattle.sdd_log.proofs.Completing.{complete_parts}
 use Rattle.sdd_settling.specs.Rounds.{rounds}
 use Rattle.sdd_settling.proofs.Beginning.{round_begins}
 

@@ -9,7 +9,7 @@ use Rattle.sdd_log.specs.Entries.{Does, Entry, Given, Hand, Log, Mark, Notes, Re
 use Rattle.sdd_log.specs.Lawful.{IsLawful}
 use Rattle.sdd_log.specs.Marks.{after_mark, from_event, left, mark_from, mark_of}
 use Rattle.sdd_log.specs.Traffic.{all_links, calls_of}
-use Rattle.sdd_step.proofs.Completing.{complete_parts}
+use Rattle.sdd_log.proofs.Completing.{complete_parts}
 use Rattle.sdd_settling.proofs.Marked.{next_is_of_events}
 
 -- an event behind a settle

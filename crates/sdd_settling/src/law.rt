@@ -11,7 +11,7 @@ ghost use Rattle.sdd_log.specs.Entries.{Given, Log, Mark, Round, marks, with_eve
 ghost use Rattle.sdd_log.specs.Lawful.{IsLawful, IsTheLog, IsWithin};
 ghost use Rattle.sdd_log.specs.Marks.{left};
 ghost use Rattle.sdd_log.specs.Traffic.{all_links, calls_of};
-ghost use Rattle.sdd_step.specs.Resting.{AtEach};
+ghost use Rattle.sdd_log.specs.Resting.{AtEach};
 ghost use Rattle.sdd_settling.specs.Rounds.{IsOfRound, rounds};
 
 /// A law: where the links of a network aren't quiet a round has an event, and each of its events is

@@ -5,6 +5,8 @@
 //! flight and everything is acknowledged (`law_settled`).
 #![tactic(auto)]
 
+mod ending_law;
 mod law;
 
+pub use ending_law::{law_run_ends, law_settle_ends};
 pub use law::{law_rounds, law_rounds_end, law_settled};

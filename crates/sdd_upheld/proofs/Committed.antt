@@ -16,7 +16,7 @@ use Rattle.sdd_attempt.specs.Attempts.{Attempt as Running, active}
 use Rattle.sdd_log.specs.Entries.{Does, Given, Log, history}
 use Rattle.sdd_log.specs.Locals.{txn_at}
 use Rattle.sdd_log.specs.Permitted.{IsPermitted}
-use Rattle.sdd_laws.proofs.Counts.{one_start}
+use Rattle.sdd_laws.proofs.NumberedStarts.{one_start}
 use Rattle.sdd_order.specs.Attempts.{Attempt, Committed, IsAttempt, IsCommitted}
 use Rattle.sdd_order.specs.Places.{Stands}
 use Rattle.sdd_order.proofs.Places.{one_attempt, one_of_txn, same_start}

@@ -14,7 +14,7 @@ use Rattle.sdd_base.specs.declared.site.Site.TheVariants.{D}
 use Rattle.sdd_base.proofs.Membership.{Contains-nil}
 use Rattle.sdd_catalog.specs.Catalogue.{has_copy}
 use Rattle.sdd_catalog.specs.Rules.{IsSound}
-use Rattle.sdd_contents.proofs.Members.{Contains-filter, Contains-from_filter, Contains-from_map, Contains-map}
+use Rattle.sdd_laws.proofs.Members.{Contains-filter, Contains-from_filter, Contains-from_map, Contains-map}
 use Rattle.sdd_copy.specs.Contents.{Dated}
 use Rattle.sdd_history.specs.declared.record.Rec.{Rec}
 use Rattle.sdd_history.specs.declared.record.Rec.TheVariants.{Apply}

@@ -14,11 +14,11 @@ use Rattle.sdd_base.specs.declared.site.Site.TheVariants.{D}
 use Rattle.sdd_base.proofs.Membership.{Contains-nil}
 use Rattle.sdd_catalog.specs.Catalogue.{Catalogue, fragment_at, fragment_of, has_copy, numbers_to, reads_at}
 use Rattle.sdd_catalog.specs.Rules.{IsSound}
-use Rattle.sdd_contents.proofs.CopyEntries.{entries_ascend, lies_there}
-use Rattle.sdd_contents.proofs.Gathered.{gathered_from, gathered_sorted, gathered_there}
-use Rattle.sdd_contents.proofs.LookUps.{one_entry, same_members}
-use Rattle.sdd_contents.proofs.Members.{Contains-flat_map, Contains-from_flat_map, each_has}
-use Rattle.sdd_contents.specs.Values.{ArePlaced}
+use Rattle.sdd_laws.proofs.CopyEntries.{entries_ascend, lies_there}
+use Rattle.sdd_laws.proofs.Gathered.{gathered_from, gathered_sorted, gathered_there}
+use Rattle.sdd_laws.proofs.LookUps.{one_entry, same_members}
+use Rattle.sdd_laws.proofs.Members.{Contains-flat_map, Contains-from_flat_map, each_has}
+use Rattle.sdd_laws.specs.Values.{ArePlaced}
 use Rattle.sdd_history.specs.declared.record.Rec.{Rec}
 use Rattle.sdd_history.specs.Records.{History}
 use Rattle.sdd_lang.specs.Classes.{fragments_in}

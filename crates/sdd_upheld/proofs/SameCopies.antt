@@ -10,8 +10,8 @@ use Rattle.sdd_base.specs.declared.number.RelNo.{RelNo}
 use Rattle.sdd_base.specs.declared.site.Site.TheVariants.{D}
 use Rattle.sdd_catalog.specs.Catalogue.{Catalogue, fragment_at, fragment_of, has_copy}
 use Rattle.sdd_catalog.specs.Rules.{IsSound}
-use Rattle.sdd_contents.proofs.LookUps.{one_entry}
-use Rattle.sdd_contents.proofs.Members.{Contains-filter, Contains-flat_map, Contains-from_filter, Contains-from_flat_map, Contains-from_map, Contains-map, each_has}
+use Rattle.sdd_laws.proofs.LookUps.{one_entry}
+use Rattle.sdd_laws.proofs.Members.{Contains-filter, Contains-flat_map, Contains-from_filter, Contains-from_flat_map, Contains-from_map, Contains-map, each_has}
 use Rattle.sdd_copy.proofs.Order.{order_tells_nothing}
 use Rattle.sdd_copy.specs.Contents.{Dated, contents, of_fragment, rows_left}
 use Rattle.sdd_copy.specs.Sets.{DatesDiffer}

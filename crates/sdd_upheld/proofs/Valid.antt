@@ -13,8 +13,8 @@ use Rattle.sdd_base.specs.declared.site.Site.{Site}
 use Rattle.sdd_base.specs.declared.site.Site.TheVariants.{D, T, U}
 use Rattle.sdd_catalog.specs.Catalogue.{Catalogue, class_at, fragment_at, has_copy, numbers_to}
 use Rattle.sdd_catalog.specs.Rules.{IsSound}
-use Rattle.sdd_contents.proofs.CopyEntries.{held_by}
-use Rattle.sdd_contents.proofs.Members.{all_have, each_has}
+use Rattle.sdd_laws.proofs.CopyEntries.{held_by}
+use Rattle.sdd_laws.proofs.Members.{all_have, each_has}
 use Rattle.sdd_copy.specs.Contents.{Dated}
 use Rattle.sdd_history.specs.declared.record.Rec.{Rec}
 use Rattle.sdd_history.specs.declared.record.Rec.TheVariants.{Answer, Apply}

@@ -14,7 +14,7 @@ use Rattle.sdd_base.specs.declared.value.Value.{Value}
 use Rattle.sdd_base.specs.declared.value.Value.TheVariants.{Int}
 use Rattle.sdd_catalog.specs.Catalogue.{Catalogue}
 use Rattle.sdd_catalog.specs.Rules.{IsSound}
-use Rattle.sdd_contents.proofs.Members.{Contains-from_filter}
+use Rattle.sdd_laws.proofs.Members.{Contains-from_filter}
 use Rattle.sdd_copy.specs.Contents.{Dated, contents, keys_in, latest, newer, of_fragment, row_left, row_with}
 use Rattle.sdd_lang.proofs.StaysDatabase.{rows_make_database}
 use Rattle.sdd_lang.specs.Database.{Database, Row, database_of}
@@ -29,8 +29,8 @@ use Rattle.sdd_log.specs.Entries.{Given, Log, history}
 use Rattle.sdd_log.specs.Permitted.{IsPermitted}
 use Rattle.sdd_order.specs.Attempts.{Committed, committed}
 use Rattle.sdd_order.specs.Orders.{IsSerial}
-use Rattle.sdd_replay.proofs.Run.{replayed}
-use Rattle.sdd_replay.specs.Replayed.{IsReplayed}
+use Rattle.sdd_laws.proofs.Run.{replayed}
+use Rattle.sdd_laws.specs.Replayed.{IsReplayed}
 use Rattle.sdd_upheld.proofs.Applies.{keeps_applies}
 use Rattle.sdd_upheld.proofs.Effects.{keeps_answers}
 use Rattle.sdd_upheld.proofs.Starts.{keeps_starts}

@@ -30,8 +30,8 @@ use Rattle.sdd_lang.specs.Query.{answer, product, projection, selection}
 use Rattle.sdd_lang.specs.Serial.{after_changes, changed_by, item_of, serial, set_to}
 use Rattle.sdd_lang.specs.Update.{added, assigned, assigned_all, chosen, in_range, replaced}
 use Rattle.sdd_lang.proofs.SortedEntries.{each_inserted, each_left, item_cmp_exact}
-use Rattle.sdd_replay.specs.Ledger.{Ledger, changes}
-use Rattle.sdd_replay.specs.Replayed.{Gives}
+use Rattle.sdd_laws.specs.Ledger.{Ledger, changes}
+use Rattle.sdd_laws.specs.Replayed.{Gives}
 
 pub both_hold : {A : Type 0} (P : A → Type 0) (xs ys : List A) → AllByRecursion P xs → AllByRecursion P ys → AllByRecursion P (xs ++ ys)
 both_hold P [] ys h k = k

@@ -4,4 +4,8 @@ pub mod Examples
 pub mod Free
 pub mod Heads
 pub mod Rejections
+pub mod Theorems
+pub mod WaitGraph
+pub mod WaitGraphs
 pub mod Waited
+pub mod WaitingReads

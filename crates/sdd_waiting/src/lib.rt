@@ -12,4 +12,7 @@ pub mod answers_laws;
 pub mod free_laws;
 pub mod instances;
 pub mod pipes_laws;
+mod quiet_law;
 pub mod rejections_laws;
+
+pub use quiet_law::{law_diagonals_listed, law_no_path_to_writer, law_no_ring_waits, law_table_fits};

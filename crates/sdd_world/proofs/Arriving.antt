@@ -8,8 +8,8 @@ use Rattle.sdd_wire.specs.declared.msg.Msg.{Msg}
 use Rattle.sdd_log.specs.Entries.{Given, Log, Mark}
 use Rattle.sdd_log.specs.Traffic.{is_down, takes_part}
 use Rattle.sdd_log.specs.Locals.{local_of, setting_of}
-use Rattle.sdd_step.specs.Resting.{from_one, IsSiteOf}
-use Rattle.sdd_step.proofs.Delivering.{delivers_messages}
+use Rattle.sdd_log.specs.Resting.{from_one, IsSiteOf}
+use Rattle.sdd_log.proofs.Delivering.{delivers_messages}
 use Rattle.sdd_world.specs.declared.world.World.{World}
 use Rattle.sdd_world.specs.Standing.{Arrives, ahead_of, Keeping, HandedOn, Handing, Happened, Spooled}
 use Rattle.sdd_net.proofs.Directions.{link_parts}

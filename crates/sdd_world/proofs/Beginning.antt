@@ -6,11 +6,11 @@ use Rattle.sdd_base.specs.Numbers.{dm_no}
 use Rattle.sdd_base.specs.declared.site.Site.{Site}
 use Rattle.sdd_base.specs.declared.site.Site.TheVariants.{U}
 use Rattle.sdd_wire.specs.declared.msg.Msg.{Msg}
-use Rattle.sdd_spool.specs.Mailboxes.{empty_mailbox, kept_from, Mailbox, mailbox_at, place_of, queue_at}
+use Rattle.sdd_net.specs.Mailboxes.{empty_mailbox, kept_from, Mailbox, mailbox_at, place_of, queue_at}
 use Rattle.sdd_log.specs.Entries.{Given}
 use Rattle.sdd_log.specs.Locals.{beginning, force_at, setting_of}
-use Rattle.sdd_step.specs.Resting.{IsSiteOf}
-use Rattle.sdd_step.proofs.Beginning.{next_at_first, rests_at_first}
+use Rattle.sdd_log.specs.Resting.{IsSiteOf}
+use Rattle.sdd_log.proofs.Beginning.{next_at_first, rests_at_first}
 use Rattle.sdd_world.specs.declared.world.World.{World}
 use Rattle.sdd_world.specs.Standing.{IsSound, KeepsFor, Spooled, StandsFor}
 use Rattle.sdd_world.proofs.Keeping.{dm_within}

@@ -20,7 +20,7 @@ use Rattle.sdd_module.specs.SiteLog as site
 use Rattle.sdd_world.specs.AtSites.{At, Standing, StandsAt}
 use Rattle.sdd_log.specs.Entries.{Given}
 use Rattle.sdd_log.specs.Locals.{beginning, rows_of, setting_of}
-use Rattle.sdd_step.specs.Resting.{IsSiteOf}
+use Rattle.sdd_log.specs.Resting.{IsSiteOf}
 use Rattle.sdd_world.specs.Beginnings.{AllBegin, BeginsD, BeginsT, IsBegun, There}
 use Rattle.sdd_world.specs.Modules.{LivesD, LivesT, LivesU}
 

@@ -10,20 +10,20 @@ use Rattle.sdd_wire.specs.declared.msg.Msg.{Msg}
 use Rattle.sdd_net.specs.Links.{Call, Delivers, delivered, delivery, link}
 use Rattle.sdd_net.specs.declared.delivered.Delivered.{Delivered}
 use Rattle.sdd_net.specs.declared.delivered.Delivered.TheVariants.{Nothing, Acked, Messages}
-use Rattle.sdd_spool.specs.Mailboxes.{Mailbox, mailbox_at}
+use Rattle.sdd_net.specs.Mailboxes.{Mailbox, mailbox_at}
 use Rattle.sdd_log.specs.Entries.{Given, Log, Mark}
 use Rattle.sdd_log.specs.Traffic.{calls_of, handed, is_down, link_of, takes_part}
 use Rattle.sdd_log.specs.Locals.{local_of, setting_of}
-use Rattle.sdd_step.specs.Resting.{from_one, IsSiteOf, IsFirst, IsLinkOf, Takes}
-use Rattle.sdd_step.proofs.Delivering.{ack_same, delivers_ack, delivers_nothing, nothing_same, remain_beside}
-use Rattle.sdd_step.proofs.Links.{sent_stays}
+use Rattle.sdd_log.specs.Resting.{from_one, IsSiteOf, IsFirst, IsLinkOf, Takes}
+use Rattle.sdd_log.proofs.Delivering.{ack_same, delivers_ack, delivers_nothing, nothing_same, remain_beside}
+use Rattle.sdd_log.proofs.Links.{sent_stays}
 use Rattle.sdd_world.specs.declared.world.World.{World}
 use Rattle.sdd_world.proofs.Marking.{marked_noted, marked_plain}
 use Rattle.sdd_world.specs.Standing.{Ahead, Arrives, ahead_of, HandedOn, Handing, Happened, KeepsFor, Marked, Spooled}
 use Rattle.sdd_world.proofs.Parting.{spooled_on}
 use Rattle.sdd_net.proofs.Directions.{same_is}
-use Rattle.sdd_step.proofs.Handing.{all_handed, and_right}
-use Rattle.sdd_step.proofs.Lowest.{first_of_one, none_of_one, takes_of_one}
+use Rattle.sdd_log.proofs.Handing.{all_handed, and_right}
+use Rattle.sdd_log.proofs.Lowest.{first_of_one, none_of_one, takes_of_one}
 use Rattle.sdd_world.specs.Modules.{StandFor}
 use Rattle.sdd_world.specs.Carries.{Carries, NetValue}
 

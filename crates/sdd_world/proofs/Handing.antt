@@ -18,9 +18,9 @@ use Rattle.sdd_log.specs.Snapshots.{base_of}
 use Rattle.sdd_log.specs.Due.{next, next_in}
 use Rattle.sdd_log.specs.Lawful.{IsLawful, puts_past}
 use Rattle.sdd_log.proofs.Steps.{after_acts}
-use Rattle.sdd_step.specs.Resting.{AllLinked, IsFirst, IsSiteOf, Takes}
-use Rattle.sdd_step.proofs.Acts.{calls_acts, ends_in_acts, history_acts, linked_acts, marks_acts, other_acts, own_acts}
-use Rattle.sdd_step.proofs.Handing.{and_right, first_lawful, first_next, hands_first, remain_other}
+use Rattle.sdd_log.specs.Resting.{AllLinked, IsFirst, IsSiteOf, Takes}
+use Rattle.sdd_log.proofs.Acts.{calls_acts, ends_in_acts, history_acts, linked_acts, marks_acts, other_acts, own_acts}
+use Rattle.sdd_log.proofs.Handing.{and_right, first_lawful, first_next, hands_first, remain_other}
 use Rattle.sdd_world.specs.declared.world.World.{World}
 use Rattle.sdd_world.specs.DueAt.{next_of}
 use Rattle.sdd_world.specs.Kinds.{AreLinked}

@@ -11,11 +11,11 @@ use Rattle.sdd_base.specs.declared.event.Event.TheVariants.{Deliver}
 use Rattle.sdd_wire.specs.declared.msg.Msg.{Msg}
 use Rattle.sdd_net.specs.Links.{delivery}
 use Rattle.sdd_net.specs.declared.delivered.Delivered.TheVariants.{Messages}
-use Rattle.sdd_spool.specs.Mailboxes.{Mailbox, kept_from, mailbox_at, IsSender, OnlyAt, Puts, number_of_t, IsWithin as IsBelow}
+use Rattle.sdd_net.specs.Mailboxes.{Mailbox, kept_from, mailbox_at, IsSender, OnlyAt, Puts, number_of_t, IsWithin as IsBelow}
 use Rattle.sdd_log.specs.Entries.{Given, Log, Mark}
 use Rattle.sdd_log.specs.Traffic.{calls_of, is_down, link_of, takes_part}
-use Rattle.sdd_step.specs.Resting.{from_one, IsSiteOf, Remain, IsLinkOf}
-use Rattle.sdd_step.proofs.Delivering.{delivers_kept, remain_beside, remain_more}
+use Rattle.sdd_log.specs.Resting.{from_one, IsSiteOf, Remain, IsLinkOf}
+use Rattle.sdd_log.proofs.Delivering.{delivers_kept, remain_beside, remain_more}
 use Rattle.sdd_world.specs.declared.world.World.{World}
 use Rattle.sdd_world.proofs.Marking.{marked_plain}
 use Rattle.sdd_world.specs.Standing.{Keeping, Happened, KeepsFor, Marked, Spooled}
@@ -23,8 +23,8 @@ use Rattle.sdd_world.proofs.Parting.{spooled_on}
 use Rattle.std.proofs.Common.{append_assoc, append-nil, ◌≢◌}
 use Rattle.std.proofs.lemmas.Bool.{and_parts, eq-eqb, eqb-true, leb-true}
 use Rattle.sdd_net.proofs.Directions.{link_parts, same_is}
-use Rattle.sdd_step.proofs.Handing.{and_left, and_right}
-use Rattle.sdd_step.proofs.Lowest.{none_of_one}
+use Rattle.sdd_log.proofs.Handing.{and_left, and_right}
+use Rattle.sdd_log.proofs.Lowest.{none_of_one}
 use Rattle.sdd_world.specs.Carries.{Carries, NetValue}
 
 -- the numbers of data modules

@@ -10,15 +10,15 @@ use Rattle.sdd_history.specs.declared.record.Rec.TheVariants.{Nothing as Noted}
 use Rattle.sdd_wire.specs.declared.msg.Msg.{Msg}
 use Rattle.sdd_net.specs.Links.{Call, Loses, Repeats, Resends, delivered, link, packet_at}
 use Rattle.sdd_net.specs.declared.packet.Packet.{Packet}
-use Rattle.sdd_spool.specs.Mailboxes.{Mailbox}
+use Rattle.sdd_net.specs.Mailboxes.{Mailbox}
 use Rattle.sdd_log.specs.Entries.{Given, Log, Mark, Notes, history, marks}
 use Rattle.sdd_log.specs.Traffic.{calls_of, handed, is_down, link_of}
 use Rattle.sdd_log.specs.Locals.{force_at, local_of, redeclares, setting_of}
 use Rattle.sdd_log.specs.Marks.{after_mark, left}
 use Rattle.sdd_log.specs.Due.{due_by, note_if}
-use Rattle.sdd_step.specs.Resting.{IsSiteOf, Remain, Rests}
-use Rattle.sdd_step.proofs.Links.{delivered_lose, delivered_repeat, delivered_resend, sent_stays, unacked_none, unacked_some}
-use Rattle.sdd_step.proofs.Marking.{IsNoTick, TurnsNone, handed_still, mark_local, none_by_mark, rests_marked, rests_noted}
+use Rattle.sdd_log.specs.Resting.{IsSiteOf, Remain, Rests}
+use Rattle.sdd_log.proofs.Links.{delivered_lose, delivered_repeat, delivered_resend, sent_stays, unacked_none, unacked_some}
+use Rattle.sdd_log.proofs.Marking.{IsNoTick, TurnsNone, handed_still, mark_local, none_by_mark, rests_marked, rests_noted}
 use Rattle.sdd_world.specs.declared.world.World.{World}
 use Rattle.sdd_world.specs.Standing.{Happened, Marked, Spooled}
 use Rattle.sdd_world.proofs.Parting.{events_before, later, same_ahead, spooled_on}

@@ -12,9 +12,9 @@ use Rattle.sdd_log.specs.Entries.{Given, Log, Redeclares, marks, with_event}
 use Rattle.sdd_log.specs.Traffic.{calls_of}
 use Rattle.sdd_log.specs.Locals.{force_at, local_of, redeclares, setting_of, with_force}
 use Rattle.sdd_log.specs.Marks.{greatest_bound, left}
-use Rattle.sdd_step.specs.Resting.{EndsIn, settles_before}
-use Rattle.sdd_step.proofs.Completing.{none_left, redeclare_next}
-use Rattle.sdd_step.proofs.Marking.{rests_redeclared}
+use Rattle.sdd_log.specs.Resting.{EndsIn, settles_before}
+use Rattle.sdd_log.proofs.Completing.{none_left, redeclare_next}
+use Rattle.sdd_log.proofs.Marking.{rests_redeclared}
 use Rattle.sdd_facts.specs.AfterEvents.{redeclares_in}
 use Rattle.sdd_facts.specs.Real.{FitsForce}
 use Rattle.sdd_facts.proofs.AllFacts.{all_facts}

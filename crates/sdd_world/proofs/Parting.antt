@@ -11,15 +11,15 @@ use Rattle.sdd_history.specs.declared.record.Rec.{Rec}
 use Rattle.sdd_history.specs.Records.{History}
 use Rattle.sdd_wire.specs.declared.msg.Msg.{Msg}
 use Rattle.sdd_module.specs.SiteLog.{Act, records_of_act}
-use Rattle.sdd_spool.specs.Mailboxes.{Mailbox, kept_from, mailbox_at}
+use Rattle.sdd_net.specs.Mailboxes.{Mailbox, kept_from, mailbox_at}
 use Rattle.sdd_log.specs.Entries.{Given, Log, Mark, Round, Redeclares, Hand, Submitted, Notes, Does, history, marks}
 use Rattle.sdd_log.specs.Traffic.{is_down}
 use Rattle.sdd_log.specs.Locals.{redeclares}
 use Rattle.sdd_log.specs.Marks.{left}
 use Rattle.sdd_log.proofs.Steps.{after_acts}
-use Rattle.sdd_step.specs.Resting.{Remain}
-use Rattle.sdd_step.proofs.Acts.{is_down_acts, left_acts, marks_acts}
-use Rattle.sdd_step.proofs.Handing.{remain_acts}
+use Rattle.sdd_log.specs.Resting.{Remain}
+use Rattle.sdd_log.proofs.Acts.{is_down_acts, left_acts, marks_acts}
+use Rattle.sdd_log.proofs.Handing.{remain_acts}
 use Rattle.sdd_world.specs.Standing.{Ahead, ahead_of, KeepsFor, Spooled}
 
 -- no record is of a later event than the last

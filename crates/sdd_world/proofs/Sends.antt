@@ -10,7 +10,7 @@ use Rattle.sdd_net.specs.Links.{Call}
 use Rattle.sdd_net.specs.Nets.{is_link}
 use Rattle.sdd_log.specs.Traffic.{puts}
 use Rattle.sdd_log.specs.Lawful.{puts_past}
-use Rattle.sdd_step.proofs.Acts.{puts-append, puts_past-append}
+use Rattle.sdd_log.proofs.Acts.{puts-append, puts_past-append}
 use Rattle.sdd_world.specs.Kinds.{AreLinked}
 use Rattle.sdd_world.specs.Following.{Sending}
 

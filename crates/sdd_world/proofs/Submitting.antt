@@ -16,7 +16,7 @@ use Rattle.sdd_wire.specs.declared.outcome.Outcome.{Outcome}
 use Rattle.sdd_module.specs.SiteLog.{Act, AreDue, Bases, Setting, Submits, log_after, records_of, sends_of}
 use Rattle.sdd_module.specs.SiteLog as site
 use Rattle.sdd_net.proofs.Directions.{same_is}
-use Rattle.sdd_spool.specs.Mailboxes.{Mailbox}
+use Rattle.sdd_net.specs.Mailboxes.{Mailbox}
 use Rattle.sdd_log.specs.Entries.{Given, Log, Mark, history, marks}
 use Rattle.sdd_log.specs.Traffic.{calls_of, puts}
 use Rattle.sdd_log.specs.Locals.{force_at, local_of, redeclares, setting_of, txn_at}
@@ -24,11 +24,11 @@ use Rattle.sdd_log.specs.Snapshots.{base_of}
 use Rattle.sdd_log.specs.Due.{home_of, next_in}
 use Rattle.sdd_log.specs.Lawful.{IsLawful, puts_past}
 use Rattle.sdd_log.proofs.Steps.{after_acts}
-use Rattle.sdd_step.specs.Resting.{IsSiteOf}
-use Rattle.sdd_step.proofs.Acts.{calls_acts, ends_in_acts, history_acts, left_acts, linked_acts, marks_acts, other_acts, own_acts}
-use Rattle.sdd_step.proofs.FirstHand.{listed}
-use Rattle.sdd_step.proofs.Marking.{mark_within}
-use Rattle.sdd_step.proofs.Submitting.{home_in, other_local, submits_and_acts, submitted, submitted_local, submitted_within, acts_lawful}
+use Rattle.sdd_log.specs.Resting.{IsSiteOf}
+use Rattle.sdd_log.proofs.Acts.{calls_acts, ends_in_acts, history_acts, left_acts, linked_acts, marks_acts, other_acts, own_acts}
+use Rattle.sdd_log.proofs.FirstHand.{listed}
+use Rattle.sdd_log.proofs.Marking.{mark_within}
+use Rattle.sdd_log.proofs.Submitting.{home_in, other_local, submits_and_acts, submitted, submitted_local, submitted_within, acts_lawful}
 use Rattle.sdd_world.specs.declared.world.World.{World}
 use Rattle.sdd_world.specs.DueAt.{next_of}
 use Rattle.sdd_world.specs.Kinds.{AreLinked}

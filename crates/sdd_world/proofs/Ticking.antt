@@ -9,11 +9,11 @@ use Rattle.sdd_wire.specs.declared.msg.Msg.{Msg}
 use Rattle.sdd_module.specs.SiteLog.{Setting, Ticked}
 use Rattle.sdd_module.specs.SiteLog as site
 use Rattle.sdd_net.proofs.Directions.{same_here, same_is}
-use Rattle.sdd_spool.specs.Mailboxes.{Mailbox}
+use Rattle.sdd_net.specs.Mailboxes.{Mailbox}
 use Rattle.sdd_log.specs.Entries.{Given, Log, Mark}
 use Rattle.sdd_log.specs.Locals.{local_of, setting_of}
-use Rattle.sdd_step.specs.Resting.{IsSiteOf}
-use Rattle.sdd_step.proofs.Marking.{rests_marked, ticked_none, handed_still}
+use Rattle.sdd_log.specs.Resting.{IsSiteOf}
+use Rattle.sdd_log.proofs.Marking.{rests_marked, ticked_none, handed_still}
 use Rattle.sdd_world.specs.declared.world.World.{World}
 use Rattle.sdd_world.specs.Standing.{Happened, Marked, Spooled}
 use Rattle.sdd_world.proofs.Handing.{at_log, here_at}

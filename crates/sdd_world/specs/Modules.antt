@@ -5,7 +5,7 @@ use Rattle.sdd_module.specs.SiteLog.{Force, Setting}
 use Rattle.sdd_module.specs.SiteLog as site
 use Rattle.sdd_log.specs.Entries.{Given, Log}
 use Rattle.sdd_log.specs.Locals.{local_of, setting_of, with_force}
-use Rattle.sdd_step.specs.Resting.{IsSiteOf}
+use Rattle.sdd_log.specs.Resting.{IsSiteOf}
 use Rattle.sdd_dm.specs.Stands as dm
 use Rattle.sdd_tm.specs.Stands as tm
 use Rattle.sdd_umod.specs.Stands as um

@@ -15,14 +15,14 @@ use Rattle.sdd_lang.specs.Fits.{Fits}
 use Rattle.sdd_wire.specs.declared.msg.Msg.{Msg}
 use Rattle.sdd_net.specs.declared.delivered.Delivered.TheVariants.{Messages}
 use Rattle.sdd_net.specs.Links.{delivery, quiet}
-use Rattle.sdd_spool.specs.Mailboxes.{Mailbox, kept_from, mailbox_at}
+use Rattle.sdd_net.specs.Mailboxes.{Mailbox, kept_from, mailbox_at}
 use Rattle.sdd_log.specs.Entries.{Given, Log, Mark, Redeclares, history, marks}
 use Rattle.sdd_log.specs.Traffic.{all_links, calls_of, is_down, link_of}
 use Rattle.sdd_log.specs.Locals.{force_at, redeclares, txn_at}
 use Rattle.sdd_log.specs.Marks.{after_mark, greatest_bound, left}
 use Rattle.sdd_log.specs.Due.{next}
 use Rattle.sdd_log.specs.Lawful.{EndsByLimit}
-use Rattle.sdd_step.specs.Resting.{AtEach, EndsIn, from_one, IsLinkOf, IsMarked, IsPossible, IsSiteOf, Remain, Rests, TakesRounds, Waits}
+use Rattle.sdd_log.specs.Resting.{AtEach, EndsIn, from_one, IsLinkOf, IsMarked, IsPossible, IsSiteOf, Remain, Rests, TakesRounds, Waits}
 use Rattle.sdd_facts.specs.AfterEvents.{redeclares_in}
 use Rattle.sdd_facts.specs.Real.{IsGood}
 use Rattle.sdd_world.specs.Carries.{Carries}

@@ -3,7 +3,7 @@ use Rattle.std.specs.List.{enumerate_from, flat_map}
 use Rattle.sdd_lang.specs.Classes.{fragments_in}
 use Rattle.sdd_order.specs.Attempts.{Committed}
 use Rattle.sdd_order.specs.Linked.{by_fragment, fragment_links, links}
-use Rattle.sdd_topological.specs.Groups.{Groups, groups}
+use Rattle.sdd_order.specs.Groups.{Groups, groups}
 use Rattle.sdd_order.proofs.links.find_links.Given as goal
 
 abbrev pub invariant-loop-place : goal.invariant-loop-place

@@ -7,7 +7,7 @@ use Rattle.sdd_order.specs.Linked.{links, numbers_at}
 use Rattle.sdd_order.specs.Numbers.{IsClass, UseExists}
 use Rattle.sdd_order.specs.Orders.{IsSerial}
 use Rattle.sdd_order.specs.SerialOrder.{serial_order}
-use Rattle.sdd_topological.specs.Taking.{order_of}
+use Rattle.sdd_order.specs.Taking.{order_of}
 use Rattle.sdd_order.proofs.ByLinks.{all_exist, ends_within, order_found}
 use Rattle.sdd_order.proofs.InOrder.{in_order_of_time, in_sorted, from_sorted}
 use Rattle.sdd_order.proofs.Serial.{serial_order_is}

@@ -1,5 +1,0 @@
-use Rattle.sdd_contents.proofs.CopyValues.{any_order}
-use Rattle.sdd_contents.proofs.law.law_any_order.Goals as goal
-
-pub returns : goal.returns
-returns g c = any_order c.args.cat.now c.known.ensures.sound

@@ -1,5 +1,0 @@
-use Rattle.sdd_contents.proofs.CopyValues.{holds_values}
-use Rattle.sdd_contents.proofs.law.law_copy_holds_values.Goals as goal
-
-pub returns : goal.returns
-returns g c = holds_values c.args.cat.now c.known.ensures.sound

@@ -1,8 +1,0 @@
-use Rattle.sdd_contents.proofs.Values.{some_value, one_value}
-use Rattle.sdd_contents.proofs.law.law_one_value.Goals as goal
-
-pub returns-clause-some : goal.returns-clause-some
-returns-clause-some c = some_value c.args.cat.now
-
-pub returns-clause-one : goal.returns-clause-one
-returns-clause-one c = one_value c.args.cat.now

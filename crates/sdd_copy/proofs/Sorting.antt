@@ -1,0 +1,60 @@
+-- Rows whose keys ascend are the entries of a map as they stand.
+use Rattle.std.proofs.Common.{ℤ, ◌<ℤ◌, ◌≤ℤ◌, int_lt, Bool, true, List, [], ◌∷◌, ◌++◌, map, ◌≡◌, refl, ap, ◌∙◌, sym, append-nil, append_assoc, Some, None, arith}
+use Rattle.std.specs.declared.cmp.Ordering.TheVariants.{Less, Equal, Greater}
+use Rattle.std.specs.Prelude.{fold}
+use Rattle.std.specs.List.{AllByRecursion}
+use Rattle.std.specs.Ordering.{int_cmp, MatchOrdering}
+use Rattle.std.specs.Cmp.{first_so, second_so, int_ranks}
+use Rattle.std.proofs.lemmas.Int.{ints}
+use Rattle.sdd_base.specs.declared.value.Value.{Value}
+use Rattle.sdd_copy.specs.Ascending.{ascend}
+use Rattle.sdd_copy.specs.Frozen.{with_keyed}
+
+abbrev Keyed : Type 0
+Keyed = ℤ × List Value
+
+abbrev UpTo : ℤ → List Keyed → Type 0
+UpTo k rows = AllByRecursion (λ (e : Keyed). e.0 ≤ℤ k) rows
+
+greater : (a b c : ℤ) → a ≤ℤ b → int_lt b c ≡ true → int_cmp c a ≡ Greater
+greater a b c ab bc =
+    elim (int_cmp c a) as (λ r. MatchOrdering r (c <ℤ a) (c ≡ a) (a <ℤ c) → r ≡ Greater) [
+      | Less ↦ λ h. absurd (grind (arith, ints))
+      | Equal ↦ λ h. absurd (grind (arith, ints))
+      | Greater ↦ λ h. refl
+    ] (int_ranks c a)
+
+-- a row behind all others is put at the end
+put_last : (k : ℤ) (rows : List Keyed) (row : Keyed) → UpTo k rows → int_lt k row.0 ≡ true
+    → with_keyed rows row ≡ rows ++ row ∷ []
+put_last k [] row up_to after = refl
+put_last k (e ∷ rows) row up_to after =
+    rw (greater e.0 k row.0 up_to.0 after) (ap (λ l. e ∷ l) (put_last k rows row up_to.1 after))
+
+up_to_last : (k : ℤ) (rows : List Keyed) (row : Keyed) → UpTo k rows → int_lt k row.0 ≡ true
+    → UpTo row.0 (rows ++ row ∷ [])
+up_to_last k [] row up_to after = (grind (arith, ints), tt)
+up_to_last k (e ∷ rows) row up_to after = (grind (arith, ints, up_to.0), up_to_last k rows row up_to.1 after)
+
+-- rows that ascend behind others are put at the end, one after the other
+put_behind : (rows : List Keyed) (last : Keyed) (more : List Keyed) → UpTo last.0 rows → ascend (Some last) more ≡ true
+    → fold with_keyed rows more ≡ rows ++ more
+put_behind rows last [] up_to h = sym (append-nil rows)
+put_behind rows last (row ∷ more) up_to h =
+    let after : int_lt last.0 row.0 ≡ true = first_so (int_lt last.0 row.0) (ascend (Some row) more) h in
+    ap (λ l. fold with_keyed l more) (put_last last.0 rows row up_to after)
+    ∙ put_behind (rows ++ row ∷ []) row more (up_to_last last.0 rows row up_to after)
+    (second_so (int_lt last.0 row.0) (ascend (Some row) more) h)
+    ∙ append_assoc rows (row ∷ []) more
+
+pub ascending_stay : (rows : List Keyed) → ascend None rows ≡ true → fold with_keyed [] rows ≡ rows
+ascending_stay [] h = refl
+ascending_stay (row ∷ rows) h = put_behind (row ∷ []) row rows (grind (arith, ints), tt) h
+
+-- rows that were found ascending need no map
+pub found_ascending : (rows : List (List Value)) (found slice whole : List Keyed) (test : Bool)
+    → slice ≡ found → test ≡ ascend None slice → test ≡ true → found ≡ whole
+    → rows ≡ map (λ e. e.1) found → rows ≡ map (λ e. e.1) (fold with_keyed [] whole)
+found_ascending rows found slice whole test lent is so all rows_are =
+    let stay : fold with_keyed [] found ≡ found = ascending_stay found (ap (ascend None) (sym lent) ∙ sym is ∙ so) in
+    rows_are ∙ ap (map (λ e. e.1)) (sym stay ∙ ap (fold with_keyed []) all)

@@ -1,0 +1,130 @@
+-- The rows of uses: frozen from copies that stand for changes, and reduced one use after the other.
+use Rattle.std.proofs.Common.{ℕ, zero, suc, ℤ, ◌+◌, ◌<◌, ◌≤◌, ◌==◌, length, take, drop, arith, Bool, true, false, cond, List, [], ◌∷◌, ◌++◌, map, ◌≡◌, refl, ap, ◌∙◌, sym, Some, None}
+use Rattle.std.specs.Prelude.{slice_set, slice_index_or, fold}
+use Rattle.std.specs.List.{All, AllByRecursion, filter, flat_map}
+use Rattle.std.proofs.lemmas.Bool.{eq-eqb}
+use Rattle.std.proofs.lemmas.List.{take_all}
+use Rattle.std.proofs.lemmas.List.Edits.{map_over_more}
+use Rattle.std.proofs.lemmas.List.Elements.{recursion_from_All}
+use Rattle.sdd_base.specs.Order.{column, with_values}
+use Rattle.sdd_base.specs.Words.{first_some}
+use Rattle.sdd_base.specs.declared.number.FragNo.{FragNo}
+use Rattle.sdd_base.specs.declared.restriction.Restriction.{Restriction}
+use Rattle.sdd_base.specs.declared.usage.Use.{Use}
+use Rattle.sdd_base.specs.declared.value.Value.{Value}
+use Rattle.sdd_lang.proofs.Pushdown.{filter_same}
+use Rattle.sdd_copy.specs.Contents.{Dated, contents}
+use Rattle.sdd_copy.specs.Copies.{Held, is_here, rows_at, StandFor, AreHere}
+use Rattle.sdd_copy.specs.Items.{entries_in}
+use Rattle.sdd_copy.proofs.Contents.{items_tell}
+use Rattle.sdd_copy.specs.Frozen.{Frozen, CopyRows, chosen, with_keyed, rows_for, frozen_for, is_among, reduced}
+use Rattle.sdd_copy.specs.Known.{is_known, known_use}
+use Rattle.sdd_copy.proofs.Members.{known_among}
+
+-- copies that stand for changes give the contents of these
+
+rows_told : (copies : Held) (xs : Dated) (f : ℕ) → StandFor copies xs → is_here copies f ≡ true → rows_at copies f ≡ contents f xs
+rows_told copies xs f stand here = ap entries_in (stand f here) ∙ items_tell f xs
+
+frags_told : (copies : Held) (xs : Dated) (restrictions : List Restriction) (frags : List FragNo)
+    → StandFor copies xs → AllByRecursion (λ f. is_here copies f.0 ≡ true) frags
+    → flat_map (λ f. chosen restrictions (rows_at copies f.0)) frags ≡ flat_map (λ f. chosen restrictions (contents f.0 xs)) frags
+frags_told copies xs restrictions [] stand here = refl
+frags_told copies xs restrictions (f ∷ frags) stand here = rw (rows_told copies xs f.0 stand here.0, frags_told copies xs restrictions frags stand here.1) refl
+
+abbrev rows_in_order : List (ℤ × List Value) → List (List Value)
+rows_in_order rows = map (λ e. e.1) (fold with_keyed [] rows)
+
+use_told : (copies : Held) (xs : Dated) (u : Use) → StandFor copies xs → AreHere copies u
+    → rows_for (rows_at copies) u ≡ rows_for (λ f. contents f xs) u
+use_told copies xs u stand here =
+    ap rows_in_order (frags_told copies xs u.restrictions u.frags stand (recursion_from_All (λ f. is_here copies f.0 ≡ true) u.frags here))
+
+abbrev numbered : ℕ → List (List Value) → ℕ × List (List Value)
+numbered n rows = (n, rows)
+
+abbrev pub held_for : CopyRows → Use → ℕ × List (List Value)
+held_for copies u = (u.number, rows_for copies u)
+
+uses_told : (copies : Held) (xs : Dated) (uses : List Use) → StandFor copies xs → AllByRecursion (AreHere copies) uses
+    → map (held_for (rows_at copies)) uses ≡ map (held_for (λ f. contents f xs)) uses
+uses_told copies xs [] stand here = refl
+uses_told copies xs (u ∷ uses) stand here = rw (ap (numbered u.number) (use_told copies xs u stand here.0), uses_told copies xs uses stand here.1) refl
+
+abbrev pub with_uses : ℕ → List (ℕ × List (List Value)) → Frozen
+with_uses ts uses = record { ts = ts; uses = uses }
+
+pub frozen_told : (copies : Held) (xs : Dated) (ts : ℕ) (uses : List Use) (frozen : List (ℕ × List (List Value))) (i : ℕ)
+    → frozen ≡ map (held_for (rows_at copies)) (take i uses) → length uses ≤ i
+    → StandFor copies xs → All (AreHere copies) uses → with_uses ts frozen ≡ frozen_for (λ f. contents f xs) ts uses
+frozen_told copies xs ts uses frozen i so_far end stand here =
+    ap (with_uses ts) (
+    so_far
+    ∙ ap (map (held_for (rows_at copies))) (take_all i uses end)
+    ∙ uses_told copies xs uses stand (recursion_from_All (AreHere copies) uses here)
+    )
+
+-- the first use with a number
+
+pub first_at : (number i : ℕ) (es : List (ℕ × List (List Value))) (e : ℕ × List (List Value)) → i < length es
+    → e ≡ slice_index_or es i e → e.0 ≡ number
+    → first_some (λ x. cond (x.0 == number) (Some x.1) None) (drop i es) ≡ Some e.1
+first_at number i [] e within at own = absurd (omega arith)
+first_at number zero (x ∷ es) e within at own =
+    let same : x ≡ e = sym at in
+    let is : (x.0 == number) ≡ true = eq-eqb x.0 number (ap (λ y. y.0) same ∙ own) in
+    rw is (ap (λ y. Some y.1) same)
+first_at number (suc i) (x ∷ es) e within at own = first_at number i es e (omega arith) at own
+
+-- a use is reduced
+
+abbrev reduced_use : ℕ → ℕ → List Value → ℕ × List (List Value) → ℕ × List (List Value)
+reduced_use number col values e = cond (e.0 == number) (e.0, filter (λ row. is_among values (column row col)) e.1) e
+
+abbrev rows_known : ℕ → List Value → List (List Value) → List (List Value)
+rows_known col values rows = filter (λ row. is_known (with_values [] values) (column row col)) rows
+
+abbrev rows_among : ℕ → List Value → List (List Value) → List (List Value)
+rows_among col values rows = filter (λ row. is_among values (column row col)) rows
+
+same_rows : (col : ℕ) (values : List Value) (rows : List (List Value)) → rows_known col values rows ≡ rows_among col values rows
+same_rows col values rows =
+    filter_same (λ row. is_known (with_values [] values) (column row col)) (λ row. is_among values (column row col))
+    (λ row. known_among values (column row col)) rows
+
+same_use : (number col : ℕ) (values : List Value) (own : Bool) (n : ℕ) (rows : List (List Value))
+    → cond own (numbered n (rows_known col values rows)) (numbered n rows)
+    ≡ cond own (numbered n (rows_among col values rows)) (numbered n rows)
+same_use number col values true n rows = ap (numbered n) (same_rows col values rows)
+same_use number col values false n rows = refl
+
+uses_known : (number col : ℕ) (values : List Value) (es : List (ℕ × List (List Value)))
+    → map (known_use number col (with_values [] values)) es ≡ map (reduced_use number col values) es
+uses_known number col values [] = refl
+uses_known number col values (e ∷ es) = rw (same_use number col values (e.0 == number) e.0 e.1, uses_known number col values es) refl
+
+map_end : {A : Type 0} (f : A → A) (i : ℕ) (xs : List A) → length xs ≤ i → map f (take i xs) ++ drop i xs ≡ map f xs
+map_end f zero [] h = refl
+map_end f (suc i) [] h = refl
+map_end f zero (x ∷ xs) h = absurd (omega arith)
+map_end f (suc i) (x ∷ xs) h = ap (λ l. f x ∷ l) (map_end f i xs (omega arith))
+
+-- one use more is reduced
+pub over_more : {A : Type 0} (f : A → A) (xs ys : List A) (i : ℕ) (x new : A) → i < length xs
+    → ys ≡ map f (take i xs) ++ drop i xs → x ≡ slice_index_or ys i x → new ≡ f x
+    → slice_set ys i new ≡ map f (take (i + 1) xs) ++ drop (i + 1) xs
+over_more f xs ys i x new h e g n = rw n (map_over_more f xs ys i x h e g)
+
+-- all uses are
+pub reduced_all : (number col i : ℕ) (values known : List Value) (uses xs : List (ℕ × List (List Value))) (ts : ℕ) (old : Frozen)
+    → known ≡ with_values [] values
+    → uses ≡ map (known_use number col known) (take i xs) ++ drop i xs → length xs ≤ i → xs ≡ old.uses
+    → ts ≡ old.ts → with_uses ts uses ≡ reduced number col values old
+reduced_all number col i values known uses xs ts old k e h same time =
+    let all : uses ≡ map (reduced_use number col values) old.uses =
+    e
+    ∙ map_end (known_use number col known) i xs h
+    ∙ ap (λ y. map (known_use number col y) xs) k
+    ∙ uses_known number col values xs
+    ∙ ap (map (reduced_use number col values)) same in
+    rw (all, time) refl

@@ -1,0 +1,11 @@
+use Rattle.std.proofs.Common.{◌≡◌, ◌++◌, drop}
+use Rattle.std.specs.List.{flat_map}
+use Rattle.sdd_copy.specs.Copies.{rows_at}
+use Rattle.sdd_copy.specs.Frozen.{chosen}
+use Rattle.sdd_copy.proofs.freezing.found_in.Given as goal
+
+-- the rows so far, with those of the fragments that are left
+abbrev pub invariant-loop-frag : goal.invariant-loop-frag
+invariant-loop-frag l =
+    l.found.items ++ flat_map (λ f. chosen l.one.restrictions (rows_at l.copies.value f.0)) (drop l.frag-index l.frag-items)
+    ≡ flat_map (λ f. chosen l.one.restrictions (rows_at l.copies.value f.0)) l.frag-items

@@ -1,0 +1,69 @@
+-- The entries that a copy gives a database: they ascend, each comes from a dated change, and lies in the fragment.
+use Rattle.std.proofs.Common.{ℕ, ◌≡◌, ◌==◌, ℤ, List, [], ◌∷◌, map, Some, ap, sym, ◌∙◌}
+use Rattle.std.specs.declared.cmp.Ordering.TheVariants.{Less}
+use Rattle.std.specs.Ordering.{int_cmp, ordering_then}
+use Rattle.std.specs.List.{AllByRecursion, Contains}
+use Rattle.std.specs.List.Sorted.{IsStrictlySortedBy}
+use Rattle.std.specs.Map.{keys_of}
+use Rattle.std.proofs.lemmas.Bool.Decides.{Decides-eqb}
+use Rattle.std.proofs.lemmas.Cmp.{nat_cmp_total, tied_itself}
+use Rattle.std.proofs.lemmas.Map.Keys.{sorted_head, sorted_tail}
+use Rattle.sdd_base.specs.declared.change.Change.{Change}
+use Rattle.sdd_catalog.specs.Catalogue.{Catalogue, fragment_at, fragment_of}
+use Rattle.sdd_lang.specs.Database.{Item, Row, item_cmp}
+use Rattle.sdd_lang.specs.Serial.{item_of}
+use Rattle.sdd_copy.specs.Contents.{Dated, contents}
+use Rattle.sdd_laws.specs.Committed.{entries_of}
+use Rattle.sdd_laws.specs.Values.{ArePlaced}
+use Rattle.sdd_laws.proofs.Latest.{contents_ascend, contents_left}
+use Rattle.sdd_laws.proofs.LookUps.{sorted_nil, sorted_cons}
+use Rattle.sdd_laws.proofs.Members.{Contains-from_map, Contains-from_filter}
+use Rattle.sdd_laws.proofs.Values.{fragment_is}
+
+-- the entries of a copy, in order
+
+each_above : (r : ℕ) (k : ℤ) (es : List (ℤ × Row)) → AllByRecursion (λ y. int_cmp k y ≡ Less) (keys_of es)
+    → AllByRecursion (λ (y : Item). item_cmp (r, k) y ≡ Less) (keys_of (map (λ (e : ℤ × Row). ((r, e.0), e.1)) es))
+each_above r k [] all = tt
+each_above r k (e ∷ es) all =
+    (ap (λ o. ordering_then o (int_cmp k e.0)) (tied_itself nat_cmp_total r) ∙ all.0, each_above r k es all.1)
+
+items_ascend : (r : ℕ) (es : List (ℤ × Row)) → IsStrictlySortedBy int_cmp (keys_of es)
+    → IsStrictlySortedBy item_cmp (keys_of (map (λ (e : ℤ × Row). ((r, e.0), e.1)) es))
+items_ascend r [] sorted = sorted_nil item_cmp
+items_ascend r (e ∷ es) sorted =
+    sorted_cons item_cmp (r, e.0) (keys_of (map (λ (e : ℤ × Row). ((r, e.0), e.1)) es))
+    (each_above r e.0 es (sorted_head int_cmp e.0 (keys_of es) sorted))
+    (items_ascend r es (sorted_tail int_cmp e.0 (keys_of es) sorted))
+
+pub entries_ascend : (cat : Catalogue) (f : ℕ) (xs : Dated)
+    → IsStrictlySortedBy item_cmp (keys_of (entries_of cat f (contents f xs)))
+entries_ascend cat f xs = items_ascend (fragment_at cat f).rel.0 (contents f xs) (contents_ascend f xs)
+
+-- what a copy holds comes from a dated change
+
+pub record IsHeldBy (cat : Catalogue) (f : ℕ) (xs : Dated) (e : Item × Row) (x : ℕ × Change) : Type 0 where
+  pub there : Contains xs x
+  pub frag : x.1.frag.0 ≡ f
+  pub item : ((fragment_at cat f).rel.0, x.1.key) ≡ e.0
+  pub row : x.1.row ≡ Some e.1
+
+pub held_by : (cat : Catalogue) (f : ℕ) (xs : Dated) (e : Item × Row) → Contains (entries_of cat f (contents f xs)) e
+    → (x : ℕ × Change) × IsHeldBy cat f xs e x
+held_by cat f xs e h =
+    let m = Contains-from_map (λ (d : ℤ × Row). (((fragment_at cat f).rel.0, d.0), d.1)) (contents f xs) e h in
+    let d : ℤ × Row = m.0 in
+    let l = contents_left f xs d.0 d.1 m.1 in
+    let k = Contains-from_filter (λ (x : ℕ × Change). x.1.frag.0 == f) xs l.0 l.1.among in
+    let key : ◌≡◌ {A = Item} ((fragment_at cat f).rel.0, (l.0).1.key) e.0 =
+    ap (λ k. ((fragment_at cat f).rel.0, k)) l.1.own ∙ ap (λ (z : Item × Row). z.0) (sym m.2) in
+    (l.0, record { there = k.0; frag = (Decides-eqb (l.0).1.frag.0 f).0 k.1; item = key; row = l.2 ∙ ap (λ (z : Item × Row). Some z.1) (sym m.2) })
+
+-- so it lies in the fragment
+pub lies_there : (cat : Catalogue) (f : ℕ) (xs : Dated) (e : Item × Row) → ArePlaced cat xs
+    → Contains (entries_of cat f (contents f xs)) e → fragment_of cat e.0.0 e.0.1 ≡ f
+lies_there cat f xs e placed h =
+    let g = held_by cat f xs e h in
+    let item : item_of cat (g.0).1 ≡ e.0 =
+    ap (λ n. ((fragment_at cat n).rel.0, (g.0).1.key)) g.1.frag ∙ g.1.item in
+    sym (fragment_is cat xs e.0 g.0 placed g.1.there item) ∙ g.1.frag

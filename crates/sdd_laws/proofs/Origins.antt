@@ -1,0 +1,148 @@
+-- Where the dated changes of copies come from; and so that each names its item's fragment, and those of one item with
+-- one date leave one row.
+use Rattle.std.proofs.Common.{ℕ, ◌≡◌, inl, inr, List, map, Some, ap, sym, ◌∙◌, subst, arith}
+use Rattle.std.specs.List.{Contains}
+use Rattle.std.proofs.lemmas.List.Elements.{Contains-append_left, Contains-append_right, Contains-append_cases, All-contains}
+use Rattle.sdd_base.specs.declared.change.Change.{Change}
+use Rattle.sdd_catalog.specs.Catalogue.{Catalogue, fragment_at, fragment_of}
+use Rattle.sdd_catalog.specs.Rules.{IsSound}
+use Rattle.sdd_lang.specs.Database.{Item, Row, Database, item_cmp}
+use Rattle.sdd_lang.specs.Serial.{item_of}
+use Rattle.sdd_lang.specs.Sound.{IsDatabase, IsEntry}
+use Rattle.sdd_lang.proofs.EffectChanges.{entry_placed}
+use Rattle.sdd_lang.proofs.SortedEntries.{item_cmp_total, item_cmp_exact}
+use Rattle.sdd_copy.specs.Items.{dated}
+use Rattle.sdd_copy.specs.Sets.{DatesDiffer}
+use Rattle.sdd_laws.specs.Committed.{Writers, first_row, changes_of, all_dated}
+use Rattle.sdd_laws.specs.Values.{IsPlaced, ArePlaced, LeaveOneRow, AreWriters}
+use Rattle.sdd_laws.proofs.LookUps.{one_entry}
+use Rattle.sdd_laws.proofs.Members.{Contains-map, Contains-from_map, Contains-flat_map, Contains-from_flat_map}
+
+item_is : (cat : Catalogue) (c d : Change) → c.frag.0 ≡ d.frag.0 → c.key ≡ d.key → item_of cat c ≡ item_of cat d
+item_is cat c d f k =
+    ap (λ n. ((fragment_at cat n).rel.0, c.key)) f ∙ ap (λ i. ((fragment_at cat d.frag.0).rel.0, i)) k
+
+-- an entry of a database lies in a fragment of its relation
+pub entry_lies : (cat : Catalogue) → IsSound cat → (db : Database) → IsDatabase cat db → (e : Item × Row)
+    → Contains db e → (fragment_at cat (fragment_of cat e.0.0 e.0.1)).rel.0 ≡ e.0.0
+entry_lies cat sound db is e h =
+    let entry : IsEntry cat e = All-contains (IsEntry cat) db e is.entries h in
+    entry_placed cat sound e.0.0 e.0.1 entry.relation entry.key_held
+
+module _ {T : Type 0} (cat : Catalogue) (first : Database) (w : Writers T) where
+  pub data Origin (txns : List T) (x : ℕ × Change) : Type 0 where
+    initial : (e : Item × Row) → Contains first e → x ≡ first_row cat e → Origin txns x
+    made : (t : T) → Contains txns t → (c : Change) → Contains (w.changes t) c → x ≡ (w.ts t, c) → Origin txns x
+
+  pub origin : (txns : List T) (x : ℕ × Change) → Contains (all_dated cat first w txns) x → Origin txns x
+  origin txns x h =
+      elim (Contains-append_cases (map (first_row cat) first) (changes_of w txns) x h) [
+        | inl a ↦ let m = Contains-from_map (first_row cat) first x a in initial m.0 m.1 m.2
+        | inr b ↦
+            let t = Contains-from_flat_map (λ x. dated (w.ts x) (w.changes x)) txns x b in
+            let m = Contains-from_map (λ c. (w.ts t.0, c)) (w.changes t.0) x t.2 in
+            made t.0 t.1 m.0 m.1 m.2
+      ]
+
+  pub from_origin : (txns : List T) (x : ℕ × Change) → Origin txns x → Contains (all_dated cat first w txns) x
+  from_origin txns x (initial e h same) =
+      subst (Contains (all_dated cat first w txns)) (sym same)
+      (Contains-append_left (map (first_row cat) first) (changes_of w txns) (first_row cat e)
+      (Contains-map (first_row cat) first e h))
+  from_origin txns x (made t h c k same) =
+      subst (Contains (all_dated cat first w txns)) (sym same)
+      (Contains-append_right (map (first_row cat) first) (changes_of w txns) (w.ts t, c)
+      (Contains-flat_map (λ x. dated (w.ts x) (w.changes x)) txns t (w.ts t, c) h
+      (Contains-map (λ c. (w.ts t, c)) (w.changes t) c k)))
+
+  -- what transactions changed, more have changed
+  pub more_origins : (few many : List T) (x : ℕ × Change) → ((t : T) → Contains few t → Contains many t)
+      → Origin few x → Origin many x
+  more_origins few many x within (initial e h same) = initial e h same
+  more_origins few many x within (made t h c k same) = made t (within t h) c k same
+
+  module _ (sound : IsSound cat) (is : IsDatabase cat first) where
+    pub first_item : (e : Item × Row) → Contains first e → item_of cat (first_row cat e).1 ≡ e.0
+    first_item e h = ap (λ r. (r, e.0.1)) (entry_lies cat sound first is e h)
+
+    module _ (commits : List T) (writers : AreWriters cat w commits) (txns : List T) (within : (t : T) → Contains txns t → Contains commits t) where
+      pub all_placed : ArePlaced cat (all_dated cat first w txns)
+      all_placed x h =
+          elim (origin txns x h) [
+            | initial e there same ↦
+                subst (λ (z : ℕ × Change). IsPlaced cat z.1) (sym same)
+                (ap (λ (i : Item). fragment_of cat i.0 i.1) (first_item e there))
+            | made t there c k same ↦
+                subst (λ (z : ℕ × Change). IsPlaced cat z.1) (sym same) (writers.placed t (within t there) c k)
+          ]
+
+      one_row : (x y : ℕ × Change) → Origin txns x → Origin txns y → item_of cat x.1 ≡ item_of cat y.1 → x.0 ≡ y.0
+          → x.1.row ≡ y.1.row
+      one_row x y (initial d h p) (initial e k q) i t =
+          let at : d.0 ≡ e.0 =
+          sym (first_item d h) ∙ ap (λ (z : ℕ × Change). item_of cat z.1) (sym p) ∙ i
+          ∙ ap (λ (z : ℕ × Change). item_of cat z.1) q ∙ first_item e k in
+          let rows : d.1 ≡ e.1 =
+          one_entry item_cmp item_cmp_total item_cmp_exact first e.0 d.1 e.1 is.ascends
+          (subst (λ j. Contains first (j, d.1)) at h) k in
+          ap (λ (z : ℕ × Change). z.1.row) p ∙ ap (λ z. Some z) rows ∙ ap (λ (z : ℕ × Change). z.1.row) (sym q)
+      one_row x y (initial d h p) (made u k c m q) i t =
+          let l = writers.time u (within u k) in
+          let a : x.0 ≡ 0 = ap (λ (z : ℕ × Change). z.0) p in
+          let b : y.0 ≡ w.ts u = ap (λ (z : ℕ × Change). z.0) q in
+          absurd (omega (arith, l))
+      one_row x y (made u k c m q) (initial d h p) i t =
+          let l = writers.time u (within u k) in
+          let a : y.0 ≡ 0 = ap (λ (z : ℕ × Change). z.0) p in
+          let b : x.0 ≡ w.ts u = ap (λ (z : ℕ × Change). z.0) q in
+          absurd (omega (arith, l))
+      one_row x y (made u h c m p) (made v k d n q) i t =
+          let times : w.ts u ≡ w.ts v = ap (λ (z : ℕ × Change). z.0) (sym p) ∙ t ∙ ap (λ (z : ℕ × Change). z.0) q in
+          let items : item_of cat c ≡ item_of cat d =
+          ap (λ (z : ℕ × Change). item_of cat z.1) (sym p) ∙ i ∙ ap (λ (z : ℕ × Change). item_of cat z.1) q in
+          let same : c ≡ d =
+          writers.once v (within v k) c d
+          (subst (λ z. Contains z c) (writers.one_time u v (within u h) (within v k) times) m) n items in
+          ap (λ (z : ℕ × Change). z.1.row) p ∙ ap (λ (z : Change). z.row) same
+          ∙ ap (λ (z : ℕ × Change). z.1.row) (sym q)
+
+      pub all_leave_one_row : LeaveOneRow cat (all_dated cat first w txns)
+      all_leave_one_row x y h k i t = one_row x y (origin txns x h) (origin txns y k) i t
+
+      -- two different ones of one item have different dates
+      one_change : (x y : ℕ × Change) → Origin txns x → Origin txns y → x.1.frag.0 ≡ y.1.frag.0 → x.1.key ≡ y.1.key
+          → x.0 ≡ y.0 → x ≡ y
+      one_change x y (initial d h p) (initial e k q) f i t =
+          let items : item_of cat x.1 ≡ item_of cat y.1 = item_is cat x.1 y.1 f i in
+          let at : d.0 ≡ e.0 =
+          sym (first_item d h) ∙ ap (λ (z : ℕ × Change). item_of cat z.1) (sym p) ∙ items
+          ∙ ap (λ (z : ℕ × Change). item_of cat z.1) q ∙ first_item e k in
+          let rows : d.1 ≡ e.1 =
+          one_entry item_cmp item_cmp_total item_cmp_exact first e.0 d.1 e.1 is.ascends
+          (subst (λ j. Contains first (j, d.1)) at h) k in
+          let same : d ≡ e = ap (λ j. (j, d.1)) at ∙ ap (λ r. (e.0, r)) rows in
+          p ∙ ap (first_row cat) same ∙ sym q
+      one_change x y (initial d h p) (made u k c m q) f i t =
+          let l = writers.time u (within u k) in
+          let a : x.0 ≡ 0 = ap (λ (z : ℕ × Change). z.0) p in
+          let b : y.0 ≡ w.ts u = ap (λ (z : ℕ × Change). z.0) q in
+          absurd (omega (arith, l))
+      one_change x y (made u k c m q) (initial d h p) f i t =
+          let l = writers.time u (within u k) in
+          let a : y.0 ≡ 0 = ap (λ (z : ℕ × Change). z.0) p in
+          let b : x.0 ≡ w.ts u = ap (λ (z : ℕ × Change). z.0) q in
+          absurd (omega (arith, l))
+      one_change x y (made u h c m p) (made v k d n q) f i t =
+          let times : w.ts u ≡ w.ts v = ap (λ (z : ℕ × Change). z.0) (sym p) ∙ t ∙ ap (λ (z : ℕ × Change). z.0) q in
+          let frags : c.frag.0 ≡ d.frag.0 =
+          ap (λ (z : ℕ × Change). z.1.frag.0) (sym p) ∙ f ∙ ap (λ (z : ℕ × Change). z.1.frag.0) q in
+          let keys : c.key ≡ d.key =
+          ap (λ (z : ℕ × Change). z.1.key) (sym p) ∙ i ∙ ap (λ (z : ℕ × Change). z.1.key) q in
+          let same : c ≡ d =
+          writers.once v (within v k) c d
+          (subst (λ z. Contains z c) (writers.one_time u v (within u h) (within v k) times) m) n
+          (item_is cat c d frags keys) in
+          p ∙ ap (λ z. (z, c)) times ∙ ap (λ z. (w.ts v, z)) same ∙ sym q
+
+      pub dates_differ : DatesDiffer (all_dated cat first w txns)
+      dates_differ x y h k f i t = one_change x y (origin txns x h) (origin txns y k) f i t

@@ -1,0 +1,186 @@
+-- The serial run along an order: each transaction gives the result of its Commit, and what is left has the values.
+use Rattle.std.proofs.Common.{ℕ, ◌≡◌, ◌⊎◌, inl, inr, true, not, List, [], ◌∷◌, map, refl, ap, sym, ◌∙◌, subst}
+use Rattle.std.specs.List.{Contains, filter}
+use Rattle.std.proofs.lemmas.Bool.{false≢true}
+use Rattle.std.proofs.lemmas.List.Elements.{All-from_recursion}
+use Rattle.sdd_base.proofs.Membership.{Contains-nil, Contains-here, Contains-later, Contains-cases}
+use Rattle.sdd_catalog.specs.Catalogue.{Catalogue}
+use Rattle.sdd_catalog.specs.Rules.{IsSound}
+use Rattle.sdd_lang.specs.declared.effect.Effect.{Effect}
+use Rattle.sdd_lang.specs.Agree.{rows_in_fragment}
+use Rattle.sdd_lang.specs.Classes.{read_set}
+use Rattle.sdd_lang.specs.Database.{Database}
+use Rattle.sdd_lang.specs.Effect.{effect}
+use Rattle.sdd_lang.specs.Serial.{after_changes, after_reply, serial}
+use Rattle.sdd_lang.specs.Sound.{IsDatabase}
+use Rattle.sdd_lang.proofs.ReadSetDecides.{read_set_decides}
+use Rattle.sdd_lang.proofs.StaysDatabase.{stays_database}
+use Rattle.sdd_laws.proofs.Members.{all_have, Contains-filter, Contains-from_filter}
+use Rattle.sdd_laws.proofs.Origins.{origin, from_origin, more_origins}
+use Rattle.sdd_laws.proofs.Values.{same_value}
+use Rattle.sdd_laws.specs.declared.meeting.Meeting.TheVariants.{WriteRead, ReadWrite}
+use Rattle.sdd_laws.specs.Ledger.{Ledger, Reads, changes, writers, gathered}
+use Rattle.sdd_laws.specs.Order.{MayStandFirst, IsAlong, IsOrder}
+use Rattle.sdd_laws.specs.Order.Meets.{writes_read, reads_write}
+use Rattle.sdd_laws.specs.Recorded.{AreRecorded}
+use Rattle.sdd_laws.specs.Replayed.{Gives, HasValues, ChangesOf, IsReplayed, run}
+use Rattle.sdd_laws.proofs.Fragments.{rows_agree}
+use Rattle.sdd_laws.proofs.Snapshots.{bases_are, are_writers, snapshot_is}
+use Rattle.sdd_laws.proofs.Steps.{at_start, one_more}
+
+-- the database that is left, with the changes that the Commits tell
+abbrev after_all : {T : Type 0} → Catalogue → Ledger T → Database → List T → Database
+after_all cat L db [] = db
+after_all cat L db (x ∷ rest) = after_all cat L (after_changes cat db (changes L x)) rest
+
+-- where each gives the result of its Commit, the serial run gives their replies
+serial_gives : {T : Type 0} (cat : Catalogue) (L : Ledger T) (order : List T) (db : Database) → Gives cat L db order
+    → serial cat db (map (λ x. L.text x) order) ≡ (map (λ x. (L.result x).reply) order, after_all cat L db order)
+serial_gives cat L [] db g = refl
+serial_gives cat L (x ∷ rest) db g =
+    ap (λ (e : Effect). after_reply e.reply (serial cat (after_changes cat db e.changes) (map (λ x. L.text x) rest)))
+    g.0
+    ∙ ap (after_reply (L.result x).reply) (serial_gives cat L rest (after_changes cat db (changes L x)) g.1)
+
+module _ {T : Type 0} (cat : Catalogue) (sound : IsSound cat) (first : Database) (first_is : IsDatabase cat first)
+    (L : Ledger T) (commits : List T) (told : AreRecorded cat first L commits) where
+  -- what is known where some are done and the others left
+  record Stage (done rest : List T) : Type 0 where
+    all : (z : T) → Contains commits z → Contains done z ⊎ Contains rest z
+    of_done : (z : T) → Contains done z → Contains commits z
+    of_rest : (z : T) → Contains rest z → Contains commits z
+    before : (z y : T) → Contains done z → Contains rest y → MayStandFirst cat L z y
+    along : IsAlong cat L rest
+
+  next_stage : (done : List T) (x : T) (rest : List T) → Stage done (x ∷ rest) → Stage (x ∷ done) rest
+  next_stage done x rest st =
+      record {
+        all = λ z h. elim (st.all z h) [
+          | inl d ↦ inl (Contains-later x done z d)
+          | inr r ↦ elim (Contains-cases x rest z r) [ inl e ↦ inl (subst (Contains (x ∷ done)) (sym e) (Contains-here x done)) | inr k ↦ inr k ]
+        ];
+        of_done =
+            λ z h.
+            elim (Contains-cases x done z h) as (λ s. Contains commits z)
+            [ inl e ↦ subst (Contains commits) (sym e) (st.of_rest x (Contains-here x rest)) | inr k ↦ st.of_done z k ];
+        of_rest = λ z h. st.of_rest z (Contains-later x rest z h);
+        before = λ z y h k. elim (Contains-cases x done z h) as (λ s. MayStandFirst cat L z y) [
+          | inl e ↦ subst (λ w. MayStandFirst cat L w y) (sym e) (st.along.0 y k)
+          | inr d ↦ st.before z y d (Contains-later x rest y k)
+        ];
+        along = st.along.1;
+      }
+
+  -- the transactions that one saw where it reads a fragment
+  abbrev seen : T → ℕ → List T
+  seen x f = filter (L.saw x f) commits
+
+  -- of those that change a fragment which the next one reads, it saw exactly those done
+
+  done_seen : (done : List T) (x : T) (rest : List T) (f : ℕ) → Stage done (x ∷ rest) → Reads cat L x f → (t : T)
+      → Contains done t → ChangesOf L t f → Contains (seen x f) t
+  done_seen done x rest f st reads t h c =
+      let saw : L.saw x (c.0).frag.0 t ≡ true =
+      st.before t x h (Contains-here x rest) (WriteRead (L.saw x (c.0).frag.0 t))
+      (writes_read c.0 c.1 (subst (λ g. Reads cat L x g) (sym c.2) reads)) in
+      Contains-filter (L.saw x f) commits t (st.of_done t h) (subst (λ g. L.saw x g t ≡ true) c.2 saw)
+
+  seen_done : (done : List T) (x : T) (rest : List T) (f : ℕ) → Stage done (x ∷ rest) → Reads cat L x f → (t : T)
+      → Contains (seen x f) t → ChangesOf L t f → Contains done t
+  seen_done done x rest f st reads t h c =
+      let k = Contains-from_filter (L.saw x f) commits t h in
+      elim (st.all t k.0) as (λ _. Contains done t) [
+        | inl d ↦ d
+        | inr r ↦ elim (Contains-cases x rest t r) as (λ _. Contains done t) [
+          | inl here ↦
+              absurd
+              (false≢true
+              (sym (told.not_itself x (st.of_rest x (Contains-here x rest)) f reads)
+              ∙ subst (λ z. L.saw x f z ≡ true) here k.1))
+          | inr behind ↦
+              let unseen : not (L.saw x (c.0).frag.0 t) ≡ true =
+              st.along.0 t behind (ReadWrite (L.saw x (c.0).frag.0 t))
+              (reads_write c.0 c.1 (subst (λ g. Reads cat L x g) (sym c.2) reads)) in
+              let saw : L.saw x (c.0).frag.0 t ≡ true = subst (λ g. L.saw x g t ≡ true) (sym c.2) k.1 in
+              absurd (false≢true (subst (λ b. not b ≡ true) saw unseen))
+        ]
+      ]
+
+  -- so the serial run gives the result of the next
+  gives_next : (done : List T) (x : T) (rest : List T) (db : Database) → Stage done (x ∷ rest)
+      → HasValues cat first L done db → effect cat db (L.text x) ≡ L.result x
+  gives_next done x rest db st has =
+      let there : Contains commits x = st.of_rest x (Contains-here x rest) in
+      let base : Database = gathered (told.pieces x) in
+      let same : (f : ℕ) → Reads cat L x f → rows_in_fragment cat db f ≡ rows_in_fragment cat base f =
+      λ f reads.
+      rows_agree cat sound first first_is L commits (are_writers cat sound first first_is L commits told) done
+      (seen x f) db f (λ t h. st.of_done t h) (λ t h. (Contains-from_filter (L.saw x f) commits t h).0)
+      has (done_seen done x rest f st reads) (seen_done done x rest f st reads)
+      ∙ sym (snapshot_is cat sound first first_is L commits told x there f reads) in
+      read_set_decides cat sound (L.text x) (told.fits x there) db base has.is
+      (bases_are cat sound first first_is L commits told x there)
+      (All-from_recursion (λ f. rows_in_fragment cat db f ≡ rows_in_fragment cat base f) (read_set cat (L.text x))
+      (all_have (λ f. rows_in_fragment cat db f ≡ rows_in_fragment cat base f) (read_set cat (L.text x)) same))
+      ∙ told.effect_is x there
+
+  all_done : (done : List T) (db : Database) → Stage done [] → HasValues cat first L done db
+      → HasValues cat first L commits db
+  all_done done db st has =
+      let in_done : (t : T) → Contains commits t → Contains done t =
+      λ t k. elim (st.all t k) [ inl d ↦ d | inr none ↦ absurd (Contains-nil t none) ] in
+      record {
+        is = has.is;
+        value = λ item.
+            same_value cat _ _ item _
+            (λ y o h.
+            from_origin cat first (writers L) commits y
+            (more_origins cat first (writers L) done commits y (λ t k. st.of_done t k)
+            (origin cat first (writers L) done y h)))
+            (λ y o h.
+            from_origin cat first (writers L) done y
+            (more_origins cat first (writers L) commits done y in_done (origin cat first (writers L) commits y h)))
+            (has.value item);
+      }
+
+  run_from : (rest done : List T) (db : Database) → Stage done rest → HasValues cat first L done db
+      → Gives cat L db rest × HasValues cat first L commits (after_all cat L db rest)
+  run_from [] done db st has = (tt, all_done done db st has)
+  run_from (x ∷ rest) done db st has =
+      let there : Contains commits x = st.of_rest x (Contains-here x rest) in
+      let e : effect cat db (L.text x) ≡ L.result x = gives_next done x rest db st has in
+      let after : IsDatabase cat (after_changes cat db (changes L x)) =
+      subst (λ (z : Effect). IsDatabase cat (after_changes cat db z.changes)) e
+      (stays_database cat sound (L.text x) (told.fits x there) (told.puts_held x there) db has.is) in
+      let next_st : Stage (x ∷ done) rest = next_stage done x rest st in
+      let next =
+      one_more cat sound first first_is L commits (are_writers cat sound first first_is L commits told) done x
+      next_st.of_done (λ z h. st.before z x h (Contains-here x rest)) db has after in
+      let later = run_from rest (x ∷ done) (after_changes cat db (changes L x)) next_st next in
+      ((e, later.0), later.1)
+
+  pub replayed : (order : List T) → IsOrder cat L commits order → IsReplayed cat first L commits order
+  replayed order is_order =
+      let begin : Stage [] order =
+      record {
+        all = λ z h. inr ((is_order.same z).0 h);
+        of_done = λ z h. absurd (Contains-nil z h);
+        of_rest = λ z h. (is_order.same z).1 h;
+        before = λ z y h k. absurd (Contains-nil z h);
+        along = is_order.along;
+      } in
+      let whole = run_from order [] first begin (at_start cat sound first first_is L) in
+      let serial_is = serial_gives cat L order first whole.0 in
+      let left : HasValues cat first L commits (run cat first L order).1 =
+      subst (HasValues cat first L commits) (sym (ap (λ z. z.1) serial_is)) whole.1 in
+      record {
+        gives = whole.0;
+        replies = ap (λ z. z.0) serial_is;
+        leaves = left;
+        copies = λ f applied all.
+            rows_agree cat sound first first_is L commits (are_writers cat sound first first_is L commits told)
+            commits (filter applied commits) (run cat first L order).1 f
+            (λ t h. h) (λ t h. (Contains-from_filter applied commits t h).0) left
+            (λ t h c. Contains-filter applied commits t h (all t h c))
+            (λ t h c. (Contains-from_filter applied commits t h).0);
+      }

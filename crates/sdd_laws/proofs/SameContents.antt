@@ -1,0 +1,101 @@
+-- A copy is told by which of the transactions that change its fragment are applied.
+use Rattle.std.proofs.Common.{ℕ, ◌≡◌, ◌==◌, inl, inr, ◌&&◌, Bool, true, false, cond, List, [], ◌∷◌, ◌++◌, map, refl, ap, sym, ◌∙◌}
+use Rattle.std.specs.List.{Contains, filter}
+use Rattle.std.proofs.lemmas.Bool.{cases_Bool}
+use Rattle.std.proofs.lemmas.Bool.Decides.{Decides-eqb}
+use Rattle.sdd_base.proofs.Membership.{Contains-here, Contains-later}
+use Rattle.sdd_base.specs.declared.change.Change.{Change}
+use Rattle.sdd_catalog.specs.Catalogue.{Catalogue}
+use Rattle.sdd_lang.specs.Database.{Database}
+use Rattle.sdd_copy.specs.Contents.{Dated, of_fragment, rows_left}
+use Rattle.sdd_copy.specs.Items.{dated}
+use Rattle.sdd_laws.specs.Committed.{Writers, first_row, changes_of, counts, taken, copy_of}
+
+of_joined : (f : ℕ) (xs ys : Dated) → of_fragment f (xs ++ ys) ≡ of_fragment f xs ++ of_fragment f ys
+of_joined f [] ys = refl
+of_joined f (x ∷ xs) ys =
+    elim (x.1.frag.0 == f) as (λ b.
+    cond b (x ∷ of_fragment f (xs ++ ys)) (of_fragment f (xs ++ ys)) ≡ cond b (x ∷ of_fragment f xs)
+    (of_fragment f xs) ++ of_fragment f ys) [
+      | true ↦ ap (λ z. x ∷ z) (of_joined f xs ys)
+      | false ↦ of_joined f xs ys
+    ]
+
+-- the changes of a transaction that is applied, and of one that isn't
+of_applied : (f date : ℕ) (cs : List Change) → of_fragment f (dated date cs) ≡ dated date (filter (counts true f) cs)
+of_applied f date [] = refl
+of_applied f date (c ∷ cs) =
+    elim (c.frag.0 == f) as (λ b.
+    cond b ((date, c) ∷ of_fragment f (dated date cs)) (of_fragment f (dated date cs)) ≡ dated date
+    (cond b (c ∷ filter (counts true f) cs) (filter (counts true f) cs))) [
+      | true ↦ ap (λ z. (date, c) ∷ z) (of_applied f date cs)
+      | false ↦ of_applied f date cs
+    ]
+
+of_others : (f : ℕ) (cs : List Change) → filter (counts false f) cs ≡ []
+of_others f [] = refl
+of_others f (c ∷ cs) = of_others f cs
+
+module _ {T : Type 0} (w : Writers T) (f : ℕ) where
+  one_taken : (b : Bool) (x : T) (rest : List T)
+      → of_fragment f (changes_of w (cond b (x ∷ rest) rest)) ≡ dated (w.ts x) (filter (counts b f) (w.changes x)) ++
+      of_fragment f (changes_of w rest)
+  one_taken true x rest =
+      of_joined f (dated (w.ts x) (w.changes x)) (changes_of w rest)
+      ∙ ap (λ z. z ++ of_fragment f (changes_of w rest)) (of_applied f (w.ts x) (w.changes x))
+  one_taken false x rest =
+      ap (λ z. dated (w.ts x) z ++ of_fragment f (changes_of w rest)) (sym (of_others f (w.changes x)))
+
+  all_taken : (commits : List T) (applied : T → Bool)
+      → of_fragment f (changes_of w (filter applied commits)) ≡ taken w commits applied f
+  all_taken [] applied = refl
+  all_taken (x ∷ commits) applied =
+      one_taken (applied x) x (filter applied commits)
+      ∙ ap (λ z. dated (w.ts x) (filter (counts (applied x) f) (w.changes x)) ++ z) (all_taken commits applied)
+
+  same_counted : (a b : Bool) (cs : List Change) → ((c : Change) → Contains cs c → c.frag.0 ≡ f → a ≡ b)
+      → filter (counts a f) cs ≡ filter (counts b f) cs
+  same_counted a b [] h = refl
+  same_counted a b (c ∷ cs) h =
+      let rest = same_counted a b cs (λ d there e. h d (Contains-later c cs d there) e) in
+      let test : counts a f c ≡ counts b f c =
+      elim (cases_Bool (c.frag.0 == f)) [
+        | inl own ↦ ap (λ z. counts z f c) (h c (Contains-here c cs) ((Decides-eqb c.frag.0 f).0 own))
+        | inr other ↦ ap (λ z. a && z) other ∙ neither a b ∙ ap (λ z. b && z) (sym other)
+      ] in
+      ap (λ z. cond z (c ∷ filter (counts a f) cs) (filter (counts a f) cs)) test
+      ∙ ap (λ z. cond (counts b f c) (c ∷ z) z) rest
+    where
+      neither : (a b : Bool) → (a && false) ≡ (b && false)
+      neither true true = refl
+      neither true false = refl
+      neither false true = refl
+      neither false false = refl
+
+  same_taken : (commits : List T) (a b : T → Bool)
+      → ((x : T) → Contains commits x → (c : Change) → Contains (w.changes x) c → c.frag.0 ≡ f → a x ≡ b x)
+      → taken w commits a f ≡ taken w commits b f
+  same_taken [] a b h = refl
+  same_taken (x ∷ commits) a b h =
+      ap (λ z. dated (w.ts x) z ++ taken w commits a f)
+      (same_counted (a x) (b x) (w.changes x) (h x (Contains-here x commits)))
+      ∙ ap (λ z. dated (w.ts x) (filter (counts (b x) f) (w.changes x)) ++ z)
+      (same_taken commits a b (λ y there. h y (Contains-later x commits y there)))
+
+module _ {T : Type 0} (cat : Catalogue) (first : Database) (w : Writers T) (commits : List T) where
+  pub copy_takes : (applied : T → Bool) (f : ℕ)
+      → copy_of cat first w commits applied f ≡ rows_left
+      (of_fragment f (map (first_row cat) first) ++ taken w commits applied f)
+  copy_takes applied f =
+      ap rows_left
+      (of_joined f (map (first_row cat) first) (changes_of w (filter applied commits))
+      ∙ ap (λ z. of_fragment f (map (first_row cat) first) ++ z) (all_taken w f commits applied))
+
+  -- where two tests agree on the transactions that change the fragment, the copies are equal
+  pub same_copies : (a b : T → Bool) (f : ℕ)
+      → ((x : T) → Contains commits x → (c : Change) → Contains (w.changes x) c → c.frag.0 ≡ f → a x ≡ b x)
+      → copy_of cat first w commits a f ≡ copy_of cat first w commits b f
+  same_copies a b f h =
+      copy_takes a f
+      ∙ ap (λ z. rows_left (of_fragment f (map (first_row cat) first) ++ z)) (same_taken w f commits a b h)
+      ∙ sym (copy_takes b f)

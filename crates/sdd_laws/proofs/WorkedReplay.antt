@@ -1,0 +1,142 @@
+-- Two transactions that meet the theorem's conditions: one puts a row, and the other, which saw it, asks for all rows.
+use Rattle.std.proofs.Common.{ℕ, ◌<◌, ◌≤◌, ◌≡◌, inl, inr, pos, Bool, true, false, cond, not, ◌&&◌, List, [], ◌∷◌, Some, refl, sym, subst, arith, lit≤, lit<}
+use Rattle.std.specs.List.{Contains}
+use Rattle.std.proofs.lemmas.Bool.{false≢true}
+use Rattle.std.proofs.lemmas.List.Elements.{All-from_recursion}
+use Rattle.sdd_base.proofs.Membership.{Contains-nil, Contains-here, Contains-cases}
+use Rattle.sdd_base.specs.Numbers.{frag_no}
+use Rattle.sdd_lang.specs.declared.statement.Stmt.{Stmt}
+use Rattle.sdd_lang.specs.declared.statement.Stmt.TheVariants.{Put}
+use Rattle.sdd_lang.specs.declared.transaction.Txn.{Txn}
+use Rattle.sdd_lang.specs.Database.{Item, Row}
+use Rattle.sdd_lang.specs.Effect.{effect}
+use Rattle.sdd_lang.specs.Examples.{rel, ref, two, accounts, txn, get_all}
+use Rattle.sdd_lang.specs.Fits.{FitsStatement, FitsRef, FitsCondition, IsRelation}
+use Rattle.sdd_lang.specs.Sound.{PutsHeld, IsHeld}
+use Rattle.sdd_laws.specs.declared.meeting.Meeting.{Meeting}
+use Rattle.sdd_laws.specs.declared.meeting.Meeting.TheVariants.{ReadWrite}
+use Rattle.sdd_laws.specs.Ledger.{Ledger, Reads, snapshot, gathered}
+use Rattle.sdd_laws.specs.Order.{MayStandFirst, may_stand_first, Meets, IsOrder}
+use Rattle.sdd_laws.specs.Order.Meets.{both_write, writes_read, reads_write}
+use Rattle.sdd_laws.specs.Recorded.{AreRecorded}
+
+abbrev put_five : Stmt
+put_five = Put (rel 1) (two (pos 5) (pos 10))
+
+abbrev five : Item × Row
+five = ((1, pos 5), two (pos 5) (pos 10))
+
+-- false is the writer, true the reader
+abbrev text : Bool → Txn
+text x = txn (cond x get_all put_five ∷ [])
+
+abbrev pieces : Bool → List (Item × Row)
+pieces x = cond x (five ∷ []) []
+
+abbrev pair : Ledger Bool
+pair =
+    record {
+      text = text;
+      ts = λ x. cond x 129 65;
+      result = λ x. effect accounts (gathered (pieces x)) (text x);
+      saw = λ x f y. x && not y;
+    }
+
+abbrev commits : List Bool
+commits = false ∷ true ∷ []
+
+statement_fits : (x : Bool) → FitsStatement accounts (cond x get_all put_five)
+statement_fits true = (
+  (lit≤ tt, lit≤ tt),
+  All-from_recursion (λ r. IsRelation accounts r.0) (rel 1 ∷ []) ((lit≤ tt, lit≤ tt), tt),
+  (lit≤ tt, lit≤ tt),
+  All-from_recursion (FitsRef accounts (rel 1 ∷ [])) (ref 1 1 ∷ ref 1 2 ∷ [])
+      (((lit≤ tt, lit≤ tt), (lit≤ tt, lit≤ tt)), (((lit≤ tt, lit≤ tt), (lit≤ tt, lit≤ tt)), tt)),
+  (lit≤ tt, All-from_recursion (FitsCondition accounts (rel 1 ∷ [])) [] tt),
+)
+statement_fits false = ((lit≤ tt, lit≤ tt), refl)
+
+held : (x : Bool) → PutsHeld (cond x get_all put_five)
+held true = tt
+held false = All-from_recursion IsHeld (two (pos 5) (pos 10)) (refl, (refl, tt))
+
+time : (x : Bool) → 1 ≤ pair.ts x
+time true = lit≤ tt
+time false = lit≤ tt
+
+one_time : (x y : Bool) → pair.ts x ≡ pair.ts y → pair.result x ≡ pair.result y
+one_time true true e = refl
+one_time true false e = absurd (omega arith)
+one_time false true e = absurd (omega arith)
+one_time false false e = refl
+
+not_itself : (x : Bool) → (x && not x) ≡ false
+not_itself true = refl
+not_itself false = refl
+
+earlier : (x y : Bool) → (x && not y) ≡ true → cond y 1 0 < cond x 1 0
+earlier true true e = cc
+earlier true false e = lit< tt
+earlier false y e = cc
+
+-- the fragment that the reader reads is the first
+read_first : (f : ℕ) → Reads accounts pair true f → f ≡ 1
+read_first f r = elim (Contains-cases 1 [] f r) [ inl e ↦ e | inr none ↦ absurd (Contains-nil f none) ]
+
+each_piece : (x : Bool) (f : ℕ) (e : Item × Row) → Reads accounts pair x f
+    → Contains (snapshot accounts [] pair commits x f) e → Contains (pieces x) e
+each_piece true f e r h = subst (λ n. Contains (snapshot accounts [] pair commits true n) e) (read_first f r) h
+each_piece false f e r h = absurd (Contains-nil f r)
+
+of_piece : (x : Bool) (e : Item × Row) → Contains (pieces x) e
+    → (f : ℕ) × Reads accounts pair x f × Contains (snapshot accounts [] pair commits x f) e
+of_piece true e h = (1, Contains-here 1 [], h)
+of_piece false e h = absurd (Contains-nil e h)
+
+pub recorded : AreRecorded accounts [] pair commits
+recorded =
+    record {
+      fits =
+          λ x there.
+          record {
+            module_is_there = (lit≤ tt, lit≤ tt);
+            few = lit≤ tt;
+            statements =
+                All-from_recursion (FitsStatement accounts) (cond x get_all put_five ∷ []) (statement_fits x, tt);
+          };
+      puts_held = λ x there. All-from_recursion PutsHeld (cond x get_all put_five ∷ []) (held x, tt);
+      time = λ x there. time x;
+      one_time = λ x y a b e. one_time x y e;
+      not_itself = λ x there f r. not_itself x;
+      place = λ x. cond x 1 0;
+      earlier = λ x y a b f r e. earlier x y e;
+      pieces = pieces;
+      are_pieces = record { each = λ x there f e r h. each_piece x f e r h; of = λ x there e h. of_piece x e h };
+      effect_is = λ x there. refl;
+    }
+
+writer_first : (m : Meeting) → Meets accounts pair false true m → may_stand_first m ≡ true
+writer_first m (both_write c d h k e) = refl
+writer_first m (writes_read c h r) = refl
+writer_first m (reads_write c h r) = refl
+
+-- the reader may not stand first
+pub reader_not_first : MayStandFirst accounts pair true false → ⊥
+reader_not_first may =
+    false≢true
+    (may (ReadWrite true)
+    (reads_write (record { frag = frag_no 1; key = pos 5; row = Some (two (pos 5) (pos 10)) }) (Contains-here _ [])
+    (Contains-here 1 [])))
+
+-- so the writer stands first
+pub order : IsOrder accounts pair commits commits
+order =
+    record {
+      same = λ x. ((λ h. h), (λ h. h));
+      along = (
+        (λ y h.
+            elim (Contains-cases true [] y h) as (λ s. MayStandFirst accounts pair false y)
+            [ inl e ↦ subst (λ z. MayStandFirst accounts pair false z) (sym e) writer_first | inr none ↦ absurd (Contains-nil y none) ]),
+        ((λ y h. absurd (Contains-nil y h)), tt),
+      );
+    }

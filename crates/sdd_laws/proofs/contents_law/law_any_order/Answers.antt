@@ -1,0 +1,5 @@
+use Rattle.sdd_laws.proofs.CopyValues.{any_order}
+use Rattle.sdd_laws.proofs.contents_law.law_any_order.Goals as goal
+
+pub returns : goal.returns
+returns g c = any_order c.args.cat.now c.known.ensures.sound

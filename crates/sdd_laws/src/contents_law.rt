@@ -1,0 +1,63 @@
+//! Laws of copies: facts about the definitions, each carried by the contract of a function. A
+//! program has no need to call them. They hold of transactions of any type `T`.
+ghost use Rattle.std.specs.Prelude.{ℕ, ℤ, ◌≡◌, ◌↔◌, Bool, List, Contains, Option, Some, ◌++◌, filter, map};
+ghost use Rattle.sdd_base.specs.declared.change.Change as change;
+ghost use Rattle.sdd_catalog.specs.Catalogue.{fragment_at, fragment_of};
+ghost use Rattle.sdd_lang.specs.Database.{Item, Row, Database};
+ghost use Rattle.sdd_lang.specs.Sound.{IsDatabase};
+ghost use Rattle.sdd_copy.specs.Contents.{Dated, of_fragment, rows_left, contents};
+ghost use Rattle.sdd_copy.specs.Sets.{AreSame};
+ghost use Rattle.sdd_laws.specs.Committed.{Writers, first_row, all_dated, copy_of, taken};
+ghost use Rattle.sdd_laws.specs.Values.{IsValue, ArePlaced, LeaveOneRow, AreWriters};
+
+use sdd_catalog::Catalogue;
+
+/// Each item of a fragment has a value, and one alone.
+pub fn law_one_value(cat: &Catalogue)
+    ensures some { (xs : Dated) (f : ℕ) (key : ℤ) → ArePlaced cat.now xs
+        → fragment_of cat.now (fragment_at cat.now f).rel.0 key ≡ f
+        → (row : Option Row) × IsValue cat.now xs ((fragment_at cat.now f).rel.0, key) row }
+    ensures one { (xs : Dated) (item : Item) (a b : Option Row) → LeaveOneRow cat.now xs
+        → IsValue cat.now xs item a → IsValue cat.now xs item b → a ≡ b }
+{}
+
+/// A copy holds, of the items of its fragment, the values by its first rows and the changes of the
+/// transactions that are applied.
+pub fn law_copy_holds_values<T>(cat: &Catalogue)
+    ensures { (first : Database) (w : Writers T) (commits : List T) (applied : T → Bool) (f : ℕ)
+        → IsDatabase cat.now first → AreWriters cat.now w commits
+        → (key : ℤ) (row : Row) → fragment_of cat.now (fragment_at cat.now f).rel.0 key ≡ f
+        → Contains (copy_of cat.now first w commits applied f) (key, row)
+        ↔ IsValue cat.now (all_dated cat.now first w (filter applied commits))
+        ((fragment_at cat.now f).rel.0, key) (Some row) }
+{
+    cat.known();
+}
+
+/// The order in which changes come to a copy, and how often one does, tells nothing: it is what the
+/// set of them leaves.
+pub fn law_any_order<T>(cat: &Catalogue)
+    ensures { (first : Database) (w : Writers T) (commits : List T) (applied : T → Bool) (f : ℕ) (xs : Dated)
+        → IsDatabase cat.now first → AreWriters cat.now w commits
+        → AreSame (all_dated cat.now first w (filter applied commits)) xs
+        → contents f xs ≡ copy_of cat.now first w commits applied f }
+{
+    cat.known();
+}
+
+/// A copy takes of the first rows those of its fragment, and of the committed transactions the
+/// changes that count.
+pub fn law_copy_takes<T>(cat: &Catalogue)
+    ensures { (first : Database) (w : Writers T) (commits : List T) (applied : T → Bool) (f : ℕ)
+        → copy_of cat.now first w commits applied f
+        ≡ rows_left (of_fragment f (map (first_row cat.now) first) ++ taken w commits applied f) }
+{}
+
+/// Two copies of a fragment that began alike are equal, where of the transactions that change the
+/// fragment the same are applied.
+pub fn law_same_copies<T>(cat: &Catalogue)
+    ensures { (first : Database) (w : Writers T) (commits : List T) (a b : T → Bool) (f : ℕ)
+        → ((x : T) → Contains commits x → (c : change.Change) → Contains (w.changes x) c
+        → c.frag.0 ≡ f → a x ≡ b x)
+        → copy_of cat.now first w commits a f ≡ copy_of cat.now first w commits b f }
+{}

@@ -1,0 +1,26 @@
+ghost use Rattle.std.specs.Prelude.{◌≡◌};
+ghost use Rattle.sdd_laws.specs.Order.{may_stand_first};
+
+use sdd_base::Ts;
+
+/// How two committed transactions meet at a fragment.
+#[derive(Clone, Copy, Debug, PartialEq, Eq)]
+pub enum Meeting {
+    /// Both change it; the timestamps of the first and of the second.
+    Writes(Ts, Ts),
+    /// The first changes it and the second reads it; whether the second saw the first.
+    WriteRead(bool),
+    /// The first reads it and the second changes it; whether the first saw the second.
+    ReadWrite(bool),
+}
+
+/// Whether the first of two transactions that meet may stand before the second in a serial order.
+pub fn may_stand_first(meeting: Meeting) -> bool
+    ensures { result ≡ may_stand_first meeting }
+{
+    match meeting {
+        Meeting::Writes(first, second) => first.0 < second.0,
+        Meeting::WriteRead(seen) => seen,
+        Meeting::ReadWrite(seen) => !seen,
+    }
+}

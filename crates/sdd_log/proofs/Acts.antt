@@ -1,0 +1,120 @@
+-- What a site's acts, one after the other, do to the log's recursions.
+use Rattle.std.proofs.Common.{ℕ, suc, Bool, true, false, List, [], ◌∷◌, ◌++◌, length, map, ◌≡◌, refl, ap, ◌∙◌, sym, Some, append_assoc, append-nil}
+use Rattle.std.specs.Prelude.{◌||◌, nat_lt}
+use Rattle.std.specs.Bool.{if◌then◌else◌}
+use Rattle.std.proofs.lemmas.List.{map-append}
+use Rattle.sdd_base.specs.Sites.{same_site}
+use Rattle.sdd_base.specs.declared.site.Site.{Site}
+use Rattle.sdd_base.specs.declared.site.Site.TheVariants.{U, T, D}
+use Rattle.sdd_base.specs.declared.event.Event.{Event}
+use Rattle.sdd_base.specs.declared.limits.TheConstants.{MAX_LINK_MESSAGES}
+use Rattle.sdd_wire.specs.declared.msg.Msg.{Msg}
+use Rattle.sdd_module.specs.SiteLog.{Act, Did, sends_of_act, records_of_act, sends_of, records_of, log_after}
+use Rattle.sdd_net.specs.Links.{Call, Puts, link}
+use Rattle.sdd_net.proofs.Directions.{same_here}
+use Rattle.sdd_log.specs.Entries.{Given, Log, Does, history, marks}
+use Rattle.sdd_log.specs.Traffic.{puts, calls_of, handed, is_down, takes_part}
+use Rattle.sdd_log.specs.Locals.{local_of}
+use Rattle.sdd_log.specs.Marks.{left}
+use Rattle.sdd_log.specs.Due.{next}
+use Rattle.sdd_log.specs.Lawful.{IsLawful, IsWithin, EndsByLimit, puts_past}
+use Rattle.sdd_log.proofs.Steps.{after_acts}
+use Rattle.sdd_log.specs.Resting.{AllLinked, IsLinkOf}
+
+pub puts-append : (at : Site) (xs ys : List (Site × Msg)) (calls : List (Call Msg)) → puts at (xs ++ ys) calls ≡ puts at ys (puts at xs calls)
+puts-append at [] ys calls = refl
+puts-append at (x ∷ xs) ys calls = puts-append at xs ys (Puts at x.0 x.1 ∷ calls)
+
+or_assoc : (a b c : Bool) → ((a || b) || c) ≡ (a || (b || c))
+or_assoc true b c = refl
+or_assoc false b c = refl
+
+pub puts_past-append : (at : Site) (xs ys : List (Site × Msg)) (calls : List (Call Msg)) → puts_past calls at (xs ++ ys) ≡ (puts_past calls at xs || puts_past (puts at xs calls) at ys)
+puts_past-append at [] ys calls = refl
+puts_past-append at (x ∷ xs) ys calls =
+    ap (λ b. nat_lt MAX_LINK_MESSAGES (suc (length (link at x.0 calls).there.sent)) || b) (puts_past-append at xs ys (Puts at x.0 x.1 ∷ calls))
+    ∙ sym (or_assoc (nat_lt MAX_LINK_MESSAGES (suc (length (link at x.0 calls).there.sent))) (puts_past (Puts at x.0 x.1 ∷ calls) at xs) (puts_past (puts at xs (Puts at x.0 x.1 ∷ calls)) at ys))
+
+pub calls_acts : (at : Site) (acts : List Act) (log : Log) → calls_of (after_acts at acts log) ≡ puts at (sends_of acts) (calls_of log)
+calls_acts at [] log = refl
+calls_acts at (a ∷ acts) log = calls_acts at acts (Does at a ∷ log) ∙ sym (puts-append at (sends_of_act a) (sends_of acts) (calls_of log))
+
+pub marks_acts : (at : Site) (acts : List Act) (log : Log) → marks (after_acts at acts log) ≡ marks log
+marks_acts at [] log = refl
+marks_acts at (a ∷ acts) log = marks_acts at acts (Does at a ∷ log)
+
+pub left_acts : (events : List Event) (at : Site) (acts : List Act) (log : Log) → left events (after_acts at acts log) ≡ left events log
+left_acts events at [] log = refl
+left_acts events at (a ∷ acts) log = left_acts events at acts (Does at a ∷ log)
+
+pub handed_acts : (a b at : Site) (acts : List Act) (log : Log) → handed a b (after_acts at acts log) ≡ handed a b log
+handed_acts a b at [] log = refl
+handed_acts a b at (x ∷ acts) log = handed_acts a b at acts (Does at x ∷ log)
+
+pub history_acts : (at : Site) (acts : List Act) (log : Log) → history (after_acts at acts log) ≡ history log ++ map (λ r. (marks log, r)) (records_of acts)
+history_acts at [] log = sym (append-nil (history log))
+history_acts at (a ∷ acts) log =
+    history_acts at acts (Does at a ∷ log)
+    ∙ append_assoc (history log) (map (λ r. (marks log, r)) (records_of_act a)) (map (λ r. (marks log, r)) (records_of acts))
+    ∙ ap (λ xs. history log ++ xs) (sym (map-append (λ r. (marks log, r)) (records_of_act a) (records_of acts)))
+
+pub own_acts : (g : Given) (at : Site) (acts : List Act) (log : Log) → local_of g at (after_acts at acts log) ≡ log_after acts (local_of g at log)
+own_acts g at [] log = refl
+own_acts g at (a ∷ acts) log =
+    let own : local_of g at (Does at a ∷ log) ≡ Did a ∷ local_of g at log = rw (same_here at) refl in
+    own_acts g at acts (Does at a ∷ log) ∙ ap (λ l. log_after acts l) own
+
+pub other_acts : (g : Given) (b at : Site) (acts : List Act) (log : Log) → same_site b at ≡ false → local_of g b (after_acts at acts log) ≡ local_of g b log
+other_acts g b at [] log e = refl
+other_acts g b at (a ∷ acts) log e =
+    let same : local_of g b (Does at a ∷ log) ≡ local_of g b log = rw e refl in
+    other_acts g b at acts (Does at a ∷ log) e ∙ same
+
+-- a lawful log's earlier logs are lawful
+pub lawful_before : (g : Given) (at : Site) (acts : List Act) (log : Log) → IsLawful g (after_acts at acts log) → IsLawful g log
+lawful_before g at [] log h = h
+lawful_before g at (a ∷ acts) log h = (lawful_before g at acts (Does at a ∷ log) h).1
+
+or_false : (a b : Bool) → (a || b) ≡ false → (a ≡ false) × (b ≡ false)
+or_false true b e = cc
+or_false false b e = (refl, e)
+
+-- no put is past: the log stays within
+pub within_acts : (at : Site) (acts : List Act) (log : Log) → puts_past (calls_of log) at (sends_of acts) ≡ false → IsWithin log → IsWithin (after_acts at acts log)
+within_acts at [] log e w = w
+within_acts at (a ∷ acts) log e w =
+    let p = or_false (puts_past (calls_of log) at (sends_of_act a)) (puts_past (puts at (sends_of_act a) (calls_of log)) at (sends_of acts)) (sym (puts_past-append at (sends_of_act a) (sends_of acts) (calls_of log)) ∙ e) in
+    within_acts at acts (Does at a ∷ log) p.1 (p.0, w)
+
+-- a put is past: the log ends there
+pub ends_in_acts : (g : Given) (at : Site) (acts : List Act) (log : Log) → puts_past (calls_of log) at (sends_of acts) ≡ true → IsWithin log → IsLawful g (after_acts at acts log) → (more : Log) × EndsByLimit g more
+ends_in_acts g at [] log e w l = cc
+ends_in_acts g at (a ∷ acts) log e w l =
+    let q : (puts_past (calls_of log) at (sends_of_act a) || puts_past (calls_of (Does at a ∷ log)) at (sends_of acts)) ≡ true = sym (puts_past-append at (sends_of_act a) (sends_of acts) (calls_of log)) ∙ e in
+    let k : IsLawful g (Does at a ∷ log) = lawful_before g at acts (Does at a ∷ log) l in
+    elim (puts_past (calls_of log) at (sends_of_act a)) as (λ b. puts_past (calls_of log) at (sends_of_act a) ≡ b → (b || puts_past (calls_of (Does at a ∷ log)) at (sends_of acts)) ≡ true → (more : Log) × EndsByLimit g more) [
+      | true ↦ λ p r. (log, record { lawful = k.1; within = w; entry = Does at a; next_is = k.0; past = p })
+      | false ↦ λ p r. ends_in_acts g at acts (Does at a ∷ log) r (p, w) l
+    ] refl q
+
+-- what is sent goes along links
+AllLinked-append : (g : Given) (at : Site) (xs ys : List (Site × Msg)) → AllLinked g at xs → AllLinked g at ys → AllLinked g at (xs ++ ys)
+AllLinked-append g at [] ys h k = k
+AllLinked-append g at (x ∷ xs) ys h k = (h.0, AllLinked-append g at xs ys h.1 k)
+
+pub linked_acts : (g : Given) (at : Site) (acts : List Act) (log : Log) → ((log : Log) (act : Act) → IsLawful g log → next g log ≡ Some (Does at act) → AllLinked g at (sends_of_act act))
+    → IsLawful g (after_acts at acts log) → AllLinked g at (sends_of acts)
+linked_acts g at [] log law l = tt
+linked_acts g at (a ∷ acts) log law l =
+    let k : IsLawful g (Does at a ∷ log) = lawful_before g at acts (Does at a ∷ log) l in
+    AllLinked-append g at (sends_of_act a) (sends_of acts) (law log a k.1 k.0) (linked_acts g at acts (Does at a ∷ log) law l)
+
+-- an act is no mark
+pub is_down_acts : (d : ℕ) (at : Site) (acts : List Act) (log : Log) → is_down d (after_acts at acts log) ≡ is_down d log
+is_down_acts d at [] log = refl
+is_down_acts d at (a ∷ acts) log = is_down_acts d at acts (Does at a ∷ log)
+
+pub takes_part_acts : (b at : Site) (acts : List Act) (log : Log) → takes_part b (after_acts at acts log) ≡ takes_part b log
+takes_part_acts U at acts log = refl
+takes_part_acts (T t) at acts log = refl
+takes_part_acts (D d) at acts log = rw (is_down_acts d.0 at acts log) refl

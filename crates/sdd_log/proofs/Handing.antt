@@ -1,0 +1,163 @@
+-- Messages that are to be handed over, one after the other, each with all that it makes due at its site.
+use Rattle.std.proofs.Common.{ℕ, zero, suc, ◌+◌, ◌-◌, ◌<◌, ◌≤◌, Bool, true, false, List, [], ◌∷◌, ◌++◌, length, ◌≡◌, refl, ap, ◌∙◌, arith, sym, subst, Some, None}
+use Rattle.std.specs.Bool.{if◌then◌else◌}
+use Rattle.std.specs.Prelude.{◌&&◌, slice_get}
+use Rattle.std.proofs.lemmas.Bool.{and_parts}
+use Rattle.sdd_base.specs.Sites.{same_site, are_linked, sites}
+use Rattle.sdd_base.specs.declared.site.Site.{Site}
+use Rattle.sdd_base.specs.declared.site.Site.TheVariants.{U, T, D}
+use Rattle.sdd_wire.specs.declared.msg.Msg.{Msg}
+use Rattle.sdd_module.specs.SiteLog.{Act, Handed, AreDue, sends_of}
+use Rattle.sdd_net.specs.Links.{Call, Puts, link, delivered}
+use Rattle.sdd_net.proofs.Directions.{same_is, same_here, link_parts}
+use Rattle.sdd_log.specs.Entries.{Given, Log, Hand}
+use Rattle.sdd_log.specs.Traffic.{puts, calls_of, link_of, sent, handed, message_at, takes_part}
+use Rattle.sdd_log.specs.Locals.{local_of}
+use Rattle.sdd_log.specs.Snapshots.{base_of}
+use Rattle.sdd_log.specs.Due.{next, next_in, mark_due, site_due, hand_due}
+use Rattle.sdd_log.specs.Lawful.{IsLawful, IsWithin, puts_past}
+use Rattle.sdd_log.proofs.Steps.{after_acts, hand_and_acts}
+use Rattle.sdd_log.specs.Resting.{AllHanded, AtEach, IsFirst, Remain, Takes, Waits}
+use Rattle.sdd_log.proofs.Acts.{calls_acts, handed_acts, takes_part_acts, within_acts}
+use Rattle.sdd_log.proofs.FirstHand.{IsDone, each_weaker, hand_is_due, listed}
+use Rattle.sdd_log.proofs.Links.{delivered_put, sent_stays}
+
+-- what a site puts
+
+pub delivered_puts : (x y at : Site) (sends : List (Site × Msg)) (calls : List (Call Msg)) → delivered (link x y (puts at sends calls)).there ≡ delivered (link x y calls).there
+delivered_puts x y at [] calls = refl
+delivered_puts x y at (s ∷ sends) calls = delivered_puts x y at sends (Puts at s.0 s.1 ∷ calls) ∙ delivered_put x y at s.0 s.1 calls
+
+sent_puts : (x y at : Site) (sends : List (Site × Msg)) (calls : List (Call Msg)) (i : ℕ) (m : Msg) → slice_get (link x y calls).there.sent i ≡ Some m → slice_get (link x y (puts at sends calls)).there.sent i ≡ Some m
+sent_puts x y at [] calls i m e = e
+sent_puts x y at (s ∷ sends) calls i m e = sent_puts x y at sends (Puts at s.0 s.1 ∷ calls) i m (sent_stays x y (Puts at s.0 s.1) calls i m e)
+
+pub delivered_acts : (x y at : Site) (acts : List Act) (log : Log) → delivered (link_of x y (after_acts at acts log)).there ≡ delivered (link_of x y log).there
+delivered_acts x y at acts log = ap (λ c. delivered (link x y c).there) (calls_acts at acts log) ∙ delivered_puts x y at (sends_of acts) (calls_of log)
+
+sent_acts : (x y at : Site) (acts : List Act) (log : Log) (i : ℕ) (m : Msg) → slice_get (sent x y log) i ≡ Some m → slice_get (sent x y (after_acts at acts log)) i ≡ Some m
+sent_acts x y at acts log i m e = subst (λ c. slice_get (link x y c).there.sent i ≡ Some m) (sym (calls_acts at acts log)) (sent_puts x y at (sends_of acts) (calls_of log) i m e)
+
+pub no_mark_acts : (g : Given) (at : Site) (acts : List Act) (log : Log) → mark_due g log ≡ None → mark_due g (after_acts at acts log) ≡ None
+no_mark_acts g at [] log e = e
+no_mark_acts g at (a ∷ acts) log e = no_mark_acts g at acts _ refl
+
+pub remain_acts : (at : Site) (acts : List Act) (log : Log) (a b : Site) (rest : List Msg) → Remain log a b rest → Remain (after_acts at acts log) a b rest
+remain_acts at acts log a b rest r =
+    let h : handed a b (after_acts at acts log) ≡ handed a b log = handed_acts a b at acts log in
+    record {
+      count = rw (h, delivered_acts a b at acts log) r.count;
+      messages = λ i m e. rw h (sent_acts a b at acts log (handed a b log + i) m (r.messages i m e));
+    }
+
+-- a hand
+
+now_handed : (a b x y : Site) (n : ℕ) (m : Msg) (log : Log) → (same_site x a && same_site y b) ≡ false → handed x y (Hand a b n m ∷ log) ≡ handed x y log
+now_handed a b x y n m log e = rw e refl
+
+this_handed : (a b : Site) (n : ℕ) (m : Msg) (log : Log) → handed a b (Hand a b n m ∷ log) ≡ n
+this_handed a b n m log = rw (same_here a, same_here b) refl
+
+pub and_left : (c d : Bool) → c ≡ false → (c && d) ≡ false
+and_left true d e = cc
+and_left false d e = refl
+
+pub and_right : (c d : Bool) → d ≡ false → (c && d) ≡ false
+and_right true d e = e
+and_right false d e = refl
+
+remain_handed : (log : Log) (a b : Site) (m : Msg) (rest : List Msg) → Remain log a b (m ∷ rest) → Remain (Hand a b (suc (handed a b log)) m ∷ log) a b rest
+remain_handed log a b m rest r =
+    let h : handed a b (Hand a b (suc (handed a b log)) m ∷ log) ≡ suc (handed a b log) = this_handed a b (suc (handed a b log)) m log in
+    let c : handed a b log + suc (length rest) ≡ delivered (link_of a b log).there = r.count in
+    record {
+      count = omega (arith, h, c);
+      messages = λ i x e. let f : handed a b (Hand a b (suc (handed a b log)) m ∷ log) + i ≡ handed a b log + suc i = omega (arith, h) in rw f (r.messages (suc i) x e);
+    }
+
+pub remain_other : (log : Log) (a b x y : Site) (n : ℕ) (m : Msg) (rest : List Msg) → (same_site x a && same_site y b) ≡ false → Remain log x y rest → Remain (Hand a b n m ∷ log) x y rest
+remain_other log a b x y n m rest e r =
+    let h : handed x y (Hand a b n m ∷ log) ≡ handed x y log = now_handed a b x y n m log e in
+    record { count = rw h r.count; messages = λ i k p. rw h (r.messages i k p) }
+
+-- the first of the messages
+
+nothing_remains : (log : Log) (a b : Site) (rest : List Msg) → Remain log a b rest → rest ≡ [] → IsDone log a b
+nothing_remains log a b rest r e part =
+    let c : handed a b log + length rest ≡ delivered (link_of a b log).there = r.count in
+    let z : length rest ≡ 0 = ap length e in
+    omega (arith, c, z)
+
+done_at : (log : Log) (x y b : Site) → same_site y b ≡ true → IsDone log x b → IsDone log x y
+done_at log x y b e d = subst (λ z. IsDone log x z) (sym (same_is y b e)) d
+
+none_earlier : (g : Given) (log : Log) (b : Site) (kept : Site → List Msg) → Waits g log b kept → (x : Site) → kept x ≡ [] → (y : Site) → IsDone log x y
+none_earlier g log b kept w x e y =
+    elim (same_site y b) as (λ c. same_site y b ≡ c → IsDone log x y) [
+      | true ↦ λ p. done_at log x y b p (nothing_remains log x b (kept x) (w.remain x) e)
+      | false ↦ λ p. w.others x y p
+    ] refl
+
+part_handed : (y a b : Site) (n : ℕ) (m : Msg) (log : Log) → takes_part y (Hand a b n m ∷ log) ≡ takes_part y log
+part_handed U a b n m log = refl
+part_handed (T t) a b n m log = refl
+part_handed (D d) a b n m log = refl
+
+module _ (g : Given) (log : Log) (b : Site) (kept : Site → List Msg) (w : Waits g log b kept) (a : Site) (m : Msg) (rest : List Msg) (f : IsFirst g kept a b m rest) where
+  first_remains : Remain log a b (m ∷ rest)
+  first_remains = subst (λ l. Remain log a b l) f.here (w.remain a)
+
+  pub first_message : message_at a b (suc (handed a b log)) log ≡ Some m
+  first_message = let e : suc (handed a b log) - 1 ≡ handed a b log + 0 = omega arith in ap (λ n. slice_get (sent a b log) n) e ∙ first_remains.messages 0 m refl
+
+  first_due : hand_due g log ≡ Some (Hand a b (suc (handed a b log)) m)
+  first_due =
+      let c : handed a b log + suc (length rest) ≡ delivered (link_of a b log).there = first_remains.count in
+      hand_is_due g log f.before f.after a b m f.parts f.linked w.part (omega arith) first_message
+      (each_weaker (λ x. kept x ≡ []) (λ x. (y : Site) → IsDone log x y) f.before (λ x e. none_earlier g log b kept w x e) f.earlier)
+      (λ y e. w.others a y e)
+
+  pub first_next : next g log ≡ Some (Hand a b (suc (handed a b log)) m)
+  first_next = rw (w.no_mark, w.no_site, first_due) refl
+
+  left_of : (less : Site → List Msg) → Takes kept less a rest → (x : Site) → Remain (Hand a b (suc (handed a b log)) m ∷ log) x b (less x)
+  left_of less t x =
+      elim (same_site x a) as (λ c. same_site x a ≡ c → Remain (Hand a b (suc (handed a b log)) m ∷ log) x b (less x)) [
+        | true ↦ λ p. subst (λ z. Remain (Hand a b (suc (handed a b log)) m ∷ log) z b (less z)) (sym (same_is x a p))
+            (subst (λ l. Remain (Hand a b (suc (handed a b log)) m ∷ log) a b l) (sym t.here) (remain_handed log a b m rest first_remains))
+        | false ↦ λ p. subst (λ l. Remain (Hand a b (suc (handed a b log)) m ∷ log) x b l) (sym (t.others x p))
+            (remain_other log a b x b (suc (handed a b log)) m (kept x) (and_left (same_site x a) (same_site b b) p) (w.remain x))
+      ] refl
+
+  -- what its site does then are the next entries
+  pub first_lawful : (acts : List Act) → AreDue (next_in g b (base_of g (Hand a b (suc (handed a b log)) m ∷ log))) (Handed a m ∷ local_of g b log) acts
+      → IsLawful g (after_acts b acts (Hand a b (suc (handed a b log)) m ∷ log))
+  first_lawful acts due =
+      let k = link_parts g.catalogue.tms g.catalogue.dms a b f.linked in
+      (hand_and_acts g a b (suc (handed a b log)) m acts log (listed g.catalogue.tms g.catalogue.dms b k.to) w.no_mark w.no_site first_due due w.lawful).0
+
+  -- it is handed over, and its site does what is due
+  pub hands_first : (acts : List Act) (less : Site → List Msg) → Takes kept less a rest
+      → AreDue (next_in g b (base_of g (Hand a b (suc (handed a b log)) m ∷ log))) (Handed a m ∷ local_of g b log) acts
+      → puts_past (calls_of log) b (sends_of acts) ≡ false
+      → Waits g (after_acts b acts (Hand a b (suc (handed a b log)) m ∷ log)) b less
+  hands_first acts less t due few =
+      let n : ℕ = suc (handed a b log) in
+      let k = link_parts g.catalogue.tms g.catalogue.dms a b f.linked in
+      let done = hand_and_acts g a b n m acts log (listed g.catalogue.tms g.catalogue.dms b k.to) w.no_mark w.no_site first_due due w.lawful in
+      record {
+        lawful = done.0;
+        within = within_acts b acts (Hand a b n m ∷ log) few (refl, w.within);
+        no_mark = no_mark_acts g b acts (Hand a b n m ∷ log) refl;
+        no_site = done.1;
+        part = takes_part_acts b b acts (Hand a b n m ∷ log) ∙ part_handed b a b n m log ∙ w.part;
+        remain = λ x. remain_acts b acts (Hand a b n m ∷ log) x b (less x) (left_of less t x);
+        others = λ x y e p.
+            handed_acts x y b acts (Hand a b n m ∷ log) ∙ now_handed a b x y n m log (and_right (same_site x a) (same_site y b) e)
+            ∙ w.others x y e (sym (takes_part_acts y b acts (Hand a b n m ∷ log) ∙ part_handed y a b n m log) ∙ p)
+            ∙ sym (delivered_acts x y b acts (Hand a b n m ∷ log));
+      }
+
+-- once none is left, all is handed over
+pub all_handed : (g : Given) (log : Log) (b : Site) (kept : Site → List Msg) → Waits g log b kept → ((x : Site) → kept x ≡ []) → AllHanded log
+all_handed g log b kept w none x y part = none_earlier g log b kept w x (none x) y part

@@ -1,0 +1,75 @@
+-- The first of several messages: of one site alone, or of senders in their order.
+use Rattle.std.proofs.Common.{ℕ, zero, suc, ◌+◌, ◌<◌, ◌≤◌, Bool, true, false, List, [], ◌∷◌, ◌++◌, map, ◌≡◌, refl, ap, ◌∙◌, arith, sym, subst, append_assoc}
+use Rattle.std.specs.Bool.{if◌then◌else◌}
+use Rattle.std.specs.Prelude.{◌⊎◌}
+use Rattle.std.specs.List.{range_with_len}
+use Rattle.std.proofs.Common.{inl, inr}
+use Rattle.sdd_base.specs.Numbers.{tm_no}
+use Rattle.sdd_base.specs.Sites.{same_site, sites}
+use Rattle.sdd_base.specs.declared.site.Site.{Site}
+use Rattle.sdd_base.specs.declared.site.Site.TheVariants.{U, T, D}
+use Rattle.sdd_wire.specs.declared.msg.Msg.{Msg}
+use Rattle.sdd_net.proofs.Directions.{same_here, link_parts}
+use Rattle.sdd_log.specs.Entries.{Given}
+use Rattle.sdd_log.specs.Resting.{AtEach, from_one, IsFirst, IsLinkOf, Takes}
+use Rattle.sdd_log.proofs.FirstHand.{each_weaker, here_or_later, listed, Split, split}
+
+-- of one site
+
+one_here : (a : Site) (messages : List Msg) → from_one a messages a ≡ messages
+one_here a messages = rw (same_here a) refl
+
+one_other : (a x : Site) (messages : List Msg) → same_site x a ≡ false → from_one a messages x ≡ []
+one_other a x messages e = rw e refl
+
+pub first_of_one : (g : Given) (a b : Site) (m : Msg) (rest : List Msg) → IsLinkOf g a b → IsFirst g (from_one a (m ∷ rest)) a b m rest
+first_of_one g a b m rest l =
+    let k = link_parts g.catalogue.tms g.catalogue.dms a b l in
+    let s : Split (sites g.catalogue.tms g.catalogue.dms) a = split (sites g.catalogue.tms g.catalogue.dms) a (listed g.catalogue.tms g.catalogue.dms a k.from) in
+    record {
+      linked = l;
+      before = s.before;
+      after = s.after;
+      parts = s.parts;
+      earlier = each_weaker (λ x. same_site x a ≡ false) (λ x. from_one a (m ∷ rest) x ≡ []) s.before (λ x e. one_other a x (m ∷ rest) e) s.others;
+      here = one_here a (m ∷ rest);
+    }
+
+pub takes_of_one : (a : Site) (m : Msg) (rest : List Msg) → Takes (from_one a (m ∷ rest)) (from_one a rest) a rest
+takes_of_one a m rest = record { here = one_here a rest; others = λ x e. one_other a x rest e ∙ sym (one_other a x (m ∷ rest) e) }
+
+none_if : (c : Bool) → ◌≡◌ {A = List Msg} (if c then [] else []) []
+none_if true = refl
+none_if false = refl
+
+pub none_of_one : (a x : Site) → from_one a [] x ≡ []
+none_of_one a x = none_if (same_site x a)
+
+-- the sites before a T in the order of sites are U and the T with lower numbers
+
+pub record Cut (xs : List Site) (at : Site) (P : Site → Type 0) : Type 0 where
+  pub before : List Site
+  pub after : List Site
+  pub parts : xs ≡ before ++ at ∷ after
+  pub lower : AtEach P before
+
+cut_range : (P : Site → Type 0) (m a k : ℕ) → a ≤ k → k < a + m → ((j : ℕ) → a ≤ j → j < k → P (T (tm_no j))) → Cut (map (λ n. T (tm_no n)) (range_with_len a m)) (T (tm_no k)) P
+cut_range P zero a k l u h = absurd (omega arith)
+cut_range P (suc m) a k l u h =
+    elim (here_or_later a k l) as (λ _. Cut (T (tm_no a) ∷ map (λ n. T (tm_no n)) (range_with_len (a + 1) m)) (T (tm_no k)) P) [
+      | inl p ↦ record { before = []; after = map (λ n. T (tm_no n)) (range_with_len (a + 1) m); parts = ap (λ z. T (tm_no z) ∷ map (λ n. T (tm_no n)) (range_with_len (a + 1) m)) p; lower = tt }
+      | inr q ↦
+          let c : Cut (map (λ n. T (tm_no n)) (range_with_len (a + 1) m)) (T (tm_no k)) P = cut_range P m (a + 1) k q (omega arith) (λ j x y. h j (omega arith) y) in
+          record { before = T (tm_no a) ∷ c.before; after = c.after; parts = ap (λ z. T (tm_no a) ∷ z) c.parts; lower = (h a (omega arith) (omega arith), c.lower) }
+    ]
+
+-- U and each T before the one with this number
+pub cut_at_t : (P : Site → Type 0) (tms dms k : ℕ) → 1 ≤ k → k ≤ tms → P U → ((j : ℕ) → 1 ≤ j → j < k → P (T (tm_no j))) → Cut (sites tms dms) (T (tm_no k)) P
+cut_at_t P tms dms k l u first h =
+    let c : Cut (map (λ n. T (tm_no n)) (range_with_len 1 tms)) (T (tm_no k)) P = cut_range P tms 1 k l (omega arith) h in
+    record {
+      before = U ∷ c.before;
+      after = c.after ++ map (λ n. D (record { 0 = n })) (range_with_len 1 dms);
+      parts = ap (λ z. U ∷ (z ++ map (λ n. D (record { 0 = n })) (range_with_len 1 dms))) c.parts ∙ ap (λ z. U ∷ z) (append_assoc c.before (T (tm_no k) ∷ c.after) (map (λ n. D (record { 0 = n })) (range_with_len 1 dms)));
+      lower = (first, c.lower);
+    }

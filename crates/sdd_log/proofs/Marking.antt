@@ -1,0 +1,170 @@
+-- What the mark of an event leaves, where nothing else was due.
+use Rattle.std.proofs.Common.{ℕ, suc, ◌≤◌, Bool, true, false, List, [], ◌∷◌, ◌≡◌, refl, ◌∙◌, sym, subst, Option, Some, None}
+use Rattle.std.specs.Bool.{if◌then◌else◌}
+use Rattle.std.proofs.lemmas.Bool.{le-ltb}
+use Rattle.sdd_base.specs.Words.{first_some}
+use Rattle.sdd_base.specs.Sites.{same_site, sites}
+use Rattle.sdd_base.specs.declared.limits.TheConstants.{MAX_RUN_EVENTS}
+use Rattle.sdd_base.specs.declared.site.Site.{Site}
+use Rattle.sdd_base.specs.declared.site.Site.TheVariants.{U, T, D}
+use Rattle.sdd_base.specs.declared.number.TmNo.{TmNo}
+use Rattle.sdd_base.specs.declared.event.Event.{Event}
+use Rattle.sdd_base.specs.declared.event.Event.TheVariants.{Submit, Deliver, Lose, Repeat, Resend, Tick, Settle, Redeclare, Down, Up}
+use Rattle.sdd_module.specs.SiteLog.{Act, Force, Ticked, Bases}
+use Rattle.sdd_module.specs.SiteLog as site
+use Rattle.sdd_net.specs.Links.{delivered}
+use Rattle.sdd_net.proofs.Directions.{same_is}
+use Rattle.sdd_log.specs.Entries.{Given, Log, Mark, Notes, Redeclares, marks}
+use Rattle.sdd_log.specs.Traffic.{link_of, takes_part}
+use Rattle.sdd_log.specs.Locals.{force_at, local_of, redeclares, setting_of, with_force}
+use Rattle.sdd_log.specs.Snapshots.{base_of}
+use Rattle.sdd_log.specs.Due.{next, next_in, next_at, does_at, due_by, site_due}
+use Rattle.sdd_log.specs.Lawful.{is_past}
+use Rattle.sdd_log.proofs.Steps.{AllNone, all_none, none_any_base}
+use Rattle.sdd_log.specs.Resting.{AllHanded, IsMarked, Rests}
+use Rattle.sdd_log.proofs.Ticking.{none_by_redeclare, none_by_tick}
+
+-- where the logs of the sites stay, or that of one gets a tick, nothing gets due
+
+none_at_all : (f h : Site → Option Act) (xs : List Site) → ((x : Site) → f x ≡ None → h x ≡ None) → AllNone f xs → first_some (λ b. does_at b (h b)) xs ≡ None
+none_at_all f h [] k n = refl
+none_at_all f h (x ∷ xs) k n = rw (k x n.0) (none_at_all f h xs k n.1)
+
+none_same : (g : Given) (log more : Log) (x : Site) → local_of g x more ≡ local_of g x log → next_at g log x ≡ None → next_at g more x ≡ None
+none_same g log more x e n = rw e (none_any_base g x (base_of g log) (base_of g more) (local_of g x log) n)
+
+pub still_none : (g : Given) (log more : Log) → ((x : Site) → local_of g x more ≡ local_of g x log) → site_due g log ≡ None → site_due g more ≡ None
+still_none g log more e n = none_at_all (next_at g log) (next_at g more) (sites g.catalogue.tms g.catalogue.dms) (λ x k. none_same g log more x (e x) k) (all_none (next_at g log) (sites g.catalogue.tms g.catalogue.dms) n)
+
+ticked_here : (g : Given) (x t : Site) (bases : Bases) (n : ℕ) (l : site.Log) → x ≡ t → next_in g x bases l ≡ None → (next_in g t bases l ≡ None → next_in g t bases (Ticked n ∷ l) ≡ None) → next_in g x bases (Ticked n ∷ l) ≡ None
+ticked_here g x t bases n l e k h =
+    let back : next_in g t bases l ≡ None = subst (λ y. next_in g y bases l ≡ None) e k in
+    subst (λ y. next_in g y bases (Ticked n ∷ l) ≡ None) (sym e) (h back)
+
+ticked_if : (g : Given) (x : Site) (bases : Bases) (n : ℕ) (c : Bool) (l : site.Log) → (c ≡ true → next_in g x bases (Ticked n ∷ l) ≡ None) → next_in g x bases l ≡ None
+    → next_in g x bases (if c then Ticked n ∷ l else l) ≡ None
+ticked_if g x bases n true l h k = h refl
+ticked_if g x bases n false l h k = k
+
+pub ticked_none : (g : Given) (log : Log) (t : TmNo) (n : ℕ) → site_due g log ≡ None → site_due g (Mark (Tick t n) ∷ log) ≡ None
+ticked_none g log t n k =
+    let more : Log = Mark (Tick t n) ∷ log in
+    none_at_all (next_at g log) (next_at g more) (sites g.catalogue.tms g.catalogue.dms) (λ x i.
+    let j : next_in g x (base_of g more) (local_of g x log) ≡ None = none_any_base g x (base_of g log) (base_of g more) (local_of g x log) i in
+    ticked_if g x (base_of g more) n (same_site x (T t)) (local_of g x log)
+    (λ q. ticked_here g x (T t) (base_of g more) n (local_of g x log) (same_is x (T t) q) j (none_by_tick (setting_of g (T t)) (base_of g more) (local_of g x log) n)) j)
+    (all_none (next_at g log) (sites g.catalogue.tms g.catalogue.dms) k)
+
+-- the mark
+
+pub mark_within : (log : Log) (e : Event) → suc (marks log) ≤ MAX_RUN_EVENTS → is_past log (Mark e) ≡ false
+mark_within log e h = le-ltb MAX_RUN_EVENTS (suc (marks log)) h
+
+abbrev pub IsNoTick : Event → Type 0
+IsNoTick (Tick t n) = ⊥
+IsNoTick _ = Unit {0}
+
+pub mark_local : (g : Given) (e : Event) (log : Log) (x : Site) → IsNoTick e → local_of g x (Mark e ∷ log) ≡ local_of g x log
+mark_local g (Submit n) log x h = refl
+mark_local g (Deliver a b k) log x h = refl
+mark_local g (Lose a b k) log x h = refl
+mark_local g (Repeat a b k) log x h = refl
+mark_local g (Resend a b) log x h = refl
+mark_local g (Tick t n) log x h = absurd h
+mark_local g Settle log x h = refl
+mark_local g Redeclare log x h = refl
+mark_local g (Down d) log x h = refl
+mark_local g (Up d) log x h = refl
+
+pub none_by_mark : (g : Given) (log : Log) (e : Event) → IsNoTick e → site_due g log ≡ None → site_due g (Mark e ∷ log) ≡ None
+none_by_mark g log e h n = still_none g log (Mark e ∷ log) (λ x. mark_local g e log x h) n
+
+pub none_by_note : (g : Given) (log : Log) (e : Event) → IsNoTick e → site_due g log ≡ None → site_due g (Notes ∷ Mark e ∷ log) ≡ None
+none_by_note g log e h n = still_none g log (Notes ∷ Mark e ∷ log) (λ x. mark_local g e log x h) n
+
+-- an event of which nothing more is due
+pub rests_marked : (g : Given) (log : Log) (e : Event) → IsMarked g log e → site_due g (Mark e ∷ log) ≡ None → due_by g e log ≡ None → AllHanded (Mark e ∷ log) → Rests g (Mark e ∷ log)
+rests_marked g log e k s d h = record {
+  lawful = (k.next_is, k.rests.lawful);
+  within = (mark_within log e k.few, k.rests.within);
+  no_mark = d;
+  no_site = s;
+  handed_all = h;
+}
+
+-- takes_part of a noted log is that of the log before the note
+pub part_noted : (x : Site) (log : Log) → takes_part x (Notes ∷ log) ≡ takes_part x log
+part_noted U log = refl
+part_noted (T t) log = refl
+part_noted (D d) log = refl
+
+-- an event that finds nothing to do
+pub rests_noted : (g : Given) (log : Log) (e : Event) → IsMarked g log e → IsNoTick e → due_by g e log ≡ Some Notes → AllHanded (Mark e ∷ log) → Rests g (Notes ∷ Mark e ∷ log)
+rests_noted g log e k i d h =
+    let noted : next g (Mark e ∷ log) ≡ Some Notes = rw d refl in
+    record {
+      lawful = (noted, (k.next_is, k.rests.lawful));
+      within = (refl, (mark_within log e k.few, k.rests.within));
+      no_mark = refl;
+      no_site = none_by_note g log e i k.rests.no_site;
+      handed_all = λ a b p. h a b (sym (part_noted b (Mark e ∷ log)) ∙ p);
+    }
+
+-- an event that turns no module up or down
+abbrev pub TurnsNone : Event → Type 0
+TurnsNone (Down d) = ⊥
+TurnsNone (Up d) = ⊥
+TurnsNone _ = Unit {0}
+
+pub part_marked : (x : Site) (e : Event) (log : Log) → TurnsNone e → takes_part x (Mark e ∷ log) ≡ takes_part x log
+part_marked U e log h = refl
+part_marked (T t) e log h = refl
+part_marked (D d) (Submit n) log h = refl
+part_marked (D d) (Deliver a b k) log h = refl
+part_marked (D d) (Lose a b k) log h = refl
+part_marked (D d) (Repeat a b k) log h = refl
+part_marked (D d) (Resend a b) log h = refl
+part_marked (D d) (Tick t n) log h = refl
+part_marked (D d) Settle log h = refl
+part_marked (D d) Redeclare log h = refl
+part_marked (D d) (Down k) log h = absurd h
+part_marked (D d) (Up k) log h = absurd h
+
+-- where an event delivers nothing, all stays handed over
+pub handed_still : (log : Log) (e : Event) → TurnsNone e → ((a b : Site) → delivered (link_of a b (Mark e ∷ log)).there ≡ delivered (link_of a b log).there) → AllHanded log → AllHanded (Mark e ∷ log)
+handed_still log e t same h a b part = h a b (sym (part_marked b e log t) ∙ part) ∙ sym (same a b)
+
+-- a list of classes is put in force
+
+forced_none : (g : Given) (x : Site) (bases : Bases) (force : Force) (t : ℕ) (l : site.Log)
+    → next_in g x bases l ≡ None → next_in g x bases (with_force x force t l) ≡ None
+forced_none g U bases force t l k = k
+forced_none g (T n) bases force t l k = none_by_redeclare (setting_of g (T n)) bases l force t k
+forced_none g (D d) bases force t l k = k
+
+redeclared_none : (g : Given) (log : Log) (t : ℕ) → site_due g log ≡ None
+    → site_due g (Redeclares t ∷ log) ≡ None
+redeclared_none g log t k =
+    let more : Log = Redeclares t ∷ log in
+    none_at_all (next_at g log) (next_at g more) (sites g.catalogue.tms g.catalogue.dms) (λ x i.
+    forced_none g x (base_of g more) (force_at g (suc (redeclares log))) t (local_of g x log)
+    (none_any_base g x (base_of g log) (base_of g more) (local_of g x log) i))
+    (all_none (next_at g log) (sites g.catalogue.tms g.catalogue.dms) k)
+
+part_redeclared : (x : Site) (t : ℕ) (log : Log)
+    → takes_part x (Redeclares t ∷ log) ≡ takes_part x log
+part_redeclared U t log = refl
+part_redeclared (T n) t log = refl
+part_redeclared (D d) t log = refl
+
+-- after it the log is at rest
+pub rests_redeclared : (g : Given) (log : Log) (t : ℕ) → Rests g log
+    → next g log ≡ Some (Redeclares t) → suc (marks log) ≤ MAX_RUN_EVENTS
+    → Rests g (Redeclares t ∷ log)
+rests_redeclared g log t r n few = record {
+  lawful = (n, r.lawful);
+  within = (le-ltb MAX_RUN_EVENTS (suc (marks log)) few, r.within);
+  no_mark = refl;
+  no_site = redeclared_none g log t r.no_site;
+  handed_all = λ a b p. r.handed_all a b (sym (part_redeclared b t log) ∙ p);
+}

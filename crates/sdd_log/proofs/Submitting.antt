@@ -1,0 +1,90 @@
+-- A transaction is given to its module, and the module does what is due.
+use Rattle.std.proofs.Common.{ℕ, suc, ◌≤◌, Bool, true, false, List, [], ◌∷◌, ◌≡◌, refl, ap, ◌∙◌, sym, Some, None}
+use Rattle.std.specs.Bool.{if◌then◌else◌}
+use Rattle.sdd_base.specs.Sites.{same_site, sites}
+use Rattle.sdd_base.specs.declared.limits.TheConstants.{MAX_RUN_EVENTS}
+use Rattle.sdd_base.specs.declared.site.Site.{Site}
+use Rattle.sdd_base.specs.declared.site.Site.TheVariants.{U, T, D}
+use Rattle.sdd_base.specs.declared.number.TxnNo.{TxnNo}
+use Rattle.sdd_base.specs.declared.event.Event.TheVariants.{Submit}
+use Rattle.sdd_lang.specs.declared.transaction.Txn.{Txn}
+use Rattle.sdd_module.specs.SiteLog.{Act, Submits, AreDue, sends_of}
+use Rattle.sdd_net.specs.Links.{delivered}
+use Rattle.sdd_net.proofs.Directions.{same_here}
+use Rattle.sdd_log.specs.Entries.{Given, Log, Mark, Submitted, marks}
+use Rattle.sdd_log.specs.Traffic.{calls_of, handed, link_of, takes_part}
+use Rattle.sdd_log.specs.Locals.{force_at, local_of, redeclares, txn_at}
+use Rattle.sdd_log.specs.Snapshots.{base_of}
+use Rattle.sdd_log.specs.Due.{next, next_in, next_at, home_of, site_due}
+use Rattle.sdd_log.specs.Lawful.{IsLawful, IsWithin, puts_past}
+use Rattle.sdd_log.proofs.Steps.{after_acts, AllNone, Settled, all_none, has_site, none_any_base, nothing_due, steps}
+use Rattle.sdd_log.specs.Resting.{AllHanded, IsMarked, Rests}
+use Rattle.sdd_log.proofs.Acts.{handed_acts, takes_part_acts, within_acts}
+use Rattle.sdd_log.proofs.Handing.{delivered_acts, no_mark_acts}
+use Rattle.sdd_log.proofs.Marking.{mark_within, none_by_mark, part_marked}
+
+pub other_local : (g : Given) (b to : Site) (n : ℕ) (log : Log) → same_site b to ≡ false → local_of g b (Submitted to n ∷ log) ≡ local_of g b log
+other_local g b to n log e = rw e refl
+
+settled_by_submit : (g : Given) (to : Site) (n : ℕ) (log : Log) (xs : List Site) → AllNone (next_at g log) xs → Settled (next_at g (Submitted to n ∷ log)) to xs
+settled_by_submit g to n log [] k = tt
+settled_by_submit g to n log (x ∷ xs) k =
+    ((λ e. rw (other_local g x to n log e) (none_any_base g x (base_of g log) (base_of g (Submitted to n ∷ log)) (local_of g x log) k.0)), settled_by_submit g to n log xs k.1)
+
+own_local : (g : Given) (at : Site) (n : ℕ) (txn : Txn) (log : Log) → txn_at g n ≡ Some txn → local_of g at (Submitted at n ∷ log) ≡ Submits n txn ∷ local_of g at log
+own_local g at n txn log is = rw (same_here at, is) refl
+
+-- the site of a transaction that is submitted after the log
+abbrev pub home_in : Given → TxnNo → Log → Site
+home_in g n log = home_of (force_at g (redeclares log)).catalogue (txn_at g n.0)
+
+abbrev pub submitted : Given → TxnNo → Log → Log
+submitted g n log = Submitted (home_in g n log) n.0 ∷ Mark (Submit n) ∷ log
+
+part_submitted : (g : Given) (n : TxnNo) (log : Log) (b : Site) → takes_part b (submitted g n log) ≡ takes_part b log
+part_submitted g n log U = refl
+part_submitted g n log (T t) = refl
+part_submitted g n log (D d) = refl
+
+module _ (g : Given) (n : TxnNo) (log : Log) (k : IsMarked g log (Submit n)) where
+  pub submitted_lawful : IsLawful g (submitted g n log)
+  submitted_lawful = (refl, (k.next_is, k.rests.lawful))
+
+  pub submitted_within : IsWithin (submitted g n log)
+  submitted_within = (refl, (mark_within log (Submit n) k.few, k.rests.within))
+
+  pub submitted_local : (txn : Txn) → txn_at g n.0 ≡ Some txn → local_of g (home_in g n log) (submitted g n log) ≡ Submits n.0 txn ∷ local_of g (home_in g n log) log
+  submitted_local txn is = own_local g (home_in g n log) n.0 txn (Mark (Submit n) ∷ log) is
+
+  -- what the module does then is lawful
+  pub acts_lawful : (txn : Txn) (acts : List Act) → txn_at g n.0 ≡ Some txn → has_site (home_in g n log) (sites g.catalogue.tms g.catalogue.dms) ≡ true
+      → AreDue (next_in g (home_in g n log) (base_of g (submitted g n log))) (Submits n.0 txn ∷ local_of g (home_in g n log) log) acts
+      → IsLawful g (after_acts (home_in g n log) acts (submitted g n log))
+  acts_lawful txn acts is here due =
+      let at : Site = home_in g n log in
+      let left : AreDue (next_in g at (base_of g (submitted g n log))) (local_of g at (submitted g n log)) acts = rw (submitted_local txn is) due in
+      let none : site_due g (Mark (Submit n) ∷ log) ≡ None = none_by_mark g log (Submit n) tt k.rests.no_site in
+      (steps g at acts (submitted g n log) here refl
+      (settled_by_submit g at n.0 (Mark (Submit n) ∷ log) (sites g.catalogue.tms g.catalogue.dms) (all_none (next_at g (Mark (Submit n) ∷ log)) (sites g.catalogue.tms g.catalogue.dms) none)) left submitted_lawful).0
+
+  -- what the module does then are the next entries, and after them nothing is due
+  pub submits_and_acts : (txn : Txn) (acts : List Act) → txn_at g n.0 ≡ Some txn → has_site (home_in g n log) (sites g.catalogue.tms g.catalogue.dms) ≡ true
+      → AreDue (next_in g (home_in g n log) (base_of g (submitted g n log))) (Submits n.0 txn ∷ local_of g (home_in g n log) log) acts
+      → puts_past (calls_of log) (home_in g n log) (sends_of acts) ≡ false
+      → Rests g (after_acts (home_in g n log) acts (submitted g n log))
+  submits_and_acts txn acts is here due few =
+      let at : Site = home_in g n log in
+      let left : AreDue (next_in g at (base_of g (submitted g n log))) (local_of g at (submitted g n log)) acts = rw (submitted_local txn is) due in
+      let none : site_due g (Mark (Submit n) ∷ log) ≡ None = none_by_mark g log (Submit n) tt k.rests.no_site in
+      let done = steps g at acts (submitted g n log) here refl
+      (settled_by_submit g at n.0 (Mark (Submit n) ∷ log) (sites g.catalogue.tms g.catalogue.dms) (all_none (next_at g (Mark (Submit n) ∷ log)) (sites g.catalogue.tms g.catalogue.dms) none)) left submitted_lawful in
+      record {
+        lawful = done.0;
+        within = within_acts at acts (submitted g n log) few submitted_within;
+        no_mark = no_mark_acts g at acts (submitted g n log) refl;
+        no_site = nothing_due (next_at g (after_acts at acts (submitted g n log))) at (sites g.catalogue.tms g.catalogue.dms) done.1 done.2;
+        handed_all = λ a b p.
+            handed_acts a b at acts (submitted g n log)
+            ∙ k.rests.handed_all a b (sym (takes_part_acts b at acts (submitted g n log) ∙ part_submitted g n log b) ∙ p)
+            ∙ sym (delivered_acts a b at acts (submitted g n log));
+      }

@@ -1,0 +1,78 @@
+-- A data module goes down, and comes up again: what was kept for it is then handed over.
+use Rattle.std.proofs.Common.{ℕ, ◌+◌, Bool, true, false, not, List, [], ◌∷◌, ◌≡◌, refl, ap, ◌∙◌, sym, subst, Some}
+use Rattle.std.specs.Bool.{if◌then◌else◌}
+use Rattle.std.specs.Prelude.{◌==◌}
+use Rattle.std.proofs.lemmas.Bool.{eqb-true, eq-eqb}
+use Rattle.sdd_base.specs.Sites.{same_site}
+use Rattle.sdd_base.specs.declared.site.Site.{Site}
+use Rattle.sdd_base.specs.declared.site.Site.TheVariants.{U, T, D}
+use Rattle.sdd_base.specs.declared.number.DmNo.{DmNo}
+use Rattle.sdd_base.specs.declared.event.Event.TheVariants.{Down, Up}
+use Rattle.sdd_wire.specs.declared.msg.Msg.{Msg}
+use Rattle.sdd_net.specs.Links.{delivered}
+use Rattle.sdd_log.specs.Entries.{Given, Log, Mark, Notes}
+use Rattle.sdd_log.specs.Traffic.{handed, link_of, is_down, takes_part}
+use Rattle.sdd_log.specs.Due.{note_if}
+use Rattle.sdd_log.specs.Resting.{IsMarked, Remain, Rests, Waits}
+use Rattle.sdd_log.proofs.Marking.{mark_within, none_by_mark, rests_marked, rests_noted}
+
+not_turned : (b : Bool) → not b ≡ true → b ≡ false
+not_turned true e = cc
+not_turned false e = refl
+
+down_if : (c down : Bool) → not (if c then true else down) ≡ true → not down ≡ true
+down_if true down e = cc
+down_if false down e = e
+
+-- a module that takes part after a `down` took part before it
+part_down : (y : Site) (d : DmNo) (log : Log) → takes_part y (Mark (Down d) ∷ log) ≡ true → takes_part y log ≡ true
+part_down U d log e = refl
+part_down (T t) d log e = refl
+part_down (D n) d log e = down_if (d.0 == n.0) (is_down n.0 log) e
+
+pub goes_down : (g : Given) (d : DmNo) (log : Log) → IsMarked g log (Down d) → is_down d.0 log ≡ false → Rests g (Mark (Down d) ∷ log)
+goes_down g d log m e = rests_marked g log (Down d) m (none_by_mark g log (Down d) tt m.rests.no_site) (ap note_if e) (λ a b p. m.rests.handed_all a b (part_down b d log p))
+
+pub is_down_already : (g : Given) (d : DmNo) (log : Log) → IsMarked g log (Down d) → is_down d.0 log ≡ true → Rests g (Notes ∷ Mark (Down d) ∷ log)
+is_down_already g d log m e = rests_noted g log (Down d) m tt (ap note_if e) (λ a b p. m.rests.handed_all a b (part_down b d log p))
+
+up_if : (c down : Bool) → c ≡ false → not (if c then false else down) ≡ true → not down ≡ true
+up_if true down n e = cc
+up_if false down n e = e
+
+flip_same : (n d : ℕ) → (n == d) ≡ false → (d == n) ≡ false
+flip_same n d e = elim (d == n) as (λ c. (d == n) ≡ c → c ≡ false) [ true ↦ λ p. (let s : d ≡ n = eqb-true d n p in let t : (n == d) ≡ true = eq-eqb n d (sym s) in let no : true ≡ false = sym t ∙ e in cc) | false ↦ λ p. refl ] refl
+
+-- another module that takes part after an `up` took part before it
+part_up : (y : Site) (d : DmNo) (log : Log) → same_site y (D d) ≡ false → takes_part y (Mark (Up d) ∷ log) ≡ true → takes_part y log ≡ true
+part_up U d log n e = refl
+part_up (T t) d log n e = refl
+part_up (D k) d log n e = up_if (d.0 == k.0) (is_down k.0 log) (flip_same k.0 d.0 n) e
+
+up_here : (d : DmNo) (log : Log) → takes_part (D d) (Mark (Up d) ∷ log) ≡ true
+up_here d log = rw (eq-eqb d.0 d.0 refl) refl
+
+-- of a module that wasn't down all is handed over
+up_part : (y : Site) (d : DmNo) (log : Log) → is_down d.0 log ≡ false → takes_part y (Mark (Up d) ∷ log) ≡ true → takes_part y log ≡ true
+up_part U d log n e = refl
+up_part (T t) d log n e = refl
+up_part (D k) d log n e =
+    elim (d.0 == k.0) as (λ c. (d.0 == k.0) ≡ c → not (if c then false else is_down k.0 log) ≡ true → not (is_down k.0 log) ≡ true) [
+      | true ↦ λ p q. let s : d.0 ≡ k.0 = eqb-true d.0 k.0 p in let f : is_down k.0 log ≡ false = subst (λ z. is_down z log ≡ false) s n in ap not f
+      | false ↦ λ p q. q
+    ] refl e
+
+pub isnt_down : (g : Given) (d : DmNo) (log : Log) → IsMarked g log (Up d) → is_down d.0 log ≡ false → Rests g (Notes ∷ Mark (Up d) ∷ log)
+isnt_down g d log m e = rests_noted g log (Up d) m tt (ap (λ c. note_if (not c)) e) (λ a b p. m.rests.handed_all a b (up_part b d log e p))
+
+-- what was kept for a module that comes up is to be handed over
+pub comes_up : (g : Given) (d : DmNo) (log : Log) (kept : Site → List Msg) → IsMarked g log (Up d) → is_down d.0 log ≡ true → ((a : Site) → Remain log a (D d) (kept a)) → Waits g (Mark (Up d) ∷ log) (D d) kept
+comes_up g d log kept m e r = record {
+  lawful = (m.next_is, m.rests.lawful);
+  within = (mark_within log (Up d) m.few, m.rests.within);
+  no_mark = ap (λ c. note_if (not c)) e;
+  no_site = none_by_mark g log (Up d) tt m.rests.no_site;
+  part = up_here d log;
+  remain = λ a. record { count = (r a).count; messages = (r a).messages };
+  others = λ x y p q. m.rests.handed_all x y (part_up y d log p q);
+}

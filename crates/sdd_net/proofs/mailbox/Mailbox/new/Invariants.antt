@@ -1,0 +1,6 @@
+use Rattle.std.proofs.Common.{◌≡◌, map}
+use Rattle.std.specs.Prelude.{replicate, []}
+use Rattle.sdd_net.proofs.mailbox.Mailbox.new.Given as goal
+
+abbrev pub invariant-loop : goal.invariant-loop
+invariant-loop g l = map (λ q. q.items) l.queues.items ≡ replicate l.counter []

@@ -1,0 +1,132 @@
+ghost use Rattle.std.specs.Prelude.{◌≡◌, ◌+◌, ◌<◌, ◌≤◌, ℕ, List, [], ◌∷◌, ◌++◌, length, map, slice_index_or, slice_set, IfOk, OnErr, OnOk, MatchOption, true, Some};
+ghost use Rattle.sdd_base.specs.declared.site.Site.{Site};
+ghost use Rattle.sdd_net.specs.Mailboxes.{empty_mailbox, kept_from, place_of, IsSender, Puts, Takes, TakesFirst, IsLowest};
+
+use sdd_base::{MAX_TMS, NoMemory, Site, TmNo};
+use std::alloc::Global;
+use std::collections::VecDeque;
+use std::marker::Model;
+
+/// What is kept for one data module.
+#[derive(Drop, Debug)]
+pub struct Mailbox<M> {
+    pub down: bool,
+    queues: Vec<VecDeque<M>>,
+}
+
+impl<M> Model for Mailbox<M> {
+    ghost use Rattle.std.specs.Prelude.{map, length, suc, ◌≤◌};
+    ghost use Rattle.sdd_base.specs.declared.limits.TheConstants.{MAX_TMS};
+    ghost use Rattle.sdd_net.specs.Mailboxes.{Mailbox};
+
+    ghost Value = { Mailbox M };
+
+    ghost view = { λ b. record { down = b.down; queues = map (λ q. q.items) b.queues.items } };
+
+    ghost invariant = { λ b. length b.queues.items ≤ suc MAX_TMS };
+}
+
+impl<M: Drop> Mailbox<M> {
+    /// An empty mailbox of a module that is up, for messages of U and so many T.
+    pub fn new(alloc: Global, tms: u32) -> Result<Self, NoMemory>
+        requires { tms ≤ MAX_TMS }
+        ensures { IfOk result (λ b. b ≡ empty_mailbox tms) }
+    {
+        let mut queues = Vec::new(alloc);
+        for _ in 0..tms as usize + 1 {
+            queues.push(VecDeque::new(alloc))?;
+        }
+        Ok(Mailbox {
+            down: false,
+            queues,
+        })
+    }
+
+    /// Puts a message behind those of its sender.
+    pub fn put(&mut self, from: Site, msg: M) -> Result<(), NoMemory>
+        requires { IsSender self.old from }
+        ensures puts { OnOk result (Puts self.old self.new from msg) }
+        ensures same { OnErr result (self.new ≡ self.old) }
+    {
+        push_at(&mut self.queues, place_of(from), msg)
+    }
+
+    /// Takes the first message of the lowest sender of whom there is one.
+    pub fn take(&mut self) -> Option<(Site, M)>
+        ensures { MatchOption result
+            ((self.new ≡ self.old) × ((x : Site) → kept_from self.old x ≡ []))
+            (λ (from, msg). Takes self.old self.new from msg × IsLowest self.old from) }
+    {
+        let (place, msg) = pop_first(&mut self.queues)?;
+        Some((site_at(place), msg))
+    }
+}
+
+/// The place of a sender's list.
+fn place_of(from: Site) -> usize
+    ensures { (k : ℕ) → place_of from ≡ Some k → result ≡ k }
+{
+    match from {
+        Site::T(tm) => tm.0 as usize,
+        _ => 0,
+    }
+}
+
+/// The sender whose list has a place.
+fn site_at(place: usize) -> Site
+    requires { place ≤ MAX_TMS }
+    ensures { place_of result ≡ Some place }
+{
+    if place == 0 {
+        return Site::U;
+    }
+    Site::T(TmNo(place as u8))
+}
+
+/// Puts an item behind those of one list.
+fn push_at<M: Drop>(queues: &mut Vec<VecDeque<M>>, place: usize, msg: M) -> Result<(), NoMemory>
+    requires { place < length queues.old.items }
+    ensures count { length queues.new.items ≡ length queues.old.items }
+    ensures items { OnOk result (map (λ q. q.items) queues.new.items
+        ≡ slice_set (map (λ q. q.items) queues.old.items) place
+        (slice_index_or (map (λ q. q.items) queues.old.items) place [] ++ msg ∷ [])) }
+    ensures same { OnErr result (map (λ q. q.items) queues.new.items
+        ≡ map (λ q. q.items) queues.old.items) }
+{
+    let queue = &mut queues[place];
+    queue.push_back(msg)?;
+    Ok(())
+}
+
+/// Takes the first item of one list.
+fn pop_at<M: Drop>(queues: &mut Vec<VecDeque<M>>, place: usize) -> Option<M>
+    requires { place < length queues.old.items }
+    ensures count { length queues.new.items ≡ length queues.old.items }
+    ensures items { MatchOption result
+        ((map (λ q. q.items) queues.new.items ≡ map (λ q. q.items) queues.old.items)
+        × (slice_index_or (map (λ q. q.items) queues.old.items) place [] ≡ []))
+        (λ msg. (rest : List M)
+        × (slice_index_or (map (λ q. q.items) queues.old.items) place [] ≡ msg ∷ rest)
+        × (map (λ q. q.items) queues.new.items
+        ≡ slice_set (map (λ q. q.items) queues.old.items) place rest)) }
+{
+    let queue = &mut queues[place];
+    queue.pop_front()
+}
+
+/// Takes the first item of the first list that isn't empty.
+fn pop_first<M: Drop>(queues: &mut Vec<VecDeque<M>>) -> Option<(usize, M)>
+    ensures count { length queues.new.items ≡ length queues.old.items }
+    ensures items { MatchOption result
+        ((map (λ q. q.items) queues.new.items ≡ map (λ q. q.items) queues.old.items)
+        × ((j : ℕ) → slice_index_or (map (λ q. q.items) queues.old.items) j [] ≡ []))
+        (λ (place, item). TakesFirst (map (λ q. q.items) queues.old.items)
+        (map (λ q. q.items) queues.new.items) place item) }
+{
+    for place in 0..queues.len() {
+        if let Some(item) = pop_at(queues, place) {
+            return Some((place, item));
+        }
+    }
+    None
+}

@@ -1,0 +1,117 @@
+-- Groups, one pair after the other.
+use Rattle.std.proofs.Common.{None, drop, ℕ, zero, suc, ◌+◌, ◌<◌, ◌≤◌, ◌==◌, ◌≡◌, Bool, true, false, cond, List, [], ◌∷◌, ◌++◌, map, length, get_or, set, replicate, refl, sym, ap, ◌∙◌, subst, inl, inr, arith, eq-eqb}
+use Rattle.std.specs.Prelude.{filter, slice_index_or, slice_set, take, All}
+use Rattle.std.specs.List.{flat_map, range_with_len}
+use Rattle.std.proofs.lemmas.Bool.{cases_eq, ne_eqb}
+use Rattle.std.proofs.lemmas.List.{append-nil, drop_all, take_more, same_lists, length-set, length-map, get_or-set_same, get_or-set_other, map-set, get_or-map}
+use Rattle.std.proofs.lemmas.List.Elements.{filter-append, All-get_or}
+use Rattle.std.proofs.lemmas.List.FromFn.{get_or-map-range_with_len, length-map-range_with_len}
+use Rattle.sdd_order.specs.Groups.{group, groups, chain_after, chains}
+
+map-push : {X Y : Type 0} (f : X → Y) (xs : List X) (x : X) → map f (xs ++ x ∷ []) ≡ map f xs ++ f x ∷ []
+map-push f [] x = refl
+map-push f (y ∷ xs) x = ap (λ z. f y ∷ z) (map-push f xs x)
+
+-- a pair more is one number more of its key
+group_here : (pairs : List (ℕ × ℕ)) (key number : ℕ) → group (pairs ++ (key, number) ∷ []) key ≡ group pairs key ++ number ∷ []
+group_here pairs key number =
+    ap (map (λ p. p.1)) (filter-append (λ p. p.0 == key) pairs ((key, number) ∷ []))
+    ∙ ap (λ b. map (λ (p : ℕ × ℕ). p.1) (filter (λ p. p.0 == key) pairs ++ cond b ((key, number) ∷ []) [])) (eq-eqb key key refl)
+    ∙ map-push (λ (p : ℕ × ℕ). p.1) (filter (λ p. p.0 == key) pairs) (key, number)
+
+group_other : (pairs : List (ℕ × ℕ)) (key number other : ℕ) → (key ≡ other → ⊥)
+    → group (pairs ++ (key, number) ∷ []) other ≡ group pairs other
+group_other pairs key number other n =
+    ap (map (λ p. p.1)) (filter-append (λ p. p.0 == other) pairs ((key, number) ∷ []))
+    ∙ ap (λ b. map (λ (p : ℕ × ℕ). p.1) (filter (λ p. p.0 == other) pairs ++ cond b ((key, number) ∷ []) [])) (ne_eqb key other n)
+    ∙ ap (map (λ p. p.1)) (append-nil (filter (λ p. p.0 == other) pairs))
+
+pub group_at : (pairs : List (ℕ × ℕ)) (count i : ℕ) (d : List ℕ) → i < count → get_or (groups pairs count) i d ≡ group pairs i
+group_at pairs count i d l = get_or-map-range_with_len (group pairs) 0 count i i d l (omega arith)
+
+pub groups_more : (pairs : List (ℕ × ℕ)) (count key number : ℕ) → key < count
+    → slice_set (groups pairs count) key (slice_index_or (groups pairs count) key [] ++ number ∷ []) ≡ groups (pairs ++ (key, number) ∷ []) count
+groups_more pairs count key number l =
+    let old = groups pairs count in
+    let more = pairs ++ (key, number) ∷ [] in
+    let item = get_or old key [] ++ number ∷ [] in
+    let long : length old ≡ count = length-map-range_with_len (group pairs) 0 count in
+    let same : length (set old key item) ≡ length (groups more count) =
+    length-set old key item ∙ long ∙ sym (length-map-range_with_len (group more) 0 count) in
+    same_lists (set old key item) (groups more count) same
+    (λ i d h.
+    let within : i < count = omega (arith, length-set old key item, long) in
+    elim (cases_eq key i) [
+      | inl e ↦
+          let here : get_or (set old key item) key d ≡ item = get_or-set_same old key item d (omega (arith, long)) in
+          let is : item ≡ group more key = ap (λ z. z ++ number ∷ []) (group_at pairs count key [] l) ∙ sym (group_here pairs key number) in
+          subst (λ z. get_or (set old key item) z d ≡ get_or (groups more count) z d) e
+          (here ∙ is ∙ sym (group_at more count key d l))
+      | inr n ↦
+          get_or-set_other old key i item d (λ e. n (sym e))
+          ∙ group_at pairs count i d within
+          ∙ sym (group_other pairs key number i n)
+          ∙ sym (group_at more count i d within)
+    ])
+
+-- no pairs, empty groups
+no_groups : (a n : ℕ) → map (group []) (range_with_len a n) ≡ replicate n []
+no_groups a zero = refl
+no_groups a (suc n) = ap (λ z. [] ∷ z) (no_groups (a + 1) n)
+
+pub groups_of_none : (count : ℕ) → replicate count [] ≡ groups [] count
+groups_of_none count = sym (no_groups 0 count)
+
+pub groups_long : (pairs : List (ℕ × ℕ)) (count : ℕ) → length (groups pairs count) ≡ count
+groups_long pairs count = length-map-range_with_len (group pairs) 0 count
+
+-- the lists as they stand, and as they are seen
+pub list_more : {V : Type 0} (items : V → List ℕ) (lists : List V) (now : List (List ℕ)) (key number : ℕ) (old new : V)
+    → map items lists ≡ now → key < length now → old ≡ get_or lists key old → items new ≡ items old ++ number ∷ []
+    → map items (set lists key new) ≡ set now key (get_or now key [] ++ number ∷ [])
+list_more items lists now key number old new seen within is more =
+    let long : key < length lists = omega (arith, length-map lists items, ap length seen, within) in
+    let here : get_or now key [] ≡ items old =
+    ap (λ l. get_or l key []) (sym seen) ∙ get_or-map items lists key old [] long ∙ ap items (sym is) in
+    map-set items lists key new ∙ ap (λ l. set l key (items new)) seen
+    ∙ ap (λ l. set now key l) (more ∙ ap (λ l. l ++ number ∷ []) (sym here))
+
+pub groups_next : (pairs : List (ℕ × ℕ)) (count i : ℕ) (made new : List (List ℕ)) (d : ℕ × ℕ) → i < length pairs
+    → (get_or pairs i d).0 < count → made ≡ groups (take i pairs) count
+    → new ≡ slice_set made (get_or pairs i d).0 (slice_index_or made (get_or pairs i d).0 [] ++ (get_or pairs i d).1 ∷ [])
+    → new ≡ groups (take (i + 1) pairs) count
+groups_next pairs count i made new d h key old e =
+    let pair = get_or pairs i d in
+    e ∙ ap (λ m. slice_set m pair.0 (slice_index_or m pair.0 [] ++ pair.1 ∷ [])) old
+    ∙ groups_more (take i pairs) count pair.0 pair.1 key
+    ∙ ap (λ ps. groups ps count) (sym (take_more pairs i d h))
+
+-- a pair whose key isn't there changes nothing
+pub groups_past : (pairs : List (ℕ × ℕ)) (count i : ℕ) (d : ℕ × ℕ) → i < length pairs → count ≤ (get_or pairs i d).0
+    → groups (take i pairs) count ≡ groups (take (i + 1) pairs) count
+groups_past pairs count i d h past =
+    let pair = get_or pairs i d in
+    let old = groups (take i pairs) count in
+    let more = take i pairs ++ (pair.0, pair.1) ∷ [] in
+    same_lists old (groups more count) (groups_long (take i pairs) count ∙ sym (groups_long more count))
+    (λ k e l.
+    let within : k < count = omega (arith, l, groups_long (take i pairs) count) in
+    group_at (take i pairs) count k e within
+    ∙ sym (group_other (take i pairs) pair.0 pair.1 k (λ same. absurd (omega (arith, same, within, past))))
+    ∙ sym (group_at more count k e within))
+    ∙ ap (λ ps. groups ps count) (sym (take_more pairs i d h))
+
+over_map : {V : Type 0} (items : V → List ℕ) (vs : List V) → flat_map (λ v. chain_after None (items v)) vs ≡ chains (map items vs)
+over_map items [] = refl
+over_map items (v ∷ vs) = ap (λ l. chain_after None (items v) ++ l) (over_map items vs)
+
+-- the chains of lists as they stand, and as they are seen
+pub chains_of : {V : Type 0} (items : V → List ℕ) (slice lists : List V) (now : List (List ℕ)) (i : ℕ) (before after : List (ℕ × ℕ))
+    → slice ≡ lists → map items lists ≡ now → length slice ≤ i
+    → after ++ flat_map (λ v. chain_after None (items v)) (drop i slice) ≡ before ++ flat_map (λ v. chain_after None (items v)) slice
+    → after ≡ before ++ chains now
+chains_of items slice lists now i before after same seen past e =
+    sym (append-nil after)
+    ∙ ap (λ l. after ++ flat_map (λ v. chain_after None (items v)) l) (sym (drop_all i slice past))
+    ∙ e ∙ ap (λ l. before ++ flat_map (λ v. chain_after None (items v)) l) same
+    ∙ ap (λ l. before ++ l) (over_map items lists) ∙ ap (λ l. before ++ chains l) seen

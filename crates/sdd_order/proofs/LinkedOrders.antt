@@ -1,0 +1,151 @@
+-- How many links lead to a node from nodes of a list.
+use Rattle.std.proofs.Common.{ℕ, zero, suc, ◌+◌, ◌<◌, ◌≤◌, ◌==◌, ◌≡◌, ◌&&◌, ◌||◌, Bool, true, false, not, cond, List, [], ◌∷◌, ◌⊎◌, inl, inr, length, get_or, set, map, fold, replicate, refl, sym, ap, ◌∙◌, subst, arith, eq-eqb}
+use Rattle.std.specs.Prelude.{Contains, filter, All}
+use Rattle.std.specs.List.{list_any}
+use Rattle.std.proofs.lemmas.Bool.{cases_eq, cases_Bool, eqb-true, ne_eqb}
+use Rattle.std.proofs.lemmas.List.{length-set, get_or-set_same, get_or-set_other}
+use Rattle.std.proofs.lemmas.List.Elements.{All-head, All-tail}
+use Rattle.sdd_base.proofs.Membership.{Contains-here, Contains-later}
+use Rattle.sdd_order.specs.Groups.{group}
+use Rattle.sdd_order.specs.Taken.{without}
+use Rattle.sdd_order.specs.Taking.{Links, has_link, at_node, counted}
+use Rattle.sdd_order.proofs.Members.{passes_member, member_passes}
+use Rattle.sdd_order.proofs.Taken.{without_is, in_without}
+
+abbrev pub one : Bool → ℕ
+one b = cond b 1 0
+
+abbrev pub is_in : List ℕ → ℕ → Bool
+is_in left i = list_any (λ j. j == i) left
+
+abbrev pub without_node : ℕ → List ℕ → List ℕ
+without_node x left = without (λ i. i) x left
+
+-- the links to a node from nodes that are left
+abbrev pub led : Links → List ℕ → ℕ → ℕ
+led [] left i = 0
+led (l ∷ links) left i = one (is_in left l.0 && (l.1 == i)) + led links left i
+
+-- how often a node is in a list
+abbrev pub times : ℕ → List ℕ → ℕ
+times i [] = 0
+times i (j ∷ js) = one (j == i) + times i js
+
+is_in_true : (left : List ℕ) (i : ℕ) → Contains left i → is_in left i ≡ true
+is_in_true left i m = passes_member (λ j. j == i) left i m (eq-eqb i i refl)
+
+from_is_in : (left : List ℕ) (i : ℕ) → is_in left i ≡ true → Contains left i
+from_is_in left i e = let r = member_passes (λ j. j == i) left e in subst (Contains left) (eqb-true r.0 i r.2) r.1
+
+is_in_false : (left : List ℕ) (i : ℕ) → (Contains left i → ⊥) → is_in left i ≡ false
+is_in_false left i n = elim (cases_Bool (is_in left i)) [ inl t ↦ absurd (n (from_is_in left i t)) | inr f ↦ f ]
+
+-- no links lead to it exactly if there is none from any
+pub none_led : (links : Links) (left : List ℕ) (i : ℕ) → led links left i ≡ 0 → (j : ℕ) → Contains left j
+    → has_link links j i ≡ false
+none_led [] left i e j m = refl
+none_led (l ∷ links) left i e j m =
+    elim (cases_Bool ((l.0 == j) && (l.1 == i))) [
+      | inl t ↦
+          let both = and_both (l.0 == j) (l.1 == i) t in
+          let same : l.0 ≡ j = eqb-true l.0 j both.0 in
+          let here : is_in left l.0 ≡ true = is_in_true left l.0 (subst (Contains left) (sym same) m) in
+          let counts : one (is_in left l.0 && (l.1 == i)) ≡ 1 =
+          ap (λ b. one (b && (l.1 == i))) here ∙ ap (λ b. one b) both.1 in
+          absurd (omega (arith, counts, e))
+      | inr f ↦
+          let rest : led links left i ≡ 0 = omega (arith, e) in
+          ap (λ b. b || has_link links j i) f ∙ none_led links left i rest j m
+    ]
+  where
+    and_both : (a b : Bool) → (a && b) ≡ true → (a ≡ true) × (b ≡ true)
+    and_both true b e = (refl, e)
+    and_both false b e = absurd (cc)
+
+pub led_none : (links : Links) (left : List ℕ) (i : ℕ) → ((j : ℕ) → Contains left j → has_link links j i ≡ false)
+    → led links left i ≡ 0
+led_none [] left i h = refl
+led_none (l ∷ links) left i h =
+    let rest : led links left i ≡ 0 = led_none links left i (λ j m. or_second ((l.0 == j) && (l.1 == i)) (has_link links j i) (h j m)) in
+    elim (cases_Bool (is_in left l.0)) [
+      | inl t ↦
+          let m = from_is_in left l.0 t in
+          let other : (l.1 == i) ≡ false =
+          ap (λ b. b && (l.1 == i)) (sym (eq-eqb l.0 l.0 refl))
+          ∙ or_first ((l.0 == l.0) && (l.1 == i)) (has_link links l.0 i) (h l.0 m) in
+          let here : one (is_in left l.0 && (l.1 == i)) ≡ 0 = ap (λ b. one (b && (l.1 == i))) t ∙ ap one other in
+          omega (arith, here, rest)
+      | inr f ↦
+          let here : one (is_in left l.0 && (l.1 == i)) ≡ 0 = ap (λ b. one (b && (l.1 == i))) f in
+          omega (arith, here, rest)
+    ]
+  where
+    or_first : (a b : Bool) → (a || b) ≡ false → a ≡ false
+    or_first true b e = absurd (cc)
+    or_first false b e = refl
+
+    or_second : (a b : Bool) → (a || b) ≡ false → b ≡ false
+    or_second true b e = absurd (cc)
+    or_second false b e = e
+
+-- without a node there are fewer, by its own
+in_rest : (x : ℕ) (left : List ℕ) (j : ℕ) → (j ≡ x → ⊥) → is_in (without_node x left) j ≡ is_in left j
+in_rest x left j n =
+    elim (cases_Bool (is_in left j)) [
+      | inl t ↦ is_in_true (without_node x left) j (in_without (λ i. i) x left j (from_is_in left j t) n) ∙ sym t
+      | inr f ↦
+          is_in_false (without_node x left) j
+          (λ m.
+          let wrong : true ≡ false = sym (is_in_true left j (without_is (λ i. i) x left j m).0) ∙ f in
+          absurd (cc))
+          ∙ sym f
+    ]
+
+pub led_without : (links : Links) (left : List ℕ) (x i : ℕ) → Contains left x
+    → led links left i ≡ led links (without_node x left) i + times i (group links x)
+led_without [] left x i m = refl
+led_without (l ∷ links) left x i m =
+    let rest = led_without links left x i m in
+    elim (cases_eq l.0 x) [
+      | inl e ↦
+          let here : is_in left l.0 ≡ true = is_in_true left l.0 (subst (Contains left) (sym e) m) in
+          let gone : is_in (without_node x left) l.0 ≡ false =
+          is_in_false (without_node x left) l.0 (λ k. (without_is (λ i. i) x left l.0 k).1 e) in
+          let with : times i (group (l ∷ links) x) ≡ one (l.1 == i) + times i (group links x) =
+          ap (λ b. times i (map (λ (p : ℕ × ℕ). p.1) (cond b (l ∷ filter (λ p. p.0 == x) links) (filter (λ p. p.0 == x) links)))) (eq-eqb l.0 x e) in
+          let first : one (is_in left l.0 && (l.1 == i)) ≡ one (l.1 == i) = ap (λ b. one (b && (l.1 == i))) here in
+          let second : one (is_in (without_node x left) l.0 && (l.1 == i)) ≡ 0 = ap (λ b. one (b && (l.1 == i))) gone in
+          omega (arith, rest, with, first, second)
+      | inr n ↦
+          let same : is_in (without_node x left) l.0 ≡ is_in left l.0 = in_rest x left l.0 n in
+          let with : times i (group (l ∷ links) x) ≡ times i (group links x) =
+          ap (λ b. times i (map (λ (p : ℕ × ℕ). p.1) (cond b (l ∷ filter (λ p. p.0 == x) links) (filter (λ p. p.0 == x) links)))) (ne_eqb l.0 x n) in
+          let first : one (is_in (without_node x left) l.0 && (l.1 == i)) ≡ one (is_in left l.0 && (l.1 == i)) =
+          ap (λ b. one (b && (l.1 == i))) same in
+          omega (arith, rest, with, first)
+    ]
+
+-- the counts of all links
+pub counts_are : (links : Links) (left counts : List ℕ) (i : ℕ) → All (λ l. Contains left l.0 × (l.1 < length counts)) links
+    → at_node (fold counted counts links) i ≡ at_node counts i + led links left i
+counts_are [] left counts i all = omega arith
+counts_are (l ∷ links) left counts i all =
+    let here = All-head (λ l. Contains left l.0 × (l.1 < length counts)) l links all in
+    let more = counted counts l in
+    let long : length more ≡ length counts = length-set counts l.1 (at_node counts l.1 + 1) in
+    let rest = counts_are links left more i
+    (subst (λ n. All (λ l. Contains left l.0 × (l.1 < n)) links) (sym long)
+    (All-tail (λ l. Contains left l.0 × (l.1 < length counts)) l links all)) in
+    let in_it : is_in left l.0 ≡ true = is_in_true left l.0 here.0 in
+    let counts_l : one (is_in left l.0 && (l.1 == i)) ≡ one (l.1 == i) = ap (λ b. one (b && (l.1 == i))) in_it in
+    elim (cases_eq l.1 i) [
+      | inl e ↦
+          let first : one (l.1 == i) ≡ 1 = ap (λ b. one b) (eq-eqb l.1 i e) in
+          let new : at_node more i ≡ at_node counts i + 1 =
+          ap (λ j. at_node more j) (sym e) ∙ get_or-set_same counts l.1 (at_node counts l.1 + 1) 0 here.1 ∙ ap (λ j. at_node counts j + 1) e in
+          omega (arith, rest, counts_l, first, new)
+      | inr n ↦
+          let none : one (l.1 == i) ≡ 0 = ap (λ b. one b) (ne_eqb l.1 i n) in
+          let old : at_node more i ≡ at_node counts i = get_or-set_other counts l.1 i (at_node counts l.1 + 1) 0 (λ e. n (sym e)) in
+          omega (arith, rest, counts_l, none, old)
+    ]

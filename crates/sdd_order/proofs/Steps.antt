@@ -1,0 +1,91 @@
+-- One step of the nodes that are ready first, and of what is taken.
+use Rattle.std.proofs.Common.{ℕ, zero, suc, ◌+◌, ◌-◌, ◌<◌, ◌≤◌, ◌==◌, ◌≡◌, ◌≢◌, Bool, true, false, cond, List, [], ◌∷◌, ◌++◌, length, get_or, refl, sym, ap, ◌∙◌, subst, arith, eq-eqb}
+use Rattle.std.specs.Prelude.{Contains, filter, fold, slice_index_or, slice_set, All}
+use Rattle.std.specs.List.{range_with_len}
+use Rattle.std.specs.Ordering.{nat_cmp}
+use Rattle.std.specs.BTreeSet.{insert_key}
+use Rattle.std.proofs.lemmas.Bool.{ne_eqb}
+use Rattle.std.proofs.lemmas.List.{append-nil, append_assoc}
+use Rattle.std.proofs.lemmas.List.Elements.{All-head, All-tail}
+use Rattle.std.proofs.lemmas.Map.Views.{All-insert_key}
+use Rattle.sdd_order.specs.Groups.{Groups}
+use Rattle.sdd_order.specs.Taking.{at_node, Front, released, first_ready, taking}
+use Rattle.sdd_order.proofs.Ascending.{insert_last, from_range}
+use Rattle.sdd_order.proofs.Members.{Contains-from_filter}
+
+filter_range : (p : ℕ → Bool) (a n j : ℕ) → a + n ≡ j
+    → filter p (range_with_len a (suc n)) ≡ filter p (range_with_len a n) ++ cond (p j) (j ∷ []) []
+filter_range p a zero j e = let same : a ≡ j = omega (arith, e) in ap (λ (i : ℕ). cond (p i) (i ∷ []) []) same
+filter_range p a (suc n) j e =
+    let rest = filter_range p (a + 1) n j (omega (arith, e)) in
+    let some : List ℕ = cond (p j) (j ∷ []) [] in
+    elim (p a) as (λ b. cond b (a ∷ filter p (range_with_len (a + 1) (suc n))) (filter p (range_with_len (a + 1) (suc n)))
+    ≡ cond b (a ∷ filter p (range_with_len (a + 1) n)) (filter p (range_with_len (a + 1) n)) ++ some) [
+      | true ↦ ap (λ l. a ∷ l) rest
+      | false ↦ rest
+    ]
+
+first_next : (counts : List ℕ) (n : ℕ) → first_ready counts (n + 1) ≡ first_ready counts n ++ cond (at_node counts n == 0) (n ∷ []) []
+first_next counts n =
+    let next : n + 1 ≡ suc n = omega arith in
+    ap (λ k. first_ready counts k) next ∙ filter_range (λ i. at_node counts i == 0) 0 n n (omega arith)
+
+first_below : (counts : List ℕ) (n y : ℕ) → Contains (first_ready counts n) y → y < n
+first_below counts n y m =
+    let r = from_range 0 n y (Contains-from_filter (λ i. at_node counts i == 0) (range_with_len 0 n) y m).0 in
+    let below = r.1 in
+    omega arith
+
+pub first_here : (counts : List ℕ) (n : ℕ) → at_node counts n ≡ 0
+    → insert_key nat_cmp (first_ready counts n) n ≡ first_ready counts (n + 1)
+first_here counts n e =
+    insert_last (first_ready counts n) n (first_below counts n)
+    ∙ sym (first_next counts n ∙ ap (λ b. first_ready counts n ++ cond b (n ∷ []) []) (eq-eqb (at_node counts n) 0 e))
+
+pub first_other : (counts : List ℕ) (n : ℕ) → at_node counts n ≢ 0 → first_ready counts n ≡ first_ready counts (n + 1)
+first_other counts n d =
+    sym (first_next counts n
+    ∙ ap (λ b. first_ready counts n ++ cond b (n ∷ []) []) (ne_eqb (at_node counts n) 0 d)
+    ∙ append-nil (first_ready counts n))
+
+-- one node is taken
+pub taking_more : (after : Groups) (n m : ℕ) (counts old rest : List ℕ) (node : ℕ) (front : Front) → n ≡ suc m
+    → old ≡ node ∷ rest → front ≡ fold released (counts, rest) (slice_index_or after node [])
+    → taking after n counts old ≡ node ∷ taking after m front.0 front.1
+taking_more after n m counts old rest node front e f g =
+    ap (λ k. taking after k counts old) e ∙ ap (λ o. taking after (suc m) counts o) f
+    ∙ ap (λ (x : Front). node ∷ taking after m x.0 x.1) (sym g)
+
+pub taken_more : (order rest new all : List ℕ) (node : ℕ) (left : List ℕ) → order ++ left ≡ all → left ≡ node ∷ rest
+    → new ≡ order ++ node ∷ [] → new ++ rest ≡ all
+taken_more order rest new all node left h e f =
+    ap (λ l. l ++ rest) f ∙ append_assoc order (node ∷ []) rest ∙ ap (λ l. order ++ l) (sym e) ∙ h
+
+pub taken_all : (after : Groups) (n : ℕ) (counts old order all : List ℕ) → old ≡ []
+    → order ++ taking after n counts old ≡ all → order ≡ all
+taken_all after n counts old order all e h =
+    sym (ap (λ o. order ++ taking after n counts o) e ∙ ap (λ l. order ++ l) (none_taken after n counts) ∙ append-nil order) ∙ h
+  where
+    none_taken : (after : Groups) (n : ℕ) (counts : List ℕ) → taking after n counts [] ≡ []
+    none_taken after zero counts = refl
+    none_taken after (suc n) counts = refl
+
+-- the nodes that are ready stay within bounds
+released_within : (bound : ℕ) (front : Front) (target : ℕ) → All (λ i. i < bound) front.1 → target < bound
+    → All (λ i. i < bound) (released front target).1
+released_within bound front target all within =
+    elim (at_node front.0 target == 1) as (λ b. All (λ i. i < bound) (cond b (insert_key nat_cmp front.1 target) front.1)) [
+      | true ↦ All-insert_key nat_cmp target (λ i. i < bound) front.1 all within
+      | false ↦ all
+    ]
+
+pub released_below : (bound : ℕ) (targets : List ℕ) (front : Front) → All (λ i. i < bound) front.1
+    → All (λ i. i < bound) targets → All (λ i. i < bound) (fold released front targets).1
+released_below bound [] front all into = all
+released_below bound (t ∷ targets) front all into =
+    released_below bound targets (released front t)
+    (released_within bound front t all (All-head (λ i. i < bound) t targets into)) (All-tail (λ i. i < bound) t targets into)
+
+pub nothing_in : (ks : List ℕ) → (0 < length ks → false ≡ true) → ks ≡ []
+nothing_in [] h = refl
+nothing_in (k ∷ ks) h = let wrong = h (omega arith) in absurd (cc)

@@ -1,0 +1,235 @@
+-- What is taken of items with different times.
+use Rattle.std.proofs.Common.{ℕ, zero, suc, ◌<◌, ◌≤◌, ◌==◌, ◌≡◌, ◌≢◌, nat_lt, ◌||◌, Bool, true, false, not, cond, List, [], ◌∷◌, length, Option, Some, None, refl, sym, ap, ◌∙◌, subst, ◌⊎◌, inl, inr, arith, eq-eqb}
+use Rattle.std.specs.Prelude.{filter, Contains}
+use Rattle.std.specs.List.{list_any}
+use Rattle.std.proofs.lemmas.Bool.{cases_Bool, cases_eq, ltb-true, ltb-false, eqb-true, eqb-false, ne_eqb, not-true}
+use Rattle.std.proofs.lemmas.Option.{same_Some}
+use Rattle.sdd_base.proofs.Membership.{Contains-nil, Contains-here, Contains-later, Contains-cases}
+use Rattle.sdd_order.specs.Taken.{is_ready, earlier, earliest, without, taken}
+use Rattle.sdd_order.proofs.Members.{Contains-filter, Contains-from_filter, passes_member}
+
+module _ {A : Type 0} (time : A → ℕ) where
+  -- a member that none has a smaller time than
+  pub record IsEarliest (xs : List A) (x : A) : Type 0 where
+    pub member : Contains xs x
+    pub least : (y : A) → Contains xs y → time x ≤ time y
+
+  earlier_is : (x : A) (xs : List A) (o : Option A) → earliest time xs ≡ o → (z : A) → earlier time x o ≡ Some z
+      → ((y : A) → o ≡ Some y → IsEarliest xs y) → (o ≡ None → xs ≡ []) → IsEarliest (x ∷ xs) z
+  earlier_is x xs None e z f g n =
+      let same : x ≡ z = same_Some x z f in
+      let empty = n refl in
+      subst (λ w. IsEarliest (x ∷ xs) w) same
+      (record {
+        member = Contains-here x xs;
+        least = λ y m. elim (Contains-cases x xs y m) [
+          | inl s ↦ let t : time y ≡ time x = ap time s in omega arith
+          | inr k ↦ absurd (Contains-nil y (subst (λ l. Contains l y) empty k))
+        ];
+      })
+  earlier_is x xs (Some y) e z f g n =
+      let rest = g y refl in
+      elim (nat_lt (time y) (time x)) as (λ b. nat_lt (time y) (time x) ≡ b → cond b (Some y) (Some x) ≡ Some z → IsEarliest (x ∷ xs) z) [
+        | true ↦ λ l s.
+            let same : y ≡ z = same_Some y z s in
+            let below = ltb-true (time y) (time x) l in
+            subst (λ w. IsEarliest (x ∷ xs) w) same
+            (record {
+              member = Contains-later x xs y rest.member;
+              least = λ w m. elim (Contains-cases x xs w m) [
+                | inl t ↦ let u : time w ≡ time x = ap time t in omega arith
+                | inr k ↦ rest.least w k
+              ];
+            })
+        | false ↦ λ l s.
+            let same : x ≡ z = same_Some x z s in
+            let above = ltb-false (time y) (time x) l in
+            subst (λ w. IsEarliest (x ∷ xs) w) same
+            (record {
+              member = Contains-here x xs;
+              least = λ w m. elim (Contains-cases x xs w m) [
+                | inl t ↦ let u : time w ≡ time x = ap time t in omega arith
+                | inr k ↦ let u = rest.least w k in omega arith
+              ];
+            })
+      ] refl f
+
+  some_earlier : (x : A) (o : Option A) → (z : A) × (earlier time x o ≡ Some z)
+  some_earlier x None = (x, refl)
+  some_earlier x (Some y) =
+      elim (nat_lt (time y) (time x)) as (λ b. (z : A) × (cond b (Some y) (Some x) ≡ Some z)) [ true ↦ (y, refl) | false ↦ (x, refl) ]
+
+  -- a list that isn't empty has one
+  pub none_earliest : (xs : List A) → earliest time xs ≡ None → xs ≡ []
+  none_earliest [] e = refl
+  none_earliest (x ∷ xs) e =
+      let s = some_earlier x (earliest time xs) in
+      let wrong : Some s.0 ≡ None = sym s.1 ∙ e in
+      absurd (cc)
+
+  pub earliest_is : (xs : List A) (z : A) → earliest time xs ≡ Some z → IsEarliest xs z
+  earliest_is [] z e = absurd (cc)
+  earliest_is (x ∷ xs) z e = earlier_is x xs (earliest time xs) refl z e (λ y f. earliest_is xs y f) (none_earliest xs)
+
+  -- members with one time are one
+  abbrev pub Differ : List A → Type 0
+  Differ xs = (x y : A) → Contains xs x → Contains xs y → time x ≡ time y → x ≡ y
+
+  -- then it is the only one
+  pub is_earliest : (xs : List A) → Differ xs → (z : A) → IsEarliest xs z → earliest time xs ≡ Some z
+  is_earliest xs differ z h =
+      elim (earliest time xs) as (λ o. earliest time xs ≡ o → o ≡ Some z) [
+        | None ↦ λ e. absurd (Contains-nil z (subst (λ l. Contains l z) (none_earliest xs e) h.member))
+        | Some y ↦ λ e.
+            let other = earliest_is xs y e in
+            let one = h.least y other.member in
+            let two = other.least z h.member in
+            ap (λ w. Some w) (differ y z other.member h.member (omega arith))
+      ] refl
+
+  -- what is left without a member
+  pub without_is : (x : A) (xs : List A) (y : A) → Contains (without time x xs) y → Contains xs y × (time y ≢ time x)
+  without_is x xs y m =
+      let r = Contains-from_filter (λ z. not (time z == time x)) xs y m in
+      (r.0, eqb-false (time y) (time x) (not-true (time y == time x) r.1))
+
+  pub in_without : (x : A) (xs : List A) (y : A) → Contains xs y → time y ≢ time x → Contains (without time x xs) y
+  in_without x xs y m n = Contains-filter (λ z. not (time z == time x)) xs y (ap not (ne_eqb (time y) (time x) n)) m
+
+  without_fewer : (x : A) (xs : List A) → length (without time x xs) ≤ length xs
+  without_fewer x [] = omega arith
+  without_fewer x (y ∷ xs) =
+      let rest = without_fewer x xs in
+      elim (not (time y == time x)) as (λ b. length (cond b (y ∷ without time x xs) (without time x xs)) ≤ suc (length xs)) [
+        | true ↦ omega arith
+        | false ↦ omega arith
+      ]
+
+  pub one_fewer : (x : A) (xs : List A) → Contains xs x → length (without time x xs) < length xs
+  one_fewer x [] m = absurd (Contains-nil x m)
+  one_fewer x (y ∷ xs) m =
+      elim (cases_eq (time y) (time x)) [
+        | inl e ↦
+            let rest = without_fewer x xs in
+            let drops : not (time y == time x) ≡ false = ap not (eq-eqb (time y) (time x) e) in
+            subst (λ b. length (cond b (y ∷ without time x xs) (without time x xs)) < suc (length xs)) (sym drops) (omega arith)
+        | inr n ↦ elim (Contains-cases y xs x m) [
+          | inl same ↦ absurd (n (ap time (sym same)))
+          | inr later ↦
+              let rest = one_fewer x xs later in
+              let stays : not (time y == time x) ≡ true = ap not (ne_eqb (time y) (time x) n) in
+              subst (λ b. length (cond b (y ∷ without time x xs) (without time x xs)) < suc (length xs)) (sym stays) (omega arith)
+        ]
+      ]
+
+  pub differ_without : (x : A) (xs : List A) → Differ xs → Differ (without time x xs)
+  differ_without x xs d y z m n e = d y z (without_is x xs y m).0 (without_is x xs z n).0 e
+
+  differ_filter : (p : A → Bool) (xs : List A) → Differ xs → Differ (filter p xs)
+  differ_filter p xs d y z m n e = d y z (Contains-from_filter p xs y m).0 (Contains-from_filter p xs z n).0 e
+
+  module _ (before : A → A → Bool) where
+    -- whether one is ready
+    pub ready_is : (left : List A) (x y : A) → is_ready before left x ≡ true → Contains left y → before y x ≡ false
+    ready_is left x y e m =
+        elim (cases_Bool (before y x)) [
+          | inl t ↦
+              let some = passes_member (λ z. before z x) left y m t in
+              let wrong : not true ≡ true = ap not (sym some) ∙ e in
+              absurd (cc)
+          | inr f ↦ f
+        ]
+
+    none_passes : (left : List A) (x : A) → ((y : A) → Contains left y → before y x ≡ false) → list_any (λ y. before y x) left ≡ false
+    none_passes [] x h = refl
+    none_passes (y ∷ left) x h =
+        ap (λ b. b || list_any (λ z. before z x) left) (h y (Contains-here y left))
+        ∙ none_passes left x (λ z m. h z (Contains-later y left z m))
+
+    pub is_ready_where : (left : List A) (x : A) → ((y : A) → Contains left y → before y x ≡ false) → is_ready before left x ≡ true
+    is_ready_where left x h = ap not (none_passes left x h)
+
+    -- the next one
+    pub record IsNext (left : List A) (x : A) : Type 0 where
+      pub member : Contains left x
+      pub ready : (y : A) → Contains left y → before y x ≡ false
+      pub least : (y : A) → Contains left y → ((z : A) → Contains left z → before z y ≡ false) → time x ≤ time y
+
+    pub next_is : (left : List A) (x : A) → earliest time (filter (is_ready before left) left) ≡ Some x → IsNext left x
+    next_is left x e =
+        let first = earliest_is (filter (is_ready before left) left) x e in
+        let r = Contains-from_filter (is_ready before left) left x first.member in
+        record {
+          member = r.0;
+          ready = λ y m. ready_is left x y r.1 m;
+          least = λ y m h. first.least y (Contains-filter (is_ready before left) left y (is_ready_where left y h) m);
+        }
+
+    pub is_next : (left : List A) → Differ left → (x : A) → IsNext left x → earliest time (filter (is_ready before left) left) ≡ Some x
+    is_next left d x h =
+        is_earliest (filter (is_ready before left) left) (differ_filter (is_ready before left) left d) x
+        (record {
+          member = Contains-filter (is_ready before left) left x (is_ready_where left x h.ready) h.member;
+          least = λ y m.
+              let r = Contains-from_filter (is_ready before left) left y m in
+              h.least y r.0 (λ z k. ready_is left y z r.1 k);
+        })
+
+    pub none_next : (left : List A) → earliest time (filter (is_ready before left) left) ≡ None → (x : A) → Contains left x
+        → ((y : A) → Contains left y → before y x ≡ false) → ⊥
+    none_next left e x m h =
+        let empty = none_earliest (filter (is_ready before left) left) e in
+        let there = Contains-filter (is_ready before left) left x (is_ready_where left x h) m in
+        Contains-nil x (subst (λ l. Contains l x) empty there)
+
+    -- what is taken is of what was left
+    pub taken_is : (n : ℕ) (left : List A) (x : A) → Contains (taken before time n left) x → Contains left x
+    taken_is zero left x m = absurd (Contains-nil x m)
+    taken_is (suc n) left x m =
+        elim (earliest time (filter (is_ready before left) left)) as (λ o. earliest time (filter (is_ready before left) left) ≡ o → Contains (elim o as (λ p. List A) [ None ↦ [] | Some y ↦ y ∷ taken before time n (without time y left) ]) x → Contains left x) [
+          | None ↦ λ e k. absurd (Contains-nil x k)
+          | Some y ↦ λ e k. elim (Contains-cases y (taken before time n (without time y left)) x k) [
+            | inl same ↦ subst (Contains left) (sym same) (next_is left y e).member
+            | inr later ↦ (without_is y left x (taken_is n (without time y left) x later)).0
+          ]
+        ] refl m
+
+    -- where some one is always ready all are taken
+    pub taken_whole : (n : ℕ) (left : List A) → length left ≤ n → Differ left
+        → ((some : List A) → ((y : A) → Contains some y → Contains left y) → (s : A) → Contains some s → (r : A) × Contains some r × ((y : A) → Contains some y → before y r ≡ false))
+        → (x : A) → Contains left x → Contains (taken before time n left) x
+    taken_whole zero [] l d h x m = absurd (Contains-nil x m)
+    taken_whole zero (y ∷ left) l d h x m = absurd (omega arith)
+    taken_whole (suc n) left l d h x m =
+        elim (earliest time (filter (is_ready before left) left)) as (λ o. earliest time (filter (is_ready before left) left) ≡ o → Contains (elim o as (λ p. List A) [ None ↦ [] | Some y ↦ y ∷ taken before time n (without time y left) ]) x) [
+          | None ↦ λ e. let r = h left (λ y k. k) x m in absurd (none_next left e r.0 r.1 r.2)
+          | Some y ↦ λ e.
+              let next = next_is left y e in
+              let fewer = one_fewer y left next.member in
+              let rest = taken before time n (without time y left) in
+              elim (cases_eq (time x) (time y)) [
+                | inl s ↦ subst (Contains (y ∷ rest)) (d y x next.member m (sym s)) (Contains-here y rest)
+                | inr s ↦
+                    Contains-later y rest x
+                    (taken_whole n (without time y left) (omega arith) (differ_without y left d)
+                    (λ some within. h some (λ z k. (without_is y left z (within z k)).0)) x (in_without y left x m s))
+              ]
+        ] refl
+
+    -- each is taken before those that it comes before, and none twice
+    abbrev pub IsAlongBy : List A → Type 0
+    IsAlongBy [] = Unit {0}
+    IsAlongBy (x ∷ rest) = ((y : A) → Contains rest y → (time y ≢ time x) × (before y x ≡ false)) × IsAlongBy rest
+
+    pub taken_along : (n : ℕ) (left : List A) → IsAlongBy (taken before time n left)
+    taken_along zero left = tt
+    taken_along (suc n) left =
+        elim (earliest time (filter (is_ready before left) left)) as (λ o. earliest time (filter (is_ready before left) left) ≡ o → IsAlongBy (elim o as (λ p. List A) [ None ↦ [] | Some y ↦ y ∷ taken before time n (without time y left) ])) [
+          | None ↦ λ e. tt
+          | Some x ↦ λ e. (
+            (λ y m.
+                let w = without_is x left y (taken_is n (without time x left) y m) in
+                (w.1, (next_is left x e).ready y w.0)),
+            taken_along n (without time x left),
+          )
+        ] refl

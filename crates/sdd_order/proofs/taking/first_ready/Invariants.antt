@@ -1,0 +1,6 @@
+use Rattle.std.proofs.Common.{◌≡◌}
+use Rattle.sdd_order.specs.Taking.{first_ready}
+use Rattle.sdd_order.proofs.taking.first_ready.Given as goal
+
+abbrev pub invariant-loop-node : goal.invariant-loop-node
+invariant-loop-node l = l.ready.keys ≡ first_ready l.counts l.node

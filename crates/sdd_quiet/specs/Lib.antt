@@ -1,4 +1,0 @@
-pub mod Theorems
-pub mod WaitGraph
-pub mod WaitGraphs
-pub mod Waiting

@@ -1,9 +1,0 @@
-pub mod AttemptsSquare
-pub mod FewRejected
-pub mod Last
-pub mod LateQuery
-pub mod OfLogs
-pub mod OtherClass
-pub mod Places
-pub mod Rejects
-pub mod Writers

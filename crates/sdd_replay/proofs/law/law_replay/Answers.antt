@@ -1,5 +1,0 @@
-use Rattle.sdd_replay.proofs.Run.{replayed}
-use Rattle.sdd_replay.proofs.law.law_replay.Goals as goal
-
-pub returns : goal.returns
-returns g c = λ first L commits order is told is_order. replayed c.args.cat.now c.known.ensures.sound first is L commits told order is_order

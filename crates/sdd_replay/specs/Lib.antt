@@ -1,4 +1,0 @@
-pub mod Ledger
-pub mod Order
-pub mod Recorded
-pub mod Replayed

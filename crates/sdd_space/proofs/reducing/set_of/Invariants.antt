@@ -1,6 +1,0 @@
-use Rattle.std.proofs.Common.{◌≡◌, take, []}
-use Rattle.sdd_base.specs.Order.{with_values}
-use Rattle.sdd_space.proofs.reducing.set_of.Given as goal
-
-abbrev pub invariant-loop-value : goal.invariant-loop-value
-invariant-loop-value l = l.known.keys ≡ with_values [] (take l.value-index l.values)

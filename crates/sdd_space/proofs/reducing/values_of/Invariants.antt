@@ -1,6 +1,0 @@
-use Rattle.std.proofs.Common.{◌≡◌, map, take, []}
-use Rattle.sdd_base.specs.Order.{column, with_values}
-use Rattle.sdd_space.proofs.reducing.values_of.Given as goal
-
-abbrev pub invariant-loop-row : goal.invariant-loop-row
-invariant-loop-row l = l.known.keys ≡ with_values [] (map (λ row. column row l.number) (take l.row-index l.rows))

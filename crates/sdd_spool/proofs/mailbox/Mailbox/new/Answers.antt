@@ -1,6 +1,0 @@
-use Rattle.std.proofs.Common.{map}
-use Rattle.sdd_spool.proofs.Queues.{filled}
-use Rattle.sdd_spool.proofs.mailbox.Mailbox.new.Goals as goal
-
-pub returns : goal.returns
-returns g c = filled (map (λ q. q.items) c.loop.queues.items) c.loop.counter c.args.tms c.loop.invariant c.loop.auto.counter-end c.loop-test.false

@@ -1,9 +1,0 @@
-pub mod Apart
-pub mod AtRest
-pub mod Bounds
-pub mod Fronts
-pub mod KeptEras
-pub mod Known
-pub mod OneEra
-pub mod Timely
-pub mod Times

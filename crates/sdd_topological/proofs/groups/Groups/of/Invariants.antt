@@ -1,6 +1,0 @@
-use Rattle.std.proofs.Common.{◌≡◌, take}
-use Rattle.sdd_topological.specs.Groups.{groups}
-use Rattle.sdd_topological.proofs.groups.Groups.of.Given as goal
-
-abbrev pub invariant-loop-key : goal.invariant-loop-key
-invariant-loop-key l = l.made ≡ groups (take l.key-index l.pairs) l.count

@@ -1,4 +1,0 @@
-pub mod Groups
-pub mod Paths
-pub mod Taken
-pub mod Taking
