@@ -1,4 +1,5 @@
-//! The order in which one database, without copies, could have run what was committed.
+//! The order in which one database, without copies, could have run what was committed; and orders
+//! along links in general (`order_of`).
 //!
 //! The one contract to the layer above: [`serial_order`] gives, of a history that has one, the
 //! serial order of its definition, in which each committed transaction stands once, after those

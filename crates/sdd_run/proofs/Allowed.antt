@@ -13,9 +13,9 @@ use Rattle.sdd_net.specs.Nets.{is_site, is_link}
 use Rattle.sdd_script.specs.Valid.{IsLink, IsSite, IsValidEvent}
 use Rattle.sdd_log.specs.Entries.{Given, with_event}
 use Rattle.sdd_log.specs.Resting.{IsPossible}
-use Rattle.sdd_facts.specs.Real.{IsGood}
-use Rattle.sdd_facts.specs.AfterEvents.{redeclares_in}
-use Rattle.sdd_facts.proofs.Done.{count_join}
+use Rattle.sdd_obligations.specs.Real.{IsGood}
+use Rattle.sdd_obligations.specs.AfterEvents.{redeclares_in}
+use Rattle.sdd_obligations.proofs.Done.{count_join}
 use Rattle.sdd_module.specs.SiteLog.{Force}
 use Rattle.sdd_world.specs.Schedules.{AreAllowed, lists_after, takes_rounds}
 use Rattle.sdd_world.specs.declared.schedule.ClassList.{ClassList}

@@ -20,9 +20,9 @@ use Rattle.sdd_log.specs.Traffic.{all_links, calls_of, handed, link_of, takes_pa
 use Rattle.sdd_log.proofs.Steps.{none_any_base}
 use Rattle.sdd_log.proofs.Completing.{complete_parts, none_left}
 use Rattle.sdd_log.proofs.Ticking.{first_none, none_by_redeclare}
-use Rattle.sdd_settling.proofs.Marked.{next_is_of_events}
-use Rattle.sdd_settling.proofs.Settled.{quiet_at_last}
-use Rattle.sdd_rest.proofs.IdleAtRedeclares.{at_redeclare}
+use Rattle.sdd_termination.proofs.Marked.{next_is_of_events}
+use Rattle.sdd_termination.proofs.Settled.{quiet_at_last}
+use Rattle.sdd_progress.proofs.IdleAtRedeclares.{at_redeclare}
 use Rattle.sdd_run.specs.Settled.{IsAtRest}
 
 -- whether the last of the events is a redeclare, where it is told what holds of none

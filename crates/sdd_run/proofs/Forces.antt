@@ -17,7 +17,7 @@ use Rattle.sdd_protocol.specs.Protocols.{IsTable}
 use Rattle.sdd_protocol.specs.declared.entry.Entry.{Entry}
 use Rattle.sdd_script.specs.declared.workload.Workload.{Workload}
 use Rattle.sdd_log.specs.Locals.{IsForce, force_at}
-use Rattle.sdd_facts.specs.Reading.{HasEras}
+use Rattle.sdd_obligations.specs.Reading.{HasEras}
 use Rattle.sdd_run.specs.Runs.{AreTables, forces_of, given_of}
 
 -- as many as catalogues, that is one more than lists

@@ -21,8 +21,8 @@ use Rattle.sdd_log.specs.Permitted.{AreSubmittedOnce, IsPermitted}
 use Rattle.sdd_log.proofs.NewMarks.{lawful_permitted}
 use Rattle.sdd_invariants.proofs.Made.{permitted_before}
 use Rattle.sdd_order.specs.Places.{Stands, event_at}
-use Rattle.sdd_upheld.proofs.Makers.{act_kind}
-use Rattle.sdd_upheld.proofs.Places.{event_there, stands_there}
+use Rattle.sdd_lawful.proofs.Makers.{act_kind}
+use Rattle.sdd_lawful.proofs.Places.{event_there, stands_there}
 use Rattle.sdd_waiting.proofs.EventOver.{over_at_end, over_before}
 use Rattle.sdd_waiting.proofs.OfLawful.{answered_by_end}
 use Rattle.sdd_waiting.specs.Answers.{EndsAnEvent, IsAnsweredIn, IsEventOver, begins_event}

@@ -25,9 +25,9 @@ use Rattle.sdd_laws.specs.Eras.{Eras}
 use Rattle.sdd_laws.specs.Starts.{KeepsStarts}
 use Rattle.sdd_order.specs.Attempts.{Attempt, IsAttempt}
 use Rattle.sdd_order.specs.Places.{Stands}
-use Rattle.sdd_rest.proofs.Writers.{one_class}
-use Rattle.sdd_upheld.proofs.Answered.{read_of_some}
-use Rattle.sdd_upheld.proofs.Applied.{IsDataIn, data_in}
+use Rattle.sdd_progress.proofs.Writers.{one_class}
+use Rattle.sdd_lawful.proofs.Answered.{read_of_some}
+use Rattle.sdd_lawful.proofs.Applied.{IsDataIn, data_in}
 use Rattle.sdd_waiting.proofs.FreeClasses.{never_rejected, never_waits}
 use Rattle.sdd_waiting.proofs.Rejected.{rejected}
 use Rattle.sdd_waiting.proofs.Waited.{wait_due}

@@ -22,10 +22,10 @@ use Rattle.sdd_net.proofs.Lists.{All-at}
 use Rattle.sdd_protocol.specs.declared.entry.Entry.{Entry}
 use Rattle.sdd_script.specs.Valid.{HoldsValues, IsValid, IsValidEvent, IsValidRow, IsValidTxn, IsValue}
 use Rattle.sdd_script.specs.declared.workload.Workload.{Workload}
-use Rattle.sdd_facts.specs.Bounds.{AllFewTicks}
-use Rattle.sdd_facts.specs.Heights.{ticks_of}
-use Rattle.sdd_facts.specs.Fitting.{FitsGiven}
-use Rattle.sdd_facts.specs.Real.{IsGood}
+use Rattle.sdd_obligations.specs.Bounds.{AllFewTicks}
+use Rattle.sdd_obligations.specs.Heights.{ticks_of}
+use Rattle.sdd_obligations.specs.Fitting.{FitsGiven}
+use Rattle.sdd_obligations.specs.Real.{IsGood}
 use Rattle.sdd_lists.specs.InForce.{whole_in}
 use Rattle.sdd_run.specs.Runs.{AreTables, begun}
 use Rattle.sdd_run.proofs.Allowed.{IsGoodAlong}

@@ -17,11 +17,11 @@ use Rattle.sdd_log.specs.Due.{home_of}
 use Rattle.sdd_log.specs.Entries.{Does, Given, Hand, Log, Mark, Notes, Redeclares, Round, Submitted, history}
 use Rattle.sdd_log.specs.Locals.{force_at, redeclares, txn_at}
 use Rattle.sdd_log.specs.Permitted.{IsPermitted}
-use Rattle.sdd_upheld.proofs.Places.{stands_there}
-use Rattle.sdd_upheld.proofs.Submissions.{given_at, one_submit, submit_in}
-use Rattle.sdd_rest.proofs.AtRest.{commit_there, rest}
-use Rattle.sdd_rest.proofs.Fronts.{history_le, redeclare_between, stands_front}
-use Rattle.sdd_rest.proofs.Known.{Known}
+use Rattle.sdd_lawful.proofs.Places.{stands_there}
+use Rattle.sdd_lawful.proofs.Submissions.{given_at, one_submit, submit_in}
+use Rattle.sdd_progress.proofs.AtRest.{commit_there, rest}
+use Rattle.sdd_progress.proofs.Fronts.{history_le, redeclare_between, stands_front}
+use Rattle.sdd_progress.proofs.Known.{Known}
 use Rattle.sdd_run.specs.Pending.{AreAtLastHomes, Homes, Telling, commits, last_home, pending_as, pending_at, pending_by, pending_of, reason_of, stands_at, submitted_at, why_of}
 use Rattle.sdd_run.proofs.Lossless.{commits_it}
 

@@ -36,13 +36,13 @@ use Rattle.sdd_order.specs.Orders.{IsSerial}
 use Rattle.sdd_order.specs.Places.{placed}
 use Rattle.sdd_order.specs.Precedence.{is_apply}
 use Rattle.sdd_report.specs.declared.copies.CopyTable.{CopyTable}
-use Rattle.sdd_upheld.specs.Given.{HasSoundData}
-use Rattle.sdd_upheld.specs.Made.{IsMadeAt}
-use Rattle.sdd_upheld.proofs.SameCopies.{same_copy}
-use Rattle.sdd_upheld.proofs.Together.{copies as left_in_copies}
-use Rattle.sdd_rest.proofs.ErasOf.{are_eras_of}
-use Rattle.sdd_rest.specs.Eras.{eras_of}
-use Rattle.sdd_rest.specs.Premises.{HasSoundLists}
+use Rattle.sdd_lawful.specs.Given.{HasSoundData}
+use Rattle.sdd_lawful.specs.Made.{IsMadeAt}
+use Rattle.sdd_lawful.proofs.SameCopies.{same_copy}
+use Rattle.sdd_lawful.proofs.Together.{copies as left_in_copies}
+use Rattle.sdd_progress.proofs.ErasOf.{are_eras_of}
+use Rattle.sdd_progress.specs.Eras.{eras_of}
+use Rattle.sdd_progress.specs.Premises.{HasSoundLists}
 use Rattle.sdd_run.specs.Copies.{rows_left, table_of, tables_at, tables_of}
 
 -- The copies at the end of a log are those before a record behind it: that of an event which finds nothing to do, as one

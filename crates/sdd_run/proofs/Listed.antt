@@ -33,15 +33,15 @@ use Rattle.sdd_invariants.proofs.Bools.{same_number, same_or_not}
 use Rattle.sdd_invariants.specs.Steps.{home}
 use Rattle.sdd_world.specs.AtSites.{standing_at}
 use Rattle.sdd_world.specs.Standings.{standing_at_t, standing_at_u}
-use Rattle.sdd_upheld.specs.Given.{AreNumbered}
-use Rattle.sdd_upheld.proofs.Beginnings.{at_map}
-use Rattle.sdd_upheld.proofs.Classes.{at_home, home_setting}
-use Rattle.sdd_upheld.proofs.Homes.{positive}
+use Rattle.sdd_lawful.specs.Given.{AreNumbered}
+use Rattle.sdd_lawful.proofs.Beginnings.{at_map}
+use Rattle.sdd_lawful.proofs.Classes.{at_home, home_setting}
+use Rattle.sdd_lawful.proofs.Homes.{positive}
 use Rattle.sdd_waiting.proofs.ClassSites.{in_runs}
-use Rattle.sdd_rest.proofs.Committed.{IsQueued, committed_or_queued}
-use Rattle.sdd_rest.proofs.Lists.{either, kept_there}
-use Rattle.sdd_rest.specs.Committed.{WasCommitted}
-use Rattle.sdd_rest.specs.Premises.{HasSoundLists}
+use Rattle.sdd_progress.proofs.Committed.{IsQueued, committed_or_queued}
+use Rattle.sdd_progress.proofs.Lists.{either, kept_there}
+use Rattle.sdd_progress.specs.Committed.{WasCommitted}
+use Rattle.sdd_progress.specs.Premises.{HasSoundLists}
 use Rattle.sdd_report.specs.declared.pending.Pending.{Pending}
 use Rattle.sdd_report.specs.declared.pending.Why.{Why}
 use Rattle.sdd_report.specs.declared.pending.Why.TheVariants as reasons

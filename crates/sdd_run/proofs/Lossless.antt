@@ -17,8 +17,8 @@ use Rattle.sdd_order.specs.Orders.{IsSerial}
 use Rattle.sdd_order.specs.Places.{Stands}
 use Rattle.sdd_report.specs.declared.pending.Pending.{Pending}
 use Rattle.sdd_report.specs.declared.pending.Why.{Why}
-use Rattle.sdd_rest.proofs.Committed.{any_commit}
-use Rattle.sdd_rest.specs.Committed.{WasCommitted}
+use Rattle.sdd_progress.proofs.Committed.{any_commit}
+use Rattle.sdd_progress.specs.Committed.{WasCommitted}
 use Rattle.sdd_run.specs.Pending.{Homes, IsListed, Telling, commits, pending_as, pending_by, pending_of, reason_of, submitted_at}
 use Rattle.sdd_run.specs.Standing.{times_in, times_pending}
 use Rattle.sdd_run.proofs.Once.{none_there, times_more}

@@ -13,7 +13,7 @@ use Rattle.sdd_log.specs.Entries.{Given, Log, Mark, Round, Redeclares, Hand, Sub
 use Rattle.sdd_log.specs.Lawful.{IsLawful}
 use Rattle.sdd_log.specs.Permitted.{one_if, submits_in}
 use Rattle.sdd_log.proofs.NewMarks.{left_is, marked}
-use Rattle.sdd_upheld.specs.Given.{AreNumbered}
+use Rattle.sdd_lawful.specs.Given.{AreNumbered}
 
 -- a mark that stands in a log counts
 marked_there : (n : TxnNo) (later before : Log) → 1 ≤ marked n.0 (later ++ Mark (Submit n) ∷ before)

@@ -5,8 +5,8 @@ use Rattle.sdd_history.specs.declared.record.Rec.{Rec}
 use Rattle.sdd_history.specs.declared.record.Rec.TheVariants.{Answer, Apply, Arrive, Commit, Nothing, Pass, Reject, Start, Submit, Wait}
 use Rattle.sdd_invariants.proofs.Bools.{same_number}
 use Rattle.sdd_log.specs.Entries.{Given, Log, history}
-use Rattle.sdd_rest.proofs.Committed.{any_commit, none_left}
-use Rattle.sdd_rest.specs.Committed.{AllCommitted, IsNotLeft}
+use Rattle.sdd_progress.proofs.Committed.{any_commit, none_left}
+use Rattle.sdd_progress.specs.Committed.{AllCommitted, IsNotLeft}
 use Rattle.sdd_run.specs.Pending.{Telling, commits, pending_by, pending_of, submitted_at}
 
 not_pending : (tell : Telling) (g : Given) (log : Log) (all : History) (x : ℕ × Rec) → IsNotLeft all x → pending_by tell (submitted_at log) g log all x ≡ None

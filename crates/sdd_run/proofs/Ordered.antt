@@ -17,13 +17,13 @@ use Rattle.sdd_order.proofs.Serial.{serial_order_is}
 use Rattle.sdd_laws.specs.Copied.{AreAppliedAlike}
 use Rattle.sdd_laws.specs.Replay.{AreAllApplied, IsReplyOf}
 use Rattle.sdd_laws.specs.Starts.{KeepsStarts}
-use Rattle.sdd_upheld.proofs.Together.{replies}
+use Rattle.sdd_lawful.proofs.Together.{replies}
 use Rattle.sdd_report.specs.declared.copies.CopyTable.{CopyTable}
 use Rattle.sdd_graph.specs.Edges.{IsClassOf}
-use Rattle.sdd_rest.specs.Few.{AreFewRejected}
-use Rattle.sdd_rest.proofs.OfLogs.{few_rejected}
-use Rattle.sdd_rest.specs.Eras.{eras_of}
-use Rattle.sdd_rest.proofs.KeptEras as succession
+use Rattle.sdd_progress.specs.Few.{AreFewRejected}
+use Rattle.sdd_progress.proofs.OfLogs.{few_rejected}
+use Rattle.sdd_progress.specs.Eras.{eras_of}
+use Rattle.sdd_progress.proofs.KeptEras as succession
 use Rattle.sdd_waiting.specs.Free.{IsFree, IsFreeClass}
 use Rattle.sdd_run.specs.Copies.{rows_left, tables_of}
 use Rattle.sdd_run.specs.Free.{IsUndisturbed}

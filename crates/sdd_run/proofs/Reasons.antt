@@ -18,7 +18,7 @@ use Rattle.sdd_invariants.proofs.Lists.{in_range}
 use Rattle.sdd_log.specs.Due.{site_due}
 use Rattle.sdd_log.specs.Entries.{Given, Log, history}
 use Rattle.sdd_log.specs.Permitted.{IsPermitted}
-use Rattle.sdd_facts.specs.Fitting.{FitsGiven}
+use Rattle.sdd_obligations.specs.Fitting.{FitsGiven}
 use Rattle.sdd_report.specs.Pending.{is_lower, under_way}
 use Rattle.sdd_report.specs.declared.pending.Pending.{Pending}
 use Rattle.sdd_report.specs.declared.pending.Waiting.{Waiting}

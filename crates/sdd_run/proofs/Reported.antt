@@ -19,7 +19,7 @@ use Rattle.sdd_world.specs.Standing.{EndsBy, StandsFor}
 use Rattle.sdd_world.specs.declared.world.World.{World}
 use Rattle.sdd_run.specs.Reports.{report_of}
 use Rattle.sdd_lists.specs.InForce.{whole_in}
-use Rattle.sdd_rest.specs.Eras.{eras_of}
+use Rattle.sdd_progress.specs.Eras.{eras_of}
 use Rattle.sdd_run.specs.Pending.{AreAtLastHomes}
 use Rattle.sdd_run.specs.Runs.{AreTables, EndsAtLimit, IsReportOn, IsSummaryOn, begun, given_of, order_of}
 use Rattle.sdd_run.specs.Worlds.{IsRunOf}

@@ -18,12 +18,12 @@ use Rattle.sdd_log.specs.Entries.{Log}
 use Rattle.sdd_log.specs.Lawful.{IsLawful, IsTheLog}
 use Rattle.sdd_log.specs.Locals.{redeclares}
 use Rattle.sdd_log.specs.Permitted.{IsPermitted}
-use Rattle.sdd_upheld.specs.Given.{AreErasOf, HasSoundData, SubmitGiven}
-use Rattle.sdd_rest.proofs.ErasOf.{are_eras_of}
-use Rattle.sdd_rest.specs.Eras.{eras_of}
-use Rattle.sdd_rest.specs.Premises.{HasSoundLists, IsUpAtRedeclares}
-use Rattle.sdd_rest.proofs.Known.{Known, known}
-use Rattle.sdd_rest.proofs.Timely.{few_redeclares, up_at_redeclares}
+use Rattle.sdd_lawful.specs.Given.{AreErasOf, HasSoundData, SubmitGiven}
+use Rattle.sdd_progress.proofs.ErasOf.{are_eras_of}
+use Rattle.sdd_progress.specs.Eras.{eras_of}
+use Rattle.sdd_progress.specs.Premises.{HasSoundLists, IsUpAtRedeclares}
+use Rattle.sdd_progress.proofs.Known.{Known, known}
+use Rattle.sdd_progress.proofs.Timely.{few_redeclares, up_at_redeclares}
 use Rattle.sdd_run.specs.Runs.{AreTables, given_of}
 use Rattle.sdd_run.proofs.Beginning.{rows_given}
 use Rattle.sdd_run.proofs.Forces.{era_at, how_many, list_at}

@@ -25,14 +25,14 @@ use Rattle.sdd_script.specs.Valid.{IsValid}
 use Rattle.sdd_script.specs.declared.workload.Workload.{Workload}
 use Rattle.sdd_world.specs.AtSites.{standing_at}
 use Rattle.sdd_world.specs.Standings.{standing_at_t, standing_at_u}
-use Rattle.sdd_upheld.specs.Given.{SubmitGiven}
-use Rattle.sdd_upheld.proofs.Numbered.{lawful_numbered}
+use Rattle.sdd_lawful.specs.Given.{SubmitGiven}
+use Rattle.sdd_lawful.proofs.Numbered.{lawful_numbered}
 use Rattle.sdd_report.specs.declared.copies.CopyTable.{CopyTable}
-use Rattle.sdd_rest.proofs.Copies.{applied_at_copies}
-use Rattle.sdd_rest.proofs.Settled.{settled_is_committed, settled_is_finished, settled_is_quiet}
-use Rattle.sdd_rest.specs.Committed.{AllCommitted, WasCommitted}
-use Rattle.sdd_rest.specs.Premises.{HasSoundLists}
-use Rattle.sdd_rest.specs.Settled.{IsAtEnd, IsSettled}
+use Rattle.sdd_progress.proofs.Copies.{applied_at_copies}
+use Rattle.sdd_progress.proofs.Settled.{settled_is_committed, settled_is_finished, settled_is_quiet}
+use Rattle.sdd_progress.specs.Committed.{AllCommitted, WasCommitted}
+use Rattle.sdd_progress.specs.Premises.{HasSoundLists}
+use Rattle.sdd_progress.specs.Settled.{IsAtEnd, IsSettled}
 use Rattle.sdd_run.specs.Copies.{table_of, tables_at, tables_of}
 use Rattle.sdd_run.specs.Reports.{report_of}
 use Rattle.sdd_lists.specs.InForce.{whole_in}

@@ -47,24 +47,24 @@ use Rattle.sdd_invariants.proofs.Lists.{in_filtered, in_mapped, in_range}
 use Rattle.sdd_invariants.proofs.Serving.{counts_tm}
 use Rattle.sdd_invariants.specs.AtU.{AllZero}
 use Rattle.sdd_invariants.specs.Steps.{home}
-use Rattle.sdd_facts.proofs.AtTurn.{StandsAt, answered_last, apart, awaited, unsent}
-use Rattle.sdd_facts.proofs.Halves.{home_turns}
-use Rattle.sdd_facts.proofs.Hearing.{AtTurn}
-use Rattle.sdd_facts.proofs.HoldsFit.{chain_at}
-use Rattle.sdd_facts.proofs.Modules.{firsts}
-use Rattle.sdd_facts.proofs.Near.{HasNear, IsNear, IsNearBy, active_near}
-use Rattle.sdd_facts.proofs.OfNext.{site_there}
-use Rattle.sdd_facts.proofs.Spoken.{spoken}
-use Rattle.sdd_facts.proofs.Starts.{small_home}
-use Rattle.sdd_facts.specs.Fitting.{FitsGiven}
-use Rattle.sdd_facts.specs.Turns.{Turn, turn_at}
-use Rattle.sdd_rest.proofs.Lacking.{goes_on}
-use Rattle.sdd_rest.proofs.Lists.{all_true, either, if_none, none_at}
-use Rattle.sdd_rest.proofs.NoRejects.{all_served}
-use Rattle.sdd_rest.proofs.Still.{run_at, runs_place, t_site}
-use Rattle.sdd_rest.specs.Quiet.{at_home}
+use Rattle.sdd_obligations.proofs.AtTurn.{StandsAt, answered_last, apart, awaited, unsent}
+use Rattle.sdd_obligations.proofs.Halves.{home_turns}
+use Rattle.sdd_obligations.proofs.Hearing.{AtTurn}
+use Rattle.sdd_obligations.proofs.HoldsFit.{chain_at}
+use Rattle.sdd_obligations.proofs.Modules.{firsts}
+use Rattle.sdd_obligations.proofs.Near.{HasNear, IsNear, IsNearBy, active_near}
+use Rattle.sdd_obligations.proofs.OfNext.{site_there}
+use Rattle.sdd_obligations.proofs.Spoken.{spoken}
+use Rattle.sdd_obligations.proofs.Starts.{small_home}
+use Rattle.sdd_obligations.specs.Fitting.{FitsGiven}
+use Rattle.sdd_obligations.specs.Turns.{Turn, turn_at}
+use Rattle.sdd_progress.proofs.Lacking.{goes_on}
+use Rattle.sdd_progress.proofs.Lists.{all_true, either, if_none, none_at}
+use Rattle.sdd_progress.proofs.NoRejects.{all_served}
+use Rattle.sdd_progress.proofs.Still.{run_at, runs_place, t_site}
+use Rattle.sdd_progress.specs.Quiet.{at_home}
 use Rattle.sdd_log.proofs.Ticking.{or_none}
-use Rattle.sdd_upheld.proofs.Homes.{positive}
+use Rattle.sdd_lawful.proofs.Homes.{positive}
 use Rattle.sdd_world.specs.AtSites.{standing_at}
 use Rattle.sdd_world.specs.Standings.{standing_at_t, standing_at_u}
 use Rattle.sdd_run.specs.Reasons.{IsNumberedSite, IsStanding}

@@ -16,7 +16,7 @@ use Rattle.sdd_script.specs.Valid.{IsValid}
 use Rattle.sdd_script.specs.declared.workload.Workload.{Workload}
 use Rattle.sdd_log.specs.Entries.{Given}
 use Rattle.sdd_log.specs.Locals.{rows_of}
-use Rattle.sdd_facts.specs.Real.{IsGood}
+use Rattle.sdd_obligations.specs.Real.{IsGood}
 use Rattle.sdd_dm.specs.State.{State}
 use Rattle.sdd_world.specs.Beginnings.{AllBegin, BeginsD, IsBegun, There}
 use Rattle.sdd_world.specs.Schedules.{AreAllowed}

@@ -10,13 +10,13 @@ use Rattle.sdd_base.specs.declared.event.Event.TheVariants.{Submit, Deliver, Los
 use Rattle.sdd_catalog.specs.Catalogue.{Catalogue}
 use Rattle.sdd_invariants.proofs.Lists.{at_seam}
 use Rattle.sdd_log.specs.Traffic.{turned_by}
-use Rattle.sdd_facts.specs.AfterEvents.{down_from, redeclares_in}
+use Rattle.sdd_obligations.specs.AfterEvents.{down_from, redeclares_in}
 use Rattle.sdd_lists.specs.InForce.{classes_in}
 use Rattle.sdd_protocol.specs.declared.entry.Entry.{Entry}
 use Rattle.sdd_script.specs.Redeclaring as script
 use Rattle.sdd_script.specs.Valid.{IsValid}
 use Rattle.sdd_script.specs.declared.workload.Workload.{Workload}
-use Rattle.sdd_rest.specs.Timely.{AreTimely}
+use Rattle.sdd_progress.specs.Timely.{AreTimely}
 use Rattle.sdd_run.specs.Runs.{AreTables, given_of}
 use Rattle.sdd_run.proofs.Forces.{how_many}
 use Rattle.sdd_run.proofs.Whole.{same_dms}

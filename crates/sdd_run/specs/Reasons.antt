@@ -13,7 +13,7 @@ use Rattle.sdd_log.specs.Entries.{Log}
 use Rattle.sdd_log.specs.Locals.{local_of, setting_of}
 use Rattle.sdd_report.specs.declared.pending.Why.{Why}
 use Rattle.sdd_report.specs.declared.pending.Why.TheVariants.{Queued, Underway, Waits}
-use Rattle.sdd_rest.specs.Examples.{crossing_with}
+use Rattle.sdd_progress.specs.Examples.{crossing_with}
 use Rattle.sdd_world.specs.Standings.{standing_of}
 
 -- a transaction or data module of the catalogue: a site other than U

@@ -29,7 +29,7 @@ use Rattle.sdd_report.specs.declared.copies.CopyTable.{CopyTable}
 use Rattle.sdd_report.specs.declared.pending.Pending.{Pending}
 use Rattle.sdd_run.specs.Clocks.{HasLowClocks}
 use Rattle.sdd_run.specs.Copies.{rows_left, tables_of}
-use Rattle.sdd_rest.specs.Few.{AreFewRejected}
+use Rattle.sdd_progress.specs.Few.{AreFewRejected}
 use Rattle.sdd_waiting.specs.Free.{IsFree}
 use Rattle.sdd_run.specs.Free.{IsUndisturbed}
 use Rattle.sdd_run.specs.Settled.{EndsAtRest, EndsQuiet, LosesNothing, NoneIsDown, TellsAllCommitted}

@@ -17,7 +17,7 @@ use Rattle.sdd_order.specs.Numbers.{IsModule}
 use Rattle.sdd_report.specs.Report.{Report}
 use Rattle.sdd_report.specs.declared.pending.Pending.{Pending}
 use Rattle.sdd_report.specs.declared.pending.Why.TheVariants.{Queued}
-use Rattle.sdd_rest.specs.Committed.{AllCommitted}
+use Rattle.sdd_progress.specs.Committed.{AllCommitted}
 use Rattle.sdd_run.specs.Standing.{times_in, times_pending}
 
 -- an event before which rounds go on until the links are quiet

@@ -15,7 +15,7 @@ ghost use Rattle.sdd_log.specs.Entries.{Given, Hand, Log, history, marks};
 ghost use Rattle.sdd_log.specs.Lawful.{IsLawful, IsTheLog};
 ghost use Rattle.sdd_log.specs.Locals.{local_of, setting_of};
 ghost use Rattle.sdd_log.specs.Permitted.{AreSubmittedOnce, IsPermitted};
-ghost use Rattle.sdd_facts.specs.Fitting.{FitsGiven};
+ghost use Rattle.sdd_obligations.specs.Fitting.{FitsGiven};
 ghost use Rattle.sdd_world.specs.Standings.{standing_of};
 ghost use Rattle.sdd_run.specs.Reasons.{IsStanding};
 ghost use Rattle.sdd_waiting.specs.Free.{IsFreeClass};

@@ -9,8 +9,8 @@ use Rattle.sdd_make.specs.Summary.{summary_of}
 use Rattle.sdd_order.specs.Attempts.{HasCommit}
 use Rattle.sdd_order.specs.Numbers.{IsFrom1To}
 use Rattle.sdd_order.specs.Orders.{IsOrderable, IsSerial}
-use Rattle.sdd_rest.specs.Committed.{AllCommitted}
-use Rattle.sdd_rest.specs.Eras.{eras_of}
+use Rattle.sdd_progress.specs.Committed.{AllCommitted}
+use Rattle.sdd_progress.specs.Eras.{eras_of}
 use Rattle.sdd_run.specs.Runs.{IsSummaryOn, given_of, order_of}
 use Rattle.sdd_run.specs.Settled.{EndsQuiet, NoneIsDown}
 use Rattle.sdd_run.proofs.Marked.{named}

@@ -12,7 +12,7 @@ use Rattle.sdd_lang.specs.Classes.{class_for}
 use Rattle.sdd_lang.specs.declared.transaction.Txn.{Txn}
 use Rattle.sdd_script.specs.Valid as scripts
 use Rattle.sdd_script.specs.Valid.{IsValidEvent}
-use Rattle.sdd_facts.specs.AfterEvents.{redeclares_in}
+use Rattle.sdd_obligations.specs.AfterEvents.{redeclares_in}
 use Rattle.sdd_log.specs.Permitted.{one_if, submits_by, submits_in}
 use Rattle.sdd_verify.specs.Classes.{class_if, classes_from, redeclared}
 use Rattle.sdd_verify.specs.Submitted.{submitted_by}

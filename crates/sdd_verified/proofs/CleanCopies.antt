@@ -31,10 +31,10 @@ use Rattle.sdd_order.specs.Attempts.{Committed, committed}
 use Rattle.sdd_order.specs.Orders.{IsSerial}
 use Rattle.sdd_laws.proofs.Run.{replayed}
 use Rattle.sdd_laws.specs.Replayed.{IsReplayed}
-use Rattle.sdd_upheld.proofs.Applies.{keeps_applies}
-use Rattle.sdd_upheld.proofs.Effects.{keeps_answers}
-use Rattle.sdd_upheld.proofs.Starts.{keeps_starts}
-use Rattle.sdd_upheld.specs.Given.{AreErasOf, HasSoundData}
+use Rattle.sdd_lawful.proofs.Applies.{keeps_applies}
+use Rattle.sdd_lawful.proofs.Effects.{keeps_answers}
+use Rattle.sdd_lawful.proofs.Starts.{keeps_starts}
+use Rattle.sdd_lawful.specs.Given.{AreErasOf, HasSoundData}
 use Rattle.sdd_verified.proofs.ValuesKept.{Changes, Hold, Holds, Leaves, Stored, WritesAll, first_holds, given_changes}
 
 -- where all of a list have it

@@ -19,7 +19,7 @@ use Rattle.sdd_log.specs.Permitted.{one_if, submits_by, submits_in}
 use Rattle.sdd_log.specs.Traffic.{all_links, calls_of}
 use Rattle.sdd_log.proofs.NewMarks.{left_is, marked}
 use Rattle.sdd_net.specs.Links.{quiet, round}
-use Rattle.sdd_upheld.proofs.Places.{stands_there}
+use Rattle.sdd_lawful.proofs.Places.{stands_there}
 
 -- of what a complete log leaves no event has a mark
 

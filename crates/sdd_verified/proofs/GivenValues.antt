@@ -27,7 +27,7 @@ use Rattle.sdd_run.specs.Copies.{tables_of}
 use Rattle.sdd_run.specs.Runs.{IsReportOn, given_of}
 use Rattle.sdd_run.proofs.Left.{told_rows}
 use Rattle.sdd_run.proofs.RunOf.{eras_are, fine, lists, permitted}
-use Rattle.sdd_rest.specs.Eras.{eras_of}
+use Rattle.sdd_progress.specs.Eras.{eras_of}
 use Rattle.sdd_script.specs.Valid.{AssignsValue, HoldsValues, IsValid, IsValidRow, IsValidTxn, IsValue}
 use Rattle.sdd_script.specs.declared.workload.Workload.{Workload}
 use Rattle.sdd_verified.proofs.CleanCopies.{copy_holds}

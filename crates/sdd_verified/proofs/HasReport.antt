@@ -5,7 +5,7 @@ use Rattle.std.specs.Prelude.{◌⊎◌}
 use Rattle.sdd_acyclic.proofs.EachTable.{each_table}
 use Rattle.sdd_catalog.specs.Catalogue.{Catalogue}
 use Rattle.sdd_catalog.specs.Rules.{IsSound}
-use Rattle.sdd_settling.proofs.Ends.{run_ends}
+use Rattle.sdd_termination.proofs.Ends.{run_ends}
 use Rattle.sdd_protocol.specs.declared.entry.Entry.{Entry}
 use Rattle.sdd_report.specs.Report.{report_text}
 use Rattle.sdd_run.specs.Reports.{report_of}

@@ -6,9 +6,9 @@ use Rattle.sdd_base.specs.Numbers.{txn_no}
 use Rattle.sdd_base.specs.declared.event.Event.{Event}
 use Rattle.sdd_base.specs.declared.event.Event.TheVariants.{Submit}
 use Rattle.sdd_base.specs.declared.site.Site.{Site}
-use Rattle.sdd_facts.specs.AfterEvents.{redeclares_in}
-use Rattle.sdd_facts.specs.Bounds.{AllFewTicks}
-use Rattle.sdd_facts.proofs.Done.{count_join, done}
+use Rattle.sdd_obligations.specs.AfterEvents.{redeclares_in}
+use Rattle.sdd_obligations.specs.Bounds.{AllFewTicks}
+use Rattle.sdd_obligations.proofs.Done.{count_join, done}
 use Rattle.sdd_invariants.proofs.Made.{permitted_before}
 use Rattle.sdd_laws.specs.Deeds.{IsSubmitted}
 use Rattle.sdd_laws.specs.Eras.{Eras, in_force}
@@ -20,9 +20,9 @@ use Rattle.sdd_log.specs.Locals.{force_at, redeclares}
 use Rattle.sdd_log.specs.Marks.{left}
 use Rattle.sdd_log.specs.Permitted.{AreSubmittedOnce, IsPermitted, one_if, submits_by, submits_in}
 use Rattle.sdd_log.proofs.NewMarks.{lawful_permitted, left_is, marked}
-use Rattle.sdd_upheld.specs.Given.{AreErasOf}
-use Rattle.sdd_upheld.proofs.Places.{event_there}
-use Rattle.sdd_upheld.proofs.Submissions.{given_at, submit_in}
+use Rattle.sdd_lawful.specs.Given.{AreErasOf}
+use Rattle.sdd_lawful.proofs.Places.{event_there}
+use Rattle.sdd_lawful.proofs.Submissions.{given_at, submit_in}
 use Rattle.sdd_verified.proofs.ClassPlaces.{before_any, behind_front, redeclared_at}
 use Rattle.sdd_verified.proofs.Submitting.{lawful_before, own_mark, submits_append, two_fronts}
 

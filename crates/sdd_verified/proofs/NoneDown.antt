@@ -12,7 +12,7 @@ use Rattle.sdd_log.specs.Lawful.{IsLawful}
 use Rattle.sdd_log.specs.Marks.{after_mark, from_event, left, mark_from, mark_of}
 use Rattle.sdd_log.specs.Traffic.{all_links, calls_of, is_down, turned_by}
 use Rattle.sdd_net.specs.Links.{Call, in_flight, link, quiet, resends_now, round}
-use Rattle.sdd_settling.proofs.Marked.{next_is_of_events}
+use Rattle.sdd_termination.proofs.Marked.{next_is_of_events}
 use Rattle.sdd_wire.specs.declared.msg.Msg.{Msg}
 use Rattle.sdd_verified.specs.Summaries.{takes_down}
 

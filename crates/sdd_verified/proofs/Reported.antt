@@ -22,8 +22,8 @@ use Rattle.sdd_laws.specs.Replay.{run}
 use Rattle.sdd_laws.specs.Starts.{IsOfSubmit, KeepsStarts}
 use Rattle.sdd_log.specs.Entries.{Given, history}
 use Rattle.sdd_log.specs.Locals.{force_at, redeclares}
-use Rattle.sdd_facts.specs.Bounds.{AllFewTicks}
-use Rattle.sdd_rest.specs.Eras.{eras_of}
+use Rattle.sdd_obligations.specs.Bounds.{AllFewTicks}
+use Rattle.sdd_progress.specs.Eras.{eras_of}
 use Rattle.sdd_log.specs.Permitted.{AreSubmittedOnce, submits_in}
 use Rattle.sdd_order.specs.Attempts.{Committed, IsCommitted}
 use Rattle.sdd_order.specs.Numbers.{IsFrom1To}

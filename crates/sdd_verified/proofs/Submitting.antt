@@ -16,8 +16,8 @@ use Rattle.sdd_log.specs.Permitted.{AreSubmittedOnce, IsPermitted, one_if, submi
 use Rattle.sdd_log.proofs.NewMarks.{lawful_permitted, left_is, marked}
 use Rattle.sdd_invariants.proofs.Made.{permitted_before}
 use Rattle.sdd_invariants.proofs.Places.{compare}
-use Rattle.sdd_upheld.proofs.Places.{place_rises}
-use Rattle.sdd_upheld.proofs.Submissions.{given_at, submit_in}
+use Rattle.sdd_lawful.proofs.Places.{place_rises}
+use Rattle.sdd_lawful.proofs.Submissions.{given_at, submit_in}
 use Rattle.sdd_verified.proofs.Numbered.{Separates}
 
 -- what is left of the events is their end

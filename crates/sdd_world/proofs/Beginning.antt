@@ -16,7 +16,7 @@ use Rattle.sdd_world.specs.Standing.{IsSound, KeepsFor, Spooled, StandsFor}
 use Rattle.sdd_world.proofs.Keeping.{dm_within}
 use Rattle.sdd_world.specs.Modules.{StandFor}
 use Rattle.sdd_world.specs.Carries.{Carries}
-use Rattle.sdd_facts.specs.Real.{IsGood}
+use Rattle.sdd_obligations.specs.Real.{IsGood}
 
 nothing_at : {A : Type 0} (n k : ℕ) → slice_index_or (replicate {A = List A} n []) k [] ≡ []
 nothing_at zero k = refl

@@ -17,7 +17,7 @@ use Rattle.sdd_module.specs.SiteLog as site
 use Rattle.sdd_dm.specs.Due as dm
 use Rattle.sdd_tm.specs.Due as tm
 use Rattle.sdd_umod.specs.Due as um
-use Rattle.sdd_facts.specs.Real.{Fitting, FittingSubmit, fits_at, fits_submit_at}
+use Rattle.sdd_obligations.specs.Real.{Fitting, FittingSubmit, fits_at, fits_submit_at}
 use Rattle.sdd_net.proofs.Lists.{get-set_same}
 use Rattle.sdd_world.specs.AtSites.{Standing, Lives, At, StandsAt}
 use Rattle.sdd_world.specs.DueAt.{next_of}

@@ -11,7 +11,7 @@ use Rattle.sdd_world.specs.declared.world.World.{World}
 use Rattle.sdd_world.specs.Schedules.{AreAllowed, IsAllowed, IsListed, lists_after, takes_rounds, with_events}
 use Rattle.sdd_world.specs.declared.schedule.ClassList.{ClassList}
 use Rattle.sdd_log.specs.Resting.{IsPossible}
-use Rattle.sdd_facts.specs.Real.{IsGood}
+use Rattle.sdd_obligations.specs.Real.{IsGood}
 
 -- an event that is reached by no rounds
 pub no_rounds : (e : Event) → e ≢ Settle → e ≢ Redeclare → takes_rounds e ≡ false

@@ -15,7 +15,7 @@ use Rattle.sdd_net.proofs.Directions.{same_is}
 use Rattle.sdd_log.specs.Entries.{Given, Log}
 use Rattle.sdd_log.specs.Locals.{local_of, setting_of}
 use Rattle.sdd_log.specs.Resting.{IsSiteOf}
-use Rattle.sdd_facts.specs.Real.{FitsForce}
+use Rattle.sdd_obligations.specs.Real.{FitsForce}
 use Rattle.sdd_world.specs.Modules.{AllStandFor, AreForced, StandFor}
 use Rattle.sdd_world.specs.declared.sites.Sites.{Sites}
 

@@ -30,8 +30,8 @@ use Rattle.sdd_world.proofs.Parting.{ahead_acts, events_before, redeclares_acts,
 use Rattle.sdd_world.specs.Modules.{StandFor}
 use Rattle.sdd_world.specs.Carries.{Carries}
 use Rattle.sdd_world.specs.declared.sites.Sites.{Sites}
-use Rattle.sdd_facts.specs.Real.{fits}
-use Rattle.sdd_facts.proofs.AllFacts.{all_facts}
+use Rattle.sdd_obligations.specs.Real.{fits}
+use Rattle.sdd_obligations.proofs.AllFacts.{all_facts}
 
 pub due_same : (g : Given) (b : Site) (bases : Bases) (l : site.Log) (acts : List Act)
     → AreDue (next_of b (setting_of g b) bases) l acts → AreDue (next_in g b bases) l acts

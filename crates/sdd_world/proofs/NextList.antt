@@ -15,10 +15,10 @@ use Rattle.sdd_log.specs.Marks.{greatest_bound, left}
 use Rattle.sdd_log.specs.Resting.{EndsIn, settles_before}
 use Rattle.sdd_log.proofs.Completing.{none_left, redeclare_next}
 use Rattle.sdd_log.proofs.Marking.{rests_redeclared}
-use Rattle.sdd_facts.specs.AfterEvents.{redeclares_in}
-use Rattle.sdd_facts.specs.Real.{FitsForce}
-use Rattle.sdd_facts.proofs.AllFacts.{all_facts}
-use Rattle.sdd_facts.proofs.Done.{count_join, redeclares_left}
+use Rattle.sdd_obligations.specs.AfterEvents.{redeclares_in}
+use Rattle.sdd_obligations.specs.Real.{FitsForce}
+use Rattle.sdd_obligations.proofs.AllFacts.{all_facts}
+use Rattle.sdd_obligations.proofs.Done.{count_join, redeclares_left}
 use Rattle.sdd_world.specs.declared.sites.Sites.{Sites}
 use Rattle.sdd_world.specs.declared.world.World.{World}
 use Rattle.sdd_world.specs.Modules.{AllStandFor, AreForced, StandFor}

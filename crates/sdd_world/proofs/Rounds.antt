@@ -28,7 +28,7 @@ use Rattle.sdd_world.specs.Standing.{Before, Calm, EndsBy, Happened, IsSettled, 
 use Rattle.sdd_world.proofs.Parting.{spooled_on}
 use Rattle.sdd_world.specs.Modules.{StandFor}
 use Rattle.sdd_world.specs.Carries.{Carries}
-use Rattle.sdd_facts.specs.Real.{IsGood}
+use Rattle.sdd_obligations.specs.Real.{IsGood}
 
 pub single : (g : Given) (e : Event) → IsPossible g e → IsSingle e
 single g (Submit n) p = tt

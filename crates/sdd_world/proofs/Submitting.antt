@@ -40,8 +40,8 @@ use Rattle.sdd_world.proofs.Parting.{events_before, later, redeclares_acts, spoo
 use Rattle.sdd_world.specs.Modules.{StandFor}
 use Rattle.sdd_world.specs.Carries.{Carries}
 use Rattle.sdd_world.specs.declared.sites.Sites.{Sites}
-use Rattle.sdd_facts.specs.Real.{fits_submit}
-use Rattle.sdd_facts.proofs.AllFacts.{all_facts}
+use Rattle.sdd_obligations.specs.Real.{fits_submit}
+use Rattle.sdd_obligations.proofs.AllFacts.{all_facts}
 
 -- what is read at a place of a list is the member there
 pub read_at : {A : Type 0} (xs : List A) (i : ℕ) (x y : A) → slice_get xs i ≡ Some x → y ≡ get_or xs i y → slice_get xs i ≡ Some y

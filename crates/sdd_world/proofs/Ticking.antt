@@ -21,8 +21,8 @@ use Rattle.sdd_world.proofs.Marking.{happened}
 use Rattle.sdd_world.proofs.Parting.{spooled_on}
 use Rattle.sdd_world.specs.Modules.{StandFor}
 use Rattle.sdd_world.specs.declared.sites.Sites.{Sites}
-use Rattle.sdd_facts.specs.Real.{fits_tick}
-use Rattle.sdd_facts.proofs.AllFacts.{all_facts}
+use Rattle.sdd_obligations.specs.Real.{fits_tick}
+use Rattle.sdd_obligations.proofs.AllFacts.{all_facts}
 
 own_tick : (g : Given) (t : TmNo) (n : ℕ) (log : Log) → local_of g (T t) (Mark (Tick t n) ∷ log) ≡ Ticked n ∷ local_of g (T t) log
 own_tick g t n log = rw (same_here (T t)) refl

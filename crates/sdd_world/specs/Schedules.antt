@@ -4,7 +4,7 @@ use Rattle.sdd_base.specs.declared.event.Event.{Event}
 use Rattle.sdd_base.specs.declared.event.Event.TheVariants.{Redeclare, Settle}
 use Rattle.sdd_log.specs.Entries.{Given, with_event}
 use Rattle.sdd_log.specs.Resting.{IsPossible}
-use Rattle.sdd_facts.specs.Real.{IsGood}
+use Rattle.sdd_obligations.specs.Real.{IsGood}
 use Rattle.sdd_world.specs.declared.schedule.ClassList.{ClassList}
 use Rattle.sdd_world.specs.Standing.{IsNextList}
 

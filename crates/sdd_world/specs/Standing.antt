@@ -23,8 +23,8 @@ use Rattle.sdd_log.specs.Marks.{after_mark, greatest_bound, left}
 use Rattle.sdd_log.specs.Due.{next}
 use Rattle.sdd_log.specs.Lawful.{EndsByLimit}
 use Rattle.sdd_log.specs.Resting.{AtEach, EndsIn, from_one, IsLinkOf, IsMarked, IsPossible, IsSiteOf, Remain, Rests, TakesRounds, Waits}
-use Rattle.sdd_facts.specs.AfterEvents.{redeclares_in}
-use Rattle.sdd_facts.specs.Real.{IsGood}
+use Rattle.sdd_obligations.specs.AfterEvents.{redeclares_in}
+use Rattle.sdd_obligations.specs.Real.{IsGood}
 use Rattle.sdd_world.specs.Carries.{Carries}
 use Rattle.sdd_world.specs.Modules.{AllStandFor}
 use Rattle.sdd_world.specs.declared.world.World.{World}

@@ -14,7 +14,7 @@ ghost use Rattle.sdd_log.specs.Entries.{Given, Log, history, marks};
 ghost use Rattle.sdd_log.specs.Traffic.{all_links, calls_of};
 ghost use Rattle.sdd_log.specs.Locals.{force_at, local_of, redeclares, setting_of};
 ghost use Rattle.sdd_log.specs.Resting.{IsSiteOf};
-ghost use Rattle.sdd_facts.specs.Real.{IsGood};
+ghost use Rattle.sdd_obligations.specs.Real.{IsGood};
 ghost use Rattle.sdd_world.specs.Beginnings.{IsBegun};
 ghost use Rattle.sdd_world.specs.Carries.{Carries};
 ghost use Rattle.sdd_world.specs.Modules.{LivesD, LivesT, LivesU};

@@ -2,7 +2,7 @@
 ghost use Rattle.std.specs.Prelude.{◌≡◌, IfOk, IsErrOf};
 ghost use Rattle.sdd_base.specs.declared.event.Event.TheVariants.{Redeclare};
 ghost use Rattle.sdd_log.specs.Entries.{Given, Log, with_event};
-ghost use Rattle.sdd_facts.specs.Real.{IsGood};
+ghost use Rattle.sdd_obligations.specs.Real.{IsGood};
 ghost use Rattle.sdd_world.specs.Standing.{EndsBy, Forcing, IsNextList, StandsFor};
 
 use crate::ends::WorldEnd;

@@ -9,7 +9,7 @@ ghost use Rattle.sdd_net.specs.Mailboxes.{kept_from, mailbox_at};
 ghost use Rattle.sdd_log.specs.Entries.{Given, Log, history, with_event};
 ghost use Rattle.sdd_log.specs.Traffic.{all_links, calls_of, is_down, takes_part};
 ghost use Rattle.sdd_log.specs.Resting.{from_one, IsFirst, IsLinkOf, IsPossible, IsSiteOf, Takes};
-ghost use Rattle.sdd_facts.specs.Real.{IsGood};
+ghost use Rattle.sdd_obligations.specs.Real.{IsGood};
 ghost use Rattle.sdd_world.specs.declared.world.World.{World};
 ghost use Rattle.sdd_world.specs.Following.{MaySend, Followed, IsPast};
 ghost use Rattle.sdd_world.specs.Standing.{ahead_of, Arrives, Before, EndsBy, HandedOn, Handing, Happened, IsSettled, Keeping, Marked, Rising, Risen, Settles, Settling, Spooled, StandsFor};

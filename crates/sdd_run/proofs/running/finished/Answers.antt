@@ -8,7 +8,7 @@ use Rattle.sdd_eras.specs.EraOf.{IsEraOf}
 use Rattle.sdd_lang.specs.Fits.{FitsStart}
 use Rattle.sdd_lists.specs.InForce.{whole_in}
 use Rattle.sdd_log.specs.Entries.{Given}
-use Rattle.sdd_facts.specs.Real.{IsGood}
+use Rattle.sdd_obligations.specs.Real.{IsGood}
 use Rattle.sdd_world.specs.Beginnings.{AllBegin, BeginsD, IsBegun}
 use Rattle.sdd_world.specs.Standing as standing
 use Rattle.sdd_world.specs.Standing.{StandsFor}

@@ -1,8 +1,0 @@
-use Rattle.sdd_facts.proofs.Counting.{class_few, site_few}
-use Rattle.sdd_facts.proofs.clocks_laws.law_few_starts.Goals as goal
-
-pub returns-clause-of_class : goal.returns-clause-of_class
-returns-clause-of_class g = class_few
-
-pub returns-clause-of_site : goal.returns-clause-of_site
-returns-clause-of_site g = site_few

@@ -1,5 +1,0 @@
-use Rattle.sdd_facts.proofs.Early.{is_under}
-use Rattle.sdd_facts.proofs.clocks_laws.law_height.Goals as goal
-
-pub returns : goal.returns
-returns g = is_under

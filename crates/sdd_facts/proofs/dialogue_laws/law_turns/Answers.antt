@@ -1,5 +1,0 @@
-use Rattle.sdd_facts.proofs.Spoken.{spoken}
-use Rattle.sdd_facts.proofs.dialogue_laws.law_turns.Goals as goal
-
-pub returns : goal.returns
-returns g = λ given class d ts log h few. (spoken given class log h few).stages ts d.0

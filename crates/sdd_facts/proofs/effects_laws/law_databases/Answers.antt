@@ -1,5 +1,0 @@
-use Rattle.sdd_facts.proofs.Put.{databases}
-use Rattle.sdd_facts.proofs.effects_laws.law_databases.Goals as goal
-
-pub returns : goal.returns
-returns g = λ given log good h. databases given good log h

@@ -1,5 +1,0 @@
-use Rattle.sdd_facts.proofs.Copied.{copies_are}
-use Rattle.sdd_facts.proofs.shipped_laws.law_copies_read.Goals as goal
-
-pub returns : goal.returns
-returns g = λ given class log attempt good one h is over. copies_are given good one class log attempt h is over

@@ -1,0 +1,130 @@
+-- Neither of two transactions waits for the other, and each is answered before the other's put is applied: all laws but that
+-- of read conditions are kept, and each precedes the other.
+use Rattle.std.proofs.Common.{[], ◌∷◌, Some, refl, lit<, lit≤}
+use Rattle.std.proofs.lemmas.Bool.{false≢true}
+use Rattle.sdd_base.specs.Numbers.{class_no, frag_no, time_at}
+use Rattle.sdd_base.specs.declared.condition.Cond.{Cond}
+use Rattle.sdd_base.specs.declared.reply.Reply.TheVariants.{Rows}
+use Rattle.sdd_base.proofs.Membership.{Contains-here}
+use Rattle.sdd_base.specs.declared.restriction.Op.TheVariants.{Le, Ge}
+use Rattle.sdd_order.specs.Attempts.{Committed, IsCommitted}
+use Rattle.sdd_order.specs.Examples.{put, low_keys, high_keys, misses_both}
+use Rattle.sdd_laws.specs.Conditions.{KeepsConditions}
+use Rattle.sdd_laws.proofs.Applied.{before_applied}
+use Rattle.sdd_history_examples.specs.Catalogues.{crossing, one_era}
+use Rattle.sdd_history_examples.specs.Keeping.{BreaksConditions}
+use Rattle.sdd_history_examples.specs.Tables.{table_of_crossing}
+use Rattle.sdd_history_examples.specs.Texts.{given_to, put_row, values_by, two_of_both}
+use Rattle.sdd_history_examples.proofs.Answers.{PassAnswers}
+use Rattle.sdd_history_examples.proofs.Applies.{PassApplies}
+use Rattle.sdd_history_examples.proofs.Fitting.{PassFit, are_eras}
+use Rattle.sdd_history_examples.proofs.Keeping.{keeps_others, no_rejections}
+use Rattle.sdd_history_examples.proofs.Sound.{sound_crossing}
+use Rattle.sdd_history_examples.proofs.Starts.{PassStarts}
+use Rattle.sdd_history_examples.proofs.WorkedTables.{is_crossing}
+use Rattle.sdd_history_examples.proofs.Texts.{put_fits, values_fit, two_fit}
+
+fits : PassFit crossing (one_era crossing) [] two_of_both misses_both
+fits =
+    record {
+      are_eras = are_eras crossing;
+      rows_fit = tt;
+      txns_fit = (
+        two_fit 1 crossing.classes 1 (lit≤ tt, lit≤ tt) (values_by Le 9) (put_row 11 1) (values_fit 1 crossing.classes Le 9) (put_fits 1 crossing.classes 11 1),
+        (two_fit 1 crossing.classes 2 (lit≤ tt, lit≤ tt) (values_by Ge 10) (put_row 1 1) (values_fit 1 crossing.classes Ge 10) (put_fits 1 crossing.classes 1 1), tt),
+      );
+      numbers_exist = refl;
+      txns_exist = refl;
+    }
+
+starts : PassStarts crossing (one_era crossing) two_of_both misses_both
+starts =
+    record {
+      submitted = (
+        record { place = 0; submitted = refl; before = lit< tt; txn = given_to 1 (values_by Le 9 ∷ put_row 11 1 ∷ []); txn_is = refl; class_is = refl; uses_are = refl },
+        (record { place = 2; submitted = refl; before = lit< tt; txn = given_to 2 (values_by Ge 10 ∷ put_row 1 1 ∷ []); txn_is = refl; class_is = refl; uses_are = refl }, tt),
+      );
+      one_submit = refl;
+      numbered = refl;
+      time = refl;
+      one_time = refl;
+      rise = refl;
+      in_turn = refl;
+      after_earlier = refl;
+      one_commit = refl;
+      by_last = refl;
+      bound_there = refl;
+      bound = refl;
+    }
+
+answers : PassAnswers crossing [] two_of_both misses_both
+answers =
+    record {
+      one_answer = refl;
+      answer_after = refl;
+      commit_after = refl;
+      answered_everywhere = refl;
+      answered = refl;
+      effects = (refl, (refl, tt));
+    }
+
+applies : PassApplies crossing misses_both
+applies = record { of_commit = refl; one_apply = refl; rise = refl; none_left_out = refl; after_earlier = refl; has_earlier = refl; before_later = refl }
+
+-- the two committed transactions
+
+abbrev first : Committed
+first =
+    record {
+      start = record { txn = 1; number = 1; class = 1; ts = 65; p2 = Some (time_at 63); uses = low_keys; place = 1 };
+      reply = Rows ([] ∷ []);
+      changes = put 2 11 1 ∷ [];
+      values = 0;
+      rows = 0;
+      place = 6;
+    }
+
+abbrev second : Committed
+second =
+    record {
+      start = record { txn = 2; number = 1; class = 2; ts = 66; p2 = Some (time_at 63); uses = high_keys; place = 3 };
+      reply = Rows ([] ∷ []);
+      changes = put 1 1 1 ∷ [];
+      values = 0;
+      rows = 0;
+      place = 7;
+    }
+
+first_is : IsCommitted misses_both first
+first_is = record { started = refl; committed = refl }
+
+second_is : IsCommitted misses_both second
+second_is = record { started = refl; committed = refl }
+
+-- the second has to see the first, whose timestamp is below its own
+abbrev condition : Cond
+condition = record { class = class_no 1; time = time_at 66; frags = frag_no 2 ∷ [] }
+
+not_split : ¬ KeepsConditions crossing (one_era crossing) misses_both
+not_split laws =
+    let split =
+    laws.met second.start 1 4 condition first second_is.started refl
+    (record { table = table_of_crossing; table_is = is_crossing; there = Contains-here condition [] }) first_is refl
+    (record { fragment = 2; changed = refl; copied = refl; named = refl }) in
+    let seen = before_applied misses_both 1 1 4 (split.1 (lit< tt)) in
+    false≢true seen
+
+pub misses_both_breaks : BreaksConditions crossing (one_era crossing) [] two_of_both misses_both
+misses_both_breaks =
+    record {
+      others =
+          keeps_others crossing (one_era crossing) [] two_of_both misses_both
+          (record { sound = sound_crossing; fit = fits; starts = starts; answers = answers; applies = applies; alone = refl; lists = record { apart = refl; one_era = refl } })
+          (no_rejections crossing (one_era crossing) misses_both refl);
+      broken = not_split;
+      cycle = λ none.
+          none first (second ∷ []) (
+            record { first = first_is; second = second_is; precedes = refl },
+            record { first = second_is; second = first_is; precedes = refl },
+          );
+    }

@@ -1,0 +1,75 @@
+-- A transaction that no class covers runs between two of one class.
+use Rattle.std.proofs.Common.{[], ◌∷◌, refl, lit<, lit≤}
+use Rattle.sdd_base.specs.declared.restriction.Op.TheVariants.{Le}
+use Rattle.sdd_history_examples.specs.Catalogues.{one_era, one_writer}
+use Rattle.sdd_history_examples.specs.Histories.{runs_alone}
+use Rattle.sdd_history_examples.specs.Keeping.{KeepsAll}
+use Rattle.sdd_history_examples.specs.Tables.{table_of_one}
+use Rattle.sdd_history_examples.specs.Texts.{given_to, put_row, values_by, undeclared_between}
+use Rattle.sdd_history_examples.proofs.Answers.{PassAnswers}
+use Rattle.sdd_history_examples.proofs.Applies.{PassApplies}
+use Rattle.sdd_history_examples.proofs.Fitting.{PassFit, are_eras}
+use Rattle.sdd_history_examples.proofs.Keeping.{keeps_all, no_rejections}
+use Rattle.sdd_history_examples.proofs.Sound.{sound_one_writer}
+use Rattle.sdd_history_examples.proofs.Starts.{PassStarts}
+use Rattle.sdd_history_examples.proofs.Texts.{put_fits, values_fit, one_fits, two_fit}
+use Rattle.sdd_history_examples.proofs.WorkedTables.{is_one_writer}
+
+fits : PassFit one_writer (one_era one_writer) [] undeclared_between runs_alone
+fits =
+    record {
+      are_eras = are_eras one_writer;
+      rows_fit = tt;
+      txns_fit = (
+        one_fits 1 one_writer.classes 1 (lit≤ tt, lit≤ tt) (put_row 1 5) (put_fits 1 one_writer.classes 1 5),
+        (
+          two_fit 1 one_writer.classes 2 (lit≤ tt, lit≤ tt) (values_by Le 9) (put_row 11 5) (values_fit 1 one_writer.classes Le 9) (put_fits 1 one_writer.classes 11 5),
+          (one_fits 1 one_writer.classes 1 (lit≤ tt, lit≤ tt) (put_row 1 6) (put_fits 1 one_writer.classes 1 6), tt),
+        ),
+      );
+      numbers_exist = refl;
+      txns_exist = refl;
+    }
+
+starts : PassStarts one_writer (one_era one_writer) undeclared_between runs_alone
+starts =
+    record {
+      submitted = (
+        record { place = 0; submitted = refl; before = lit< tt; txn = given_to 1 (put_row 1 5 ∷ []); txn_is = refl; class_is = refl; uses_are = refl },
+        (
+          record { place = 3; submitted = refl; before = lit< tt; txn = given_to 2 (values_by Le 9 ∷ put_row 11 5 ∷ []); txn_is = refl; class_is = refl; uses_are = refl },
+          (record { place = 12; submitted = refl; before = lit< tt; txn = given_to 1 (put_row 1 6 ∷ []); txn_is = refl; class_is = refl; uses_are = refl }, tt),
+        ),
+      );
+      one_submit = refl;
+      numbered = refl;
+      time = refl;
+      one_time = refl;
+      rise = refl;
+      in_turn = refl;
+      after_earlier = refl;
+      one_commit = refl;
+      by_last = refl;
+      bound_there = refl;
+      bound = refl;
+    }
+
+answers : PassAnswers one_writer [] undeclared_between runs_alone
+answers =
+    record {
+      one_answer = refl;
+      answer_after = refl;
+      commit_after = refl;
+      answered_everywhere = refl;
+      answered = refl;
+      effects = (refl, (refl, (refl, tt)));
+    }
+
+applies : PassApplies one_writer runs_alone
+applies = record { of_commit = refl; one_apply = refl; rise = refl; none_left_out = refl; after_earlier = refl; has_earlier = refl; before_later = refl }
+
+pub runs_alone_keeps : KeepsAll one_writer (one_era one_writer) [] undeclared_between runs_alone
+runs_alone_keeps =
+    keeps_all one_writer (one_era one_writer) [] undeclared_between runs_alone
+    (record { sound = sound_one_writer; fit = fits; starts = starts; answers = answers; applies = applies; alone = refl; lists = record { apart = refl; one_era = refl } })
+    (λ event. table_of_one) (is_one_writer, (is_one_writer, (is_one_writer, tt))) refl (no_rejections one_writer (one_era one_writer) runs_alone refl)

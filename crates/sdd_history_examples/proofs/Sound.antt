@@ -1,0 +1,61 @@
+-- The worked catalogues are valid.
+use Rattle.std.proofs.Common.{ℕ, refl}
+use Rattle.std.proofs.lemmas.List.Elements.{All-from_recursion}
+use Rattle.sdd_catalog.specs.Catalogue.{Catalogue}
+use Rattle.sdd_catalog.specs.Rules.{IsSound, faults_of}
+use Rattle.sdd_history_examples.specs.Catalogues.{bridge, one_reader, crossing, one_class, one_writer, both_classes, further_classes, one_era, two_eras}
+use Rattle.sdd_history_examples.specs.Keeping.{AreSound}
+
+-- one list of classes
+one_sound : (cat : Catalogue) → IsSound cat → AreSound cat (one_era cat)
+one_sound cat s = record { whole = s; each = All-from_recursion (λ (e : ℕ × Catalogue). IsSound e.1) (one_era cat) (s, tt) }
+
+bridge_is : IsSound bridge
+unfolding faults_of
+bridge_is = record { valid = refl; same = refl }
+
+one_reader_is : IsSound one_reader
+unfolding faults_of
+one_reader_is = record { valid = refl; same = refl }
+
+crossing_is : IsSound crossing
+unfolding faults_of
+crossing_is = record { valid = refl; same = refl }
+
+one_class_is : IsSound one_class
+unfolding faults_of
+one_class_is = record { valid = refl; same = refl }
+
+one_writer_is : IsSound one_writer
+unfolding faults_of
+one_writer_is = record { valid = refl; same = refl }
+
+both_classes_are : IsSound both_classes
+unfolding faults_of
+both_classes_are = record { valid = refl; same = refl }
+
+further_classes_are : IsSound further_classes
+unfolding faults_of
+further_classes_are = record { valid = refl; same = refl }
+
+pub sound_bridge : AreSound bridge (one_era bridge)
+sound_bridge = one_sound bridge bridge_is
+
+pub sound_one_reader : AreSound one_reader (one_era one_reader)
+sound_one_reader = one_sound one_reader one_reader_is
+
+pub sound_crossing : AreSound crossing (one_era crossing)
+sound_crossing = one_sound crossing crossing_is
+
+pub sound_one_class : AreSound one_class (one_era one_class)
+sound_one_class = one_sound one_class one_class_is
+
+pub sound_one_writer : AreSound one_writer (one_era one_writer)
+sound_one_writer = one_sound one_writer one_writer_is
+
+pub sound_both_classes : AreSound both_classes two_eras
+sound_both_classes =
+    record {
+      whole = both_classes_are;
+      each = All-from_recursion (λ (e : ℕ × Catalogue). IsSound e.1) two_eras (one_class_is, (further_classes_are, tt));
+    }

@@ -1,0 +1,145 @@
+-- A query that comes after a later put is rejected, and starts again with a greater timestamp.
+use Rattle.std.proofs.Common.{◌<◌, ◌≡◌, [], ◌∷◌, Some, refl, lit<, lit≤, subst, arith}
+use Rattle.std.proofs.lemmas.Option.{same_Some}
+use Rattle.sdd_base.specs.Numbers.{class_no, frag_no, time_at}
+use Rattle.sdd_base.specs.declared.condition.Cond.{Cond}
+use Rattle.sdd_base.specs.declared.number.Ts.{Ts}
+use Rattle.sdd_base.specs.declared.reply.Reply.TheVariants.{Rows}
+use Rattle.sdd_base.proofs.Membership.{Contains-here}
+use Rattle.sdd_base.specs.declared.restriction.Op.TheVariants.{Le}
+use Rattle.sdd_order.specs.Attempts.{Attempt, Committed, attempts}
+use Rattle.sdd_order.specs.Examples.{put, low_keys, starts_again}
+use Rattle.sdd_order.proofs.Found.{in_attempts}
+use Rattle.sdd_laws.specs.Rejections.{IsAgain, KeepsRejections}
+use Rattle.sdd_history_examples.specs.Catalogues.{crossing, one_era}
+use Rattle.sdd_history_examples.specs.Keeping.{KeepsAll}
+use Rattle.sdd_history_examples.specs.Tables.{table_of_crossing}
+use Rattle.sdd_history_examples.specs.Texts.{given_to, put_row, values_by, query_and_put}
+use Rattle.sdd_history_examples.proofs.Answers.{PassAnswers}
+use Rattle.sdd_history_examples.proofs.Applies.{PassApplies}
+use Rattle.sdd_history_examples.proofs.Each.{each_has}
+use Rattle.sdd_history_examples.proofs.Fitting.{PassFit, are_eras}
+use Rattle.sdd_history_examples.proofs.Keeping.{keeps_all}
+use Rattle.sdd_history_examples.proofs.Sound.{sound_crossing}
+use Rattle.sdd_history_examples.proofs.Starts.{PassStarts}
+use Rattle.sdd_history_examples.proofs.WorkedTables.{is_crossing}
+use Rattle.sdd_history_examples.proofs.Texts.{put_fits, values_fit, one_fits}
+
+fits : PassFit crossing (one_era crossing) [] query_and_put starts_again
+fits =
+    record {
+      are_eras = are_eras crossing;
+      rows_fit = tt;
+      txns_fit = (
+        one_fits 1 crossing.classes 1 (lit≤ tt, lit≤ tt) (values_by Le 9) (values_fit 1 crossing.classes Le 9),
+        (one_fits 1 crossing.classes 2 (lit≤ tt, lit≤ tt) (put_row 1 1) (put_fits 1 crossing.classes 1 1), tt),
+      );
+      numbers_exist = refl;
+      txns_exist = refl;
+    }
+
+starts : PassStarts crossing (one_era crossing) query_and_put starts_again
+starts =
+    record {
+      submitted = (
+        record { place = 0; submitted = refl; before = lit< tt; txn = given_to 1 (values_by Le 9 ∷ []); txn_is = refl; class_is = refl; uses_are = refl },
+        (
+          record { place = 2; submitted = refl; before = lit< tt; txn = given_to 2 (put_row 1 1 ∷ []); txn_is = refl; class_is = refl; uses_are = refl },
+          (record { place = 0; submitted = refl; before = lit< tt; txn = given_to 1 (values_by Le 9 ∷ []); txn_is = refl; class_is = refl; uses_are = refl }, tt),
+        ),
+      );
+      one_submit = refl;
+      numbered = refl;
+      time = refl;
+      one_time = refl;
+      rise = refl;
+      in_turn = refl;
+      after_earlier = refl;
+      one_commit = refl;
+      by_last = refl;
+      bound_there = refl;
+      bound = refl;
+    }
+
+answers : PassAnswers crossing [] query_and_put starts_again
+answers =
+    record {
+      one_answer = refl;
+      answer_after = refl;
+      commit_after = refl;
+      answered_everywhere = refl;
+      answered = refl;
+      effects = (refl, (refl, tt));
+    }
+
+applies : PassApplies crossing starts_again
+applies = record { of_commit = refl; one_apply = refl; rise = refl; none_left_out = refl; after_earlier = refl; has_earlier = refl; before_later = refl }
+
+-- the first attempt, which is rejected, and the one after it
+
+abbrev first : Attempt
+first = record { txn = 1; number = 1; class = 1; ts = 65; p2 = Some (time_at 63); uses = low_keys; place = 1 }
+
+abbrev again : Attempt
+again = record { txn = 1; number = 2; class = 1; ts = 129; p2 = Some (time_at 127); uses = low_keys; place = 8 }
+
+-- the put
+abbrev writer : Committed
+writer =
+    record {
+      start = record { txn = 2; number = 1; class = 2; ts = 66; p2 = Some (time_at 63); uses = []; place = 3 };
+      reply = Rows [];
+      changes = put 1 1 1 ∷ [];
+      values = 0;
+      rows = 0;
+      place = 4;
+    }
+
+-- what the first attempt asked
+abbrev condition : Cond
+condition = record { class = class_no 2; time = time_at 65; frags = frag_no 1 ∷ [] }
+
+below : (p2 : Ts) → Some (time_at 127) ≡ Some p2 → 66 < p2.0
+below p2 e = subst (λ (t : Ts). 66 < t.0) (same_Some (time_at 127) p2 e) (lit< tt)
+
+starts_since : IsAgain crossing (one_era crossing) starts_again again
+starts_since =
+    record {
+      earlier = first;
+      started = refl;
+      txn_is = refl;
+      number_is = refl;
+      dm = 1;
+      class = 2;
+      write = 66;
+      place = 7;
+      rejected = refl;
+      before = lit< tt;
+      cond = condition;
+      condition = record { table = table_of_crossing; table_is = is_crossing; there = Contains-here condition [] };
+      class_is = refl;
+      late = lit≤ tt;
+      writer = writer;
+      committed = record { started = refl; committed = refl };
+      writer_class = refl;
+      writer_time = refl;
+      changes = record { fragment = 1; changed = refl; named = refl };
+      applied = record { place = 5; applied = record { class = 2; ts = 66; stands = refl }; before = lit< tt };
+      below = lit< tt;
+      below_bound = below;
+    }
+
+rejections : KeepsRejections crossing (one_era crossing) starts_again
+rejections =
+    record {
+      again = λ a p.
+          each_has (λ a. 1 < a.number → IsAgain crossing (one_era crossing) starts_again a) (attempts starts_again) a
+          ((λ l. absurd (omega (arith, l))), ((λ l. absurd (omega (arith, l))), ((λ l. starts_since), tt)))
+          (in_attempts starts_again a p);
+    }
+
+pub starts_again_keeps : KeepsAll crossing (one_era crossing) [] query_and_put starts_again
+starts_again_keeps =
+    keeps_all crossing (one_era crossing) [] query_and_put starts_again
+    (record { sound = sound_crossing; fit = fits; starts = starts; answers = answers; applies = applies; alone = refl; lists = record { apart = refl; one_era = refl } })
+    (λ event. table_of_crossing) (is_crossing, (is_crossing, (is_crossing, tt))) refl rejections

@@ -1,0 +1,165 @@
+-- The tables of the worked catalogues.
+use Rattle.std.proofs.Common.{ℕ, zero, suc, ◌==◌, ◌≡◌, ◌≢◌, nat_lt, true, false, List, [], ◌∷◌, Some, refl, sym, ◌∙◌, inl, inr, lit≤, eq-eqb}
+use Rattle.std.specs.Prelude.{slice_get}
+use Rattle.std.proofs.lemmas.Bool.{false≢true}
+use Rattle.std.proofs.lemmas.List.Elements.{All-from_recursion}
+use Rattle.std.proofs.lemmas.Option.{same_Some}
+use Rattle.sdd_blocks.specs.Blocks.{OnACycle}
+use Rattle.sdd_blocks.specs.Graph.{Step, IsSimpleCycle}
+use Rattle.sdd_protocol.specs.Protocols.{IsTable, protocol_in}
+use Rattle.sdd_protocol.specs.declared.entry.Entry.{Entry}
+use Rattle.sdd_history_examples.specs.Catalogues.{bridge, crossing, further_classes, one_class, one_reader, one_writer}
+use Rattle.sdd_history_examples.specs.Tables.{table_of_two, table_of_bridge, table_of_one_reader, table_of_crossing, table_of_one}
+use Rattle.sdd_history_examples.proofs.Blocks.{crosses_alone, no_blocks, IsNumbered, one_block}
+
+differ : (a b : ℕ) → (a == b) ≡ false → a ≢ b
+differ a b f e = false≢true (sym f ∙ eq-eqb a b e)
+
+true_false : true ≢ false
+true_false e = false≢true (sym e)
+
+-- A path: from node 0 to 1, from 1 to 2, from 2 to 3.
+
+abbrev path : List (ℕ × ℕ)
+path = (0, 1) ∷ (2, 3) ∷ (2, 1) ∷ []
+
+path_number : (k b : ℕ) → slice_get (0 ∷ 0 ∷ 0 ∷ []) k ≡ Some b → (b ≡ 0) × (¬ OnACycle path k)
+path_number zero b e = (sym (same_Some 0 b e), crosses_alone (λ n. n == 0) path 0 0 1 refl refl true_false)
+path_number (suc zero) b e = (sym (same_Some 0 b e), crosses_alone (λ n. nat_lt n 3) path 1 2 3 refl refl true_false)
+path_number (suc (suc zero)) b e = (sym (same_Some 0 b e), crosses_alone (λ n. nat_lt 1 n) path 2 2 1 refl refl true_false)
+path_number (suc (suc (suc k))) b e = absurd (cc)
+
+pub is_bridge : IsTable bridge table_of_bridge
+is_bridge =
+    record {
+      edges = refl;
+      blocks = no_blocks path (0 ∷ 0 ∷ 0 ∷ []) refl path_number;
+      protocols =
+          All-from_recursion (λ (e : Entry). e.protocol ≡ protocol_in table_of_bridge e.edge e.block) table_of_bridge
+          (refl, (refl, (refl, tt)));
+    }
+
+-- Two parallel edges between two others.
+
+abbrev doubled : List (ℕ × ℕ)
+doubled = (0, 1) ∷ (2, 3) ∷ (2, 1) ∷ (2, 1) ∷ []
+
+abbrev there_and_back : List Step
+there_and_back = record { edge = 2; to = 1 } ∷ record { edge = 3; to = 2 } ∷ []
+
+doubled_cycle : IsSimpleCycle doubled 2 there_and_back
+doubled_cycle =
+    record {
+      closed = (inl refl, (inr refl, refl));
+      long = lit≤ tt;
+      edges_differ = ((λ h. elim h [ inl e ↦ differ 3 2 refl e | inr x ↦ x ]), ((λ h. h), tt));
+      nodes_differ = ((λ h. elim h [ inl e ↦ differ 2 1 refl e | inr x ↦ x ]), ((λ h. h), tt));
+    }
+
+doubled_number : (k b : ℕ) → slice_get (0 ∷ 0 ∷ 1 ∷ 1 ∷ []) k ≡ Some b → IsNumbered doubled there_and_back k b
+doubled_number zero b e = inl (sym (same_Some 0 b e), crosses_alone (λ n. n == 0) doubled 0 0 1 refl refl true_false)
+doubled_number (suc zero) b e = inl (sym (same_Some 0 b e), crosses_alone (λ n. nat_lt n 3) doubled 1 2 3 refl refl true_false)
+doubled_number (suc (suc zero)) b e = inr (sym (same_Some 1 b e), inl refl)
+doubled_number (suc (suc (suc zero))) b e = inr (sym (same_Some 1 b e), inr (inl refl))
+doubled_number (suc (suc (suc (suc k)))) b e = absurd (cc)
+
+pub is_one_reader : IsTable one_reader table_of_one_reader
+is_one_reader =
+    record {
+      edges = refl;
+      blocks = one_block doubled (0 ∷ 0 ∷ 1 ∷ 1 ∷ []) 2 there_and_back doubled_cycle refl doubled_number;
+      protocols =
+          All-from_recursion (λ (e : Entry). e.protocol ≡ protocol_in table_of_one_reader e.edge e.block) table_of_one_reader
+          (refl, (refl, (refl, (refl, tt))));
+    }
+
+-- A square.
+
+abbrev square : List (ℕ × ℕ)
+square = (0, 1) ∷ (2, 3) ∷ (0, 3) ∷ (2, 1) ∷ []
+
+abbrev around : List Step
+around = record { edge = 0; to = 1 } ∷ record { edge = 3; to = 2 } ∷ record { edge = 1; to = 3 } ∷ record { edge = 2; to = 0 } ∷ []
+
+square_cycle : IsSimpleCycle square 0 around
+square_cycle =
+    record {
+      closed = (inl refl, (inr refl, (inl refl, (inr refl, refl))));
+      long = lit≤ tt;
+      edges_differ = (
+        (λ h. elim h [ inl e ↦ differ 3 0 refl e | inr (inl e) ↦ differ 1 0 refl e | inr (inr (inl e)) ↦ differ 2 0 refl e | inr (inr (inr x)) ↦ x ]),
+        (
+          (λ h. elim h [ inl e ↦ differ 1 3 refl e | inr (inl e) ↦ differ 2 3 refl e | inr (inr x) ↦ x ]),
+          ((λ h. elim h [ inl e ↦ differ 2 1 refl e | inr x ↦ x ]), ((λ h. h), tt)),
+        ),
+      );
+      nodes_differ = (
+        (λ h. elim h [ inl e ↦ differ 2 1 refl e | inr (inl e) ↦ differ 3 1 refl e | inr (inr (inl e)) ↦ differ 0 1 refl e | inr (inr (inr x)) ↦ x ]),
+        (
+          (λ h. elim h [ inl e ↦ differ 3 2 refl e | inr (inl e) ↦ differ 0 2 refl e | inr (inr x) ↦ x ]),
+          ((λ h. elim h [ inl e ↦ differ 0 3 refl e | inr x ↦ x ]), ((λ h. h), tt)),
+        ),
+      );
+    }
+
+square_number : (k b : ℕ) → slice_get (1 ∷ 1 ∷ 1 ∷ 1 ∷ []) k ≡ Some b → IsNumbered square around k b
+square_number zero b e = inr (sym (same_Some 1 b e), inl refl)
+square_number (suc zero) b e = inr (sym (same_Some 1 b e), inr (inr (inl refl)))
+square_number (suc (suc zero)) b e = inr (sym (same_Some 1 b e), inr (inr (inr (inl refl))))
+square_number (suc (suc (suc zero))) b e = inr (sym (same_Some 1 b e), inr (inl refl))
+square_number (suc (suc (suc (suc k)))) b e = absurd (cc)
+
+pub is_crossing : IsTable crossing table_of_crossing
+is_crossing =
+    record {
+      edges = refl;
+      blocks = one_block square (1 ∷ 1 ∷ 1 ∷ 1 ∷ []) 0 around square_cycle refl square_number;
+      protocols =
+          All-from_recursion (λ (e : Entry). e.protocol ≡ protocol_in table_of_crossing e.edge e.block) table_of_crossing
+          (refl, (refl, (refl, (refl, tt))));
+    }
+
+-- One edge.
+
+abbrev edge : List (ℕ × ℕ)
+edge = (0, 1) ∷ []
+
+edge_number : (k b : ℕ) → slice_get (0 ∷ []) k ≡ Some b → (b ≡ 0) × (¬ OnACycle edge k)
+edge_number zero b e = (sym (same_Some 0 b e), crosses_alone (λ n. n == 0) edge 0 0 1 refl refl true_false)
+edge_number (suc k) b e = absurd (cc)
+
+pub is_one_class : IsTable one_class table_of_one
+is_one_class =
+    record {
+      edges = refl;
+      blocks = no_blocks edge (0 ∷ []) refl edge_number;
+      protocols = All-from_recursion (λ (e : Entry). e.protocol ≡ protocol_in table_of_one e.edge e.block) table_of_one (refl, tt);
+    }
+
+pub is_one_writer : IsTable one_writer table_of_one
+is_one_writer =
+    record {
+      edges = refl;
+      blocks = no_blocks edge (0 ∷ []) refl edge_number;
+      protocols = All-from_recursion (λ (e : Entry). e.protocol ≡ protocol_in table_of_one e.edge e.block) table_of_one (refl, tt);
+    }
+
+-- Two edges that don't meet.
+
+abbrev apart : List (ℕ × ℕ)
+apart = (0, 1) ∷ (2, 3) ∷ []
+
+apart_number : (k b : ℕ) → slice_get (0 ∷ 0 ∷ []) k ≡ Some b → (b ≡ 0) × (¬ OnACycle apart k)
+apart_number zero b e = (sym (same_Some 0 b e), crosses_alone (λ n. n == 0) apart 0 0 1 refl refl true_false)
+apart_number (suc zero) b e = (sym (same_Some 0 b e), crosses_alone (λ n. n == 2) apart 1 2 3 refl refl true_false)
+apart_number (suc (suc k)) b e = absurd (cc)
+
+pub is_further_classes : IsTable further_classes table_of_two
+is_further_classes =
+    record {
+      edges = refl;
+      blocks = no_blocks apart (0 ∷ 0 ∷ []) refl apart_number;
+      protocols =
+          All-from_recursion (λ (e : Entry). e.protocol ≡ protocol_in table_of_two e.edge e.block) table_of_two
+          (refl, (refl, tt));
+    }

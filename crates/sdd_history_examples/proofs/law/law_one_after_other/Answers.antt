@@ -1,0 +1,9 @@
+use Rattle.std.proofs.Common.{refl}
+use Rattle.sdd_history_examples.proofs.OneAfterOther.{one_after_other_keeps}
+use Rattle.sdd_history_examples.proofs.law.law_one_after_other.Goals as goal
+
+pub returns-clause-keeps : goal.returns-clause-keeps
+returns-clause-keeps g = one_after_other_keeps
+
+pub returns-clause-order : goal.returns-clause-order
+returns-clause-order g = refl

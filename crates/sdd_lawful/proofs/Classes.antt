@@ -1,0 +1,140 @@
+-- The class of a transaction: that of the list of classes in force when it was given, at the site that runs the class.
+use Rattle.std.proofs.Common.{ℕ, ◌++◌, ◌==◌, ◌∙◌, ◌∷◌, ◌≡◌, None, Option, Some, [], ap, append_assoc, if◌then◌else◌, inl, inr, refl, subst, sym, true}
+use Rattle.std.proofs.lemmas.Bool.{eqb-true}
+use Rattle.sdd_base.specs.Numbers.{tm_no}
+use Rattle.sdd_base.specs.Sites.{same_site}
+use Rattle.sdd_base.specs.declared.event.Event.TheVariants.{Deliver, Down, Lose, Redeclare, Repeat, Resend, Settle, Submit, Tick, Up}
+use Rattle.sdd_base.specs.declared.number.TmNo.{TmNo}
+use Rattle.sdd_base.specs.declared.site.Site.{Site}
+use Rattle.sdd_base.specs.declared.site.Site.TheVariants.{T, U}
+use Rattle.sdd_catalog.specs.Catalogue.{class_at}
+use Rattle.sdd_lang.specs.Classes.{class_for}
+use Rattle.sdd_lang.specs.declared.transaction.Txn.{Txn}
+use Rattle.sdd_module.specs.SiteLog.{Force, Handed, Redeclared, Setting, Submits, Ticked, Did, in_force}
+use Rattle.sdd_module.specs.SiteLog as site
+use Rattle.sdd_attempt.specs.Queues.{is_for}
+use Rattle.sdd_log.specs.Due.{home_of}
+use Rattle.sdd_log.specs.Entries.{Does, Entry, Given, Hand, Log, Mark, Notes, Redeclares, Round, Submitted}
+use Rattle.sdd_log.specs.Locals.{force_at, local_of, redeclares, setting_of, txn_at, with_submit}
+use Rattle.sdd_log.specs.Permitted.{IsPermitted}
+use Rattle.sdd_invariants.proofs.Bools.{if_way, only_right, same_or_not}
+use Rattle.sdd_invariants.specs.Steps.{home}
+use Rattle.sdd_invariants.proofs.Sites.{site_self}
+use Rattle.sdd_invariants.proofs.Made.{local_at}
+use Rattle.sdd_invariants.specs.Made.{given_to}
+use Rattle.sdd_lawful.proofs.Submissions.{given_at, same_submission}
+
+-- the classes in force at a transaction module are those that were put in force last
+
+after_submit : (s : Setting) (n : ℕ) (o : Option Txn) (l : site.Log) → in_force s (with_submit n o l) ≡ in_force s l
+after_submit s n None l = refl
+after_submit s n (Some txn) l = refl
+
+pub force_there : (g : Given) (t : TmNo) (log : Log)
+    → in_force (setting_of g (T t)) (local_of g (T t) log) ≡ force_at g (redeclares log)
+force_there g t [] = refl
+force_there g t (Mark (Tick u n) ∷ log) =
+    let l : site.Log = local_of g (T t) log in
+    if_way (λ (x : site.Log). in_force (setting_of g (T t)) x ≡ force_at g (redeclares log)) (same_site (T t) (T u)) (Ticked n ∷ l) l (force_there g t log) (force_there g t log)
+force_there g t (Mark (Submit k) ∷ log) = force_there g t log
+force_there g t (Mark (Deliver a b k) ∷ log) = force_there g t log
+force_there g t (Mark (Lose a b k) ∷ log) = force_there g t log
+force_there g t (Mark (Repeat a b k) ∷ log) = force_there g t log
+force_there g t (Mark (Resend a b) ∷ log) = force_there g t log
+force_there g t (Mark Settle ∷ log) = force_there g t log
+force_there g t (Mark Redeclare ∷ log) = force_there g t log
+force_there g t (Mark (Down d) ∷ log) = force_there g t log
+force_there g t (Mark (Up d) ∷ log) = force_there g t log
+force_there g t (Round es ∷ log) = force_there g t log
+force_there g t (Redeclares u ∷ log) = refl
+force_there g t (Hand from to n m ∷ log) =
+    let l : site.Log = local_of g (T t) log in
+    if_way (λ (x : site.Log). in_force (setting_of g (T t)) x ≡ force_at g (redeclares log)) (same_site (T t) to) (Handed from m ∷ l) l (force_there g t log) (force_there g t log)
+force_there g t (Submitted to n ∷ log) =
+    let l : site.Log = local_of g (T t) log in
+    if_way (λ (x : site.Log). in_force (setting_of g (T t)) x ≡ force_at g (redeclares log)) (same_site (T t) to) (with_submit n (txn_at g n) l) l (after_submit (setting_of g (T t)) n (txn_at g n) l ∙ force_there g t log) (force_there g t log)
+force_there g t (Notes ∷ log) = force_there g t log
+force_there g t (Does by act ∷ log) =
+    let l : site.Log = local_of g (T t) log in
+    if_way (λ (x : site.Log). in_force (setting_of g (T t)) x ≡ force_at g (redeclares log)) (same_site (T t) by) (Did act ∷ l) l (force_there g t log) (force_there g t log)
+
+-- the log of the site that runs a class
+abbrev pub at_home : Given → ℕ → Log → site.Log
+at_home g c log = local_of g (home g.catalogue c) log
+
+abbrev pub home_setting : Given → ℕ → Setting
+home_setting g c = setting_of g (home g.catalogue c)
+
+-- at the site that runs a class, a transaction given now is one of the class
+abbrev pub IsForClass : Given → ℕ → Log → Txn → Type 0
+IsForClass g c rest text = is_for c (in_force (home_setting g c) (at_home g c rest)).catalogue text ≡ true
+
+-- a transaction with this text was given to the site that runs a class, as one of the class
+pub record IsGivenTo (g : Given) (log : Log) (n c : ℕ) (text : Txn) : Type 0 where
+  pub later : Log
+  pub rest : Log
+  pub is : log ≡ later ++ Submitted (home g.catalogue c) n ∷ rest
+  pub text_is : txn_at g n ≡ Some text
+  pub class_is : c ≡ class_for (force_at g (redeclares rest)).catalogue text
+  pub of_class : IsForClass g c rest text
+
+abbrev pub home_by : ℕ → Txn → Site
+home_by c txn = if c == 0 then U else T txn.tm
+
+zero_home : (c : ℕ) (txn : Txn) → U ≡ home_by c txn → c ≡ 0
+zero_home c txn e = elim (same_or_not c 0) [
+  | inl p ↦ p
+  | inr p ↦ (let q : ◌≡◌ {A = Site} U (T txn.tm) = rw p at e in cc)
+]
+
+-- at that site it is of the class that covers it
+pub class_given : (g : Given) (c n : ℕ) (text : Txn) (rest : Log) → IsPermitted g (Submitted (home g.catalogue c) n ∷ rest)
+    → txn_at g n ≡ Some text
+    → IsForClass g c rest text → c ≡ class_for (force_at g (redeclares rest)).catalogue text
+class_given g c n text rest h t f =
+    let x = given_at g rest (home g.catalogue c) n h in
+    let same : redeclares rest ≡ redeclares x.earlier = ap redeclares x.is in
+    let here : home g.catalogue c ≡ home_by (class_for (force_at g (redeclares rest)).catalogue text) text =
+    x.at_is ∙ ap (λ o. home_of (force_at g (redeclares x.earlier)).catalogue o) t ∙ ap (λ k. home_of (force_at g k).catalogue (Some text)) (sym same) in
+    elim (same_or_not c 0) [
+      | inl p ↦ (let q : home g.catalogue c ≡ U = ap (home g.catalogue) p in
+          p ∙ sym (zero_home (class_for (force_at g (redeclares rest)).catalogue text) text (sym q ∙ here)))
+      | inr p ↦ (let t_no : TmNo = tm_no (class_at g.catalogue c).tm.0 in
+          let q : home g.catalogue c ≡ T t_no = rw p refl in
+          let inf : is_for c (in_force (setting_of g (T t_no)) (local_of g (T t_no) rest)).catalogue text ≡ true = subst (λ a. is_for c (in_force (setting_of g a) (local_of g a rest)).catalogue text ≡ true) q f in
+          let k : (class_for (in_force (setting_of g (T t_no)) (local_of g (T t_no) rest)).catalogue text == c) ≡ true = only_right (c == 0) _ p inf in
+          sym (eqb-true _ c k) ∙ ap (λ (w : Force). class_for w.catalogue text) (force_there g t_no rest))
+    ]
+
+text_one : (o : Option Txn) (x y : Txn) → o ≡ Some x → o ≡ Some y → x ≡ y
+text_one o x y e f = let p : Some x ≡ Some y = sym e ∙ f in cc
+
+-- so a transaction has one class
+pub one_class : (g : Given) (log : Log) (n c d : ℕ) (t u : Txn) → IsPermitted g log → IsGivenTo g log n c t → IsGivenTo g log n d u
+    → c ≡ d
+one_class g log n c d t u h x y =
+    let r = (same_submission g n log x.later y.later x.rest y.rest (home g.catalogue c) (home g.catalogue d) h x.is y.is).0 in
+    let e : t ≡ u = text_one (txn_at g n) t u x.text_is y.text_is in
+    x.class_is ∙ ap (λ k. class_for (force_at g (redeclares k)).catalogue t) r ∙ ap (class_for (force_at g (redeclares y.rest)).catalogue) e ∙ sym y.class_is
+
+submit_made : (at : Site) (n : ℕ) (o : Option Txn) (text : Txn) → o ≡ Some text
+    → (if same_site at at then given_to n o else None) ≡ Some (Submits n text)
+submit_made at n o text e = rw (site_self at) (ap (given_to n) e)
+
+-- of two entries of a log, one behind the other, the one further back
+pub further_back : (log later before : Log) (e f : Entry) (later2 rest : Log) → log ≡ later ++ e ∷ before → before ≡ later2 ++ f ∷ rest
+    → (all : Log) × (log ≡ all ++ f ∷ rest)
+further_back log later before e f later2 rest p q =
+    (later ++ e ∷ later2, p ∙ ap (λ l. later ++ e ∷ l) q ∙ sym (append_assoc later (e ∷ later2) (f ∷ rest)))
+
+pub given_in : (g : Given) (log later before : Log) (e : Entry) (n c : ℕ) (text : Txn) → log ≡ later ++ e ∷ before
+    → IsGivenTo g before n c text → IsGivenTo g log n c text
+given_in g log later before e n c text is x =
+    let s = further_back log later before e (Submitted (home g.catalogue c) n) x.later x.rest is x.is in
+    record { later = s.0; rest = x.rest; is = s.1; text_is = x.text_is; class_is = x.class_is; of_class = x.of_class }
+
+-- what is given to the site that runs a class stands in the site's log
+pub submit_local : (g : Given) (c n : ℕ) (text : Txn) (later rest : Log) → txn_at g n ≡ Some text
+    → (more : site.Log) × (at_home g c (later ++ Submitted (home g.catalogue c) n ∷ rest) ≡ more ++ Submits n text ∷ at_home g c rest)
+submit_local g c n text later rest t =
+    local_at g (home g.catalogue c) later rest (Submitted (home g.catalogue c) n) (Submits n text) (submit_made (home g.catalogue c) n (txn_at g n) text t)

@@ -1,0 +1,193 @@
+-- A committed transaction of a history, as the Commit of an active attempt; and what makes one of each.
+use Rattle.std.proofs.Common.{ℕ, ◌++◌, ◌∙◌, ◌∷◌, ◌≡◌, List, Some, ap, arith, length, refl, subst, sym}
+use Rattle.sdd_base.specs.Numbers.{txn_no}
+use Rattle.sdd_base.specs.declared.change.Change.{Change}
+use Rattle.sdd_base.specs.declared.number.TxnNo.{TxnNo}
+use Rattle.sdd_base.specs.declared.reply.Reply.{Reply}
+use Rattle.sdd_catalog.specs.Rules.{IsSound}
+use Rattle.sdd_history.specs.declared.record.Rec.TheVariants.{Commit}
+use Rattle.sdd_lang.specs.Effect.{effect}
+use Rattle.sdd_lang.specs.Uses.{uses_of}
+use Rattle.sdd_lang.specs.declared.effect.Effect.{Effect}
+use Rattle.sdd_module.specs.SiteLog.{Act, Bases, Each, Records, Setting, sends_of_act}
+use Rattle.sdd_module.specs.SiteLog as site
+use Rattle.sdd_attempt.specs.Acts.{commit_act}
+use Rattle.sdd_attempt.specs.Attempts.{Attempt as Running, active}
+use Rattle.sdd_log.specs.Entries.{Does, Given, Log, history}
+use Rattle.sdd_log.specs.Locals.{txn_at}
+use Rattle.sdd_log.specs.Permitted.{IsPermitted}
+use Rattle.sdd_laws.proofs.NumberedStarts.{one_start}
+use Rattle.sdd_order.specs.Attempts.{Attempt, Committed, IsAttempt, IsCommitted}
+use Rattle.sdd_order.specs.Places.{Stands}
+use Rattle.sdd_order.proofs.Places.{one_attempt, one_of_txn, same_start}
+use Rattle.sdd_invariants.proofs.Starting.{says_at}
+use Rattle.sdd_invariants.proofs.Active.{step_way}
+use Rattle.sdd_invariants.specs.Steps.{IsFair, IsStep, home}
+use Rattle.sdd_invariants.proofs.Fair.{home_fair}
+use Rattle.sdd_invariants.proofs.Made.{own_act, permitted_before}
+use Rattle.sdd_lawful.specs.Made.{IsMadeAt}
+use Rattle.sdd_lawful.proofs.Classes.{at_home, home_setting}
+use Rattle.sdd_lawful.proofs.Commits.{IsCommitIn, Told, begun, commit_class, commit_in, commit_rec, one_commit}
+use Rattle.sdd_lawful.proofs.Counted.{numbered}
+use Rattle.sdd_lawful.proofs.Homes.{home_small}
+use Rattle.sdd_lawful.proofs.Places.{stands_there}
+
+-- of one transaction and number there is one attempt
+pub one_place : (g : Given) (log : Log) → IsSound g.catalogue → IsPermitted g log → (a b : Attempt) → IsAttempt (history log) a
+    → IsAttempt (history log) b → a.txn ≡ b.txn → a.number ≡ b.number → a.place ≡ b.place
+one_place g log sound h a b s t e f = one_start (history log) (numbered g log sound h) a b s t e f
+
+pub same_attempt : (g : Given) (log : Log) → IsSound g.catalogue → IsPermitted g log → (a b : Attempt) → IsAttempt (history log) a
+    → IsAttempt (history log) b → a.txn ≡ b.txn → a.number ≡ b.number → a ≡ b
+same_attempt g log sound h a b s t e f =
+    one_attempt a b (same_start (history log) a b s t (one_place g log sound h a b s t e f))
+
+-- of one transaction one is committed
+pub same_committed : (g : Given) (log : Log) → IsSound g.catalogue → IsPermitted g log → (t u : Committed)
+    → IsCommitted (history log) t → IsCommitted (history log) u → t.start.txn ≡ u.start.txn → t ≡ u
+same_committed g log sound h t u c d e =
+    one_of_txn (history log) (one_commit g log sound h) (one_place g log sound h) t u c d e
+
+-- the act of a Commit
+pub record IsOfRunning (s : Setting) (log : site.Log) (k : ℕ) (txn : TxnNo) (attempt : ℕ) (reply : Reply) (changes : List Change) (act : Act) : Type 0 where
+  pub running : Running
+  pub bases : Bases
+  pub active_is : active s k log ≡ Some running
+  pub act_is : act ≡ commit_act s.catalogue bases k running
+  pub txn_is : txn ≡ txn_no running.txn
+  pub number_is : attempt ≡ running.attempt
+  pub reply_is : reply ≡ (effect s.catalogue (bases running.ts) running.text).reply
+  pub changes_are : changes ≡ (effect s.catalogue (bases running.ts) running.text).changes
+
+abbrev OfRunning : Setting → site.Log → Act → Type 0
+OfRunning s log (Records k (Commit txn attempt reply changes values rows) sends) =
+    IsOfRunning s log k txn attempt reply changes (Records k (Commit txn attempt reply changes values rows) sends)
+OfRunning s log act = Unit {0}
+
+of_running : (s : Setting) (log : site.Log) (act : Act) → IsStep s log act → OfRunning s log act
+of_running s log act i = step_way s log act (OfRunning s log) (λ c q at f e. tt)
+    (λ c bases a at f. record { running = a; bases = bases; active_is = f; act_is = refl; txn_is = refl; number_is = refl; reply_is = refl; changes_are = refl })
+    (λ to m hand f. tt) i
+
+pub home_step : (g : Given) (c : ℕ) (log : Log) (act : Act) → IsPermitted g (Does (home g.catalogue c) act ∷ log)
+    → IsStep (home_setting g c) (at_home g c log) act
+home_step g c log act h =
+    (subst (λ l. Each (IsFair (home_setting g c)) l) (own_act g (home g.catalogue c) act log) (home_fair g c (Does (home g.catalogue c) act ∷ log) h)).0
+
+pub one_active : (s : Setting) (c : ℕ) (log : site.Log) (a b : Running) → active s c log ≡ Some a → active s c log ≡ Some b → a ≡ b
+one_active s c log a b e f = let p : Some a ≡ Some b = sym e ∙ f in cc
+
+pub record IsCommittedIn (g : Given) (log : Log) (t : Committed) : Type 0 where
+  pub later : Log
+  pub before : Log
+  pub bases : Bases
+  pub running : Running
+  pub is : log ≡ later ++ Does (home g.catalogue t.start.class) (commit_act g.catalogue bases t.start.class running) ∷ before
+  pub place_is : length (history before) ≡ t.place
+  pub permitted : IsPermitted g (Does (home g.catalogue t.start.class) (commit_act g.catalogue bases t.start.class running) ∷ before)
+  pub active_is : active (home_setting g t.start.class) t.start.class (at_home g t.start.class before) ≡ Some running
+  pub txn_is : running.txn ≡ t.start.txn
+  pub number_is : running.attempt ≡ t.start.number
+  pub ts_is : running.ts ≡ t.start.ts
+  pub text_is : txn_at g t.start.txn ≡ Some running.text
+  pub uses_are : t.start.uses ≡ uses_of g.catalogue running.text
+  pub reply_is : t.reply ≡ (effect g.catalogue (bases running.ts) running.text).reply
+  pub changes_are : t.changes ≡ (effect g.catalogue (bases running.ts) running.text).changes
+
+-- of class k
+committed_as : (g : Given) (log : Log) (t : Committed) (k : ℕ) (later before : Log) (bases : Bases) (running : Running) → k ≡ t.start.class
+    → log ≡ later ++ Does (home g.catalogue k) (commit_act g.catalogue bases k running) ∷ before → length (history before) ≡ t.place
+    → IsPermitted g (Does (home g.catalogue k) (commit_act g.catalogue bases k running) ∷ before)
+    → active (home_setting g k) k (at_home g k before) ≡ Some running → running.txn ≡ t.start.txn → running.attempt ≡ t.start.number
+    → running.ts ≡ t.start.ts → txn_at g t.start.txn ≡ Some running.text → t.start.uses ≡ uses_of g.catalogue running.text → t.reply ≡ (effect g.catalogue (bases running.ts) running.text).reply
+    → t.changes ≡ (effect g.catalogue (bases running.ts) running.text).changes → IsCommittedIn g log t
+committed_as g log t k later before bases running e is place h active_is n i ts text uses reply changes = record {
+  later = later;
+  before = before;
+  bases = bases;
+  running = running;
+  is = subst (λ c. log ≡ later ++ Does (home g.catalogue c) (commit_act g.catalogue bases c running) ∷ before) e is;
+  place_is = place;
+  permitted = subst (λ c. IsPermitted g (Does (home g.catalogue c) (commit_act g.catalogue bases c running) ∷ before)) e h;
+  active_is = subst (λ c. active (home_setting g c) c (at_home g c before) ≡ Some running) e active_is;
+  txn_is = n;
+  number_is = i;
+  ts_is = ts;
+  text_is = text;
+  uses_are = uses;
+  reply_is = reply;
+  changes_are = changes;
+}
+
+pub committed_in : (g : Given) (log : Log) (t : Committed) → IsSound g.catalogue → IsPermitted g log → IsCommitted (history log) t
+    → IsCommittedIn g log t
+committed_in g log t sound h c =
+    let told : Told = record { reply = t.reply; changes = t.changes; values = t.values; rows = t.rows } in
+    let x = commit_in g log t.start.txn t.start.number t.place told sound h c.committed in
+    let b = begun g log t.start.txn t.start.number t.place told x in
+    let class : x.class ≡ t.start.class = sym (commit_class g log t.start.txn t.start.number t.place told x t.start sound h c.started refl) in
+    let act : Act = Records x.class (commit_rec t.start.txn t.start.number told) x.sends in
+    let r : IsOfRunning (home_setting g x.class) (at_home g x.class x.before) x.class (txn_no t.start.txn) t.start.number t.reply t.changes act = of_running (home_setting g x.class) (at_home g x.class x.before) act (home_step g x.class x.before act x.permitted) in
+    let now : x.says.now ≡ r.running = one_active (home_setting g x.class) x.class (at_home g x.class x.before) x.says.now r.running x.says.active_is r.active_is in
+    let start : t.start ≡ b.attempt = same_attempt g log sound h t.start b.attempt c.started b.started (sym b.txn_is) (sym b.number_is) in
+    let ts : r.running.ts ≡ t.start.ts = ap (λ (y : Running). y.ts) (sym now) ∙ sym b.ts_is ∙ ap (λ (y : Attempt). y.ts) (sym start) in
+    committed_as g log t x.class x.later x.before r.bases r.running class
+    (x.is ∙ ap (λ y. x.later ++ Does (home g.catalogue x.class) y ∷ x.before) r.act_is) x.place_is
+    (subst (λ y. IsPermitted g (Does (home g.catalogue x.class) y ∷ x.before)) r.act_is x.permitted) r.active_is
+    (ap (λ (y : TxnNo). y.0) (sym r.txn_is)) (sym r.number_is) ts (b.text_is ∙ ap (λ (y : Running). Some y.text) now) (ap (λ (y : Attempt). y.uses) start ∙ b.uses_are ∙ ap (λ (y : Running). uses_of g.catalogue y.text) now) r.reply_is r.changes_are
+
+abbrev pub committed_made : (g : Given) (log : Log) (t : Committed) (x : IsCommittedIn g log t)
+    → IsMadeAt log t.place (Commit (txn_no x.running.txn) x.running.attempt (effect g.catalogue (x.bases x.running.ts) x.running.text).reply (effect g.catalogue (x.bases x.running.ts) x.running.text).changes x.running.exchange.values x.running.exchange.rows)
+committed_made g log t x =
+    record { later = x.later; entry = Does (home g.catalogue t.start.class) (commit_act g.catalogue x.bases t.start.class x.running); before = x.before; is = x.is; makes = refl; place_is = x.place_is }
+
+-- a Commit in the log is one of the history
+pub record IsCommitOfLog (g : Given) (log : Log) (class : ℕ) (bases : Bases) (running : Running) (before : Log) : Type 0 where
+  pub committed : Committed
+  pub is_committed : IsCommitted (history log) committed
+  pub txn_is : committed.start.txn ≡ running.txn
+  pub number_is : committed.start.number ≡ running.attempt
+  pub class_is : committed.start.class ≡ class
+  pub ts_is : committed.start.ts ≡ running.ts
+  pub place_is : committed.place ≡ length (history before)
+  pub changes_are : committed.changes ≡ (effect g.catalogue (bases running.ts) running.text).changes
+
+abbrev pub told_by : Given → Bases → Running → Told
+told_by g bases a =
+    let e : Effect = effect g.catalogue (bases a.ts) a.text in
+    record { reply = e.reply; changes = e.changes; values = a.exchange.values; rows = a.exchange.rows }
+
+pub commit_of_log : (g : Given) (log later before : Log) (class : ℕ) (bases : Bases) (running : Running) → IsSound g.catalogue
+    → IsPermitted g log → log ≡ later ++ Does (home g.catalogue class) (commit_act g.catalogue bases class running) ∷ before
+    → active (home_setting g class) class (at_home g class before) ≡ Some running → IsCommitOfLog g log class bases running before
+commit_of_log g log later before class bases running sound h is active_is =
+    let act : Act = commit_act g.catalogue bases class running in
+    let told : Told = told_by g bases running in
+    let now : IsPermitted g (Does (home g.catalogue class) act ∷ before) =
+    permitted_before g later (Does (home g.catalogue class) act ∷ before) (subst (IsPermitted g) is h) in
+    let small = home_small g.catalogue sound class in
+    let x : IsCommitIn g log running.txn running.attempt (length (history before)) told =
+    record {
+      class = class;
+      later = later;
+      sends = sends_of_act act;
+      before = before;
+      is = is;
+      place_is = refl;
+      permitted = now;
+      says = says_at g class before act now (omega arith);
+    } in
+    let b = begun g log running.txn running.attempt (length (history before)) told x in
+    let same : x.says.now ≡ running = one_active (home_setting g class) class (at_home g class before) x.says.now running x.says.active_is active_is in
+    let there : Stands (history log) (length (history before)) (commit_rec running.txn running.attempt told) = subst (λ l. Stands (history l) (length (history before)) (commit_rec running.txn running.attempt told)) (sym is) (stands_there later (Does (home g.catalogue class) act) before (commit_rec running.txn running.attempt told) refl) in
+    let named : Stands (history log) (length (history before)) (commit_rec b.attempt.txn b.attempt.number told) = subst (λ n. Stands (history log) (length (history before)) (commit_rec b.attempt.txn n told)) (sym b.number_is) (subst (λ n. Stands (history log) (length (history before)) (commit_rec n running.attempt told)) (sym b.txn_is) there) in
+    record {
+      committed = record { start = b.attempt; reply = told.reply; changes = told.changes; values = told.values; rows = told.rows; place = length (history before) };
+      is_committed = record { started = b.started; committed = named };
+      txn_is = b.txn_is;
+      number_is = b.number_is;
+      class_is = b.class_is;
+      ts_is = b.ts_is ∙ ap (λ (y : Running). y.ts) same;
+      place_is = refl;
+      changes_are = refl;
+    }

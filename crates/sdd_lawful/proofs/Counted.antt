@@ -1,0 +1,190 @@
+-- How many Starts of a transaction a history has is how often the site that runs its class started it.
+use Rattle.std.specs.Prelude.{filter}
+use Rattle.std.proofs.Common.{ℕ, suc, ◌&&◌, ◌++◌, ◌+◌, ◌==◌, ◌∙◌, ◌∷◌, ◌≡◌, Bool, List, None, Option, Some, [], ap, append_assoc, arith, cond, false, if◌then◌else◌, inl, inr, length, length-append, refl, subst, sym, take, true}
+use Rattle.std.proofs.lemmas.Bool.{eqb-true}
+use Rattle.std.proofs.lemmas.List.Elements.{filter-append}
+use Rattle.sdd_base.specs.Sites.{same_site}
+use Rattle.sdd_base.specs.declared.event.Event.TheVariants.{Deliver, Down, Lose, Redeclare, Repeat, Resend, Settle, Submit, Tick, Up}
+use Rattle.sdd_base.specs.declared.number.TxnNo.{TxnNo}
+use Rattle.sdd_base.specs.declared.site.Site.{Site}
+use Rattle.sdd_base.specs.declared.site.Site.TheVariants.{D, T, U}
+use Rattle.sdd_catalog.specs.Rules.{IsSound}
+use Rattle.sdd_history.specs.declared.record.Rec.{Rec}
+use Rattle.sdd_history.specs.declared.record.Rec.TheVariants.{Commit, Start}
+use Rattle.sdd_history.specs.Records.{History}
+use Rattle.sdd_lang.specs.declared.transaction.Txn.{Txn}
+use Rattle.sdd_wire.specs.declared.msg.Msg.{Msg}
+use Rattle.sdd_module.specs.SiteLog.{Did, Force, Handed, Log as SiteLog, Records, Redeclared, Sends, Submits, Ticked}
+use Rattle.sdd_module.specs.SiteLog as site
+use Rattle.sdd_log.specs.Entries.{Does, Entry, Given, Hand, Log, Mark, Notes, Redeclares, Round, Submitted, history, marks}
+use Rattle.sdd_log.specs.Locals.{force_at, local_of, redeclares, txn_at, with_force, with_submit}
+use Rattle.sdd_log.specs.Permitted.{IsPermitted}
+use Rattle.sdd_laws.specs.Starts.{is_start_of, starts_before}
+use Rattle.sdd_order.specs.Attempts.{Attempt, IsAttempt}
+use Rattle.sdd_invariants.proofs.Bools.{if_way, same_number, same_or_not}
+use Rattle.sdd_invariants.proofs.Sites.{site_self}
+use Rattle.sdd_invariants.specs.Steps.{home, starts_of}
+use Rattle.sdd_lawful.specs.Made.{record_of}
+use Rattle.sdd_lawful.proofs.Classes.{IsGivenTo, at_home, one_class}
+use Rattle.sdd_lawful.proofs.Places.{history_before, history_step, recorded}
+use Rattle.sdd_lawful.proofs.Started.{attempt_from, given_of_attempt, start_act_of, start_at_entry, start_in}
+
+-- how many Starts of transaction n
+
+abbrev starts_in : ℕ → History → ℕ
+starts_in n h = length (filter (λ e. is_start_of n e.1) h)
+
+abbrev one_of : Bool → ℕ
+one_of b = cond b 1 0
+
+abbrev one_by : ℕ → Option Rec → ℕ
+one_by n None = 0
+one_by n (Some r) = one_of (is_start_of n r)
+
+abbrev made : ℕ → Rec → ℕ × Rec
+made k r = (k, r)
+
+one_in : (n k : ℕ) (r : Rec) → starts_in n (made k r ∷ []) ≡ one_of (is_start_of n r)
+one_in n k r = elim (is_start_of n r) as (λ b. length (cond b (made k r ∷ []) []) ≡ one_of b) [ true ↦ refl | false ↦ refl ]
+
+recorded_in : (n k : ℕ) (o : Option Rec) → starts_in n (recorded k o) ≡ one_by n o
+recorded_in n k None = refl
+recorded_in n k (Some r) = one_in n k r
+
+counts_step : (n : ℕ) (e : Entry) (log : Log) → starts_in n (history (e ∷ log)) ≡ starts_in n (history log) + one_by n (record_of e)
+counts_step n e log =
+    ap (starts_in n) (history_step e log)
+    ∙ ap length (filter-append (λ (x : ℕ × Rec). is_start_of n x.1) (history log) (recorded (marks log) (record_of e)))
+    ∙ length-append (filter (λ (x : ℕ × Rec). is_start_of n x.1) (history log)) _
+    ∙ ap (λ x. starts_in n (history log) + x) (recorded_in n (marks log) (record_of e))
+
+-- what the log of a site counts
+
+abbrev HasCount : ℕ → ℕ → ℕ → SiteLog → Type 0
+HasCount c n x l = starts_of c n l ≡ x
+
+count_if : (c n x : ℕ) (b : Bool) (e : site.Entry) (l : SiteLog) → starts_of c n (e ∷ l) ≡ starts_of c n l → starts_of c n l ≡ x
+    → starts_of c n (if b then e ∷ l else l) ≡ x + 0
+count_if c n x b e l f g = let h = if_way (HasCount c n x) b (e ∷ l) l (f ∙ g) g in omega arith
+
+plus_none : (x y : ℕ) → x ≡ y → x ≡ y + 0
+plus_none x y e = omega arith
+
+count_submit : (c n x k : ℕ) (o : Option Txn) (l : SiteLog) → starts_of c n l ≡ x → starts_of c n (with_submit k o l) ≡ x
+count_submit c n x k None l e = e
+count_submit c n x k (Some t) l e = e
+
+count_force : (c n x : ℕ) (at : Site) (force : Force) (t : ℕ) (l : SiteLog) → starts_of c n l ≡ x → starts_of c n (with_force at force t l) ≡ x
+count_force c n x U force t l e = e
+count_force c n x (T k) force t l e = e
+count_force c n x (D d) force t l e = e
+
+count_first : (g : Given) (c n : ℕ) (at : Site) → starts_of c n (local_of g at []) ≡ 0
+count_first g c n U = refl
+count_first g c n (T t) = refl
+count_first g c n (D d) = refl
+
+-- a Start of the transaction, which is of the class; of another transaction it counts for neither
+abbrev IsOwnStart : Given → ℕ → ℕ → Site → ℕ → Rec → Type 0
+IsOwnStart g c n at k r = is_start_of n r ≡ true → (at ≡ home g.catalogue c) × (k ≡ c)
+
+count_other : (c n k x : ℕ) (txn : TxnNo) → (txn.0 == n) ≡ false → ((k == c) && (n == txn.0)) ≡ false
+count_other c n k x txn e =
+    let f : (n == txn.0) ≡ false = elim (same_or_not n txn.0) [
+      | inl p ↦ (let q : (txn.0 == n) ≡ true = ap (λ y. y == n) (sym p) ∙ same_number n in let z : true ≡ false = sym q ∙ e in cc)
+      | inr p ↦ p
+    ] in
+    elim (k == c) as (λ b. (b && (n == txn.0)) ≡ false) [ true ↦ f | false ↦ refl ]
+
+count_act : (g : Given) (c n x : ℕ) (at : Site) (k : ℕ) (r : Rec) (sends : List (Site × Msg)) (l : SiteLog)
+    → IsOwnStart g c n at k r → starts_of c n l ≡ x
+    → starts_of c n (if same_site (home g.catalogue c) at then Did (Records k r sends) ∷ l else l) ≡ x + one_of (is_start_of n r)
+count_act g c n x at k (Start txn attempt class ts p2 uses) sends l own e = elim (same_or_not txn.0 n) [
+  | inl p ↦ (let q : (txn.0 == n) ≡ true = ap (λ y. y == n) p ∙ same_number n in
+      let i = own q in
+      let s : same_site (home g.catalogue c) at ≡ true = ap (same_site (home g.catalogue c)) i.0 ∙ site_self (home g.catalogue c) in
+      let a : (k == c) ≡ true = ap (λ y. y == c) i.1 ∙ same_number c in
+      let b : (n == txn.0) ≡ true = ap (λ y. n == y) p ∙ same_number n in
+      rw (s, a, b, q) (let f = ap suc e in omega arith))
+  | inr p ↦ rw p (count_if c n x (same_site (home g.catalogue c) at) (Did (Records k (Start txn attempt class ts p2 uses) sends)) l (rw (count_other c n k x txn p) refl) e)
+]
+count_act g c n x at k (Commit txn attempt reply changes values rows) sends l own e =
+    count_if c n x (same_site (home g.catalogue c) at) (Did (Records k (Commit txn attempt reply changes values rows) sends)) l refl e
+count_act g c n x at k r sends l own e = count_if c n x (same_site (home g.catalogue c) at) (Did (Records k r sends)) l refl e
+
+abbrev IsOwnEntry : Given → ℕ → ℕ → Entry → Type 0
+IsOwnEntry g c n (Does at (Records k r sends)) = IsOwnStart g c n at k r
+IsOwnEntry g c n _ = Unit {0}
+
+count_entry : (g : Given) (c n x : ℕ) (e : Entry) (log : Log) → IsOwnEntry g c n e → starts_of c n (at_home g c log) ≡ x
+    → starts_of c n (at_home g c (e ∷ log)) ≡ x + one_by n (record_of e)
+count_entry g c n x (Mark (Tick t k)) log own e =
+    count_if c n x (same_site (home g.catalogue c) (T t)) (Ticked k) (at_home g c log) refl e
+count_entry g c n x (Mark (Submit k)) log own e = plus_none _ x e
+count_entry g c n x (Mark (Deliver a b k)) log own e = plus_none _ x e
+count_entry g c n x (Mark (Lose a b k)) log own e = plus_none _ x e
+count_entry g c n x (Mark (Repeat a b k)) log own e = plus_none _ x e
+count_entry g c n x (Mark (Resend a b)) log own e = plus_none _ x e
+count_entry g c n x (Mark Settle) log own e = plus_none _ x e
+count_entry g c n x (Mark Redeclare) log own e = plus_none _ x e
+count_entry g c n x (Mark (Down d)) log own e = plus_none _ x e
+count_entry g c n x (Mark (Up d)) log own e = plus_none _ x e
+count_entry g c n x (Round es) log own e = plus_none _ x e
+count_entry g c n x (Redeclares t) log own e =
+    plus_none _ x (count_force c n x (home g.catalogue c) (force_at g (suc (redeclares log))) t (at_home g c log) e)
+count_entry g c n x (Hand from to k m) log own e =
+    count_if c n x (same_site (home g.catalogue c) to) (Handed from m) (at_home g c log) refl e
+count_entry g c n x (Submitted to k) log own e =
+    plus_none _ x (if_way (HasCount c n x) (same_site (home g.catalogue c) to) (with_submit k (txn_at g k) (at_home g c log)) (at_home g c log) (count_submit c n x k (txn_at g k) (at_home g c log) e) e)
+count_entry g c n x Notes log own e = plus_none _ x e
+count_entry g c n x (Does at (Records k r sends)) log own e = count_act g c n x at k r sends (at_home g c log) own e
+count_entry g c n x (Does at (Sends to m hand)) log own e =
+    count_if c n x (same_site (home g.catalogue c) at) (Did (Sends to m hand)) (at_home g c log) refl e
+
+abbrev AllOwn : Given → ℕ → ℕ → Log → Type 0
+AllOwn g c n [] = Unit {0}
+AllOwn g c n (e ∷ log) = IsOwnEntry g c n e × AllOwn g c n log
+
+pub counted : (g : Given) (c n : ℕ) (log : Log) → AllOwn g c n log → starts_in n (history log) ≡ starts_of c n (at_home g c log)
+counted g c n [] own = sym (count_first g c n (home g.catalogue c))
+counted g c n (e ∷ log) own =
+    let i = counted g c n log own.1 in
+    counts_step n e log ∙ sym (count_entry g c n (starts_in n (history log)) e log own.0 (sym i))
+
+-- every Start of a transaction in the log is of its class
+
+own_record : (g : Given) (full : Log) (c n : ℕ) (text : Txn) (later : Log) (at : Site) (k : ℕ) (r : Rec) (sends : List (Site × Msg)) (before : Log)
+    → IsSound g.catalogue → IsPermitted g full → IsGivenTo g full n c text
+    → full ≡ later ++ Does at (Records k r sends) ∷ before → IsOwnStart g c n at k r
+own_record g full c n text later at k (Start txn attempt class ts p2 uses) sends before sound h given is q =
+    let s = start_at_entry g full later at k txn attempt class ts p2 uses sends before sound h is in
+    let e : txn.0 ≡ n = eqb-true txn.0 n q in
+    let w = given_of_attempt g full (attempt_from txn attempt class ts p2 uses (length (history before))) s.0 in
+    let same : class.0 ≡ c = one_class g full n class.0 c s.0.says.text text h (subst (λ j. IsGivenTo g full j class.0 s.0.says.text) e w) given in
+    (s.2 ∙ ap (home g.catalogue) (s.1 ∙ same), s.1 ∙ same)
+own_record g full c n text later at k r sends before sound h given is q = cc
+
+own_entry : (g : Given) (full : Log) (c n : ℕ) (text : Txn) (later : Log) (e : Entry) (before : Log) → IsSound g.catalogue
+    → IsPermitted g full → IsGivenTo g full n c text → full ≡ later ++ e ∷ before → IsOwnEntry g c n e
+own_entry g full c n text later (Does at (Records k r sends)) before sound h given is =
+    own_record g full c n text later at k r sends before sound h given is
+own_entry g full c n text later (Does at (Sends to m hand)) before sound h given is = tt
+own_entry g full c n text later e before sound h given is = tt
+
+all_own : (g : Given) (full : Log) (c n : ℕ) (text : Txn) (later log : Log) → IsSound g.catalogue → IsPermitted g full
+    → IsGivenTo g full n c text → full ≡ later ++ log → AllOwn g c n log
+all_own g full c n text later [] sound h given is = tt
+all_own g full c n text later (e ∷ log) sound h given is =
+    (own_entry g full c n text later e log sound h given is, all_own g full c n text (later ++ e ∷ []) log sound h given (is ∙ sym (append_assoc later (e ∷ []) log)))
+
+-- an attempt's number counts the Starts of its transaction before it
+pub numbered : (g : Given) (log : Log) → IsSound g.catalogue → IsPermitted g log → (a : Attempt) → IsAttempt (history log) a
+    → a.number ≡ suc (starts_before (history log) a.txn a.place)
+numbered g log sound h a s =
+    let x = start_in g log a sound h s in
+    let act : Entry = Does (home g.catalogue a.class) (start_act_of a x.sends) in
+    let own = all_own g log a.class a.txn x.says.text (x.later ++ act ∷ []) x.before sound h (given_of_attempt g log a x) (x.is ∙ sym (append_assoc x.later (act ∷ []) x.before)) in
+    let count = counted g a.class a.txn x.before own in
+    let before = history_before log (x.later ++ act ∷ []) x.before (x.is ∙ sym (append_assoc x.later (act ∷ []) x.before)) in
+    let up_to : take a.place (history log) ≡ history x.before = subst (λ k. take k (history log) ≡ history x.before) x.place_is before in
+    x.says.attempt_is ∙ ap suc (sym count) ∙ ap (λ p. suc (starts_in a.txn p)) (sym up_to)

@@ -1,0 +1,172 @@
+-- What transactions use is there: relations, fragments, the modules that are asked, and what conditions name.
+use Rattle.std.specs.Prelude.{filter_map}
+use Rattle.std.specs.List.{AllByRecursion, list_any}
+use Rattle.std.specs.Option.{option_or}
+use Rattle.std.proofs.Common.{ℕ, suc, ◌&&◌, ◌+◌, ◌==◌, ◌||◌, ◌∷◌, ◌≡◌, ◌≤◌, Bool, List, None, Option, Some, [], ap, arith, false, inl, inr, length, map, refl, slice_get, subst, true}
+use Rattle.std.proofs.lemmas.List.Elements.{All-from_recursion, recursion_from_All}
+use Rattle.sdd_base.specs.Numbers.{frag_no}
+use Rattle.sdd_base.specs.Words.{ascending, contains}
+use Rattle.sdd_base.specs.declared.condition.Cond.{Cond}
+use Rattle.sdd_base.specs.declared.number.FragNo.{FragNo}
+use Rattle.sdd_base.specs.declared.number.RelNo.{RelNo}
+use Rattle.sdd_base.specs.declared.restriction.Restriction.{Restriction}
+use Rattle.sdd_base.specs.declared.usage.Use.{Use}
+use Rattle.sdd_catalog.specs.Catalogue.{Catalogue, numbers_to, reads_at}
+use Rattle.sdd_catalog.specs.Rules.{IsSound}
+use Rattle.sdd_catalog.proofs.Sound.{served_read}
+use Rattle.sdd_graph.specs.Graph.{classes_of, fragments_of}
+use Rattle.sdd_graph.specs.declared.edge.Edge.{Edge}
+use Rattle.sdd_graph.specs.declared.edge.Edge.TheVariants.{Diagonal, Horizontal, Vertical}
+use Rattle.sdd_lang.specs.declared.condition.Condition.{Condition}
+use Rattle.sdd_lang.specs.declared.statement.Stmt.{Stmt}
+use Rattle.sdd_lang.specs.declared.statement.Stmt.TheVariants.{Delete, Put, Query, Update}
+use Rattle.sdd_lang.specs.Classes.{fragments_in}
+use Rattle.sdd_lang.specs.Fits.{FitsStatement, IsRelation}
+use Rattle.sdd_lang.specs.Uses.{fragments_for, part_uses, restrictions_of, statement_uses, use_of, uses_from}
+use Rattle.sdd_lang.proofs.Sets.{IsThere, fragments_there}
+use Rattle.sdd_protocol.specs.Conditions.{asked_by, asked_in, asked_on, cond_for, cond_of, condition_on, is_asked, is_read_at}
+use Rattle.sdd_protocol.specs.Protocols.{same_protocol}
+use Rattle.sdd_protocol.specs.declared.entry.Entry as line
+use Rattle.sdd_protocol.specs.declared.protocol.Protocol.{Protocol}
+use Rattle.sdd_protocol.specs.declared.protocol.Protocol.TheVariants.{P2, P3}
+use Rattle.sdd_attempt.specs.Acts.{conditions_at, modules_of}
+use Rattle.sdd_order.specs.Numbers.{CondExists, IsFragment, IsModule, UseExists}
+use Rattle.sdd_invariants.proofs.Bools.{and_left, and_right, only_right, same_or_not, true_or_false}
+use Rattle.sdd_invariants.proofs.Lists.{in_mapped, in_range}
+use Rattle.sdd_lawful.proofs.Asked.{contains_at}
+use Rattle.sdd_lawful.proofs.Asks.{contains_either, from_ascending, number_member}
+use Rattle.sdd_lawful.proofs.Conditions.{in_filter_mapped, member_at}
+use Rattle.sdd_lawful.proofs.Valid.{all_join}
+
+-- uses
+
+all_numbers : (P : ℕ → Type 0) (fs : List FragNo) → AllByRecursion P (map (λ (f : FragNo). f.0) fs) → AllByRecursion (λ (f : FragNo). P f.0) fs
+all_numbers P [] h = tt
+all_numbers P (f ∷ fs) h = (h.0, all_numbers P fs h.1)
+
+use_exists : (cat : Catalogue) (n : ℕ) (rel : RelNo) (restrictions : List Restriction) → IsRelation cat rel.0 → UseExists cat (use_of cat n rel restrictions)
+use_exists cat n rel restrictions h =
+    (h, All-from_recursion (λ (f : FragNo). IsFragment cat f.0) (fragments_for cat rel.0 restrictions) (all_numbers (IsThere cat) (fragments_for cat rel.0 restrictions) (fragments_there cat rel.0 restrictions)))
+
+parts_exist : (cat : Catalogue) (before : ℕ) (conds : List Condition) (part : ℕ) (rels : List RelNo) → AllByRecursion (λ (rel : RelNo). IsRelation cat rel.0) rels
+    → AllByRecursion (UseExists cat) (part_uses cat before conds part rels)
+parts_exist cat before conds part [] h = tt
+parts_exist cat before conds part (rel ∷ rels) h =
+    (use_exists cat (before + part) rel (restrictions_of part conds) h.0, parts_exist cat before conds (part + 1) rels h.1)
+
+statement_exists : (cat : Catalogue) (before : ℕ) (s : Stmt) → FitsStatement cat s → AllByRecursion (UseExists cat) (statement_uses cat before s)
+statement_exists cat before (Put rel row) h = tt
+statement_exists cat before (Query out rels conds) h = parts_exist cat before conds 1 rels (recursion_from_All (λ (rel : RelNo). IsRelation cat rel.0) rels h.1)
+statement_exists cat before (Update rel sets conds) h = parts_exist cat before conds 1 (rel ∷ []) (h.0, tt)
+statement_exists cat before (Delete rel conds) h = parts_exist cat before conds 1 (rel ∷ []) (h.0, tt)
+
+pub uses_exist : (cat : Catalogue) (before : ℕ) (statements : List Stmt) → AllByRecursion (FitsStatement cat) statements
+    → AllByRecursion (UseExists cat) (uses_from cat before statements)
+uses_exist cat before [] h = tt
+uses_exist cat before (s ∷ rest) h =
+    all_join (UseExists cat) (statement_uses cat before s) (uses_from cat (before + length (statement_uses cat before s)) rest) (statement_exists cat before s h.0) (uses_exist cat (before + length (statement_uses cat before s)) rest h.1)
+
+-- the fragments of uses
+
+each_frag : (cat : Catalogue) (fs : List FragNo) (f : ℕ) → AllByRecursion (λ (g : FragNo). IsFragment cat g.0) fs → contains (map (λ (g : FragNo). g.0) fs) f ≡ true → IsFragment cat f
+each_frag cat [] f h e = cc
+each_frag cat (g ∷ fs) f h e = elim (same_or_not g.0 f) [
+  | inl p ↦ subst (IsFragment cat) p h.0
+  | inr p ↦ each_frag cat fs f h.1 (only_right (g.0 == f) (contains (map (λ (g : FragNo). g.0) fs) f) p e)
+]
+
+pub fragment_exists : (cat : Catalogue) (us : List Use) (f : ℕ) → AllByRecursion (UseExists cat) us → contains (fragments_in us) f ≡ true → IsFragment cat f
+fragment_exists cat [] f h e = cc
+fragment_exists cat (u ∷ us) f h e = elim (contains_either (map (λ (g : FragNo). g.0) u.frags) (fragments_in us) f e) [
+  | inl p ↦ each_frag cat u.frags f (recursion_from_All (λ (g : FragNo). IsFragment cat g.0) u.frags h.0.1) p
+  | inr p ↦ fragment_exists cat us f h.1 p
+]
+
+-- the modules that are asked
+
+numbers_within : (n d : ℕ) → contains (numbers_to n) d ≡ true → (1 ≤ d) × (d ≤ n)
+numbers_within n d e =
+    let m = member_at (numbers_to n) d (number_member (numbers_to n) d e) in
+    let r = in_range 1 n m.0 d m.1 in let hi = r.1 in (r.0, omega arith)
+
+pub module_exists : (cat : Catalogue) → IsSound cat → (c : ℕ) (us : List Use) (d : ℕ) → c ≤ length cat.classes → AllByRecursion (UseExists cat) us
+    → contains (modules_of cat c (ascending (fragments_in us))) d ≡ true → IsModule cat d
+module_exists cat sound c us d within exist e = elim (same_or_not c 0) [
+  | inl p ↦ (let q : (c == 0) ≡ true = ap (λ y. y == 0) p in numbers_within cat.dms d (rw q at e))
+  | inr p ↦ (let fs : List ℕ = ascending (fragments_in us) in
+      let all : contains (ascending (filter_map (reads_at cat c) fs)) d ≡ true = rw p at e in
+      let there = from_ascending (filter_map (reads_at cat c) fs) d (number_member (ascending (filter_map (reads_at cat c) fs)) d all) in
+      let m = member_at (filter_map (reads_at cat c) fs) d (number_member (filter_map (reads_at cat c) fs) d there) in
+      let x = in_filter_mapped (reads_at cat c) fs m.0 d m.1 in
+      let f = fragment_exists cat us x.1 exist (from_ascending (fragments_in us) x.1 (number_member fs x.1 (contains_at fs x.0 x.1 x.2))) in
+      let s = served_read cat c x.1 d sound within f.0 f.1 x.3 in
+      (s.module_from, s.module_to))
+]
+
+-- what conditions name
+
+named : (frags : List ℕ) (f : ℕ) → list_any (λ (g : FragNo). g.0 == f) (map frag_no frags) ≡ true → contains frags f ≡ true
+named [] f e = e
+named (g ∷ frags) f e =
+    elim (g == f) as (λ b. (b || list_any (λ (g : FragNo). g.0 == f) (map frag_no frags)) ≡ true → (b || contains frags f) ≡ true) [ true ↦ λ h. refl | false ↦ λ h. named frags f h ] e
+
+by_place : (cat : Catalogue) (fs : List FragNo) → ((k : ℕ) (f : FragNo) → slice_get fs k ≡ Some f → IsFragment cat f.0) → AllByRecursion (λ (f : FragNo). IsFragment cat f.0) fs
+by_place cat [] h = tt
+by_place cat (f ∷ fs) h = (h 0 f refl, by_place cat fs (λ k g e. h (suc k) g e))
+
+asked_edge : (p : ℕ → Bool) (i j : ℕ) (e : Edge) (f : FragNo) → asked_on p i j e ≡ Some f → p f.0 ≡ true
+asked_edge p i j (Vertical c) f e = cc
+asked_edge p i j (Horizontal c d) f e = cc
+asked_edge p i j (Diagonal reader writer g) f e =
+    elim (true_or_false ((reader.0 == i) && ((writer.0 == j) && p g.0))) [
+      | inl t ↦ (let q : Some g ≡ Some f = rw t at e in let r : g ≡ f = cc in
+          subst (λ (z : FragNo). p z.0 ≡ true) r (and_right (writer.0 == j) (p g.0) (and_right (reader.0 == i) ((writer.0 == j) && p g.0) t)))
+      | inr t ↦ (let q : None ≡ Some f = rw t at e in cc)
+    ]
+
+asked_entry : (protocol : Protocol) (p : ℕ → Bool) (i j : ℕ) (e : line.Entry) (f : FragNo) → asked_in protocol p i j e ≡ Some f → p f.0 ≡ true
+asked_entry protocol p i j e f h = elim (true_or_false (same_protocol e.protocol protocol)) [
+  | inl t ↦ asked_edge p i j e.edge f (rw t at h)
+  | inr t ↦ (let q : None ≡ Some f = rw t at h in cc)
+]
+
+pub asked_exist : (cat : Catalogue) (c d : ℕ) (frags : List ℕ) (protocol : Protocol) (table : List line.Entry) (i j : ℕ) → ((f : ℕ) → contains frags f ≡ true → IsFragment cat f)
+    → AllByRecursion (λ (f : FragNo). IsFragment cat f.0) (asked_by protocol (is_asked cat c d (map frag_no frags)) table i j)
+asked_exist cat c d frags protocol table i j h =
+    by_place cat (asked_by protocol (is_asked cat c d (map frag_no frags)) table i j) (λ k f e.
+    let x = in_filter_mapped (asked_in protocol (is_asked cat c d (map frag_no frags)) i j) table k f e in
+    let t = asked_entry protocol (is_asked cat c d (map frag_no frags)) i j x.1 f x.3 in
+    h f.0 (named frags f.0 (and_left (list_any (λ (g : FragNo). g.0 == f.0) (map frag_no frags)) (is_read_at cat c d f.0) t)))
+
+cond_for_exists : (cat : Catalogue) (j time : ℕ) (fs : List FragNo) (q : Cond) → j ≤ length cat.classes → AllByRecursion (λ (f : FragNo). IsFragment cat f.0) fs
+    → cond_for j time fs ≡ Some q → CondExists cat q
+cond_for_exists cat j time [] q c h e = cc
+cond_for_exists cat j time (f ∷ fs) q c h e =
+    let p : cond_of j time (f ∷ fs) ≡ q = cc in
+    subst (CondExists cat) p (c, All-from_recursion (λ (f : FragNo). IsFragment cat f.0) (f ∷ fs) h)
+
+either_exists : (cat : Catalogue) (a b : Option Cond) (q : Cond) → ((x : Cond) → a ≡ Some x → CondExists cat x) → ((x : Cond) → b ≡ Some x → CondExists cat x)
+    → option_or a b ≡ Some q → CondExists cat q
+either_exists cat None b q f g e = g q e
+either_exists cat (Some x) b q f g e = f q e
+
+all_numbered : (cat : Catalogue) (ns : List ℕ) → ((k n : ℕ) → slice_get ns k ≡ Some n → IsFragment cat n) → AllByRecursion (λ (f : FragNo). IsFragment cat f.0) (map frag_no ns)
+all_numbered cat [] h = tt
+all_numbered cat (n ∷ ns) h = (h 0 n refl, all_numbered cat ns (λ k m e. h (suc k) m e))
+
+pub cond_exists : (cat : Catalogue) (table : List line.Entry) (class : ℕ) (frags : List ℕ) (own p2 d k : ℕ) (q : Cond)
+    → ((f : ℕ) → contains frags f ≡ true → IsFragment cat f) → slice_get (conditions_at cat table class frags own p2 d) k ≡ Some q → CondExists cat q
+cond_exists cat table class frags own p2 d k q h e = elim (same_or_not class 0) [
+  | inl p ↦ (let i = in_mapped (λ j. cond_of j own (map frag_no (fragments_of cat))) (classes_of cat) k q (rw (ap (λ y. y == 0) p) at e) in
+      let r = in_range 1 (length cat.classes) k i.0 i.1 in
+      let high = r.1 in
+      let all = all_numbered cat (fragments_of cat) (λ n m f. let z = in_range 1 (length cat.fragments) n m f in let hi = z.1 in (z.0, omega arith)) in
+      subst (CondExists cat) i.2 (omega arith, All-from_recursion (λ (f : FragNo). IsFragment cat f.0) (map frag_no (fragments_of cat)) all))
+  | inr p ↦ (let i = in_filter_mapped (condition_on (is_asked cat class d (map frag_no frags)) table class own p2) (classes_of cat) k q (rw p at e) in
+      let r = in_range 1 (length cat.classes) i.0 i.1 i.2 in
+      let high = r.1 in
+      let within : i.1 ≤ length cat.classes = omega arith in
+      either_exists cat (cond_for i.1 own (asked_by P3 (is_asked cat class d (map frag_no frags)) table class i.1)) (cond_for i.1 p2 (asked_by P2 (is_asked cat class d (map frag_no frags)) table class i.1)) q
+      (λ x f. cond_for_exists cat i.1 own _ x within (asked_exist cat class d frags P3 table class i.1 h) f)
+      (λ x f. cond_for_exists cat i.1 p2 _ x within (asked_exist cat class d frags P2 table class i.1 h) f) i.3)
+]

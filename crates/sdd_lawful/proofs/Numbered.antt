@@ -1,0 +1,23 @@
+-- A lawful log submits only what its events submit.
+use Rattle.std.proofs.Common.{◌+◌, ◌++◌, ◌∷◌, ◌≡◌, ◌≤◌, [], ap, arith, refl, subst}
+use Rattle.std.proofs.lemmas.Bool.{eq-eqb}
+use Rattle.sdd_base.specs.declared.event.Event.TheVariants.{Submit}
+use Rattle.sdd_log.specs.Entries.{Given, Log, Mark}
+use Rattle.sdd_log.specs.Lawful.{IsLawful}
+use Rattle.sdd_log.specs.Marks.{left}
+use Rattle.sdd_log.specs.Permitted.{one_if, submits_by, submits_in}
+use Rattle.sdd_log.proofs.NewMarks.{left_is, marked}
+use Rattle.sdd_lawful.specs.Given.{AreNumbered, SubmitGiven}
+
+lawful_rest : (g : Given) (later log : Log) → IsLawful g (later ++ log) → IsLawful g log
+lawful_rest g [] log h = h
+lawful_rest g (e ∷ later) log h = lawful_rest g later log h.1
+
+pub lawful_numbered : (g : Given) (log : Log) → SubmitGiven g → IsLawful g log → AreNumbered g log
+lawful_numbered g log s h later before n is =
+    let l : IsLawful g (Mark (Submit n) ∷ before) = lawful_rest g later (Mark (Submit n) ∷ before) (subst (IsLawful g) is h) in
+    let i = left_is g n.0 (Mark (Submit n) ∷ before) l in
+    let all : (submits_by n.0 (Submit n) + marked n.0 before) + submits_in n.0 (left g.events (Mark (Submit n) ∷ before)).0 ≡ submits_in n.0 g.events = i.all in
+    let own : submits_by n.0 (Submit n) ≡ 1 = ap one_if (eq-eqb n.0 n.0 refl) in
+    let some : 1 ≤ submits_in n.0 g.events = omega arith in
+    s.given n.0 some

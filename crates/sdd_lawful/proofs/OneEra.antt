@@ -1,0 +1,71 @@
+-- A log in which no further list of classes was put in force has one era.
+use Rattle.std.specs.Prelude.{slice_index_or}
+use Rattle.std.proofs.Common.{ℕ, suc, ◌++◌, ◌∙◌, ◌∷◌, ◌≡◌, nat_le, ◌-◌, Some, [], ap, arith, cond, false, inl, inr, length, refl, slice_get, subst, sym, true, zero}
+use Rattle.std.proofs.lemmas.Bool.Decides.{nat_tests}
+use Rattle.sdd_catalog.specs.Catalogue.{Catalogue}
+use Rattle.sdd_history.specs.Records.{History}
+use Rattle.sdd_log.specs.Entries.{Does, Given, Hand, Log, Mark, Notes, Redeclares, Round, Submitted, marks}
+use Rattle.sdd_log.specs.Locals.{IsForce, force_at, redeclares}
+use Rattle.sdd_eras.specs.EraOf.{IsEraOf}
+use Rattle.sdd_eras.proofs.EraSets.{era_of_itself}
+use Rattle.sdd_laws.specs.Eras.{AreEras, begun, in_force}
+use Rattle.sdd_laws.specs.Redeclares.{IsOfEarlierEra, KeepsEras}
+use Rattle.sdd_order.specs.Attempts.{Committed}
+use Rattle.sdd_order.specs.Places.{event_at}
+use Rattle.sdd_invariants.proofs.Bools.{true_or_false}
+use Rattle.sdd_lawful.specs.Given.{AreErasOf, one_era}
+
+each_era : (cat : Catalogue) (k : ℕ) (a : ℕ × Catalogue) → slice_get (one_era cat) k ≡ Some a → IsEraOf cat a.1
+each_era cat zero a e = let p : (0, cat) ≡ a = cc in subst (λ (x : ℕ × Catalogue). IsEraOf cat x.1) p (era_of_itself cat)
+each_era cat (suc k) a e = cc
+
+no_next : {A : Type 0} (cat : Catalogue) (k : ℕ) (b : ℕ × Catalogue) → slice_get (one_era cat) (suc k) ≡ Some b → A
+no_next cat k b e = cc
+
+are_eras : (cat : Catalogue) → AreEras cat (one_era cat)
+are_eras cat = record { first = (cat, refl); rise = λ k a b e f. no_next cat k b f; each = each_era cat }
+
+in_one : (cat : Catalogue) (event : ℕ) → in_force cat (one_era cat) event ≡ cat
+in_one cat event =
+    elim (nat_le 0 event) as (λ b. (slice_index_or (one_era cat) (length (cond b (one_era cat) []) - 1) (0, cat)).1 ≡ cat) [ true ↦ refl | false ↦ refl ]
+
+none_before : (later before : Log) → redeclares (later ++ before) ≡ 0 → redeclares before ≡ 0
+none_before [] before e = e
+none_before (Mark x ∷ later) before e = none_before later before e
+none_before (Round es ∷ later) before e = none_before later before e
+none_before (Redeclares t ∷ later) before e = absurd (omega arith)
+none_before (Hand a b n m ∷ later) before e = none_before later before e
+none_before (Submitted at n ∷ later) before e = none_before later before e
+none_before (Notes ∷ later) before e = none_before later before e
+none_before (Does at act ∷ later) before e = none_before later before e
+
+pub of_one_era : (g : Given) (log : Log) → IsForce (force_at g 0) → (force_at g 0).catalogue ≡ g.catalogue → redeclares log ≡ 0
+    → AreErasOf g log (one_era g.catalogue)
+of_one_era g log force same none = record {
+  are_eras = are_eras g.catalogue;
+  force_is = λ later before is.
+      let z = none_before later before (ap redeclares (sym is) ∙ none) in
+      in_one g.catalogue (marks before) ∙ sym same ∙ ap (λ k. (force_at g k).catalogue) (sym z);
+  tabled = λ later before is.
+      let z = none_before later before (ap redeclares (sym is) ∙ none) in
+      subst (λ k. IsForce (force_at g k)) (sym z) force;
+}
+
+begun_one : (cat : Catalogue) (event : ℕ) → begun (one_era cat) event ≡ 1
+begun_one cat event = elim (true_or_false (nat_le 0 event)) [
+  | inl p ↦ rw p refl
+  | inr p ↦ absurd (grind (arith, nat_tests))
+]
+
+no_earlier : {A : Type 0} (cat : Catalogue) (h : History) (x y : Committed) → IsOfEarlierEra (one_era cat) h x y → A
+no_earlier cat h x y e =
+    let a = begun_one cat (event_at h e.first_place) in let b = begun_one cat (event_at h e.second_place) in let l = e.earlier in
+    absurd (omega arith)
+
+pub keeps_eras : (cat : Catalogue) (h : History) → KeepsEras cat (one_era cat) h
+keeps_eras cat h = record {
+  times_rise = λ x y e. no_earlier cat h x y e;
+  committed = λ x y a e s t. no_earlier cat h x y e;
+  applied = λ x y a d e s t goes. no_earlier cat h x y e;
+  one_era = λ a k s t. begun_one cat (event_at h k) ∙ sym (begun_one cat (event_at h a.place));
+}

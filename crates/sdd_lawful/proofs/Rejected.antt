@@ -1,0 +1,168 @@
+-- A Reject of a data module: the condition that was spoilt, and the WRITE that spoilt it.
+use Rattle.std.specs.Prelude.{filter}
+use Rattle.std.specs.List.{list_any}
+use Rattle.std.proofs.Common.{ℕ, ◌++◌, ◌==◌, ◌||◌, ◌∙◌, ◌∷◌, ◌≡◌, ◌≤◌, Bool, List, Some, [], ap, false, map, refl, slice_get, subst, sym, true}
+use Rattle.sdd_base.specs.Numbers.{time_at, txn_no}
+use Rattle.sdd_base.specs.Words.{contains, head_of}
+use Rattle.sdd_base.specs.declared.change.Change.{Change}
+use Rattle.sdd_base.specs.declared.condition.Cond.{Cond}
+use Rattle.sdd_base.specs.declared.number.ClassNo.{ClassNo}
+use Rattle.sdd_base.specs.declared.number.DmNo.{DmNo}
+use Rattle.sdd_base.specs.declared.number.FragNo.{FragNo}
+use Rattle.sdd_base.specs.declared.number.Ts.{Ts}
+use Rattle.sdd_base.specs.declared.number.TxnNo.{TxnNo}
+use Rattle.sdd_base.specs.declared.site.Site.{Site}
+use Rattle.sdd_base.specs.declared.site.Site.TheVariants.{D}
+use Rattle.sdd_base.specs.declared.usage.Use.{Use}
+use Rattle.sdd_history.specs.declared.record.Rec.{Rec}
+use Rattle.sdd_history.specs.declared.record.Rec.TheVariants.{Reject as Rejected}
+use Rattle.sdd_wire.specs.declared.msg.Msg.{Msg}
+use Rattle.sdd_wire.specs.declared.msg.Msg.TheVariants.{Read, Write}
+use Rattle.sdd_module.specs.SiteLog.{Bases, Records, Setting, sends_of_act}
+use Rattle.sdd_module.specs.SiteLog as site
+use Rattle.sdd_attempt.specs.Acts.{commit_act}
+use Rattle.sdd_attempt.specs.Attempts.{Attempt as Running, active}
+use Rattle.sdd_dm.specs.Due.{last_write_for, or_zero, spoils}
+use Rattle.sdd_dm.specs.Pipes.{is_processing, pipe, waits}
+use Rattle.sdd_dm.specs.Views.{View, view_of}
+use Rattle.sdd_pipe.specs.Pipe.{head, touches}
+use Rattle.sdd_log.specs.Entries.{Does, Given, Log}
+use Rattle.sdd_log.specs.Locals.{local_of, setting_of}
+use Rattle.sdd_log.specs.Permitted.{IsPermitted}
+use Rattle.sdd_invariants.specs.Puts.{IsWrite}
+use Rattle.sdd_laws.specs.Deeds.{ChangesOne}
+use Rattle.sdd_order.specs.Attempts.{Committed}
+use Rattle.sdd_invariants.proofs.Processed.{matched, zip_at}
+use Rattle.sdd_invariants.proofs.Again.{is_spoilt}
+use Rattle.sdd_invariants.proofs.Installed.{class_number, commit_put_is, origin}
+use Rattle.sdd_invariants.proofs.InPipe.{in_pipe}
+use Rattle.sdd_invariants.proofs.Split.{processed_stays}
+use Rattle.sdd_invariants.specs.Seen.{IsApplied, changes_to, class_puts}
+use Rattle.sdd_invariants.proofs.Bools.{not_both, same_number}
+use Rattle.sdd_invariants.proofs.Lists.{any_at, in_filtered}
+use Rattle.sdd_invariants.specs.ReadSteps.{IsOf, IsOfWrite, IsReadStep, May, by_record, by_wait, in_passing, results, spoiler}
+use Rattle.sdd_invariants.specs.Steps.{changes_at, home}
+use Rattle.sdd_invariants.specs.Traffic.{to_site}
+use Rattle.sdd_invariants.proofs.Fair.{d_fair}
+use Rattle.sdd_lawful.proofs.Classes.{at_home, home_setting}
+use Rattle.sdd_lawful.proofs.Touched.{any_there}
+
+-- a Reject is of a READ at the head of its pipe, by its first condition that is spoilt
+
+pub record IsRejecting (v : View) (l : site.Log) (k : ℕ) (txn : TxnNo) (attempt : ℕ) (by : ClassNo) (write : Ts) : Type 0 where
+  pub ts : Ts
+  pub class : ClassNo
+  pub conds : List Cond
+  pub uses : List Use
+  pub head_is : head (pipe k l) ≡ Some (Read ts class txn attempt conds uses)
+  pub cond_by : Cond
+  pub spoiler_is : spoiler v conds ≡ Some cond_by
+  pub by_is : by ≡ cond_by.class
+  pub write_is : write.0 ≡ or_zero (last_write_for v cond_by)
+
+reject_may : (v : View) (l : site.Log) (k : ℕ) (w : Bool) (m : Msg) (r : Rec) (txn : TxnNo) (attempt : ℕ) (dm : DmNo) (by : ClassNo) (write : Ts)
+    → head (pipe k l) ≡ Some m → May v k w m r → r ≡ Rejected txn attempt dm by write → IsRejecting v l k txn attempt by write
+reject_may v l k w (Read t c n i ds us) (Rejected x y dm2 b2 w2) txn attempt dm by write top h e =
+    let a : x ≡ txn = cc in let b : y ≡ attempt = cc in let f : b2 ≡ by = cc in let g : w2 ≡ write = cc in
+    let p : n ≡ txn = ap (λ z. txn_no z) (sym h.0) ∙ a in
+    let q : i ≡ attempt = sym h.1 ∙ b in
+    record {
+      ts = t;
+      class = c;
+      conds = ds;
+      uses = us;
+      head_is = top ∙ ap (λ z. Some (Read t c z i ds us)) p ∙ ap (λ z. Some (Read t c txn z ds us)) q;
+      cond_by = h.3;
+      spoiler_is = h.4;
+      by_is = sym f ∙ h.5;
+      write_is = ap (λ (z : Ts). z.0) (sym g) ∙ h.6;
+    }
+reject_may v l k w m (Rejected x y dm2 b2 w2) txn attempt dm by write top h e = absurd h
+reject_may v l k w m r txn attempt dm by write top h e = cc
+
+pub rejecting : (s : Setting) (l : site.Log) (k : ℕ) (txn : TxnNo) (attempt : ℕ) (dm : DmNo) (by : ClassNo) (write : Ts) (sends : List (Site × Msg))
+    → IsReadStep s l (Records k (Rejected txn attempt dm by write) sends) → IsRejecting (view_of s l) l k txn attempt by write
+rejecting s l k txn attempt dm by write sends (in_passing e) = cc
+rejecting s l k txn attempt dm by write sends (by_wait j ds r ss lt p w i q e) =
+    let same : Rejected txn attempt dm by write ≡ r = cc in
+    let x : is_processing r ≡ true = ap is_processing (sym same) in absurd (not_both (is_processing r) x p)
+rejecting s l k txn attempt dm by write sends (by_record j m r ss lt p i may e) =
+    let same : Rejected txn attempt dm by write ≡ r = cc in
+    let at : k ≡ j = cc in
+    subst (λ y. IsRejecting (view_of s l) l y txn attempt by write) (sym at) (reject_may (view_of s l) l j (waits j l) m r txn attempt dm by write i may (sym same))
+
+first_there : (ds : List Cond) (d : Cond) → head_of ds ≡ Some d → slice_get ds 0 ≡ Some d
+first_there [] d e = cc
+first_there (x ∷ ds) d e = e
+
+pub first_of_filter : (f : Cond → Bool) (ds : List Cond) (d : Cond) → head_of (filter f ds) ≡ Some d
+    → (k : ℕ) × (slice_get ds k ≡ Some d) × (f d ≡ true)
+first_of_filter f ds d e = let i = in_filtered f ds 0 d (first_there (filter f ds) d e) in (i.1, i.2, i.0)
+
+-- the WRITE that spoilt a condition: its Commit, which changes one of the condition's fragments, and its Apply
+
+pub record IsSpoiler (g : Given) (log : Log) (d : DmNo) (q : Cond) (w : ℕ) : Type 0 where
+  pub later : Log
+  pub before : Log
+  pub bases : Bases
+  pub running : Running
+  pub is : log ≡ later ++ Does (home g.catalogue q.class.0) (commit_act g.catalogue bases q.class.0 running) ∷ before
+  pub active_is : active (home_setting g q.class.0) q.class.0 (at_home g q.class.0 before) ≡ Some running
+  pub ts_is : running.ts ≡ w
+  pub touching : touches q.frags (changes_to g bases running d) ≡ true
+  pub applied : IsApplied g log d q.class.0 running
+  pub at_least : q.time.0 ≤ w
+
+abbrev changes_in : Msg → List Change
+changes_in (Write ts class txn changes) = changes
+changes_in m = []
+
+pub spoilt_by : (g : Given) (log : Log) (d : DmNo) (q : Cond) → IsPermitted g log
+    → spoils (view_of (setting_of g (D d)) (local_of g (D d) log)) q ≡ true
+    → IsSpoiler g log d q (or_zero (last_write_for (view_of (setting_of g (D d)) (local_of g (D d) log)) q))
+spoilt_by g log d q h e =
+    let j : ℕ = q.class.0 in
+    let l : site.Log = local_of g (D d) log in
+    let z = is_spoilt (setting_of g (D d)) l q e in
+    let m : Msg = Write z.ts z.of z.txn z.changes in
+    let p = in_pipe g j d log h in
+    let there : slice_get (class_puts g j d log) z.place ≡ Some m = subst (λ ms. slice_get ms z.place ≡ Some m) (sym p.1) (processed_stays (pipe j l) p.0 z.place m z.there) in
+    let put = origin g j d log z.place m h there in
+    let c : z.of.0 ≡ j = class_number z.of.0 j z.ts.0 put.of_class in
+    let w : IsWrite (home_setting g j) (at_home g j put.before) put.act j z.ts.0 z.txn.0 = subst (λ k. IsWrite (home_setting g j) (at_home g j put.before) put.act k z.ts.0 z.txn.0) c put.by in
+    let sent : slice_get (to_site (D d) (sends_of_act (commit_act g.catalogue w.bases j w.attempt))) put.place ≡ Some m = subst (λ y. slice_get (to_site (D d) (sends_of_act y)) put.place ≡ Some m) w.act_is put.there in
+    let of = commit_put_is (home_setting g j) j w.bases w.attempt d put.place m sent in
+    let changes : z.changes ≡ changes_to g w.bases w.attempt d = ap changes_in of.0 in
+    let r = zip_at IsOf (results j l) (pipe j l).processed z.place m (matched (setting_of g (D d)) j l (d_fair g d log h)).matched z.there in
+    let is1 : IsOfWrite z.ts j z.txn.0 r.0 = subst (λ k. IsOfWrite z.ts k z.txn.0 r.0) c r.2 in
+    let is2 : IsOfWrite (time_at w.attempt.ts) j z.txn.0 r.0 = subst (λ t. IsOfWrite (time_at t) j z.txn.0 r.0) w.time_is is1 in
+    record {
+      later = put.later;
+      before = put.before;
+      bases = w.bases;
+      running = w.attempt;
+      is = put.is ∙ ap (λ y. put.later ++ Does (home g.catalogue j) y ∷ put.before) w.act_is;
+      active_is = w.active_is;
+      ts_is = sym w.time_is ∙ z.ts_is;
+      touching = subst (λ xs. touches q.frags xs ≡ true) changes z.touching;
+      applied = record { place = z.place; rec = r.0; there = r.1; is = subst (λ n. IsOfWrite (time_at w.attempt.ts) j n r.0) w.number_is is2 };
+      at_least = z.at_least;
+    }
+
+-- a WRITE that touches some fragments changes one of them
+
+named_back : (frags : List FragNo) (f : ℕ) → list_any (λ (g : FragNo). g.0 == f) frags ≡ true → contains (map (λ g. g.0) frags) f ≡ true
+named_back [] f e = e
+named_back (g ∷ frags) f e =
+    elim (g.0 == f) as (λ b. (b || list_any (λ (g : FragNo). g.0 == f) frags) ≡ true → (b || contains (map (λ g. g.0) frags) f) ≡ true) [ true ↦ λ h. refl | false ↦ λ h. named_back frags f h ] e
+
+pub touched_one : (g : Given) (t : Committed) (xs : List Change) (frags : List FragNo) (d : ℕ) → t.changes ≡ xs
+    → touches frags (changes_at g.catalogue d xs) ≡ true → ChangesOne t frags
+touched_one g t xs frags d same e =
+    let i = any_at (λ (x : Change). list_any (λ (f : FragNo). f.0 == x.frag.0) frags) (changes_at g.catalogue d xs) e in
+    let j = in_filtered _ xs i.0 i.1 i.2 in
+    record {
+      fragment = i.1.frag.0;
+      changed = subst (λ ys. list_any (λ (c : Change). c.frag.0 == i.1.frag.0) ys ≡ true) (sym same) (any_there (λ (c : Change). c.frag.0 == i.1.frag.0) xs j.1 i.1 j.2 (same_number i.1.frag.0));
+      named = named_back frags i.1.frag.0 i.3;
+    }

@@ -1,0 +1,179 @@
+-- What an attempt reads at a module is what the log of the module gives at its Answer.
+use Rattle.std.specs.List.{flat_map}
+use Rattle.std.proofs.Common.{ℕ, ◌++◌, ◌∙◌, ◌∷◌, ◌≡◌, ◌⊎◌, Bool, List, Option, Some, [], ap, append_assoc, false, inl, inr, length, refl, subst, sym, true}
+use Rattle.std.proofs.lemmas.Bool.{eqb-true}
+use Rattle.sdd_base.specs.Numbers.{class_no, dm_no, time_at, txn_no}
+use Rattle.sdd_base.specs.declared.condition.Cond.{Cond}
+use Rattle.sdd_base.specs.declared.number.ClassNo.{ClassNo}
+use Rattle.sdd_base.specs.declared.usage.Use.{Use}
+use Rattle.sdd_base.specs.declared.number.DmNo.{DmNo}
+use Rattle.sdd_base.specs.declared.number.Ts.{Ts}
+use Rattle.sdd_base.specs.declared.number.TxnNo.{TxnNo}
+use Rattle.sdd_base.specs.declared.site.Site.{Site}
+use Rattle.sdd_base.specs.declared.site.Site.TheVariants.{D}
+use Rattle.sdd_catalog.specs.Rules.{IsSound}
+use Rattle.sdd_history.specs.declared.record.Rec.{Rec}
+use Rattle.sdd_history.specs.declared.record.Rec.TheVariants.{Answer}
+use Rattle.sdd_wire.specs.declared.msg.Msg.{Msg}
+use Rattle.sdd_wire.specs.declared.msg.Msg.TheVariants.{Read}
+use Rattle.sdd_module.specs.SiteLog as site
+use Rattle.sdd_module.specs.SiteLog.{Act, Did, Handed, Log as SiteLog, Records, Redeclared, Sends, Setting, Submits, Ticked}
+use Rattle.sdd_dm.specs.Copies.{dated}
+use Rattle.sdd_dm.specs.Pipes.{pipe}
+use Rattle.sdd_pipe.specs.Pipe.{head}
+use Rattle.sdd_log.specs.Entries.{Does, Given, Log, history}
+use Rattle.sdd_log.specs.Locals.{local_of, setting_of}
+use Rattle.sdd_log.specs.Permitted.{IsPermitted}
+use Rattle.sdd_log.specs.Snapshots.{frags_asked, is_at, items_of, snapshots}
+use Rattle.sdd_log.proofs.EachLocal.{allowed_act}
+use Rattle.sdd_laws.specs.Deeds.{IsAnswered}
+use Rattle.sdd_laws.specs.Eras.{Eras}
+use Rattle.sdd_order.specs.Attempts.{Attempt, IsAttempt}
+use Rattle.sdd_order.specs.Places.{Stands}
+use Rattle.sdd_order.proofs.Places.{same_start}
+use Rattle.sdd_invariants.proofs.AreReadSteps.{d_step}
+use Rattle.sdd_invariants.proofs.Bools.{not_both, true_or_false}
+use Rattle.sdd_invariants.proofs.Made.{permitted_before, place_of_act}
+use Rattle.sdd_lawful.specs.Given.{AreErasOf}
+use Rattle.sdd_lawful.proofs.Answered.{IsAnswerIn, answer_head, answer_made, answer_rec, read_msg, read_of_some}
+use Rattle.sdd_lawful.proofs.Makers.{act_kind}
+use Rattle.sdd_lawful.proofs.Places.{one_entry, stands_there}
+use Rattle.sdd_lawful.proofs.Starts.{one_time}
+use Rattle.sdd_lawful.specs.Made.{IsMadeAt}
+
+-- the newest Answer to a READ with a timestamp, in the log of a module
+
+pub record HasSnapshot (s : Setting) (ts : ℕ) (l : SiteLog) : Type 0 where
+  pub later : SiteLog
+  pub class : ℕ
+  pub txn : TxnNo
+  pub attempt : ℕ
+  pub dm : DmNo
+  pub sends : List (Site × Msg)
+  pub before : SiteLog
+  pub is : l ≡ later ++ Did (Records class (Answer txn attempt dm) sends) ∷ before
+  pub at_time : is_at ts (head (pipe class before)) ≡ true
+  pub are : snapshots s ts l ≡ flat_map (items_of s.catalogue (dated s before)) (frags_asked (head (pipe class before)))
+
+abbrev NoAnswerAt : ℕ → SiteLog → Type 0
+NoAnswerAt ts l =
+    (later : SiteLog) (class : ℕ) (txn : TxnNo) (attempt : ℕ) (dm : DmNo) (sends : List (Site × Msg)) (before : SiteLog)
+    → l ≡ later ++ Did (Records class (Answer txn attempt dm) sends) ∷ before → is_at ts (head (pipe class before)) ≡ true → ⊥
+
+pub record HasNoSnapshot (s : Setting) (ts : ℕ) (l : SiteLog) : Type 0 where
+  pub are : snapshots s ts l ≡ []
+  pub none : NoAnswerAt ts l
+
+snapshot_past : (s : Setting) (ts : ℕ) (e : site.Entry) (l : SiteLog) → snapshots s ts (e ∷ l) ≡ snapshots s ts l → HasSnapshot s ts l
+    → HasSnapshot s ts (e ∷ l)
+snapshot_past s ts e l p i =
+    record { later = e ∷ i.later; class = i.class; txn = i.txn; attempt = i.attempt; dm = i.dm; sends = i.sends; before = i.before; is = ap (λ k. e ∷ k) i.is; at_time = i.at_time; are = p ∙ i.are }
+
+-- the entry in front isn't such an Answer
+abbrev IsNoAnswerAt : ℕ → site.Entry → SiteLog → Type 0
+IsNoAnswerAt ts e l =
+    (class : ℕ) (txn : TxnNo) (attempt : ℕ) (dm : DmNo) (sends : List (Site × Msg)) → e ≡ Did (Records class (Answer txn attempt dm) sends)
+    → is_at ts (head (pipe class l)) ≡ true → ⊥
+
+none_split : (ts : ℕ) (e : site.Entry) (l : SiteLog) → IsNoAnswerAt ts e l → NoAnswerAt ts l → NoAnswerAt ts (e ∷ l)
+none_split ts e l f n [] class txn attempt dm sends before is at =
+    let p : e ≡ Did (Records class (Answer txn attempt dm) sends) = cc in
+    let q : l ≡ before = cc in
+    f class txn attempt dm sends p (subst (λ k. is_at ts (head (pipe class k)) ≡ true) (sym q) at)
+none_split ts e l f n (y ∷ later) class txn attempt dm sends before is at =
+    let q : l ≡ later ++ Did (Records class (Answer txn attempt dm) sends) ∷ before = cc in
+    n later class txn attempt dm sends before q at
+
+none_empty : (ts : ℕ) → NoAnswerAt ts []
+none_empty ts [] class txn attempt dm sends before is at = cc
+none_empty ts (y ∷ later) class txn attempt dm sends before is at = cc
+
+abbrev Snapshot : Setting → ℕ → SiteLog → Type 0
+Snapshot s ts l = HasSnapshot s ts l ⊎ HasNoSnapshot s ts l
+
+snapshot_more : (s : Setting) (ts : ℕ) (e : site.Entry) (l : SiteLog) → snapshots s ts (e ∷ l) ≡ snapshots s ts l → IsNoAnswerAt ts e l → Snapshot s ts l
+    → Snapshot s ts (e ∷ l)
+snapshot_more s ts e l p f i = elim i [
+  | inl j ↦ inl (snapshot_past s ts e l p j)
+  | inr j ↦ inr (record { are = p ∙ j.are; none = none_split ts e l f j.none })
+]
+
+same_answer : (ts k class : ℕ) (r q : Rec) (ss sends : List (Site × Msg)) (l : SiteLog) → Did (Records k r ss) ≡ Did (Records class q sends)
+    → is_at ts (head (pipe class l)) ≡ true → is_at ts (head (pipe k l)) ≡ true
+same_answer ts k class r q ss sends l e h = let p : k ≡ class = cc in subst (λ c. is_at ts (head (pipe c l)) ≡ true) (sym p) h
+
+abbrev is_answer : Rec → Bool
+is_answer (Answer txn attempt dm) = true
+is_answer r = false
+
+abbrev is_record : site.Entry → Bool
+is_record (Did (Records k r sends)) = true
+is_record e = false
+
+pub snapshot_or : (s : Setting) (ts : ℕ) (l : SiteLog) → Snapshot s ts l
+snapshot_or s ts [] = inr (record { are = refl; none = none_empty ts })
+snapshot_or s ts (Did (Records k (Answer n i d) ss) ∷ l) = elim (true_or_false (is_at ts (head (pipe k l)))) [
+  | inl p ↦ inl (record { later = []; class = k; txn = n; attempt = i; dm = d; sends = ss; before = l; is = refl; at_time = p; are = rw p refl })
+  | inr p ↦ snapshot_more s ts (Did (Records k (Answer n i d) ss)) l (rw p refl) (λ class txn attempt dm sends e h. not_both (is_at ts (head (pipe k l))) (same_answer ts k class (Answer n i d) (Answer txn attempt dm) ss sends l e h) p) (snapshot_or s ts l)
+]
+snapshot_or s ts (Did (Records k r ss) ∷ l) =
+    snapshot_more s ts (Did (Records k r ss)) l refl (λ class txn attempt dm sends e h. let q : r ≡ Answer txn attempt dm = cc in let t : false ≡ true = ap is_answer q in cc) (snapshot_or s ts l)
+snapshot_or s ts (Did (Sends to m hand) ∷ l) =
+    snapshot_more s ts (Did (Sends to m hand)) l refl (λ class txn attempt dm sends e h. let t : false ≡ true = ap is_record e in cc) (snapshot_or s ts l)
+snapshot_or s ts (Handed from m ∷ l) =
+    snapshot_more s ts (Handed from m) l refl (λ class txn attempt dm sends e h. let t : false ≡ true = ap is_record e in cc) (snapshot_or s ts l)
+snapshot_or s ts (Ticked n ∷ l) =
+    snapshot_more s ts (Ticked n) l refl (λ class txn attempt dm sends e h. let t : false ≡ true = ap is_record e in cc) (snapshot_or s ts l)
+snapshot_or s ts (Submits n text ∷ l) =
+    snapshot_more s ts (Submits n text) l refl (λ class txn attempt dm sends e h. let t : false ≡ true = ap is_record e in cc) (snapshot_or s ts l)
+snapshot_or s ts (Redeclared force t ∷ l) =
+    snapshot_more s ts (Redeclared force t) l refl (λ class txn attempt dm sends e h. let t : false ≡ true = ap is_record e in cc) (snapshot_or s ts l)
+
+-- an Answer at a data module to a READ with an attempt's timestamp is that attempt's
+
+pub record IsTheAnswer (g : Given) (log : Log) (a : Attempt) (d k : ℕ) (l : SiteLog) : Type 0 where
+  pub place : ℕ
+  pub answered : IsAnswered (history log) a d place
+  pub class_is : k ≡ a.class
+  pub local_is : (w : IsAnswerIn g log a d place) → local_of g (D (dm_no d)) w.before ≡ l
+
+time_of_read : (ts : ℕ) (o : Option Msg) (t : Ts) (of : ClassNo) (txn : TxnNo) (i : ℕ) (ds : List Cond) (us : List Use) → o ≡ Some (Read t of txn i ds us)
+    → is_at ts o ≡ true → t.0 ≡ ts
+time_of_read ts o t of txn i ds us e h = eqb-true t.0 ts (subst (λ p. is_at ts p ≡ true) e h)
+
+same_time : (o : Option Msg) (t u : Ts) (of of2 : ClassNo) (txn txn2 : TxnNo) (i i2 : ℕ) (ds ds2 : List Cond) (us us2 : List Use)
+    → o ≡ Some (Read t of txn i ds us) → o ≡ Some (Read u of2 txn2 i2 ds2 us2) → t.0 ≡ u.0
+same_time o t u of of2 txn txn2 i i2 ds ds2 us us2 e f =
+    let p : Some (Read t of txn i ds us) ≡ Some (Read u of2 txn2 i2 ds2 us2) = sym e ∙ f in
+    let q : t ≡ u = cc in ap (λ (x : Ts). x.0) q
+
+pub the_answer : (g : Given) (log front part : Log) (eras : Eras) (a : Attempt) (d : ℕ) (later : SiteLog) (k : ℕ) (n : TxnNo) (i : ℕ) (dm : DmNo) (ss : List (Site × Msg)) (l : SiteLog)
+    → IsSound g.catalogue → IsPermitted g log → AreErasOf g log eras → IsAttempt (history log) a → log ≡ front ++ part
+    → local_of g (D (dm_no d)) part ≡ later ++ Did (Records k (Answer n i dm) ss) ∷ l → is_at a.ts (head (pipe k l)) ≡ true
+    → IsTheAnswer g log a d k l
+the_answer g log front part eras a d later k n i dm ss l sound h are s is split at =
+    let act : Act = Records k (Answer n i dm) ss in
+    let site_d : Site = D (dm_no d) in
+    let p = place_of_act g site_d part later act l split in
+    let whole : log ≡ (front ++ p.later) ++ Does site_d act ∷ p.rest = is ∙ ap (λ y. front ++ y) p.is ∙ sym (append_assoc front p.later (Does site_d act ∷ p.rest)) in
+    let now : IsPermitted g (Does site_d act ∷ p.rest) = permitted_before g (front ++ p.later) (Does site_d act ∷ p.rest) (subst (IsPermitted g) whole h) in
+    let st : Setting = setting_of g site_d in
+    let top = answer_head st (local_of g site_d p.rest) k n i dm ss (d_step st (local_of g site_d p.rest) act (allowed_act g p.rest (Does site_d act) now.0)) in
+    let r = read_of_some g log (front ++ p.later) p.rest (Does site_d act) k n.0 i d top.ts top.class top.conds top.uses now.1 whole top.is in
+    let at_rest : is_at a.ts (head (pipe k (local_of g site_d p.rest))) ≡ true = subst (λ y. is_at a.ts (head (pipe k y)) ≡ true) (sym p.local_is) at in
+    let t1 : top.ts.0 ≡ a.ts = time_of_read a.ts (head (pipe k (local_of g site_d p.rest))) top.ts top.class n i top.conds top.uses top.is at_rest in
+    let b : Attempt = r.attempt in
+    let read_b : head (pipe k (local_of g site_d p.rest)) ≡ Some (read_msg b r.read.conds r.read.uses) = subst (λ c. head (pipe c (local_of g site_d p.rest)) ≡ Some (read_msg b r.read.conds r.read.uses)) r.class_is r.read.head_is in
+    let t2 : b.ts ≡ top.ts.0 = same_time (head (pipe k (local_of g site_d p.rest))) (time_at b.ts) top.ts (class_no b.class) top.class (txn_no b.txn) n b.number i r.read.conds top.conds r.read.uses top.uses read_b top.is in
+    let place = one_time g log eras sound h are b a r.started s (t2 ∙ t1) in
+    let same = same_start (history log) b a r.started s place in
+    let module_is : dm ≡ dm_no d = act_kind g site_d act p.rest now in
+    let rec_is : Answer n i dm ≡ answer_rec a d = ap (λ y. Answer (txn_no y) i dm) (sym r.txn_is ∙ same.txn) ∙ ap (λ y. Answer (txn_no a.txn) y dm) (sym r.number_is ∙ same.number) ∙ ap (λ y. Answer (txn_no a.txn) a.number y) module_is in
+    let there : Stands (history log) (length (history p.rest)) (Answer n i dm) = subst (λ y. Stands (history y) (length (history p.rest)) (Answer n i dm)) (sym whole) (stands_there (front ++ p.later) (Does site_d act) p.rest (Answer n i dm) refl) in
+    let made : IsMadeAt log (length (history p.rest)) (Answer n i dm) = record { later = front ++ p.later; entry = Does site_d act; before = p.rest; is = whole; makes = refl; place_is = refl } in
+    record {
+      place = length (history p.rest);
+      answered = subst (Stands (history log) (length (history p.rest))) rec_is there;
+      class_is = sym r.class_is ∙ same.class;
+      local_is = λ w. ap (local_of g site_d) (one_entry log (length (history p.rest)) (answer_rec a d) (Answer n i dm) (answer_made g log a d (length (history p.rest)) w) made).0 ∙ p.local_is;
+    }

@@ -1,0 +1,185 @@
+-- The Starts of a history, as acts of the sites that run their classes.
+use Rattle.std.proofs.Common.{ℕ, ◌++◌, ◌∙◌, ◌∷◌, ◌≡◌, List, Option, Some, ap, arith, false, length, refl, subst, sym, true}
+use Rattle.sdd_base.specs.Numbers.{class_no, time_at, txn_no}
+use Rattle.sdd_base.specs.declared.number.ClassNo.{ClassNo}
+use Rattle.sdd_base.specs.declared.number.Ts.{Ts}
+use Rattle.sdd_base.specs.declared.number.TxnNo.{TxnNo}
+use Rattle.sdd_base.specs.declared.usage.Use.{Use}
+use Rattle.sdd_base.specs.declared.site.Site.{Site}
+use Rattle.sdd_catalog.specs.Rules.{IsSound}
+use Rattle.sdd_history.specs.declared.record.Rec.{Rec}
+use Rattle.sdd_history.specs.declared.record.Rec.TheVariants.{Start}
+use Rattle.sdd_wire.specs.declared.msg.Msg.{Msg}
+use Rattle.sdd_module.specs.SiteLog.{Act, Did, Records, Sends, in_force}
+use Rattle.sdd_attempt.specs.Queues.{is_for}
+use Rattle.sdd_module.specs.SiteLog as site
+use Rattle.sdd_log.specs.Entries.{Does, Entry, Given, Hand, Log, Mark, Notes, Redeclares, Round, Submitted, history}
+use Rattle.sdd_log.specs.Locals.{local_of, setting_of}
+use Rattle.sdd_log.specs.Permitted.{IsPermitted}
+use Rattle.sdd_invariants.specs.OfRecords.{AllCommitted, IsStartRecord}
+use Rattle.sdd_order.specs.Attempts.{Attempt, IsAttempt}
+use Rattle.sdd_order.specs.Places.{Stands}
+use Rattle.sdd_invariants.proofs.Starting.{says_at}
+use Rattle.sdd_invariants.proofs.Applied.{own_made}
+use Rattle.sdd_invariants.specs.Steps.{home, submits_of}
+use Rattle.sdd_invariants.proofs.Made.{local_at, permitted_before, place_of_submit}
+use Rattle.sdd_lawful.specs.Made.{IsMadeAt, record_of}
+use Rattle.sdd_lawful.proofs.Classes.{IsForClass, IsGivenTo, at_home, class_given, given_in, home_setting, one_class}
+use Rattle.sdd_lawful.proofs.Homes.{home_small}
+use Rattle.sdd_lawful.proofs.Makers.{is_of_run, is_own, run_home}
+use Rattle.sdd_lawful.proofs.Places.{made_at}
+
+-- a record that isn't made by an event is that of an act
+pub record IsActOfRecord (e : Entry) (r : Rec) : Type 0 where
+  pub at : Site
+  pub class : ℕ
+  pub sends : List (Site × Msg)
+  pub is : e ≡ Does at (Records class r sends)
+
+not_own : {A : Type 0} (q r : Rec) → Some q ≡ Some r → is_own q ≡ true → is_own r ≡ false → A
+not_own q r p e f = let s : q ≡ r = cc in let t : true ≡ false = sym e ∙ ap is_own s ∙ f in cc
+
+pub act_of_record : (e : Entry) (r : Rec) → record_of e ≡ Some r → is_own r ≡ false → IsActOfRecord e r
+act_of_record (Submitted at n) r p f = not_own _ r p refl f
+act_of_record Notes r p f = not_own _ r p refl f
+act_of_record (Does at (Records c q sends)) r p f =
+    let s : q ≡ r = cc in record { at = at; class = c; sends = sends; is = ap (λ x. Does at (Records c x sends)) s }
+act_of_record (Does at (Sends to m hand)) r p f = cc
+act_of_record (Mark e) r p f = cc
+act_of_record (Round es) r p f = cc
+act_of_record (Redeclares t) r p f = cc
+act_of_record (Hand a b k m) r p f = cc
+
+-- the record of a Start or a Commit, as an act of the site that runs its class
+pub record IsRunIn (g : Given) (log : Log) (k : ℕ) (r : Rec) : Type 0 where
+  pub class : ℕ
+  pub later : Log
+  pub sends : List (Site × Msg)
+  pub before : Log
+  pub is : log ≡ later ++ Does (home g.catalogue class) (Records class r sends) ∷ before
+  pub place_is : length (history before) ≡ k
+  pub permitted : IsPermitted g (Does (home g.catalogue class) (Records class r sends) ∷ before)
+
+pub run_in : (g : Given) (log : Log) (k : ℕ) (r : Rec) → IsPermitted g log → is_of_run r ≡ true → is_own r ≡ false
+    → Stands (history log) k r → IsRunIn g log k r
+run_in g log k r h e f s =
+    let m = made_at log k r s in
+    let a = act_of_record m.entry r m.makes f in
+    let now : IsPermitted g (Does a.at (Records a.class r a.sends) ∷ m.before) =
+    subst (λ x. IsPermitted g (x ∷ m.before)) a.is (permitted_before g m.later (m.entry ∷ m.before) (subst (IsPermitted g) m.is h)) in
+    let at : a.at ≡ home g.catalogue a.class = run_home g a.at a.class r a.sends m.before now e in
+    record {
+      class = a.class;
+      later = m.later;
+      sends = a.sends;
+      before = m.before;
+      is = m.is ∙ ap (λ x. m.later ++ x ∷ m.before) (a.is ∙ ap (λ x. Does x (Records a.class r a.sends)) at);
+      place_is = m.place_is;
+      permitted = subst (λ x. IsPermitted g (Does x (Records a.class r a.sends) ∷ m.before)) at now;
+    }
+
+abbrev pub start_of : Attempt → Rec
+start_of a = Start (txn_no a.txn) a.number (class_no a.class) (time_at a.ts) a.p2 a.uses
+
+abbrev pub start_act_of : Attempt → List (Site × Msg) → Act
+start_act_of a sends = Records a.class (start_of a) sends
+
+-- an attempt's Start in the log, and what it says of the log before
+pub record IsStartIn (g : Given) (log : Log) (a : Attempt) : Type 0 where
+  pub later : Log
+  pub sends : List (Site × Msg)
+  pub before : Log
+  pub is : log ≡ later ++ Does (home g.catalogue a.class) (start_act_of a sends) ∷ before
+  pub place_is : length (history before) ≡ a.place
+  pub permitted : IsPermitted g (Does (home g.catalogue a.class) (start_act_of a sends) ∷ before)
+  pub says : IsStartRecord (setting_of g (home g.catalogue a.class)) (at_home g a.class before) a.class (txn_no a.txn) a.number (class_no a.class) (time_at a.ts) a.p2 a.uses
+
+-- of class k
+abbrev StartsAs : Given → Log → Attempt → ℕ → Type 0
+StartsAs g before a k = IsStartRecord (setting_of g (home g.catalogue k)) (at_home g k before) k (txn_no a.txn) a.number (class_no a.class) (time_at a.ts) a.p2 a.uses
+
+start_with : (g : Given) (log : Log) (a : Attempt) (k : ℕ) (later : Log) (sends : List (Site × Msg)) (before : Log) → k ≡ a.class
+    → log ≡ later ++ Does (home g.catalogue k) (Records k (start_of a) sends) ∷ before → length (history before) ≡ a.place
+    → IsPermitted g (Does (home g.catalogue k) (Records k (start_of a) sends) ∷ before) → StartsAs g before a k → IsStartIn g log a
+start_with g log a k later sends before e is place h says =
+    record {
+      later = later;
+      sends = sends;
+      before = before;
+      is = subst (λ j. log ≡ later ++ Does (home g.catalogue j) (Records j (start_of a) sends) ∷ before) e is;
+      place_is = place;
+      permitted = subst (λ j. IsPermitted g (Does (home g.catalogue j) (Records j (start_of a) sends) ∷ before)) e h;
+      says = subst (StartsAs g before a) e says;
+    }
+
+pub start_in : (g : Given) (log : Log) (a : Attempt) → IsSound g.catalogue → IsPermitted g log → IsAttempt (history log) a
+    → IsStartIn g log a
+start_in g log a sound h s =
+    let m = run_in g log a.place (start_of a) h refl refl s in
+    let small = home_small g.catalogue sound m.class in
+    let says : StartsAs g m.before a m.class = says_at g m.class m.before (Records m.class (start_of a) m.sends) m.permitted (omega arith) in
+    start_with g log a m.class m.later m.sends m.before (sym says.class_is) m.is m.place_is m.permitted says
+
+abbrev pub attempt_from : TxnNo → ℕ → ClassNo → Ts → Option Ts → List Use → ℕ → Attempt
+attempt_from txn number class ts p2 uses place =
+    record { txn = txn.0; number = number; class = class.0; ts = ts.0; p2 = p2; uses = uses; place = place }
+
+-- an entry that makes a Start
+pub start_at_entry : (g : Given) (log later : Log) (at : Site) (k : ℕ) (txn : TxnNo) (number : ℕ) (class : ClassNo) (ts : Ts) (p2 : Option Ts) (uses : List Use) (sends : List (Site × Msg)) (before : Log)
+    → IsSound g.catalogue → IsPermitted g log
+    → log ≡ later ++ Does at (Records k (Start txn number class ts p2 uses) sends) ∷ before
+    → IsStartIn g log (attempt_from txn number class ts p2 uses (length (history before))) × (k ≡ class.0) × (at ≡ home g.catalogue k)
+start_at_entry g log later at k txn number class ts p2 uses sends before sound h is =
+    let a : Attempt = attempt_from txn number class ts p2 uses (length (history before)) in
+    let now : IsPermitted g (Does at (Records k (start_of a) sends) ∷ before) =
+    permitted_before g later (Does at (Records k (start_of a) sends) ∷ before) (subst (IsPermitted g) is h) in
+    let here : at ≡ home g.catalogue k = run_home g at k (start_of a) sends before now refl in
+    let then_h : IsPermitted g (Does (home g.catalogue k) (Records k (start_of a) sends) ∷ before) = subst (λ x. IsPermitted g (Does x (Records k (start_of a) sends) ∷ before)) here now in
+    let small = home_small g.catalogue sound k in
+    let says : StartsAs g before a k = says_at g k before (Records k (start_of a) sends) then_h (omega arith) in
+    let e : k ≡ class.0 = sym says.class_is in
+    (start_with g log a k later sends before e (is ∙ ap (λ x. later ++ Does x (Records k (start_of a) sends) ∷ before) here) refl then_h says, e, here)
+
+-- its transaction was given to the site, as one of the class, and all that were given before it as such are committed
+pub record IsStartOfGiven (g : Given) (log : Log) (a : Attempt) (x : IsStartIn g log a) : Type 0 where
+  pub given : IsGivenTo g x.before a.txn a.class x.says.text
+  pub earlier : AllCommitted a.class (at_home g a.class x.before) (submits_of (home_setting g a.class) a.class (at_home g a.class given.rest))
+
+pub given_of_start : (g : Given) (log : Log) (a : Attempt) (x : IsStartIn g log a) → IsStartOfGiven g log a x
+given_of_start g log a x =
+    let at : Site = home g.catalogue a.class in
+    let w = x.says.submitted in
+    let p = place_of_submit g at x.before w.later a.txn x.says.text w.before w.is in
+    let now : IsPermitted g (Submitted at a.txn ∷ p.rest) = permitted_before g p.later (Submitted at a.txn ∷ p.rest) (subst (IsPermitted g) p.is x.permitted.1) in
+    let of_class : IsForClass g a.class p.rest x.says.text = subst (λ l. is_for a.class (in_force (home_setting g a.class) l).catalogue x.says.text ≡ true) (sym p.local_is) w.of_class in
+    record {
+      given = record {
+        later = p.later;
+        rest = p.rest;
+        is = p.is;
+        text_is = p.text_is;
+        class_is = class_given g a.class a.txn x.says.text p.rest now p.text_is of_class;
+        of_class = of_class;
+      };
+      earlier = subst (λ l. AllCommitted a.class (at_home g a.class x.before) (submits_of (home_setting g a.class) a.class l)) (sym p.local_is) x.says.before_it;
+    }
+
+-- in the whole log
+pub given_of_attempt : (g : Given) (log : Log) (a : Attempt) (x : IsStartIn g log a) → IsGivenTo g log a.txn a.class x.says.text
+given_of_attempt g log a x =
+    given_in g log x.later x.before (Does (home g.catalogue a.class) (start_act_of a x.sends)) a.txn a.class x.says.text x.is (given_of_start g log a x).given
+
+-- attempts of one transaction have one class
+pub one_start_class : (g : Given) (log : Log) (a b : Attempt) → IsPermitted g log → IsStartIn g log a → IsStartIn g log b
+    → a.txn ≡ b.txn → a.class ≡ b.class
+one_start_class g log a b h x y e =
+    one_class g log b.txn a.class b.class x.says.text y.says.text h (subst (λ n. IsGivenTo g log n a.class x.says.text) e (given_of_attempt g log a x)) (given_of_attempt g log b y)
+
+-- an act of a site stands in the site's log
+pub act_local : (g : Given) (at : Site) (act : Act) (later before : Log)
+    → (more : site.Log) × (local_of g at (later ++ Does at act ∷ before) ≡ more ++ Did act ∷ local_of g at before)
+act_local g at act later before = local_at g at later before (Does at act) (Did act) (own_made at act)
+
+abbrev pub start_made : (g : Given) (log : Log) (a : Attempt) → IsStartIn g log a → IsMadeAt log a.place (start_of a)
+start_made g log a x =
+    record { later = x.later; entry = Does (home g.catalogue a.class) (start_act_of a x.sends); before = x.before; is = x.is; makes = refl; place_is = x.place_is }

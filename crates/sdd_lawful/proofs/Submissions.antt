@@ -1,0 +1,179 @@
+-- Submissions: a transaction is given to a site right after the mark that submits it, and once.
+use Rattle.std.proofs.Common.{ℕ, ◌++◌, ◌==◌, ◌∙◌, ◌∷◌, ◌≡◌, Bool, Some, [], ap, false, inl, inr, length, not, refl, subst, sym, true}
+use Rattle.sdd_base.specs.Numbers.{txn_no}
+use Rattle.sdd_base.specs.declared.event.Event.{Event}
+use Rattle.sdd_base.specs.declared.event.Event.TheVariants.{Deliver, Down, Lose, Redeclare, Repeat, Resend, Settle, Submit, Tick, Up}
+use Rattle.sdd_base.specs.declared.number.TxnNo.{TxnNo}
+use Rattle.sdd_base.specs.declared.site.Site.{Site}
+use Rattle.sdd_history.specs.declared.record.Rec.TheVariants.{Nothing, Submit as Submission}
+use Rattle.sdd_module.specs.SiteLog.{Records, Sends}
+use Rattle.sdd_log.specs.Due.{due_by, home_of, mark_due, note_if}
+use Rattle.sdd_log.specs.Entries.{Does, Entry, Given, Hand, Log, Mark, Notes, Redeclares, Round, Submitted, history}
+use Rattle.sdd_log.specs.Locals.{force_at, redeclares, txn_at}
+use Rattle.sdd_log.specs.Permitted.{IsAllowed, IsPermitted, by_event, by_link, by_mark, by_redeclare, by_round, by_site, was_marked}
+use Rattle.sdd_invariants.proofs.Places.{compare}
+use Rattle.sdd_laws.specs.Deeds.{IsSubmitted}
+use Rattle.sdd_invariants.proofs.Bools.{or_left, or_right, same_number}
+use Rattle.sdd_invariants.proofs.Fair.{allowed_mark}
+use Rattle.sdd_invariants.proofs.Made.{permitted_before}
+use Rattle.sdd_lawful.specs.Made.{record_of}
+use Rattle.sdd_lawful.proofs.Makers.{is_own, none_own}
+use Rattle.sdd_lawful.proofs.Places.{made_at}
+
+-- the mark that made it due
+
+abbrev IsMarked : Given → Log → Entry → Type 0
+IsMarked g log (Submitted at n) = mark_due g log ≡ Some (Submitted at n)
+IsMarked g log _ = Unit {0}
+
+marked_is : (g : Given) (log : Log) (e : Entry) → mark_due g log ≡ Some e → IsMarked g log e
+marked_is g log (Submitted at n) p = p
+marked_is g log _ p = tt
+
+marked : (g : Given) (log : Log) (e : Entry) → IsAllowed g log e → IsMarked g log e
+marked g log e (by_mark x n) = tt
+marked g log e (by_round es) = tt
+marked g log e (by_redeclare t) = tt
+marked g log e (by_event {e = x} p) = marked_is g log x p
+marked g log e (by_site at act d) = tt
+marked g log e (by_link a b n m p q r f) = tt
+
+-- transaction n is given to a site, after the mark that submits it
+pub record IsGivenAt (g : Given) (log : Log) (at : Site) (n : ℕ) : Type 0 where
+  pub earlier : Log
+  pub number : TxnNo
+  pub is : log ≡ Mark (Submit number) ∷ earlier
+  pub number_is : number.0 ≡ n
+  pub at_is : at ≡ home_of (force_at g (redeclares earlier)).catalogue (txn_at g n)
+
+no_note : {A : Type 0} (b : Bool) (at : Site) (n : ℕ) → note_if b ≡ Some (Submitted at n) → A
+no_note true at n p = let q : Notes ≡ Submitted at n = cc in cc
+no_note false at n p = cc
+
+due_submit : (g : Given) (e : Event) (log : Log) (at : Site) (n : ℕ) → due_by g e log ≡ Some (Submitted at n)
+    → IsGivenAt g (Mark e ∷ log) at n
+due_submit g (Submit k) log at n p =
+    let q : Submitted (home_of (force_at g (redeclares log)).catalogue (txn_at g k.0)) k.0 ≡ Submitted at n = cc in
+    let r : home_of (force_at g (redeclares log)).catalogue (txn_at g k.0) ≡ at = cc in
+    let w : k.0 ≡ n = cc in
+    record { earlier = log; number = k; is = refl; number_is = w; at_is = sym r ∙ ap (λ x. home_of (force_at g (redeclares log)).catalogue (txn_at g x)) w }
+due_submit g (Deliver a b k) log at n p = no_note _ at n p
+due_submit g (Lose a b k) log at n p = no_note _ at n p
+due_submit g (Repeat a b k) log at n p = no_note _ at n p
+due_submit g (Resend a b) log at n p = no_note _ at n p
+due_submit g (Tick t k) log at n p = cc
+due_submit g Settle log at n p = cc
+due_submit g Redeclare log at n p = cc
+due_submit g (Down d) log at n p = no_note _ at n p
+due_submit g (Up d) log at n p = no_note _ at n p
+
+given_by : (g : Given) (log : Log) (at : Site) (n : ℕ) → mark_due g log ≡ Some (Submitted at n) → IsGivenAt g log at n
+given_by g [] at n p = cc
+given_by g (Mark e ∷ log) at n p = due_submit g e log at n p
+given_by g (_ ∷ log) at n p = cc
+
+pub given_at : (g : Given) (log : Log) (at : Site) (n : ℕ) → IsPermitted g (Submitted at n ∷ log) → IsGivenAt g log at n
+given_at g log at n h = given_by g log at n (marked g log (Submitted at n) h.0)
+
+-- no transaction is given twice
+
+tail_marked : (n : ℕ) (e : Entry) (log : Log) → was_marked n log ≡ true → was_marked n (e ∷ log) ≡ true
+tail_marked n (Mark (Submit k)) log h = or_right (k.0 == n) (was_marked n log) h
+tail_marked n (Mark (Deliver a b k)) log h = h
+tail_marked n (Mark (Lose a b k)) log h = h
+tail_marked n (Mark (Repeat a b k)) log h = h
+tail_marked n (Mark (Resend a b)) log h = h
+tail_marked n (Mark (Tick t k)) log h = h
+tail_marked n (Mark Settle) log h = h
+tail_marked n (Mark Redeclare) log h = h
+tail_marked n (Mark (Down d)) log h = h
+tail_marked n (Mark (Up d)) log h = h
+tail_marked n (Round es) log h = h
+tail_marked n (Redeclares t) log h = h
+tail_marked n (Hand a b k m) log h = h
+tail_marked n (Submitted a k) log h = h
+tail_marked n Notes log h = h
+tail_marked n (Does a act) log h = h
+
+marked_stays : (n : ℕ) (later log : Log) → was_marked n log ≡ true → was_marked n (later ++ log) ≡ true
+marked_stays n [] log h = h
+marked_stays n (e ∷ later) log h = tail_marked n e (later ++ log) (marked_stays n later log h)
+
+given_marked : (g : Given) (log : Log) (at : Site) (n : ℕ) → IsGivenAt g log at n → was_marked n log ≡ true
+given_marked g log at n i =
+    let p : (i.number.0 == n) ≡ true = ap (λ x. x == n) i.number_is ∙ same_number n in
+    subst (λ l. was_marked n l ≡ true) (sym i.is) (or_left (i.number.0 == n) (was_marked n i.earlier) p)
+
+both_ways : {A : Type 0} (b : Bool) → b ≡ true → not b ≡ true → A
+both_ways true e f = cc
+both_ways false e f = cc
+
+again_in : {A : Type 0} (g : Given) (n : ℕ) (b : Site) (between before earlier : Log) (k : TxnNo)
+    → IsPermitted g (Mark (Submit k) ∷ earlier) → k.0 ≡ n → was_marked n before ≡ true
+    → between ++ Submitted b n ∷ before ≡ Mark (Submit k) ∷ earlier → A
+again_in g n b [] before earlier k h e m p = let q : Submitted b n ≡ Mark (Submit k) = cc in cc
+again_in g n b (x ∷ between) before earlier k h e m p =
+    let q : between ++ Submitted b n ∷ before ≡ earlier = cc in
+    let fresh : not (was_marked k.0 earlier) ≡ true = allowed_mark g earlier (Mark (Submit k)) h.0 in
+    let old : was_marked n earlier ≡ true = subst (λ l. was_marked n l ≡ true) q (marked_stays n between (Submitted b n ∷ before) m) in
+    both_ways (was_marked n earlier) old (subst (λ x. not (was_marked x earlier) ≡ true) e fresh)
+
+submitted_twice : {A : Type 0} (g : Given) (n : ℕ) (a b : Site) (later between before : Log)
+    → IsPermitted g (later ++ Submitted a n ∷ (between ++ Submitted b n ∷ before)) → A
+submitted_twice g n a b later between before h =
+    let w : Log = between ++ Submitted b n ∷ before in
+    let now : IsPermitted g (Submitted a n ∷ w) = permitted_before g later (Submitted a n ∷ w) h in
+    let x = given_at g w a n now in
+    let old : IsPermitted g (Submitted b n ∷ before) = permitted_before g between (Submitted b n ∷ before) now.1 in
+    let y = given_at g before b n old in
+    again_in g n b between before x.earlier x.number (subst (IsPermitted g) x.is now.1) x.number_is (given_marked g before b n y) x.is
+
+-- the entry of a Submit
+
+pub record IsSubmitIn (g : Given) (log : Log) (n k : ℕ) : Type 0 where
+  pub later : Log
+  pub at : Site
+  pub rest : Log
+  pub is : log ≡ later ++ Submitted at n ∷ rest
+  pub place_is : length (history rest) ≡ k
+
+submit_entry : (g : Given) (e : Entry) (log : Log) (n : ℕ) → IsPermitted g (e ∷ log) → record_of e ≡ Some (Submission (txn_no n))
+    → (at : Site) × (e ≡ Submitted at n)
+submit_entry g (Submitted at m) log n h p =
+    let q : Submission (txn_no m) ≡ Submission (txn_no n) = cc in
+    let r : txn_no m ≡ txn_no n = cc in
+    (at, ap (λ (x : TxnNo). Submitted at x.0) r)
+submit_entry g Notes log n h p = let q : Nothing ≡ Submission (txn_no n) = cc in cc
+submit_entry g (Does at (Records c r sends)) log n h p =
+    let q : r ≡ Submission (txn_no n) = cc in
+    let f : true ≡ false = sym (ap is_own q) ∙ none_own g at c r sends log h in cc
+submit_entry g (Does at (Sends to m hand)) log n h p = cc
+submit_entry g (Mark e) log n h p = cc
+submit_entry g (Round es) log n h p = cc
+submit_entry g (Redeclares t) log n h p = cc
+submit_entry g (Hand a b k m) log n h p = cc
+
+pub submit_in : (g : Given) (log : Log) (n k : ℕ) → IsPermitted g log → IsSubmitted (history log) n k → IsSubmitIn g log n k
+submit_in g log n k h s =
+    let m = made_at log k (Submission (txn_no n)) s in
+    let p = submit_entry g m.entry m.before n (permitted_before g m.later (m.entry ∷ m.before) (subst (IsPermitted g) m.is h)) m.makes in
+    record { later = m.later; at = p.0; rest = m.before; is = m.is ∙ ap (λ e. m.later ++ e ∷ m.before) p.1; place_is = m.place_is }
+
+-- there is one
+pub same_submission : (g : Given) (n : ℕ) (log later1 later2 rest1 rest2 : Log) (a b : Site) → IsPermitted g log
+    → log ≡ later1 ++ Submitted a n ∷ rest1 → log ≡ later2 ++ Submitted b n ∷ rest2 → (rest1 ≡ rest2) × (a ≡ b)
+same_submission g n log later1 later2 rest1 rest2 a b h p q =
+    elim (compare later1 later2 (Submitted a n) (Submitted b n) rest1 rest2 (sym p ∙ q)) [
+      | inl s ↦ (s.0, (let e : Submitted a n ≡ Submitted b n = s.1 in let f : a ≡ b = cc in f))
+      | inr s ↦ elim s [
+        | inl t ↦ submitted_twice g n b a later2 t.between rest1 (subst (IsPermitted g) (q ∙ ap (λ r. later2 ++ Submitted b n ∷ r) t.is) h)
+        | inr t ↦ submitted_twice g n a b later1 t.between rest2 (subst (IsPermitted g) (p ∙ ap (λ r. later1 ++ Submitted a n ∷ r) t.is) h)
+      ]
+    ]
+
+pub one_submit : (g : Given) (log : Log) (n j k : ℕ) → IsPermitted g log → IsSubmitted (history log) n j
+    → IsSubmitted (history log) n k → j ≡ k
+one_submit g log n j k h s t =
+    let x = submit_in g log n j h s in
+    let y = submit_in g log n k h t in
+    sym x.place_is ∙ ap (λ r. length (history r)) (same_submission g n log x.later y.later x.rest y.rest x.at y.at h x.is y.is).0 ∙ y.place_is

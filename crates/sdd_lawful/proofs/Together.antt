@@ -1,0 +1,115 @@
+-- The history of a permitted log keeps all laws by which it has a serial order, and by which that gives the replies.
+use Rattle.std.specs.List.{AllZip}
+use Rattle.std.proofs.Common.{ℕ, ◌==◌, ◌≡◌, List, length, subst, sym}
+use Rattle.std.proofs.lemmas.Bool.{eqb-true}
+use Rattle.sdd_base.specs.declared.change.Change.{Change}
+use Rattle.sdd_base.specs.declared.number.RelNo.{RelNo}
+use Rattle.sdd_base.specs.declared.number.TxnNo.{TxnNo}
+use Rattle.sdd_catalog.specs.Catalogue.{Catalogue}
+use Rattle.sdd_catalog.specs.Rules.{IsSound}
+use Rattle.sdd_lang.specs.Agree.{rows_in_fragment}
+use Rattle.sdd_lang.specs.Database.{Row}
+use Rattle.sdd_lang.proofs.KeyRanges.{fragment_holds, key_in_range}
+use Rattle.sdd_lang.proofs.StaysDatabase.{rows_make_database}
+use Rattle.sdd_log.specs.Entries.{Given, Log, history}
+use Rattle.sdd_log.specs.Permitted.{IsPermitted}
+use Rattle.sdd_laws.specs.Eras.{Eras}
+use Rattle.sdd_laws.specs.Few.{AreFew}
+use Rattle.sdd_laws.specs.Kept.{FitTogether, KeepsLaws}
+use Rattle.sdd_laws.specs.Numbers.{TxnsExist}
+use Rattle.sdd_laws.specs.Redeclares.{KeepsEras}
+use Rattle.sdd_laws.specs.Replay.{AreAllApplied, IsReplyOf, run}
+use Rattle.sdd_laws.specs.Snapshots.{copy_at, items_of}
+use Rattle.sdd_laws.specs.Undeclared.{KeepsUndeclared}
+use Rattle.sdd_laws.proofs.Acyclic.{acyclic, orderable}
+use Rattle.sdd_laws.proofs.Few.{are_few}
+use Rattle.sdd_laws.proofs.Replayed.{gives_replies, leaves_copies}
+use Rattle.sdd_order.specs.Attempts.{Committed, IsCommitted}
+use Rattle.sdd_order.specs.Numbers.{IsFragment, NumbersExist}
+use Rattle.sdd_order.specs.Orders.{IsOrderable, IsSerial}
+use Rattle.sdd_order.specs.Precedence.{HasNoCycle}
+use Rattle.sdd_invariants.proofs.Lists.{any_at}
+use Rattle.sdd_lawful.specs.Given.{AreErasOf, HasSoundData}
+use Rattle.sdd_lawful.proofs.Applies.{keeps_applies}
+use Rattle.sdd_lawful.proofs.Beginnings.{ChangesExist}
+use Rattle.sdd_lawful.proofs.Committed.{committed_in}
+use Rattle.sdd_lawful.proofs.Conditions.{keeps_conditions}
+use Rattle.sdd_lawful.proofs.Effects.{keeps_answers}
+use Rattle.sdd_lawful.proofs.Rejections.{keeps_rejections}
+use Rattle.sdd_lawful.proofs.Starts.{keeps_starts}
+use Rattle.sdd_lawful.proofs.Undeclared.{keeps_undeclared}
+use Rattle.sdd_lawful.proofs.Valid.{AllValid, IsValid, all_slice, commits_valid}
+
+-- the changes of a committed transaction are of items
+pub changes_valid : (g : Given) (rows : List (RelNo × Row)) (log : Log) → IsSound g.catalogue → HasSoundData g rows → IsPermitted g log
+    → (t : Committed) → IsCommitted (history log) t → AllValid g.catalogue t.changes
+changes_valid g rows log sound fine h t ct =
+    let c = committed_in g log t sound h ct in
+    subst (AllValid g.catalogue) (sym c.changes_are) (commits_valid g rows log sound fine h t.start.class c.bases c.running c.later c.before c.is c.active_is)
+
+pub valid_there : (cat : Catalogue) → IsSound cat → (c : Change) → IsValid cat c → IsFragment cat c.frag.0
+valid_there cat sound c v =
+    let x = (fragment_holds cat sound v.rel c.key v.there.0 v.there.1 (key_in_range c.key v.held)).there in
+    subst (IsFragment cat) (sym v.frag) (x.from, x.to)
+
+pub changes_exist : (g : Given) (rows : List (RelNo × Row)) (log : Log) → IsSound g.catalogue → HasSoundData g rows → IsPermitted g log
+    → ChangesExist g (history log)
+changes_exist g rows log sound fine h t f ct e =
+    let i = any_at (λ (x : Change). x.frag.0 == f) t.changes e in
+    let v : IsValid g.catalogue i.1 = all_slice (IsValid g.catalogue) t.changes i.0 i.1 (changes_valid g rows log sound fine h t ct) i.2 in
+    subst (IsFragment g.catalogue) (eqb-true i.1.frag.0 f i.3) (valid_there g.catalogue sound i.1 v)
+
+pub undeclared : (g : Given) (rows : List (RelNo × Row)) (eras : Eras) (log : Log) → IsSound g.catalogue → HasSoundData g rows → IsPermitted g log
+    → AreErasOf g log eras → KeepsUndeclared g.catalogue (history log)
+undeclared g rows eras log sound fine h are = keeps_undeclared g log eras sound h are (changes_exist g rows log sound fine h)
+
+pub keeps_laws : (g : Given) (rows : List (RelNo × Row)) (eras : Eras) (log : Log) → IsSound g.catalogue → HasSoundData g rows → IsPermitted g log
+    → AreErasOf g log eras → KeepsEras g.catalogue eras (history log) → KeepsLaws g.catalogue eras rows g.txns (history log)
+keeps_laws g rows eras log sound fine h are kept = record {
+  starts = keeps_starts g log eras sound h are;
+  answers = keeps_answers g rows eras log sound fine h are;
+  applies = keeps_applies g log sound h;
+  conditions = keeps_conditions g log eras sound h are;
+  undeclared = undeclared g rows eras log sound fine h are;
+  redeclares = kept;
+}
+
+fit : (g : Given) (rows : List (RelNo × Row)) (eras : Eras) (log : Log) → HasSoundData g rows → AreErasOf g log eras
+    → NumbersExist g.catalogue (history log) → TxnsExist (length g.txns) (history log) → FitTogether g.catalogue eras rows g.txns (history log)
+fit g rows eras log fine are numbers txns =
+    record { are_eras = are.are_eras; rows_fit = fine.rows_fit; txns_fit = fine.txns_fit; numbers_exist = numbers; txns_exist = txns }
+
+-- no cycle of precedence, so there is a serial order
+
+pub no_cycle : (g : Given) (rows : List (RelNo × Row)) (eras : Eras) (log : Log) → IsSound g.catalogue → HasSoundData g rows → IsPermitted g log
+    → AreErasOf g log eras → KeepsEras g.catalogue eras (history log) → NumbersExist g.catalogue (history log)
+    → TxnsExist (length g.txns) (history log) → HasNoCycle g.catalogue (history log)
+no_cycle g rows eras log sound fine h are kept numbers txns =
+    acyclic g.catalogue sound eras rows g.txns (history log) (rows_make_database g.catalogue rows fine.rows_fit fine.rows_held) fine.txns_held
+    (fit g rows eras log fine are numbers txns) (keeps_laws g rows eras log sound fine h are kept)
+
+pub has_order : (g : Given) (rows : List (RelNo × Row)) (eras : Eras) (log : Log) → IsSound g.catalogue → HasSoundData g rows → IsPermitted g log
+    → AreErasOf g log eras → KeepsEras g.catalogue eras (history log) → NumbersExist g.catalogue (history log)
+    → TxnsExist (length g.txns) (history log) → IsOrderable g.catalogue (history log)
+has_order g rows eras log sound fine h are kept numbers txns =
+    orderable g.catalogue sound eras rows g.txns (history log) (rows_make_database g.catalogue rows fine.rows_fit fine.rows_held) fine.txns_held
+    (fit g rows eras log fine are numbers txns) (keeps_laws g rows eras log sound fine h are kept)
+
+-- along a serial order one plain database gives the replies, and has what is left in the copies
+
+pub replies : (g : Given) (rows : List (RelNo × Row)) (eras : Eras) (log : Log) (order : List TxnNo) → IsSound g.catalogue → HasSoundData g rows
+    → IsPermitted g log → AreErasOf g log eras → IsSerial g.catalogue (history log) order
+    → AllZip (IsReplyOf (history log)) order (run g.catalogue rows g.txns order).0
+replies g rows eras log order sound fine h are serial =
+    gives_replies g.catalogue sound eras are.are_eras rows g.txns (history log) fine.txns_fit fine.txns_held (keeps_starts g log eras sound h are)
+    (keeps_answers g rows eras log sound fine h are) (keeps_applies g log sound h) (rows_make_database g.catalogue rows fine.rows_fit fine.rows_held) order serial
+
+pub copies : (g : Given) (rows : List (RelNo × Row)) (eras : Eras) (log : Log) (order : List TxnNo) → IsSound g.catalogue → HasSoundData g rows
+    → IsPermitted g log → AreErasOf g log eras → IsSerial g.catalogue (history log) order → (f d k : ℕ) → AreAllApplied (history log) f d k
+    → rows_in_fragment g.catalogue (run g.catalogue rows g.txns order).1 f ≡ items_of g.catalogue f (copy_at g.catalogue rows (history log) d k f)
+copies g rows eras log order sound fine h are serial =
+    leaves_copies g.catalogue sound eras are.are_eras rows g.txns (history log) fine.txns_fit fine.txns_held (keeps_starts g log eras sound h are)
+    (keeps_answers g rows eras log sound fine h are) (keeps_applies g log sound h) (rows_make_database g.catalogue rows fine.rows_fit fine.rows_held) order serial
+
+pub few : (g : Given) (eras : Eras) (log : Log) → IsSound g.catalogue → IsPermitted g log → AreErasOf g log eras → AreFew (history log)
+few g eras log sound h are = are_few g.catalogue eras g.txns (history log) (keeps_starts g log eras sound h are) (keeps_rejections g log eras sound h are)

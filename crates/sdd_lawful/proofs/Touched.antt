@@ -1,0 +1,112 @@
+-- Which modules a committed transaction touches.
+use Rattle.std.specs.Prelude.{filter}
+use Rattle.std.proofs.lemmas.List.Elements.{recursion_from_All}
+use Rattle.std.specs.List.{AllByRecursion, list_any}
+use Rattle.std.proofs.Common.{ℕ, suc, ◌-◌, ◌<◌, ◌==◌, ◌∙◌, ◌∷◌, ◌≡◌, ◌⊎◌, Bool, List, Some, [], ap, arith, cond, false, inl, inr, length, refl, slice_get, subst, sym, true, zero}
+use Rattle.std.proofs.Math.Decide.{dec_le}
+use Rattle.std.proofs.lemmas.Bool.{eqb-true}
+use Rattle.std.proofs.lemmas.List.{get_or_past}
+use Rattle.sdd_base.specs.Numbers.{dm_no}
+use Rattle.sdd_base.specs.declared.change.Change.{Change}
+use Rattle.sdd_base.specs.declared.number.DmNo.{DmNo}
+use Rattle.sdd_catalog.specs.Catalogue.{Catalogue, fragment_at, has_copy}
+use Rattle.sdd_catalog.specs.Numbers.{IsPlaced}
+use Rattle.sdd_catalog.specs.Rules.{IsSound}
+use Rattle.sdd_catalog.specs.declared.resolved.Fragment.{Fragment}
+use Rattle.sdd_catalog.proofs.Sound.{at_number, sound_fragments}
+use Rattle.sdd_log.specs.Entries.{Given, Log}
+use Rattle.sdd_laws.specs.Deeds.{GoesTo, Touches, by_change, by_no_class}
+use Rattle.sdd_order.specs.Attempts.{Committed}
+use Rattle.sdd_order.specs.Numbers.{IsModule}
+use Rattle.sdd_invariants.specs.Seen.{changes_to}
+use Rattle.sdd_invariants.proofs.Bools.{or_left, or_right, same_number, true_or_false}
+use Rattle.sdd_invariants.proofs.Lists.{any_at}
+use Rattle.sdd_invariants.specs.Steps.{changes_at}
+use Rattle.sdd_lawful.proofs.Committed.{IsCommittedIn}
+
+-- a module with a copy is there
+
+copies_there : (cat : Catalogue) → IsSound cat → (f : ℕ) → AllByRecursion (λ (d : DmNo). IsModule cat d.0) (fragment_at cat f).copies
+copies_there cat sound f = elim (dec_le (length cat.fragments) (f - 1)) [
+  | yes p ↦ subst (λ (x : Fragment). AllByRecursion (λ (d : DmNo). IsModule cat d.0) x.copies) (sym (get_or_past cat.fragments (f - 1) _ p)) tt
+  | no p ↦ elim (dec_le 1 f) [
+    | yes q ↦ recursion_from_All _ (fragment_at cat f).copies (at_number (IsPlaced (length cat.relations) cat.dms) cat.fragments f _ (sound_fragments cat sound) q (omega (arith, p))).copies
+    | no q ↦ (let e : f ≡ 0 = omega (arith, q) in
+        let same : fragment_at cat f ≡ fragment_at cat 1 = ap (fragment_at cat) e in
+        subst (λ (x : Fragment). AllByRecursion (λ (d : DmNo). IsModule cat d.0) x.copies) (sym same) (recursion_from_All _ (fragment_at cat 1).copies (at_number (IsPlaced (length cat.relations) cat.dms) cat.fragments 1 _ (sound_fragments cat sound) (omega arith) (omega (arith, p))).copies))
+  ]
+]
+
+each_at : (P : DmNo → Type 0) (xs : List DmNo) (k : ℕ) (x : DmNo) → AllByRecursion P xs → slice_get xs k ≡ Some x → P x
+each_at P [] k x h e = cc
+each_at P (y ∷ xs) zero x h e = let p : y ≡ x = cc in subst P p h.0
+each_at P (y ∷ xs) (suc k) x h e = each_at P xs k x h.1 e
+
+pub copy_module : (cat : Catalogue) → IsSound cat → (d f : ℕ) → has_copy cat d f ≡ true → IsModule cat d
+copy_module cat sound d f e =
+    let i = any_at (λ (x : DmNo). x.0 == d) (fragment_at cat f).copies e in
+    let p : i.1.0 ≡ d = eqb-true i.1.0 d i.3 in
+    subst (IsModule cat) p (each_at (λ (x : DmNo). IsModule cat x.0) (fragment_at cat f).copies i.0 i.1 (copies_there cat sound f) i.2)
+
+pub goes_module : (cat : Catalogue) → IsSound cat → (t : Committed) (d : ℕ) → GoesTo cat t d → IsModule cat d
+goes_module cat sound t d (by_change x) = copy_module cat sound d x.fragment x.copied
+goes_module cat sound t d (by_no_class e m) = m
+
+-- changes of which a module has a copy
+
+pub passing : {A : Type 0} (p : A → Bool) (xs : List A) (k : ℕ) (x : A) → slice_get xs k ≡ Some x → p x ≡ true → 0 < length (filter p xs)
+passing p [] k x e f = cc
+passing {A = A} p (y ∷ xs) zero x e f =
+    let q : ◌≡◌ {A = A} y x = cc in rw (ap p q ∙ f) (omega arith)
+passing p (y ∷ xs) (suc k) x e f =
+    let i = passing p xs k x e f in
+    elim (p y) as (λ b. 0 < length (cond b (y ∷ filter p xs) (filter p xs))) [ true ↦ omega arith | false ↦ i ]
+
+pub some_passes : {A : Type 0} (p : A → Bool) (xs : List A) → 0 < length (filter p xs) → (k : ℕ) × (x : A) × (slice_get xs k ≡ Some x) × (p x ≡ true)
+some_passes p [] h = absurd (omega arith)
+some_passes p (y ∷ xs) h = elim (true_or_false (p y)) [
+  | inl e ↦ (0, y, refl, e)
+  | inr e ↦ (let i = some_passes p xs (rw e at h) in (suc i.0, i.1, i.2, i.3))
+]
+
+pub any_there : {A : Type 0} (p : A → Bool) (xs : List A) (k : ℕ) (x : A) → slice_get xs k ≡ Some x → p x ≡ true → list_any p xs ≡ true
+any_there p [] k x e f = cc
+any_there {A = A} p (y ∷ xs) zero x e f = let q : ◌≡◌ {A = A} y x = cc in or_left (p y) (list_any p xs) (ap p q ∙ f)
+any_there p (y ∷ xs) (suc k) x e f = or_right (p y) (list_any p xs) (any_there p xs k x e f)
+
+touches_any : (cat : Catalogue) (xs : List Change) (f d : ℕ) → list_any (λ (c : Change). c.frag.0 == f) xs ≡ true → has_copy cat d f ≡ true
+    → 0 < length (filter (λ (x : Change). has_copy cat d x.frag.0) xs)
+touches_any cat xs f d e c =
+    let i = any_at (λ (c : Change). c.frag.0 == f) xs e in
+    let p : i.1.frag.0 ≡ f = eqb-true i.1.frag.0 f i.3 in
+    passing (λ (x : Change). has_copy cat d x.frag.0) xs i.0 i.1 i.2 (ap (has_copy cat d) p ∙ c)
+
+pub touches_some : (g : Given) (log : Log) (t : Committed) (x : IsCommittedIn g log t) (d : ℕ) → Touches g.catalogue t d
+    → 0 < length (changes_to g x.bases x.running (dm_no d))
+touches_some g log t x d h =
+    touches_any g.catalogue _ h.fragment d (subst (λ ys. list_any (λ (c : Change). c.frag.0 == h.fragment) ys ≡ true) x.changes_are h.changed) h.copied
+
+pub goes_some : (g : Given) (log : Log) (t : Committed) (x : IsCommittedIn g log t) (d : ℕ) → GoesTo g.catalogue t d
+    → ((t.start.class == 0) ≡ true) ⊎ (0 < length (changes_to g x.bases x.running (dm_no d)))
+goes_some g log t x d (by_change h) = inr (touches_some g log t x d h)
+goes_some g log t x d (by_no_class e m) = inl (ap (λ y. y == 0) e)
+
+pub some_goes : (cat : Catalogue) (t : Committed) (xs : List Change) (d : ℕ) → t.changes ≡ xs → IsModule cat d
+    → ((t.start.class == 0) ≡ true) ⊎ (0 < length (changes_at cat d xs)) → GoesTo cat t d
+some_goes cat t xs d same m h = elim h [
+  | inl e ↦ by_no_class (eqb-true t.start.class 0 e) m
+  | inr l ↦ (let i = some_passes (λ (y : Change). has_copy cat d y.frag.0) xs l in
+      by_change (record {
+        fragment = i.1.frag.0;
+        changed = subst (λ ys. list_any (λ (c : Change). c.frag.0 == i.1.frag.0) ys ≡ true) (sym same) (any_there (λ (c : Change). c.frag.0 == i.1.frag.0) xs i.0 i.1 i.2 (same_number i.1.frag.0));
+        copied = i.3;
+      }))
+]
+
+pub kept_there : {A : Type 0} (p : A → Bool) (xs : List A) (k : ℕ) (x : A) → slice_get xs k ≡ Some x → p x ≡ true
+    → (j : ℕ) × (slice_get (filter p xs) j ≡ Some x)
+kept_there p [] k x e f = cc
+kept_there {A = A} p (y ∷ xs) zero x e f = let q : ◌≡◌ {A = A} y x = cc in (0, rw (ap p q ∙ f) (ap (λ z. Some z) q))
+kept_there {A = A} p (y ∷ xs) (suc k) x e f =
+    let i = kept_there p xs k x e f in
+    elim (p y) as (λ b. (j : ℕ) × (slice_get (cond b (y ∷ filter p xs) (filter p xs)) j ≡ Some x)) [ true ↦ (suc i.0, i.1) | false ↦ i ]

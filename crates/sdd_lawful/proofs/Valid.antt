@@ -1,0 +1,281 @@
+-- What committed transactions change are items of the catalogue, and so the database that an attempt reads is one.
+use Rattle.std.specs.Prelude.{filter}
+use Rattle.std.specs.List.{All, AllByRecursion, flat_map, fold, range_with_len}
+use Rattle.std.proofs.Common.{ℕ, ℤ, ◌&&◌, ◌++◌, ◌+◌, ◌-◌, ◌==◌, ◌∙◌, ◌∷◌, ◌≡◌, ◌≤◌, Bool, List, Some, [], ap, append_assoc, arith, cond, false, inl, inr, map, refl, slice_get, subst, suc, sym, true, zero}
+use Rattle.std.proofs.lemmas.Bool.{eqb-true}
+use Rattle.std.proofs.lemmas.List.Elements.{recursion_from_All}
+use Rattle.sdd_base.specs.Numbers.{dm_no, tm_no}
+use Rattle.sdd_base.specs.Words.{head_of}
+use Rattle.sdd_base.specs.declared.change.Change.{Change}
+use Rattle.sdd_base.specs.declared.number.DmNo.{DmNo}
+use Rattle.sdd_base.specs.declared.number.RelNo.{RelNo}
+use Rattle.sdd_base.specs.declared.site.Site.{Site}
+use Rattle.sdd_base.specs.declared.site.Site.TheVariants.{D, T, U}
+use Rattle.sdd_catalog.specs.Catalogue.{Catalogue, class_at, fragment_at, has_copy, numbers_to}
+use Rattle.sdd_catalog.specs.Rules.{IsSound}
+use Rattle.sdd_laws.proofs.CopyEntries.{held_by}
+use Rattle.sdd_laws.proofs.Members.{all_have, each_has}
+use Rattle.sdd_copy.specs.Contents.{Dated}
+use Rattle.sdd_history.specs.declared.record.Rec.{Rec}
+use Rattle.sdd_history.specs.declared.record.Rec.TheVariants.{Answer, Apply}
+use Rattle.sdd_lang.specs.Changes.{HasRow, IsChange}
+use Rattle.sdd_lang.specs.Database.{Database, Item, Row, database_of, item_cmp}
+use Rattle.sdd_lang.specs.Effect.{effect}
+use Rattle.sdd_lang.specs.Fits.{Fits, FitsStatement}
+use Rattle.sdd_lang.specs.Sound.{IsEntry, PutsHeld}
+use Rattle.sdd_lang.specs.declared.transaction.Txn.{Txn}
+use Rattle.sdd_lang.proofs.EffectChanges.{entry_placed}
+use Rattle.sdd_lang.proofs.SortedEntries.{each_inserted, item_cmp_exact}
+use Rattle.sdd_lang.proofs.StaysDatabase.{effect_changes, rows_make_database}
+use Rattle.sdd_wire.specs.declared.msg.Msg.{Msg}
+use Rattle.sdd_wire.specs.declared.msg.Msg.TheVariants.{Write}
+use Rattle.sdd_module.specs.SiteLog as site
+use Rattle.sdd_module.specs.SiteLog.{Act, Bases, Did, Handed, Log as SiteLog, Records, Redeclared, Sends, Setting, Submits, Ticked, sends_of_act}
+use Rattle.sdd_attempt.specs.Acts.{commit_act}
+use Rattle.sdd_attempt.specs.Attempts.{Attempt as Running, active}
+use Rattle.sdd_attempt.specs.Queues.{queue}
+use Rattle.sdd_dm.specs.Copies.{applied, changes_in, classes_of, dated, first_row, first_rows, is_apply}
+use Rattle.sdd_dm.specs.Pipes.{pipe}
+use Rattle.sdd_pipe.specs.Pipe.{head}
+use Rattle.sdd_log.specs.Entries.{Does, Given, Log}
+use Rattle.sdd_log.specs.Locals.{local_of, rows_of, setting_of, txn_at}
+use Rattle.sdd_log.specs.Permitted.{IsPermitted}
+use Rattle.sdd_log.specs.Snapshots.{base_of, frags_asked, is_at, items_of, snapshots, snapshots_at, with_item}
+use Rattle.sdd_invariants.proofs.Recorded.{start_of_active}
+use Rattle.sdd_invariants.specs.Puts.{IsWrite}
+use Rattle.sdd_order.specs.Numbers.{IsModule}
+use Rattle.sdd_invariants.proofs.Installed.{apply_of_head, class_number, commit_put_is, head_put}
+use Rattle.sdd_invariants.proofs.Starting.{t_commit, u_commit}
+use Rattle.sdd_invariants.specs.Causes.{IsBased}
+use Rattle.sdd_invariants.specs.Seen.{changes_to}
+use Rattle.sdd_invariants.proofs.Bools.{and_left, and_right, if_way, true_or_false}
+use Rattle.sdd_invariants.specs.Steps.{home, start_at}
+use Rattle.sdd_invariants.specs.Traffic.{to_site}
+use Rattle.sdd_invariants.proofs.Fair.{home_fair}
+use Rattle.sdd_invariants.proofs.Made.{permitted_before, place_of_act}
+use Rattle.sdd_lawful.specs.Given.{HasSoundData}
+use Rattle.sdd_lawful.proofs.Classes.{at_home, home_setting}
+use Rattle.sdd_lawful.proofs.Committed.{one_active}
+use Rattle.sdd_lawful.proofs.Commits.{text_of_head}
+
+abbrev pub IsValid : Catalogue → Change → Type 0
+IsValid cat c = IsChange cat ((c.frag.0, c.key), c.row)
+
+abbrev pub AllValid : Catalogue → List Change → Type 0
+AllValid cat changes = AllByRecursion (IsValid cat) changes
+
+abbrev pub AllValidAt : Catalogue → Dated → Type 0
+AllValidAt cat xs = AllByRecursion (λ (x : ℕ × Change). IsValid cat x.1) xs
+
+-- lists
+
+pub all_join : {A : Type 0} (P : A → Type 0) (xs ys : List A) → AllByRecursion P xs → AllByRecursion P ys → AllByRecursion P (xs ++ ys)
+all_join P [] ys h k = k
+all_join P (x ∷ xs) ys h k = (h.0, all_join P xs ys h.1 k)
+
+all_front : {A : Type 0} (P : A → Type 0) (xs ys : List A) → AllByRecursion P (xs ++ ys) → AllByRecursion P xs
+all_front P [] ys h = tt
+all_front P (x ∷ xs) ys h = (h.0, all_front P xs ys h.1)
+
+all_gathered : {A B : Type 0} (P : B → Type 0) (f : A → List B) (xs : List A) → ((x : A) → AllByRecursion P (f x)) → AllByRecursion P (flat_map f xs)
+all_gathered P f [] h = tt
+all_gathered P f (x ∷ xs) h = all_join P (f x) (flat_map f xs) (h x) (all_gathered P f xs h)
+
+all_filtered : {A : Type 0} (P : A → Type 0) (p : A → Bool) (xs : List A) → AllByRecursion P xs → AllByRecursion P (filter p xs)
+all_filtered P p [] h = tt
+all_filtered P p (x ∷ xs) h =
+    let i = all_filtered P p xs h.1 in
+    elim (p x) as (λ b. AllByRecursion P (cond b (x ∷ filter p xs) (filter p xs))) [ true ↦ (h.0, i) | false ↦ i ]
+
+all_dated : (cat : Catalogue) (t : ℕ) (changes : List Change) → AllValid cat changes → AllValidAt cat (map (λ x. (t, x)) changes)
+all_dated cat t [] h = tt
+all_dated cat t (c ∷ changes) h = (h.0, all_dated cat t changes h.1)
+
+-- copies hold entries of the database
+
+abbrev item_in : ℕ → ℤ → Item
+item_in rel key = (rel, key)
+
+abbrev entry_at : Item → Row → Item × Row
+entry_at item row = (item, row)
+
+entry_from : (cat : Catalogue) → IsSound cat → (f : ℕ) (c : Change) (e : Item × Row) → IsValid cat c → c.frag.0 ≡ f
+    → item_in (fragment_at cat f).rel.0 c.key ≡ e.0 → c.row ≡ Some e.1 → IsEntry cat e
+entry_from cat sound f c e v frag item row =
+    let rel : (fragment_at cat f).rel.0 ≡ v.rel = ap (λ n. (fragment_at cat n).rel.0) (sym frag ∙ v.frag) ∙ entry_placed cat sound v.rel c.key v.there v.held in
+    let has = subst (HasRow cat v.rel c.key) row v.row in
+    let here : IsEntry cat (entry_at (item_in v.rel c.key) e.1) = record { relation = v.there; row = has.0; key = has.1; key_held = v.held } in
+    subst (λ i. IsEntry cat (entry_at i e.1)) (ap (λ r. item_in r c.key) (sym rel) ∙ item) here
+
+entries_left : (cat : Catalogue) → IsSound cat → (xs : Dated) → AllValidAt cat xs → (f : ℕ) → AllByRecursion (IsEntry cat) (items_of cat xs f)
+entries_left cat sound xs all f =
+    all_have (IsEntry cat) (items_of cat xs f) (λ e h. let g = held_by cat f xs e h in
+    entry_from cat sound f g.0.1 e (each_has (λ (x : ℕ × Change). IsValid cat x.1) xs g.0 all g.1.there) g.1.frag g.1.item g.1.row)
+
+-- the changes that a data module has applied, where those of each WRITE that it applied are valid
+
+abbrev pub AppliesValid : Catalogue → SiteLog → Type 0
+AppliesValid cat l =
+    (c : ℕ) (r : Rec) (sends : List (Site × Msg)) (later before : SiteLog) → l ≡ later ++ Did (Records c r sends) ∷ before → is_apply r ≡ true
+    → AllValidAt cat (changes_in (head (pipe c before)))
+
+less_valid : (cat : Catalogue) (e : site.Entry) (l : SiteLog) → AppliesValid cat (e ∷ l) → AppliesValid cat l
+less_valid cat e l h = λ c r sends later before is a. h c r sends (e ∷ later) before (ap (λ k. e ∷ k) is) a
+
+applied_valid : (cat : Catalogue) (c : ℕ) (l : SiteLog) → AppliesValid cat l → AllValidAt cat (applied c l)
+applied_valid cat c [] h = tt
+applied_valid cat c (Did (Records k r sends) ∷ l) h =
+    let i = applied_valid cat c l (less_valid cat (Did (Records k r sends)) l h) in
+    elim (true_or_false ((k == c) && is_apply r)) [
+      | inl p ↦ (let e : k ≡ c = eqb-true k c (and_left (k == c) (is_apply r) p) in
+          let now = h k r sends [] l refl (and_right (k == c) (is_apply r) p) in
+          rw p (all_join _ (applied c l) (changes_in (head (pipe c l))) i (subst (λ j. AllValidAt cat (changes_in (head (pipe j l)))) e now)))
+      | inr p ↦ rw p i
+    ]
+applied_valid cat c (Did (Sends to m hand) ∷ l) h = applied_valid cat c l (less_valid cat (Did (Sends to m hand)) l h)
+applied_valid cat c (Handed from m ∷ l) h = applied_valid cat c l (less_valid cat (Handed from m) l h)
+applied_valid cat c (Ticked n ∷ l) h = applied_valid cat c l (less_valid cat (Ticked n) l h)
+applied_valid cat c (Submits n text ∷ l) h = applied_valid cat c l (less_valid cat (Submits n text) l h)
+applied_valid cat c (Redeclared force t ∷ l) h = applied_valid cat c l (less_valid cat (Redeclared force t) l h)
+
+-- the rows with which a module begins
+
+first_valid : (cat : Catalogue) (es : Database) → AllByRecursion (IsEntry cat) es → AllValidAt cat (map (first_row cat) es)
+first_valid cat [] h = tt
+first_valid cat (e ∷ es) h =
+    (record { rel = e.0.0; there = h.0.relation; held = h.0.key_held; frag = refl; row = (h.0.row, h.0.key) }, first_valid cat es h.1)
+
+pub dated_valid : (s : Setting) (l : SiteLog) → AllByRecursion (IsEntry s.catalogue) (database_of s.catalogue s.rows) → AppliesValid s.catalogue l
+    → AllValidAt s.catalogue (dated s l)
+dated_valid s l first h =
+    all_join _ (first_rows s) (flat_map (λ c. applied c l) (classes_of s)) (first_valid s.catalogue (database_of s.catalogue s.rows) first)
+    (all_gathered _ (λ c. applied c l) (classes_of s) (λ c. applied_valid s.catalogue c l h))
+
+-- what an attempt reads at a module
+
+snapshots_valid : (s : Setting) → IsSound s.catalogue → (ts : ℕ) (l : SiteLog) → AllByRecursion (IsEntry s.catalogue) (database_of s.catalogue s.rows)
+    → AppliesValid s.catalogue l → AllByRecursion (IsEntry s.catalogue) (snapshots s ts l)
+snapshots_valid s sound ts [] first h = tt
+snapshots_valid s sound ts (Did (Records k (Answer txn attempt dm) sends) ∷ l) first h =
+    let less = less_valid s.catalogue (Did (Records k (Answer txn attempt dm) sends)) l h in
+    if_way (AllByRecursion (IsEntry s.catalogue)) (is_at ts (head (pipe k l))) (flat_map (items_of s.catalogue (dated s l)) (frags_asked (head (pipe k l)))) (snapshots s ts l)
+    (all_gathered (IsEntry s.catalogue) (items_of s.catalogue (dated s l)) (frags_asked (head (pipe k l))) (λ f. entries_left s.catalogue sound (dated s l) (dated_valid s l first less) f))
+    (snapshots_valid s sound ts l first less)
+snapshots_valid s sound ts (Did (Records k r sends) ∷ l) first h = snapshots_valid s sound ts l first (less_valid s.catalogue (Did (Records k r sends)) l h)
+snapshots_valid s sound ts (Did (Sends to m hand) ∷ l) first h = snapshots_valid s sound ts l first (less_valid s.catalogue (Did (Sends to m hand)) l h)
+snapshots_valid s sound ts (Handed from m ∷ l) first h = snapshots_valid s sound ts l first (less_valid s.catalogue (Handed from m) l h)
+snapshots_valid s sound ts (Ticked n ∷ l) first h = snapshots_valid s sound ts l first (less_valid s.catalogue (Ticked n) l h)
+snapshots_valid s sound ts (Submits n text ∷ l) first h = snapshots_valid s sound ts l first (less_valid s.catalogue (Submits n text) l h)
+snapshots_valid s sound ts (Redeclared force t ∷ l) first h = snapshots_valid s sound ts l first (less_valid s.catalogue (Redeclared force t) l h)
+
+put_together : (cat : Catalogue) (start es : Database) → AllByRecursion (IsEntry cat) start → AllByRecursion (IsEntry cat) es
+    → AllByRecursion (IsEntry cat) (fold with_item start es)
+put_together cat start [] h k = h
+put_together cat start (e ∷ es) h k = put_together cat (with_item start e) es (each_inserted item_cmp item_cmp_exact (IsEntry cat) start e.0 e.1 h k.0) k.1
+
+-- a Commit's changes, in the whole log
+
+abbrev pub CommitsValid : Given → Log → Type 0
+CommitsValid g log =
+    (c : ℕ) (bases : Bases) (a : Running) (later before : Log) → log ≡ later ++ Does (home g.catalogue c) (commit_act g.catalogue bases c a) ∷ before
+    → active (home_setting g c) c (at_home g c before) ≡ Some a → AllValid g.catalogue (effect g.catalogue (bases a.ts) a.text).changes
+
+abbrev pub AllBegin : Given → Type 0
+AllBegin g = (d : ℕ) → IsModule g.catalogue d → AllByRecursion (IsEntry g.catalogue) (database_of g.catalogue (rows_of g (D (dm_no d))))
+
+-- what a data module applies is a WRITE of such a Commit
+pub applies_valid : (g : Given) (d : ℕ) (log : Log) → IsPermitted g log → CommitsValid g log → AppliesValid g.catalogue (local_of g (D (dm_no d)) log)
+applies_valid g d log h valid c (Apply txn of dm ts) sends later before is a =
+    let at : DmNo = dm_no d in
+    let act : Act = Records c (Apply txn of dm ts) sends in
+    let p = place_of_act g (D at) log later act before is in
+    let now : IsPermitted g (Does (D at) act ∷ p.rest) = permitted_before g p.later (Does (D at) act ∷ p.rest) (subst (IsPermitted g) p.is h) in
+    let w = apply_of_head g p.rest at c txn of dm ts sends now in
+    let m : Msg = Write ts of txn w.0 in
+    let put = head_put g c at p.rest m now.1 w.1 in
+    let z : of.0 ≡ c = class_number of.0 c ts.0 put.of_class in
+    let r : IsWrite (home_setting g c) (at_home g c put.before) put.act c ts.0 txn.0 = subst (λ j. IsWrite (home_setting g c) (at_home g c put.before) put.act j ts.0 txn.0) z put.by in
+    let sent = subst (λ y. slice_get (to_site (D at) (sends_of_act y)) put.place ≡ Some m) r.act_is put.there in
+    let same = commit_put_is (home_setting g c) c r.bases r.attempt at put.place m sent in
+    let whole : log ≡ (p.later ++ Does (D at) act ∷ put.later) ++ Does (home g.catalogue c) (commit_act g.catalogue r.bases c r.attempt) ∷ put.before =
+    p.is ∙ ap (λ k. p.later ++ Does (D at) act ∷ k) (put.is ∙ ap (λ y. put.later ++ Does (home g.catalogue c) y ∷ put.before) r.act_is) ∙ sym (append_assoc p.later (Does (D at) act ∷ put.later) (Does (home g.catalogue c) (commit_act g.catalogue r.bases c r.attempt) ∷ put.before)) in
+    let v = valid c r.bases r.attempt (p.later ++ Does (D at) act ∷ put.later) put.before whole r.active_is in
+    let some = all_filtered (IsValid g.catalogue) (λ x. has_copy g.catalogue d x.frag.0) (effect g.catalogue (r.bases r.attempt.ts) r.attempt.text).changes v in
+    let sent_valid : AllValidAt g.catalogue (changes_in (Some m)) = subst (λ y. AllValidAt g.catalogue (changes_in (Some y))) (sym same.0) (all_dated g.catalogue r.attempt.ts (changes_to g r.bases r.attempt at) some) in
+    let top : head (pipe c before) ≡ Some m = subst (λ k. head (pipe c k) ≡ Some m) p.local_is w.1 in
+    subst (λ o. AllValidAt g.catalogue (changes_in o)) (sym top) sent_valid
+applies_valid g d log h valid c r sends later before is a = cc
+
+-- at the modules from a on
+all_at_modules : (g : Given) (log : Log) (ts : ℕ) → IsSound g.catalogue → IsPermitted g log → AllBegin g → CommitsValid g log
+    → (a n : ℕ) → 1 ≤ a → a + n ≤ suc g.catalogue.dms → AllByRecursion (IsEntry g.catalogue) (flat_map (snapshots_at g log ts) (range_with_len a n))
+all_at_modules g log ts sound h begin valid a zero lo hi = tt
+all_at_modules g log ts sound h begin valid a (suc n) lo hi =
+    all_join (IsEntry g.catalogue) (snapshots_at g log ts a) (flat_map (snapshots_at g log ts) (range_with_len (a + 1) n))
+    (snapshots_valid (setting_of g (D (dm_no a))) sound ts (local_of g (D (dm_no a)) log) (begin a (lo, omega arith)) (applies_valid g a log h valid))
+    (all_at_modules g log ts sound h begin valid (a + 1) n (omega arith) (omega arith))
+
+-- so the database that an attempt reads has entries of the catalogue alone
+pub base_valid : (g : Given) (log : Log) (ts : ℕ) → IsSound g.catalogue → IsPermitted g log → AllBegin g → CommitsValid g log
+    → AllByRecursion (IsEntry g.catalogue) (base_of g log ts)
+base_valid g log ts sound h begin valid =
+    put_together g.catalogue [] (flat_map (snapshots_at g log ts) (numbers_to g.catalogue.dms)) tt
+    (all_at_modules g log ts sound h begin valid 1 g.catalogue.dms (omega arith) (omega arith))
+
+-- and what the transaction changes on it are items of the catalogue
+
+abbrev pub IsRunSite : Site → Type 0
+IsRunSite (D d) = ⊥
+IsRunSite _ = Unit {0}
+
+pub home_runs : (cat : Catalogue) (c : ℕ) → IsRunSite (home cat c)
+home_runs cat c = if_way IsRunSite (c == 0) U (T (tm_no (class_at cat c).tm.0)) tt tt
+
+pub all_slice : {A : Type 0} (P : A → Type 0) (xs : List A) (k : ℕ) (x : A) → AllByRecursion P xs → slice_get xs k ≡ Some x → P x
+all_slice P [] k x h e = cc
+all_slice {A = A} P (y ∷ xs) zero x h e = let p : ◌≡◌ {A = A} y x = cc in subst P p h.0
+all_slice P (y ∷ xs) (suc k) x h e = all_slice P xs k x h.1 e
+
+pub all_begin : (g : Given) (rows : List (RelNo × Row)) → HasSoundData g rows → AllBegin g
+all_begin g rows fine d m =
+    subst (λ r. AllByRecursion (IsEntry g.catalogue) (database_of g.catalogue r)) (sym (fine.alike d m))
+    (recursion_from_All (IsEntry g.catalogue) (database_of g.catalogue rows) (rows_make_database g.catalogue rows fine.rows_fit fine.rows_held).entries)
+
+-- an active attempt has the text that was submitted
+text_of_active : (g : Given) (c : ℕ) (log : Log) (a : Running) → IsPermitted g log → active (home_setting g c) c (at_home g c log) ≡ Some a
+    → txn_at g a.txn ≡ Some a.text
+text_of_active g c log a h e =
+    let st = start_of_active (home_setting g c) c (at_home g c log) a (home_fair g c log h) e in
+    let p = place_of_act g (home g.catalogue c) log st.later (start_at (home_setting g c) c st.before st.queued) st.before st.is in
+    let hp = permitted_before g p.later (Does (home g.catalogue c) (start_at (home_setting g c) c st.before st.queued) ∷ p.rest) (subst (IsPermitted g) p.is h) in
+    ap (txn_at g) st.number_is ∙ text_of_head g c p.rest st.queued hp.1 (subst (λ l. head_of (queue (home_setting g c) c l) ≡ Some st.queued) (sym p.local_is) st.head) ∙ ap (λ t. Some t) (sym st.text_is)
+
+pub base_is : (g : Given) (at : Site) (log : Log) (act : Act) → IsPermitted g (Does at act ∷ log) → IsRunSite at → IsBased (setting_of g at) (base_of g log) (local_of g at log) act
+base_is g U log act h s = u_commit g log act h
+base_is g (T t) log act h s = t_commit g t log act h
+base_is g (D d) log act h s = absurd s
+
+commit_valid : (g : Given) (rows : List (RelNo × Row)) (c : ℕ) (bases : Bases) (a : Running) (log : Log) → IsSound g.catalogue → HasSoundData g rows
+    → IsPermitted g (Does (home g.catalogue c) (commit_act g.catalogue bases c a) ∷ log)
+    → active (home_setting g c) c (at_home g c log) ≡ Some a → CommitsValid g log → AllValid g.catalogue (effect g.catalogue (bases a.ts) a.text).changes
+commit_valid g rows c bases a log sound fine h act valid =
+    let based = base_is g (home g.catalogue c) log (commit_act g.catalogue bases c a) h (home_runs g.catalogue c) in
+    let same : based.0 ≡ a = one_active (home_setting g c) c (at_home g c log) based.0 a based.1 act in
+    let changes : (effect g.catalogue (bases a.ts) a.text).changes ≡ (effect g.catalogue (base_of g log a.ts) a.text).changes = based.3 ∙ ap (λ (y : Running). (effect g.catalogue (base_of g log y.ts) y.text).changes) same in
+    let text : txn_at g a.txn ≡ Some a.text = text_of_active g c log a h.1 act in
+    let fits = all_slice (Fits g.catalogue) g.txns (a.txn - 1) a.text (recursion_from_All (Fits g.catalogue) g.txns fine.txns_fit) text in
+    let held = all_slice (λ (t : Txn). All PutsHeld t.statements) g.txns (a.txn - 1) a.text (recursion_from_All (λ (t : Txn). All PutsHeld t.statements) g.txns fine.txns_held) text in
+    let entries = base_valid g log a.ts sound h.1 (all_begin g rows fine) valid in
+    subst (AllValid g.catalogue) (sym changes) (effect_changes g.catalogue sound (base_of g log a.ts) entries a.text.statements [] [] (recursion_from_All (FitsStatement g.catalogue) a.text.statements fits.statements) (recursion_from_All PutsHeld a.text.statements held) tt)
+
+pub commits_valid : (g : Given) (rows : List (RelNo × Row)) (log : Log) → IsSound g.catalogue → HasSoundData g rows → IsPermitted g log → CommitsValid g log
+commits_valid g rows [] sound fine h c bases a [] before is act = cc
+commits_valid g rows [] sound fine h c bases a (x ∷ later) before is act = cc
+commits_valid g rows (e ∷ log) sound fine h c bases a [] before is act =
+    let p : e ≡ Does (home g.catalogue c) (commit_act g.catalogue bases c a) = cc in
+    let q : log ≡ before = cc in
+    let now : IsPermitted g (Does (home g.catalogue c) (commit_act g.catalogue bases c a) ∷ before) = subst (λ l. IsPermitted g (Does (home g.catalogue c) (commit_act g.catalogue bases c a) ∷ l)) q (subst (λ y. IsPermitted g (y ∷ log)) p h) in
+    commit_valid g rows c bases a before sound fine now act (subst (CommitsValid g) q (commits_valid g rows log sound fine h.1))
+commits_valid g rows (e ∷ log) sound fine h c bases a (x ∷ later) before is act =
+    let q : log ≡ later ++ Does (home g.catalogue c) (commit_act g.catalogue bases c a) ∷ before = cc in
+    commits_valid g rows log sound fine h.1 c bases a later before q act

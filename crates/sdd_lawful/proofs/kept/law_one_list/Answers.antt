@@ -1,0 +1,23 @@
+use Rattle.sdd_catalog.specs.Catalogue.{Catalogue}
+use Rattle.sdd_log.specs.Entries.{history}
+use Rattle.sdd_lawful.proofs.Named.{numbers_exist, txns_exist}
+use Rattle.sdd_lawful.proofs.OneEra.{keeps_eras, of_one_era}
+use Rattle.sdd_lawful.proofs.Together.{has_order, no_cycle}
+use Rattle.sdd_lawful.proofs.kept.law_one_list.Goals as goal
+use Rattle.sdd_lawful.specs.Given.{one_era}
+
+pub returns-clause-acyclic : goal.returns-clause-acyclic
+returns-clause-acyclic g = λ given rows log sound fine permitted force first none numbered.
+    let cat : Catalogue = given.catalogue in
+    let are = of_one_era given log force first none in
+    no_cycle given rows (one_era cat) log sound.catalogue fine permitted are (keeps_eras cat (history log))
+    (numbers_exist given rows (one_era cat) log sound.catalogue fine permitted are numbered)
+    (txns_exist given rows (one_era cat) log sound.catalogue fine permitted are numbered)
+
+pub returns-clause-orderable : goal.returns-clause-orderable
+returns-clause-orderable g = λ given rows log sound fine permitted force first none numbered.
+    let cat : Catalogue = given.catalogue in
+    let are = of_one_era given log force first none in
+    has_order given rows (one_era cat) log sound.catalogue fine permitted are (keeps_eras cat (history log))
+    (numbers_exist given rows (one_era cat) log sound.catalogue fine permitted are numbered)
+    (txns_exist given rows (one_era cat) log sound.catalogue fine permitted are numbered)

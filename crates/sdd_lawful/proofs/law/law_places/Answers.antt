@@ -1,0 +1,14 @@
+use Rattle.sdd_lawful.proofs.Places.{entries_in_order, event_there, made_at, stands_there}
+use Rattle.sdd_lawful.proofs.law.law_places.Goals as goal
+
+pub returns-clause-made : goal.returns-clause-made
+returns-clause-made g = made_at
+
+pub returns-clause-stands : goal.returns-clause-stands
+returns-clause-stands g = stands_there
+
+pub returns-clause-event : goal.returns-clause-event
+returns-clause-event g = event_there
+
+pub returns-clause-in_order : goal.returns-clause-in_order
+returns-clause-in_order g = entries_in_order

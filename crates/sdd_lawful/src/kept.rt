@@ -1,0 +1,112 @@
+ghost use Rattle.std.specs.Prelude.{◌≡◌, ℕ, List, length};
+ghost use Rattle.std.specs.List.{AllZip};
+ghost use Rattle.sdd_base.specs.declared.number.RelNo.{RelNo};
+ghost use Rattle.sdd_base.specs.declared.number.TxnNo.{TxnNo};
+ghost use Rattle.sdd_lang.specs.Agree.{rows_in_fragment};
+ghost use Rattle.sdd_lang.specs.Database.{Row};
+ghost use Rattle.sdd_log.specs.Entries.{Given, Log, history};
+ghost use Rattle.sdd_log.specs.Lawful.{IsLawful};
+ghost use Rattle.sdd_log.specs.Locals.{IsForce, force_at, redeclares};
+ghost use Rattle.sdd_log.specs.Permitted.{IsPermitted};
+ghost use Rattle.sdd_laws.specs.Eras.{Eras};
+ghost use Rattle.sdd_laws.specs.Few.{AreFew};
+ghost use Rattle.sdd_laws.specs.Kept.{KeepsLaws};
+ghost use Rattle.sdd_laws.specs.Numbers.{TxnsExist};
+ghost use Rattle.sdd_laws.specs.Redeclares.{KeepsEras};
+ghost use Rattle.sdd_laws.specs.Replay.{AreAllApplied, IsReplyOf, run};
+ghost use Rattle.sdd_laws.specs.Snapshots.{copy_at, items_of};
+ghost use Rattle.sdd_order.specs.Numbers.{NumbersExist};
+ghost use Rattle.sdd_order.specs.Orders.{IsOrderable, IsSerial};
+ghost use Rattle.sdd_order.specs.Precedence.{HasNoCycle};
+ghost use Rattle.sdd_lawful.specs.Given.{AreErasOf, AreNumbered, HasSoundData, IsSoundGiven, SubmitGiven, one_era};
+
+/// All laws by which there is a serial order. That of eras is taken: it holds of lawful logs alone.
+pub fn law_kept()
+    ensures { (given : Given) (rows : List (RelNo × Row)) (eras : Eras) (log : Log)
+        → IsSoundGiven given → HasSoundData given rows → IsPermitted given log
+        → AreErasOf given log eras → KeepsEras given.catalogue eras (history log)
+        → KeepsLaws given.catalogue eras rows given.txns (history log) }
+{}
+
+/// The numbers that the history names exist, and so do its transactions.
+pub fn law_named()
+    ensures numbers { (given : Given) (rows : List (RelNo × Row)) (eras : Eras) (log : Log)
+        → IsSoundGiven given → HasSoundData given rows → IsPermitted given log
+        → AreErasOf given log eras → AreNumbered given log
+        → NumbersExist given.catalogue (history log) }
+    ensures txns { (given : Given) (rows : List (RelNo × Row)) (eras : Eras) (log : Log)
+        → IsSoundGiven given → HasSoundData given rows → IsPermitted given log
+        → AreErasOf given log eras → AreNumbered given log
+        → TxnsExist (length given.txns) (history log) }
+{}
+
+/// No cycle of precedence among the committed transactions, and so a serial order.
+pub fn law_ordered()
+    ensures acyclic { (given : Given) (rows : List (RelNo × Row)) (eras : Eras) (log : Log)
+        → IsSoundGiven given → HasSoundData given rows → IsPermitted given log
+        → AreErasOf given log eras → KeepsEras given.catalogue eras (history log)
+        → AreNumbered given log
+        → HasNoCycle given.catalogue (history log) }
+    ensures orderable { (given : Given) (rows : List (RelNo × Row)) (eras : Eras) (log : Log)
+        → IsSoundGiven given → HasSoundData given rows → IsPermitted given log
+        → AreErasOf given log eras → KeepsEras given.catalogue eras (history log)
+        → AreNumbered given log
+        → IsOrderable given.catalogue (history log) }
+{}
+
+/// The same where no further list of classes is put in force: then nothing is taken of eras.
+pub fn law_one_list()
+    ensures acyclic { (given : Given) (rows : List (RelNo × Row)) (log : Log)
+        → IsSoundGiven given → HasSoundData given rows → IsPermitted given log
+        → IsForce (force_at given 0) → (force_at given 0).catalogue ≡ given.catalogue
+        → redeclares log ≡ 0 → AreNumbered given log
+        → HasNoCycle given.catalogue (history log) }
+    ensures orderable { (given : Given) (rows : List (RelNo × Row)) (log : Log)
+        → IsSoundGiven given → HasSoundData given rows → IsPermitted given log
+        → IsForce (force_at given 0) → (force_at given 0).catalogue ≡ given.catalogue
+        → redeclares log ≡ 0 → AreNumbered given log
+        → IsOrderable given.catalogue (history log) }
+{}
+
+/// Of a lawful log whose events submit each transaction once, where no further list of classes is
+/// put in force: its history keeps all laws, and has a serial order.
+pub fn law_lawful()
+    ensures laws { (given : Given) (rows : List (RelNo × Row)) (log : Log)
+        → IsSoundGiven given → HasSoundData given rows → SubmitGiven given → IsLawful given log
+        → IsForce (force_at given 0) → (force_at given 0).catalogue ≡ given.catalogue
+        → redeclares log ≡ 0
+        → KeepsLaws given.catalogue (one_era given.catalogue) rows given.txns (history log) }
+    ensures acyclic { (given : Given) (rows : List (RelNo × Row)) (log : Log)
+        → IsSoundGiven given → HasSoundData given rows → SubmitGiven given → IsLawful given log
+        → IsForce (force_at given 0) → (force_at given 0).catalogue ≡ given.catalogue
+        → redeclares log ≡ 0
+        → HasNoCycle given.catalogue (history log) }
+    ensures orderable { (given : Given) (rows : List (RelNo × Row)) (log : Log)
+        → IsSoundGiven given → HasSoundData given rows → SubmitGiven given → IsLawful given log
+        → IsForce (force_at given 0) → (force_at given 0).catalogue ≡ given.catalogue
+        → redeclares log ≡ 0
+        → IsOrderable given.catalogue (history log) }
+{}
+
+/// One plain database that runs the transactions along a serial order gives the replies of their
+/// Commits, and leaves what the copies have at which all are applied.
+pub fn law_replayed()
+    ensures replies { (given : Given) (rows : List (RelNo × Row)) (eras : Eras) (log : Log)
+        (order : List TxnNo) → IsSoundGiven given → HasSoundData given rows
+        → IsPermitted given log → AreErasOf given log eras
+        → IsSerial given.catalogue (history log) order
+        → AllZip (IsReplyOf (history log)) order (run given.catalogue rows given.txns order).0 }
+    ensures copies { (given : Given) (rows : List (RelNo × Row)) (eras : Eras) (log : Log)
+        (order : List TxnNo) → IsSoundGiven given → HasSoundData given rows
+        → IsPermitted given log → AreErasOf given log eras
+        → IsSerial given.catalogue (history log) order
+        → (f d k : ℕ) → AreAllApplied (history log) f d k
+        → rows_in_fragment given.catalogue (run given.catalogue rows given.txns order).1 f
+        ≡ items_of given.catalogue f (copy_at given.catalogue rows (history log) d k f) }
+{}
+
+/// A transaction starts at most once more often than others commit.
+pub fn law_few()
+    ensures { (given : Given) (eras : Eras) (log : Log) → IsSoundGiven given
+        → IsPermitted given log → AreErasOf given log eras → AreFew (history log) }
+{}

@@ -1,0 +1,16 @@
+-- The catalogues in force of the workload with a further list of classes: each list retires those before it, and the
+-- catalogue of the whole workload has the classes of all lists.
+use Rattle.std.specs.Prelude.{◌≡◌, [], ◌∷◌, map, refl}
+use Rattle.sdd_base.specs.Numbers.{tm_no, dm_no, frag_no}
+use Rattle.sdd_catalog.specs.declared.resolved.Class.{Class}
+use Rattle.sdd_catalog.specs.Eras.{eras, whole}
+use Rattle.sdd_log_examples.specs.Classes.{catalogue_of_further_classes, classes_of_further_classes_0, given_further_classes}
+
+abbrev audit : Class
+audit = record { name = []; tm = tm_no 1; reads = record { fragment = frag_no 1; at = dm_no 1 } ∷ []; writes = [] }
+
+pub in_force : map (λ f. f.catalogue) given_further_classes.forces ≡ eras classes_of_further_classes_0 ((audit ∷ []) ∷ [])
+in_force = refl
+
+pub with_all : whole classes_of_further_classes_0 ((audit ∷ []) ∷ []) ≡ catalogue_of_further_classes
+with_all = refl

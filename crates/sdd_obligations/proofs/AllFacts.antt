@@ -1,0 +1,132 @@
+-- All that the modules ask: what is next on a lawful log fits the module to which it goes.
+use Rattle.std.proofs.Common.{ℕ, ◌/◌, ◌<◌, ◌==◌, ◌^◌, ◌∷◌, ◌≡◌, ◌≤◌, Bool, Some, arith, false, if◌then◌else◌, subst, suc, sym, true}
+use Rattle.sdd_base.specs.Numbers.{tm_no}
+use Rattle.sdd_base.specs.declared.event.Event.TheVariants.{Tick}
+use Rattle.sdd_base.specs.declared.number.DmNo.{DmNo}
+use Rattle.sdd_base.specs.declared.number.TmNo.{TmNo}
+use Rattle.sdd_base.specs.declared.site.Site.{Site}
+use Rattle.sdd_base.specs.declared.site.Site.TheVariants.{D, T, U}
+use Rattle.sdd_catalog.proofs.Sound.{sound_whole}
+use Rattle.sdd_lang.specs.Classes.{class_for}
+use Rattle.sdd_lang.specs.declared.transaction.Txn.{Txn}
+use Rattle.sdd_wire.specs.declared.msg.Msg.{Msg}
+use Rattle.sdd_attempt.specs.Clocks.{clock}
+use Rattle.sdd_attempt.specs.Fits.{FitsSite}
+use Rattle.sdd_log.specs.Due.{home_of, next}
+use Rattle.sdd_log.specs.Entries.{Entry, Given, Hand, Log, Mark, Redeclares, Submitted}
+use Rattle.sdd_log.specs.Marks.{greatest_bound}
+use Rattle.sdd_log.specs.Lawful.{IsLawful, IsWithin}
+use Rattle.sdd_log.specs.Locals.{force_at, local_of, redeclares, setting_of, txn_at}
+use Rattle.sdd_log.specs.Snapshots.{base_of}
+use Rattle.sdd_log.proofs.NewMarks.{lawful_permitted}
+use Rattle.sdd_obligations.proofs.Put.{databases}
+use Rattle.sdd_obligations.specs.Facts.{Facts}
+use Rattle.sdd_obligations.proofs.Early.{clock_below, height_below, is_under}
+use Rattle.sdd_obligations.specs.Given.{IsFit}
+use Rattle.sdd_obligations.specs.Real.{FitsForce, IsGood, fits, fits_submit}
+use Rattle.sdd_obligations.specs.Heights.{height, top}
+use Rattle.sdd_obligations.proofs.OfNext.{of_next}
+use Rattle.sdd_obligations.proofs.Under.{div_le, greatest_le}
+use Rattle.sdd_obligations.proofs.FitsAtD.{d_fits}
+use Rattle.sdd_obligations.proofs.FitsAtT.{t_fits, u_fits}
+use Rattle.sdd_obligations.proofs.Handing.{is_handed}
+use Rattle.sdd_obligations.proofs.Exchanged.{served_here, upheld_d, upheld_r}
+use Rattle.sdd_obligations.proofs.Submitting.{at_home, declared_here, home_exists, is_new}
+use Rattle.sdd_obligations.proofs.Upholding.{sends_linked}
+
+early : (t : ℕ) → t < 2 ^ 53 → t < 2 ^ 56
+early t l = omega (arith, l)
+
+fit_of : (g : Given) → IsGood g → IsFit g
+fit_of g good =
+    let w = sound_whole g.catalogue good.given.sound in
+    record {
+      small = record { few_tms = w.few_tms; few_dms = w.few_dms; few_classes = w.few_classes; few_ticks = good.few_ticks; once = good.once };
+      whole = w;
+      txns_fit = λ n txn e. (good.given.txns n txn e).fits;
+    }
+
+site_fits : (g : Given) (log : Log) (at : Site) (e : Entry) → IsGood g → IsLawful g log → IsWithin log → next g log ≡ Some e
+    → FitsSite (setting_of g at) (base_of g (e ∷ log)) (local_of g at log)
+site_fits g log at e good l w p =
+    record {
+      time = early (clock at (local_of g at log)).ticks (clock_below g log at (fit_of g good).small l w);
+      databases = databases g good.given (e ∷ log) (lawful_permitted g (e ∷ log) (fit_of g good).small.once (p, l));
+    }
+
+hand_fits : (g : Given) → IsGood g → (log : Log) (a b : Site) (n : ℕ) (m : Msg) → IsLawful g log → IsWithin log → next g log ≡ Some (Hand a b n m)
+    → fits b (setting_of g b) (base_of g (Hand a b n m ∷ log)) (local_of g b log) a m
+hand_fits g good log a (D d) n m l w e =
+    let h = is_handed g log a (D d) n m (fit_of g good).small l w e in
+    d_fits g log a d n m (base_of g (Hand a (D d) n m ∷ log)) (fit_of g good).small l e h (upheld_d g log a d n m (fit_of g good).whole good.given h.permitted)
+hand_fits g good log a (T t) n m l w e =
+    let h = is_handed g log a (T t) n m (fit_of g good).small l w e in (
+      site_fits g log (T t) (Hand a (T t) n m) good l w e,
+      t_fits g log a t n m
+          (base_of g (Hand a (T t) n m ∷ log)) (fit_of g good).small h
+          (upheld_r g log a (T t) n m (base_of g (Hand a (T t) n m ∷ log)) (fit_of g good).whole h.permitted
+          (served_here g log a (T t) n m (fit_of g good).whole good.given good.eras h.permitted h.route)),
+    )
+hand_fits g good log a U n m l w e =
+    let h = is_handed g log a U n m (fit_of g good).small l w e in (
+      site_fits g log U (Hand a U n m) good l w e,
+      u_fits g log a n m (base_of g (Hand a U n m ∷ log))
+          (fit_of g good).whole h (upheld_r g log a U n m (base_of g (Hand a U n m ∷ log))
+          (fit_of g good).whole h.permitted (served_here g log a U n m (fit_of g good).whole good.given
+          good.eras h.permitted h.route)),
+    )
+
+not_d : {A : Type 0} (b : Bool) (k : TmNo) (d : DmNo) → D d ≡ (if b then U else T k) → A
+not_d true k d e = cc
+not_d false k d e = cc
+
+submit_fits : (g : Given) → IsGood g → (log : Log) (at : Site) (n : ℕ) (txn : Txn) → IsLawful g log → IsWithin log → next g log ≡ Some (Submitted at n)
+    → txn_at g n ≡ Some txn → fits_submit at (setting_of g at) (base_of g (Submitted at n ∷ log)) (local_of g at log) n txn
+submit_fits g good log U n txn l w e f =
+    record {
+      site = site_fits g log U (Submitted U n) good l w e;
+      fitting = (fit_of g good).txns_fit n txn
+          f;
+      fresh = is_new g log U n txn (fit_of g good).small l e f;
+    }
+submit_fits g good log (T t) n txn l w e f =
+    let r = declared_here g log t n txn (fit_of g good).small l e f in
+    record {
+      site = site_fits g log (T t) (Submitted (T t) n) good l w e;
+      fitting =
+          (fit_of g good).txns_fit n txn f;
+      here = r.0;
+      declared = r.1;
+      fresh =
+          is_new g log (T t) n txn (fit_of g good).small l e f;
+    }
+submit_fits g good log (D d) n txn l w e f =
+    let h : D d ≡ home_of (force_at g (redeclares log)).catalogue (Some txn) =
+    subst (λ o. D d ≡ home_of (force_at g (redeclares log)).catalogue o) f
+    (at_home g log (D d) n (fit_of g good).small l e) in
+    not_d (class_for (force_at g (redeclares log)).catalogue txn == 0) txn.tm d h
+
+early_time : (h t : ℕ) → h < 2 ^ 53 → t ≤ top h → t / 64 < 2 ^ 57
+early_time h t l m = let d : t / 64 ≤ h = div_le t h m in omega (arith, l, d)
+
+redeclare_fits : (g : Given) → IsGood g → (log : Log) (t : ℕ) → IsLawful g log → IsWithin log
+    → next g log ≡ Some (Redeclares t)
+    → FitsForce g.catalogue (force_at g (suc (redeclares log))) t
+redeclare_fits g good log t l w e =
+    let s = (fit_of g good).small in
+    let is : t ≡ greatest_bound g log = of_next g log (Redeclares t) s.few_ticks l e in
+    let low : greatest_bound g log ≤ top (height log) = greatest_le g (height log) log (is_under g log s l) in
+    record {
+      early = early_time (height log) t (height_below g log s l w) (subst (λ x. x ≤ top (height log)) (sym is) low);
+      era = good.eras (suc (redeclares log));
+    }
+
+pub all_facts : Facts
+all_facts = record {
+  hand = hand_fits;
+  submit = submit_fits;
+  home = λ g good log at n l e. home_exists g log at n (fit_of g good).small l e (fit_of g good).txns_fit;
+  tick = λ g good log t n l w e. (base_of g (Mark (Tick (tm_no t) n) ∷ log), site_fits g log (T (tm_no t)) (Mark (Tick (tm_no t) n)) good l w e);
+  redeclare = redeclare_fits;
+  sends = λ g good log at act l e. sends_linked g log at act (fit_of g good) l e;
+}

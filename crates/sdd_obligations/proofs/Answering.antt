@@ -1,0 +1,145 @@
+-- A READY or REJECT that is next to be handed over answers a READ of the site, and is the first that does.
+use Rattle.std.specs.List.{list_any}
+use Rattle.std.proofs.Common.{ℕ, ◌&&◌, ◌++◌, ◌+◌, ◌<◌, ◌==◌, ◌∙◌, ◌∷◌, ◌≡◌, ◌≤◌, Bool, List, Some, [], ap, append_assoc, arith, false, if◌then◌else◌, inl, inr, refl, slice_get, subst, suc, sym, take, true, zero}
+use Rattle.sdd_base.specs.Sites.{number_of, same_site}
+use Rattle.sdd_base.specs.declared.number.DmNo.{DmNo}
+use Rattle.sdd_base.specs.declared.site.Site.{Site}
+use Rattle.sdd_base.specs.declared.site.Site.TheVariants.{D}
+use Rattle.sdd_wire.specs.declared.msg.Msg.{Msg}
+use Rattle.sdd_wire.specs.declared.msg.Msg.TheVariants.{Read}
+use Rattle.sdd_module.specs.SiteLog.{Act, Did, Handed, Redeclared, Setting, Submits, Ticked, sends_of_act}
+use Rattle.sdd_attempt.specs.Fits.{AnswersRead, at_site, handed as all_handed, is_read, is_verdict, sent}
+use Rattle.sdd_log.specs.Entries.{Does, Given, Log}
+use Rattle.sdd_log.specs.Locals.{local_of, setting_of}
+use Rattle.sdd_log.specs.Permitted.{IsPermitted}
+use Rattle.sdd_log.specs.Traffic.{handed}
+use Rattle.sdd_invariants.proofs.Turns.{tally_append, tally_take}
+use Rattle.sdd_invariants.specs.Turns.{one_if, tally}
+use Rattle.sdd_invariants.proofs.Answered.{put_in_by_d}
+use Rattle.sdd_invariants.proofs.Installed.{head_put}
+use Rattle.sdd_invariants.proofs.Bools.{and_left, and_right, both, only_right, or_left, or_right, same_number, true_or_false}
+use Rattle.sdd_invariants.proofs.Lists.{take_one_more}
+use Rattle.sdd_invariants.proofs.Sites.{site_is, site_self}
+use Rattle.sdd_invariants.specs.Steps.{home}
+use Rattle.sdd_invariants.specs.Traffic.{hands_from, puts_to, to_site}
+use Rattle.sdd_invariants.proofs.InOrder.{in_order}
+use Rattle.sdd_invariants.proofs.Made.{local_grows, own_act, permitted_before}
+use Rattle.sdd_obligations.proofs.Verdicts.{in_class, one_verdict, verdict_by}
+use Rattle.sdd_module.specs.SiteLog as site
+
+-- the READ was sent
+
+any_left : (f : Site × Msg → Bool) (xs ys : List (Site × Msg)) → list_any f xs ≡ true → list_any f (xs ++ ys) ≡ true
+any_left f [] ys e = cc
+any_left f (x ∷ xs) ys e = elim (true_or_false (f x)) [
+  | inl p ↦ or_left (f x) (list_any f (xs ++ ys)) p
+  | inr p ↦ or_right (f x) (list_any f (xs ++ ys)) (any_left f xs ys (only_right (f x) (list_any f xs) p e))
+]
+
+any_right : (f : Site × Msg → Bool) (xs ys : List (Site × Msg)) → list_any f ys ≡ true → list_any f (xs ++ ys) ≡ true
+any_right f [] ys e = e
+any_right f (x ∷ xs) ys e = or_right (f x) (list_any f (xs ++ ys)) (any_right f xs ys e)
+
+of_head : (b : Site) (f : Msg → Bool) (p : Site × Msg) (ps : List (Site × Msg)) (k : ℕ) (m : Msg) (c : Bool) → same_site b p.0 ≡ c
+    → ((j : ℕ) → slice_get (to_site b ps) j ≡ Some m → list_any (at_site b f) ps ≡ true)
+    → slice_get (if c then p.1 ∷ to_site b ps else to_site b ps) k ≡ Some m → f m ≡ true → list_any (at_site b f) (p ∷ ps) ≡ true
+of_head b f p ps zero m true q g e h =
+    let r : p.1 ≡ m = cc in
+    let t : same_site p.0 b ≡ true = subst (λ x. same_site x b ≡ true) (site_is b p.0 q) (site_self b) in
+    or_left (same_site p.0 b && f p.1) (list_any (at_site b f) ps) (both (same_site p.0 b) (f p.1) t (ap f r ∙ h))
+of_head b f p ps (suc k) m true q g e h = or_right (same_site p.0 b && f p.1) (list_any (at_site b f) ps) (g k e)
+of_head b f p ps k m false q g e h = or_right (same_site p.0 b && f p.1) (list_any (at_site b f) ps) (g k e)
+
+any_sent : (b : Site) (f : Msg → Bool) (ps : List (Site × Msg)) (k : ℕ) (m : Msg) → slice_get (to_site b ps) k ≡ Some m → f m ≡ true
+    → list_any (at_site b f) ps ≡ true
+any_sent b f [] k m e h = cc
+any_sent b f (p ∷ ps) k m e h = of_head b f p ps k m (same_site b p.0) refl (λ j q. any_sent b f ps j m q h) e h
+
+pub sent_of_act : (b : Site) (f : Msg → Bool) (later : site.Log) (act : Act) (before : site.Log) (k : ℕ) (m : Msg)
+    → slice_get (to_site b (sends_of_act act)) k ≡ Some m → f m ≡ true → list_any (at_site b f) (sent (later ++ Did act ∷ before)) ≡ true
+sent_of_act b f [] act before k m e h = any_left (at_site b f) (sends_of_act act) (sent before) (any_sent b f (sends_of_act act) k m e h)
+sent_of_act b f (Did x ∷ later) act before k m e h =
+    any_right (at_site b f) (sends_of_act x) (sent (later ++ Did act ∷ before)) (sent_of_act b f later act before k m e h)
+sent_of_act b f (Handed from x ∷ later) act before k m e h = sent_of_act b f later act before k m e h
+sent_of_act b f (Ticked n ∷ later) act before k m e h = sent_of_act b f later act before k m e h
+sent_of_act b f (Submits n txn ∷ later) act before k m e h = sent_of_act b f later act before k m e h
+sent_of_act b f (Redeclared force t ∷ later) act before k m e h = sent_of_act b f later act before k m e h
+
+-- what was handed is counted
+
+push_more : (f : Msg → Bool) (c : Bool) (xs : List Msg) (m : Msg) → tally f xs ≤ tally f (if c then xs ++ m ∷ [] else xs)
+push_more f true xs m = let a = tally_append f xs (m ∷ []) in omega (arith, a)
+push_more f false xs m = omega arith
+
+push_one : (f : Msg → Bool) (c d : Bool) (xs : List Msg) (m : Msg) → f m ≡ d → (c && d) ≡ true
+    → 0 < tally f (if c then xs ++ m ∷ [] else xs)
+push_one f true true xs m p e = let a = tally_append f xs (m ∷ []) in let o : one_if (f m) ≡ 1 = ap one_if p in omega (arith, a, o)
+push_one f true false xs m p e = cc
+push_one f false d xs m p e = cc
+
+turned : (a from : Site) (d : Bool) → (same_site from a && d) ≡ true → (same_site a from && d) ≡ true
+turned a from d e =
+    let p : from ≡ a = site_is from a (and_left (same_site from a) d e) in
+    subst (λ x. (same_site x from && d) ≡ true) p (both (same_site from from) d (site_self from) (and_right (same_site from a) d e))
+
+pub counted_hand : (a : Site) (f : Msg → Bool) (l : site.Log) → list_any (at_site a f) (all_handed l) ≡ true → 0 < tally f (hands_from a l)
+counted_hand a f [] e = cc
+counted_hand a f (Handed from m ∷ l) e = elim (true_or_false (same_site from a && f m)) [
+  | inl p ↦ push_one f (same_site a from) (f m) (hands_from a l) m refl (turned a from (f m) p)
+  | inr p ↦ (let i = counted_hand a f l (only_right (same_site from a && f m)
+      (list_any (at_site a f) (all_handed l)) p e) in let u =
+      push_more f (same_site a from) (hands_from a l) m in omega (arith, i, u))
+]
+counted_hand a f (Ticked n ∷ l) e = counted_hand a f l e
+counted_hand a f (Submits n txn ∷ l) e = counted_hand a f l e
+counted_hand a f (Redeclared force t ∷ l) e = counted_hand a f l e
+counted_hand a f (Did act ∷ l) e = counted_hand a f l e
+
+-- where at most one of a kind is put on the link, and the next message is of it, none was handed before
+pub none_before : (g : Given) (a b : Site) (log : Log) (f : Msg → Bool) (m : Msg) → IsPermitted g log
+    → slice_get (puts_to b (local_of g a log)) (handed a b log) ≡ Some m → f m ≡ true → tally f (puts_to b (local_of g a log)) ≤ 1
+    → list_any (at_site a f) (all_handed (local_of g b log)) ≡ false
+none_before g a b log f m h e p l = elim (true_or_false (list_any (at_site a f) (all_handed (local_of g b log)))) [
+  | inl q ↦ (let ps : List Msg = puts_to b (local_of g a log) in
+      let i = counted_hand a f (local_of g b log) q in
+      let z : tally f (hands_from a (local_of g b log)) ≡ tally f (take (handed a b log) ps) = ap (tally f) (in_order g log a b h) in
+      let more : tally f (take (suc (handed a b log)) ps) ≡ tally f (take (handed a b log) ps) + tally f
+      (m ∷ []) = ap (tally f) (take_one_more (handed a b log) ps m e)
+      ∙ tally_append f (take (handed a b log) ps) (m ∷ []) in
+      let less = tally_take f (suc (handed a b log)) ps in
+      let one : one_if (f m) ≡ 1 = ap one_if p in
+      absurd (omega (arith, i, z, more, less, one, l)))
+  | inr q ↦ q
+]
+
+same_read : (ts c : ℕ) (v w : ℕ) → v ≡ ts → w ≡ c → ((v == ts) && (w == c)) ≡ true
+same_read ts c v w e f = both (v == ts) (w == c) (subst (λ x. (v == x) ≡ true) e (same_number v)) (subst (λ x. (w == x) ≡ true) f (same_number w))
+
+-- the READ of a verdict that was put
+pub verdict_asked : (g : Given) (d : DmNo) (log : Log) (k : ℕ) (ts c : ℕ) (m : Msg) (b : Site) → IsPermitted g log
+    → slice_get (puts_to b (local_of g (D d) log)) k ≡ Some m → is_verdict ts c m ≡ true
+    → list_any (at_site (D d) (is_read ts c)) (sent (local_of g (home g.catalogue c) log)) ≡ true
+verdict_asked g d log k ts c m b h e f =
+    let p = put_in_by_d g log d b k m h e in
+    let hb = (permitted_before g p.later (Does (D d) p.act ∷ p.before) (subst (IsPermitted g) p.is h)).1 in
+    let v = verdict_by (setting_of g (D d)) c ts b (local_of g (D d) p.before) p.act m (in_class g d p.before hb) f p.by in
+    let w : Msg = Read v.stamp v.of v.txn v.attempt v.conds v.uses in
+    let o = head_put g c d p.before w hb v.head_is in
+    let at : Site = home g.catalogue c in
+    let x = local_grows g at (p.later ++ Does (D d) p.act ∷ o.later) (Does at o.act ∷ o.before) in
+    let whole : log ≡ (p.later ++ Does (D d) p.act ∷ o.later) ++ Does at o.act ∷ o.before =
+    p.is ∙ ap (λ l. p.later ++ Does (D d) p.act ∷ l) o.is
+    ∙ sym (append_assoc p.later (Does (D d) p.act ∷ o.later) (Does at o.act ∷ o.before)) in
+    let here : local_of g at log ≡ x.0 ++ Did o.act ∷ local_of g at o.before =
+    ap (local_of g at) whole ∙ x.1 ∙ ap (λ l. x.0 ++ l) (own_act g at o.act o.before) in
+    subst (λ l. list_any (at_site (D d) (is_read ts c)) (sent l) ≡ true) (sym here)
+    (sent_of_act (D d) (is_read ts c) x.0 o.act (local_of g at o.before) o.place w o.there (same_read ts c v.stamp.0 v.of.0 v.time_is v.class_is))
+
+pub answers_read : (g : Given) (d : DmNo) (log : Log) (ts c : ℕ) (m : Msg) (b : Site) → IsPermitted g log → b ≡ home g.catalogue c
+    → number_of (home g.catalogue c) ≤ 63 → slice_get (puts_to b (local_of g (D d) log)) (handed (D d) b log) ≡ Some m
+    → is_verdict ts c m ≡ true → AnswersRead (local_of g b log) (D d) ts c
+answers_read g d log ts c m b h at small e f = record {
+  asked = subst (λ x. list_any (at_site (D d) (is_read ts c)) (sent (local_of g x log)) ≡ true) (sym at)
+      (verdict_asked g d log (handed (D d) b log) ts c m b h e f);
+  first = none_before g (D d) b log (is_verdict ts c) m h e f (one_verdict g c ts d b log small h);
+}

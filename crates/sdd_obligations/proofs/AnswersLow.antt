@@ -1,0 +1,113 @@
+-- What a data module sends lies below what was handed to it.
+use Rattle.std.proofs.Common.{ℕ, ◌&&◌, ◌+◌, ◌==◌, ◌∷◌, ◌≡◌, ◌≤◌, List, None, Option, Some, [], arith, length, subst, suc, sym}
+use Rattle.std.proofs.Math.Decide.{dec_le}
+use Rattle.std.specs.Prelude.{filter_map}
+use Rattle.sdd_base.specs.declared.number.ClassNo.{ClassNo}
+use Rattle.sdd_base.specs.declared.number.Ts.{Ts}
+use Rattle.sdd_base.specs.declared.site.Site.{Site}
+use Rattle.sdd_wire.specs.Piped.{goes_through}
+use Rattle.sdd_wire.specs.declared.msg.Msg.{Msg}
+use Rattle.sdd_wire.specs.declared.msg.Msg.TheVariants.{Ask, Done, Read, Ready, Reduced, Reject, Rows, Values}
+use Rattle.sdd_module.specs.SiteLog.{Act, Did, Handed, Log, Records, Redeclared, Sends, Setting, Submits, Ticked, sends_of_act}
+use Rattle.sdd_pipe.specs.Pipe.{Pipe, head, head_processed, one_or_none, put, write_time}
+use Rattle.sdd_dm.specs.Due.{IsDue}
+use Rattle.sdd_dm.specs.Pipes.{is_processing, pipe, pipe_acted}
+use Rattle.sdd_dm.specs.Views.{ClassView, at_class, home_of, view_of}
+use Rattle.sdd_invariants.proofs.PutBy.{put_by_d}
+use Rattle.sdd_invariants.specs.PutsBy.{IsAskBy, IsPutByD, IsRejectBy}
+use Rattle.sdd_invariants.proofs.AreReadSteps.{class_in_view, class_not_in_view}
+use Rattle.sdd_invariants.proofs.Bools.{if_way}
+use Rattle.sdd_invariants.specs.Traffic.{to_site}
+use Rattle.sdd_obligations.specs.Heights.{AllLow, HandsLow, IsLow, starts_by, top}
+use Rattle.sdd_obligations.proofs.LowLists.{all_low_join, all_low_of, all_low_up, cond_le_at, greatest_le, write_times_le}
+use Rattle.sdd_obligations.proofs.SendsLow.{PutsLow}
+use Rattle.sdd_base.specs.Words.{tail_of}
+
+-- pipes
+
+pub record IsPipeLow (h : ℕ) (p : Pipe) : Type 0 where
+  pub done : AllLow h p.processed
+  pub left : AllLow h p.unprocessed
+
+head_low : (h : ℕ) (ms : List Msg) → AllLow h ms → AllLow h (one_or_none (head (record { processed = []; unprocessed = ms })))
+head_low h [] i = tt
+head_low h (m ∷ ms) i = (i.0, tt)
+
+tail_low : (h : ℕ) (ms : List Msg) → AllLow h ms → AllLow h (tail_of ms)
+tail_low h [] i = tt
+tail_low h (m ∷ ms) i = i.1
+
+put_low : (h : ℕ) (m : Msg) (p : Pipe) → IsLow h m → IsPipeLow h p → IsPipeLow h (put m p)
+put_low h m p i j = record { done = j.done; left = all_low_join h p.unprocessed (m ∷ []) j.left (i, tt) }
+
+processed_low : (h : ℕ) (p : Pipe) → IsPipeLow h p → IsPipeLow h (head_processed p)
+processed_low h p j = record {
+  done = all_low_join h p.processed (one_or_none (head p)) j.done (head_low h p.unprocessed j.left);
+  left = tail_low h p.unprocessed j.left;
+}
+
+acted_low : (h c : ℕ) (act : Act) (p : Pipe) → IsPipeLow h p → IsPipeLow h (pipe_acted c act p)
+acted_low h c (Records k r sends) p j = if_way (IsPipeLow h) ((k == c) && is_processing r) (head_processed p) p (processed_low h p j) j
+acted_low h c (Sends to m hand) p j = j
+
+pub pipe_low : (h c : ℕ) (log : Log) → HandsLow h log → IsPipeLow h (pipe c log)
+pipe_low h c [] i = record { done = tt; left = tt }
+pipe_low h c (Handed from m ∷ log) i =
+    if_way (IsPipeLow h) (goes_through c m) (put m (pipe c log)) (pipe c log) (put_low h m (pipe c log) i.0 (pipe_low h c log i.1)) (pipe_low h c log i.1)
+pipe_low h c (Ticked n ∷ log) i = pipe_low h c log i
+pipe_low h c (Submits n txn ∷ log) i = pipe_low h c log i
+pipe_low h c (Redeclared force t ∷ log) i = pipe_low h c log i
+pipe_low h c (Did act ∷ log) i = acted_low h c act (pipe c log) (pipe_low h c log i)
+
+view_low : (h : ℕ) (s : Setting) (log : Log) (c : ℕ) → HandsLow h log → IsPipeLow h (at_class (view_of s log) c).pipe
+view_low h s log c i = elim (dec_le (suc c) (suc (length s.catalogue.classes))) [
+  | yes l ↦ subst (λ (k : ClassView). IsPipeLow h k.pipe) (sym (class_in_view s log c l)) (pipe_low h c log i)
+  | no n ↦ (let l : suc (length s.catalogue.classes) ≤ c = omega (arith, n) in
+      subst (λ (k : ClassView). IsPipeLow h k.pipe) (sym (class_not_in_view s log c l)) (record { done = tt; left = tt }))
+]
+
+-- the head of a pipe
+
+abbrev IsHeadLow : ℕ → Option Msg → Type 0
+IsHeadLow h None = Unit {0}
+IsHeadLow h (Some m) = IsLow h m
+
+first_low : (h : ℕ) (ms : List Msg) → AllLow h ms → IsHeadLow h (head (record { processed = []; unprocessed = ms }))
+first_low h [] i = tt
+first_low h (m ∷ ms) i = i.0
+
+pub head_is_low : (h c : ℕ) (log : Log) (m : Msg) → HandsLow h log → head (pipe c log) ≡ Some m → IsLow h m
+head_is_low h c log m i e = subst (IsHeadLow h) e (first_low h (pipe c log).unprocessed (pipe_low h c log i).left)
+
+-- what is put
+
+reject_low : (h : ℕ) (s : Setting) (log : Log) (b : Site) (act : Act) (ts : Ts) (k by : ClassNo) (write : Ts) → HandsLow h log
+    → IsRejectBy s log b act ts k by write → IsLow h (Reject ts k by write)
+reject_low h s log b act ts k by write i r =
+    let p = view_low h s log r.cond_by.class.0 i in
+    let l = greatest_le (top h) (filter_map (write_time r.cond_by.frags)
+    (at_class (view_of s log) r.cond_by.class.0).pipe.processed) (write_times_le h r.cond_by.frags
+    (at_class (view_of s log) r.cond_by.class.0).pipe.processed p.done) in
+    (subst (λ t. t ≤ top h) (sym r.write_is) l, tt)
+
+ask_low : (h : ℕ) (s : Setting) (log : Log) (b : Site) (k : ClassNo) (time : Ts) → HandsLow h log → IsAskBy s log b k time
+    → IsLow h (Ask k time)
+ask_low h s log b k time i r =
+    let m = head_is_low h r.class log (Read r.ts r.of r.txn r.attempt r.conds r.uses) i r.head_is in
+    let l = cond_le_at (top h) r.conds r.place r.cond_at m.1 r.there in
+    (subst (λ (t : Ts). t.0 ≤ top h) (sym r.time_is) l, tt)
+
+by_d_low : (h : ℕ) (s : Setting) (log : Log) (b : Site) (act : Act) (m : Msg) → HandsLow h log → IsPutByD s log b act m → IsLow h m
+by_d_low h s log b act (Ready ts k counts) i p = tt
+by_d_low h s log b act (Reject ts k by write) i p = reject_low h s log b act ts k by write i p
+by_d_low h s log b act (Done ts) i p = tt
+by_d_low h s log b act (Values ts k u vs) i p = tt
+by_d_low h s log b act (Reduced ts k u n) i p = tt
+by_d_low h s log b act (Rows ts k rows) i p = tt
+by_d_low h s log b act (Ask k t) i p = ask_low h s log b k t i p
+by_d_low h s log b act _ i p = absurd p
+
+pub d_low : (h : ℕ) (s : Setting) (log : Log) (act : Act) → HandsLow h log → IsDue (home_of s) (view_of s log) act → PutsLow h act
+d_low h s log act i d b =
+    all_low_up h (starts_by act + h) (to_site b (sends_of_act act)) (omega arith)
+    (all_low_of h (to_site b (sends_of_act act)) (λ k m e. by_d_low h s log b act m i (put_by_d s log act d b k m e)))

@@ -1,0 +1,231 @@
+-- Along the log of the site of a class the questions of the active attempt are those of its phase.
+use Rattle.std.proofs.Common.{ℕ, ◌&&◌, ◌==◌, ◌∙◌, ◌∷◌, ◌≡◌, ◌⊎◌, Bool, List, None, Option, Some, [], ap, cond, false, if◌then◌else◌, inl, inr, refl, subst, sym, true}
+use Rattle.std.specs.List.{AllByRecursion}
+use Rattle.sdd_base.specs.Numbers.{dm_no}
+use Rattle.sdd_base.specs.Sites.{same_site}
+use Rattle.sdd_base.specs.Words.{head_of, tail_of}
+use Rattle.sdd_base.specs.declared.number.DmNo.{DmNo}
+use Rattle.sdd_base.specs.declared.site.Site.{Site}
+use Rattle.sdd_base.specs.declared.site.Site.TheVariants.{D, T, U}
+use Rattle.sdd_wire.specs.declared.msg.Msg.{Msg}
+use Rattle.sdd_wire.specs.declared.msg.Msg.TheVariants.{Reject}
+use Rattle.sdd_module.specs.SiteLog.{Act, Bases, Did, Each, Handed, Log, Redeclared, Sends, Setting, Submits, Ticked, sends_of_act}
+use Rattle.sdd_attempt.specs.Acts.{commit_act}
+use Rattle.sdd_attempt.specs.Attempts.{Attempt, active, active_handed, active_sent, asks_rows, rejects, started}
+use Rattle.sdd_attempt.specs.Exchange.{after_hand, after_send}
+use Rattle.sdd_attempt.specs.Queues.{Queued, queue}
+use Rattle.sdd_invariants.proofs.Clocks.{stamp_below_next}
+use Rattle.sdd_invariants.proofs.ReadsPut.{start_puts}
+use Rattle.sdd_invariants.proofs.WritesPut.{commit_puts}
+use Rattle.sdd_obligations.proofs.Asking.{in_turn, send_is_question}
+use Rattle.sdd_obligations.proofs.AtTurn.{StandsAt, hand_not}
+use Rattle.sdd_obligations.proofs.FirstSends.{IsFirstEach, IsFirstSend}
+use Rattle.sdd_obligations.proofs.Hearing.{AtTurn, InTurn, IsTimely, and_no, asked_one, told_one}
+use Rattle.sdd_obligations.specs.Turns.{Asks, Silent, Turn, asked, asked_by, is_a_read, is_a_refusal, is_answer, is_question, questions, told, turn_at, uses_by, uses_in}
+use Rattle.sdd_invariants.proofs.Active.{step_way}
+use Rattle.sdd_invariants.proofs.Bools.{same_number, same_or_not}
+use Rattle.sdd_invariants.specs.Steps.{IsFair, IsStep, next_stamp, start_at, start_read}
+use Rattle.sdd_invariants.specs.Traffic.{to_site}
+use Rattle.sdd_obligations.specs.Contents.{AsksPhase, question_of}
+use Rattle.sdd_obligations.proofs.Questions.{after_answer, hand_asks}
+use Rattle.sdd_obligations.proofs.InStep.{never}
+
+abbrev pub AllAskPhase : ℕ → Log → Option Attempt → Type 0
+AllAskPhase c log None = Unit {0}
+AllAskPhase c log (Some a) = AsksPhase a.ts c a.exchange (λ d. turn_at a.ts c d log)
+
+same_turns : (c : ℕ) (log more : Log) (o : Option Attempt) → ((ts d : ℕ) → (a : Attempt) → o ≡ Some a
+    → a.ts ≡ ts → turn_at ts c d more ≡ turn_at ts c d log) → AllAskPhase c log o → AllAskPhase c more o
+same_turns c log more None e h = tt
+same_turns c log more (Some a) e h = subst (AsksPhase a.ts c a.exchange) (λ i d. sym (e a.ts d a refl refl) i) h
+
+-- a hand from a module
+
+stands_of : (s : Setting) (c : ℕ) (log : Log) (a : Attempt) → InTurn s c log → active s c log ≡ Some a → (d : ℕ) → StandsAt d a.exchange (turn_at a.ts c d log)
+stands_of s c log a h e d = (subst (λ o. AtTurn a.ts d o (turn_at a.ts c d log)) e (h.turns a.ts d)).0 refl
+
+not_refusal : (ts c : ℕ) (m : Msg) → is_answer ts c m ≡ true → rejects m ts c ≡ false → is_a_refusal m ≡ false
+not_refusal ts c (Reject t k b write) e f = never (is_answer ts c (Reject t k b write)) e f
+not_refusal ts c m e f = refl
+
+and_true : (a : Bool) (x y : Turn) → (if a && true then x else y) ≡ (if a then x else y)
+and_true true x y = refl
+and_true false x y = refl
+
+hand_phase : (s : Setting) (c : ℕ) (log : Log) (n : DmNo) (m : Msg) (o : Option Attempt)
+    → active s c log ≡ o → InTurn s c log → IsTimely c log (Handed (D n) m) → AllAskPhase c log o
+    → AllAskPhase c (Handed (D n) m ∷ log) (active_handed c (D n) m o)
+hand_phase s c log n m None e turns timely h = tt
+hand_phase s c log n m (Some a) e turns timely h =
+    let v : ℕ → Turn = λ d. turn_at a.ts c d log in
+    let w : ℕ → Turn = λ d. turn_at a.ts c d (Handed (D n) m ∷ log) in
+    elim (rejects m a.ts c) as (λ b. rejects m a.ts c ≡ b → AllAskPhase c (Handed (D n) m ∷ log)
+    (if b then None else Some (record a { exchange = after_hand a.ts c n.0 m a.exchange }))) [
+      | true ↦ λ r. tt
+      | false ↦ λ r. elim (is_answer a.ts c m) as (λ b. is_answer a.ts c m ≡ b → AsksPhase a.ts c (after_hand a.ts c n.0 m a.exchange) w) [
+        | true ↦ λ own.
+            let now : (d : ℕ) → w d ≡ after_answer n.0 m v d = λ d. told_one a.ts c (d == n.0) m (v d)
+            ∙ ap (λ b. if (d == n.0) && b then told m (v d) else v d) own ∙ and_true (d ==
+            n.0) (told m (v d)) (v d) in
+            subst (AsksPhase a.ts c (after_hand a.ts c n.0 m a.exchange)) (λ i d. sym (now d) i)
+            (hand_asks a.ts c n.0 m v a.exchange own (not_refusal a.ts c m own r) (stands_of s c log a turns e) (timely a.ts n.0 refl own) h)
+        | false ↦ λ own.
+            let now : (d : ℕ) → w d ≡ v d = λ d. told_one a.ts c (d == n.0) m (v d)
+            ∙ ap (λ b. if (d == n.0) && b then told m (v d) else v d) own
+            ∙ ap (λ b. if b then told m (v d) else v d) (and_no (d == n.0)) in
+            subst (AsksPhase a.ts c (after_hand a.ts c n.0 m a.exchange)) (λ i d. sym (now d) i)
+            (subst (λ x. AsksPhase a.ts c x v) (sym (hand_not a.ts c n.0 a.exchange m own)) h)
+      ] refl
+    ] refl
+
+-- a Start
+
+asked_none : (ts c : ℕ) (ms : List Msg) (v : Turn) → questions ts c ms ≡ [] → asked_by (questions ts c ms) v ≡ v
+asked_none ts c ms v e = ap (λ l. asked_by l v) e
+
+abbrev AreReads : List Msg → Type 0
+AreReads ms = (ms ≡ []) ⊎ ((m : Msg) × (ms ≡ m ∷ []) × (is_a_read m ≡ true))
+
+asks_the_read : (m q : Msg) (v : Turn) (ns : List ℕ) → asked m v ≡ Asks ns q → m ≡ q
+asks_the_read m q v ns e = let p : Asks (uses_by m (uses_in v)) m ≡ Asks ns q = e in cc
+
+read_turn : (ts c : ℕ) (ms : List Msg) (v : Turn) (ns : List ℕ) (q : Msg) → AreReads ms → v ≡ Silent
+    → asked_by (questions ts c ms) v ≡ Asks ns q → is_a_read q ≡ false → ⊥
+read_turn ts c ms v ns q (inl e) s a r = let p : Silent ≡ Asks ns q = sym s ∙ sym (ap (λ l. asked_by (questions ts c l) v) e) ∙ a in cc
+read_turn ts c ms v ns q (inr p) s a r =
+    let one : asked_by (questions ts c (p.0 ∷ [])) v ≡ Asks ns q = sym (ap (λ l. asked_by (questions ts c l) v) p.1) ∙ a in
+    elim (is_question ts c p.0) as (λ b. asked_by (cond b (p.0 ∷ []) []) v ≡ Asks ns q → ⊥) [
+      | true ↦ λ x. never (is_a_read q) (ap is_a_read (sym (asks_the_read p.0 q v ns x)) ∙ p.2) r
+      | false ↦ λ x. (let z : Silent ≡ Asks ns q = sym s ∙ x in cc)
+    ] one
+
+start_reads : (s : Setting) (k : ℕ) (log : Log) (q : Queued) (d : ℕ) → AreReads (to_site (D (dm_no d)) (sends_of_act (start_at s k log q)))
+start_reads s k log q d = elim (start_puts s k (D (dm_no d)) log q) [ inl e ↦ inl e | inr p ↦ inr (start_read s k log q p.0, p.1, refl) ]
+
+start_own : (s : Setting) (c : ℕ) (log : Log) (q : Queued) → InTurn s c log
+    → AllAskPhase c (Did (start_at s c log q) ∷ log)
+    (started (next_stamp s log) (sends_of_act (start_at s c log q)) (Some q))
+start_own s c log q turns = record {
+  sends = tt;
+  asked = λ d ns x e r. absurd (read_turn (next_stamp s log) c
+      (to_site (D (dm_no d)) (sends_of_act (start_at s c log q))) (turn_at (next_stamp s log) c d log) ns x
+      (start_reads s c log q d) (turns.fresh (next_stamp s log) d (stamp_below_next s log)) e r);
+}
+
+other_reads : (s : Setting) (k c ts : ℕ) (log : Log) (q : Queued) (d : ℕ) → (k == c) ≡ false
+    → questions ts c (to_site (D (dm_no d)) (sends_of_act (start_at s k log q))) ≡ []
+other_reads s k c ts log q d e = elim (start_puts s k (D (dm_no d)) log q) [
+  | inl p ↦ ap (questions ts c) p
+  | inr p ↦ ap (questions ts c) p.1 ∙ ap (λ b. cond b (start_read s k log q p.0 ∷ []) [])
+      (ap (λ b. (next_stamp s log == ts) && b) e ∙ and_no (next_stamp s log == ts))
+]
+
+start_phase : (s : Setting) (k c : ℕ) (log : Log) (q : Queued) → head_of (queue s k log) ≡ Some q
+    → InTurn s c log → AllAskPhase c log (active s c log) → AllAskPhase c (Did (start_at s k log q) ∷ log)
+    (active s c (Did (start_at s k log q) ∷ log))
+start_phase s k c log q e turns h = elim (same_or_not k c) [
+  | inl p ↦ subst (λ j. head_of (queue s j log) ≡ Some q → AllAskPhase c (Did (start_at s j log q) ∷ log) (active s c (Did (start_at s j log q) ∷ log))) (sym p)
+      (λ f. subst (AllAskPhase c (Did (start_at s c log q) ∷ log)) (sym (now f)) (start_own s c log q turns)) e
+  | inr p ↦ subst (AllAskPhase c (Did (start_at s k log q) ∷ log))
+      (ap (λ b. if b then started (next_stamp s log) (sends_of_act (start_at s k log q))
+      (head_of (queue s c log)) else active s c log) (sym p))
+      (same_turns c log (Did (start_at s k log q) ∷ log) (active s c log)
+      (λ ts d a i t. asked_none ts c (to_site (D (dm_no d)) (sends_of_act (start_at s k log q)))
+      (turn_at ts c d log) (other_reads s k c ts log q d p)) h)
+]
+  where
+    now : head_of (queue s c log) ≡ Some q → active s c (Did (start_at s c log q) ∷ log) ≡ started
+        (next_stamp s log) (sends_of_act (start_at s c log q)) (Some q)
+    now f = rw (same_number c) (ap (started (next_stamp s log) (sends_of_act (start_at s c log q))) f)
+
+-- a Commit
+
+no_questions : (s : Setting) (k c ts : ℕ) (bases : Bases) (a : Attempt) (d : ℕ)
+    → questions ts c (to_site (D (dm_no d)) (sends_of_act (commit_act s.catalogue bases k a))) ≡ []
+no_questions s k c ts bases a d = elim (commit_puts s k bases (D (dm_no d)) a) [ inl e ↦ ap (questions ts c) e | inr p ↦ ap (questions ts c) p.1 ]
+
+commit_phase : (s : Setting) (k c : ℕ) (bases : Bases) (a : Attempt) (log : Log)
+    → AllAskPhase c log (active s c log) → AllAskPhase c (Did (commit_act s.catalogue bases k a) ∷ log)
+    (active s c (Did (commit_act s.catalogue bases k a) ∷ log))
+commit_phase s k c bases a log h = elim (k == c) as (λ b. AllAskPhase c (Did (commit_act s.catalogue bases k a) ∷ log) (if b then None else active s c log)) [
+  | true ↦ tt
+  | false ↦ same_turns c log (Did (commit_act s.catalogue bases k a) ∷ log) (active s c log)
+      (λ ts d b i t. asked_none ts c (to_site (D (dm_no d)) (sends_of_act (commit_act s.catalogue bases k a)))
+      (turn_at ts c d log) (no_questions s k c ts bases a d)) h
+]
+
+-- a send
+
+one_active : (s : Setting) (c : ℕ) (log : Log) (a b : Attempt) → active s c log ≡ Some a → active s c log ≡ Some b → b ≡ a
+one_active s c log a b e f = let p : Some b ≡ Some a = sym f ∙ e in cc
+
+send_turn : (s : Setting) (c ts d : ℕ) (log : Log) (to : Site) (m : Msg) (hand : Option ℕ)
+    → turn_at ts c d (Did (Sends to m hand) ∷ log) ≡ (if same_site (D (dm_no d)) to && is_question ts c m
+    then asked m (turn_at ts c d log) else turn_at ts c d log)
+send_turn s c ts d log to m hand = asked_one ts c (same_site (D (dm_no d)) to) m (turn_at ts c d log)
+
+sent_phase : (s : Setting) (c : ℕ) (log : Log) (to : Site) (m : Msg) (hand : Option ℕ) (o : Option Attempt)
+    → active s c log ≡ o → IsFirstSend s log (Sends to m hand)
+    → ((ts : ℕ) → is_question ts c m ≡ asks_rows ts c m) → AllAskPhase c log o
+    → AllAskPhase c (Did (Sends to m hand) ∷ log) (active_sent c m o)
+sent_phase s c log to m hand None e first same h = tt
+sent_phase s c log to m hand (Some a) e first same h =
+    let v : ℕ → Turn = λ d. turn_at a.ts c d log in
+    let w : ℕ → Turn = λ d. turn_at a.ts c d (Did (Sends to m hand) ∷ log) in
+    elim (asks_rows a.ts c m) as (λ b. asks_rows a.ts c m ≡ b → AllAskPhase c (Did (Sends to m hand) ∷ log)
+    (if b then Some (record a { exchange = after_send a.exchange }) else Some a)) [
+      | true ↦ λ q.
+          let f = first a.ts c q in
+          let one : f.attempt ≡ a = one_active s c log a f.attempt e f.active_is in
+          let sends : a.exchange.to_send ≡ (f.module_no, m) ∷ f.rest = subst (λ (y : Attempt). y.exchange.to_send ≡ (f.module_no, m) ∷ f.rest) one f.first in
+          let all : AllByRecursion (λ (p : ℕ × Msg). p.1 ≡ question_of a.ts c a.exchange)
+          ((f.module_no, m) ∷ f.rest) = subst
+          (AllByRecursion (λ (p : ℕ × Msg). p.1 ≡ question_of a.ts c a.exchange)) sends h.sends in
+          record {
+            sends = subst (AllByRecursion (λ (p : ℕ × Msg). p.1 ≡ question_of a.ts c a.exchange)) (sym (ap tail_of sends)) all.1;
+            asked = λ d ns x k r.
+                elim (same_site (D (dm_no d)) to && is_question a.ts c m) as (λ b.
+                (if b then asked m (v d) else v d) ≡ Asks ns x → x ≡ question_of a.ts c a.exchange) [
+                  | true ↦ λ z. sym (asks_the_read m x (v d) ns z) ∙ all.0
+                  | false ↦ λ z. h.asked d ns x z r
+                ] (sym (send_turn s c a.ts d log to m hand) ∙ k);
+          }
+      | false ↦ λ q.
+          let now : (d : ℕ) → w d ≡ v d = λ d. send_turn s c a.ts d log to m hand
+          ∙ ap (λ b. if same_site (D (dm_no d)) to && b then asked m (v d) else v d) (same a.ts ∙ q)
+          ∙ ap (λ b. if b then asked m (v d) else v d) (and_no (same_site (D (dm_no d)) to)) in
+          subst (AsksPhase a.ts c a.exchange) (λ i d. sym (now d) i) h
+    ] refl
+
+act_phase : (s : Setting) (c : ℕ) (log : Log) (act : Act) → IsStep s log act → IsFirstSend s log act
+    → InTurn s c log → AllAskPhase c log (active s c log) → AllAskPhase c (Did act ∷ log)
+    (active s c (Did act ∷ log))
+act_phase s c log act step first turns h =
+    step_way s log act (λ x. IsFirstSend s log x → AllAskPhase c (Did x ∷ log) (active s c (Did x ∷ log)))
+    (λ k q here idle e f. start_phase s k c log q e turns h)
+    (λ k bases a here e. λ f. commit_phase s k c bases a log h)
+    (λ to m hand i. λ f. sent_phase s c log to m hand (active s c log) refl f (λ ts. send_is_question s log ts c m i) h) step first
+
+pub asks_phase : (s : Setting) (c : ℕ) (log : Log) → Each (IsFair s) log → Each (IsFirstEach s) log → Each (IsTimely c) log → AllAskPhase c log (active s c log)
+asks_phase s c [] fair first timely = tt
+asks_phase s c (Handed (D n) m ∷ log) fair first timely =
+    hand_phase s c log n m (active s c log) refl (in_turn s c log fair.1 first.1 timely.1) timely.0
+    (asks_phase s c log fair.1 first.1 timely.1)
+asks_phase s c (Handed U m ∷ log) fair first timely =
+    same_turns c log (Handed U m ∷ log) (active s c log) (λ ts d a i t. refl)
+    (asks_phase s c log fair.1 first.1 timely.1)
+asks_phase s c (Handed (T k) m ∷ log) fair first timely =
+    same_turns c log (Handed (T k) m ∷ log) (active s c log) (λ ts d a i t. refl)
+    (asks_phase s c log fair.1 first.1 timely.1)
+asks_phase s c (Ticked n ∷ log) fair first timely =
+    same_turns c log (Ticked n ∷ log) (active s c log) (λ ts d a i t. refl)
+    (asks_phase s c log fair.1 first.1 timely.1)
+asks_phase s c (Submits n txn ∷ log) fair first timely =
+    same_turns c log (Submits n txn ∷ log) (active s c log) (λ ts d a i t. refl)
+    (asks_phase s c log fair.1 first.1 timely.1)
+asks_phase s c (Redeclared force k ∷ log) fair first timely =
+    same_turns c log (Redeclared force k ∷ log) (active s c log) (λ ts d a i t. refl)
+    (asks_phase s c log fair.1 first.1 timely.1)
+asks_phase s c (Did act ∷ log) fair first timely =
+    act_phase s c log act fair.0 first.0 (in_turn s c log fair.1 first.1 timely.1)
+    (asks_phase s c log fair.1 first.1 timely.1)

@@ -1,0 +1,410 @@
+-- A site that makes attempts asks in turn, where each answer that is handed to it comes in turn.
+use Rattle.std.proofs.Common.{ℕ, ◌&&◌, ◌<◌, ◌==◌, ◌∙◌, ◌∷◌, ◌≡◌, ◌⊎◌, Bool, List, None, Option, Some, [], ap, arith, cond, false, if◌then◌else◌, inl, inr, refl, subst, sym, true}
+use Rattle.sdd_base.specs.Numbers.{dm_no}
+use Rattle.std.proofs.lemmas.Bool.{eqb-true}
+use Rattle.sdd_base.specs.Sites.{number_of, same_site}
+use Rattle.sdd_base.specs.Words.{ascending, contains, head_of, tail_of}
+use Rattle.sdd_base.specs.declared.site.Site.{Site}
+use Rattle.sdd_base.specs.declared.site.Site.TheVariants.{D}
+use Rattle.sdd_wire.specs.declared.msg.Msg.{Msg}
+use Rattle.sdd_wire.specs.declared.msg.Msg.TheVariants.{Fetch, Read, Reduce, Ship}
+use Rattle.sdd_module.specs.SiteLog.{Act, Bases, Did, Each, Handed, Log, Redeclared, Sends, Setting, Submits, Ticked, sends_of_act}
+use Rattle.sdd_attempt.specs.Acts.{commit_act}
+use Rattle.sdd_attempt.specs.Attempts.{Attempt, active, active_sent, asks_rows, started}
+use Rattle.sdd_attempt.specs.Exchange.{Phase, Reading, after_send, begins, first_phase, is_over}
+use Rattle.sdd_attempt.specs.Queues.{Queued, queue}
+use Rattle.sdd_obligations.proofs.AtTurn.{IsAt, StandsAt, answered_last, apart, awaited, awaits, unsent}
+use Rattle.sdd_obligations.proofs.FirstSends.{IsFirstEach, IsFirstSend, asks_whose}
+use Rattle.sdd_obligations.proofs.Modules.{firsts, read_firsts, read_modules, read_uses, sent_to_each, to_module}
+use Rattle.sdd_obligations.specs.Turns.{Asks, IsOfUses, MayAsk, Silent, Turn, asked, asked_by, is_a_read, is_exchanging, is_question, questions, turn_at, uses_by, uses_in}
+use Rattle.sdd_invariants.proofs.Clocks.{drawn_at, stamp_below_next, stamp_rises}
+use Rattle.sdd_invariants.proofs.ReadsPut.{strict_modules}
+use Rattle.sdd_invariants.proofs.WritesPut.{commit_puts}
+use Rattle.sdd_lang.specs.Classes.{fragments_in}
+use Rattle.sdd_lang.specs.Uses.{uses_of}
+use Rattle.sdd_invariants.proofs.Active.{step_way_over}
+use Rattle.sdd_invariants.proofs.Sites.{site_is}
+use Rattle.sdd_invariants.proofs.Bools.{and_left, differ, if_way, not_both, same_number, same_or_not}
+use Rattle.sdd_invariants.specs.Orders.{IsStrict}
+use Rattle.sdd_invariants.specs.Steps.{IsFair, IsSend, IsStep, a_held, a_hold, a_null, a_release, last_stamp, modules_asked, next_stamp, of_exchange, start_at, start_read}
+use Rattle.sdd_invariants.specs.Traffic.{to_site}
+use Rattle.sdd_obligations.proofs.Hearing.{AllAtTurn, AtTurn, InTurn, IsStrictOf, IsTimely, Turns, and_no, asked_one, in_turn_hand, quiet_but, quiet_over, turns_now}
+
+-- a send
+
+pub asks_is_question : (t k ts c : ℕ) (m : Msg) → asks_rows t k m ≡ true → is_question ts c m ≡ asks_rows ts c m
+asks_is_question t k ts c (Fetch a b u col) e = refl
+asks_is_question t k ts c (Reduce a b u col vs) e = refl
+asks_is_question t k ts c (Ship a b) e = refl
+asks_is_question t k ts c m e = cc
+
+pub asks_no_read : (t k : ℕ) (m : Msg) → asks_rows t k m ≡ true → is_a_read m ≡ false
+asks_no_read t k (Read a b txn attempt conds uses) e = cc
+asks_no_read t k _ e = refl
+
+pub send_is_question : (s : Setting) (log : Log) (ts c : ℕ) (m : Msg) → IsSend s log m → is_question ts c m ≡ asks_rows ts c m
+send_is_question s log ts c m (of_exchange k a at i e w) = asks_is_question a.ts k ts c m e
+send_is_question s log ts c m (a_null k at e) = ap (is_question ts c) e ∙ sym (ap (asks_rows ts c) e)
+send_is_question s log ts c m (a_held e) = ap (is_question ts c) e ∙ sym (ap (asks_rows ts c) e)
+send_is_question s log ts c m (a_hold e) = ap (is_question ts c) e ∙ sym (ap (asks_rows ts c) e)
+send_is_question s log ts c m (a_release t e) = ap (is_question ts c) e ∙ sym (ap (asks_rows ts c) e)
+
+uses_kept : (m : Msg) (ns : List ℕ) → is_a_read m ≡ false → uses_by m ns ≡ ns
+uses_kept (Read a b txn attempt conds uses) ns e = cc
+uses_kept _ ns e = refl
+
+-- the turns after a question to a site
+abbrev after_question : ℕ → Site → Msg → Turns → Turns
+after_question c to m v ts d = if same_site (D (dm_no d)) to && asks_rows ts c m then asked m (v ts d) else v ts d
+
+cons_is : (m n : Msg) (ms ns : List Msg) → m ∷ ms ≡ n ∷ ns → (m ≡ n) × (ms ≡ ns)
+cons_is m n ms ns e = (cc, cc)
+
+nothing_there : {A : Type 0} (m : Msg) (ms : List Msg) → m ∷ ms ≡ [] → A
+nothing_there m ms e = cc
+
+-- the first message is sent
+sent_at : (n d : ℕ) (m : Msg) (rest : List (ℕ × Msg)) (ms : List (ℕ × List ℕ)) (p : Phase) (lacks : List ℕ) (v : Turn) (b : Bool)
+    → is_a_read m ≡ false → (d == n) ≡ b → IsAt d ms p ((n, m) ∷ rest) lacks v → IsAt d ms p rest lacks (if b then asked m v else v)
+sent_at n d m rest ms p lacks v true r z (unsent q x ns a i e s u w f g) =
+    let k = cons_is m q (to_module d rest) [] (subst (λ (b : Bool). (if b then m ∷ to_module d rest else to_module d rest) ≡ q ∷ []) z a) in
+    awaited m ns k.1 i (ap (λ l. Asks l m) (uses_kept m (uses_in v) r ∙ ap uses_in e)) (subst (λ y. awaits p y ≡ true) (sym k.0) w) f g
+sent_at n d m rest ms p lacks v true r z (awaited q ns a i e w f g) =
+    nothing_there m (to_module d rest) (subst (λ (b : Bool). (if b then m ∷ to_module d rest else to_module d rest) ≡ []) z a)
+sent_at n d m rest ms p lacks v true r z (answered_last q ns a i e s f g) =
+    nothing_there m (to_module d rest) (subst (λ (b : Bool). (if b then m ∷ to_module d rest else to_module d rest) ≡ []) z a)
+sent_at n d m rest ms p lacks v true r z (apart a i e g) =
+    nothing_there m (to_module d rest) (subst (λ (b : Bool). (if b then m ∷ to_module d rest else to_module d rest) ≡ []) z a)
+sent_at n d m rest ms p lacks v false r z (unsent q x ns a i e s u w f g) =
+    unsent q x ns (subst (λ (b : Bool). (if b then m ∷ to_module d rest else to_module d rest) ≡ q ∷ []) z a) i e s u w f g
+sent_at n d m rest ms p lacks v false r z (awaited q ns a i e w f g) =
+    awaited q ns (subst (λ (b : Bool). (if b then m ∷ to_module d rest else to_module d rest) ≡ []) z a) i e w f g
+sent_at n d m rest ms p lacks v false r z (answered_last q ns a i e s f g) =
+    answered_last q ns (subst (λ (b : Bool). (if b then m ∷ to_module d rest else to_module d rest) ≡ []) z a) i e s f g
+sent_at n d m rest ms p lacks v false r z (apart a i e g) =
+    apart (subst (λ (b : Bool). (if b then m ∷ to_module d rest else to_module d rest) ≡ []) z a) i e g
+
+-- where no question is sent
+not_asked_turn : (c : ℕ) (to : Site) (m : Msg) (v : Turns) (ts d : ℕ) → asks_rows ts c m ≡ false → after_question c to m v ts d ≡ v ts d
+not_asked_turn c to m v ts d e =
+    ap (λ (b : Bool). if same_site (D (dm_no d)) to && b then asked m (v ts d) else v ts d) e
+    ∙ ap (λ (b : Bool). if b then asked m (v ts d) else v ts d) (and_no (same_site (D (dm_no d)) to))
+
+asks_not : (b : Bool) → (b ≡ true → ⊥) → b ≡ false
+asks_not true f = absurd (f refl)
+asks_not false f = refl
+
+one_attempt : (s : Setting) (c : ℕ) (log : Log) (a b : Attempt) → active s c log ≡ Some a → active s c log ≡ Some b → b ≡ a
+one_attempt s c log a b e f = let p : Some a ≡ Some b = sym e ∙ f in cc
+
+none_attempt : (s : Setting) (c : ℕ) (log : Log) (b : Attempt) → active s c log ≡ None → active s c log ≡ Some b → ⊥
+none_attempt s c log b e f = let p : ◌≡◌ {A = Option Attempt} None (Some b) = sym e ∙ f in cc
+
+and_true : (b : Bool) (x y : Turn) → (if b && true then x else y) ≡ (if b then x else y)
+and_true true x y = refl
+and_true false x y = refl
+
+asked_own : (s : Setting) (c : ℕ) (log : Log) (to : Site) (m : Msg) (hand : Option ℕ) (a : Attempt) (v : Turns) (ts d : ℕ)
+    → IsFirstSend s log (Sends to m hand) → active s c log ≡ Some a → AllAtTurn (Some a) v → asks_rows a.ts c m ≡ true
+    → StandsAt d (after_send a.exchange) (after_question c to m v a.ts d)
+asked_own s c log to m hand a v ts d first e h q =
+    let f = first a.ts c q in
+    let same : f.attempt ≡ a = one_attempt s c log a f.attempt e f.active_is in
+    let sends : a.exchange.to_send ≡ (f.module_no, m) ∷ f.rest = subst (λ (y : Attempt). y.exchange.to_send ≡ (f.module_no, m) ∷ f.rest) same f.first in
+    let at : IsAt d a.exchange.modules a.exchange.phase ((f.module_no, m) ∷ f.rest) a.exchange.lacks
+    (v a.ts d) = subst (λ l. IsAt d a.exchange.modules a.exchange.phase l a.exchange.lacks (v a.ts d))
+    sends ((h a.ts d).0 refl) in
+    let now = sent_at f.module_no d m f.rest a.exchange.modules a.exchange.phase a.exchange.lacks (v a.ts d)
+    (d == f.module_no) (asks_no_read a.ts c m q) refl at in
+    let turn_is : (if d == f.module_no then asked m (v a.ts d) else v a.ts d) ≡ after_question c to m v a.ts d =
+    sym (ap (λ x. if same_site (D (dm_no d)) x && asks_rows a.ts c m then asked m (v a.ts d) else v a.ts d)
+    f.to_is ∙ ap (λ (b : Bool). if (d == f.module_no) && b then asked m (v a.ts d) else v a.ts d) q
+    ∙ and_true (d == f.module_no) (asked m (v a.ts d)) (v a.ts d)) in
+    subst (λ l. IsAt d a.exchange.modules a.exchange.phase l a.exchange.lacks (after_question c to m v a.ts d)) (sym (ap tail_of sends))
+    (subst (λ w. IsAt d a.exchange.modules a.exchange.phase f.rest a.exchange.lacks w) turn_is now)
+
+sent_turns : (s : Setting) (c : ℕ) (log : Log) (to : Site) (m : Msg) (hand : Option ℕ) (o : Option Attempt) (v : Turns)
+    → IsFirstSend s log (Sends to m hand) → active s c log ≡ o → AllAtTurn o v
+    → AllAtTurn (active_sent c m o) (after_question c to m v)
+sent_turns s c log to m hand None v first i h = λ ts d.
+    (let q : asks_rows ts c m ≡ false = asks_not (asks_rows ts c m) (λ e. let f = first ts c e in none_attempt s c log f.attempt i f.active_is) in
+    subst (λ w. is_exchanging w ≡ false) (sym (not_asked_turn c to m v ts d q)) (h ts d))
+sent_turns s c log to m hand (Some a) v first i h =
+    elim (asks_rows a.ts c m) as (λ b. asks_rows a.ts c m ≡ b
+    → AllAtTurn (if b then Some (record a { exchange = after_send a.exchange }) else Some a)
+    (after_question c to m v)) [
+      | true ↦ λ q ts d. (
+        λ p. subst (λ t. StandsAt d (after_send a.exchange) (after_question c to m v t d)) p (asked_own s c log to m hand a v a.ts d first i h q),
+        λ p. (let r : asks_rows ts c m ≡ false = asks_not (asks_rows ts c m) (λ e. differ a.ts ts p (asks_whose a.ts c ts c m q e).0) in
+            subst (λ w. is_exchanging w ≡ false) (sym (not_asked_turn c to m v ts d r)) ((h ts d).1 p)),
+      )
+      | false ↦ λ q ts d.
+          (let r : asks_rows ts c m ≡ false = asks_not (asks_rows ts c m) (λ e.
+          let f = first ts c e in
+          let same : f.attempt ≡ a = one_attempt s c log a f.attempt i f.active_is in
+          let t : a.ts ≡ ts = subst (λ (y : Attempt). y.ts ≡ ts) same f.ts_is in
+          not_both (asks_rows ts c m) e (subst (λ t. asks_rows t c m ≡ false) t q)) in
+          subst (AtTurn ts d (Some a)) (sym (not_asked_turn c to m v ts d r)) (h ts d))
+    ] refl
+
+sent_strict : (c : ℕ) (m : Msg) (o : Option Attempt) → IsStrictOf o → IsStrictOf (active_sent c m o)
+sent_strict c m None h = tt
+sent_strict c m (Some a) h =
+    if_way IsStrictOf (asks_rows a.ts c m) (Some (record a { exchange = after_send a.exchange })) (Some a) h h
+
+-- what a send asks of module d
+send_turn : (s : Setting) (c : ℕ) (log : Log) (to : Site) (m : Msg) (hand : Option ℕ) (ts d : ℕ) → IsSend s log m
+    → turn_at ts c d (Did (Sends to m hand) ∷ log) ≡ after_question c to m (λ ts d. turn_at ts c d log) ts d
+send_turn s c log to m hand ts d i =
+    asked_one ts c (same_site (D (dm_no d)) to) m (turn_at ts c d log)
+    ∙ ap (λ (b : Bool). if same_site (D (dm_no d)) to && b then asked m (turn_at ts c d log) else turn_at ts c d log) (send_is_question s log ts c m i)
+
+drawn_question : (s : Setting) (c : ℕ) (log : Log) (to : Site) (m : Msg) (hand : Option ℕ) (ts : ℕ) → Each (IsFair s) log
+    → IsFirstSend s log (Sends to m hand) → last_stamp s log < ts → asks_rows ts c m ≡ false
+drawn_question s c log to m hand ts fair first l = asks_not (asks_rows ts c m) (λ e.
+    let f = first ts c e in
+    let d = drawn_at s c log f.attempt fair f.active_is in
+    absurd (omega (arith, d, f.ts_is, l)))
+
+in_turn_send : (s : Setting) (c : ℕ) (log : Log) (to : Site) (m : Msg) (hand : Option ℕ) → Each (IsFair s) log
+    → IsFirstSend s log (Sends to m hand) → IsSend s log m → InTurn s c log → InTurn s c (Did (Sends to m hand) ∷ log)
+in_turn_send s c log to m hand fair first i h = record {
+  turns = turns_now (active_sent c m (active s c log)) (after_question c to m (λ ts d. turn_at ts c d log))
+      (λ ts d. turn_at ts c d (Did (Sends to m hand) ∷ log))
+      (λ ts d. send_turn s c log to m hand ts d i) (sent_turns s c log to m hand (active s c log) (λ ts d. turn_at ts c d log) first refl h.turns);
+  fresh = λ ts d l. send_turn s c log to m hand ts d i
+      ∙ not_asked_turn c to m (λ ts d. turn_at ts c d log) ts d
+      (drawn_question s c log to m hand ts fair first (omega (arith, l))) ∙ h.fresh ts d (omega (arith, l));
+  strict = sent_strict c m (active s c log) h.strict;
+}
+
+-- a Start
+
+not_below : (a b : ℕ) → a < b → (a == b) ≡ false
+not_below a b l = elim (same_or_not a b) [ inl p ↦ absurd (omega (arith, p, l)) | inr p ↦ p ]
+
+pub strict_asked : (s : Setting) (k : ℕ) (q : Queued) → IsStrict (modules_asked s k q.text)
+strict_asked s k q = strict_modules s.catalogue k (ascending (fragments_in (uses_of s.catalogue q.text)))
+
+abbrev after_start : Setting → ℕ → Log → Queued → ℕ → Turns → Turns
+after_start s k log q c v ts d =
+    if contains (modules_asked s k q.text) d && ((next_stamp s log == ts) && (k == c)) then asked (start_read s k log q d) (v ts d) else v ts d
+
+start_turn : (s : Setting) (k : ℕ) (log : Log) (q : Queued) (c ts d : ℕ)
+    → turn_at ts c d (Did (start_at s k log q) ∷ log) ≡ after_start s k log q c (λ ts d. turn_at ts c d log) ts d
+start_turn s k log q c ts d =
+    ap (λ l. asked_by (questions ts c l) (turn_at ts c d log)) (sent_to_each (start_read s k log q) (modules_asked s k q.text) d (strict_asked s k q))
+    ∙ asked_one ts c (contains (modules_asked s k q.text) d) (start_read s k log q d) (turn_at ts c d log)
+
+not_started_turn : (s : Setting) (k : ℕ) (log : Log) (q : Queued) (c ts d : ℕ) (v : Turns) → ((next_stamp s log == ts) && (k == c)) ≡ false
+    → after_start s k log q c v ts d ≡ v ts d
+not_started_turn s k log q c ts d v e =
+    ap (λ (b : Bool). if contains (modules_asked s k q.text) d && b then asked (start_read s k log q d) (v ts d) else v ts d) e
+    ∙ ap (λ (b : Bool). if b then asked (start_read s k log q d) (v ts d) else v ts d) (and_no (contains (modules_asked s k q.text) d))
+
+first_reading : (ms : List (ℕ × List ℕ)) (d : ℕ) → contains (firsts ms) d ≡ true → first_phase ms ≡ Reading
+first_reading [] d e = cc
+first_reading (m ∷ ms) d e = refl
+
+abbrev start_numbers : Setting → ℕ → Log → Queued → ℕ → List ℕ
+start_numbers s k log q d = uses_by (start_read s k log q d) []
+
+own_started : (n k : ℕ) → ((n == n) && (k == k)) ≡ true
+own_started n k = rw (same_number n, same_number k) refl
+
+start_stands : (s : Setting) (k : ℕ) (log : Log) (q : Queued) (d : ℕ) (v : Turns) → v (next_stamp s log) d ≡ Silent
+    → StandsAt d (begins q.text (sends_of_act (start_at s k log q))) (after_start s k log q k v (next_stamp s log) d)
+start_stands s k log q d v e =
+    let n : ℕ = next_stamp s log in
+    let ds : List ℕ = modules_asked s k q.text in
+    let f : ℕ → Msg = start_read s k log q in
+    let ms : List (ℕ × List ℕ) = read_modules f ds in
+    let all : firsts ms ≡ ds = read_firsts f (start_numbers s k log q) ds (λ x. refl) in
+    let own : after_start s k log q k v n d ≡ (if contains ds d then asked (f d) (v n d) else v n d) =
+    ap (λ (b : Bool). if contains ds d && b then asked (f d) (v n d) else v n d) (own_started n k) ∙ and_true (contains ds d) (asked (f d) (v n d)) (v n d) in
+    elim (contains ds d) as (λ b. contains ds d ≡ b → StandsAt d (begins q.text (sends_of_act (start_at s k log q))) (after_start s k log q k v n d)) [
+      | true ↦ λ b.
+          let here : contains (firsts ms) d ≡ true = ap (λ l. contains l d) all ∙ b in
+          awaited (f d) (start_numbers s k log q d) refl here (own ∙ ap (λ (x : Bool). if x then asked (f d) (v n d) else v n d) b)
+          (subst (λ p. awaits p (f d) ≡ true) (sym (first_reading ms d here)) refl)
+          (read_uses f (start_numbers s k log q) ds d (λ x. refl) (strict_asked s k q) b) here
+      | false ↦ λ b.
+          let here : contains (firsts ms) d ≡ false = ap (λ l. contains l d) all ∙ b in
+          apart refl here (own ∙ ap (λ (x : Bool). if x then asked (f d) (v n d) else v n d) b ∙ e) here
+    ] refl
+
+start_turns : (s : Setting) (k : ℕ) (log : Log) (q : Queued) (v : Turns) → ((d : ℕ) → v (next_stamp s log) d ≡ Silent)
+    → AllAtTurn None v
+    → AllAtTurn (started (next_stamp s log) (sends_of_act (start_at s k log q)) (Some q)) (after_start s k log q k v)
+start_turns s k log q v e h ts d = (
+  λ p. subst (λ t. StandsAt d (begins q.text (sends_of_act (start_at s k log q))) (after_start s k log q k v t d)) p (start_stands s k log q d v (e d)),
+  λ p. (let r : ((next_stamp s log == ts) && (k == k)) ≡ false = rw p refl in
+      subst (λ w. is_exchanging w ≡ false) (sym (not_started_turn s k log q k ts d v r)) (h ts d)),
+)
+
+start_strict : (s : Setting) (k : ℕ) (log : Log) (q : Queued)
+    → IsStrictOf (started (next_stamp s log) (sends_of_act (start_at s k log q)) (Some q))
+start_strict s k log q =
+    subst IsStrict (sym (read_firsts (start_read s k log q) (start_numbers s k log q) (modules_asked s k q.text) (λ x. refl))) (strict_asked s k q)
+
+start_fresh : (s : Setting) (k : ℕ) (log : Log) (q : Queued) (c ts d : ℕ) → InTurn s c log → next_stamp s log < ts
+    → turn_at ts c d (Did (start_at s k log q) ∷ log) ≡ Silent
+start_fresh s k log q c ts d h l =
+    let r : ((next_stamp s log == ts) && (k == c)) ≡ false = ap (λ b. b && (k == c)) (not_below (next_stamp s log) ts l) in
+    start_turn s k log q c ts d ∙ not_started_turn s k log q c ts d (λ ts d. turn_at ts c d log) r
+    ∙ h.fresh ts d (let b = stamp_below_next s log in omega (arith, l, b))
+
+active_started : (s : Setting) (k : ℕ) (log : Log) (q : Queued) → head_of (queue s k log) ≡ Some q
+    → active s k (Did (start_at s k log q) ∷ log) ≡ started (next_stamp s log) (sends_of_act (start_at s k log q)) (Some q)
+active_started s k log q e =
+    rw (same_number k) (ap (started (next_stamp s log) (sends_of_act (start_at s k log q))) e)
+
+in_turn_start : (s : Setting) (k : ℕ) (log : Log) (q : Queued) → active s k log ≡ None → head_of (queue s k log) ≡ Some q
+    → InTurn s k log → InTurn s k (Did (start_at s k log q) ∷ log)
+in_turn_start s k log q f e h = record {
+  turns = subst (λ o. AllAtTurn o (λ ts d. turn_at ts k d (Did (start_at s k log q) ∷ log))) (sym (active_started s k log q e))
+      (turns_now (started (next_stamp s log) (sends_of_act (start_at s k log q)) (Some q))
+      (after_start s k log q k (λ ts d. turn_at ts k d log))
+      (λ ts d. turn_at ts k d (Did (start_at s k log q) ∷ log))
+      (λ ts d. start_turn s k log q k ts d) (start_turns s k log q (λ ts d. turn_at ts k d log)
+      (λ d. h.fresh (next_stamp s log) d (stamp_below_next s log))
+      (subst (λ o. AllAtTurn o (λ ts d. turn_at ts k d log)) f h.turns)));
+  fresh = λ ts d l. start_fresh s k log q k ts d h l;
+  strict = subst IsStrictOf (sym (active_started s k log q e)) (start_strict s k log q);
+}
+
+-- an act of another class
+
+in_turn_other : (s : Setting) (k c : ℕ) (log : Log) (q : Queued) → (k == c) ≡ false → InTurn s c log
+    → InTurn s c (Did (start_at s k log q) ∷ log)
+in_turn_other s k c log q p h =
+    let same : active s c (Did (start_at s k log q) ∷ log) ≡ active s c log = rw p refl in
+    let r : (ts : ℕ) → ((next_stamp s log == ts) && (k == c)) ≡ false = λ ts. ap (λ b. (next_stamp s log == ts) && b) p ∙ and_no (next_stamp s log == ts) in
+    record {
+      turns = subst (λ o. AllAtTurn o (λ ts d. turn_at ts c d (Did (start_at s k log q) ∷ log))) (sym same)
+          (turns_now (active s c log) (λ ts d. turn_at ts c d log)
+          (λ ts d. turn_at ts c d (Did (start_at s k log q) ∷ log)) (λ ts d. start_turn s k log q c ts d
+          ∙ not_started_turn s k log q c ts d (λ ts d. turn_at ts c d log) (r ts)) h.turns);
+      fresh = λ ts d l. start_fresh s k log q c ts d h l;
+      strict = subst IsStrictOf (sym same) h.strict;
+    }
+
+-- a Commit
+
+commit_turn : (s : Setting) (k : ℕ) (bases : Bases) (a : Attempt) (log : Log) (ts c d : ℕ)
+    → turn_at ts c d (Did (commit_act s.catalogue bases k a) ∷ log) ≡ turn_at ts c d log
+commit_turn s k bases a log ts c d = elim (commit_puts s k bases (D (dm_no d)) a) [
+  | inl e ↦ ap (λ l. asked_by (questions ts c l) (turn_at ts c d log)) e
+  | inr p ↦ ap (λ l. asked_by (questions ts c l) (turn_at ts c d log)) p.1
+]
+
+commit_of : (s : Setting) (k c : ℕ) (bases : Bases) (a : Attempt) (log : Log) (o : Option Attempt)
+    → active s c (Did (commit_act s.catalogue bases k a) ∷ log) ≡ o → AllAtTurn o (λ ts d. turn_at ts c d log) → IsStrictOf o
+    → ((ts d : ℕ) → last_stamp s log < ts → turn_at ts c d log ≡ Silent) → InTurn s c (Did (commit_act s.catalogue bases k a) ∷ log)
+commit_of s k c bases a log o e h strict fresh = record {
+  turns = subst (λ o. AllAtTurn o (λ ts d. turn_at ts c d (Did (commit_act s.catalogue bases k a) ∷ log))) (sym e)
+      (turns_now o (λ ts d. turn_at ts c d log)
+      (λ ts d. turn_at ts c d (Did (commit_act s.catalogue bases k a) ∷ log))
+      (λ ts d. commit_turn s k bases a log ts c d) h);
+  fresh = λ ts d l. commit_turn s k bases a log ts c d ∙ fresh ts d (omega (arith, l));
+  strict = subst IsStrictOf (sym e) strict;
+}
+
+over_turns : (a : Attempt) (v : Turns) → is_over a.exchange.phase ≡ true → AllAtTurn (Some a) v → AllAtTurn None v
+over_turns a v e h ts d = quiet_but a v ts d h (λ i. quiet_over d a.exchange (v ts d) e i)
+
+in_turn_act : (s : Setting) (c : ℕ) (log : Log) (act : Act) → Each (IsFair s) log → IsStep s log act → IsFirstSend s log act
+    → InTurn s c log → InTurn s c (Did act ∷ log)
+in_turn_act s c log act fair i first h = step_way_over s log act (λ x. IsFirstSend s log x → InTurn s c (Did x ∷ log))
+    (λ k q at f e. λ first. elim (same_or_not k c) [
+      | inl p ↦ subst (λ j. InTurn s j (Did (start_at s k log q) ∷ log)) p (in_turn_start s k log q f e (subst (λ j. InTurn s j log) (sym p) h))
+      | inr p ↦ in_turn_other s k c log q p h
+    ])
+    (λ k bases a at f o. λ first. elim (same_or_not k c) [
+      | inl p ↦ subst (λ j. InTurn s j (Did (commit_act s.catalogue bases k a) ∷ log)) p
+          (let own : InTurn s k log = subst (λ j. InTurn s j log) (sym p) h in
+          commit_of s k k bases a log None (rw (same_number k) refl)
+          (over_turns a (λ ts d. turn_at ts k d log) o
+          (subst (λ o. AllAtTurn o (λ ts d. turn_at ts k d log)) f own.turns)) tt own.fresh)
+      | inr p ↦ commit_of s k c bases a log (active s c log) (rw p refl) h.turns h.strict h.fresh
+    ])
+    (λ to m hand f. λ first. in_turn_send s c log to m hand fair first f h) i first
+
+pub in_turn : (s : Setting) (c : ℕ) (log : Log) → Each (IsFair s) log → Each (IsFirstEach s) log → Each (IsTimely c) log
+    → InTurn s c log
+in_turn s c [] fair first timely = record { turns = λ ts d. refl; fresh = λ ts d l. refl; strict = tt }
+in_turn s c (Handed from m ∷ log) fair first timely =
+    in_turn_hand s c log from m timely.0 (in_turn s c log fair.1 first.1 timely.1)
+in_turn s c (Ticked n ∷ log) fair first timely =
+    let i = in_turn s c log fair.1 first.1 timely.1 in
+    record { turns = i.turns; fresh = λ ts d l. i.fresh ts d (let r = stamp_rises s (Ticked n) log in omega (arith, l, r)); strict = i.strict }
+in_turn s c (Redeclared force t ∷ log) fair first timely =
+    let i = in_turn s c log fair.1 first.1 timely.1 in
+    record { turns = i.turns; fresh = λ ts d l. i.fresh ts d (let r = stamp_rises s (Redeclared force t) log in omega (arith, l, r)); strict = i.strict }
+in_turn s c (Submits n txn ∷ log) fair first timely =
+    let i = in_turn s c log fair.1 first.1 timely.1 in
+    record { turns = i.turns; fresh = λ ts d l. i.fresh ts d (let r = stamp_rises s (Submits n txn) log in omega (arith, l, r)); strict = i.strict }
+in_turn s c (Did act ∷ log) fair first timely =
+    in_turn_act s c log act fair.1 fair.0 first.0 (in_turn s c log fair.1 first.1 timely.1)
+
+-- what the site puts is asked in turn
+
+abbrev pub IsInTurn : Turn → List Msg → Type 0
+IsInTurn v ms = (ms ≡ []) ⊎ ((m : Msg) × (ms ≡ m ∷ []) × MayAsk v m)
+
+questions_one : (ts c : ℕ) (b : Bool) (m : Msg) → questions ts c (if b then m ∷ [] else []) ≡ (if b && is_question ts c m then m ∷ [] else [])
+questions_one ts c false m = refl
+questions_one ts c true m =
+    elim (is_question ts c m) as (λ x. cond x (m ∷ []) [] ≡ (if x then m ∷ [] else [])) [ true ↦ refl | false ↦ refl ]
+
+one_in_turn : (v : Turn) (ms : List Msg) (b x : Bool) (m : Msg) → ms ≡ (if b && x then m ∷ [] else []) → (b ≡ true → x ≡ true → MayAsk v m)
+    → IsInTurn v ms
+one_in_turn v ms true true m e f = inr (m, e, f refl refl)
+one_in_turn v ms true false m e f = inl e
+one_in_turn v ms false x m e f = inl e
+
+may_start : (v : Turn) (s : Setting) (k : ℕ) (log : Log) (q : Queued) (d : ℕ) → v ≡ Silent → MayAsk v (start_read s k log q d)
+may_start v s k log q d e = subst (λ w. MayAsk w (start_read s k log q d)) (sym e) refl
+
+-- of the first message to be sent
+may_send : (d : ℕ) (m : Msg) (rest : List (ℕ × Msg)) (ms : List (ℕ × List ℕ)) (p : Phase) (lacks : List ℕ) (v : Turn)
+    → IsAt d ms p ((d, m) ∷ rest) lacks v → MayAsk v m
+may_send d m rest ms p lacks v (unsent q x ns a i e s u w f g) =
+    let k = cons_is m q (to_module d rest) [] (subst (λ (b : Bool). (if b then m ∷ to_module d rest else to_module d rest) ≡ q ∷ []) (same_number d) a) in
+    subst (λ w. MayAsk w m) (sym e) (s, subst (IsOfUses ns) (sym k.0) u)
+may_send d m rest ms p lacks v (awaited q ns a i e w f g) =
+    nothing_there m (to_module d rest) (subst (λ (b : Bool). (if b then m ∷ to_module d rest else to_module d rest) ≡ []) (same_number d) a)
+may_send d m rest ms p lacks v (answered_last q ns a i e s f g) =
+    nothing_there m (to_module d rest) (subst (λ (b : Bool). (if b then m ∷ to_module d rest else to_module d rest) ≡ []) (same_number d) a)
+may_send d m rest ms p lacks v (apart a i e g) =
+    nothing_there m (to_module d rest) (subst (λ (b : Bool). (if b then m ∷ to_module d rest else to_module d rest) ≡ []) (same_number d) a)
+
+may_sent : (s : Setting) (c : ℕ) (log : Log) (to : Site) (m : Msg) (hand : Option ℕ) (ts d : ℕ) → IsFirstSend s log (Sends to m hand)
+    → InTurn s c log → same_site (D (dm_no d)) to ≡ true → asks_rows ts c m ≡ true → MayAsk (turn_at ts c d log) m
+may_sent s c log to m hand ts d first h e q =
+    let f = first ts c q in
+    let here : d ≡ f.module_no = ap number_of (site_is (D (dm_no d)) to e ∙ f.to_is) in
+    let at : AtTurn ts d (Some f.attempt) (turn_at ts c d log) = subst (λ o. AtTurn ts d o (turn_at ts c d log)) f.active_is (h.turns ts d) in
+    let sends : f.attempt.exchange.to_send ≡ (d, m) ∷ f.rest = subst (λ n. f.attempt.exchange.to_send ≡ (n, m) ∷ f.rest) (sym here) f.first in
+    may_send d m f.rest f.attempt.exchange.modules f.attempt.exchange.phase f.attempt.exchange.lacks (turn_at ts c d log)
+    (subst (λ l. IsAt d f.attempt.exchange.modules f.attempt.exchange.phase l f.attempt.exchange.lacks (turn_at ts c d log)) sends (at.0 f.ts_is))
+
+pub asks_in_turn : (s : Setting) (c : ℕ) (log : Log) (act : Act) (ts d : ℕ) → IsStep s log act → IsFirstSend s log act → InTurn s c log
+    → IsInTurn (turn_at ts c d log) (questions ts c (to_site (D (dm_no d)) (sends_of_act act)))
+asks_in_turn s c log act ts d i first h =
+    step_way_over s log act (λ x. IsFirstSend s log x → IsInTurn (turn_at ts c d log) (questions ts c (to_site (D (dm_no d)) (sends_of_act x))))
+    (λ k q at f e. λ first. one_in_turn (turn_at ts c d log) _ (contains (modules_asked s k q.text) d)
+    ((next_stamp s log == ts) && (k == c)) (start_read s k log q d)
+    (ap (questions ts c) (sent_to_each (start_read s k log q) (modules_asked s k q.text) d
+    (strict_asked s k q)) ∙ questions_one ts c (contains (modules_asked s k q.text) d)
+    (start_read s k log q d))
+    (λ b x. may_start (turn_at ts c d log) s k log q d (h.fresh ts d (let n =
+    eqb-true (next_stamp s log) ts (and_left (next_stamp s log == ts) (k == c) x) in let l =
+    stamp_below_next s log in omega (arith, n, l)))))
+    (λ k bases a at f o. λ first. elim (commit_puts s k bases (D (dm_no d)) a) [
+      | inl e ↦ inl (ap (questions ts c) e)
+      | inr p ↦ inl (ap (questions ts c) p.1)
+    ])
+    (λ to m hand f. λ first. one_in_turn (turn_at ts c d log) _ (same_site (D (dm_no d)) to)
+    (is_question ts c m) m (questions_one ts c (same_site (D (dm_no d)) to) m)
+    (λ b x. may_sent s c log to m hand ts d first h b (sym (send_is_question s log ts c m f) ∙ x))) i first

@@ -1,0 +1,106 @@
+-- An ASK that is next to be handed over is for a class that the module runs.
+use Rattle.std.specs.List.{range_with_len}
+use Rattle.std.specs.Prelude.{slice_index_or}
+use Rattle.std.proofs.Common.{ℕ, ◌+◌, ◌-◌, ◌<◌, ◌==◌, ◌∷◌, ◌≡◌, ◌≤◌, Bool, List, Some, [], ap, arith, cond, false, filter, length, map, slice_get, subst, suc, sym, true, zero}
+use Rattle.sdd_base.specs.Numbers.{tm_no}
+use Rattle.sdd_base.specs.Words.{contains}
+use Rattle.sdd_base.specs.declared.number.ClassNo.{ClassNo}
+use Rattle.sdd_base.specs.declared.number.DmNo.{DmNo}
+use Rattle.sdd_base.specs.declared.number.TmNo.{TmNo}
+use Rattle.sdd_base.specs.declared.number.Ts.{Ts}
+use Rattle.sdd_base.specs.declared.site.Site.TheVariants.{D, T, U}
+use Rattle.sdd_catalog.specs.Catalogue.{Catalogue, class_at, numbers_to}
+use Rattle.sdd_catalog.specs.declared.resolved.Class.{Class}
+use Rattle.sdd_wire.specs.declared.msg.Msg.{Msg}
+use Rattle.sdd_wire.specs.declared.msg.Msg.TheVariants.{Ask, Read}
+use Rattle.sdd_module.specs.SiteLog.{Setting}
+use Rattle.sdd_dm.specs.Views.{home_of, source_of}
+use Rattle.sdd_tm.specs.Views.{runs}
+use Rattle.sdd_log.specs.Entries.{Does, Given, Log}
+use Rattle.sdd_log.specs.Locals.{local_of, setting_of}
+use Rattle.sdd_log.specs.Permitted.{IsPermitted}
+use Rattle.sdd_invariants.specs.PutsBy.{IsAskBy}
+use Rattle.sdd_invariants.specs.Puts.{IsRead}
+use Rattle.sdd_invariants.proofs.Answered.{put_in_by_d}
+use Rattle.sdd_invariants.proofs.Installed.{head_put}
+use Rattle.sdd_invariants.specs.Steps.{home}
+use Rattle.sdd_invariants.proofs.Made.{permitted_before}
+use Rattle.sdd_obligations.proofs.Conditions.{act_within, one_within}
+use Rattle.sdd_invariants.proofs.Bools.{or_left, or_right, same_number}
+use Rattle.sdd_invariants.specs.Traffic.{puts_to}
+use Rattle.sdd_obligations.proofs.Sums.{range_at}
+
+-- the class of a data module's question to a T
+
+t_source : (ks : List Class) (i : ℕ) (t : TmNo) → T t ≡ slice_index_or (map (λ k. T k.tm) ks) i U
+    → (i < length ks) × ((slice_index_or ks i (record { name = []; tm = tm_no 0; reads = []; writes = [] })).tm.0 ≡ t.0)
+t_source [] i t e = cc
+t_source (k ∷ ks) zero t e = (omega arith, (let p : t ≡ k.tm = cc in ap (λ (n : TmNo). n.0) (sym p)))
+t_source (k ∷ ks) (suc i) t e = let r = t_source ks i t e in (omega (arith, r.0), r.1)
+
+pub source_t : (cat : Catalogue) (c : ℕ) (t : TmNo) → T t ≡ slice_index_or (U ∷ map (λ k. T k.tm) cat.classes) c U
+    → (1 ≤ c) × (c ≤ length cat.classes) × ((class_at cat c).tm.0 ≡ t.0)
+source_t cat zero t e = cc
+source_t cat (suc i) t e =
+    let r = t_source cat.classes i t e in
+    let n : suc i - 1 ≡ i = omega arith in
+    (omega arith, omega (arith, r.0), rw n r.1)
+
+contains_kept : (f : ℕ → Bool) (xs : List ℕ) (j c : ℕ) → slice_get xs j ≡ Some c → f c ≡ true → contains (filter f xs) c ≡ true
+contains_kept f [] j c e h = cc
+contains_kept f (x ∷ xs) zero c e h =
+    let p : x ≡ c = cc in
+    let q : f x ≡ true = subst (λ y. f y ≡ true) (sym p) h in
+    let s : (x == c) ≡ true = subst (λ y. (x == y) ≡ true) p (same_number x) in
+    rw q (or_left (x == c) (contains (filter f xs) c) s)
+contains_kept f (x ∷ xs) (suc j) c e h =
+    elim (f x) as (λ b. contains (cond b (x ∷ filter f xs) (filter f xs)) c ≡ true) [
+      | true ↦ or_right (x == c) (contains (filter f xs) c) (contains_kept f xs j c e h)
+      | false ↦ contains_kept f xs j c e h
+    ]
+
+pub runs_it : (g : Given) (t : TmNo) (c : ℕ) → 1 ≤ c → c ≤ length g.catalogue.classes → (class_at g.catalogue c).tm.0 ≡ t.0
+    → contains (runs (setting_of g (T t))) c ≡ true
+runs_it g t c l m e =
+    let n : 1 + (c - 1) ≡ c = omega (arith, l) in
+    let there : slice_get (numbers_to (length g.catalogue.classes)) (c - 1) ≡ Some c =
+    subst (λ x. slice_get (range_with_len 1 (length g.catalogue.classes)) (c - 1) ≡ Some x) n
+    (range_at 1 (length g.catalogue.classes) (c - 1) (omega (arith, l, m))) in
+    contains_kept (λ k. (class_at g.catalogue k).tm.0 == t.0) (numbers_to (length g.catalogue.classes))
+    (c - 1) c there (subst (λ x. ((class_at g.catalogue c).tm.0 == x) ≡ true) e
+    (same_number (class_at g.catalogue c).tm.0))
+
+pub asked_class : (g : Given) (d : DmNo) (t : TmNo) (log : Log) (n : ℕ) (k : ClassNo) (time : Ts) → IsPermitted g log
+    → slice_get (puts_to (T t) (local_of g (D d) log)) n ≡ Some (Ask k time) → contains (runs (setting_of g (T t))) k.0 ≡ true
+asked_class g d t log n k time h e =
+    let p = put_in_by_d g log d (T t) n (Ask k time) h e in
+    let by : IsAskBy (setting_of g (D d)) (local_of g (D d) p.before) (T t) k time = p.by in
+    let r = source_t g.catalogue k.0 t by.to_is in
+    runs_it g t k.0 r.0 r.1 r.2
+
+-- and none is for class 0, so none goes to U
+
+u_source : (ks : List Class) (i : ℕ) → i < length ks → U ≡ slice_index_or (map (λ k. T k.tm) ks) i U → ⊥
+u_source [] i l e = omega (arith, l)
+u_source (k ∷ ks) zero l e = cc
+u_source (k ∷ ks) (suc i) l e = u_source ks i (omega (arith, l)) e
+
+not_u : (s : Setting) (c : ℕ) → 1 ≤ c → c ≤ length s.catalogue.classes → U ≡ source_of (home_of s) c → ⊥
+not_u s zero l m e = omega (arith, l)
+not_u s (suc i) l m e = u_source s.catalogue.classes i (omega (arith, m)) e
+
+pub asks_not_u : (g : Given) (d : DmNo) (log : Log) (n : ℕ) (k : ClassNo) (time : Ts) → IsPermitted g log
+    → slice_get (puts_to U (local_of g (D d) log)) n ≡ Some (Ask k time) → ⊥
+asks_not_u g d log n k time h e =
+    let p = put_in_by_d g log d U n (Ask k time) h e in
+    let hb = (permitted_before g p.later (Does (D d) p.act ∷ p.before) (subst (IsPermitted g) p.is h)).1 in
+    let by : IsAskBy (setting_of g (D d)) (local_of g (D d) p.before) U k time = p.by in
+    let m : Msg = Read by.ts by.of by.txn by.attempt by.conds by.uses in
+    let put = head_put g by.class d p.before m hb by.head_is in
+    let s : Setting = setting_of g (home g.catalogue by.class) in
+    let r : IsRead s (local_of g (home g.catalogue by.class) put.before) put.act by.of.0 by.ts.0 by.txn.0 by.attempt = put.by in
+    let w = act_within s (D d) (local_of g (home g.catalogue by.class) put.before) put.act put.place by.ts
+    by.of by.txn by.attempt by.conds by.uses r put.there in
+    let i = one_within (length g.catalogue.classes) by.conds by.place by.cond_at w by.there in
+    let z : by.cond_at.class.0 ≡ k.0 = ap (λ (c : ClassNo). c.0) (sym by.class_is) in
+    not_u (setting_of g (D d)) k.0 (omega (arith, i.0, z)) (omega (arith, i.1, z)) by.to_is

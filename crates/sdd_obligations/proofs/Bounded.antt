@@ -1,0 +1,182 @@
+-- Within the limits of a run no log is higher than the greatest height.
+use Rattle.std.specs.Prelude.{map}
+use Rattle.std.specs.List.{range_with_len}
+use Rattle.std.proofs.Common.{ℕ, ◌*◌, ◌+◌, ◌<◌, ◌^◌, ◌∷◌, ◌≡◌, ◌≤◌, ◌∙◌, List, None, Option, Some, [], ap, arith, length, refl, subst, suc, sym}
+use Rattle.std.proofs.Math.Nat.{mul-le-mul, mul-le-mul_right, suc-mul}
+use Rattle.std.proofs.lemmas.List.{length-append, length-map}
+use Rattle.std.proofs.lemmas.List.FromFn.{length-range_with_len}
+use Rattle.sdd_base.specs.Numbers.{dm_no, tm_no}
+use Rattle.sdd_base.specs.Sites.{sites}
+use Rattle.sdd_base.specs.declared.limits.TheConstants.{MAX_LINK_MESSAGES, MAX_RUN_EVENTS, MAX_TICKS}
+use Rattle.sdd_base.specs.declared.site.Site.{Site}
+use Rattle.sdd_base.specs.declared.site.Site.TheVariants.{D, T, U}
+use Rattle.sdd_history.specs.declared.record.Rec.TheVariants.{Start}
+use Rattle.sdd_module.specs.SiteLog.{Act, Did, Each, Handed, Records, Redeclared, Submits, Ticked, hands, submits}
+use Rattle.sdd_dm.specs.Views.{home_of, view_of}
+use Rattle.sdd_log.specs.Entries.{Does, Entry, Given, Hand, Log, Mark, Notes, Redeclares, Round, Submitted, marks}
+use Rattle.sdd_log.specs.Lawful.{IsLawful, IsWithin}
+use Rattle.sdd_log.specs.Locals.{local_of, setting_of}
+use Rattle.sdd_log.specs.Permitted.{IsPermitted}
+use Rattle.sdd_log.specs.Traffic.{handed}
+use Rattle.sdd_log.proofs.EachLocal.{each_local}
+use Rattle.sdd_log.proofs.NewMarks.{lawful_permitted}
+use Rattle.sdd_invariants.specs.AtU.{starts, starts_more}
+use Rattle.sdd_invariants.specs.Steps.{IsFair}
+use Rattle.sdd_invariants.proofs.Fair.{all_new, t_fair, u_fair}
+use Rattle.sdd_invariants.proofs.Made.{local_step, own_act}
+use Rattle.sdd_invariants.specs.Made.{made, with_made}
+use Rattle.sdd_obligations.specs.Bounds.{AllFewTicks, IsNumbered, IsSmall, greatest_height, most_classes, most_sites}
+use Rattle.sdd_obligations.specs.Heights.{height, starts_by, ticks_of}
+use Rattle.sdd_obligations.proofs.Counting.{site_few}
+use Rattle.sdd_obligations.proofs.Limits.{handed_few, hands_few, marks_few, submits_few}
+use Rattle.sdd_obligations.proofs.NoStarts.{d_starts_not}
+use Rattle.sdd_obligations.proofs.OfNext.{IsThere, of_next, t_of_sites}
+use Rattle.sdd_obligations.proofs.Sums.{total, total_le, total_le_at, total_raise, total_up}
+use Rattle.sdd_module.specs.SiteLog as site
+
+-- the height is the sum of ticks and of all sites' Starts
+
+act_starts : (act : Act) (n : ℕ) → starts_more act n ≡ starts_by act + n
+act_starts (Records c (Start txn attempt class ts p2 uses) sends) n = omega arith
+act_starts act n = omega arith
+
+starts_rise : (o : Option site.Entry) (l : site.Log) → starts l ≤ starts (with_made o l)
+starts_rise None l = omega arith
+starts_rise (Some (Handed from m)) l = omega arith
+starts_rise (Some (Ticked n)) l = omega arith
+starts_rise (Some (Submits n t)) l = omega arith
+starts_rise (Some (Redeclared force t)) l = omega arith
+starts_rise (Some (Did act)) l = let e = act_starts act (starts l) in omega (arith, e)
+
+starts_up : (g : Given) (e : Entry) (log : Log) (at : Site) → starts (local_of g at log) ≤ starts (local_of g at (e ∷ log))
+starts_up g e log at = subst (λ l. starts (local_of g at log) ≤ starts l) (sym (local_step g at e log)) (starts_rise (made g at log e) (local_of g at log))
+
+abbrev all_sites : Given → List Site
+all_sites g = sites g.catalogue.tms g.catalogue.dms
+
+abbrev all_starts : Given → Log → ℕ
+all_starts g log = total (λ at. starts (local_of g at log)) (all_sites g)
+
+sum_up : (g : Given) (e : Entry) (log : Log) → all_starts g log ≤ all_starts g (e ∷ log)
+sum_up g e log = total_up (λ at. starts (local_of g at log)) (λ at. starts (local_of g at (e ∷ log))) (all_sites g) (starts_up g e log)
+
+sum_act : (g : Given) (at : Site) (act : Act) (log : Log) → IsThere (all_sites g) at
+    → starts_by act + all_starts g log ≤ all_starts g (Does at act ∷ log)
+sum_act g at act log k =
+    let own : starts (local_of g at (Does at act ∷ log)) ≡ starts_by act + starts (local_of g at log) =
+    ap starts (own_act g at act log) ∙ act_starts act (starts (local_of g at log)) in
+    total_raise (λ b. starts (local_of g b log)) (λ b. starts (local_of g b (Does at act ∷ log)))
+    (starts_by act) (all_sites g) k.0 at k.1 (starts_up g (Does at act) log) (omega (arith, own))
+
+mark_sum : (t m k h s more : ℕ) → t ≤ k → h ≤ m * k + s → s ≤ more → t + h ≤ suc m * k + more
+mark_sum t m k h s more a b c = let e = suc-mul m k in omega (arith, a, b, c, e)
+
+same_sum : (m k h s more : ℕ) → h ≤ m * k + s → s ≤ more → h ≤ m * k + more
+same_sum m k h s more b c = omega (arith, b, c)
+
+later_sum : (m k h s more : ℕ) → h ≤ m * k + s → s ≤ more → h ≤ suc m * k + more
+later_sum m k h s more b c = let e = suc-mul m k in omega (arith, b, c, e)
+
+act_sum : (a m k h s more : ℕ) → h ≤ m * k + s → a + s ≤ more → a + h ≤ m * k + more
+act_sum a m k h s more b c = omega (arith, b, c)
+
+height_le : (g : Given) (log : Log) → AllFewTicks g.events → IsLawful g log → height log ≤ marks log * MAX_TICKS + all_starts g log
+height_le g [] f l = omega arith
+height_le g (Mark e ∷ log) f l =
+    mark_sum (ticks_of e) (marks log) MAX_TICKS (height log) (all_starts g log)
+    (all_starts g (Mark e ∷ log)) (of_next g log (Mark e) f l.1 l.0) (height_le g log f l.1)
+    (sum_up g (Mark e) log)
+height_le g (Round es ∷ log) f l = same_sum (marks log) MAX_TICKS (height log) (all_starts g log) _ (height_le g log f l.1) (sum_up g (Round es) log)
+height_le g (Redeclares t ∷ log) f l = later_sum (marks log) MAX_TICKS (height log) (all_starts g log) _ (height_le g log f l.1) (sum_up g (Redeclares t) log)
+height_le g (Hand a b n m ∷ log) f l = same_sum (marks log) MAX_TICKS (height log) (all_starts g log) _ (height_le g log f l.1) (sum_up g (Hand a b n m) log)
+height_le g (Submitted at n ∷ log) f l = same_sum (marks log) MAX_TICKS (height log) (all_starts g log) _
+    (height_le g log f l.1) (sum_up g (Submitted at n) log)
+height_le g (Notes ∷ log) f l = same_sum (marks log) MAX_TICKS (height log) (all_starts g log) _ (height_le g log f l.1) (sum_up g Notes log)
+height_le g (Does at act ∷ log) f l =
+    act_sum (starts_by act) (marks log) MAX_TICKS (height log) (all_starts g log) _ (height_le g log f l.1)
+    (sum_act g at act log (of_next g log (Does at act) f l.1 l.0).0)
+
+-- how many Starts a site has
+
+sites_count : (tms dms : ℕ) → length (sites tms dms) ≡ suc (tms + dms)
+sites_count tms dms =
+    let a = length-append (map (λ n. T (tm_no n)) (range_with_len 1 tms)) (map (λ n. D (dm_no n)) (range_with_len 1 dms)) in
+    let b = length-map (range_with_len 1 tms) (λ n. T (tm_no n)) in let c = length-map (range_with_len 1 dms) (λ n. D (dm_no n)) in
+    let d = length-range_with_len 1 tms in let e = length-range_with_len 1 dms in
+    omega (arith, a, b, c, d, e)
+
+few_sites : (g : Given) → IsSmall g → length (all_sites g) ≤ most_sites
+few_sites g s = let e = sites_count g.catalogue.tms g.catalogue.dms in let a = s.few_tms in let b = s.few_dms in omega (arith, e, a, b)
+
+abbrev most_starts : ℕ
+most_starts = most_classes * (MAX_RUN_EVENTS + most_sites * MAX_LINK_MESSAGES)
+
+sum_of : (x y m t u r v : ℕ) → x ≤ m → m ≤ r → y ≤ t → t ≤ u → u ≤ v → x + y ≤ r + v
+sum_of x y m t u r v a b c d e = omega (arith, a, b, c, d, e)
+
+came_few : (g : Given) (at : Site) (log : Log) → IsSmall g → IsLawful g log → IsPermitted g log → IsWithin log
+    → length (submits (local_of g at log)) + hands (local_of g at log) ≤ MAX_RUN_EVENTS + most_sites * MAX_LINK_MESSAGES
+came_few g at log s l p w =
+    let a = submits_few g at log p in let b = marks_few log w in
+    let c = hands_few g at log s.few_ticks l p in
+    let d = total_le (λ a. handed a at log) (all_sites g) MAX_LINK_MESSAGES (λ a. handed_few g log p w a at) in
+    let e : length (all_sites g) * MAX_LINK_MESSAGES ≤ most_sites * MAX_LINK_MESSAGES = mul-le-mul_right MAX_LINK_MESSAGES (few_sites g s) in
+    sum_of (length (submits (local_of g at log))) (hands (local_of g at log)) (marks log) _ _ MAX_RUN_EVENTS _ a b c d e
+
+trans_le : (x y z : ℕ) → x ≤ y → y ≤ z → x ≤ z
+trans_le x y z a b = omega (arith, a, b)
+
+of_classes : (g : Given) (at : Site) (log : Log) → IsSmall g → IsLawful g log → IsPermitted g log → IsWithin log → IsNumbered at
+    → Each (IsFair (setting_of g at)) (local_of g at log) → starts (local_of g at log) ≤ most_starts
+of_classes g at log s l p w n f =
+    let a = site_few (setting_of g at) (local_of g at log) n f (all_new g at log p) in
+    let few : suc (length g.catalogue.classes) ≤ most_classes = let c = s.few_classes in omega (arith, c) in
+    let b = mul-le-mul few (came_few g at log s l p w) in
+    trans_le (starts (local_of g at log)) _ most_starts a b
+
+-- a data module has none
+abbrev StartsNot : site.Log → site.Entry → Type 0
+StartsNot l (Did act) = starts_by act ≡ 0
+StartsNot l (Handed from m) = Unit {0}
+StartsNot l (Ticked n) = Unit {0}
+StartsNot l (Submits n t) = Unit {0}
+StartsNot l (Redeclared force t) = Unit {0}
+
+none_started : (l : site.Log) → Each StartsNot l → starts l ≡ 0
+none_started [] h = refl
+none_started (Handed from m ∷ l) h = none_started l h.1
+none_started (Ticked n ∷ l) h = none_started l h.1
+none_started (Submits n t ∷ l) h = none_started l h.1
+none_started (Redeclared force t ∷ l) h = none_started l h.1
+none_started (Did act ∷ l) h =
+    let i = none_started l h.1 in let e = act_starts act (starts l) in let z = h.0 in omega (arith, i, e, z)
+
+site_bound : (g : Given) (at : Site) (log : Log) → IsSmall g → IsLawful g log → IsPermitted g log → IsWithin log
+    → IsThere (all_sites g) at → starts (local_of g at log) ≤ most_starts
+site_bound g U log s l p w k = of_classes g U log s l p w tt (u_fair g log p)
+site_bound g (T t) log s l p w k =
+    of_classes g (T t) log s l p w (t_of_sites g.catalogue.tms g.catalogue.dms t k).0 (t_fair g t log p)
+site_bound g (D d) log s l p w k =
+    let e = none_started (local_of g (D d) log) (each_local g (D d) StartsNot (record {
+      handed = λ log p from n m a i. tt;
+      ticked = λ log p n i. tt;
+      submits = λ log p n t a e i. tt;
+      redeclared = λ l k t i. tt;
+      did = λ log act p due i. d_starts_not (home_of (setting_of g (D d))) (view_of (setting_of g (D d)) (local_of g (D d) log)) act due;
+    }) log p) in
+    omega (arith, e)
+
+last_of : (h x y u r v : ℕ) → h ≤ x + y → x ≤ r → y ≤ u → u ≤ v → h ≤ r + v
+last_of h x y u r v a b c d = omega (arith, a, b, c, d)
+
+pub height_few : (g : Given) (log : Log) → IsSmall g → IsLawful g log → IsWithin log → height log ≤ greatest_height
+height_few g log s l w =
+    let p = lawful_permitted g log s.once l in
+    let a = height_le g log s.few_ticks l in
+    let b : marks log * MAX_TICKS ≤ MAX_RUN_EVENTS * MAX_TICKS = mul-le-mul_right MAX_TICKS (marks_few log w) in
+    let c = total_le_at (λ at. starts (local_of g at log)) (all_sites g) most_starts (λ n at e. site_bound g at log s l p w (n, e)) in
+    let d : length (all_sites g) * most_starts ≤ most_sites * most_starts = mul-le-mul_right most_starts (few_sites g s) in
+    last_of (height log) (marks log * MAX_TICKS) (all_starts g log) _ _ _ a b c d
+
+pub greatest_below : greatest_height < 2 ^ 53
+greatest_below = omega arith

@@ -1,0 +1,67 @@
+-- The changes of a transaction that fits, on a database, as WRITEs take them to data modules.
+use Rattle.std.proofs.Common.{ℕ, ℤ, ◌≡◌, Bool, true, false, cond, List, [], ◌∷◌, map, refl, ap, sym, ◌∙◌, subst}
+use Rattle.std.specs.List.{AllByRecursion, IsDistinct, filter}
+use Rattle.std.specs.Map.{keys_of}
+use Rattle.std.specs.Ordering.{eq_by_cmp, is_eq}
+use Rattle.std.proofs.lemmas.List.Elements.{All-from_recursion}
+use Rattle.std.proofs.lemmas.Map.Keys.{IsDistinct-from_sorted}
+use Rattle.std.proofs.lemmas.Map.Made.{IsDistinct-keys_filter}
+use Rattle.sdd_base.specs.declared.change.Change.{Change}
+use Rattle.sdd_catalog.specs.Catalogue.{Catalogue, has_copy}
+use Rattle.sdd_catalog.specs.Rules.{IsSound}
+use Rattle.sdd_lang.specs.Database.{Database, item_cmp}
+use Rattle.sdd_lang.specs.Effect.{Changed, change_of, effect}
+use Rattle.sdd_lang.specs.Sound.{IsDatabase}
+use Rattle.sdd_lang.specs.declared.transaction.Txn.{Txn}
+use Rattle.sdd_lang.proofs.EffectChanges.{AreMade, changes_items, effect_made}
+use Rattle.sdd_lang.proofs.SortedEntries.{sorted_nil}
+use Rattle.sdd_invariants.specs.Steps.{changes_at}
+use Rattle.sdd_obligations.specs.Fitting.{AreWritten, FitsText, IsItemChange}
+
+-- what all have, those have that are kept; and these pass the test
+
+all_kept : {A : Type 0} (P : A → Type 0) (p : A → Bool) (xs : List A) → AllByRecursion P xs → AllByRecursion P (filter p xs)
+all_kept P p [] all = tt
+all_kept P p (x ∷ xs) all =
+    elim (p x) as (λ b. AllByRecursion P (cond b (x ∷ filter p xs) (filter p xs))) [ true ↦ (all.0, all_kept P p xs all.1) | false ↦ all_kept P p xs all.1 ]
+
+kept_pass : {A : Type 0} (p : A → Bool) (xs : List A) → AllByRecursion (λ x. p x ≡ true) (filter p xs)
+kept_pass p [] = tt
+kept_pass p (x ∷ xs) =
+    elim (p x) as (λ b. p x ≡ b → AllByRecursion (λ x. p x ≡ true) (cond b (x ∷ filter p xs) (filter p xs)))
+    [ true ↦ λ e. (e, kept_pass p xs) | false ↦ λ e. kept_pass p xs ] refl
+
+-- the items of changes that are kept
+abbrev key_of : Change → ℕ × ℤ
+key_of x = (x.frag.0, x.key)
+
+kept_keys : (p : Change → Bool) (changed : Changed) → map key_of (filter p (map change_of changed)) ≡ keys_of (filter (λ e. p (change_of e)) changed)
+kept_keys p [] = refl
+kept_keys p (e ∷ es) =
+    elim (p (change_of e)) as (λ b. map key_of (cond b (change_of e ∷ filter p (map change_of es))
+    (filter p (map change_of es))) ≡ keys_of (cond b (e ∷ filter (λ e. p (change_of e)) es)
+    (filter (λ e. p (change_of e)) es))) [
+      | true ↦ ap (λ ks. e.0 ∷ ks) (kept_keys p es)
+      | false ↦ kept_keys p es
+    ]
+
+-- they differ
+made_differ : (p : Change → Bool) (changes : List Change) → AreMade changes → IsDistinct (λ x y. is_eq (item_cmp x y)) (map key_of (filter p changes))
+made_differ p changes made =
+    let differ : IsDistinct (eq_by_cmp item_cmp) (keys_of (filter (λ e. p (change_of e)) made.changed)) =
+    IsDistinct-keys_filter (eq_by_cmp item_cmp) (λ e. p (change_of e)) made.changed (IsDistinct-from_sorted item_cmp (keys_of made.changed) made.ascend) in
+    let keys : map key_of (filter p changes) ≡ keys_of (filter (λ e. p (change_of e)) made.changed) =
+    ap (λ xs. map key_of (filter p xs)) made.are ∙ kept_keys p made.changed in
+    subst (IsDistinct (λ x y. is_eq (item_cmp x y))) (sym keys) differ
+
+pub effect_written : (cat : Catalogue) → IsSound cat → (txn : Txn) → FitsText cat txn → (db : Database)
+    → IsDatabase cat db → (d : ℕ) → AreWritten cat d (changes_at cat d (effect cat db txn).changes)
+effect_written cat sound txn fits db is d =
+    let xs : List Change = (effect cat db txn).changes in
+    let here : Change → Bool = λ x. has_copy cat d x.frag.0 in
+    record {
+      each = All-from_recursion (IsItemChange cat) (filter here xs) (all_kept (IsItemChange cat) here xs
+          (changes_items cat sound txn fits.fits fits.held db is));
+      here = All-from_recursion (λ (x : Change). has_copy cat d x.frag.0 ≡ true) (filter here xs) (kept_pass here xs);
+      items = made_differ here xs (effect_made cat db txn.statements [] [] (sorted_nil item_cmp));
+    }

@@ -1,0 +1,133 @@
+-- A question that is next to be handed over is for rows that its data module holds.
+use Rattle.std.proofs.Common.{ℕ, ◌∙◌, ◌∷◌, ◌≡◌, ◌≤◌, Bool, List, None, Option, Some, [], ap, arith, false, if◌then◌else◌, not, refl, subst, sym, true}
+use Rattle.sdd_base.specs.Sites.{number_of}
+use Rattle.sdd_base.specs.Words.{contains}
+use Rattle.sdd_base.specs.declared.number.DmNo.{DmNo}
+use Rattle.sdd_base.specs.declared.site.Site.{Site}
+use Rattle.sdd_base.specs.declared.site.Site.TheVariants.{D}
+use Rattle.sdd_wire.specs.declared.msg.Msg.{Msg}
+use Rattle.sdd_wire.specs.declared.msg.Msg.TheVariants.{Fetch, Reduce, Ship}
+use Rattle.sdd_attempt.specs.Attempts.{active, asks_rows}
+use Rattle.sdd_dm.specs.Copies.{frozen}
+use Rattle.sdd_dm.specs.Fits.{AreFor, FitsShip, HaveUse}
+use Rattle.sdd_copy.specs.Frozen.{Frozen}
+use Rattle.sdd_log.specs.Entries.{Given, Hand}
+use Rattle.sdd_log.specs.Entries as all
+use Rattle.sdd_log.specs.Locals.{local_of, setting_of}
+use Rattle.sdd_log.specs.Permitted.{IsAllowed, IsPermitted}
+use Rattle.sdd_log.specs.Traffic.{handed}
+use Rattle.sdd_obligations.proofs.Asking.{asks_no_read}
+use Rattle.sdd_obligations.proofs.Hearing.{answers_asked}
+use Rattle.sdd_obligations.proofs.Flights.{first_in_flight}
+use Rattle.sdd_obligations.proofs.Replying.{asks_question}
+use Rattle.sdd_obligations.proofs.Held.{AreHeldFor}
+use Rattle.sdd_obligations.proofs.Sources.{asked_here, question_home, source_is_home}
+use Rattle.sdd_obligations.proofs.Spoken.{first_of_kind, answer_in_turn, question_in_turn, spoken}
+use Rattle.sdd_obligations.proofs.Halves.{IsLast, active_last, active_of, data_log, home_log, home_turns}
+use Rattle.sdd_obligations.specs.Awaited.{IsServable}
+use Rattle.sdd_obligations.specs.Turns.{Asks, IsOfUses, MayAsk, Refused, Replies, Silent, Told, Turn, answers, is_a_read, is_a_ship, is_answer, is_exchanging, is_question, questions, told, turn_at, turn_with, uses_held}
+use Rattle.sdd_obligations.proofs.Stages.{answer_flies, question_flies}
+use Rattle.sdd_obligations.specs.Stages.{flight}
+use Rattle.sdd_invariants.specs.Steps.{home}
+use Rattle.sdd_invariants.proofs.InOrder.{hand_was_put}
+use Rattle.sdd_obligations.proofs.Answered.{never, own}
+
+-- questions
+
+record IsRowsTurn (w : Turn) (m : Msg) : Type 0 where
+  uses : List ℕ
+  last : Msg
+  is : w ≡ Told uses last
+  not_shipped : is_a_ship last ≡ false
+  named : IsOfUses uses m
+
+rows_turn : (w : Turn) (m : Msg) → MayAsk w m → is_a_read m ≡ false → IsRowsTurn w m
+rows_turn Silent m h e = never (is_a_read m) h e
+rows_turn (Asks ns q) m h e = absurd h
+rows_turn (Told ns q) m h e = record { uses = ns; last = q; is = refl; not_shipped = h.0; named = h.1 }
+rows_turn Refused m h e = absurd h
+
+held_for : (ts : ℕ) (ns : List ℕ) (f : Option Frozen) → AreHeldFor ts ns f → AreFor ts f
+held_for ts ns None h = h
+held_for ts ns (Some f) h = h.0
+
+held_use : (ts u : ℕ) (ns : List ℕ) (f : Option Frozen) → AreHeldFor ts ns f → contains ns u ≡ true → HaveUse u f
+held_use ts u ns None h e = h
+held_use ts u ns (Some f) h e = subst (λ l. contains l u ≡ true) (sym h.1) e
+
+record IsForHeld (g : Given) (log : all.Log) (a : Site) (d : DmNo) (ts c : ℕ) (m : Msg) : Type 0 where
+  ship : FitsShip (setting_of g (D d)) (local_of g (D d) log) a c ts
+  uses : List ℕ
+  held : AreHeldFor ts uses (frozen (setting_of g (D d)) c (local_of g (D d) log))
+  named : IsOfUses uses m
+
+for_held : (g : Given) (log : all.Log) (a : Site) (d : DmNo) (n : ℕ) (m : Msg) (ts c : ℕ) → IsPermitted g log → ((c : ℕ) → number_of (home g.catalogue c) ≤ 63)
+    → IsAllowed g log (Hand a (D d) n m) → asks_rows ts c m ≡ true → IsForHeld g log a d ts c m
+for_held g log a d n m ts c h few i e =
+    let q : is_question ts c m ≡ true = asks_question ts c m e in
+    let put = (hand_was_put g log a (D d) n m i).1 in
+    let from : home g.catalogue c ≡ a = question_home g a (D d) log (handed a (D d) log) m ts c h put q in
+    let j : IsAllowed g log (Hand (home g.catalogue c) (D d) n m) = subst (λ s. IsAllowed g log (Hand s (D d) n m)) (sym from) i in
+    let put_home = (hand_was_put g log (home g.catalogue c) (D d) n m j).1 in
+    let l = asked_here g c (D d) log (handed (home g.catalogue c) (D d) log) m ts h put_home e in
+    let k = spoken g c log h (few c) in
+    let no_read : is_a_read m ≡ false = asks_no_read ts c m e in
+    let w = rows_turn (turn_with ts c (home g.catalogue c) (data_log g d.0 log)) m (question_in_turn g c log d.0 n m ts k j q) no_read in
+    let f = first_in_flight g log (home g.catalogue c) (D d) n m j in
+    let goes = question_flies _ _ _ _ m (questions ts c f.0) (first_of_kind (is_question ts c)
+    (flight g (home g.catalogue c) (D d) log) m f.0 f.1 q) (k.stages ts d.0) in
+    let s = home_turns g c log h k in
+    let x = active_of ts d.0 (active (setting_of g (home g.catalogue c)) c (home_log g c log))
+    (turn_at ts c d.0 (home_log g c log)) (s.turns ts d.0) (ap is_exchanging goes ∙ ap not no_read) in
+    let last : IsLast g ts c d.0 log = subst (λ t. IsLast g t c d.0 log) x.2 (active_last g c d.0 log x.0 h (few c) x.1) in
+    let held = k.held ts d.0 last w.uses (ap uses_held w.is ∙ ap (λ (b : Bool). if b then None else Some w.uses) w.not_shipped) in
+    record {
+      ship = record {
+        source = record { is_class = l; home = sym from ∙ sym (source_is_home (setting_of g (D d)) c (omega (arith, l))) };
+        held = held_for ts w.uses (frozen (setting_of g (D d)) c (local_of g (D d) log)) held;
+      };
+      uses = w.uses;
+      held = held;
+      named = w.named;
+    }
+
+-- a FETCH, REDUCE or SHIP that is next to be handed over is for rows that its data module holds
+pub questions_are_servable : (g : Given) (log : all.Log) (a : Site) (d : DmNo) (n : ℕ) (m : Msg) → IsPermitted g (Hand a (D d) n m ∷ log)
+    → ((c : ℕ) → number_of (home g.catalogue c) ≤ 63) → IsServable (setting_of g (D d)) (local_of g (D d) log) a m
+questions_are_servable g log a d n (Fetch t k u col) h few =
+    let r = for_held g log a d n (Fetch t k u col) t.0 k.0 h.1 few h.0 (own t k) in
+    record { asked = r.ship; named = held_use t.0 u r.uses (frozen (setting_of g (D d)) k.0 (local_of g (D d) log)) r.held r.named }
+questions_are_servable g log a d n (Reduce t k u col vs) h few =
+    let r = for_held g log a d n (Reduce t k u col vs) t.0 k.0 h.1 few h.0 (own t k) in
+    record { asked = r.ship; named = held_use t.0 u r.uses (frozen (setting_of g (D d)) k.0 (local_of g (D d) log)) r.held r.named }
+questions_are_servable g log a d n (Ship t k) h few = (for_held g log a d n (Ship t k) t.0 k.0 h.1 few h.0 (own t k)).ship
+questions_are_servable g log a d n m h few = tt
+
+-- a question that is next to be handed over is the one of its site's turn
+pub question_stands : (g : Given) (c : ℕ) (log : all.Log) (d : DmNo) (n : ℕ) (m : Msg) (ts : ℕ) → IsPermitted g log → number_of (home g.catalogue c) ≤ 63
+    → IsAllowed g log (Hand (home g.catalogue c) (D d) n m) → is_question ts c m ≡ true → (ns : List ℕ) × (turn_at ts c d.0 (home_log g c log) ≡ Asks ns m)
+question_stands g c log d n m ts h few i q =
+    let f = first_in_flight g log (home g.catalogue c) (D d) n m i in (
+      _,
+      question_flies _ _ _ _ m (questions ts c f.0) (first_of_kind (is_question ts c)
+          (flight g (home g.catalogue c) (D d) log) m f.0 f.1 q) ((spoken g c log h few).stages ts d.0),
+    )
+
+-- an answer that is next to be handed over answers the question of its site's turn, and is the last of its module
+pub record IsStanding (g : Given) (c : ℕ) (log : all.Log) (d : DmNo) (x : Msg) (ts : ℕ) : Type 0 where
+  pub uses : List ℕ
+  pub question : Msg
+  pub asks : turn_at ts c d.0 (home_log g c log) ≡ Asks uses question
+  pub replies : Replies uses question x
+  pub tells : turn_with ts c (home g.catalogue c) (data_log g d.0 log) ≡ told x (Asks uses question)
+  pub alone : answers ts c (flight g (D d) (home g.catalogue c) log) ≡ x ∷ []
+
+pub answer_stands : (g : Given) (c : ℕ) (log : all.Log) (d : DmNo) (n : ℕ) (x : Msg) (ts : ℕ) → IsPermitted g log → number_of (home g.catalogue c) ≤ 63
+    → IsAllowed g log (Hand (D d) (home g.catalogue c) n x) → is_answer ts c x ≡ true → IsStanding g c log d x ts
+answer_stands g c log d n x ts h few i a =
+    let k = spoken g c log h few in
+    let by = answers_asked (turn_at ts c d.0 (home_log g c log)) x (answer_in_turn g c log d.0 n x ts k i a) in
+    let f = first_in_flight g log (D d) (home g.catalogue c) n x i in
+    let e = first_of_kind (is_answer ts c) (flight g (D d) (home g.catalogue c) log) x f.0 f.1 a in
+    let o = answer_flies _ _ _ _ x (answers ts c f.0) e (k.stages ts d.0) in
+    record { uses = by.uses; question = by.question; asks = by.is; replies = by.replies; tells = o.0 ∙ ap (told x) by.is; alone = e ∙ ap (λ l. x ∷ l) o.1 }

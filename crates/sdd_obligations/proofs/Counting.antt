@@ -1,0 +1,217 @@
+-- A class starts no more attempts than transactions were given to its site and messages handed to it.
+use Rattle.std.proofs.Common.{ℕ, ◌*◌, ◌++◌, ◌+◌, ◌-◌, ◌==◌, ◌∷◌, ◌≡◌, ◌≤◌, Bool, List, None, Option, Some, [], ap, arith, cond, false, filter, if◌then◌else◌, inl, inr, length, map, not, refl, slice_get, subst, suc, sym, true}
+use Rattle.std.proofs.Math.Decide.{dec_le}
+use Rattle.std.proofs.lemmas.List.{get_or_past, length-append, length-map}
+use Rattle.std.proofs.lemmas.List.FromFn.{length-range_with_len}
+use Rattle.sdd_base.specs.Numbers.{tm_no}
+use Rattle.sdd_base.specs.Words.{head_of}
+use Rattle.sdd_base.specs.declared.site.Site.{Site}
+use Rattle.sdd_base.specs.declared.site.Site.TheVariants.{D, T, U}
+use Rattle.sdd_catalog.specs.Catalogue.{Catalogue, class_at}
+use Rattle.sdd_catalog.specs.declared.resolved.Class.{Class}
+use Rattle.sdd_wire.specs.declared.msg.Msg.{Msg}
+use Rattle.sdd_module.specs.SiteLog.{Act, Bases, Did, Each, Handed, Log, Redeclared, Sends, Setting, Submits, Ticked, hands, in_force, sends_of_act, submits}
+use Rattle.sdd_attempt.specs.Acts.{commit_act}
+use Rattle.sdd_attempt.specs.Attempts.{Attempt, active, active_handed, active_sent, started}
+use Rattle.sdd_attempt.specs.Queues.{Queued, is_for, queue, submitted, tried}
+use Rattle.sdd_dm.specs.Copies.{classes_of}
+use Rattle.sdd_invariants.specs.AtU.{starts}
+use Rattle.sdd_invariants.proofs.Queues.{queue_is}
+use Rattle.sdd_invariants.proofs.Active.{sent_way, step_way}
+use Rattle.sdd_invariants.proofs.Bools.{same_number, same_or_not}
+use Rattle.sdd_invariants.specs.Steps.{IsFair, IsNew, IsServed, IsStep, home, next_stamp, start_at}
+use Rattle.sdd_obligations.specs.Bounds.{IsNumbered, class_starts, start_of_class}
+use Rattle.sdd_obligations.proofs.Sums.{range_at, total, total_le, total_raise, total_up}
+
+abbrev busy : Option Attempt → ℕ
+busy None = 0
+busy (Some a) = 1
+
+busy_le : (o : Option Attempt) → busy o ≤ 1
+busy_le None = omega arith
+busy_le (Some a) = omega arith
+
+busy_started : (ts : ℕ) (sends : List (Site × Msg)) (o : Option Queued) (q : Queued) → o ≡ Some q → busy (started ts sends o) ≡ 1
+busy_started ts sends None q e = cc
+busy_started ts sends (Some x) q e = refl
+
+busy_served : (o : Option Attempt) (qs : List Queued) → IsServed o qs → busy o ≤ length qs
+busy_served None qs h = omega arith
+busy_served (Some a) [] h = absurd h
+busy_served (Some a) (q ∷ qs) h = omega arith
+
+-- the Starts of the class and what waits in its queue
+abbrev IsCounted : Setting → ℕ → Log → Type 0
+IsCounted s c log = class_starts c log + length (queue s c log) ≤ length (submits log) + hands log + busy (active s c log)
+
+start_count : (cs qs more subs hs b d : ℕ) → more ≡ qs → b ≡ 0 → d ≡ 1 → cs + qs ≤ subs + hs + b → 1 + cs + more ≤ subs + hs + d
+start_count cs qs more subs hs b d e f g l = omega (arith, e, f, g, l)
+
+count_start : (s : Setting) (c : ℕ) (log : Log) (q : Queued) → active s c log ≡ None → head_of (queue s c log) ≡ Some q
+    → IsCounted s c log → IsCounted s c (Did (start_at s c log q) ∷ log)
+count_start s c log q i e h =
+    rw (same_number c)
+    (start_count (class_starts c log) (length (queue s c log))
+    (length (map (tried q.number) (queue s c log))) (length (submits log)) (hands log)
+    (busy (active s c log)) (busy (started (next_stamp s log) (sends_of_act (start_at s c log q))
+    (head_of (queue s c log))))
+    (length-map (queue s c log) (tried q.number)) (ap busy i) (busy_started (next_stamp s log)
+    (sends_of_act (start_at s c log q)) (head_of (queue s c log)) q e) h)
+
+same_count : (cs qs all : ℕ) → cs + qs ≤ all → 0 + cs + qs ≤ all
+same_count cs qs all l = omega (arith, l)
+
+count_other_start : (s : Setting) (k c : ℕ) (log : Log) (q : Queued) → (k == c) ≡ false → IsCounted s c log
+    → IsCounted s c (Did (start_at s k log q) ∷ log)
+count_other_start s k c log q e h = rw e (same_count (class_starts c log) (length (queue s c log)) _ h)
+
+filter_shorter : (p : Queued → Bool) (qs : List Queued) → length (filter p qs) ≤ length qs
+filter_shorter p [] = omega arith
+filter_shorter p (q ∷ qs) =
+    let i = filter_shorter p qs in
+    elim (p q) as (λ b. length (cond b (q ∷ filter p qs) (filter p qs)) ≤ suc (length qs)) [ true ↦ omega (arith, i) | false ↦ omega (arith, i) ]
+
+head_taken : (a : Attempt) (qs : List Queued) → IsServed (Some a) qs → suc (length (filter (λ q. not (q.number == a.txn)) qs)) ≤ length qs
+head_taken a [] h = absurd h
+head_taken a (q ∷ qs) h =
+    let e : (q.number == a.txn) ≡ true = subst (λ n. (q.number == n) ≡ true) h.0 (same_number q.number) in
+    let i = filter_shorter (λ q. not (q.number == a.txn)) qs in
+    rw e (omega (arith, i))
+
+commit_count : (cs qs more subs hs b : ℕ) → suc more ≤ qs → b ≤ 1 → cs + qs ≤ subs + hs + b → 0 + cs + more ≤ subs + hs + 0
+commit_count cs qs more subs hs b l m h = omega (arith, l, m, h)
+
+count_commit : (s : Setting) (c : ℕ) (bases : Bases) (log : Log) (a : Attempt) → active s c log ≡ Some a
+    → IsServed (active s c log) (queue s c log) → IsCounted s c log → IsCounted s c (Did (commit_act s.catalogue bases c a) ∷ log)
+count_commit s c bases log a e v h =
+    rw (same_number c)
+    (commit_count (class_starts c log) (length (queue s c log))
+    (length (filter (λ q. not (q.number == a.txn)) (queue s c log))) (length (submits log)) (hands log)
+    (busy (active s c log))
+    (head_taken a (queue s c log) (subst (λ o. IsServed o (queue s c log)) e v)) (busy_le (active s c log)) h)
+
+count_other_commit : (s : Setting) (k c : ℕ) (bases : Bases) (log : Log) (a : Attempt) → (k == c) ≡ false → IsCounted s c log
+    → IsCounted s c (Did (commit_act s.catalogue bases k a) ∷ log)
+count_other_commit s k c bases log a e h = rw e (same_count (class_starts c log) (length (queue s c log)) _ h)
+
+sent_busy : (s : Setting) (c : ℕ) (log : Log) (m : Msg) → busy (active s c log) ≤ busy (active_sent c m (active s c log))
+sent_busy s c log m =
+    sent_way (λ o. busy (active s c log) ≤ busy o) c m (active s c log) (λ a x e. busy_le (active s c log)) (omega arith)
+
+send_count : (cs qs all b d : ℕ) → b ≤ d → cs + qs ≤ all + b → 0 + cs + qs ≤ all + d
+send_count cs qs all b d l h = omega (arith, l, h)
+
+count_send : (s : Setting) (c : ℕ) (log : Log) (to : Site) (m : Msg) (hand : Option ℕ) → IsCounted s c log
+    → IsCounted s c (Did (Sends to m hand) ∷ log)
+count_send s c log to m hand h =
+    send_count (class_starts c log) (length (queue s c log)) (length (submits log) + hands log)
+    (busy (active s c log)) (busy (active_sent c m (active s c log))) (sent_busy s c log m) h
+
+count_act : (s : Setting) (c : ℕ) (log : Log) (act : Act) → IsStep s log act → IsServed (active s c log) (queue s c log)
+    → IsCounted s c log → IsCounted s c (Did act ∷ log)
+count_act s c log act i v h = step_way s log act (λ x. IsCounted s c (Did x ∷ log))
+    (λ k q at f e. elim (same_or_not k c) [
+      | inl p ↦ subst (λ j. IsCounted s c (Did (start_at s j log q) ∷ log)) (sym p) (count_start s c log q (rw p at f) (rw p at e) h)
+      | inr p ↦ count_other_start s k c log q p h
+    ])
+    (λ k bases a at f. elim (same_or_not k c) [
+      | inl p ↦ subst (λ j. IsCounted s c (Did (commit_act s.catalogue bases j a) ∷ log)) (sym p) (count_commit s c bases log a (rw p at f) v h)
+      | inr p ↦ count_other_commit s k c bases log a p h
+    ])
+    (λ to m hand f. count_send s c log to m hand h) i
+
+submit_longer : (b : Bool) (q : Queued) (qs : List Queued) → length (if b then qs ++ q ∷ [] else qs) ≤ suc (length qs)
+submit_longer true q qs = let e = length-append qs (q ∷ []) in omega (arith, e)
+submit_longer false q qs = omega arith
+
+submit_count : (cs qs more subs hs b : ℕ) → more ≤ suc qs → cs + qs ≤ subs + hs + b → cs + more ≤ suc subs + hs + b
+submit_count cs qs more subs hs b l h = omega (arith, l, h)
+
+hand_count : (cs qs subs hs b d : ℕ) → b ≤ 1 → cs + qs ≤ subs + hs + b → cs + qs ≤ subs + suc hs + d
+hand_count cs qs subs hs b d l h = omega (arith, l, h)
+
+counted : (s : Setting) (c : ℕ) (log : Log) → Each (IsFair s) log → Each IsNew log → IsCounted s c log
+counted s c [] f n = omega arith
+counted s c (Handed from m ∷ log) f n =
+    hand_count (class_starts c log) (length (queue s c log)) (length (submits log)) (hands log)
+    (busy (active s c log)) (busy (active_handed c from m (active s c log))) (busy_le (active s c log))
+    (counted s c log f.1 n.1)
+counted s c (Ticked k ∷ log) f n = counted s c log f.1 n.1
+counted s c (Redeclared force t ∷ log) f n = counted s c log f.1 n.1
+counted s c (Submits k txn ∷ log) f n =
+    submit_count (class_starts c log) (length (queue s c log))
+    (length (submitted c (in_force s log).catalogue k txn (queue s c log))) (length (submits log))
+    (hands log) (busy (active s c log))
+    (submit_longer (is_for c (in_force s log).catalogue txn) (record { number = k; text = txn; tries = 0 }) (queue s c log)) (counted s c log f.1 n.1)
+counted s c (Did act ∷ log) f n = count_act s c log act f.0 (queue_is s c log f.1 n.1).served (counted s c log f.1 n.1)
+
+pub class_few : (s : Setting) (c : ℕ) (log : Log) → Each (IsFair s) log → Each IsNew log
+    → class_starts c log ≤ length (submits log) + hands log
+class_few s c log f n =
+    let i = counted s c log f n in
+    let b = busy_served (active s c log) (queue s c log) (queue_is s c log f n).served in
+    omega (arith, i, b)
+
+-- a site starts attempts of classes that are there
+
+no_class_past : (cat : Catalogue) (c t : ℕ) → (class_at cat c).tm.0 ≡ t → 1 ≤ t → (c == 0) ≡ false → c ≤ length cat.classes
+no_class_past cat c t e l z = elim (dec_le c (length cat.classes)) [
+  | yes p ↦ p
+  | no p ↦ (let past : class_at cat c ≡ record { name = []; tm = tm_no 0; reads = []; writes = [] } =
+      get_or_past cat.classes (c - 1) (record { name = []; tm = tm_no 0; reads = []; writes = [] })
+      (omega (arith, p)) in
+      let none : (class_at cat c).tm.0 ≡ 0 = ap (λ (k : Class). k.tm.0) past in absurd (omega (arith, none, e, l)))
+]
+
+of_tm : (cat : Catalogue) (c : ℕ) (at : Site) → IsNumbered at → T (tm_no (class_at cat c).tm.0) ≡ at → (c == 0) ≡ false
+    → c ≤ length cat.classes
+of_tm cat c U l q z = cc
+of_tm cat c (T t) l q z = let n : (class_at cat c).tm.0 ≡ t.0 = cc in no_class_past cat c t.0 n l z
+of_tm cat c (D d) l q z = cc
+
+pub class_here : (cat : Catalogue) (c : ℕ) (at : Site) → IsNumbered at → home cat c ≡ at → c ≤ length cat.classes
+class_here cat c at l e = elim (same_or_not c 0) [ inl p ↦ omega (arith, p) | inr p ↦ of_tm cat c at l (rw p at e) p ]
+
+-- all Starts of a site are of its classes
+
+class_more : (s : Setting) (k : ℕ) (log : Log) (act : Act) (n : ℕ) → k ≤ length s.catalogue.classes → start_of_class k act ≡ n
+    → n + total (λ c. class_starts c log) (classes_of s) ≤ total (λ c. class_starts c (Did act ∷ log)) (classes_of s)
+class_more s k log act n l e =
+    let z : 0 + k ≡ k = omega arith in
+    let there : slice_get (classes_of s) k ≡ Some k =
+    subst (λ x. slice_get (classes_of s) k ≡ Some x) z (range_at 0 (suc (length s.catalogue.classes)) k
+    (omega (arith, l))) in
+    total_raise (λ c. class_starts c log) (λ c. class_starts c (Did act ∷ log)) n (classes_of s) k k there
+    (λ c. omega arith) (omega (arith, e))
+
+start_total : (s : Setting) (log : Log) (act : Act) → IsNumbered s.site → IsStep s log act
+    → starts log ≤ total (λ c. class_starts c log) (classes_of s)
+    → starts (Did act ∷ log) ≤ total (λ c. class_starts c (Did act ∷ log)) (classes_of s)
+start_total s log act l i h =
+    step_way s log act (λ x. starts (Did x ∷ log) ≤ total (λ c. class_starts c (Did x ∷ log)) (classes_of s))
+    (λ k q at f e. let m = class_more s k log (start_at s k log q) 1 (class_here s.catalogue k s.site l at) (rw (same_number k) refl) in omega (arith, m, h))
+    (λ k bases a at f. let m = total_up (λ c. class_starts c log)
+    (λ c. class_starts c (Did (commit_act s.catalogue bases k a) ∷ log)) (classes_of s)
+    (λ c. omega arith) in omega (arith, m, h))
+    (λ to m hand f. let n = total_up (λ c. class_starts c log)
+    (λ c. class_starts c (Did (Sends to m hand) ∷ log)) (classes_of s) (λ c. omega arith) in omega
+    (arith, n, h)) i
+
+by_classes : (s : Setting) (log : Log) → IsNumbered s.site → Each (IsFair s) log
+    → starts log ≤ total (λ c. class_starts c log) (classes_of s)
+by_classes s [] l f = omega arith
+by_classes s (Handed from m ∷ log) l f = by_classes s log l f.1
+by_classes s (Ticked n ∷ log) l f = by_classes s log l f.1
+by_classes s (Submits n txn ∷ log) l f = by_classes s log l f.1
+by_classes s (Redeclared force t ∷ log) l f = by_classes s log l f.1
+by_classes s (Did act ∷ log) l f = start_total s log act l f.0 (by_classes s log l f.1)
+
+pub site_few : (s : Setting) (log : Log) → IsNumbered s.site → Each (IsFair s) log → Each IsNew log
+    → starts log ≤ suc (length s.catalogue.classes) * (length (submits log) + hands log)
+site_few s log l f n =
+    let a = by_classes s log l f in
+    let b = total_le (λ c. class_starts c log) (classes_of s) (length (submits log) + hands log) (λ c. class_few s c log f n) in
+    let e : length (classes_of s) ≡ suc (length s.catalogue.classes) = length-range_with_len 0 (suc (length s.catalogue.classes)) in
+    let d : total (λ c. class_starts c log) (classes_of s) ≤ suc (length s.catalogue.classes) * (length (submits log) + hands log) =
+    subst (λ k. total (λ c. class_starts c log) (classes_of s) ≤ k * (length (submits log) + hands log)) e b in
+    omega (arith, a, d)

@@ -1,0 +1,90 @@
+-- The class of an active attempt covers its transaction, whatever list of classes was in force.
+use Rattle.std.proofs.Common.{ℕ, ◌≤◌, ◌==◌, ◌≡◌, ◌⊎◌, inl, inr, true, false, [], ◌∷◌, length, arith, sym, zero, suc}
+use Rattle.std.specs.Prelude.{Some}
+use Rattle.std.proofs.lemmas.Bool.{eqb-true}
+use Rattle.sdd_base.specs.declared.site.Site.{Site}
+use Rattle.sdd_catalog.specs.Catalogue.{Catalogue}
+use Rattle.sdd_lang.specs.Classes.{class_for}
+use Rattle.sdd_lang.specs.declared.transaction.Txn.{Txn}
+use Rattle.sdd_module.specs.SiteLog.{Did, Each, Entry, Handed, Log, Redeclared, Setting, Submits, Ticked, in_force}
+use Rattle.sdd_attempt.specs.Attempts.{Attempt, active}
+use Rattle.sdd_attempt.specs.Queues.{is_for}
+use Rattle.sdd_log.specs.Entries.{Given}
+use Rattle.sdd_log.specs.Entries as whole
+use Rattle.sdd_log.specs.Locals.{local_of, setting_of}
+use Rattle.sdd_log.specs.Permitted.{IsPermitted}
+use Rattle.sdd_log.proofs.EachLocal.{each_local}
+use Rattle.sdd_eras.specs.EraOf.{IsEraOf}
+use Rattle.sdd_eras.proofs.EraSets.{IsCovered, covered, covered_in_era, era_of_itself}
+use Rattle.sdd_invariants.proofs.Bools.{only_right, same_or_not}
+use Rattle.sdd_invariants.specs.Steps.{home}
+use Rattle.sdd_invariants.proofs.Fair.{all_new, home_fair}
+use Rattle.sdd_obligations.proofs.Texts.{SubmitHas, active_so}
+use Rattle.sdd_obligations.specs.Reading.{HasEras}
+
+-- a list of classes that a site puts in force is one of the catalogue
+abbrev ForceIs : Catalogue → Log → Entry → Type 0
+ForceIs cat log (Handed from m) = Unit {0}
+ForceIs cat log (Ticked n) = Unit {0}
+ForceIs cat log (Submits n txn) = Unit {0}
+ForceIs cat log (Redeclared force t) = IsEraOf cat force.catalogue
+ForceIs cat log (Did act) = Unit {0}
+
+forces_are : (g : Given) → HasEras g → (at : Site) (log : whole.Log) → IsPermitted g log
+    → Each (ForceIs g.catalogue) (local_of g at log)
+forces_are g eras at = each_local g at (ForceIs g.catalogue) (record {
+  handed = λ log p from n m a i. tt;
+  ticked = λ log p n i. tt;
+  submits = λ log p n txn a e i. tt;
+  redeclared = λ l k t i. eras k;
+  did = λ log act p due i. tt;
+})
+
+in_force_is : (s : Setting) (log : Log) → Each (ForceIs s.catalogue) log
+    → IsEraOf s.catalogue (in_force s log).catalogue
+in_force_is s [] h = era_of_itself s.catalogue
+in_force_is s (Handed from m ∷ log) h = in_force_is s log h.1
+in_force_is s (Ticked n ∷ log) h = in_force_is s log h.1
+in_force_is s (Submits n txn ∷ log) h = in_force_is s log h.1
+in_force_is s (Redeclared force t ∷ log) h = h.0
+in_force_is s (Did act ∷ log) h = in_force_is s log h.1
+
+-- class 0, or a class that covers the transaction
+abbrev pub Covers : Catalogue → ℕ → Txn → Type 0
+Covers cat c txn = (c ≡ 0) ⊎ IsCovered cat txn c
+
+some_class : (c : ℕ) → (c == 0) ≡ false → 1 ≤ c
+some_class zero e = cc
+some_class (suc c) e = omega arith
+
+covers_for : (cat era : Catalogue) → IsEraOf cat era → (c : ℕ) (txn : Txn) → is_for c era txn ≡ true
+    → Covers cat c txn
+covers_for cat era of c txn e = elim (same_or_not c 0) [
+  | inl z ↦ inl z
+  | inr n ↦ inr (covered_in_era cat era of txn c
+      (covered era txn c (sym (eqb-true (class_for era txn) c (only_right (c == 0) (class_for era txn == c) n e))) (some_class c n)))
+]
+
+submitted_covered : (g : Given) → HasEras g → (at : Site) (c : ℕ) (log : whole.Log)
+    → IsPermitted g log
+    → Each (SubmitHas (Covers g.catalogue c) (setting_of g at) c) (local_of g at log)
+submitted_covered g eras at c = each_local g at (SubmitHas (Covers g.catalogue c) (setting_of g at) c) (record {
+  handed = λ log p from n m a i. tt;
+  ticked = λ log p n i. tt;
+  submits = λ log p n txn a e i own. covers_for g.catalogue (in_force (setting_of g at) (local_of g at log)).catalogue
+      (in_force_is (setting_of g at) (local_of g at log) (forces_are g eras at log p)) c txn own;
+  redeclared = λ l k t i. tt;
+  did = λ log act p due i. tt;
+})
+
+pub attempt_covered : (g : Given) → HasEras g → (c : ℕ) (log : whole.Log) (a : Attempt)
+    → IsPermitted g log → active (setting_of g (home g.catalogue c)) c
+    (local_of g (home g.catalogue c) log) ≡ Some a → Covers g.catalogue c a.text
+attempt_covered g eras c log a h e =
+    let at : Site = home g.catalogue c in
+    active_so (Covers g.catalogue c) (setting_of g at) c (local_of g at log) a (home_fair g c log h)
+    (all_new g at log h) (submitted_covered g eras at c log h) e
+
+pub class_within : (cat : Catalogue) (c : ℕ) (txn : Txn) → Covers cat c txn → c ≤ length cat.classes
+class_within cat c txn (inl z) = let n = z in omega arith
+class_within cat c txn (inr h) = h.class.to

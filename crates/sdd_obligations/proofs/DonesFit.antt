@@ -1,0 +1,243 @@
+-- A DONE that is next to be handed over answers the last Commit of U, and is the first of its module.
+use Rattle.std.proofs.Common.{ℕ, ◌++◌, ◌+◌, ◌<◌, ◌∙◌, ◌∷◌, ◌≡◌, ◌≤◌, ◌⊎◌, Bool, List, Option, Some, [], ap, append_assoc, arith, false, inl, inr, refl, slice_get, subst, sym, true}
+use Rattle.sdd_base.specs.declared.number.DmNo.{DmNo}
+use Rattle.sdd_base.specs.declared.number.Ts.{Ts}
+use Rattle.sdd_base.specs.declared.site.Site.TheVariants.{D, U}
+use Rattle.sdd_catalog.specs.Catalogue.{numbers_to}
+use Rattle.sdd_history.specs.declared.record.Rec.TheVariants.{Commit}
+use Rattle.sdd_wire.specs.declared.msg.Msg.{Msg}
+use Rattle.sdd_wire.specs.declared.msg.Msg.TheVariants.{Done, Write}
+use Rattle.sdd_module.specs.SiteLog.{Act, Bases, Did, Each, Entry, Handed, Records, Redeclared, Sends, Setting, Submits, Ticked}
+use Rattle.sdd_attempt.specs.Acts.{commit_act}
+use Rattle.sdd_attempt.specs.Attempts.{Attempt, active}
+use Rattle.sdd_attempt.specs.Queues.{Queued}
+use Rattle.sdd_umod.specs.Fits.{FitsDone, is_done}
+use Rattle.sdd_umod.specs.Views.{Served, last_served, served_acted, ts_of}
+use Rattle.sdd_log.specs.Entries.{Does, Given, Hand, Log}
+use Rattle.sdd_log.specs.Locals.{local_of, setting_of}
+use Rattle.sdd_log.specs.Permitted.{IsPermitted}
+use Rattle.sdd_log.specs.Traffic.{handed}
+use Rattle.sdd_invariants.proofs.Dones.{dones_few, put_once}
+use Rattle.sdd_invariants.proofs.HoldChain.{u_table}
+use Rattle.sdd_invariants.proofs.Undeclared.{zero_pair}
+use Rattle.sdd_invariants.specs.Barrier.{start_u}
+use Rattle.sdd_invariants.proofs.Serving.{u_due, u_way}
+use Rattle.sdd_invariants.specs.AtU.{IsFairU, IsStepU}
+use Rattle.sdd_invariants.specs.Releases.{dones_of, is_done_of}
+use Rattle.sdd_invariants.specs.Turns.{one_if, tally}
+use Rattle.sdd_invariants.proofs.Places.{compare}
+use Rattle.sdd_invariants.proofs.Recorded.{start_of_active}
+use Rattle.sdd_invariants.specs.OfRecords.{NoRecord, is_recorded}
+use Rattle.sdd_invariants.specs.PutsBy.{IsDoneBy}
+use Rattle.sdd_invariants.proofs.Answered.{put_in_by_d}
+use Rattle.sdd_invariants.proofs.Installed.{class_number, head_put, write_origin}
+use Rattle.sdd_invariants.proofs.Active.{each_at}
+use Rattle.sdd_invariants.proofs.Bools.{same_number, true_or_false}
+use Rattle.sdd_invariants.specs.Steps.{IsFair, next_stamp, start_at}
+use Rattle.sdd_invariants.specs.Traffic.{puts_to}
+use Rattle.sdd_invariants.proofs.Fair.{u_fair}
+use Rattle.sdd_invariants.proofs.Made.{local_grows, own_act, permitted_before, place_of_act}
+use Rattle.sdd_obligations.proofs.SendsLow.{hand_ts}
+use Rattle.sdd_obligations.proofs.Answering.{none_before}
+use Rattle.sdd_module.specs.SiteLog as site
+
+-- the first of its module
+
+same_done : (ts : ℕ) (m : Msg) → is_done ts m ≡ is_done_of ts m
+same_done ts (Done t) = refl
+same_done ts _ = refl
+
+same_tally : (ts : ℕ) (ms : List Msg) → tally (is_done ts) ms ≡ tally (is_done_of ts) ms
+same_tally ts [] = refl
+same_tally ts (m ∷ ms) = let i = same_tally ts ms in let e : one_if (is_done ts m) ≡ one_if
+    (is_done_of ts m) = ap one_if (same_done ts m) in omega (arith, i, e)
+
+-- what was served last: since a Commit, unless there was another
+
+abbrev is_commit : Act → Bool
+is_commit (Records k (Commit txn attempt reply changes values rows) sends) = true
+is_commit _ = false
+
+no_serve : (act : Act) (o : Option Attempt) (v : Served) → is_commit act ≡ false → served_acted act o v ≡ v
+no_serve (Records k (Commit txn attempt reply changes values rows) sends) o v e = cc
+no_serve act o v e = refl
+
+-- another Commit behind it
+record IsAgain (y : Act) (x : site.Log) : Type 0 where
+  pub later : site.Log
+  pub act : Act
+  pub between : site.Log
+  pub is : x ≡ later ++ Did act ∷ between
+  pub commits : is_commit act ≡ true
+
+more_again : (y : Act) (e : Entry) (x : site.Log) → IsAgain y x → IsAgain y (e ∷ x)
+more_again y e x h = record { later = e ∷ h.later; act = h.act; between = h.between; is = ap (λ l. e ∷ l) h.is; commits = h.commits }
+
+abbrev ServedOr : Setting → ℕ → Act → site.Log → site.Log → Type 0
+ServedOr s t y b x = ((last_served s (x ++ Did y ∷ b)).ts ≡ t) ⊎ IsAgain y x
+
+served_did : (s : Setting) (t : ℕ) (y : Act) (b : site.Log) (act : Act) (x : site.Log) → ServedOr s t y b x → ServedOr s t y b (Did act ∷ x)
+served_did s t y b act x h = elim (true_or_false (is_commit act)) [
+  | inl p ↦ inr (record { later = []; act = act; between = x; is = refl; commits = p })
+  | inr p ↦ elim h [
+    | inl q ↦ inl (ap (λ (v : Served). v.ts) (no_serve act (active s 0 (x ++ Did y ∷ b)) (last_served s (x ++ Did y ∷ b)) p) ∙ q)
+    | inr q ↦ inr (more_again y (Did act) x q)
+  ]
+]
+
+served_or : (s : Setting) (t : ℕ) (y : Act) (b : site.Log) → (last_served s (Did y ∷ b)).ts ≡ t → (x : site.Log) → ServedOr s t y b x
+served_or s t y b e [] = inl e
+served_or s t y b e (Handed from m ∷ x) = elim (served_or s t y b e x) [
+  | inl q ↦ inl (hand_ts m (last_served s (x ++ Did y ∷ b)) ∙ q)
+  | inr q ↦ inr (more_again y (Handed from m) x q)
+]
+served_or s t y b e (Ticked n ∷ x) = elim (served_or s t y b e x) [ inl q ↦ inl q | inr q ↦ inr (more_again y (Ticked n) x q) ]
+served_or s t y b e (Submits n txn ∷ x) = elim (served_or s t y b e x) [ inl q ↦ inl q | inr q ↦ inr (more_again y (Submits n txn) x q) ]
+served_or s t y b e (Redeclared force u ∷ x) = elim (served_or s t y b e x) [ inl q ↦ inl q | inr q ↦ inr (more_again y (Redeclared force u) x q) ]
+served_or s t y b e (Did act ∷ x) = served_did s t y b act x (served_or s t y b e x)
+
+-- a Commit at U is of the active attempt
+abbrev IsOfActive : Setting → site.Log → Act → Type 0
+IsOfActive s l act = is_commit act ≡ true → (a : Attempt) × (active s 0 l ≡ Some a)
+
+commit_active : (s : Setting) (l : site.Log) (act : Act) → IsStepU s l act → IsOfActive s l act
+commit_active s l act = u_way s l act (IsOfActive s l)
+    (λ q i z r e. cc)
+    (λ bases a i e. (a, i))
+    (λ d m a i e. cc)
+    (λ t ts i p e. cc)
+    (λ t i e. cc)
+
+no_record_at : (c : ℕ) (z : site.Log) (e : Entry) (w : site.Log) → NoRecord c (z ++ e ∷ w) → is_recorded c e ≡ false
+no_record_at c [] e w h = h.0
+no_record_at c (x ∷ z) e w h = no_record_at c z e w h.1
+
+-- so between two Commits of U a Start stands
+record HasStartIn (s : Setting) (y : Act) (b l : site.Log) : Type 0 where
+  pub later : site.Log
+  pub between : site.Log
+  pub queued : Queued
+  pub is : l ≡ later ++ Did (start_at s 0 (between ++ Did y ∷ b) queued) ∷ (between ++ Did y ∷ b)
+
+start_not : (s : Setting) (l : site.Log) (q : Queued) (y : Act) → is_commit y ≡ true → ◌≡◌ {A = Entry} (Did y) (Did (start_at s 0 l q)) → ⊥
+start_not s l q y c e =
+    let p : y ≡ start_at s 0 l q = cc in let f : is_commit (start_at s 0 l q) ≡ true = subst (λ a. is_commit a ≡ true) p c in cc
+
+start_between : (s : Setting) (y : Act) (b l : site.Log) (a : Attempt) (front : site.Log) → is_commit y ≡ true → is_recorded 0 (Did y) ≡ true
+    → Each (IsFair s) l → active s 0 l ≡ Some a → l ≡ front ++ Did y ∷ b → HasStartIn s y b l
+start_between s y b l a front c r f e is =
+    let st = start_of_active s 0 l a f e in
+    elim (compare front st.later (Did y) (Did (start_at s 0 st.before st.queued)) b st.before (sym is ∙ st.is)) [
+      | inl u ↦ absurd (start_not s st.before st.queued y c u.1)
+      | inr u ↦ elim u [
+        | inl v ↦ record {
+          later = st.later;
+          between = v.between;
+          queued = st.queued;
+          is =
+              subst (λ x. l ≡ st.later ++ Did (start_at s 0 x st.queued) ∷ x) v.is st.is;
+        }
+        | inr v ↦ (let n = no_record_at 0 front (Did y) v.between
+            (subst (NoRecord 0) v.front st.none_since) in let z : ◌≡◌ {A = Bool} true false = sym r ∙ n in cc)
+      ]
+    ]
+
+dones_up : (x : ℕ) (later l : site.Log) → dones_of x l ≤ dones_of x (later ++ l)
+dones_up x [] l = omega arith
+dones_up x (Handed from m ∷ later) l = let i = dones_up x later l in omega (arith, i)
+dones_up x (Ticked n ∷ later) l = dones_up x later l
+dones_up x (Submits n txn ∷ later) l = dones_up x later l
+dones_up x (Redeclared force t ∷ later) l = dones_up x later l
+dones_up x (Did act ∷ later) l = dones_up x later l
+
+-- at such a Start every module's DONE for the Commit before it was handed
+all_done : (g : Given) (k t : ℕ) (log : Log) (y : Act) (b : site.Log) (a : Attempt) → slice_get (numbers_to g.catalogue.tms) k ≡ Some t
+    → IsPermitted g log → HasStartIn (setting_of g U) y b (local_of g U log) → Each (IsFair (setting_of g U)) b
+    → active (setting_of g U) 0 b ≡ Some a → g.catalogue.dms ≤ dones_of a.ts (local_of g U log)
+all_done g k t log y b a i h w fair e =
+    let s : Setting = setting_of g U in
+    let p = place_of_act g U log w.later (start_at s 0 (w.between ++ Did y ∷ b) w.queued) (w.between ++ Did y ∷ b) w.is in
+    let st = start_of_active s 0 b a fair e in
+    let here : local_of g U p.rest ≡ (w.between ++ Did y ∷ st.later) ++ Did
+    (start_at s 0 st.before st.queued) ∷ st.before = p.local_is ∙ ap (λ x. w.between ++ Did y ∷ x) st.is
+    ∙ sym (append_assoc w.between (Did y ∷ st.later) (Did (start_at s 0 st.before st.queued) ∷ st.before))
+    in
+    let q = place_of_act g U p.rest (w.between ++ Did y ∷ st.later) (start_at s 0 st.before st.queued) st.before here in
+    let start : start_at s 0 (w.between ++ Did y ∷ b) w.queued ≡ start_u g p.rest w.queued = ap (λ x. start_at s 0 x w.queued) (sym p.local_is) in
+    let first : start_at s 0 st.before st.queued ≡ start_u g q.rest st.queued = ap (λ x. start_at s 0 x st.queued) (sym q.local_is) in
+    let hp : IsPermitted g (Does U (start_at s 0 (w.between ++ Did y ∷ b) w.queued) ∷ p.rest) =
+    permitted_before g p.later (Does U (start_at s 0 (w.between ++ Did y ∷ b) w.queued) ∷ p.rest)
+    (subst (IsPermitted g) p.is h) in
+    let z = zero_pair g k t p.rest q.later q.rest w.queued st.queued i
+    (subst (λ x. IsPermitted g (Does U x ∷ p.rest)) start hp) (q.is
+    ∙ ap (λ x. q.later ++ Does U x ∷ q.rest) first) in
+    let stamp : next_stamp s (local_of g U q.rest) ≡ a.ts = ap (next_stamp s) q.local_is ∙ sym st.ts_is in
+    let got : g.catalogue.dms ≤ dones_of a.ts (local_of g U p.rest) = subst (λ x. g.catalogue.dms ≤ dones_of x (local_of g U p.rest)) stamp z.0 in
+    let x = local_grows g U (p.later ++ Does U (start_at s 0 (w.between ++ Did y ∷ b) w.queued) ∷ []) p.rest in
+    let whole : local_of g U log ≡ x.0 ++ local_of g U p.rest =
+    ap (local_of g U) (p.is ∙ sym (append_assoc p.later
+    (Does U (start_at s 0 (w.between ++ Did y ∷ b) w.queued) ∷ []) p.rest)) ∙ x.1 in
+    let up : dones_of a.ts (local_of g U p.rest) ≤ dones_of a.ts (local_of g U log) =
+    subst (λ l. dones_of a.ts (local_of g U p.rest) ≤ dones_of a.ts l) (sym whole)
+    (dones_up a.ts x.0 (local_of g U p.rest)) in
+    omega (arith, got, up)
+
+-- so no other Commit stands behind that of a DONE that is still to come
+commit_last : (g : Given) (k t : ℕ) (log : Log) (bases : Bases) (a : Attempt) (x b : site.Log) → slice_get (numbers_to g.catalogue.tms) k ≡ Some t
+    → IsPermitted g log → local_of g U log ≡ x ++ Did (commit_act g.catalogue bases 0 a) ∷ b → active (setting_of g U) 0 b ≡ Some a
+    → dones_of a.ts (local_of g U log) < g.catalogue.dms → (last_served (setting_of g U) (local_of g U log)).ts ≡ a.ts
+commit_last g k t log bases a x b i h e act less =
+    let s : Setting = setting_of g U in
+    let y : Act = commit_act g.catalogue bases 0 a in
+    let fair = u_fair g log h in
+    let start : (last_served s (Did y ∷ b)).ts ≡ a.ts = ap ts_of act in
+    elim (served_or s a.ts y b start x) [
+      | inl q ↦ ap (λ l. (last_served s l).ts) e ∙ q
+      | inr q ↦ (let whole : local_of g U log ≡ q.later ++ Did q.act ∷ (q.between ++ Did y ∷ b) =
+          e ∙ ap (λ l. l ++ Did y ∷ b) q.is ∙ append_assoc q.later (Did q.act ∷ q.between) (Did y ∷ b) in
+          let u = each_at (IsFairU s) q.later (Did q.act) (q.between ++ Did y ∷ b) (subst (Each (IsFairU s)) whole (u_table g log h)) in
+          let v = each_at (IsFair s) q.later (Did q.act) (q.between ++ Did y ∷ b) (subst (Each (IsFair s)) whole fair) in
+          let c = commit_active s (q.between ++ Did y ∷ b) q.act (u_due s u.0.0.0 (q.between ++ Did y ∷ b) q.act u.0.0.1) q.commits in
+          let w = start_between s y b (q.between ++ Did y ∷ b) c.0 q.between refl refl v.1 c.1 refl in
+          let again : HasStartIn s y b (local_of g U log) =
+          record {
+            later = q.later ++ Did q.act ∷ w.later;
+            between = w.between;
+            queued = w.queued;
+            is =
+                whole ∙ ap (λ l. q.later ++ Did q.act ∷ l) w.is
+                ∙ sym (append_assoc q.later (Did q.act ∷ w.later)
+                (Did (start_at s 0 (w.between ++ Did y ∷ b) w.queued) ∷ (w.between ++ Did y ∷ b)));
+          } in
+          let d = all_done g k t log y b a i h again (each_at (IsFair s) q.between (Did y) b v.1).1 act in
+          absurd (omega (arith, d, less)))
+    ]
+
+pub done_fits : (g : Given) (k t : ℕ) (log : Log) (d : DmNo) (n : ℕ) (ts : Ts) → slice_get (numbers_to g.catalogue.tms) k ≡ Some t
+    → IsPermitted g (Hand (D d) U n (Done ts) ∷ log) → slice_get (puts_to U (local_of g (D d) log)) (handed (D d) U log) ≡ Some (Done ts)
+    → FitsDone (setting_of g U) (local_of g U log) (D d) ts.0
+done_fits g k t log d n ts i h e =
+    let p = put_in_by_d g log d U (handed (D d) U log) (Done ts) h.1 e in
+    let by : IsDoneBy (setting_of g (D d)) (local_of g (D d) p.before) U p.act ts = p.by in
+    let hb = (permitted_before g p.later (Does (D d) p.act ∷ p.before) (subst (IsPermitted g) p.is h.1)).1 in
+    let put = head_put g 0 d p.before (Write ts by.class by.txn by.changes) hb by.head_is in
+    let z : by.class.0 ≡ 0 = class_number by.class.0 0 ts.0 put.of_class in
+    let o = write_origin g p.before 0 d ts by.class by.txn by.changes z put in
+    let y : Act = commit_act g.catalogue o.bases 0 o.attempt in
+    let front : Log = p.later ++ Does (D d) p.act ∷ o.later in
+    let whole : log ≡ front ++ Does U y ∷ o.before = p.is ∙ ap (λ l. p.later ++ Does (D d) p.act ∷ l) o.is
+    ∙ sym (append_assoc p.later (Does (D d) p.act ∷ o.later) (Does U y ∷ o.before)) in
+    let x = local_grows g U front (Does U y ∷ o.before) in
+    let here : local_of g U log ≡ x.0 ++ Did y ∷ local_of g U o.before = ap (local_of g U) whole ∙ x.1 ∙ ap (λ l. x.0 ++ l) (own_act g U y o.before) in
+    let few = dones_few g (Hand (D d) U n (Done ts) ∷ log) ts.0 h in
+    let one : one_if (is_done_of ts.0 (Done ts)) ≡ 1 = ap one_if (same_number ts.0) in
+    let grown : dones_of ts.0 (local_of g U (Hand (D d) U n (Done ts) ∷ log)) ≡ one_if (is_done_of ts.0 (Done ts)) + dones_of ts.0 (local_of g U log) = refl in
+    let less : dones_of o.attempt.ts (local_of g U log) < g.catalogue.dms =
+    subst (λ q. dones_of q (local_of g U log) < g.catalogue.dms) o.ts_is (omega (arith, few, grown, one))
+    in
+    let c = commit_last g k t log o.bases o.attempt x.0 (local_of g U o.before) i h.1 here o.active_is less in
+    let le = put_once g log ts.0 d h.1 in let same = same_tally ts.0 (puts_to U (local_of g (D d) log)) in
+    record {
+      current = c ∙ sym o.ts_is;
+      first = none_before g (D d) U log (is_done ts.0) (Done ts) h.1 e (same_number ts.0) (omega (arith, le, same));
+    }

@@ -1,0 +1,126 @@
+-- What a data module holds, where the WRITEs that are handed to it have changes of items.
+use Rattle.std.proofs.Common.{ℕ, ◌==◌, ◌&&◌, Bool, true, false, List, [], ◌∷◌, ◌++◌, map, Option, Some}
+use Rattle.std.specs.Bool.{if◌then◌else◌}
+use Rattle.std.specs.List.{AllByRecursion, flat_map}
+use Rattle.std.proofs.lemmas.List.Elements.{recursion_from_All}
+use Rattle.sdd_base.specs.Words.{head_of, tail_of}
+use Rattle.sdd_base.specs.declared.change.Change.{Change}
+use Rattle.sdd_catalog.specs.Catalogue.{Catalogue}
+use Rattle.sdd_catalog.specs.Rules.{IsSound}
+use Rattle.sdd_lang.specs.Database.{database_of}
+use Rattle.sdd_lang.specs.Sound.{IsDatabase, IsEntry}
+use Rattle.sdd_history.specs.declared.record.Rec.TheVariants.{Answer}
+use Rattle.sdd_wire.specs.Piped.{goes_through}
+use Rattle.sdd_wire.specs.declared.msg.Msg.{Msg}
+use Rattle.sdd_wire.specs.declared.msg.Msg.TheVariants.{Write}
+use Rattle.sdd_module.specs.SiteLog.{Act, Did, Each, Entry, Handed, Log, Records, Redeclared, Sends, Setting, Submits, Ticked}
+use Rattle.sdd_copy.specs.Contents.{Dated}
+use Rattle.sdd_pipe.specs.Pipe.{Pipe, head, head_processed, put}
+use Rattle.sdd_dm.specs.Copies.{applied, applied_acted, changes_in, classes_of, dated, is_apply}
+use Rattle.sdd_dm.specs.Pipes.{is_processing, pipe, pipe_acted}
+use Rattle.sdd_log.specs.Snapshots.{frags_asked, is_at, items_of, snapshots}
+use Rattle.sdd_obligations.specs.Fitting.{AreWritten, IsItemChange}
+use Rattle.sdd_obligations.proofs.Entries.{AreItems, all_gathered, all_joined, first_are_items, items_are_entries}
+
+-- a WRITE to data module d has such changes
+abbrev pub FitsMsg : Catalogue → ℕ → Msg → Type 0
+FitsMsg cat d (Write ts class txn changes) = AreWritten cat d changes
+FitsMsg cat d _ = Unit {0}
+
+-- so of what is handed to it
+abbrev pub HandFits : Catalogue → ℕ → Log → Entry → Type 0
+HandFits cat d log (Handed from m) = FitsMsg cat d m
+HandFits cat d log (Ticked n) = Unit {0}
+HandFits cat d log (Submits n txn) = Unit {0}
+HandFits cat d log (Redeclared force t) = Unit {0}
+HandFits cat d log (Did act) = Unit {0}
+
+-- and of what waits in a pipe
+abbrev AreFit : Catalogue → ℕ → List Msg → Type 0
+AreFit cat d ms = AllByRecursion (FitsMsg cat d) ms
+
+put_fits : (cat : Catalogue) (d : ℕ) (m : Msg) (b : Bool) (p : Pipe) → FitsMsg cat d m
+    → AreFit cat d p.unprocessed → AreFit cat d (if b then put m p else p).unprocessed
+put_fits cat d m true p h all = all_joined (FitsMsg cat d) p.unprocessed (m ∷ []) all (h, tt)
+put_fits cat d m false p h all = all
+
+rest_fits : (cat : Catalogue) (d : ℕ) (ms : List Msg) → AreFit cat d ms → AreFit cat d (tail_of ms)
+rest_fits cat d [] all = tt
+rest_fits cat d (m ∷ ms) all = all.1
+
+taken_fits : (cat : Catalogue) (d : ℕ) (b : Bool) (p : Pipe) → AreFit cat d p.unprocessed → AreFit cat d (if b then head_processed p else p).unprocessed
+taken_fits cat d true p all = rest_fits cat d p.unprocessed all
+taken_fits cat d false p all = all
+
+acted_fits : (cat : Catalogue) (d c : ℕ) (act : Act) (p : Pipe) → AreFit cat d p.unprocessed → AreFit cat d (pipe_acted c act p).unprocessed
+acted_fits cat d c (Records k r sends) p all = taken_fits cat d ((k == c) && is_processing r) p all
+acted_fits cat d c (Sends to m hand) p all = all
+
+pipe_fits : (cat : Catalogue) (d c : ℕ) (log : Log) → Each (HandFits cat d) log → AreFit cat d (pipe c log).unprocessed
+pipe_fits cat d c [] h = tt
+pipe_fits cat d c (Handed from m ∷ log) h = put_fits cat d m (goes_through c m) (pipe c log) h.0 (pipe_fits cat d c log h.1)
+pipe_fits cat d c (Ticked n ∷ log) h = pipe_fits cat d c log h.1
+pipe_fits cat d c (Submits n txn ∷ log) h = pipe_fits cat d c log h.1
+pipe_fits cat d c (Redeclared force t ∷ log) h = pipe_fits cat d c log h.1
+pipe_fits cat d c (Did act ∷ log) h = acted_fits cat d c act (pipe c log) (pipe_fits cat d c log h.1)
+
+-- the changes that are applied
+
+dated_items : (cat : Catalogue) (t : ℕ) (xs : List Change) → AllByRecursion (IsItemChange cat) xs → AreItems cat (map (λ x. (t, x)) xs)
+dated_items cat t [] all = tt
+dated_items cat t (x ∷ xs) all = (all.0, dated_items cat t xs all.1)
+
+message_items : (cat : Catalogue) (d : ℕ) (m : Msg) → FitsMsg cat d m → AreItems cat (changes_in (Some m))
+message_items cat d (Write ts class txn changes) h = dated_items cat ts.0 changes (recursion_from_All (IsItemChange cat) changes h.each)
+message_items cat d _ h = tt
+
+head_items : (cat : Catalogue) (d : ℕ) (ms : List Msg) → AreFit cat d ms → AreItems cat (changes_in (head_of ms))
+head_items cat d [] all = tt
+head_items cat d (m ∷ ms) all = message_items cat d m all.0
+
+more_items : (cat : Catalogue) (b : Bool) (xs ys : Dated) → AreItems cat xs → AreItems cat ys → AreItems cat (if b then xs ++ ys else xs)
+more_items cat true xs ys h k = all_joined (λ (x : ℕ × Change). IsItemChange cat x.1) xs ys h k
+more_items cat false xs ys h k = h
+
+act_items : (cat : Catalogue) (d c : ℕ) (act : Act) (p : Pipe) (xs : Dated) → AreFit cat d p.unprocessed
+    → AreItems cat xs → AreItems cat (applied_acted c act p xs)
+act_items cat d c (Records k r sends) p xs all h = more_items cat ((k == c) && is_apply r) xs (changes_in (head p)) h (head_items cat d p.unprocessed all)
+act_items cat d c (Sends to m hand) p xs all h = h
+
+applied_items : (cat : Catalogue) (d c : ℕ) (log : Log) → Each (HandFits cat d) log → AreItems cat (applied c log)
+applied_items cat d c [] h = tt
+applied_items cat d c (Handed from m ∷ log) h = applied_items cat d c log h.1
+applied_items cat d c (Ticked n ∷ log) h = applied_items cat d c log h.1
+applied_items cat d c (Submits n txn ∷ log) h = applied_items cat d c log h.1
+applied_items cat d c (Redeclared force t ∷ log) h = applied_items cat d c log h.1
+applied_items cat d c (Did act ∷ log) h = act_items cat d c act (pipe c log) (applied c log) (pipe_fits cat d c log h.1) (applied_items cat d c log h.1)
+
+module _ (s : Setting) (sound : IsSound s.catalogue) (first : IsDatabase s.catalogue (database_of s.catalogue s.rows)) (d : ℕ) where
+  -- all changes that make the copies are of items
+  pub all_items : (log : Log) → Each (HandFits s.catalogue d) log → AreItems s.catalogue (dated s log)
+  all_items log h =
+      all_joined (λ (x : ℕ × Change). IsItemChange s.catalogue x.1) _
+      (flat_map (λ c. applied c log) (classes_of s))
+      (first_are_items s.catalogue (database_of s.catalogue s.rows) first)
+      (all_gathered (λ (x : ℕ × Change). IsItemChange s.catalogue x.1) (λ c. applied c log) (classes_of s) (λ c. applied_items s.catalogue d c log h))
+
+  -- what an attempt reads of them are entries of a database
+  answer_entries : (ts : ℕ) (b : Bool) (o : Option Msg) (log : Log) → Each (HandFits s.catalogue d) log
+      → AllByRecursion (IsEntry s.catalogue) (snapshots s ts log)
+      → AllByRecursion (IsEntry s.catalogue) (if b then flat_map (items_of s.catalogue (dated s log)) (frags_asked o) else snapshots s ts log)
+  answer_entries ts true o log h rest =
+      all_gathered (IsEntry s.catalogue) (items_of s.catalogue (dated s log)) (frags_asked o)
+      (items_are_entries s.catalogue sound (dated s log) (all_items log h))
+  answer_entries ts false o log h rest = rest
+
+  pub snapshot_entries : (ts : ℕ) (log : Log) → Each (HandFits s.catalogue d) log → AllByRecursion (IsEntry s.catalogue) (snapshots s ts log)
+  snapshot_entries ts [] h = tt
+  snapshot_entries ts (Handed from m ∷ log) h = snapshot_entries ts log h.1
+  snapshot_entries ts (Ticked n ∷ log) h = snapshot_entries ts log h.1
+  snapshot_entries ts (Submits n txn ∷ log) h = snapshot_entries ts log h.1
+  snapshot_entries ts (Redeclared force t ∷ log) h = snapshot_entries ts log h.1
+  snapshot_entries ts (Did (Records k (Answer txn attempt dm) sends) ∷ log) h =
+      answer_entries ts (is_at ts (head (pipe k log))) (head (pipe k log)) log h.1
+      (snapshot_entries ts log h.1)
+  snapshot_entries ts (Did (Records k _ sends) ∷ log) h = snapshot_entries ts log h.1
+  snapshot_entries ts (Did (Sends to m hand) ∷ log) h = snapshot_entries ts log h.1

@@ -1,0 +1,125 @@
+-- What copies hold are entries of a database, where the changes that make them are changes of items.
+use Rattle.std.proofs.Common.{ℕ, ℤ, ◌≡◌, ◌==◌, true, false, cond, List, [], ◌∷◌, ◌++◌, map, Option, Some, None, refl, ap, sym, ◌∙◌, subst}
+use Rattle.std.specs.Prelude.{nat_lt}
+use Rattle.std.specs.Bool.{if◌then◌else◌}
+use Rattle.std.specs.List.{AllByRecursion, cons_option, filter_map, flat_map, fold}
+use Rattle.std.specs.Ordering.{int_cmp, is_eq}
+use Rattle.std.proofs.lemmas.Bool.Decides.{Decides-eqb}
+use Rattle.std.proofs.lemmas.List.Elements.{recursion_from_All}
+use Rattle.sdd_base.specs.declared.change.Change.{Change}
+use Rattle.sdd_catalog.specs.Catalogue.{Catalogue, fragment_at}
+use Rattle.sdd_catalog.specs.Rules.{IsSound}
+use Rattle.sdd_copy.specs.Contents.{Dated, keys_in, latest, newer, of_fragment, row_left, row_with}
+use Rattle.sdd_copy.proofs.Contents.{eq_is, same_key}
+use Rattle.sdd_dm.specs.Copies.{first_row}
+use Rattle.sdd_lang.specs.Changes.{HasRow, IsChange}
+use Rattle.sdd_lang.specs.Database.{Database, Item, Row, key_in}
+use Rattle.sdd_lang.specs.Fits.{FitsRow, IsRelation}
+use Rattle.sdd_lang.specs.Sound.{IsDatabase, IsEntry}
+use Rattle.sdd_lang.specs.Update.{in_range}
+use Rattle.sdd_lang.proofs.EffectChanges.{entry_placed}
+use Rattle.sdd_lang.proofs.StaysDatabase.{no_database, with_row_stays}
+use Rattle.sdd_log.specs.Snapshots.{items_of, with_item}
+use Rattle.sdd_obligations.specs.Fitting.{IsItemChange}
+
+-- each dated change is of an item
+abbrev pub AreItems : Catalogue → Dated → Type 0
+AreItems cat xs = AllByRecursion (λ (x : ℕ × Change). IsItemChange cat x.1) xs
+
+pub all_joined : {A : Type 0} (P : A → Type 0) (xs ys : List A) → AllByRecursion P xs → AllByRecursion P ys → AllByRecursion P (xs ++ ys)
+all_joined P [] ys h k = k
+all_joined P (x ∷ xs) ys h k = (h.0, all_joined P xs ys h.1 k)
+
+pub all_gathered : {A B : Type 0} (P : B → Type 0) (f : A → List B) (xs : List A) → ((x : A) → AllByRecursion P (f x)) → AllByRecursion P (flat_map f xs)
+all_gathered P f [] h = tt
+all_gathered P f (x ∷ xs) h = all_joined P (f x) (flat_map f xs) (h x) (all_gathered P f xs h)
+
+-- the change that stands at a key is one of the changes, and of that key
+abbrev Stands : Catalogue → ℕ → ℤ → ℕ × Change → Type 0
+Stands cat f k x = IsItemChange cat x.1 × (x.1.frag.0 ≡ f) × (x.1.key ≡ k)
+
+abbrev IsOf : Catalogue → ℕ → ℕ × Change → Type 0
+IsOf cat f x = IsItemChange cat x.1 × (x.1.frag.0 ≡ f)
+
+one_of_two : (P : ℕ × Change → Type 0) (y : ℕ × Change) (o : Option (ℕ × Change)) (x : ℕ × Change) → P y
+    → ((z : ℕ × Change) → o ≡ Some z → P z) → newer y o ≡ Some x → P x
+one_of_two P y None x here rest e = let p : y ≡ x = cc in subst P p here
+one_of_two P y (Some z) x here rest e =
+    elim (nat_lt y.0 z.0) as (λ b. cond b (Some z) (Some y) ≡ Some x → P x) [ true ↦ λ q. rest x q | false ↦ λ q. let p : y ≡ x = cc in subst P p here ] e
+
+latest_stands : (cat : Catalogue) (f : ℕ) (k : ℤ) (xs : Dated) → AllByRecursion (IsOf cat f) xs → (x : ℕ × Change) → latest k xs ≡ Some x → Stands cat f k x
+latest_stands cat f k [] all x e = cc
+latest_stands cat f k (y ∷ ys) all x e =
+    elim (is_eq (int_cmp y.1.key k)) as (λ b. is_eq (int_cmp y.1.key k) ≡ b → (if b then newer y (latest k ys) else latest k ys) ≡ Some x → Stands cat f k x) [
+      | true ↦ λ own q.
+          let same : y.1.key ≡ k = same_key y.1.key k (eq_is (int_cmp y.1.key k) own) in
+          one_of_two (Stands cat f k) y (latest k ys) x (all.0.0, all.0.1, same) (λ z p. latest_stands cat f k ys all.1 z p) q
+      | false ↦ λ own q. latest_stands cat f k ys all.1 x q
+    ] refl e
+
+-- the changes of a fragment
+kept_of : (cat : Catalogue) (f : ℕ) (xs : Dated) → AreItems cat xs → AllByRecursion (IsOf cat f) (of_fragment f xs)
+kept_of cat f [] all = tt
+kept_of cat f (x ∷ xs) all =
+    elim (x.1.frag.0 == f) as (λ b. (x.1.frag.0 == f) ≡ b → AllByRecursion (IsOf cat f) (cond b (x ∷ of_fragment f xs) (of_fragment f xs))) [
+      | true ↦ λ e. ((all.0, (Decides-eqb x.1.frag.0 f).0 e), kept_of cat f xs all.1)
+      | false ↦ λ e. kept_of cat f xs all.1
+    ] refl
+
+-- the row that such a change leaves, at its item
+abbrev entry_at : Catalogue → ℕ → ℤ × Row → Item × Row
+entry_at cat f e = (((fragment_at cat f).rel.0, e.0), e.1)
+
+row_is_entry : (cat : Catalogue) → IsSound cat → (f : ℕ) (k : ℤ) (x : ℕ × Change) (row : Row)
+    → Stands cat f k x → x.1.row ≡ Some row → IsEntry cat (entry_at cat f (k, row))
+row_is_entry cat sound f k x row stands e =
+    let c : Change = x.1 in
+    let h : IsChange cat ((c.frag.0, c.key), c.row) = stands.0 in
+    let rel : h.rel ≡ (fragment_at cat f).rel.0 =
+    sym (entry_placed cat sound h.rel c.key h.there h.held) ∙ ap (λ n. (fragment_at cat n).rel.0) (sym h.frag ∙ stands.1) in
+    let has : HasRow cat h.rel c.key (Some row) = subst (HasRow cat h.rel c.key) e h.row in
+    record {
+      relation = subst (IsRelation cat) rel h.there;
+      row = subst (λ r. FitsRow cat r row) rel has.0;
+      key = sym stands.2 ∙ has.1 ∙ ap (λ r. key_in cat r row) rel;
+      key_held = subst (λ n. in_range n ≡ true) stands.2 h.held;
+    }
+
+one_more : (cat : Catalogue) → IsSound cat → (f : ℕ) (k : ℤ) (o : Option (ℕ × Change))
+    (rest : List (ℤ × Row)) → ((x : ℕ × Change) → o ≡ Some x → Stands cat f k x)
+    → AllByRecursion (IsEntry cat) (map (entry_at cat f) rest)
+    → AllByRecursion (IsEntry cat) (map (entry_at cat f) (cons_option (row_left k o) rest))
+one_more cat sound f k None rest h all = all
+one_more cat sound f k (Some x) rest h all =
+    elim x.1.row as (λ r. x.1.row ≡ r → AllByRecursion (IsEntry cat) (map (entry_at cat f) (cons_option (row_with k r) rest))) [
+      | None ↦ λ e. all
+      | Some row ↦ λ e. (row_is_entry cat sound f k x row (h x refl) e, all)
+    ] refl
+
+left_entries : (cat : Catalogue) → IsSound cat → (f : ℕ) (ys : Dated) → AllByRecursion (IsOf cat f) ys
+    → (ks : List ℤ) → AllByRecursion (IsEntry cat)
+    (map (entry_at cat f) (filter_map (λ k. row_left k (latest k ys)) ks))
+left_entries cat sound f ys of [] = tt
+left_entries cat sound f ys of (k ∷ ks) =
+    one_more cat sound f k (latest k ys) (filter_map (λ k. row_left k (latest k ys)) ks) (latest_stands cat f k ys of) (left_entries cat sound f ys of ks)
+
+pub items_are_entries : (cat : Catalogue) → IsSound cat → (xs : Dated) → AreItems cat xs → (f : ℕ) → AllByRecursion (IsEntry cat) (items_of cat xs f)
+items_are_entries cat sound xs all f = left_entries cat sound f (of_fragment f xs) (kept_of cat f xs all) (keys_in (of_fragment f xs))
+
+-- entries make a database
+pub entries_make : (cat : Catalogue) (db : Database) (es : List (Item × Row)) → IsDatabase cat db
+    → AllByRecursion (IsEntry cat) es → IsDatabase cat (fold with_item db es)
+entries_make cat db [] is all = is
+entries_make cat db (e ∷ es) is all = entries_make cat (with_item db e) es (with_row_stays cat db e.0 e.1 is all.0) all.1
+
+pub entries_make_one : (cat : Catalogue) (es : List (Item × Row)) → AllByRecursion (IsEntry cat) es → IsDatabase cat (fold with_item [] es)
+entries_make_one cat es all = entries_make cat [] es (no_database cat) all
+
+-- the rows of a database are changes of items
+entries_are_items : (cat : Catalogue) (db : Database) → AllByRecursion (IsEntry cat) db → AreItems cat (map (first_row cat) db)
+entries_are_items cat [] all = tt
+entries_are_items cat (e ∷ es) all =
+    (record { rel = e.0.0; there = all.0.relation; held = all.0.key_held; frag = refl; row = (all.0.row, all.0.key) }, entries_are_items cat es all.1)
+
+pub first_are_items : (cat : Catalogue) (db : Database) → IsDatabase cat db → AreItems cat (map (first_row cat) db)
+first_are_items cat db is = entries_are_items cat db (recursion_from_All (IsEntry cat) db is.entries)

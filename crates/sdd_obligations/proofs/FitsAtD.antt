@@ -1,0 +1,67 @@
+-- What is next to be handed to a data module fits there.
+use Rattle.std.proofs.Common.{ℕ, ◌≡◌, Some, refl}
+use Rattle.sdd_base.specs.declared.number.DmNo.{DmNo}
+use Rattle.sdd_base.specs.declared.site.Site.{Site}
+use Rattle.sdd_base.specs.declared.site.Site.TheVariants.{D, T, U}
+use Rattle.sdd_wire.specs.declared.msg.Msg.{Msg}
+use Rattle.sdd_wire.specs.declared.msg.Msg.TheVariants.{Ask, Done, Fetch, Held, Hold, Null, Read, Ready, Reduce, Reduced, Reject, Release, Rows, Ship, Values, Write}
+use Rattle.sdd_module.specs.SiteLog.{Bases, Each}
+use Rattle.sdd_dm.specs.Fits.{fits}
+use Rattle.sdd_log.specs.Due.{next}
+use Rattle.sdd_log.specs.Entries.{Given, Hand, Log}
+use Rattle.sdd_log.specs.Lawful.{IsLawful}
+use Rattle.sdd_log.specs.Locals.{local_of, setting_of}
+use Rattle.sdd_log.specs.Permitted.{IsPermitted}
+use Rattle.sdd_log.specs.Traffic.{handed}
+use Rattle.sdd_invariants.specs.Steps.{IsFair}
+use Rattle.sdd_invariants.proofs.Fair.{t_fair, u_fair}
+use Rattle.sdd_obligations.specs.Bounds.{IsSmall}
+use Rattle.sdd_obligations.specs.Routes.{IsRunner}
+use Rattle.sdd_obligations.specs.Upheld.{IsUpheldD}
+use Rattle.sdd_obligations.proofs.Conditions.{conds_fit, late, read_within}
+use Rattle.sdd_obligations.proofs.Fresh.{is_above, is_fresh}
+use Rattle.sdd_obligations.proofs.Handing.{IsHanded}
+use Rattle.sdd_obligations.proofs.Piping.{pipe_fits}
+
+pub fair_of : (g : Given) (a : Site) (log : Log) → IsPermitted g log → IsRunner a → Each (IsFair (setting_of g a)) (local_of g a log)
+fair_of g U log h r = u_fair g log h
+fair_of g (T t) log h r = t_fair g t log h
+fair_of g (D d) log h r = absurd r
+
+no_u : {A : Type 0} (d : DmNo) → D d ≡ U → A
+no_u d e = cc
+
+pub d_fits : (g : Given) (log : Log) (a : Site) (d : DmNo) (n : ℕ) (m : Msg) (bases : Bases) → IsSmall g → IsLawful g log
+    → next g log ≡ Some (Hand a (D d) n m) → IsHanded g log a (D d) n m
+    → IsUpheldD (setting_of g (D d)) (local_of g (D d) log) a m → fits (setting_of g (D d)) bases (local_of g (D d) log) a m
+d_fits g log a d n (Read ts class txn attempt conds uses) bases s l e h u = record {
+  piped = pipe_fits g d log a n (Read ts class txn attempt conds uses) class.0 ts.0 h (h.from_small h.route.0) refl (late ts.0 h.times.0);
+  conditions = conds_fit (setting_of g (D d)) conds (read_within (setting_of g a) (D d) (local_of g a log)
+      (handed a (D d) log) ts class txn attempt conds uses (fair_of g a log h.permitted.1 h.route.0) h.place)
+      h.times.1;
+  classes_ascend = u.0;
+  uses_ascend = u.1;
+  here = u.2;
+}
+d_fits g log a d n (Write ts class txn changes) bases s l e h u = record {
+  piped = pipe_fits g d log a n (Write ts class txn changes) class.0 ts.0 h (h.from_small h.route.0) refl (late ts.0 h.times.0);
+  above = is_above g log a n d ts class txn changes h.permitted;
+  fresh = is_fresh g log a n d ts class txn changes s (e, l) h.permitted;
+  items = u.0;
+  each = u.1;
+}
+d_fits g log a d n (Null class time) bases s l e h u =
+    pipe_fits g d log a n (Null class time) class.0 time.0 h (h.from_small h.route.0) refl (late time.0 h.times.0)
+d_fits g log a d n (Fetch ts class k col) bases s l e h u = u
+d_fits g log a d n (Reduce ts class k col values) bases s l e h u = u
+d_fits g log a d n (Ship ts class) bases s l e h u = u
+d_fits g log a d n (Ready ts class counts) bases s l e h u = absurd h.route.1
+d_fits g log a d n (Reject ts class by write) bases s l e h u = absurd h.route.1
+d_fits g log a d n (Values ts class k values) bases s l e h u = absurd h.route.1
+d_fits g log a d n (Reduced ts class k c) bases s l e h u = absurd h.route.1
+d_fits g log a d n (Rows ts class rows) bases s l e h u = absurd h.route.1
+d_fits g log a d n (Ask class time) bases s l e h u = absurd h.route.1
+d_fits g log a d n Hold bases s l e h u = absurd h.route.1
+d_fits g log a d n (Release ts) bases s l e h u = absurd h.route.1
+d_fits g log a d n (Held time) bases s l e h u = no_u d h.route.1
+d_fits g log a d n (Done ts) bases s l e h u = no_u d h.route.1

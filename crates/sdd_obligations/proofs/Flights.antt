@@ -1,0 +1,187 @@
+-- What is put on a link and not handed over yet, and how an entry changes it; and what an entry adds to the turns.
+use Rattle.std.proofs.Common.{ℕ, ◌&&◌, ◌++◌, ◌∙◌, ◌∷◌, ◌≡◌, Bool, List, None, Option, Some, [], ap, append-nil, append_assoc, drop, false, if◌then◌else◌, refl, slice_get, suc, sym, true, zero}
+use Rattle.std.proofs.lemmas.List.{take-append-drop}
+use Rattle.std.proofs.lemmas.List.Elements.{filter-append}
+use Rattle.sdd_base.specs.Numbers.{dm_no}
+use Rattle.sdd_base.specs.Sites.{same_site}
+use Rattle.sdd_base.specs.declared.event.Event.TheVariants.{Deliver, Down, Lose, Redeclare, Repeat, Resend, Settle, Submit, Tick, Up}
+use Rattle.sdd_base.specs.declared.site.Site.{Site}
+use Rattle.sdd_base.specs.declared.site.Site.TheVariants.{D, T, U}
+use Rattle.sdd_lang.specs.declared.transaction.Txn.{Txn}
+use Rattle.sdd_wire.specs.declared.msg.Msg.{Msg}
+use Rattle.sdd_module.specs.SiteLog.{Act, Did, Force, Handed, Redeclared, Submits, Ticked, sends_of_act}
+use Rattle.sdd_log.specs.Entries.{Does, Entry, Given, Hand, Log, Mark, Notes, Redeclares, Round, Submitted}
+use Rattle.sdd_log.specs.Locals.{force_at, local_of, redeclares, txn_at}
+use Rattle.sdd_log.specs.Permitted.{IsAllowed, IsPermitted}
+use Rattle.sdd_log.specs.Traffic.{handed}
+use Rattle.sdd_obligations.specs.Stages.{flight}
+use Rattle.sdd_obligations.specs.Turns.{Silent, answers, asked_by, is_answer, is_question, questions, told_by, turn_at, turn_with}
+use Rattle.sdd_invariants.specs.Traffic.{hands_from, puts_to, to_site}
+use Rattle.sdd_invariants.proofs.InOrder.{hand_was_put, in_order}
+use Rattle.sdd_invariants.proofs.Made.{local_step}
+use Rattle.sdd_invariants.proofs.Sent.{puts_grow}
+use Rattle.sdd_invariants.specs.Made.{forced, given_to, handed_by, made, put_by, with_made}
+use Rattle.sdd_module.specs.SiteLog as site
+
+if_more : (c : Bool) (xs : List Msg) (m : Msg) → (if c then xs ++ m ∷ [] else xs) ≡ xs ++ (if c then m ∷ [] else [])
+if_more true xs m = refl
+if_more false xs m = sym (append-nil _)
+
+hands_step : (a : Site) (o : Option site.Entry) (l : site.Log) → hands_from a (with_made o l) ≡ hands_from a l ++ handed_by a o
+hands_step a None l = sym (append-nil _)
+hands_step a (Some (Handed from m)) l = if_more (same_site a from) (hands_from a l) m
+hands_step a (Some (Did act)) l = sym (append-nil _)
+hands_step a (Some (Ticked n)) l = sym (append-nil _)
+hands_step a (Some (Submits n t)) l = sym (append-nil _)
+hands_step a (Some (Redeclared force t)) l = sym (append-nil _)
+
+hands_grow : (g : Given) (a b : Site) (e : Entry) (log : Log)
+    → hands_from a (local_of g b (e ∷ log)) ≡ hands_from a (local_of g b log) ++ handed_by a (made g b log e)
+hands_grow g a b e log = ap (hands_from a) (local_step g b e log) ∙ hands_step a (made g b log e) (local_of g b log)
+
+flight_splits : (g : Given) (a b : Site) (log : Log) → IsPermitted g log
+    → puts_to b (local_of g a log) ≡ hands_from a (local_of g b log) ++ flight g a b log
+flight_splits g a b log h =
+    sym (take-append-drop (handed a b log) (puts_to b (local_of g a log))) ∙ ap (λ l. l ++ flight g a b log) (sym (in_order g log a b h))
+
+cancel : (xs ys zs : List Msg) → xs ++ ys ≡ xs ++ zs → ys ≡ zs
+cancel [] ys zs e = e
+cancel (x ∷ xs) ys zs e = let p : xs ++ ys ≡ xs ++ zs = cc in cancel xs ys zs p
+
+-- what is handed over leaves the flight at its front, and what is put comes to its end
+flight_step : (g : Given) (a b : Site) (e : Entry) (log : Log) → IsPermitted g (e ∷ log)
+    → handed_by a (made g b log e) ++ flight g a b (e ∷ log) ≡ flight g a b log ++ put_by b (made g a log e)
+flight_step g a b e log h =
+    let hs : List Msg = hands_from a (local_of g b log) in
+    let now = flight_splits g a b (e ∷ log) h in
+    let before = flight_splits g a b log h.1 in
+    cancel hs (handed_by a (made g b log e) ++ flight g a b (e ∷ log)) (flight g a b log ++ put_by b (made g a log e))
+    (sym (append_assoc hs (handed_by a (made g b log e)) (flight g a b (e ∷ log)))
+    ∙ ap (λ l. l ++ flight g a b (e ∷ log)) (sym (hands_grow g a b e log)) ∙ sym now
+    ∙ puts_grow g a b e log ∙ ap (λ l. l ++ put_by b (made g a log e)) before ∙ append_assoc hs (flight g a b log) (put_by b (made g a log e)))
+
+pub questions_step : (g : Given) (ts c : ℕ) (a b : Site) (e : Entry) (log : Log) → IsPermitted g (e ∷ log)
+    → questions ts c (handed_by a (made g b log e)) ++ questions ts c (flight g a b (e ∷ log)) ≡ questions
+    ts c (flight g a b log) ++ questions ts c (put_by b (made g a log e))
+questions_step g ts c a b e log h =
+    sym (filter-append (is_question ts c) (handed_by a (made g b log e)) (flight g a b (e ∷ log)))
+    ∙ ap (questions ts c) (flight_step g a b e log h) ∙ filter-append (is_question ts c)
+    (flight g a b log) (put_by b (made g a log e))
+
+pub answers_step : (g : Given) (ts c : ℕ) (a b : Site) (e : Entry) (log : Log) → IsPermitted g (e ∷ log)
+    → answers ts c (handed_by a (made g b log e)) ++ answers ts c (flight g a b (e ∷ log)) ≡ answers ts c
+    (flight g a b log) ++ answers ts c (put_by b (made g a log e))
+answers_step g ts c a b e log h =
+    sym (filter-append (is_answer ts c) (handed_by a (made g b log e)) (flight g a b (e ∷ log)))
+    ∙ ap (answers ts c) (flight_step g a b e log h) ∙ filter-append (is_answer ts c) (flight g a b log)
+    (put_by b (made g a log e))
+
+-- a message that may be handed over next is the first in flight
+
+drop_at : (ms : List Msg) (n : ℕ) (m : Msg) → slice_get ms n ≡ Some m → drop n ms ≡ m ∷ drop (suc n) ms
+drop_at [] n m e = cc
+drop_at (x ∷ ms) zero m e = let p : x ≡ m = cc in ap (λ y. y ∷ ms) p
+drop_at (x ∷ ms) (suc n) m e = drop_at ms n m e
+
+pub first_in_flight : (g : Given) (log : Log) (a b : Site) (n : ℕ) (m : Msg) → IsAllowed g log (Hand a b n m)
+    → (rest : List Msg) × (flight g a b log ≡ m ∷ rest)
+first_in_flight g log a b n m h =
+    (drop (suc (handed a b log)) (puts_to b (local_of g a log)), drop_at (puts_to b (local_of g a log)) (handed a b log) m (hand_was_put g log a b n m h).1)
+
+-- the turns after an entry
+
+at_made : (ts c d : ℕ) (o : Option site.Entry) (l : site.Log)
+    → turn_at ts c d (with_made o l) ≡ told_by (answers ts c (handed_by (D (dm_no d)) o))
+    (asked_by (questions ts c (put_by (D (dm_no d)) o)) (turn_at ts c d l))
+at_made ts c d None l = refl
+at_made ts c d (Some x) l = refl
+
+pub turn_at_step : (g : Given) (ts c d : ℕ) (at : Site) (e : Entry) (log : Log)
+    → turn_at ts c d (local_of g at (e ∷ log)) ≡ told_by
+    (answers ts c (handed_by (D (dm_no d)) (made g at log e)))
+    (asked_by (questions ts c (put_by (D (dm_no d)) (made g at log e)))
+    (turn_at ts c d (local_of g at log)))
+turn_at_step g ts c d at e log =
+    ap (turn_at ts c d) (local_step g at e log) ∙ at_made ts c d (made g at log e) (local_of g at log)
+
+with_made_turn : (ts c : ℕ) (at : Site) (o : Option site.Entry) (l : site.Log)
+    → turn_with ts c at (with_made o l) ≡ told_by (answers ts c (put_by at o)) (asked_by (questions ts c (handed_by at o)) (turn_with ts c at l))
+with_made_turn ts c at None l = refl
+with_made_turn ts c at (Some x) l = refl
+
+pub turn_with_step : (g : Given) (ts c : ℕ) (at b : Site) (e : Entry) (log : Log)
+    → turn_with ts c at (local_of g b (e ∷ log)) ≡ told_by (answers ts c (put_by at (made g b log e)))
+    (asked_by (questions ts c (handed_by at (made g b log e))) (turn_with ts c at (local_of g b log)))
+turn_with_step g ts c at b e log =
+    ap (turn_with ts c at) (local_step g b e log) ∙ with_made_turn ts c at (made g b log e) (local_of g b log)
+
+pub silent_first : (g : Given) (ts c d : ℕ) (at : Site) → turn_at ts c d (local_of g at []) ≡ Silent
+silent_first g ts c d U = refl
+silent_first g ts c d (T t) = refl
+silent_first g ts c d (D x) = refl
+
+pub nothing_put : (g : Given) (at b : Site) → puts_to b (local_of g at []) ≡ []
+nothing_put g U b = refl
+nothing_put g (T t) b = refl
+nothing_put g (D x) b = refl
+
+-- entries that put nothing and hand nothing over
+
+abbrev pub is_plain : Entry → Bool
+is_plain (Hand from to n m) = false
+is_plain (Does at act) = false
+is_plain _ = true
+
+abbrev IsQuietMade : Option site.Entry → Type 0
+IsQuietMade o = (b : Site) → (put_by b o ≡ []) × (handed_by b o ≡ [])
+
+quiet_if : (b : Bool) (o : Option site.Entry) → IsQuietMade o → IsQuietMade (if b then o else None)
+quiet_if true o h = h
+quiet_if false o h = λ b. (refl, refl)
+
+quiet_given : (n : ℕ) (o : Option Txn) → IsQuietMade (given_to n o)
+quiet_given n None b = (refl, refl)
+quiet_given n (Some t) b = (refl, refl)
+
+quiet_forced : (at : Site) (force : Force) (t : ℕ) → IsQuietMade (forced at force t)
+quiet_forced U force t b = (refl, refl)
+quiet_forced (T n) force t b = (refl, refl)
+quiet_forced (D d) force t b = (refl, refl)
+
+pub quiet_made : (g : Given) (at : Site) (log : Log) (e : Entry) → is_plain e ≡ true → (b : Site)
+    → (put_by b (made g at log e) ≡ []) × (handed_by b (made g at log e) ≡ [])
+quiet_made g at log (Mark (Tick t n)) p = quiet_if (same_site at (T t)) (Some (Ticked n)) (λ b. (refl, refl))
+quiet_made g at log (Mark (Submit n)) p = λ b. (refl, refl)
+quiet_made g at log (Mark (Deliver x y k)) p = λ b. (refl, refl)
+quiet_made g at log (Mark (Lose x y k)) p = λ b. (refl, refl)
+quiet_made g at log (Mark (Repeat x y k)) p = λ b. (refl, refl)
+quiet_made g at log (Mark (Resend x y)) p = λ b. (refl, refl)
+quiet_made g at log (Mark Settle) p = λ b. (refl, refl)
+quiet_made g at log (Mark Redeclare) p = λ b. (refl, refl)
+quiet_made g at log (Mark (Down d)) p = λ b. (refl, refl)
+quiet_made g at log (Mark (Up d)) p = λ b. (refl, refl)
+quiet_made g at log (Round es) p = λ b. (refl, refl)
+quiet_made g at log (Redeclares t) p = quiet_forced at (force_at g (suc (redeclares log))) t
+quiet_made g at log (Submitted s n) p = quiet_if (same_site at s) (given_to n (txn_at g n)) (quiet_given n (txn_at g n))
+quiet_made g at log Notes p = λ b. (refl, refl)
+quiet_made g at log (Hand from to n m) p = cc
+quiet_made g at log (Does by act) p = cc
+
+-- what an act puts, and what a hand hands over
+
+pub put_did : (x : Bool) (b : Site) (act : Act) → put_by b (if x then Some (Did act) else None) ≡ (if x then to_site b (sends_of_act act) else [])
+put_did true b act = refl
+put_did false b act = refl
+
+pub handed_did : (x : Bool) (b : Site) (act : Act) → handed_by b (if x then Some (Did act) else None) ≡ []
+handed_did true b act = refl
+handed_did false b act = refl
+
+pub put_hand : (x : Bool) (b from : Site) (m : Msg) → put_by b (if x then Some (Handed from m) else None) ≡ []
+put_hand true b from m = refl
+put_hand false b from m = refl
+
+pub handed_hand : (x : Bool) (b from : Site) (m : Msg)
+    → handed_by b (if x then Some (Handed from m) else None) ≡ (if x && same_site b from then m ∷ [] else [])
+handed_hand true b from m = refl
+handed_hand false b from m = refl

@@ -1,0 +1,291 @@
+-- No WRITE that was handed to a data module has the timestamp of the one that is next.
+use Rattle.std.proofs.Common.{ℕ, ◌++◌, ◌*◌, ◌+◌, ◌<◌, ◌==◌, ◌∙◌, ◌∷◌, ◌≡◌, ◌≤◌, Bool, List, Some, [], ap, append_assoc, arith, false, if◌then◌else◌, inl, inr, length, refl, slice_get, subst, sym, true}
+use Rattle.std.proofs.lemmas.Bool.{eqb-true}
+use Rattle.sdd_base.specs.Numbers.{tm_no}
+use Rattle.sdd_base.specs.Sites.{number_of, sites}
+use Rattle.sdd_base.specs.Words.{contains}
+use Rattle.sdd_base.specs.declared.change.Change.{Change}
+use Rattle.sdd_base.specs.declared.number.ClassNo.{ClassNo}
+use Rattle.sdd_base.specs.declared.number.DmNo.{DmNo}
+use Rattle.sdd_base.specs.declared.number.TmNo.{TmNo}
+use Rattle.sdd_base.specs.declared.number.Ts.{Ts}
+use Rattle.sdd_base.specs.declared.number.TxnNo.{TxnNo}
+use Rattle.sdd_base.specs.declared.site.Site.{Site}
+use Rattle.sdd_base.specs.declared.site.Site.TheVariants.{D, T, U}
+use Rattle.sdd_wire.specs.Piped.{goes_through}
+use Rattle.sdd_wire.specs.declared.msg.Msg.{Msg}
+use Rattle.sdd_wire.specs.declared.msg.Msg.TheVariants.{Write}
+use Rattle.sdd_module.specs.SiteLog.{Act, Did, Handed, Records, Redeclared, Sends, Setting, Submits, Ticked}
+use Rattle.sdd_attempt.specs.Acts.{commit_act}
+use Rattle.sdd_attempt.specs.Clocks.{clock}
+use Rattle.sdd_attempt.specs.Queues.{Queued}
+use Rattle.sdd_dm.proofs.Prefix.{all_handed, all_there}
+use Rattle.sdd_dm.specs.Fits.{with_time, write_time_of, write_times}
+use Rattle.sdd_dm.specs.Pipes.{pipe}
+use Rattle.sdd_log.specs.Entries.{Does, Given, Hand, Log}
+use Rattle.sdd_log.specs.Lawful.{IsLawful}
+use Rattle.sdd_log.specs.Locals.{local_of, setting_of}
+use Rattle.sdd_log.specs.Permitted.{IsPermitted}
+use Rattle.sdd_invariants.proofs.Recorded.{start_of_active}
+use Rattle.sdd_invariants.specs.OnLinks.{write_at}
+use Rattle.sdd_invariants.proofs.Installed.{origin, write_origin}
+use Rattle.sdd_invariants.specs.Causes.{IsApplyOf}
+use Rattle.sdd_invariants.proofs.Applied.{one_of_key, writes_strict}
+use Rattle.sdd_invariants.proofs.InPipe.{in_pipe}
+use Rattle.sdd_invariants.specs.Seen.{all_of, class_puts, pipe_at}
+use Rattle.sdd_invariants.proofs.Bools.{only_right, same_number, true_or_false}
+use Rattle.sdd_invariants.proofs.Lists.{at_seam, in_left, place_within}
+use Rattle.sdd_invariants.specs.Steps.{home, next_stamp, start_at}
+use Rattle.sdd_invariants.proofs.Fair.{home_fair}
+use Rattle.sdd_invariants.proofs.Made.{local_grows, permitted_before}
+use Rattle.sdd_obligations.specs.Bounds.{IsNumbered, IsSmall}
+use Rattle.sdd_obligations.proofs.OfNext.{IsThere, of_next, t_of_sites}
+use Rattle.sdd_obligations.specs.Routes.{IsRunner}
+use Rattle.sdd_obligations.proofs.Piping.{pipe_with}
+use Rattle.sdd_obligations.proofs.Stamped.{same_start, stamp_ticks}
+use Rattle.sdd_module.specs.SiteLog as site
+
+-- an attempt of class c was started with the timestamp t
+
+pub record WasStarted (s : Setting) (c t : ℕ) (l : site.Log) : Type 0 where
+  pub later : site.Log
+  pub before : site.Log
+  pub queued : Queued
+  pub is : l ≡ later ++ Did (start_at s c before queued) ∷ before
+  pub ts_is : t ≡ next_stamp s before
+
+started_on : (s : Setting) (c t : ℕ) (x l all : site.Log) → all ≡ x ++ l → WasStarted s c t l → WasStarted s c t all
+started_on s c t x l all e w = record {
+  later = x ++ w.later;
+  before = w.before;
+  queued = w.queued;
+  is = e ∙ ap (λ y. x ++ y) w.is ∙ sym (append_assoc x w.later (Did (start_at s c w.before w.queued) ∷ w.before));
+  ts_is = w.ts_is;
+}
+
+-- by the site of a Commit
+started_of : (g : Given) (log : Log) (d : DmNo) (c n t : ℕ) → IsPermitted g log → IsApplyOf g log d c n t
+    → WasStarted (setting_of g (home g.catalogue c)) c t (local_of g (home g.catalogue c) log)
+started_of g log d c n t h a =
+    let at : Site = home g.catalogue c in
+    let act : Act = commit_act g.catalogue a.bases c a.attempt in
+    let hb = (permitted_before g a.later (Does at act ∷ a.before) (subst (IsPermitted g) a.is h)).1 in
+    let st = start_of_active (setting_of g at) c (local_of g at a.before) a.attempt (home_fair g c a.before hb) a.active_is in
+    let here : WasStarted (setting_of g at) c t (local_of g at a.before) =
+    record {
+      later = st.later;
+      before = st.before;
+      queued = st.queued;
+      is = st.is;
+      ts_is =
+          a.ts_is ∙ st.ts_is;
+    } in
+    let front : log ≡ (a.later ++ Does at act ∷ []) ++ a.before = a.is ∙ sym (append_assoc a.later (Does at act ∷ []) a.before) in
+    let x = local_grows g at (a.later ++ Does at act ∷ []) a.before in
+    started_on (setting_of g at) c t x.0 (local_of g at a.before) (local_of g at log) (ap (local_of g at) front ∙ x.1) here
+
+-- what acts is a site of the network
+lawful_part : (g : Given) (later log : Log) → IsLawful g (later ++ log) → IsLawful g log
+lawful_part g [] log h = h
+lawful_part g (e ∷ later) log h = lawful_part g later log h.1
+
+pub record IsOfNetwork (a : Site) : Type 0 where
+  pub numbered : IsNumbered a
+  pub small : number_of a ≤ 63
+  pub runs : IsRunner a
+
+of_network : (g : Given) (a : Site) → IsSmall g → IsRunner a → IsThere (sites g.catalogue.tms g.catalogue.dms) a → IsOfNetwork a
+of_network g U s r k = record { numbered = tt; small = omega arith; runs = tt }
+of_network g (T t) s r k =
+    let i = t_of_sites g.catalogue.tms g.catalogue.dms t k in let m = s.few_tms in
+    record { numbered = i.0; small = omega (arith, i.1, m); runs = tt }
+of_network g (D d) s r k = absurd r
+
+home_runs : (b : Bool) (t : TmNo) → IsRunner (if b then U else T t)
+home_runs true t = tt
+home_runs false t = tt
+
+act_of_network : (g : Given) (log : Log) (d : DmNo) (c n t : ℕ) → IsSmall g → IsLawful g log → IsApplyOf g log d c n t
+    → IsOfNetwork (home g.catalogue c)
+act_of_network g log d c n t s l a =
+    let at : Site = home g.catalogue c in
+    let act : Act = commit_act g.catalogue a.bases c a.attempt in
+    let p = lawful_part g a.later (Does at act ∷ a.before) (subst (IsLawful g) a.is l) in
+    of_network g at s (home_runs (c == 0) _) (of_next g a.before (Does at act) s.few_ticks p.1 p.0).0
+
+-- two sites with the same number are the same
+same_numbers : (a b : Site) → IsOfNetwork a → IsOfNetwork b → number_of a ≡ number_of b → a ≡ b
+same_numbers U U i j e = refl
+same_numbers U (T t) i j e = (let n = j.numbered in absurd (omega (arith, e, n)))
+same_numbers (T t) U i j e = (let n = i.numbered in absurd (omega (arith, e, n)))
+same_numbers (T a) (T b) i j e = ap (λ n. T (tm_no n)) e
+same_numbers (D d) b i j e = absurd i.runs
+same_numbers U (D d) i j e = absurd j.runs
+same_numbers (T a) (D d) i j e = absurd j.runs
+
+numbers_by : (x y n m t : ℕ) → t ≡ (x + 1) * 64 + n → t ≡ (y + 1) * 64 + m → n ≤ 63 → m ≤ 63 → n ≡ m
+numbers_by x y n m t e f a b = omega (arith, e, f, a, b)
+
+number_is : (g : Given) (c t : ℕ) (log : Log) → WasStarted (setting_of g (home g.catalogue c)) c t (local_of g (home g.catalogue c) log)
+    → (x : ℕ) × (t ≡ (x + 1) * 64 + number_of (home g.catalogue c))
+number_is g c t log w = ((clock (setting_of g (home g.catalogue c)).site w.before).ticks, w.ts_is ∙ stamp_ticks (setting_of g (home g.catalogue c)) w.before)
+
+abbrev class_of_act : Act → ℕ
+class_of_act (Records c r sends) = c
+class_of_act (Sends to m hand) = 0
+
+-- so two attempts with the same timestamp are of the same class
+pub same_class : (g : Given) (c k t : ℕ) (log : Log) → IsOfNetwork (home g.catalogue c) → IsOfNetwork (home g.catalogue k)
+    → WasStarted (setting_of g (home g.catalogue c)) c t (local_of g (home g.catalogue c) log)
+    → WasStarted (setting_of g (home g.catalogue k)) k t (local_of g (home g.catalogue k) log) → c ≡ k
+same_class g c k t log i j v w =
+    let a = number_is g c t log v in
+    let b = number_is g k t log w in
+    let at : home g.catalogue c ≡ home g.catalogue k =
+    same_numbers (home g.catalogue c) (home g.catalogue k) i j
+    (numbers_by a.0 b.0 (number_of (home g.catalogue c)) (number_of (home g.catalogue k)) t a.1 b.1
+    i.small j.small) in
+    let u : WasStarted (setting_of g (home g.catalogue k)) c t (local_of g (home g.catalogue k) log) =
+    subst (λ x. WasStarted (setting_of g x) c t (local_of g x log)) at v in
+    let same = same_start (setting_of g (home g.catalogue k)) c k u.later w.later u.before w.before u.queued
+    w.queued (sym u.ts_is ∙ w.ts_is) (sym u.is ∙ w.is) in
+    ap class_of_act same.1
+
+-- a WRITE among those that were handed
+
+record HasWrite (l : site.Log) (t : ℕ) : Type 0 where
+  pub later : site.Log
+  pub before : site.Log
+  pub from : Site
+  pub ts : Ts
+  pub class : ClassNo
+  pub txn : TxnNo
+  pub changes : List Change
+  pub is : l ≡ later ++ Handed from (Write ts class txn changes) ∷ before
+  pub ts_is : ts.0 ≡ t
+
+more_write : (e : site.Entry) (l : site.Log) (t : ℕ) → HasWrite l t → HasWrite (e ∷ l) t
+more_write e l t h = record {
+  later = e ∷ h.later;
+  before = h.before;
+  from = h.from;
+  ts = h.ts;
+  class =
+      h.class;
+  txn = h.txn;
+  changes = h.changes;
+  is = ap (λ x. e ∷ x) h.is;
+  ts_is = h.ts_is;
+}
+
+one_write : (from : Site) (m : Msg) (l : site.Log) (t : ℕ) → (contains (write_times l) t ≡ true → HasWrite l t)
+    → contains (with_time (write_time_of m) (write_times l)) t ≡ true → HasWrite (Handed from m ∷ l) t
+one_write from (Write ts class txn changes) l t f e = elim (true_or_false (ts.0 == t)) [
+  | inl p ↦ record { later = []; before = l; from = from; ts = ts; class = class; txn = txn; changes = changes; is = refl; ts_is = eqb-true ts.0 t p }
+  | inr p ↦ more_write (Handed from (Write ts class txn changes)) l t (f (only_right (ts.0 == t) (contains (write_times l) t) p e))
+]
+one_write from m l t f e = more_write (Handed from m) l t (f e)
+
+has_write : (l : site.Log) (t : ℕ) → contains (write_times l) t ≡ true → HasWrite l t
+has_write [] t e = cc
+has_write (Handed from m ∷ l) t e = one_write from m l t (λ p. has_write l t p) e
+has_write (Ticked n ∷ l) t e = more_write (Ticked n) l t (has_write l t e)
+has_write (Submits n txn ∷ l) t e = more_write (Submits n txn) l t (has_write l t e)
+has_write (Redeclared force u ∷ l) t e = more_write (Redeclared force u) l t (has_write l t e)
+has_write (Did act ∷ l) t e = more_write (Did act) l t (has_write l t e)
+
+-- it is in its pipe
+
+in_more : (b : Bool) (xs : List Msg) (x m : Msg) (k : ℕ) → slice_get xs k ≡ Some m → slice_get (if b then xs ++ x ∷ [] else xs) k ≡ Some m
+in_more true xs x m k e = in_left xs (x ∷ []) k m e
+in_more false xs x m k e = e
+
+in_handed : (c : ℕ) (later : site.Log) (from : Site) (m : Msg) (before : site.Log) → goes_through c m ≡ true
+    → (k : ℕ) × (slice_get (all_handed c (later ++ Handed from m ∷ before)) k ≡ Some m)
+in_handed c [] from m before e = (length (all_handed c before), rw e (at_seam (all_handed c before) [] m))
+in_handed c (Handed a x ∷ later) from m before e =
+    let i = in_handed c later from m before e in
+    (i.0, in_more (goes_through c x) (all_handed c (later ++ Handed from m ∷ before)) x m i.0 i.1)
+in_handed c (Ticked n ∷ later) from m before e = in_handed c later from m before e
+in_handed c (Submits n txn ∷ later) from m before e = in_handed c later from m before e
+in_handed c (Redeclared force u ∷ later) from m before e = in_handed c later from m before e
+in_handed c (Did act ∷ later) from m before e = in_handed c later from m before e
+
+in_its_pipe : (c : ℕ) (l later : site.Log) (from : Site) (m : Msg) (before : site.Log) → l ≡ later ++ Handed from m ∷ before
+    → goes_through c m ≡ true → (k : ℕ) × (slice_get (all_of (pipe c l)) k ≡ Some m)
+in_its_pipe c l later from m before e f =
+    let i = in_handed c later from m before f in
+    (i.0, subst (λ xs. slice_get xs i.0 ≡ Some m) (sym (all_there c l ∙ ap (all_handed c) e)) i.1)
+
+write_key : (c t : ℕ) (ts : Ts) (k : ClassNo) (txn : TxnNo) (xs : List Change) → k.0 ≡ c → ts.0 ≡ t → write_at c (Write ts k txn xs) ≡ Some t
+write_key c t ts k txn xs e f = let q : (k.0 == c) ≡ true = subst (λ x. (k.0 == x) ≡ true) e (same_number k.0) in rw q (ap (λ y. Some y) f)
+
+not_twice : (g : Given) (log : Log) (a : Site) (n : ℕ) (d : DmNo) (ts : Ts) (k : ClassNo) (txn : TxnNo) (xs : List Change) → IsSmall g
+    → IsLawful g (Hand a (D d) n (Write ts k txn xs) ∷ log) → IsPermitted g (Hand a (D d) n (Write ts k txn xs) ∷ log)
+    → HasWrite (local_of g (D d) log) ts.0 → ⊥
+not_twice g log a n d ts k txn xs s l h w =
+    let m : Msg = Write ts k txn xs in
+    let now : Log = Hand a (D d) n m ∷ log in
+    let old : Msg = Write w.ts w.class w.txn w.changes in
+    let c : ℕ = k.0 in
+    let j : ℕ = w.class.0 in
+    let i = in_pipe g c d now h in
+    let is : class_puts g c d now ≡ (all_of (pipe_at g c d log) ++ m ∷ []) ++ i.0 = i.1 ∙ ap (λ x. x ++ i.0) (pipe_with g c d a n m log (same_number k.0)) in
+    let place : slice_get (class_puts g c d now) (length (all_of (pipe_at g c d log))) ≡ Some m =
+    subst (λ x. slice_get x (length (all_of (pipe_at g c d log))) ≡ Some m) (sym is)
+    (in_left (all_of (pipe_at g c d log) ++ m ∷ []) i.0 (length (all_of (pipe_at g c d log))) m
+    (at_seam (all_of (pipe_at g c d log)) [] m)) in
+    let new = write_origin g now c d ts k txn xs refl (origin g c d now (length (all_of (pipe_at g c d log))) m h place) in
+    let p = in_its_pipe j (local_of g (D d) log) w.later w.from old w.before w.is (same_number w.class.0) in
+    let r = in_pipe g j d log h.1 in
+    let there : slice_get (class_puts g j d log) p.0 ≡ Some old =
+    subst (λ x. slice_get x p.0 ≡ Some old) (sym r.1)
+    (in_left (all_of (pipe_at g j d log)) r.0 p.0 old p.1) in
+    let was = write_origin g log j d w.ts w.class w.txn w.changes refl (origin g j d log p.0 old h.1 there) in
+    let x = local_grows g (home g.catalogue j) (Hand a (D d) n m ∷ []) log in
+    let first = started_on (setting_of g (home g.catalogue j)) j w.ts.0 x.0
+    (local_of g (home g.catalogue j) log) (local_of g (home g.catalogue j) now) x.1
+    (started_of g log d j w.txn.0 w.ts.0 h.1 was) in
+    let mine = started_of g now d c txn.0 ts.0 h new in
+    let at_c = act_of_network g now d c txn.0 ts.0 s l new in
+    let at_j = act_of_network g log d j w.txn.0 w.ts.0 s l.1 was in
+    let same : c ≡ j = same_class g c j ts.0 now at_c at_j mine
+    (subst (λ t. WasStarted (setting_of g (home g.catalogue j)) j t (local_of g (home g.catalogue j) now))
+    w.ts_is first) in
+    let q : slice_get (all_of (pipe_at g c d log)) p.0 ≡ Some old = subst (λ y. slice_get (all_of (pipe_at g y d log)) p.0 ≡ Some old) (sym same) p.1 in
+    let before : slice_get (class_puts g c d now) p.0 ≡ Some old =
+    subst (λ y. slice_get y p.0 ≡ Some old) (sym is)
+    (in_left (all_of (pipe_at g c d log) ++ m ∷ []) i.0 p.0 old (in_left (all_of (pipe_at g c d log))
+    (m ∷ []) p.0 old q)) in
+    let one = one_of_key (write_at c) (class_puts g c d now) p.0 (length (all_of (pipe_at g c d log))) old m
+    ts.0 (writes_strict g c d now h at_c.small) before place
+    (write_key c ts.0 w.ts w.class w.txn w.changes (sym same) w.ts_is)
+    (write_key c ts.0 ts k txn xs refl refl) in
+    let less = place_within (all_of (pipe_at g c d log)) p.0 old q in
+    omega (arith, one, less)
+
+pub is_fresh : (g : Given) (log : Log) (a : Site) (n : ℕ) (d : DmNo) (ts : Ts) (k : ClassNo) (txn : TxnNo) (xs : List Change) → IsSmall g
+    → IsLawful g (Hand a (D d) n (Write ts k txn xs) ∷ log) → IsPermitted g (Hand a (D d) n (Write ts k txn xs) ∷ log)
+    → contains (write_times (local_of g (D d) log)) ts.0 ≡ false
+is_fresh g log a n d ts k txn xs s l h = elim (true_or_false (contains (write_times (local_of g (D d) log)) ts.0)) [
+  | inl e ↦ absurd (not_twice g log a n d ts k txn xs s l h (has_write (local_of g (D d) log) ts.0 e))
+  | inr e ↦ e
+]
+
+-- and its timestamp is above 0
+pub is_above : (g : Given) (log : Log) (a : Site) (n : ℕ) (d : DmNo) (ts : Ts) (k : ClassNo) (txn : TxnNo) (xs : List Change)
+    → IsPermitted g (Hand a (D d) n (Write ts k txn xs) ∷ log) → 0 < ts.0
+is_above g log a n d ts k txn xs h =
+    let m : Msg = Write ts k txn xs in
+    let now : Log = Hand a (D d) n m ∷ log in
+    let c : ℕ = k.0 in
+    let i = in_pipe g c d now h in
+    let is : class_puts g c d now ≡ (all_of (pipe_at g c d log) ++ m ∷ []) ++ i.0 = i.1 ∙ ap (λ x. x ++ i.0) (pipe_with g c d a n m log (same_number k.0)) in
+    let place : slice_get (class_puts g c d now) (length (all_of (pipe_at g c d log))) ≡ Some m =
+    subst (λ x. slice_get x (length (all_of (pipe_at g c d log))) ≡ Some m) (sym is)
+    (in_left (all_of (pipe_at g c d log) ++ m ∷ []) i.0 (length (all_of (pipe_at g c d log))) m
+    (at_seam (all_of (pipe_at g c d log)) [] m)) in
+    let new = write_origin g now c d ts k txn xs refl (origin g c d now (length (all_of (pipe_at g c d log))) m h place) in
+    let w = started_of g now d c txn.0 ts.0 h new in
+    let e = stamp_ticks (setting_of g (home g.catalogue c)) w.before in let t = w.ts_is in
+    omega (arith, e, t)

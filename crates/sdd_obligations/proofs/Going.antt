@@ -1,0 +1,194 @@
+-- Where a site that runs transactions sends to.
+use Rattle.std.specs.List.{cons_option}
+use Rattle.std.specs.Prelude.{filter_map}
+use Rattle.std.proofs.Common.{ℕ, ◌==◌, ◌∷◌, ◌≡◌, ◌⊎◌, Bool, List, None, Option, Some, [], ap, cond, false, if◌then◌else◌, inl, inr, refl, slice_get, subst, suc, sym, true, zero}
+use Rattle.sdd_base.specs.Numbers.{class_no, dm_no, time_at, tm_no}
+use Rattle.sdd_base.specs.Sites.{same_site}
+use Rattle.sdd_base.specs.Words.{head_of, or_else}
+use Rattle.sdd_base.specs.declared.change.Change.{Change}
+use Rattle.sdd_base.specs.declared.site.Site.{Site}
+use Rattle.sdd_base.specs.declared.site.Site.TheVariants.{D, T, U}
+use Rattle.sdd_catalog.specs.Catalogue.{numbers_to}
+use Rattle.sdd_lang.specs.Effect.{effect}
+use Rattle.sdd_wire.specs.declared.msg.Msg.{Msg}
+use Rattle.sdd_wire.specs.declared.msg.Msg.TheVariants.{Ask, Fetch, Held, Hold, Null, Reduce, Release, Ship}
+use Rattle.sdd_module.specs.SiteLog.{Act, Bases, Did, Entry, Handed, Log, Records, Redeclared, Sends, Setting, Submits, Ticked, hands, sends_of_act}
+use Rattle.sdd_attempt.specs.Acts.{attempt_due, commit_act, write_to}
+use Rattle.sdd_attempt.specs.Attempts.{Attempt, active, asks_rows}
+use Rattle.sdd_attempt.specs.Exchange.{first_send, is_over}
+use Rattle.sdd_attempt.specs.Queues.{Queued}
+use Rattle.sdd_tm.specs.Due.{IsDue, by_ask, by_exchange, by_hold, by_start, exchange_due, null_at, start_of}
+use Rattle.sdd_tm.specs.Views.{Question, asks, asks_acted, asks_handed, class_view, runs, view_of}
+use Rattle.sdd_invariants.proofs.Serving.{u_way}
+use Rattle.sdd_invariants.specs.AtU.{IsStepU}
+use Rattle.sdd_invariants.specs.PutsBy.{WasAsked}
+use Rattle.sdd_invariants.proofs.Exchanges.{asks_next}
+use Rattle.sdd_invariants.proofs.Lists.{in_either, in_filtered, in_mapped, in_one}
+use Rattle.sdd_invariants.proofs.Sites.{site_is, the_one}
+use Rattle.sdd_invariants.specs.Steps.{bound, modules_asked, start_at, start_read}
+use Rattle.sdd_invariants.specs.Traffic.{to_site}
+use Rattle.sdd_obligations.specs.Routes.{GoesTo, IsAnAsk}
+
+-- a message to a site is one of those that are sent
+
+at_cons : (x : Site × Msg) (b : Site) (k : ℕ) (m : Msg) (ps : List (Site × Msg)) (c : Bool) → same_site b x.0 ≡ c
+    → ((j : ℕ) → slice_get (to_site b ps) j ≡ Some m → (i : ℕ) × (slice_get ps i ≡ Some (b, m)))
+    → slice_get (if c then x.1 ∷ to_site b ps else to_site b ps) k ≡ Some m → (i : ℕ) × (slice_get (x ∷ ps) i ≡ Some (b, m))
+at_cons x b zero m ps true p f e =
+    let q : x.1 ≡ m = cc in let r : b ≡ x.0 = site_is b x.0 p in
+    (0, subst (λ y. Some x ≡ Some (b, y)) q (subst (λ z. Some x ≡ Some (z, x.1)) (sym r) refl))
+at_cons x b (suc k) m ps true p f e = let i = f k e in (suc i.0, i.1)
+at_cons x b k m ps false p f e = let i = f k e in (suc i.0, i.1)
+
+pub sent_to : (b : Site) (ps : List (Site × Msg)) (k : ℕ) (m : Msg) → slice_get (to_site b ps) k ≡ Some m
+    → (i : ℕ) × (slice_get ps i ≡ Some (b, m))
+sent_to b [] k m e = cc
+sent_to b (x ∷ ps) k m e = at_cons x b k m ps (same_site b x.0) refl (λ j p. sent_to b ps j m p) e
+
+in_cons : {A : Type 0} (o : Option A) (xs : List A) (k : ℕ) (y : A) → slice_get (cons_option o xs) k ≡ Some y
+    → ((j : ℕ) × (slice_get xs j ≡ Some y)) ⊎ (o ≡ Some y)
+in_cons None xs k y e = inl (k, e)
+in_cons (Some x) xs zero y e = inr e
+in_cons (Some x) xs (suc k) y e = inl (k, e)
+
+pub in_made : {A B : Type 0} (f : A → Option B) (xs : List A) (k : ℕ) (y : B) → slice_get (filter_map f xs) k ≡ Some y
+    → (x : A) × (j : ℕ) × (slice_get xs j ≡ Some x) × (f x ≡ Some y)
+in_made f [] k y e = cc
+in_made f (x ∷ xs) k y e = elim (in_cons (f x) (filter_map f xs) k y e) [
+  | inl p ↦ (let i = in_made f xs p.0 y p.1 in (i.0, suc i.1, i.2, i.3))
+  | inr p ↦ (x, 0, refl, p)
+]
+
+-- all that an act sends goes where it may
+abbrev pub Goes : Log → Act → Type 0
+Goes log act = (b : Site) (k : ℕ) (m : Msg) → slice_get (to_site b (sends_of_act act)) k ≡ Some m → GoesTo log b m
+
+goes_some : (log : Log) (x a : Act) → Goes log x → Some x ≡ Some a → Goes log a
+goes_some log x a h e = let p : x ≡ a = cc in subst (Goes log) p h
+
+goes_one : (log : Log) (to : Site) (x : Msg) (hand : Option ℕ) → GoesTo log to x → Goes log (Sends to x hand)
+goes_one log to x hand h b k m e =
+    let i = the_one b to x k m e in subst (GoesTo log b) i.1 (subst (λ s. GoesTo log s x) (sym i.0) h)
+
+pair_of : (log : Log) (a : Site) (x : Msg) (b : Site) (m : Msg) → ◌≡◌ {A = Site × Msg} (a, x) (b, m) → GoesTo log a x → GoesTo log b m
+pair_of log a x b m e h = let p : a ≡ b = ap (λ (z : Site × Msg). z.0) e in let q : x ≡ m =
+    ap (λ (z : Site × Msg). z.1) e in subst (GoesTo log b) q (subst (λ s. GoesTo log s x) p h)
+
+start_goes : (s : Setting) (log : Log) (c : ℕ) (q : Queued) → Goes log (start_at s c log q)
+start_goes s log c q b k m e =
+    let i = sent_to b (sends_of_act (start_at s c log q)) k m e in
+    let r = in_mapped (λ d. (D (dm_no d), start_read s c log q d)) (modules_asked s c q.text) i.0 (b, m) i.1 in
+    pair_of log (D (dm_no r.0)) (start_read s c log q r.0) b m r.2 tt
+
+write_goes : (log : Log) (c : Bool) (d : ℕ) (x : Msg) (b : Site) (m : Msg) → cond {A = Option (Site × Msg)} c (Some (D (dm_no d), x)) None ≡ Some (b, m)
+    → GoesTo log (D (dm_no d)) x → GoesTo log b m
+write_goes log true d x b m e h = let p : ◌≡◌ {A = Site × Msg} (D (dm_no d), x) (b, m) = cc in pair_of log (D (dm_no d)) x b m p h
+write_goes log false d x b m e h = cc
+
+commit_goes : (s : Setting) (log : Log) (c : ℕ) (bases : Bases) (a : Attempt) → Goes log (commit_act s.catalogue bases c a)
+commit_goes s log c bases a b k m e =
+    let xs : List Change = (effect s.catalogue (bases a.ts) a.text).changes in
+    let i = sent_to b (sends_of_act (commit_act s.catalogue bases c a)) k m e in
+    let r = in_made (write_to s.catalogue c a xs) (numbers_to s.catalogue.dms) i.0 (b, m) i.1 in
+    write_goes log _ r.0 _ b m r.3 tt
+
+asks_to_d : (log : Log) (ts c d : ℕ) (m : Msg) → asks_rows ts c m ≡ true → GoesTo log (D (dm_no d)) m
+asks_to_d log ts c d (Fetch a b u col) e = tt
+asks_to_d log ts c d (Reduce a b u col vs) e = tt
+asks_to_d log ts c d (Ship a b) e = tt
+asks_to_d log ts c d _ e = cc
+
+-- at a T
+
+over_goes : (s : Setting) (log : Log) (bases : Bases) (c : ℕ) (a : Attempt) (b : Bool) (act : Act)
+    → (if b then Some (commit_act s.catalogue bases c a) else None) ≡ Some act → Goes log act
+over_goes s log bases c a true act e = goes_some log (commit_act s.catalogue bases c a) act (commit_goes s log c bases a) e
+over_goes s log bases c a false act e = cc
+
+send_goes : (s : Setting) (log : Log) (bases : Bases) (c : ℕ) (a : Attempt) (ms : List (ℕ × Msg)) (act : Act)
+    → active s c log ≡ Some a → a.exchange.to_send ≡ ms
+    → or_else (first_send ms) (if is_over a.exchange.phase then Some (commit_act s.catalogue bases c a) else None) ≡ Some act
+    → Goes log act
+send_goes s log bases c a [] act i p e = over_goes s log bases c a (is_over a.exchange.phase) act e
+send_goes s log bases c a (m ∷ rest) act i p e =
+    goes_some log (Sends (D (dm_no m.0)) m.1 None) act (goes_one log (D (dm_no m.0)) m.1 None
+    (asks_to_d log a.ts c m.0 m.1 (asks_next s c log a m i (ap head_of p)))) e
+
+attempt_goes : (s : Setting) (log : Log) (bases : Bases) (c : ℕ) (o : Option Attempt) (act : Act) → active s c log ≡ o
+    → attempt_due s.catalogue bases c o ≡ Some act → Goes log act
+attempt_goes s log bases c None act i e = cc
+attempt_goes s log bases c (Some a) act i e = send_goes s log bases c a a.exchange.to_send act i refl e
+
+-- an ASK that lacks its NULL was handed
+
+more_asked : (log : Log) (e : Entry) (b : Site) → WasAsked log b IsAnAsk → WasAsked (e ∷ log) b IsAnAsk
+more_asked log e b h =
+    record { asked = h.asked; later = e ∷ h.later; before = h.before; is = ap (λ l. e ∷ l) h.is; fits = h.fits }
+
+asks_in : (n : ℕ) (from : Site) (m : Msg) (log : Log) (qs : List Question) (k : ℕ) (q : Question)
+    → ((j : ℕ) → slice_get qs j ≡ Some q → WasAsked log q.from IsAnAsk) → slice_get (asks_handed n from m qs) k ≡ Some q
+    → WasAsked (Handed from m ∷ log) q.from IsAnAsk
+asks_in n from (Ask class time) log qs k q f e = elim (in_either qs (record { hand = n; from = from; class = class.0; time = time.0 } ∷ []) k q e) [
+  | inl p ↦ more_asked log (Handed from (Ask class time)) q.from (f k p)
+  | inr p ↦ (let r : record { hand = n; from = from; class = class.0; time = time.0 } ≡ q =
+      in_one (record { hand = n; from = from; class = class.0; time = time.0 } ∷ []) (record {
+        hand =
+            n;
+        from = from;
+        class = class.0;
+        time = time.0;
+      }) p.0 q refl p.1 in
+      let s : from ≡ q.from = ap (λ (x : Question). x.from) r in
+      record { asked = Ask class time; later = []; before = log; is = ap (λ x. Handed x (Ask class time) ∷ log) s; fits = tt })
+]
+asks_in n from m log qs k q f e = more_asked log (Handed from m) q.from (f k e)
+
+asks_left : (act : Act) (qs : List Question) (k : ℕ) (q : Question) → slice_get (asks_acted act qs) k ≡ Some q
+    → (j : ℕ) × (slice_get qs j ≡ Some q)
+asks_left (Sends to m hand) qs k q e = let i = in_filtered _ qs k q e in (i.1, i.2)
+asks_left (Records c r sends) qs k q e = (k, e)
+
+pub was_asked_of : (log : Log) (k : ℕ) (q : Question) → slice_get (asks log) k ≡ Some q → WasAsked log q.from IsAnAsk
+was_asked_of [] k q e = cc
+was_asked_of (Handed from m ∷ log) k q e = asks_in (suc (hands log)) from m log (asks log) k q (λ j p. was_asked_of log j q p) e
+was_asked_of (Ticked n ∷ log) k q e = more_asked log (Ticked n) q.from (was_asked_of log k q e)
+was_asked_of (Submits n txn ∷ log) k q e = more_asked log (Submits n txn) q.from (was_asked_of log k q e)
+was_asked_of (Redeclared force t ∷ log) k q e = more_asked log (Redeclared force t) q.from (was_asked_of log k q e)
+was_asked_of (Did act ∷ log) k q e =
+    let i = asks_left act (asks log) k q e in more_asked log (Did act) q.from (was_asked_of log i.0 q i.1)
+
+null_goes : (log : Log) (q : Question) (b : Bool) (o : Option ℕ) (act : Act) → WasAsked log q.from IsAnAsk
+    → (if b then null_at q o else None) ≡ Some act → Goes log act
+null_goes log q true None act w e = cc
+null_goes log q true (Some t) act w e =
+    goes_some log (Sends q.from (Null (class_no q.class) (time_at t)) (Some q.hand)) act
+    (goes_one log q.from (Null (class_no q.class) (time_at t)) (Some q.hand) w) e
+null_goes log q false o act w e = cc
+
+held_goes : (s : Setting) (log : Log) (b : Bool) (hand : Option ℕ) (act : Act)
+    → (if b then Some (Sends U (Held (time_at (bound s log))) hand) else None) ≡ Some act → Goes log act
+held_goes s log true hand act e =
+    goes_some log (Sends U (Held (time_at (bound s log))) hand) act (goes_one log U (Held (time_at (bound s log))) hand refl) e
+held_goes s log false hand act e = cc
+
+start_if : (s : Setting) (log : Log) (b : Bool) (c : ℕ) (o : Option Queued) (act : Act)
+    → (if b then start_of s.catalogue (view_of s log) c o else None) ≡ Some act → Goes log act
+start_if s log true c None act e = cc
+start_if s log true c (Some q) act e = goes_some log (start_at s c log q) act (start_goes s log c q) e
+start_if s log false c o act e = cc
+
+pub t_goes : (s : Setting) (bases : Bases) (log : Log) (act : Act) → IsDue s.catalogue bases (view_of s log) act → Goes log act
+t_goes s bases log act (by_exchange k c p e) =
+    let r = in_mapped (class_view s log) (runs s) k c p in
+    attempt_goes s log bases r.0 (active s r.0 log) act refl (subst (λ v. exchange_due s.catalogue bases v ≡ Some act) (sym r.2) e)
+t_goes s bases log act (by_ask k n c q p r e) = null_goes log q (q.class == c.class) _ act (was_asked_of log n q r) e
+t_goes s bases log act (by_hold e) = held_goes s log _ _ act e
+t_goes s bases log act (by_start k c p e) = start_if s log _ c.class (head_of c.queue) act e
+
+pub u_goes : (s : Setting) (log : Log) (act : Act) → IsStepU s log act → Goes log act
+u_goes s log act = u_way s log act (Goes log)
+    (λ q i z r. start_goes s log 0 q)
+    (λ b a i. commit_goes s log 0 b a)
+    (λ d m a e. goes_one log (D (dm_no d)) m None (asks_to_d log a.ts 0 d m e))
+    (λ t ts i p. goes_one log (T (tm_no t)) (Release ts) None tt)
+    (λ t e. goes_one log (T (tm_no t)) Hold None tt)

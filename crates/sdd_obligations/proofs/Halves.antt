@@ -1,0 +1,211 @@
+-- An exchange in lockstep, by the turns of both sides; and what each side keeps of it.
+use Rattle.std.proofs.Common.{ℕ, ◌++◌, ◌<◌, ◌==◌, ◌∙◌, ◌∷◌, ◌≡◌, ◌≤◌, Bool, List, None, Option, Some, [], ap, arith, false, if◌then◌else◌, inl, inr, length, map, not, refl, slice_get, subst, suc, sym, true, zero}
+use Rattle.std.proofs.Math.Decide.{dec_le}
+use Rattle.std.proofs.lemmas.Bool.{eqb-true}
+use Rattle.sdd_base.specs.Numbers.{dm_no}
+use Rattle.sdd_base.specs.Sites.{number_of}
+use Rattle.sdd_base.specs.Words.{head_of}
+use Rattle.sdd_base.specs.declared.site.Site.TheVariants.{D}
+use Rattle.sdd_wire.specs.Piped.{goes_through, time_of}
+use Rattle.sdd_wire.specs.declared.msg.Msg.{Msg}
+use Rattle.sdd_wire.specs.declared.msg.Msg.TheVariants.{Read}
+use Rattle.sdd_module.specs.SiteLog.{Act, Did, Each, Handed, Redeclared, Setting, Submits, Ticked, sends_of_act}
+use Rattle.sdd_attempt.specs.Attempts.{Attempt, active}
+use Rattle.sdd_attempt.specs.Fits.{is_read}
+use Rattle.sdd_dm.specs.Pipes.{pipe}
+use Rattle.sdd_pipe.specs.Pipe.{Pipe, head}
+use Rattle.sdd_log.specs.Entries.{Given, Log}
+use Rattle.sdd_log.specs.Locals.{local_of, setting_of}
+use Rattle.sdd_log.specs.Permitted.{IsPermitted}
+use Rattle.sdd_obligations.proofs.Asking.{in_turn}
+use Rattle.sdd_obligations.proofs.Hearing.{AtTurn, InTurn, IsTimely}
+use Rattle.sdd_obligations.proofs.Held.{IsAlone, IsHeldAt}
+use Rattle.sdd_obligations.proofs.Sources.{home_first, source_is_home}
+use Rattle.sdd_obligations.proofs.Telling.{IsHomeOf, head_through, has_turn}
+use Rattle.sdd_obligations.proofs.Replying.{HasTurnAt, IsAskedInTurn}
+use Rattle.sdd_obligations.specs.Stages.{IsStage, agreed, answer_goes, flight, question_goes}
+use Rattle.sdd_obligations.specs.Turns.{Asks, MayAnswer, MayAsk, Refused, Silent, Told, Turn, answers, is_a_read, is_a_refusal, is_exchanging, questions, told, turn_at, turn_with, uses_held}
+use Rattle.sdd_invariants.proofs.Times.{timed}
+use Rattle.sdd_invariants.proofs.ClassOrder.{in_class_order}
+use Rattle.sdd_invariants.proofs.InPipe.{in_pipe, times_are}
+use Rattle.sdd_invariants.proofs.Split.{processed_stays}
+use Rattle.sdd_invariants.specs.Seen.{all_of, class_puts, pipe_at}
+use Rattle.sdd_invariants.proofs.Bools.{and_left, both, if_way, not_both, same_number, same_or_not}
+use Rattle.sdd_invariants.proofs.Lists.{at_seam, in_left, place_within}
+use Rattle.sdd_invariants.specs.Orders.{AllLe}
+use Rattle.sdd_invariants.specs.Steps.{home, limit_of}
+use Rattle.sdd_invariants.specs.Traffic.{puts_to, times_in}
+use Rattle.sdd_invariants.proofs.Fair.{d_fair, home_fair}
+use Rattle.sdd_module.specs.SiteLog as site
+
+never : {A : Type 0} (b : Bool) → b ≡ true → b ≡ false → A
+never b e f = absurd (not_both b e f)
+
+abbrev pub home_log : Given → ℕ → Log → site.Log
+home_log g c log = local_of g (home g.catalogue c) log
+
+abbrev pub data_log : Given → ℕ → Log → site.Log
+data_log g d log = local_of g (D (dm_no d)) log
+
+-- nothing of the class with a greater time was put to the module
+abbrev pub IsLast : Given → ℕ → ℕ → ℕ → Log → Type 0
+IsLast g ts c d log = AllLe ts (times_in c (puts_to (D (dm_no d)) (home_log g c log)))
+
+abbrev pub StageAt : Given → ℕ → ℕ → ℕ → Log → Type 0
+StageAt g ts c d log =
+    IsStage (turn_at ts c d (home_log g c log)) (turn_with ts c (home g.catalogue c) (data_log g d log))
+    (questions ts c (flight g (home g.catalogue c) (D (dm_no d)) log))
+    (answers ts c (flight g (D (dm_no d)) (home g.catalogue c) log))
+
+pub record IsSpoken (g : Given) (c : ℕ) (log : Log) : Type 0 where
+  pub stages : (ts d : ℕ) → StageAt g ts c d log
+  pub timely_at : Each (IsTimely c) (home_log g c log)
+  pub timely_with : (d : ℕ) → Each (IsAskedInTurn c (home g.catalogue c)) (data_log g d log)
+  pub held : (ts d : ℕ) → IsLast g ts c d log → IsHeldAt (setting_of g (D (dm_no d))) ts c (home g.catalogue c) (data_log g d log)
+
+-- each side's half
+
+pub home_turns : (g : Given) (c : ℕ) (log : Log) → IsPermitted g log → IsSpoken g c log
+    → InTurn (setting_of g (home g.catalogue c)) c (home_log g c log)
+home_turns g c log h i =
+    in_turn (setting_of g (home g.catalogue c)) c (home_log g c log) (home_fair g c log h) (home_first g c log h) i.timely_at
+
+pub home_source : (g : Given) (c d : ℕ) → IsHomeOf (setting_of g (D (dm_no d))) c (home g.catalogue c)
+home_source g c d = source_is_home (setting_of g (D (dm_no d))) c
+
+pub data_turns : (g : Given) (ts c d : ℕ) (log : Log) → IsPermitted g log → IsSpoken g c log
+    → HasTurnAt ts c (home g.catalogue c) (data_log g d log)
+data_turns g ts c d log h i =
+    has_turn (setting_of g (D (dm_no d))) ts c (home g.catalogue c) (data_log g d log) (home_source g c d) (d_fair g (dm_no d) log h) (i.timely_with d)
+
+-- an attempt that exchanges rows is the active one
+
+told_quiet : (v : Turn) (x : Msg) → MayAnswer v x → is_exchanging (told x v) ≡ false
+told_quiet Silent x h = absurd h
+told_quiet (Asks ns q) x h = if_way (λ w. is_exchanging w ≡ false) (is_a_refusal x) Refused (Told ns q) refl refl
+told_quiet (Told ns q) x h = absurd h
+told_quiet Refused x h = absurd h
+
+may_ask_quiet : {A : Type 0} (w : Turn) (m : Msg) → MayAsk w m → is_exchanging w ≡ true → A
+may_ask_quiet Silent m h e = cc
+may_ask_quiet (Asks ns q) m h e = absurd h
+may_ask_quiet (Told ns q) m h e = cc
+may_ask_quiet Refused m h e = cc
+
+exchanging_home : (v w : Turn) (qs xs : List Msg) → IsStage v w qs xs → is_exchanging w ≡ true → is_exchanging v ≡ true
+exchanging_home v w qs xs (agreed s q x) e = ap is_exchanging s ∙ e
+exchanging_home v w qs xs (question_goes m q x s a) e = may_ask_quiet w m a e
+exchanging_home v w qs xs (answer_goes y q x s a) e = never (is_exchanging w) e (ap is_exchanging s ∙ told_quiet v y a)
+
+pub active_of : (ts d : ℕ) (o : Option Attempt) (v : Turn) → AtTurn ts d o v → is_exchanging v ≡ true
+    → (a : Attempt) × (o ≡ Some a) × (a.ts ≡ ts)
+active_of ts d None v h e = never (is_exchanging v) e h
+active_of ts d (Some a) v h e = elim (same_or_not a.ts ts) [ inl p ↦ (a, refl, p) | inr p ↦ never (is_exchanging v) e (h.1 p) ]
+
+pub exchanging_active : (g : Given) (ts c d : ℕ) (log : Log) → IsPermitted g log → IsSpoken g c log
+    → is_exchanging (turn_with ts c (home g.catalogue c) (data_log g d log)) ≡ true
+    → (a : Attempt) × (active (setting_of g (home g.catalogue c)) c (home_log g c log) ≡ Some a) × (a.ts ≡ ts)
+exchanging_active g ts c d log h i e =
+    active_of ts d (active (setting_of g (home g.catalogue c)) c (home_log g c log)) (turn_at ts c d (home_log g c log)) ((home_turns g c log h i).turns ts d)
+    (exchanging_home _ _ _ _ (i.stages ts d) e)
+
+-- nothing of its class with a greater time is put
+pub active_last : (g : Given) (c d : ℕ) (log : Log) (a : Attempt) → IsPermitted g log → number_of (home g.catalogue c) ≤ 63
+    → active (setting_of g (home g.catalogue c)) c (home_log g c log) ≡ Some a → IsLast g a.ts c d log
+active_last g c d log a h small e =
+    subst (λ k. AllLe k (times_in c (puts_to (D (dm_no d)) (home_log g c log)))) (ap (limit_of _) e)
+    (timed (setting_of g (home g.catalogue c)) c (D (dm_no d)) (home_log g c log) small
+    (home_fair g c log h)).within
+
+le_at : (k : ℕ) (ms : List Msg) (j : ℕ) (m : Msg) → AllLe k (map time_of ms) → slice_get ms j ≡ Some m → time_of m ≤ k
+le_at k [] j m h e = cc
+le_at k (x ∷ ms) zero m h e = let p : x ≡ m = cc in subst (λ y. time_of y ≤ k) p h.0
+le_at k (x ∷ ms) (suc j) m h e = le_at k ms j m h.1 e
+
+last_at : (g : Given) (ts c d : ℕ) (log : Log) (j : ℕ) (m : Msg) → IsLast g ts c d log → slice_get (class_puts g c (dm_no d) log) j ≡ Some m
+    → time_of m ≤ ts
+last_at g ts c d log j m h e =
+    le_at ts (class_puts g c (dm_no d) log) j m (subst (AllLe ts) (times_are c (puts_to (D (dm_no d)) (home_log g c log))) h) e
+
+read_time : (ts c : ℕ) (m : Msg) → is_read ts c m ≡ true → time_of m ≡ ts
+read_time ts c (Read t k txn attempt conds uses) e = eqb-true t.0 ts (and_left (t.0 == ts) (k.0 == c) e)
+read_time ts c m e = cc
+
+-- a READ of an attempt for which rows are held was put
+record WasPut (g : Given) (ts c d : ℕ) (log : Log) : Type 0 where
+  place : ℕ
+  read : Msg
+  there : slice_get (class_puts g c (dm_no d) log) place ≡ Some read
+  is : is_read ts c read ≡ true
+  processed : place < length (pipe c (data_log g d log)).processed
+
+was_put_for : (g : Given) (ts c d : ℕ) (log : Log) (ns : List ℕ) → IsPermitted g log → IsSpoken g c log
+    → uses_held (turn_with ts c (home g.catalogue c) (data_log g d log)) ≡ Some ns → WasPut g ts c d log
+was_put_for g ts c d log ns h i e =
+    let r = (data_turns g ts c d log h i).was_read ns e in
+    let p = in_pipe g c (dm_no d) log h in
+    record {
+      place = r.place;
+      read = r.read;
+      there =
+          subst (λ l. slice_get l r.place ≡ Some r.read) (sym p.1)
+          (processed_stays (pipe_at g c (dm_no d) log) p.0 r.place r.read r.there);
+      is = r.is;
+      processed =
+          place_within (pipe c (data_log g d log)).processed r.place r.read r.there;
+    }
+
+not_read_held : (b : Bool) (ns : List ℕ) → not b ≡ true → (if b then None else Some ns) ≡ Some ns
+not_read_held true ns e = cc
+not_read_held false ns e = refl
+
+held_if_exchanging : (v : Turn) → is_exchanging v ≡ true → (ns : List ℕ) × (uses_held v ≡ Some ns)
+held_if_exchanging Silent e = cc
+held_if_exchanging (Asks ns m) e = (ns, not_read_held (is_a_read m) ns e)
+held_if_exchanging (Told ns m) e = cc
+held_if_exchanging Refused e = cc
+
+-- the READ of a class with this time, at the head of its pipe
+is_read_at : (ts c : ℕ) (m : Msg) → is_a_read m ≡ true → goes_through c m ≡ true → time_of m ≡ ts → is_read ts c m ≡ true
+is_read_at ts c (Read t k txn attempt conds uses) e f z =
+    both (t.0 == ts) (k.0 == c) (subst (λ n. (t.0 == n) ≡ true) z (same_number t.0)) f
+is_read_at ts c m e f z = cc
+
+next_in : (ps us : List Msg) (m : Msg) → head_of us ≡ Some m → slice_get (ps ++ us) (length ps) ≡ Some m
+next_in ps [] m e = cc
+next_in ps (y ∷ us) m e = at_seam ps us y ∙ e
+
+head_in : (p : Pipe) (m : Msg) → head p ≡ Some m → slice_get (all_of p) (length p.processed) ≡ Some m
+head_in p m e = next_in p.processed p.unprocessed m e
+
+pub alone : (g : Given) (ts c d : ℕ) (log : Log) → IsPermitted g log → number_of (home g.catalogue c) ≤ 63 → IsSpoken g c log
+    → IsLast g ts c d log → IsAlone (setting_of g (D (dm_no d))) ts c (home g.catalogue c) (data_log g d log)
+alone g ts c d log h small i last = record {
+  has = λ t. data_turns g t c d log h i;
+  only = λ ns e t x.
+      (let a = exchanging_active g t c d log h i x in
+      let own = was_put_for g ts c d log ns h i e in
+      let o = held_if_exchanging (turn_with t c (home g.catalogue c) (data_log g d log)) x in
+      let other = was_put_for g t c d log o.0 h i o.1 in
+      let up = last_at g a.0.ts c d log own.place own.read (active_last g c d log a.0 h small a.1) own.there in
+      let down = last_at g ts c d log other.place other.read last other.there in
+      let z1 = read_time ts c own.read own.is in
+      let z2 = read_time t c other.read other.is in
+      omega (arith, a.2, up, down, z1, z2));
+  no_read = λ ns e m at_head r.
+      (let own = was_put_for g ts c d log ns h i e in
+      let p = in_pipe g c (dm_no d) log h in
+      let here : slice_get (class_puts g c (dm_no d) log) (length (pipe c (data_log g d log)).processed) ≡ Some m =
+      subst (λ l. slice_get l (length (pipe c (data_log g d log)).processed) ≡ Some m) (sym p.1)
+      (in_left (all_of (pipe_at g c (dm_no d) log)) p.0 (length (pipe c (data_log g d log)).processed) m
+      (head_in (pipe c (data_log g d log)) m at_head)) in
+      let le = last_at g ts c d log (length (pipe c (data_log g d log)).processed) m last here in
+      let z = read_time ts c own.read own.is in
+      let same : time_of m ≡ ts = elim (dec_le ts (time_of m)) [
+        | yes l ↦ omega (arith, l, le)
+        | no n ↦ (let lt = in_class_order g c (dm_no d) log (length (pipe c (data_log g d log)).processed)
+            own.place m own.read h small here own.there (omega (arith, n, z)) in
+            let w = own.processed in absurd (omega (arith, lt, w)))
+      ] in
+      is_read_at ts c m r (head_through c (data_log g d log) m at_head) same);
+}

@@ -1,0 +1,269 @@
+-- An answer that is handed in turn to a site that makes attempts keeps its turns.
+use Rattle.std.proofs.Common.{ℕ, ◌&&◌, ◌<◌, ◌==◌, ◌∙◌, ◌∷◌, ◌≡◌, Bool, List, None, Option, Some, [], ap, arith, cond, false, if◌then◌else◌, inl, inr, not, refl, subst, sym, true}
+use Rattle.sdd_base.specs.Numbers.{dm_no}
+use Rattle.sdd_base.specs.Words.{contains}
+use Rattle.sdd_base.specs.declared.site.Site.{Site}
+use Rattle.sdd_base.specs.declared.site.Site.TheVariants.{D, T, U}
+use Rattle.sdd_wire.specs.declared.msg.Msg.{Msg}
+use Rattle.sdd_wire.specs.declared.msg.Msg.TheVariants.{Fetch, Read, Reduce, Reject, Ship}
+use Rattle.sdd_module.specs.SiteLog.{Did, Entry, Handed, Log, Redeclared, Setting, Submits, Ticked}
+use Rattle.sdd_attempt.specs.Attempts.{Attempt, active, active_handed, rejects}
+use Rattle.sdd_attempt.specs.Exchange.{Exchange, Fetching, Over, Phase, Reading, Reducing, Shipping, after_hand, is_over}
+use Rattle.sdd_attempt.specs.Fits.{uses_at}
+use Rattle.sdd_obligations.proofs.AtTurn.{IsNext, StandsAt, answered_last, apart, awaited, awaits, hand_at, hand_not, is_fetch_of, is_reduce_of, silent_not_asks, told_not_asks, unsent}
+use Rattle.sdd_obligations.proofs.Modules.{firsts}
+use Rattle.sdd_obligations.specs.Turns.{Asks, MayAnswer, Refused, Replies, RepliesToFetch, RepliesToReduce, RepliesToShip, Silent, Told, Turn, answers, asked, asked_by, is_a_read, is_a_refusal, is_a_ship, is_answer, is_exchanging, is_question, questions, told, told_by, turn_at}
+use Rattle.sdd_invariants.proofs.Clocks.{stamp_rises}
+use Rattle.sdd_invariants.proofs.Bools.{if_way, not_both, same_number, same_or_not}
+use Rattle.sdd_invariants.proofs.Exchanges.{hand_goes}
+use Rattle.sdd_invariants.specs.Orders.{IsStrict}
+use Rattle.sdd_invariants.specs.Steps.{is_reading, last_stamp}
+
+-- the turn of an attempt with timestamp ts at module d, where this is the active attempt of its class
+abbrev pub AtTurn : ℕ → ℕ → Option Attempt → Turn → Type 0
+AtTurn ts d None v = is_exchanging v ≡ false
+AtTurn ts d (Some a) v = (a.ts ≡ ts → StandsAt d a.exchange v) × ((a.ts == ts) ≡ false → is_exchanging v ≡ false)
+
+abbrev pub IsStrictOf : Option Attempt → Type 0
+IsStrictOf None = Unit {0}
+IsStrictOf (Some a) = IsStrict (firsts a.exchange.modules)
+
+pub record InTurn (s : Setting) (c : ℕ) (log : Log) : Type 0 where
+  pub turns : (ts d : ℕ) → AtTurn ts d (active s c log) (turn_at ts c d log)
+  pub fresh : (ts d : ℕ) → last_stamp s log < ts → turn_at ts c d log ≡ Silent
+  pub strict : IsStrictOf (active s c log)
+
+-- an answer that is handed is one that may come next
+abbrev pub IsTimely : ℕ → Log → Entry → Type 0
+IsTimely c log (Handed from m) =
+    (ts d : ℕ) → from ≡ D (dm_no d) → is_answer ts c m ≡ true → MayAnswer (turn_at ts c d log) m
+IsTimely c log (Ticked n) = Unit {0}
+IsTimely c log (Submits n txn) = Unit {0}
+IsTimely c log (Redeclared force t) = Unit {0}
+IsTimely c log (Did act) = Unit {0}
+
+-- turns
+
+pub told_one : (ts c : ℕ) (b : Bool) (m : Msg) (v : Turn)
+    → told_by (answers ts c (if b then m ∷ [] else [])) v ≡ (if b && is_answer ts c m then told m v else v)
+told_one ts c false m v = refl
+told_one ts c true m v =
+    elim (is_answer ts c m) as (λ x. told_by (cond x (m ∷ []) []) v ≡ (if x then told m v else v)) [ true ↦ refl | false ↦ refl ]
+
+pub asked_one : (ts c : ℕ) (b : Bool) (m : Msg) (v : Turn)
+    → asked_by (questions ts c (if b then m ∷ [] else [])) v ≡ (if b && is_question ts c m then asked m v else v)
+asked_one ts c false m v = refl
+asked_one ts c true m v =
+    elim (is_question ts c m) as (λ x. asked_by (cond x (m ∷ []) []) v ≡ (if x then asked m v else v)) [ true ↦ refl | false ↦ refl ]
+
+-- an answer may come only to a question
+pub record IsAskedBy (v : Turn) (m : Msg) : Type 0 where
+  pub uses : List ℕ
+  pub question : Msg
+  pub is : v ≡ Asks uses question
+  pub replies : Replies uses question m
+
+pub answers_asked : (v : Turn) (m : Msg) → MayAnswer v m → IsAskedBy v m
+answers_asked Silent m h = absurd h
+answers_asked (Asks ns q) m h = record { uses = ns; question = q; is = refl; replies = h }
+answers_asked (Told ns q) m h = absurd h
+answers_asked Refused m h = absurd h
+
+pub told_is : (v : Turn) (ns : List ℕ) (q m : Msg) → v ≡ Asks ns q → is_a_refusal m ≡ false → told m v ≡ Told ns q
+told_is v ns q m e f = ap (told m) e ∙ ap (λ (b : Bool). if b then Refused else Told ns q) f
+
+pub quiet_told : (m : Msg) (v : Turn) → is_exchanging v ≡ false → is_exchanging (told m v) ≡ false
+quiet_told m Silent e = refl
+quiet_told m (Asks ns q) e = if_way (λ w. is_exchanging w ≡ false) (is_a_refusal m) Refused (Told ns q) refl refl
+quiet_told m (Told ns q) e = refl
+quiet_told m Refused e = refl
+
+quiet_if : (b : Bool) (m : Msg) (v : Turn) → is_exchanging v ≡ false → is_exchanging (if b then told m v else v) ≡ false
+quiet_if b m v e = if_way (λ w. is_exchanging w ≡ false) b (told m v) v (quiet_told m v e) e
+
+silent_if : (b : Bool) (m : Msg) (v : Turn) → v ≡ Silent → (if b then told m v else v) ≡ Silent
+silent_if b m v e = if_way (λ w. w ≡ Silent) b (told m v) v (ap (told m) e) e
+
+-- a rejection answers a READ
+
+reject_no_fetch : {A : Type 0} (u : ℕ) (m : Msg) → is_a_refusal m ≡ true → RepliesToFetch u m → A
+reject_no_fetch u (Reject t k by w) e h = absurd h
+reject_no_fetch u m e h = cc
+
+reject_no_reduce : {A : Type 0} (u : ℕ) (m : Msg) → is_a_refusal m ≡ true → RepliesToReduce u m → A
+reject_no_reduce u (Reject t k by w) e h = absurd h
+reject_no_reduce u m e h = cc
+
+reject_no_ship : {A : Type 0} (ns : List ℕ) (m : Msg) → is_a_refusal m ≡ true → RepliesToShip ns m → A
+reject_no_ship ns (Reject t k by w) e h = absurd h
+reject_no_ship ns m e h = cc
+
+rejected_read : (ns : List ℕ) (q m : Msg) → is_a_refusal m ≡ true → Replies ns q m → is_a_read q ≡ true
+rejected_read ns (Read t k txn attempt conds uses) m e h = refl
+rejected_read ns (Fetch t k u col) m e h = reject_no_fetch u m e h
+rejected_read ns (Reduce t k u col vs) m e h = reject_no_reduce u m e h
+rejected_read ns (Ship t k) m e h = reject_no_ship ns m e h
+rejected_read ns q m e h = absurd h
+
+never : {A : Type 0} (b : Bool) → b ≡ true → b ≡ false → A
+never b e f = absurd (not_both b e f)
+
+read_no_fetch : (n : ℕ) (m : Msg) → is_a_read m ≡ true → is_fetch_of n m ≡ false
+read_no_fetch n (Read t k txn attempt conds uses) e = refl
+read_no_fetch n m e = cc
+
+read_no_reduce : (n : ℕ) (m : Msg) → is_a_read m ≡ true → is_reduce_of n m ≡ false
+read_no_reduce n (Read t k txn attempt conds uses) e = refl
+read_no_reduce n m e = cc
+
+read_no_ship : (m : Msg) → is_a_read m ≡ true → is_a_ship m ≡ false
+read_no_ship (Read t k txn attempt conds uses) e = refl
+read_no_ship m e = cc
+
+awaits_read : (p : Phase) (q : Msg) → awaits p q ≡ true → is_a_read q ≡ true → is_reading p ≡ true
+awaits_read Reading q e f = refl
+awaits_read (Fetching v) q e f = never (is_fetch_of v.source.part q) e (read_no_fetch v.source.part q f)
+awaits_read (Reducing v) q e f = never (is_reduce_of v.target.part q) e (read_no_reduce v.target.part q f)
+awaits_read Shipping q e f = never (is_a_ship q) e (read_no_ship q f)
+awaits_read Over q e f = cc
+
+reading_awaits : (p : Phase) (q : Msg) → is_reading p ≡ true → awaits p q ≡ true → is_a_read q ≡ true
+reading_awaits Reading q e f = f
+reading_awaits _ q e f = cc
+
+over_awaits : {A : Type 0} (p : Phase) (q : Msg) → is_over p ≡ true → awaits p q ≡ true → A
+over_awaits Over q e f = cc
+over_awaits _ q e f = cc
+
+-- what is known of a module whose question has no answer
+pub record IsAwaited (d : ℕ) (x : Exchange) (ns : List ℕ) (q : Msg) : Type 0 where
+  pub phase : awaits x.phase q ≡ true
+  pub lacks : contains x.lacks d ≡ true
+  pub uses : uses_at x.modules d ≡ ns
+
+pub is_awaited : (d : ℕ) (x : Exchange) (v : Turn) (ns : List ℕ) (q : Msg) → StandsAt d x v → v ≡ Asks ns q → IsAwaited d x ns q
+is_awaited d x v ns q (unsent m r ms a b e s u w f g) z = told_not_asks v ms ns r q e z
+is_awaited d x v ns q (awaited m ms a b e w f g) z =
+    let both : Asks ms m ≡ Asks ns q = sym e ∙ z in
+    let same_uses : ms ≡ ns = cc in
+    let same_question : m ≡ q = cc in
+    record { phase = subst (λ y. awaits x.phase y ≡ true) same_question w; lacks = b; uses = f ∙ same_uses }
+is_awaited d x v ns q (answered_last r ms a b e s f g) z = told_not_asks v ms ns r q e z
+is_awaited d x v ns q (apart a b e g) z = silent_not_asks v ns q e z
+
+-- while READs are awaited, and once all is over, no rows are
+quiet_reading : (d : ℕ) (x : Exchange) (v : Turn) → is_reading x.phase ≡ true → StandsAt d x v → is_exchanging v ≡ false
+quiet_reading d x v r (unsent m q ms a b e s u w f g) = ap is_exchanging e
+quiet_reading d x v r (awaited m ms a b e w f g) = ap is_exchanging e ∙ ap not (reading_awaits x.phase m r w)
+quiet_reading d x v r (answered_last q ms a b e s f g) = ap is_exchanging e
+quiet_reading d x v r (apart a b e g) = ap is_exchanging e
+
+pub quiet_over : (d : ℕ) (x : Exchange) (v : Turn) → is_over x.phase ≡ true → StandsAt d x v → is_exchanging v ≡ false
+quiet_over d x v r (unsent m q ms a b e s u w f g) = ap is_exchanging e
+quiet_over d x v r (awaited m ms a b e w f g) = over_awaits x.phase m r w
+quiet_over d x v r (answered_last q ms a b e s f g) = ap is_exchanging e
+quiet_over d x v r (apart a b e g) = ap is_exchanging e
+
+-- a hand from a module
+
+abbrev pub Turns : Type 0
+Turns = ℕ → ℕ → Turn
+
+abbrev pub AllAtTurn : Option Attempt → Turns → Type 0
+AllAtTurn o v = (ts d : ℕ) → AtTurn ts d o (v ts d)
+
+-- the turns after a message of module n
+abbrev after_answer : ℕ → ℕ → Msg → Turns → Turns
+after_answer c n m v ts d = if (d == n) && is_answer ts c m then told m (v ts d) else v ts d
+
+refusal_is : (m : Msg) (ts c : ℕ) → rejects m ts c ≡ true → (is_answer ts c m ≡ true) × (is_a_refusal m ≡ true)
+refusal_is (Reject t k by w) ts c e = (e, refl)
+refusal_is m ts c e = cc
+
+not_refused : (m : Msg) (ts c : ℕ) → is_answer ts c m ≡ true → rejects m ts c ≡ false → is_a_refusal m ≡ false
+not_refused (Reject t k by w) ts c e f = never (is_answer ts c (Reject t k by w)) e f
+not_refused m ts c e f = refl
+
+pub quiet_but : (a : Attempt) (v : Turns) (ts d : ℕ) → AllAtTurn (Some a) v → (StandsAt d a.exchange (v ts d) → is_exchanging (v ts d) ≡ false)
+    → is_exchanging (v ts d) ≡ false
+quiet_but a v ts d h f = elim (same_or_not a.ts ts) [ inl p ↦ f ((h ts d).0 p) | inr p ↦ (h ts d).1 p ]
+
+rejected_turns : (c n : ℕ) (m : Msg) (a : Attempt) (v : Turns) → AllAtTurn (Some a) v → rejects m a.ts c ≡ true
+    → (is_answer a.ts c m ≡ true → MayAnswer (v a.ts n) m) → AllAtTurn None (after_answer c n m v)
+rejected_turns c n m a v h e timely ts d =
+    let r = refusal_is m a.ts c e in
+    let by = answers_asked (v a.ts n) m (timely r.0) in
+    let w = is_awaited n a.exchange (v a.ts n) by.uses by.question ((h a.ts n).0 refl) by.is in
+    let reading : is_reading a.exchange.phase ≡ true = awaits_read a.exchange.phase by.question w.phase (rejected_read by.uses by.question m r.1 by.replies) in
+    quiet_if ((d == n) && is_answer ts c m) m (v ts d) (quiet_but a v ts d h (λ i. quiet_reading d a.exchange (v ts d) reading i))
+
+next_of : (n d : ℕ) (b : Bool) (m : Msg) (v : Turn) (ns : List ℕ) (q : Msg) → b ≡ true → (d ≡ n → v ≡ Asks ns q)
+    → is_a_refusal m ≡ false → IsNext n d v (if (d == n) && b then told m v else v)
+next_of n d true m v ns q e f g = elim (same_or_not d n) [
+  | inl p ↦ (let z : (d == n) ≡ true = subst (λ y. (d == y) ≡ true) p (same_number d) in inl (p, ns, q, f p, rw z (told_is v ns q m (f p) g)))
+  | inr p ↦ inr (p, rw p refl)
+]
+next_of n d false m v ns q e f g = cc
+
+pub and_no : (a : Bool) → (a && false) ≡ false
+and_no true = refl
+and_no false = refl
+
+stands_on : (c n d : ℕ) (m : Msg) (a : Attempt) (v : Turns) → IsStrict (firsts a.exchange.modules) → AllAtTurn (Some a) v
+    → rejects m a.ts c ≡ false → (is_answer a.ts c m ≡ true → MayAnswer (v a.ts n) m)
+    → StandsAt d (after_hand a.ts c n m a.exchange) (after_answer c n m v a.ts d)
+stands_on c n d m a v strict h e timely = elim (is_answer a.ts c m) as (λ b. is_answer a.ts c m ≡ b
+    → StandsAt d (after_hand a.ts c n m a.exchange) (after_answer c n m v a.ts d)) [
+      | true ↦ λ f.
+          (let by = answers_asked (v a.ts n) m (timely f) in
+          let g : is_a_refusal m ≡ false = not_refused m a.ts c f e in
+          hand_at a.ts c n d a.exchange (v a.ts d) (after_answer c n m v a.ts d) m strict f g
+          (next_of n d (is_answer a.ts c m) m (v a.ts d) by.uses by.question f (λ p. ap (v a.ts) p ∙ by.is) g) ((h a.ts d).0 refl))
+      | false ↦ λ f. subst (λ x. StandsAt d x (after_answer c n m v a.ts d)) (sym (hand_not a.ts c n a.exchange m f))
+          (subst (λ (w : Turn). StandsAt d a.exchange w)
+          (sym (ap (λ (b : Bool). if (d == n) && b then told m (v a.ts d) else v a.ts d) f
+          ∙ ap (λ (b : Bool). if b then told m (v a.ts d) else v a.ts d) (and_no (d == n))))
+          ((h a.ts d).0 refl))
+    ] refl
+
+handed_turns : (c n : ℕ) (m : Msg) (o : Option Attempt) (v : Turns) → IsStrictOf o → AllAtTurn o v
+    → ((ts : ℕ) → is_answer ts c m ≡ true → MayAnswer (v ts n) m)
+    → AllAtTurn (active_handed c (D (dm_no n)) m o) (after_answer c n m v)
+handed_turns c n m None v strict h timely = λ ts d. quiet_if ((d == n) && is_answer ts c m) m (v ts d) (h ts d)
+handed_turns c n m (Some a) v strict h timely =
+    elim (rejects m a.ts c) as (λ b. rejects m a.ts c ≡ b
+    → AllAtTurn (if b then None else Some (record a { exchange = after_hand a.ts c n m a.exchange }))
+    (after_answer c n m v)) [
+      | true ↦ λ e. rejected_turns c n m a v h e (timely a.ts)
+      | false ↦ λ e ts d. (
+        λ p. subst (λ t. StandsAt d (after_hand a.ts c n m a.exchange) (after_answer c n m v t d)) p (stands_on c n d m a v strict h e (timely a.ts)),
+        λ p. quiet_if ((d == n) && is_answer ts c m) m (v ts d) ((h ts d).1 p),
+      )
+    ] refl
+
+handed_strict : (c n : ℕ) (m : Msg) (o : Option Attempt) → IsStrictOf o → IsStrictOf (active_handed c (D (dm_no n)) m o)
+handed_strict c n m None h = tt
+handed_strict c n m (Some a) h =
+    if_way IsStrictOf (rejects m a.ts c) None
+    (Some (record a { exchange = after_hand a.ts c n m a.exchange })) tt (subst (λ l. IsStrict (firsts l))
+    (sym (hand_goes a.ts c n m a.exchange).modules_same) h)
+
+pub turns_now : (o : Option Attempt) (v w : Turns) → ((ts d : ℕ) → w ts d ≡ v ts d) → AllAtTurn o v → AllAtTurn o w
+turns_now o v w e h ts d = subst (AtTurn ts d o) (sym (e ts d)) (h ts d)
+
+pub in_turn_hand : (s : Setting) (c : ℕ) (log : Log) (from : Site) (m : Msg) → IsTimely c log (Handed from m) → InTurn s c log
+    → InTurn s c (Handed from m ∷ log)
+in_turn_hand s c log U m timely h =
+    record { turns = h.turns; fresh = λ ts d l. h.fresh ts d (let r = stamp_rises s (Handed U m) log in omega arith); strict = h.strict }
+in_turn_hand s c log (T t) m timely h =
+    record { turns = h.turns; fresh = λ ts d l. h.fresh ts d (let r = stamp_rises s (Handed (T t) m) log in omega arith); strict = h.strict }
+in_turn_hand s c log (D n) m timely h = record {
+  turns = turns_now (active_handed c (D n) m (active s c log))
+      (after_answer c n.0 m (λ ts d. turn_at ts c d log)) (λ ts d. turn_at ts c d (Handed (D n) m ∷ log))
+      (λ ts d. told_one ts c (d == n.0) m (turn_at ts c d log)) (handed_turns c n.0 m (active s c log)
+      (λ ts d. turn_at ts c d log) h.strict h.turns (λ ts e. timely ts n.0 refl e));
+  fresh = λ ts d l. told_one ts c (d == n.0) m (turn_at ts c d log)
+      ∙ silent_if ((d == n.0) && is_answer ts c m) m (turn_at ts c d log) (h.fresh ts d (let r =
+      stamp_rises s (Handed (D n) m) log in omega arith));
+  strict = handed_strict c n.0 m (active s c log) h.strict;
+}

@@ -1,0 +1,108 @@
+-- What it means that the exchange of an attempt goes in step with the modules that it reads at.
+use Rattle.std.proofs.Common.{ℕ, ◌==◌, ◌||◌, ◌≡◌, inl, inr, Bool, true, false, List, [], ◌∷◌, ◌++◌, length, arith, refl, ap, sym, ◌∙◌, subst}
+use Rattle.std.specs.Prelude.{Option, Some}
+use Rattle.std.proofs.lemmas.Bool.{eqb-true}
+use Rattle.sdd_base.specs.Words.{contains}
+use Rattle.sdd_base.specs.declared.number.DmNo.{DmNo}
+use Rattle.sdd_base.specs.declared.site.Site.{Site}
+use Rattle.sdd_base.specs.declared.site.Site.TheVariants.{D}
+use Rattle.sdd_base.specs.declared.value.Value.{Value}
+use Rattle.sdd_exec.specs.Choices.{Has}
+use Rattle.sdd_wire.specs.declared.msg.Msg.{Msg}
+use Rattle.sdd_wire.specs.declared.msg.Msg.TheVariants.{Reduce}
+use Rattle.sdd_module.specs.SiteLog.{Act, Did, Records}
+use Rattle.sdd_semijoin.specs.Steps.{Move}
+use Rattle.sdd_attempt.specs.Attempts.{Attempt}
+use Rattle.sdd_attempt.specs.Exchange.{Exchange, Fetching, Over, Phase, Reading, Reducing, Shipping, first_phase}
+use Rattle.sdd_history.specs.declared.record.Rec.TheVariants.{Answer}
+use Rattle.sdd_invariants.proofs.Places.{longer}
+use Rattle.sdd_copy.specs.Frozen.{Frozen}
+use Rattle.sdd_log.specs.Entries.{Does, Given, Hand, Log}
+use Rattle.sdd_log.specs.Locals.{local_of}
+use Rattle.sdd_log.specs.Permitted.{IsPermitted}
+use Rattle.sdd_obligations.proofs.AtTurn.{StandsAt, answered_last, apart, awaited, awaits, unsent}
+use Rattle.sdd_obligations.proofs.Modules.{firsts}
+use Rattle.sdd_obligations.specs.Turns.{Asks, Replies, Silent, Turn, is_a_read, is_answer, is_question, turn_at}
+use Rattle.sdd_invariants.proofs.Bools.{not_both}
+use Rattle.sdd_invariants.specs.Steps.{home}
+use Rattle.sdd_obligations.specs.Fitting.{FitsGiven}
+use Rattle.sdd_obligations.proofs.Places.{IsAnswerAt, one_answer}
+use Rattle.sdd_obligations.proofs.Snapped.{answer_more}
+use Rattle.sdd_obligations.specs.Contents.{AsksPhase, Tells, is_shipped}
+use Rattle.sdd_obligations.proofs.Kept.{IsFrozen}
+use Rattle.sdd_obligations.proofs.Spaces.{kept_at, own, set}
+
+pub never : {A : Type 0} (b : Bool) → b ≡ true → b ≡ false → A
+never b e f = absurd (not_both b e f)
+
+pub contains_has : (xs : List ℕ) (n : ℕ) → contains xs n ≡ true → Has xs n
+contains_has [] n e = cc
+contains_has (x ∷ xs) n e = elim (x == n) as (λ b. (x == n) ≡ b → (b || contains xs n) ≡ true → Has (x ∷ xs) n) [
+  | true ↦ λ p q. inl (eqb-true x n p)
+  | false ↦ λ p q. inr (contains_has xs n q)
+] refl e
+
+-- the answer of a module to the question of its turn
+pub record IsAnswered (turn : Turn) (rows : Option Frozen) (m : Msg) : Type 0 where
+  pub uses : List ℕ
+  pub question : Msg
+  pub is : turn ≡ Asks uses question
+  pub replies : Replies uses question m
+  pub tells : is_a_read question ≡ false → (f : Frozen) × (rows ≡ Some f) × Tells question m f
+
+-- how the exchange of an active attempt and its modules go in step
+pub record InStep (g : Given) (c : ℕ) (log : Log) (a : Attempt) : Type 0 where
+  pub stands : (d : ℕ) → StandsAt d a.exchange (turn_at a.ts c d (local_of g (home g.catalogue c) log))
+  pub asks : AsksPhase a.ts c a.exchange (λ d. turn_at a.ts c d (local_of g (home g.catalogue c) log))
+  pub question : (from : Site) (d : DmNo) (n : ℕ) (m : Msg) → IsPermitted g (Hand from (D d) n m ∷ log) → is_question a.ts c m ≡ true
+      → (ns : List ℕ) × (turn_at a.ts c d.0 (local_of g (home g.catalogue c) log) ≡ Asks ns m)
+  pub answer : (d : DmNo) (n : ℕ) (m : Msg) → IsPermitted g (Hand (D d) (home g.catalogue c) n m ∷ log) → is_answer a.ts c m ≡ true
+      → IsAnswered (turn_at a.ts c d.0 (local_of g (home g.catalogue c) log)) (kept_at g c a.ts d.0 log) m
+
+-- a module whose answer is awaited is one of the exchange's
+pub awaited_there : (d : ℕ) (x : Exchange) (v : Turn) (ns : List ℕ) (q : Msg) → StandsAt d x v → v ≡ Asks ns q → contains (firsts x.modules) d ≡ true
+awaited_there d x v ns q (unsent m r ms a b e s u w f g) z = g
+awaited_there d x v ns q (awaited m ms a b e w f g) z = g
+awaited_there d x v ns q (answered_last r ms a b e s f g) z = g
+awaited_there d x v ns q (apart a b e g) z = let p : Silent ≡ Asks ns q = sym e ∙ z in cc
+
+-- a REDUCE that is awaited is that of the phase
+abbrev pub is_a_reduce : Msg → Bool
+is_a_reduce (Reduce t k u col vs) = true
+is_a_reduce _ = false
+
+pub reducing_is : (p : Phase) (q : Msg) → awaits p q ≡ true → is_a_reduce q ≡ true → (v : Move) × (p ≡ Reducing v)
+reducing_is (Reducing v) q a e = (v, refl)
+reducing_is Reading (Reduce t k u col vs) a e = cc
+reducing_is (Fetching v) (Reduce t k u col vs) a e = cc
+reducing_is Shipping (Reduce t k u col vs) a e = cc
+reducing_is Over q a e = cc
+reducing_is p q a e = cc
+
+abbrev pub col_of : Msg → ℕ × List Value
+col_of (Reduce t k u col vs) = (col, vs)
+col_of _ = (0, [])
+
+abbrev pub use_of : Msg → ℕ
+use_of (Reduce t k u col vs) = u
+use_of _ = 0
+
+-- an exchange that is over when it begins reads nothing
+pub none_read : {A : Type 0} (ms : List (ℕ × List ℕ)) (ds : List ℕ) (d : ℕ) → firsts ms ≡ ds → is_shipped (first_phase ms) ≡ true → Has ds d → A
+none_read [] ds d e ships k = absurd (subst (λ xs. Has xs d) (sym e) k)
+none_read (m ∷ ms) ds d e ships k = cc
+
+-- a READ isn't answered twice at a module
+pub again : (g : Given) → FitsGiven g → (c : ℕ) (d : DmNo) (act : Act) (log : Log) (ts : ℕ)
+    → IsPermitted g (Does (D d) act ∷ log) → own g d.0 (Does (D d) act ∷ log) ≡ Did act ∷ own g d.0 log
+    → IsFrozen (set g d.0) c ts act (own g d.0 log) → IsAnswerAt ts (own g d.0 log) → ⊥
+again g good c d act log ts h here r older =
+    let x = subst (λ l. (y : IsAnswerAt ts l) × (y.before ≡ r.answer.before)) (sym here) (r.answer, refl) in
+    let y = subst (λ l. (y : IsAnswerAt ts l) × (y.before ≡ older.before)) (sym here) (answer_more ts (Did act) (own g d.0 log) older, refl) in
+    let same : own g d.0 log ≡ older.before = sym r.before_is ∙ sym x.1 ∙ (one_answer g good.sound d (Does (D d) act ∷ log) ts h x.0 y.0).0 ∙ y.1 in
+    let long = longer older.later (Did (Records older.class (Answer older.txn older.attempt older.dm) older.sends)) older.before in
+    let size : length (own g d.0 log) ≡ length older.before = ap length same in
+    let all : length (own g d.0 log) ≡ length
+    (older.later ++ Did (Records older.class (Answer older.txn older.attempt older.dm) older.sends) ∷
+    older.before) = ap length older.is in
+    omega arith

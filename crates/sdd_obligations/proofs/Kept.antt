@@ -1,0 +1,230 @@
+-- What a data module keeps for an attempt, entry by entry.
+use Rattle.std.proofs.Common.{ℕ, ◌==◌, ◌&&◌, ◌≡◌, ◌⊎◌, inl, inr, Bool, true, false, List, [], ◌∷◌, refl, ap, sym, ◌∙◌}
+use Rattle.std.specs.Prelude.{Option, Some, None}
+use Rattle.std.specs.Bool.{if◌then◌else◌}
+use Rattle.std.proofs.lemmas.Bool.{eqb-true}
+use Rattle.sdd_base.specs.declared.number.ClassNo.{ClassNo}
+use Rattle.sdd_base.specs.declared.number.Ts.{Ts}
+use Rattle.sdd_base.specs.declared.value.Value.{Value}
+use Rattle.sdd_base.specs.declared.number.DmNo.{DmNo}
+use Rattle.sdd_base.specs.declared.condition.Cond.{Cond}
+use Rattle.sdd_base.specs.declared.number.TxnNo.{TxnNo}
+use Rattle.sdd_base.specs.declared.usage.Use.{Use}
+use Rattle.sdd_base.specs.declared.site.Site.{Site}
+use Rattle.sdd_history.specs.declared.record.Rec.{Rec}
+use Rattle.sdd_history.specs.declared.record.Rec.TheVariants.{Answer}
+use Rattle.sdd_wire.specs.declared.msg.Msg.{Msg}
+use Rattle.sdd_wire.specs.declared.msg.Msg.TheVariants.{Read, Reduce, Rows}
+use Rattle.sdd_module.specs.SiteLog.{Act, Did, Entry, Handed, Log, Records, Redeclared, Sends, Setting, Submits, Ticked}
+use Rattle.sdd_copy.specs.Frozen.{Frozen, frozen_for, reduced}
+use Rattle.sdd_pipe.specs.Pipe.{head}
+use Rattle.sdd_dm.specs.Copies.{copies, dated, frozen, frozen_at, is_answer, reduced_at}
+use Rattle.sdd_dm.specs.Pipes.{pipe}
+use Rattle.sdd_log.specs.Snapshots.{is_at}
+use Rattle.sdd_invariants.proofs.Bools.{same_number, same_or_not}
+use Rattle.sdd_obligations.proofs.ShippedAnswered.{uses_at_head}
+use Rattle.sdd_obligations.proofs.Places.{IsAnswerAt}
+use Rattle.sdd_obligations.proofs.Snapped.{answer_more}
+use Rattle.sdd_obligations.specs.Contents.{held_for, kept}
+
+-- rows are held for the attempt
+abbrev pub IsFor : ℕ → Option Frozen → Type 0
+IsFor ts None = ⊥
+IsFor ts (Some f) = f.ts ≡ ts
+
+own_first : (ts : ℕ) (f : Frozen) (o : Option Frozen) → f.ts ≡ ts → held_for ts (Some f) o ≡ Some f
+own_first ts f o e = ap (λ b. if b then Some f else o) (ap (λ n. n == ts) e ∙ same_number ts)
+
+other_first : (ts : ℕ) (f : Frozen) (o : Option Frozen) → (f.ts == ts) ≡ false → held_for ts (Some f) o ≡ o
+other_first ts f o e = ap (λ b. if b then Some f else o) e
+
+-- what is held for it is what is kept
+pub kept_now : (s : Setting) (c ts : ℕ) (log : Log) (f : Frozen) → frozen s c log ≡ Some f → f.ts ≡ ts → kept s c ts log ≡ Some f
+kept_now s c ts [] f e t = cc
+kept_now s c ts (x ∷ log) f e t = ap (λ o. held_for ts o (kept s c ts log)) e ∙ own_first ts f (kept s c ts log) t
+
+held_again : (s : Setting) (c ts : ℕ) (log : Log) (o : Option Frozen) → frozen s c log ≡ o → held_for ts o (kept s c ts log) ≡ kept s c ts log
+held_again s c ts log None e = refl
+held_again s c ts log (Some f) e = elim (same_or_not f.ts ts) [
+  | inl t ↦ own_first ts f (kept s c ts log) t ∙ sym (kept_now s c ts log f e t)
+  | inr n ↦ other_first ts f (kept s c ts log) n
+]
+
+-- an entry that leaves what is held leaves what is kept
+pub kept_same : (s : Setting) (c ts : ℕ) (x : Entry) (log : Log) → frozen s c (x ∷ log) ≡ frozen s c log → kept s c ts (x ∷ log) ≡ kept s c ts log
+kept_same s c ts x log e = ap (λ o. held_for ts o (kept s c ts log)) e ∙ held_again s c ts log (frozen s c log) refl
+
+-- so does one after which nothing is held
+pub kept_none : (s : Setting) (c ts : ℕ) (x : Entry) (log : Log) → frozen s c (x ∷ log) ≡ None → kept s c ts (x ∷ log) ≡ kept s c ts log
+kept_none s c ts x log e = ap (λ o. held_for ts o (kept s c ts log)) e
+
+-- a REDUCE for the attempt reduces what is kept
+pub record IsReduced (s : Setting) (c ts : ℕ) (from : Site) (m : Msg) (log : Log) : Type 0 where
+  pub t : Ts
+  pub of : ClassNo
+  pub number : ℕ
+  pub col : ℕ
+  pub values : List Value
+  pub is : m ≡ Reduce t of number col values
+  pub ts_is : t.0 ≡ ts
+  pub class_is : of.0 ≡ c
+  pub rows : Frozen
+  pub before : kept s c ts log ≡ Some rows
+  pub after : kept s c ts (Handed from m ∷ log) ≡ Some (reduced number col values rows)
+
+-- a hand leaves what is kept, or is such a REDUCE
+abbrev pub HandKeeps : Setting → ℕ → ℕ → Site → Msg → Log → Type 0
+HandKeeps s c ts from m log = (kept s c ts (Handed from m ∷ log) ≡ kept s c ts log) ⊎ IsReduced s c ts from m log
+
+reduce_keeps : (s : Setting) (c ts : ℕ) (from : Site) (t : Ts) (k : ClassNo) (u col : ℕ) (vs : List Value)
+    (log : Log) (o : Option Frozen) (b : Bool) → frozen s c log ≡ o → (k.0 == c) ≡ b
+    → HandKeeps s c ts from (Reduce t k u col vs) log
+reduce_keeps s c ts from t k u col vs log o false e f =
+    inl (kept_same s c ts (Handed from (Reduce t k u col vs)) log (ap (λ b. if b then reduced_at t.0 u col vs (frozen s c log) else frozen s c log) f))
+reduce_keeps s c ts from t k u col vs log None true e f =
+    inl (kept_none s c ts (Handed from (Reduce t k u col vs)) log
+    (ap (λ b. if b then reduced_at t.0 u col vs (frozen s c log) else frozen s c log) f
+    ∙ ap (reduced_at t.0 u col vs) e))
+reduce_keeps s c ts from t k u col vs log (Some r) true e f =
+    let now : frozen s c (Handed from (Reduce t k u col vs) ∷ log) ≡ (if r.ts == t.0 then Some (reduced u col vs r) else Some r) =
+    ap (λ b. if b then reduced_at t.0 u col vs (frozen s c log) else frozen s c log) f ∙ ap (reduced_at t.0 u col vs) e in
+    elim (same_or_not r.ts t.0) [
+      | inl own ↦ (let z : frozen s c (Handed from (Reduce t k u col vs) ∷ log) ≡ Some
+          (reduced u col vs r) = now ∙ ap (λ b. if b then Some (reduced u col vs r) else Some r)
+          (ap (λ n. r.ts == n) (sym own) ∙ same_number r.ts) in
+          elim (same_or_not r.ts ts) [
+            | inl mine ↦ inr (record {
+              t = t;
+              of = k;
+              number = u;
+              col = col;
+              values = vs;
+              is = refl;
+              ts_is = sym own ∙ mine;
+              class_is = eqb-true k.0 c f;
+              rows = r;
+              before = kept_now s c ts log r e mine;
+              after = kept_now s c ts (Handed from (Reduce t k u col vs) ∷ log) (reduced u col vs r) z mine;
+            })
+            | inr other ↦ inl (ap (λ o. held_for ts o (kept s c ts log)) z ∙ other_first ts (reduced u col vs r) (kept s c ts log) other)
+          ])
+      | inr not_own ↦ inl (kept_same s c ts (Handed from (Reduce t k u col vs)) log (now
+          ∙ ap (λ b. if b then Some (reduced u col vs r) else Some r) not_own ∙ sym e))
+    ]
+
+pub hand_keeps : (s : Setting) (c ts : ℕ) (from : Site) (m : Msg) (log : Log) → HandKeeps s c ts from m log
+hand_keeps s c ts from (Reduce t k u col vs) log = reduce_keeps s c ts from t k u col vs log (frozen s c log) (k.0 == c) refl refl
+hand_keeps s c ts from m log = inl (kept_same s c ts (Handed from m) log refl)
+
+-- an act leaves what is kept, or answers the attempt's READ and freezes its rows
+pub record IsFrozen (s : Setting) (c ts : ℕ) (act : Act) (log : Log) : Type 0 where
+  pub answer : IsAnswerAt ts (Did act ∷ log)
+  pub before_is : answer.before ≡ log
+  pub class_is : answer.class ≡ c
+  pub after : kept s c ts (Did act ∷ log) ≡ Some (frozen_for (copies (dated s answer.before)) ts (uses_at_head (head (pipe answer.class answer.before))))
+
+abbrev pub ActKeeps : Setting → ℕ → ℕ → Act → Log → Type 0
+ActKeeps s c ts act log = (kept s c ts (Did act ∷ log) ≡ kept s c ts log) ⊎ IsFrozen s c ts act log
+
+answer_keeps : (s : Setting) (c ts : ℕ) (txn : TxnNo) (attempt : ℕ) (dm : DmNo) (sends : List (Site × Msg))
+    (log : Log) (k : ℕ) (o : Option Msg) → k ≡ c → head (pipe k log) ≡ o
+    → frozen s c (Did (Records k (Answer txn attempt dm) sends) ∷ log) ≡ frozen_at (dated s log) o
+    → ActKeeps s c ts (Records k (Answer txn attempt dm) sends) log
+answer_keeps s c ts txn attempt dm sends log k (Some (Read t of tx n conds uses)) own e f = elim (same_or_not t.0 ts) [
+  | inl mine ↦ inr (record {
+    answer = record {
+      later = [];
+      class = k;
+      txn = txn;
+      attempt = attempt;
+      dm = dm;
+      sends = sends;
+      before =
+          log;
+      is = refl;
+      at = ap (is_at ts) e ∙ ap (λ n. n == ts) mine ∙ same_number ts;
+    };
+    before_is = refl;
+    class_is = own;
+    after = kept_now s c ts (Did (Records k (Answer txn attempt dm) sends) ∷ log) (frozen_for (copies (dated s log)) t.0 uses) f mine
+        ∙ ap (λ n. Some (frozen_for (copies (dated s log)) n uses)) mine ∙ ap (λ us. Some (frozen_for (copies (dated s log)) ts us)) (ap uses_at_head (sym e));
+  })
+  | inr other ↦ inl (ap (λ x. held_for ts x (kept s c ts log)) f ∙ other_first ts (frozen_for (copies (dated s log)) t.0 uses) (kept s c ts log) other)
+]
+answer_keeps s c ts txn attempt dm sends log k o own e f = inl (kept_none s c ts (Did (Records k (Answer txn attempt dm) sends)) log f)
+
+answer_acts : (s : Setting) (c ts : ℕ) (txn : TxnNo) (attempt : ℕ) (dm : DmNo) (sends : List (Site × Msg))
+    (log : Log) (k : ℕ) (b : Bool) → (k == c) ≡ b
+    → ActKeeps s c ts (Records k (Answer txn attempt dm) sends) log
+answer_acts s c ts txn attempt dm sends log k false e = inl (kept_same s c ts (Did (Records k (Answer txn attempt dm) sends)) log (rw e refl))
+answer_acts s c ts txn attempt dm sends log k true e =
+    let own : k ≡ c = eqb-true k c e in
+    answer_keeps s c ts txn attempt dm sends log k (head (pipe k log)) own refl
+    (ap (λ b. if b && true then frozen_at (dated s log) (head (pipe c log)) else frozen s c log) e
+    ∙ ap (λ j. frozen_at (dated s log) (head (pipe j log))) (sym own))
+
+no_answer : (b : Bool) (x y : Option Frozen) → (if b && false then x else y) ≡ y
+no_answer true x y = refl
+no_answer false x y = refl
+
+gives_up : (s : Setting) (c ts : ℕ) (to : Site) (t : Ts) (k : ClassNo) (rows : List (ℕ × List Value))
+    (hand : Option ℕ) (log : Log) (b : Bool) → (k.0 == c) ≡ b
+    → kept s c ts (Did (Sends to (Rows t k rows) hand) ∷ log) ≡ kept s c ts log
+gives_up s c ts to t k rows hand log true e = kept_none s c ts (Did (Sends to (Rows t k rows) hand)) log (ap (λ b. if b then None else frozen s c log) e)
+gives_up s c ts to t k rows hand log false e = kept_same s c ts (Did (Sends to (Rows t k rows) hand)) log (ap (λ b. if b then None else frozen s c log) e)
+
+-- a record that is no Answer, and a send, leave what is kept
+pub record_keeps : (s : Setting) (c ts k : ℕ) (r : Rec) (sends : List (Site × Msg)) (log : Log)
+    → is_answer r ≡ false → kept s c ts (Did (Records k r sends) ∷ log) ≡ kept s c ts log
+record_keeps s c ts k r sends log e =
+    kept_same s c ts (Did (Records k r sends)) log
+    (ap (λ b. if (k == c) && b then frozen_at (dated s log) (head (pipe c log)) else frozen s c log) e
+    ∙ no_answer (k == c) (frozen_at (dated s log) (head (pipe c log))) (frozen s c log))
+
+pub send_keeps : (s : Setting) (c ts : ℕ) (to : Site) (m : Msg) (hand : Option ℕ) (log : Log) → kept s c ts (Did (Sends to m hand) ∷ log) ≡ kept s c ts log
+send_keeps s c ts to (Rows t k rows) hand log = gives_up s c ts to t k rows hand log (k.0 == c) refl
+send_keeps s c ts to m hand log = kept_same s c ts (Did (Sends to m hand)) log refl
+
+pub act_keeps : (s : Setting) (c ts : ℕ) (act : Act) (log : Log) → ActKeeps s c ts act log
+act_keeps s c ts (Records k (Answer txn attempt dm) sends) log = answer_acts s c ts txn attempt dm sends log k (k == c) refl
+act_keeps s c ts (Records k r sends) log = inl (record_keeps s c ts k r sends log refl)
+act_keeps s c ts (Sends to m hand) log = inl (send_keeps s c ts to m hand log)
+
+-- rows are kept only where a READ of the attempt was answered
+
+for_more : (s : Setting) (c ts : ℕ) (x : Entry) (log : Log) (f : Frozen)
+    → kept s c ts (x ∷ log) ≡ kept s c ts log → ((g : Frozen) → kept s c ts log ≡ Some g
+    → IsAnswerAt ts log) → kept s c ts (x ∷ log) ≡ Some f → IsAnswerAt ts (x ∷ log)
+for_more s c ts x log f same h e = answer_more ts x log (h f (sym same ∙ e))
+
+pub kept_answered : (s : Setting) (c ts : ℕ) (log : Log) (f : Frozen) → kept s c ts log ≡ Some f → IsAnswerAt ts log
+kept_answered s c ts [] f e = cc
+kept_answered s c ts (Handed from m ∷ log) f e = elim (hand_keeps s c ts from m log) [
+  | inl same ↦ for_more s c ts (Handed from m) log f same (kept_answered s c ts log) e
+  | inr r ↦ answer_more ts (Handed from m) log (kept_answered s c ts log r.rows r.before)
+]
+kept_answered s c ts (Ticked n ∷ log) f e = for_more s c ts (Ticked n) log f (kept_same s c ts (Ticked n) log refl) (kept_answered s c ts log) e
+kept_answered s c ts (Submits n txn ∷ log) f e = for_more s c ts (Submits n txn) log f (kept_same s c ts (Submits n txn) log refl) (kept_answered s c ts log) e
+kept_answered s c ts (Redeclared force t ∷ log) f e =
+    for_more s c ts (Redeclared force t) log f (kept_same s c ts (Redeclared force t) log refl)
+    (kept_answered s c ts log) e
+kept_answered s c ts (Did act ∷ log) f e = elim (act_keeps s c ts act log) [
+  | inl same ↦ for_more s c ts (Did act) log f same (kept_answered s c ts log) e
+  | inr r ↦ r.answer
+]
+
+-- so does an Answer to another READ
+pub other_answer_keeps : (s : Setting) (c ts k : ℕ) (txn : TxnNo) (attempt : ℕ) (dm : DmNo)
+    (sends : List (Site × Msg)) (log : Log) (t : Ts) (of : ClassNo) (tx : TxnNo) (n : ℕ) (conds : List Cond)
+    (uses : List Use)
+    → head (pipe k log) ≡ Some (Read t of tx n conds uses) → (k ≡ c → (t.0 == ts) ≡ false)
+    → kept s c ts (Did (Records k (Answer txn attempt dm) sends) ∷ log) ≡ kept s c ts log
+other_answer_keeps s c ts k txn attempt dm sends log t of tx n conds uses e other = elim (same_or_not k c) [
+  | inl own ↦ (let now : frozen s c (Did (Records k (Answer txn attempt dm) sends) ∷ log) ≡ Some (frozen_for (copies (dated s log)) t.0 uses) =
+      ap (λ b. if b && true then frozen_at (dated s log) (head (pipe c log)) else frozen s c log)
+      (ap (λ j. j == c) own ∙ same_number c) ∙ ap (λ j. frozen_at (dated s log) (head (pipe j log)))
+      (sym own) ∙ ap (frozen_at (dated s log)) e in
+      ap (λ x. held_for ts x (kept s c ts log)) now ∙ other_first ts (frozen_for (copies (dated s log)) t.0 uses) (kept s c ts log) (other own))
+  | inr not_own ↦ kept_same s c ts (Did (Records k (Answer txn attempt dm) sends)) log
+      (ap (λ b. if b && true then frozen_at (dated s log) (head (pipe c log)) else frozen s c log) not_own)
+]

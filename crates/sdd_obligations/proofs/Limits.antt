@@ -1,0 +1,277 @@
+-- How many marks there are within the limits, how many messages on a link, and how many messages and transactions a site
+-- was handed and given.
+use Rattle.std.specs.Prelude.{nat_lt}
+use Rattle.std.proofs.Common.{ℕ, ◌&&◌, ◌+◌, ◌++◌, ◌∷◌, ◌≡◌, ◌≤◌, Bool, List, None, Option, Some, [], ap, arith, false, if◌then◌else◌, length, refl, subst, suc, sym, true}
+use Rattle.std.proofs.lemmas.Bool.Decides.{nat_tests}
+use Rattle.std.proofs.lemmas.List.{length-append}
+use Rattle.sdd_base.specs.Sites.{same_site, sites}
+use Rattle.sdd_base.specs.declared.event.Event.{Event}
+use Rattle.sdd_base.specs.declared.event.Event.TheVariants.{Submit, Tick}
+use Rattle.sdd_base.specs.declared.limits.TheConstants.{MAX_LINK_MESSAGES, MAX_RUN_EVENTS}
+use Rattle.sdd_base.specs.declared.site.Site.{Site}
+use Rattle.sdd_base.specs.declared.site.Site.TheVariants.{D, T, U}
+use Rattle.sdd_lang.specs.declared.transaction.Txn.{Txn}
+use Rattle.sdd_wire.specs.declared.msg.Msg.{Msg}
+use Rattle.sdd_module.specs.SiteLog.{Did, Force, Handed, Redeclared, Submits, Ticked, hands, sends_of_act, submits}
+use Rattle.sdd_net.specs.Links.{Call, Link, Puts, link, put, turned}
+use Rattle.sdd_log.specs.Entries.{Does, Entry, Given, Hand, Log, Mark, Notes, Redeclares, Round, Submitted, marks}
+use Rattle.sdd_log.specs.Lawful.{IsLawful, IsWithin, puts_past}
+use Rattle.sdd_log.specs.Locals.{force_at, local_of, redeclares, txn_at}
+use Rattle.sdd_log.specs.Permitted.{IsAllowed, IsPermitted}
+use Rattle.sdd_log.specs.Traffic.{calls_of, handed, puts, sent}
+use Rattle.sdd_invariants.proofs.Bools.{and_left, and_right, both, if_way, neither_left, neither_right}
+use Rattle.sdd_invariants.proofs.Sites.{site_is, site_self}
+use Rattle.sdd_invariants.proofs.Fair.{IsMarkEntry, allowed_mark}
+use Rattle.sdd_invariants.proofs.InOrder.{allowed_hand, delivered_within, handed_le}
+use Rattle.sdd_invariants.proofs.Made.{local_step}
+use Rattle.sdd_invariants.proofs.Sent.{sent_grows}
+use Rattle.sdd_invariants.specs.Made.{forced, given_to, made, made_by_mark, put_by, with_made}
+use Rattle.sdd_obligations.specs.Bounds.{AllFewTicks}
+use Rattle.sdd_obligations.proofs.OfNext.{IsThere, from_there, of_next}
+use Rattle.sdd_obligations.proofs.Sums.{total, total_raise, total_up}
+use Rattle.sdd_module.specs.SiteLog as site
+
+-- marks and messages within the limits
+
+not_past : (n k : ℕ) → nat_lt n k ≡ false → k ≤ n
+not_past n k e = grind (arith, nat_tests)
+
+pub marks_few : (log : Log) → IsWithin log → marks log ≤ MAX_RUN_EVENTS
+marks_few [] h = omega arith
+marks_few (Mark e ∷ log) h = not_past MAX_RUN_EVENTS (suc (marks log)) h.0
+marks_few (Redeclares t ∷ log) h = not_past MAX_RUN_EVENTS (suc (marks log)) h.0
+marks_few (Round es ∷ log) h = marks_few log h.1
+marks_few (Hand a b n m ∷ log) h = marks_few log h.1
+marks_few (Submitted at n ∷ log) h = marks_few log h.1
+marks_few (Notes ∷ log) h = marks_few log h.1
+marks_few (Does at act ∷ log) h = marks_few log h.1
+
+abbrev AllWithin : List (Call Msg) → Type 0
+AllWithin calls = (a b : Site) → length (link a b calls).there.sent ≤ MAX_LINK_MESSAGES
+
+-- a put on a link is one message more there, and none on another link
+put_within : (n : ℕ) (c d : Bool) (m : Msg) (l : Link Msg) → (c ≡ true → suc (length l.there.sent) ≤ n) → length l.there.sent ≤ n
+    → length (if c then put m l else if d then turned (put m (turned l)) else l).there.sent ≤ n
+put_within n true d m l f h = let e = length-append l.there.sent (m ∷ []) in let p = f refl in omega (arith, e, p)
+put_within n false true m l f h = h
+put_within n false false m l f h = h
+
+same_link : (P : Site → Site → Type 0) (a b from to : Site) → (same_site a from && same_site b to) ≡ true → P from to → P a b
+same_link P a b from to e x =
+    subst (λ f. P f b) (sym (site_is a from (and_left _ _ e))) (subst (λ t. P from t) (sym (site_is b to (and_right _ _ e))) x)
+
+one_within : (at to : Site) (m : Msg) (calls : List (Call Msg)) → AllWithin calls
+    → suc (length (link at to calls).there.sent) ≤ MAX_LINK_MESSAGES → AllWithin (Puts at to m ∷ calls)
+one_within at to m calls w l a b =
+    put_within MAX_LINK_MESSAGES (same_site a at && same_site b to) (same_site a to && same_site b at) m (link a b calls)
+    (λ e. same_link (λ x y. suc (length (link x y calls).there.sent) ≤ MAX_LINK_MESSAGES) a b at to e l) (w a b)
+
+puts_within : (at : Site) (sends : List (Site × Msg)) (calls : List (Call Msg)) → AllWithin calls → puts_past calls at sends ≡ false
+    → AllWithin (puts at sends calls)
+puts_within at [] calls w e = w
+puts_within at (s ∷ sends) calls w e =
+    let l = not_past MAX_LINK_MESSAGES (suc (length (link at s.0 calls).there.sent)) (neither_left _ _ e) in
+    puts_within at sends (Puts at s.0 s.1 ∷ calls) (one_within at s.0 s.1 calls w l) (neither_right _ _ e)
+
+nothing_if : (b : Site) (c : Bool) (o : Option site.Entry) → put_by b o ≡ [] → put_by b (if c then o else None) ≡ []
+nothing_if b true o e = e
+nothing_if b false o e = refl
+
+nothing_forced : (a b : Site) (force : Force) (t : ℕ) → put_by b (forced a force t) ≡ []
+nothing_forced U b force t = refl
+nothing_forced (T n) b force t = refl
+nothing_forced (D d) b force t = refl
+
+nothing_given : (b : Site) (n : ℕ) (o : Option Txn) → put_by b (given_to n o) ≡ []
+nothing_given b n None = refl
+nothing_given b n (Some t) = refl
+
+nothing_marked : (a b : Site) (e : Event) → put_by b (made_by_mark a e) ≡ []
+nothing_marked a b (Tick t n) = nothing_if b (same_site a (T t)) (Some (Ticked n)) refl
+nothing_marked a b _ = refl
+
+as_before : (n : ℕ) (xs ys zs : List Msg) → zs ≡ xs ++ ys → ys ≡ [] → length xs ≤ n → length zs ≤ n
+as_before n xs ys zs e f l =
+    let a = length-append xs ys in let b : length zs ≡ length (xs ++ ys) = ap length e in let c : length ys ≡ 0 = ap length f in
+    omega (arith, a, b, c, l)
+
+pub sent_few : (g : Given) (log : Log) → IsWithin log → (a b : Site) → length (sent a b log) ≤ MAX_LINK_MESSAGES
+sent_few g [] h a b = omega arith
+sent_few g (Mark e ∷ log) h a b =
+    as_before MAX_LINK_MESSAGES (sent a b log) _ _ (sent_grows g a b (Mark e) log) (nothing_marked a b e) (sent_few g log h.1 a b)
+sent_few g (Round es ∷ log) h a b = sent_few g log h.1 a b
+sent_few g (Redeclares t ∷ log) h a b = sent_few g log h.1 a b
+sent_few g (Hand x y n m ∷ log) h a b = sent_few g log h.1 a b
+sent_few g (Submitted at n ∷ log) h a b = sent_few g log h.1 a b
+sent_few g (Notes ∷ log) h a b = sent_few g log h.1 a b
+sent_few g (Does at act ∷ log) h a b = puts_within at (sends_of_act act) (calls_of log) (λ x y. sent_few g log h.1 x y) h.0 a b
+
+pub handed_few : (g : Given) (log : Log) → IsPermitted g log → IsWithin log → (a b : Site) → handed a b log ≤ MAX_LINK_MESSAGES
+handed_few g log p h a b =
+    let i = handed_le g log a b p in let j = delivered_within a b log in let k = sent_few g log h a b in omega (arith, i, j, k)
+
+-- what came to the log of a site
+
+abbrev hands_by : Option site.Entry → ℕ
+hands_by None = 0
+hands_by (Some (Handed from m)) = 1
+hands_by (Some _) = 0
+
+hands_more : (o : Option site.Entry) (l : site.Log) → hands (with_made o l) ≡ hands_by o + hands l
+hands_more None l = omega arith
+hands_more (Some (Handed from m)) l = omega arith
+hands_more (Some (Ticked n)) l = omega arith
+hands_more (Some (Submits n t)) l = omega arith
+hands_more (Some (Redeclared force t)) l = omega arith
+hands_more (Some (Did act)) l = omega arith
+
+abbrev submits_by : Option site.Entry → ℕ
+submits_by None = 0
+submits_by (Some (Submits n t)) = 1
+submits_by (Some _) = 0
+
+submits_more : (o : Option site.Entry) (l : site.Log) → length (submits (with_made o l)) ≡ submits_by o + length (submits l)
+submits_more None l = omega arith
+submits_more (Some (Handed from m)) l = omega arith
+submits_more (Some (Ticked n)) l = omega arith
+submits_more (Some (Submits n t)) l = omega arith
+submits_more (Some (Redeclared force t)) l = omega arith
+submits_more (Some (Did act)) l = omega arith
+
+-- an entry counts where it is of its kind
+abbrev None2 : Option site.Entry → Type 0
+None2 o = (hands_by o ≡ 0) × (submits_by o ≡ 0)
+
+none_if : (c : Bool) (o : Option site.Entry) → None2 o → None2 (if c then o else None)
+none_if c o h = if_way None2 c o None h (refl, refl)
+
+none_marked : (at : Site) (e : Event) → None2 (made_by_mark at e)
+none_marked at (Tick t n) = none_if (same_site at (T t)) (Some (Ticked n)) (refl, refl)
+none_marked at _ = (refl, refl)
+
+none_forced : (at : Site) (force : Force) (t : ℕ) → None2 (forced at force t)
+none_forced U force t = (refl, refl)
+none_forced (T n) force t = (refl, refl)
+none_forced (D d) force t = (refl, refl)
+
+given_one : (n : ℕ) (o : Option Txn) → (hands_by (given_to n o) ≡ 0) × (submits_by (given_to n o) ≤ 1)
+given_one n None = (refl, omega arith)
+given_one n (Some t) = (refl, omega arith)
+
+given_if : (c : Bool) (n : ℕ) (o : Option Txn) → (hands_by (if c then given_to n o else None) ≡ 0) × (submits_by (if c then given_to n o else None) ≤ 1)
+given_if true n o = given_one n o
+given_if false n o = (refl, omega arith)
+
+-- each mark gives at most one transaction to a site
+
+abbrev pending : Log → ℕ
+pending (Mark e ∷ log) = 1
+pending _ = 0
+
+is_pending : (log : Log) (to : Site) (n : ℕ) → IsMarkEntry log (Submitted to n) → pending log ≡ 1
+is_pending (Mark (Submit k) ∷ log) to n h = refl
+is_pending log to n h = absurd h
+
+submits_step : (g : Given) (at : Site) (e : Entry) (log : Log) (k n : ℕ) → submits_by (made g at log e) ≤ k
+    → length (submits (local_of g at log)) + k ≤ n → length (submits (local_of g at (e ∷ log))) ≤ n
+submits_step g at e log k n l h =
+    let a = submits_more (made g at log e) (local_of g at log) in
+    let b : length (submits (local_of g at (e ∷ log))) ≡ length
+    (submits (with_made (made g at log e) (local_of g at log))) =
+    ap (λ x. length (submits x)) (local_step g at e log) in
+    omega (arith, a, b, l, h)
+
+submits_marks : (g : Given) (at : Site) (log : Log) → IsPermitted g log → length (submits (local_of g at log)) + pending log ≤ marks log
+submits_marks g U [] p = omega arith
+submits_marks g (T t) [] p = omega arith
+submits_marks g (D d) [] p = omega arith
+submits_marks g at (Mark e ∷ log) p =
+    let i = submits_marks g at log p.1 in let z = (none_marked at e).1 in
+    let j = submits_step g at (Mark e) log 0 (marks log) (omega (arith, z)) (omega (arith, i)) in omega (arith, j)
+submits_marks g at (Round es ∷ log) p =
+    let i = submits_marks g at log p.1 in
+    let j = submits_step g at (Round es) log 0 (marks log) (omega arith) (omega (arith, i)) in omega (arith, j)
+submits_marks g at (Redeclares t ∷ log) p =
+    let i = submits_marks g at log p.1 in let z = (none_forced at (force_at g (suc (redeclares log))) t).1 in
+    let j = submits_step g at (Redeclares t) log 0 (marks log) (omega (arith, z)) (omega (arith, i)) in omega (arith, j)
+submits_marks g at (Hand from to n m ∷ log) p =
+    let i = submits_marks g at log p.1 in
+    let z = if_way (λ o. submits_by o ≡ 0) (same_site at to) (Some (Handed from m)) None refl refl in
+    let j = submits_step g at (Hand from to n m) log 0 (marks log) (omega (arith, z)) (omega (arith, i)) in omega (arith, j)
+submits_marks g at (Submitted to n ∷ log) p =
+    let i = submits_marks g at log p.1 in let z = is_pending log to n (allowed_mark g log (Submitted to n) p.0) in
+    let j = submits_step g at (Submitted to n) log 1 (marks log) (given_if (same_site at to) n (txn_at g n)).1 (omega (arith, i, z)) in omega (arith, j)
+submits_marks g at (Notes ∷ log) p =
+    let i = submits_marks g at log p.1 in
+    let j = submits_step g at Notes log 0 (marks log) (omega arith) (omega (arith, i)) in omega (arith, j)
+submits_marks g at (Does by act ∷ log) p =
+    let i = submits_marks g at log p.1 in
+    let z = if_way (λ o. submits_by o ≡ 0) (same_site at by) (Some (Did act)) None refl refl in
+    let j = submits_step g at (Does by act) log 0 (marks log) (omega (arith, z)) (omega (arith, i)) in omega (arith, j)
+
+pub submits_few : (g : Given) (at : Site) (log : Log) → IsPermitted g log → length (submits (local_of g at log)) ≤ marks log
+submits_few g at log p = let i = submits_marks g at log p in omega (arith, i)
+
+-- each hand is of some link
+
+abbrev hands_sum : Given → Site → Log → ℕ
+hands_sum g at log = total (λ a. handed a at log) (sites g.catalogue.tms g.catalogue.dms)
+
+hands_step : (g : Given) (at : Site) (e : Entry) (log : Log) (n : ℕ) → hands_by (made g at log e) ≡ 0
+    → hands (local_of g at log) ≤ n → hands (local_of g at (e ∷ log)) ≤ n
+hands_step g at e log n z h =
+    let a = hands_more (made g at log e) (local_of g at log) in
+    let b : hands (local_of g at (e ∷ log)) ≡ hands (with_made (made g at log e) (local_of g at log)) = ap hands (local_step g at e log) in
+    omega (arith, a, b, z, h)
+
+-- a hand to the site
+hand_raises : (c d : Bool) (n k : ℕ) → ((c && d) ≡ true → n ≡ suc k) → k ≤ (if c && d then n else k)
+hand_raises true true n k f = let e = f refl in omega (arith, e)
+hand_raises true false n k f = omega arith
+hand_raises false d n k f = omega arith
+
+numbered : (g : Given) (log : Log) (a b from to : Site) (n : ℕ) (m : Msg) → IsAllowed g log (Hand from to n m)
+    → (same_site a from && same_site b to) ≡ true → n ≡ suc (handed a b log)
+numbered g log a b from to n m h e =
+    same_link (λ x y. n ≡ suc (handed x y log)) a b from to e (allowed_hand g log (Hand from to n m) h).next
+
+hand_sum : (g : Given) (at from to : Site) (n : ℕ) (m : Msg) (log : Log) → IsAllowed g log (Hand from to n m)
+    → IsThere (sites g.catalogue.tms g.catalogue.dms) from → same_site at to ≡ true
+    → 1 + hands_sum g at log ≤ hands_sum g at (Hand from to n m ∷ log)
+hand_sum g at from to n m log h k e =
+    let own : (same_site from from && same_site at to) ≡ true = both (same_site from from) (same_site at to) (site_self from) e in
+    let is : n ≡ suc (handed from at log) = numbered g log from at from to n m h own in
+    total_raise (λ a. handed a at log) (λ a. handed a at (Hand from to n m ∷ log)) 1 (sites g.catalogue.tms g.catalogue.dms) k.0 from k.1
+    (λ a. hand_raises (same_site a from) (same_site at to) n (handed a at log) (numbered g log a at from to n m h))
+    (rw own (omega (arith, is)))
+
+hand_step : (g : Given) (at from to : Site) (n : ℕ) (m : Msg) (log : Log) (c : Bool) → IsAllowed g log (Hand from to n m)
+    → IsThere (sites g.catalogue.tms g.catalogue.dms) from → same_site at to ≡ c → hands (local_of g at log) ≤ hands_sum g at log
+    → hands (local_of g at (Hand from to n m ∷ log)) ≤ hands_sum g at (Hand from to n m ∷ log)
+hand_step g at from to n m log true h k e i =
+    let j = hand_sum g at from to n m log h k e in
+    let a : hands (local_of g at (Hand from to n m ∷ log)) ≡ suc (hands (local_of g at log)) = rw e refl in
+    omega (arith, a, i, j)
+hand_step g at from to n m log false h k e i =
+    let j = total_up (λ a. handed a at log) (λ a. handed a at (Hand from to n m ∷ log))
+    (sites g.catalogue.tms g.catalogue.dms) (λ a. hand_raises (same_site a from) (same_site at to) n
+    (handed a at log) (numbered g log a at from to n m h)) in
+    let a : hands (local_of g at (Hand from to n m ∷ log)) ≡ hands (local_of g at log) = rw e refl in
+    omega (arith, a, i, j)
+
+pub hands_few : (g : Given) (at : Site) (log : Log) → AllFewTicks g.events → IsLawful g log → IsPermitted g log
+    → hands (local_of g at log) ≤ hands_sum g at log
+hands_few g U [] f l p = omega arith
+hands_few g (T t) [] f l p = omega arith
+hands_few g (D d) [] f l p = omega arith
+hands_few g at (Mark e ∷ log) f l p = hands_step g at (Mark e) log _ (none_marked at e).0 (hands_few g at log f l.1 p.1)
+hands_few g at (Round es ∷ log) f l p = hands_few g at log f l.1 p.1
+hands_few g at (Redeclares t ∷ log) f l p =
+    hands_step g at (Redeclares t) log _ (none_forced at (force_at g (suc (redeclares log))) t).0 (hands_few g at log f l.1 p.1)
+hands_few g at (Hand from to n m ∷ log) f l p =
+    hand_step g at from to n m log (same_site at to) p.0 (from_there g from to (of_next g log (Hand from to n m) f l.1 l.0)) refl (hands_few g at log f l.1 p.1)
+hands_few g at (Submitted to n ∷ log) f l p =
+    hands_step g at (Submitted to n) log _ (given_if (same_site at to) n (txn_at g n)).0 (hands_few g at log f l.1 p.1)
+hands_few g at (Notes ∷ log) f l p = hands_few g at log f l.1 p.1
+hands_few g at (Does by act ∷ log) f l p =
+    hands_step g at (Does by act) log _ (if_way (λ o. hands_by o ≡ 0) (same_site at by) (Some (Did act)) None refl refl) (hands_few g at log f l.1 p.1)

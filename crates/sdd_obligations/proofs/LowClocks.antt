@@ -1,0 +1,224 @@
+-- The clocks of a run whose schedule has few events, and that has few attempts: ticks come from the schedule alone, and each
+-- Start is an attempt.
+use Rattle.std.specs.List.{cons_option, flat_map}
+use Rattle.std.specs.Prelude.{filter_map, replicate}
+use Rattle.std.proofs.Common.{ℕ, ◌*◌, ◌+◌, ◌++◌, ◌<◌, ◌^◌, ◌∙◌, ◌∷◌, ◌≡◌, ◌≤◌, Bool, List, None, Some, [], ap, arith, cond, false, length, map, refl, subst, suc, true, zero}
+use Rattle.std.proofs.Math.Nat.{mul-le-mul_right, suc-mul}
+use Rattle.sdd_base.specs.Numbers.{txn_no}
+use Rattle.sdd_base.specs.Words.{tail_of}
+use Rattle.sdd_base.specs.declared.event.Event.{Event}
+use Rattle.sdd_base.specs.declared.event.Event.TheVariants.{Deliver, Down, Lose, Redeclare, Repeat, Resend, Settle, Submit, Tick, Up}
+use Rattle.sdd_base.specs.declared.limits.TheConstants.{MAX_EVENTS, MAX_TICKS}
+use Rattle.sdd_base.specs.declared.site.Site.{Site}
+use Rattle.sdd_history.specs.declared.record.Rec.{Rec}
+use Rattle.sdd_history.specs.declared.record.Rec.TheVariants.{Start, Nothing, Submit as Submission}
+use Rattle.sdd_history.specs.Records.{History}
+use Rattle.sdd_wire.specs.declared.msg.Msg.{Msg}
+use Rattle.sdd_net.specs.Links.{Call, in_flight, link, quiet, resends_now, round}
+use Rattle.sdd_order.specs.Attempts.{Attempt, attempt_of, attempts}
+use Rattle.sdd_order.specs.Places.{placed}
+use Rattle.sdd_module.specs.SiteLog.{Act, Records, records_of_act}
+use Rattle.sdd_attempt.specs.Clocks.{clock}
+use Rattle.sdd_log.specs.Entries.{Does, Given, Hand, Log, Mark, Notes, Redeclares, Round, Submitted, history, marks}
+use Rattle.sdd_log.specs.Lawful.{IsLawful}
+use Rattle.sdd_log.specs.Locals.{local_of}
+use Rattle.sdd_log.specs.Marks.{after_mark, from_event, left, mark_from, mark_of}
+use Rattle.sdd_log.specs.Traffic.{all_links, calls_of}
+use Rattle.sdd_log.proofs.Grows.{mark_is_next}
+use Rattle.sdd_obligations.specs.Bounds.{AllFewTicks, IsSmall}
+use Rattle.sdd_obligations.specs.Heights.{height, starts_by, ticks_of}
+use Rattle.sdd_obligations.proofs.Early.{is_under}
+use Rattle.sdd_obligations.proofs.OfNext.{of_next}
+
+-- the ticks of events
+
+abbrev all_ticks : List Event → ℕ
+all_ticks [] = 0
+all_ticks (e ∷ es) = ticks_of e + all_ticks es
+
+one_more : (a b n k : ℕ) → a ≤ k → b ≤ n * k → a + b ≤ suc n * k
+one_more a b n k l m = let e = suc-mul n k in omega (arith, l, m, e)
+
+ticks_few : (es : List Event) → AllFewTicks es → all_ticks es ≤ length es * MAX_TICKS
+ticks_few [] f = omega arith
+ticks_few (e ∷ es) f = one_more (ticks_of e) (all_ticks es) (length es) MAX_TICKS f.0 (ticks_few es f.1)
+
+-- rounds have none
+
+ticks_join : (xs ys : List Event) → all_ticks (xs ++ ys) ≡ all_ticks xs + all_ticks ys
+ticks_join [] ys = omega arith
+ticks_join (x ∷ xs) ys = let i = ticks_join xs ys in omega (arith, i)
+
+none_join : (xs ys : List Event) → all_ticks xs ≡ 0 → all_ticks ys ≡ 0 → all_ticks (xs ++ ys) ≡ 0
+none_join xs ys a b = let j = ticks_join xs ys in omega (arith, j, a, b)
+
+resend_none : (b : Bool) (x y : Site) (es : List Event) → all_ticks es ≡ 0 → all_ticks (cons_option (cond b (Some (Resend x y)) None) es) ≡ 0
+resend_none true x y es e = omega (arith, e)
+resend_none false x y es e = e
+
+resends_none : (calls : List (Call Msg)) (ls : List (Site × Site))
+    → all_ticks (filter_map (λ l. cond (resends_now (link l.0 l.1 calls)) (Some (Resend l.0 l.1)) None) ls) ≡ 0
+resends_none calls [] = refl
+resends_none calls (l ∷ ls) = resend_none (resends_now (link l.0 l.1 calls)) l.0 l.1 _ (resends_none calls ls)
+
+replicate_none : (n : ℕ) (x y : Site) → all_ticks (replicate n (Deliver x y 1)) ≡ 0
+replicate_none zero x y = refl
+replicate_none (suc n) x y = let i = replicate_none n x y in omega (arith, i)
+
+delivers_none : (calls : List (Call Msg)) (ls : List (Site × Site))
+    → all_ticks (flat_map (λ l. replicate (in_flight (link l.0 l.1 calls)) (Deliver l.0 l.1 1)) ls) ≡ 0
+delivers_none calls [] = refl
+delivers_none calls (l ∷ ls) = none_join _ _ (replicate_none (in_flight (link l.0 l.1 calls)) l.0 l.1) (delivers_none calls ls)
+
+round_none : (calls : List (Call Msg)) (ls : List (Site × Site)) → all_ticks (round ls calls) ≡ 0
+round_none calls ls = none_join _ _ (resends_none calls ls) (delivers_none calls ls)
+
+-- what a mark takes from the events that are left
+
+drop_ticks : (ws : List Event) → all_ticks (tail_of (from_event ws)) ≤ all_ticks ws
+drop_ticks [] = omega arith
+drop_ticks (Settle ∷ ws) = let i = drop_ticks ws in omega (arith, i)
+drop_ticks (Submit n ∷ ws) = omega arith
+drop_ticks (Deliver a b k ∷ ws) = omega arith
+drop_ticks (Lose a b k ∷ ws) = omega arith
+drop_ticks (Repeat a b k ∷ ws) = omega arith
+drop_ticks (Resend a b ∷ ws) = omega arith
+drop_ticks (Tick t n ∷ ws) = omega arith
+drop_ticks (Redeclare ∷ ws) = omega arith
+drop_ticks (Down d ∷ ws) = omega arith
+drop_ticks (Up d ∷ ws) = omega arith
+
+same_mark : (x e : Event) (n : ℕ) → Some (Mark x) ≡ Some (Mark e) → ticks_of e + n ≤ ticks_of x + n
+same_mark x e n p = let s : x ≡ e = cc in subst (λ (y : Event). ticks_of y + n ≤ ticks_of x + n) s (omega arith)
+
+mark_ticks : (g : Given) (log : Log) (q : Bool) (r ws : List Event) (e : Event) → mark_from g log q r ws ≡ Some (Mark e)
+    → ticks_of e + all_ticks (tail_of (from_event ws)) ≤ all_ticks ws
+mark_ticks g log q r [] e p = cc
+mark_ticks g log true r (Settle ∷ ws) e p = let i = mark_ticks g log true r ws e p in omega (arith, i)
+mark_ticks g log false r (Settle ∷ ws) e p = cc
+mark_ticks g log true r (Redeclare ∷ ws) e p = cc
+mark_ticks g log false r (Redeclare ∷ ws) e p = cc
+mark_ticks g log q r (Submit n ∷ ws) e p = same_mark (Submit n) e (all_ticks ws) p
+mark_ticks g log q r (Deliver a b k ∷ ws) e p = same_mark (Deliver a b k) e (all_ticks ws) p
+mark_ticks g log q r (Lose a b k ∷ ws) e p = same_mark (Lose a b k) e (all_ticks ws) p
+mark_ticks g log q r (Repeat a b k ∷ ws) e p = same_mark (Repeat a b k) e (all_ticks ws) p
+mark_ticks g log q r (Resend a b ∷ ws) e p = same_mark (Resend a b) e (all_ticks ws) p
+mark_ticks g log q r (Tick t n ∷ ws) e p = same_mark (Tick t n) e (all_ticks ws) p
+mark_ticks g log q r (Down d ∷ ws) e p = same_mark (Down d) e (all_ticks ws) p
+mark_ticks g log q r (Up d ∷ ws) e p = same_mark (Up d) e (all_ticks ws) p
+
+-- n ticks are done, those of the events that are left come besides, and those of a round are none
+abbrev AreLeft : ℕ → List Event × List Event → ℕ → Type 0
+AreLeft n s most = (n + all_ticks s.0 ≤ most) × (all_ticks s.1 ≡ 0)
+
+marked : (g : Given) (log : Log) (s : List Event × List Event) (e : Event) (n most : ℕ) → mark_of g log s ≡ Some (Mark e) → AreLeft n s most
+    → AreLeft (ticks_of e + n) (after_mark s) most
+marked g log (ws, []) e n most p h =
+    let i = mark_ticks g log (quiet (all_links g) (calls_of log)) (round (all_links g) (calls_of log)) ws e p in
+    let t = h.0 in (omega (arith, i, t), refl)
+marked g log (ws, x ∷ r) e n most p h =
+    let s = same_mark x e 0 p in
+    let z = h.1 in
+    let t = h.0 in (omega (arith, s, z, t), omega (arith, z))
+
+redeclared : (s : List Event × List Event) (n most : ℕ) → AreLeft n s most → AreLeft n (after_mark s) most
+redeclared (ws, []) n most h = let d = drop_ticks ws in let t = h.0 in (omega (arith, d, t), refl)
+redeclared (ws, x ∷ r) n most h = (h.0, let z = h.1 in omega (arith, z))
+
+abbrev log_ticks : Log → ℕ
+log_ticks [] = 0
+log_ticks (Mark e ∷ log) = ticks_of e + log_ticks log
+log_ticks (_ ∷ log) = log_ticks log
+
+ticks_left : (g : Given) (log : Log) → AllFewTicks g.events → IsLawful g log → AreLeft (log_ticks log) (left g.events log) (all_ticks g.events)
+ticks_left g [] f h = (omega arith, refl)
+ticks_left g (Mark e ∷ log) f h =
+    marked g log (left g.events log) e (log_ticks log) (all_ticks g.events) (mark_is_next g log (Mark e) refl h.0) (ticks_left g log f h.1)
+ticks_left g (Redeclares t ∷ log) f h = redeclared (left g.events log) (log_ticks log) (all_ticks g.events) (ticks_left g log f h.1)
+ticks_left g (Round es ∷ log) f h =
+    let i = ticks_left g log f h.1 in
+    let e : es ≡ round (all_links g) (calls_of log) = of_next g log (Round es) f h.1 h.0 in
+    (i.0, ap all_ticks e ∙ round_none (calls_of log) (all_links g))
+ticks_left g (Hand a b n m ∷ log) f h = ticks_left g log f h.1
+ticks_left g (Submitted at n ∷ log) f h = ticks_left g log f h.1
+ticks_left g (Notes ∷ log) f h = ticks_left g log f h.1
+ticks_left g (Does at act ∷ log) f h = ticks_left g log f h.1
+
+-- each Start of the log is an attempt of its history
+
+abbrev log_starts : Log → ℕ
+log_starts [] = 0
+log_starts (Does at act ∷ log) = starts_by act + log_starts log
+log_starts (_ ∷ log) = log_starts log
+
+height_is : (log : Log) → height log ≡ log_ticks log + log_starts log
+height_is [] = refl
+height_is (Mark e ∷ log) = let i = height_is log in omega (arith, i)
+height_is (Does at act ∷ log) = let i = height_is log in omega (arith, i)
+height_is (Redeclares t ∷ log) = height_is log
+height_is (Round es ∷ log) = height_is log
+height_is (Hand a b n m ∷ log) = height_is log
+height_is (Submitted at n ∷ log) = height_is log
+height_is (Notes ∷ log) = height_is log
+
+abbrev start_of : Rec → ℕ
+start_of (Start txn attempt class ts p2 uses) = 1
+start_of _ = 0
+
+abbrev starts_in : History → ℕ
+starts_in [] = 0
+starts_in (e ∷ h) = start_of e.1 + starts_in h
+
+one_attempt : (k : ℕ) (r : Rec) (found : List Attempt) → length (cons_option (attempt_of (k, r)) found) ≡ start_of r + length found
+one_attempt k (Start txn attempt class ts p2 uses) found = omega arith
+one_attempt k r found = omega arith
+
+attempts_count : (k : ℕ) (h : History) → length (filter_map attempt_of (placed k h)) ≡ starts_in h
+attempts_count k [] = refl
+attempts_count k (e ∷ h) =
+    one_attempt k e.1 (filter_map attempt_of (placed (suc k) h)) ∙ ap (λ n. start_of e.1 + n) (attempts_count (suc k) h)
+
+starts_join : (h more : History) → starts_in (h ++ more) ≡ starts_in h + starts_in more
+starts_join [] more = omega arith
+starts_join (e ∷ h) more = let i = starts_join h more in omega (arith, i)
+
+act_starts : (k : ℕ) (act : Act) → starts_in (map (λ r. (k, r)) (records_of_act act)) ≡ starts_by act
+act_starts k (Records c (Start txn attempt class ts p2 uses) sends) = omega arith
+act_starts k act = omega arith
+
+no_more : (a b c : ℕ) → a ≡ b + 0 → b ≡ c → a ≡ c
+no_more a b c e f = omega (arith, e, f)
+
+more_starts : (a b c d s : ℕ) → a ≡ b + d → d ≡ s → b ≡ c → a ≡ s + c
+more_starts a b c d s e f i = omega (arith, e, f, i)
+
+starts_are : (log : Log) → starts_in (history log) ≡ log_starts log
+starts_are [] = refl
+starts_are (Submitted at n ∷ log) =
+    no_more _ (starts_in (history log)) (log_starts log) (starts_join (history log) ((marks log, Submission (txn_no n)) ∷ [])) (starts_are log)
+starts_are (Notes ∷ log) =
+    no_more _ (starts_in (history log)) (log_starts log) (starts_join (history log) ((marks log, Nothing) ∷ [])) (starts_are log)
+starts_are (Does at act ∷ log) =
+    more_starts _ (starts_in (history log)) (log_starts log) _ (starts_by act)
+    (starts_join (history log) (map (λ r. (marks log, r)) (records_of_act act))) (act_starts (marks log) act) (starts_are log)
+starts_are (Mark e ∷ log) = starts_are log
+starts_are (Redeclares t ∷ log) = starts_are log
+starts_are (Round es ∷ log) = starts_are log
+starts_are (Hand a b n m ∷ log) = starts_are log
+
+-- so both are few
+
+low : (c h t s u v : ℕ) → c ≤ h → h ≡ t + s → t + u ≤ v → v ≤ MAX_EVENTS * MAX_TICKS → s ≤ 2 ^ 22 → c < 2 ^ 39
+low c h t s u v a b d e f = omega (arith, a, b, d, e, f)
+
+trans_le : (x y z : ℕ) → x ≤ y → y ≤ z → x ≤ z
+trans_le x y z a b = omega (arith, a, b)
+
+pub clock_low : (g : Given) (log : Log) (at : Site) → IsSmall g → IsLawful g log → length g.events ≤ MAX_EVENTS
+    → length (attempts (history log)) ≤ 2 ^ 22 → (clock at (local_of g at log)).ticks < 2 ^ 39
+clock_low g log at s l events few =
+    let ticks = trans_le (all_ticks g.events) _ _ (ticks_few g.events s.few_ticks) (mul-le-mul_right MAX_TICKS events) in
+    let starts = attempts_count 0 (history log) ∙ starts_are log in
+    low (clock at (local_of g at log)).ticks (height log) (log_ticks log) (log_starts log) (all_ticks (left g.events log).0) (all_ticks g.events)
+    ((is_under g log s l).clocks at) (height_is log) (ticks_left g log s.few_ticks l).0 ticks
+    (subst (λ n. n ≤ 2 ^ 22) starts few)

@@ -1,0 +1,45 @@
+-- A data module starts nothing.
+use Rattle.std.proofs.Common.{ℕ, ◌≡◌, None, Option, Some, refl, subst}
+use Rattle.sdd_base.specs.Words.{head_of}
+use Rattle.std.specs.Prelude.{filter}
+use Rattle.sdd_wire.specs.declared.msg.Msg.{Msg}
+use Rattle.sdd_wire.specs.declared.msg.Msg.TheVariants.{Fetch, Null, Read, Reduce, Ship, Write}
+use Rattle.sdd_module.specs.SiteLog.{Act}
+use Rattle.sdd_pipe.specs.Pipe.{head}
+use Rattle.sdd_dm.specs.Due.{IsDue, act_by, act_where, answer_of, answer_to, by_head, by_open, head_step}
+use Rattle.sdd_dm.specs.Opens.{Open, is_asked_of}
+use Rattle.sdd_dm.specs.Views.{ClassView, Home, View}
+use Rattle.sdd_dm.specs.declared.step.Step.{Step}
+use Rattle.sdd_dm.specs.declared.step.Step.TheVariants.{Processes, Refuses, Waits}
+use Rattle.sdd_obligations.specs.Heights.{starts_by}
+
+no_start : (x a : Act) → starts_by x ≡ 0 → Some x ≡ Some a → starts_by a ≡ 0
+no_start x a h e = let p : x ≡ a = cc in subst (λ y. starts_by y ≡ 0) p h
+
+by_answer : (h : Home) (k : ClassView) (o : Open) (m : Msg) (a : Act) → answer_to h k o m ≡ Some a → starts_by a ≡ 0
+by_answer h k o (Read ts class txn attempt conds uses) a e = no_start _ a refl e
+by_answer h k o (Fetch ts class u col) a e = no_start _ a refl e
+by_answer h k o (Reduce ts class u col vs) a e = no_start _ a refl e
+by_answer h k o (Ship ts class) a e = no_start _ a refl e
+by_answer h k o _ a e = cc
+
+by_asked : (h : Home) (k : ClassView) (o : Option Open) (a : Act) → answer_of h k o ≡ Some a → starts_by a ≡ 0
+by_asked h k None a e = cc
+by_asked h k (Some o) a e = by_answer h k o o.msg a e
+
+by_step : (h : Home) (v : View) (c : ℕ) (m : Msg) (step : Step) → starts_by (act_by h v c m step) ≡ 0
+by_step h v c (Null class time) step = refl
+by_step h v c (Write ts class txn changes) step = refl
+by_step h v c (Read ts class txn attempt conds uses) Processes = refl
+by_step h v c (Read ts class txn attempt conds uses) (Refuses by write) = refl
+by_step h v c (Read ts class txn attempt conds uses) (Waits ds) = refl
+by_step h v c m step = refl
+
+by_where : (h : Home) (v : View) (c : ℕ) (o : Option Msg) (s : Option Step) (a : Act) → act_where h v c o s ≡ Some a → starts_by a ≡ 0
+by_where h v c None s a e = cc
+by_where h v c (Some m) None a e = cc
+by_where h v c (Some m) (Some step) a e = no_start (act_by h v c m step) a (by_step h v c m step) e
+
+pub d_starts_not : (h : Home) (v : View) (a : Act) → IsDue h v a → starts_by a ≡ 0
+d_starts_not h v a (by_open n k p e) = by_asked h k (head_of (filter (is_asked_of k.class) v.opens)) a e
+d_starts_not h v a (by_head n k p e) = by_where h v k.class (head k.pipe) (head_step v k) a e

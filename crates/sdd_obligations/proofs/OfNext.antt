@@ -1,0 +1,249 @@
+-- What the next entry of a log is, beyond that it is allowed: it concerns sites and links of the network, and an event
+-- comes from those that were given or from a round.
+use Rattle.std.specs.List.{cons_option, flat_map, range_with_len}
+use Rattle.std.specs.Prelude.{IsTrue, filter_map, nat_le, replicate}
+use Rattle.std.proofs.Common.{ℕ, ◌&&◌, ◌++◌, ◌+◌, ◌-◌, ◌∷◌, ◌≡◌, ◌≤◌, Bool, List, None, Option, Some, [], arith, cond, false, if◌then◌else◌, inl, inr, map, refl, slice_get, subst, suc, sym, true, zero}
+use Rattle.std.proofs.lemmas.Bool.Decides.{nat_tests}
+use Rattle.sdd_base.specs.Numbers.{dm_no, tm_no}
+use Rattle.sdd_base.specs.Sites.{links, sites}
+use Rattle.sdd_base.specs.Words.{tail_of}
+use Rattle.sdd_base.specs.declared.event.Event.{Event}
+use Rattle.sdd_base.specs.declared.event.Event.TheVariants.{Deliver, Down, Lose, Redeclare, Repeat, Resend, Settle, Submit, Tick, Up}
+use Rattle.sdd_base.specs.declared.limits.TheConstants.{MAX_TICKS}
+use Rattle.sdd_base.specs.declared.number.DmNo.{DmNo}
+use Rattle.sdd_base.specs.declared.number.TmNo.{TmNo}
+use Rattle.sdd_base.specs.declared.site.Site.{Site}
+use Rattle.sdd_base.specs.declared.site.Site.TheVariants.{D, T, U}
+use Rattle.sdd_wire.specs.declared.msg.Msg.{Msg}
+use Rattle.sdd_module.specs.SiteLog.{Act}
+use Rattle.sdd_module.proofs.Finding.{found_at, one_of}
+use Rattle.sdd_net.specs.Links.{Call, delivered, in_flight, link, quiet, resends_now, round}
+use Rattle.sdd_net.specs.Nets.{is_link, is_site}
+use Rattle.sdd_net.proofs.Directions.{link_parts}
+use Rattle.sdd_net.proofs.Lists.{All-at}
+use Rattle.sdd_net.proofs.Rounds.{links_exist}
+use Rattle.sdd_log.specs.Due.{does_at, due_by, hand_due, hand_number, hand_on, hand_with, mark_due, next, next_at, next_number, note_if, site_due}
+use Rattle.sdd_log.specs.Entries.{Does, Entry, Given, Hand, Log, Mark, Notes, Redeclares, Round, Submitted}
+use Rattle.sdd_log.specs.Lawful.{IsLawful}
+use Rattle.sdd_log.specs.Marks.{after_mark, from_event, greatest_bound, left, mark_from, mark_of}
+use Rattle.sdd_log.specs.Traffic.{all_links, calls_of, handed, link_of, message_at, takes_part}
+use Rattle.sdd_invariants.proofs.Holding.{at_map}
+use Rattle.sdd_invariants.proofs.Bools.{and_left, and_right}
+use Rattle.sdd_invariants.proofs.Lists.{in_either, in_left, in_mapped, in_range, in_right}
+use Rattle.sdd_obligations.specs.Bounds.{AllFewTicks}
+use Rattle.sdd_obligations.specs.Heights.{ticks_of}
+use Rattle.sdd_obligations.proofs.Sums.{range_at}
+
+abbrev pub IsThere : {A : Type 0} → List A → A → Type 0
+IsThere xs x = (k : ℕ) × (slice_get xs k ≡ Some x)
+
+abbrev pub OfNext : Given → Log → Entry → Type 0
+OfNext g log (Mark e) = ticks_of e ≤ MAX_TICKS
+OfNext g log (Round es) = es ≡ round (all_links g) (calls_of log)
+OfNext g log (Redeclares t) = t ≡ greatest_bound g log
+OfNext g log (Hand a b n m) = IsThere (all_links g) (a, b)
+OfNext g log (Submitted at n) = mark_due g log ≡ Some (Submitted at n)
+OfNext g log (Does at act) = IsThere (sites g.catalogue.tms g.catalogue.dms) at × (next_at g log at ≡ Some act)
+OfNext g log Notes = Unit {0}
+
+-- by an event
+
+of_note : (g : Given) (log : Log) (b : Bool) (e : Entry) → note_if b ≡ Some e → OfNext g log e
+of_note g log true e p = let q : Notes ≡ e = cc in subst (OfNext g log) q tt
+of_note g log false e p = cc
+
+of_event : (g : Given) (x : Event) (log : Log) (e : Entry) → due_by g x log ≡ Some e → OfNext g (Mark x ∷ log) e
+of_event g (Submit n) log (Submitted at k) p = p
+of_event g (Submit n) log e p = cc
+of_event g (Deliver a b k) log e p = of_note g (Mark (Deliver a b k) ∷ log) _ e p
+of_event g (Lose a b k) log e p = of_note g (Mark (Lose a b k) ∷ log) _ e p
+of_event g (Repeat a b k) log e p = of_note g (Mark (Repeat a b k) ∷ log) _ e p
+of_event g (Resend a b) log e p = of_note g (Mark (Resend a b) ∷ log) _ e p
+of_event g (Tick t n) log e p = cc
+of_event g Settle log e p = cc
+of_event g Redeclare log e p = cc
+of_event g (Down d) log e p = of_note g (Mark (Down d) ∷ log) _ e p
+of_event g (Up d) log e p = of_note g (Mark (Up d) ∷ log) _ e p
+
+of_mark : (g : Given) (log : Log) (e : Entry) → mark_due g log ≡ Some e → OfNext g log e
+of_mark g [] e p = cc
+of_mark g (Mark x ∷ log) e p = of_event g x log e p
+of_mark g (_ ∷ log) e p = cc
+
+-- at a site, on a link
+
+of_site : (g : Given) (log : Log) (at : Site) (o : Option Act) (e : Entry) → IsThere (sites g.catalogue.tms g.catalogue.dms) at
+    → next_at g log at ≡ o → does_at at o ≡ Some e → OfNext g log e
+of_site g log at None e k p q = cc
+of_site g log at (Some a) e k p q = let s : Does at a ≡ e = cc in subst (OfNext g log) s (k, p)
+
+of_message : (g : Given) (log : Log) (a b : Site) (n : ℕ) (o : Option Msg) (e : Entry) → IsThere (all_links g) (a, b)
+    → hand_with (a, b) n o ≡ Some e → OfNext g log e
+of_message g log a b n None e k p = cc
+of_message g log a b n (Some m) e k p = let s : Hand a b n m ≡ e = cc in subst (OfNext g log) s k
+
+of_link : (g : Given) (log : Log) (a b : Site) (c : Bool) (o : Option ℕ) (e : Entry) → IsThere (all_links g) (a, b)
+    → (if c then hand_number log (a, b) o else None) ≡ Some e → OfNext g log e
+of_link g log a b true None e k p = cc
+of_link g log a b true (Some n) e k p = of_message g log a b n (message_at a b n log) e k p
+of_link g log a b false o e k p = cc
+
+-- the next mark
+
+some_mark : (g : Given) (log : Log) (x : Event) (e : Entry) → ticks_of x ≤ MAX_TICKS → Some (Mark x) ≡ Some e → OfNext g log e
+some_mark g log x e l p = let s : Mark x ≡ e = cc in subst (OfNext g log) s l
+
+of_events : (g : Given) (log : Log) (q : Bool) (ws : List Event) (e : Entry) → AllFewTicks ws
+    → mark_from g log q (round (all_links g) (calls_of log)) ws ≡ Some e → OfNext g log e
+of_events g log q [] e f p = cc
+of_events g log true (Settle ∷ ws) e f p = of_events g log true ws e f.1 p
+of_events g log false (Settle ∷ ws) e f p =
+    let s : Round (round (all_links g) (calls_of log)) ≡ e = cc in subst (OfNext g log) s refl
+of_events g log true (Redeclare ∷ ws) e f p =
+    let s : Redeclares (greatest_bound g log) ≡ e = cc in subst (OfNext g log) s refl
+of_events g log false (Redeclare ∷ ws) e f p =
+    let s : Round (round (all_links g) (calls_of log)) ≡ e = cc in subst (OfNext g log) s refl
+of_events g log q (Submit n ∷ ws) e f p = some_mark g log (Submit n) e f.0 p
+of_events g log q (Deliver a b k ∷ ws) e f p = some_mark g log (Deliver a b k) e f.0 p
+of_events g log q (Lose a b k ∷ ws) e f p = some_mark g log (Lose a b k) e f.0 p
+of_events g log q (Repeat a b k ∷ ws) e f p = some_mark g log (Repeat a b k) e f.0 p
+of_events g log q (Resend a b ∷ ws) e f p = some_mark g log (Resend a b) e f.0 p
+of_events g log q (Tick t n ∷ ws) e f p = some_mark g log (Tick t n) e f.0 p
+of_events g log q (Down d ∷ ws) e f p = some_mark g log (Down d) e f.0 p
+of_events g log q (Up d ∷ ws) e f p = some_mark g log (Up d) e f.0 p
+
+-- the events that are left tick few times
+
+abbrev pub AreFewLeft : List Event × List Event → Type 0
+AreFewLeft s = AllFewTicks s.0 × AllFewTicks s.1
+
+of_left : (g : Given) (log : Log) (s : List Event × List Event) (e : Entry) → AreFewLeft s → mark_of g log s ≡ Some e → OfNext g log e
+of_left g log (ws, []) e f p = of_events g log (quiet (all_links g) (calls_of log)) ws e f.0 p
+of_left g log (ws, x ∷ r) e f p = some_mark g log x e f.1.0 p
+
+few_from : (es : List Event) → AllFewTicks es → AllFewTicks (from_event es)
+few_from [] f = tt
+few_from (Settle ∷ es) f = few_from es f.1
+few_from (Submit n ∷ es) f = f
+few_from (Deliver a b k ∷ es) f = f
+few_from (Lose a b k ∷ es) f = f
+few_from (Repeat a b k ∷ es) f = f
+few_from (Resend a b ∷ es) f = f
+few_from (Tick t n ∷ es) f = f
+few_from (Redeclare ∷ es) f = f
+few_from (Down d ∷ es) f = f
+few_from (Up d ∷ es) f = f
+
+few_tail : (es : List Event) → AllFewTicks es → AllFewTicks (tail_of es)
+few_tail [] f = tt
+few_tail (e ∷ es) f = f.1
+
+few_after : (s : List Event × List Event) → AreFewLeft s → AreFewLeft (after_mark s)
+few_after (ws, []) f = (few_tail (from_event ws) (few_from ws f.0), tt)
+few_after (ws, x ∷ r) f = (f.0, f.1.1)
+
+few_join : (xs ys : List Event) → AllFewTicks xs → AllFewTicks ys → AllFewTicks (xs ++ ys)
+few_join [] ys f h = h
+few_join (x ∷ xs) ys f h = (f.0, few_join xs ys f.1 h)
+
+few_resend : (b : Bool) (x y : Site) (es : List Event) → AllFewTicks es → AllFewTicks (cons_option (cond b (Some (Resend x y)) None) es)
+few_resend true x y es f = (omega arith, f)
+few_resend false x y es f = f
+
+few_resends : (calls : List (Call Msg)) (ls : List (Site × Site))
+    → AllFewTicks (filter_map (λ l. cond (resends_now (link l.0 l.1 calls)) (Some (Resend l.0 l.1)) None) ls)
+few_resends calls [] = tt
+few_resends calls (l ∷ ls) = few_resend (resends_now (link l.0 l.1 calls)) l.0 l.1 _ (few_resends calls ls)
+
+few_replicate : (n : ℕ) (x y : Site) → AllFewTicks (replicate n (Deliver x y 1))
+few_replicate zero x y = tt
+few_replicate (suc n) x y = (omega arith, few_replicate n x y)
+
+few_delivers : (calls : List (Call Msg)) (ls : List (Site × Site))
+    → AllFewTicks (flat_map (λ l. replicate (in_flight (link l.0 l.1 calls)) (Deliver l.0 l.1 1)) ls)
+few_delivers calls [] = tt
+few_delivers calls (l ∷ ls) = few_join _ _ (few_replicate (in_flight (link l.0 l.1 calls)) l.0 l.1) (few_delivers calls ls)
+
+round_few : (calls : List (Call Msg)) (ls : List (Site × Site)) → AllFewTicks (round ls calls)
+round_few calls ls = few_join _ _ (few_resends calls ls) (few_delivers calls ls)
+
+next_is : (g : Given) (log : Log) (e : Entry) → AreFewLeft (left g.events log) → next g log ≡ Some e → OfNext g log e
+next_is g log e f p =
+    one_of (OfNext g log e) (mark_due g log) _ e (of_mark g log e)
+    (one_of (OfNext g log e) (site_due g log) _ e (λ q. let r =
+    found_at (λ at. does_at at (next_at g log at)) (sites g.catalogue.tms g.catalogue.dms) e q in of_site
+    g log r.1 (next_at g log r.1) e (r.0, r.2) refl r.3)
+    (one_of (OfNext g log e) (hand_due g log) _ e
+    (λ q. let r = found_at (hand_on log) (all_links g) e q in of_link g log r.1.0 r.1.1
+    (takes_part r.1.1 log) (next_number (handed r.1.0 r.1.1 log)
+    (delivered (link_of r.1.0 r.1.1 log).there)) e (r.0, r.2) r.3)
+    (λ q. of_left g log (left g.events log) e f q))) p
+
+few_left : (g : Given) (log : Log) → AllFewTicks g.events → IsLawful g log → AreFewLeft (left g.events log)
+few_left g [] f h = (f, tt)
+few_left g (Mark e ∷ log) f h = few_after (left g.events log) (few_left g log f h.1)
+few_left g (Redeclares t ∷ log) f h = few_after (left g.events log) (few_left g log f h.1)
+few_left g (Round es ∷ log) f h =
+    let i = few_left g log f h.1 in
+    let e : es ≡ round (all_links g) (calls_of log) = next_is g log (Round es) i h.0 in
+    (i.0, subst AllFewTicks (sym e) (round_few (calls_of log) (all_links g)))
+few_left g (Hand a b n m ∷ log) f h = few_left g log f h.1
+few_left g (Submitted at n ∷ log) f h = few_left g log f h.1
+few_left g (Notes ∷ log) f h = few_left g log f h.1
+few_left g (Does at act ∷ log) f h = few_left g log f h.1
+
+pub of_next : (g : Given) (log : Log) (e : Entry) → AllFewTicks g.events → IsLawful g log → next g log ≡ Some e → OfNext g log e
+of_next g log e f h p = next_is g log e (few_left g log f h) p
+
+-- the sites of the network by their numbers
+
+pub t_of_sites : (tms dms : ℕ) (t : TmNo) → IsThere (sites tms dms) (T t) → (1 ≤ t.0) × (t.0 ≤ tms)
+t_of_sites tms dms t (zero, e) = cc
+t_of_sites tms dms t (suc k, e) =
+    elim (in_either (map (λ n. T (tm_no n)) (range_with_len 1 tms)) (map (λ n. D (dm_no n)) (range_with_len 1 dms)) k (T t) e) [
+      | inl p ↦ (let i = in_mapped (λ n. T (tm_no n)) (range_with_len 1 tms) k (T t) p in
+          let n : i.0 ≡ t.0 = cc in let r = in_range 1 tms k i.0 i.1 in (omega (arith, r.0, n), omega (arith, r.1, n)))
+      | inr p ↦ (let i = in_mapped (λ n. D (dm_no n)) (range_with_len 1 dms) p.0 (T t) p.1 in let n : D (dm_no i.0) ≡ T t = i.2 in cc)
+    ]
+
+pub d_of_sites : (tms dms : ℕ) (d : DmNo) → IsThere (sites tms dms) (D d) → (1 ≤ d.0) × (d.0 ≤ dms)
+d_of_sites tms dms d (zero, e) = cc
+d_of_sites tms dms d (suc k, e) =
+    elim (in_either (map (λ n. T (tm_no n)) (range_with_len 1 tms)) (map (λ n. D (dm_no n)) (range_with_len 1 dms)) k (D d) e) [
+      | inl p ↦ (let i = in_mapped (λ n. T (tm_no n)) (range_with_len 1 tms) k (D d) p in let n : T (tm_no i.0) ≡ D d = i.2 in cc)
+      | inr p ↦ (let i = in_mapped (λ n. D (dm_no n)) (range_with_len 1 dms) p.0 (D d) p.1 in
+          let n : i.0 ≡ d.0 = cc in let r = in_range 1 dms p.0 i.0 i.1 in (omega (arith, r.0, n), omega (arith, r.1, n)))
+    ]
+
+-- a site that exists is there, and so are the ends of a link
+
+le_is : (a b : ℕ) → nat_le a b ≡ true → a ≤ b
+le_is a b e = grind (arith, nat_tests)
+
+there_in : (n k : ℕ) → (nat_le 1 k && nat_le k n) ≡ true → IsThere (range_with_len 1 n) k
+there_in n k e =
+    let a = le_is 1 k (and_left _ _ e) in let b = le_is k n (and_right _ _ e) in
+    let q : 1 + (k - 1) ≡ k = omega (arith, a) in
+    (k - 1, subst (λ x. slice_get (range_with_len 1 n) (k - 1) ≡ Some x) q (range_at 1 n (k - 1) (omega (arith, a, b))))
+
+pub site_there : (tms dms : ℕ) (at : Site) → is_site tms dms at ≡ true → IsThere (sites tms dms) at
+site_there tms dms U e = (0, refl)
+site_there tms dms (T t) e =
+    let i = there_in tms t.0 e in
+    let p = in_left (map (λ n. T (tm_no n)) (range_with_len 1 tms))
+    (map (λ n. D (dm_no n)) (range_with_len 1 dms)) i.0 (T t)
+    (at_map (λ n. T (tm_no n)) (range_with_len 1 tms) i.0 t.0 i.1) in
+    (suc i.0, p)
+site_there tms dms (D d) e =
+    let i = there_in dms d.0 e in
+    let p = in_right (map (λ n. T (tm_no n)) (range_with_len 1 tms))
+    (map (λ n. D (dm_no n)) (range_with_len 1 dms)) i.0 (D d)
+    (at_map (λ n. D (dm_no n)) (range_with_len 1 dms) i.0 d.0 i.1) in
+    (suc p.0, p.1)
+
+pub link_of_links : (tms dms : ℕ) (a b : Site) → IsThere (links tms dms) (a, b) → is_link tms dms a b ≡ true
+link_of_links tms dms a b k = All-at (λ (l : Site × Site). IsTrue (is_link tms dms l.0 l.1)) (links tms dms) k.0 (a, b) k.1 (links_exist tms dms)
+
+pub from_there : (g : Given) (a b : Site) → IsThere (all_links g) (a, b) → IsThere (sites g.catalogue.tms g.catalogue.dms) a
+from_there g a b k =
+    site_there g.catalogue.tms g.catalogue.dms a (link_parts g.catalogue.tms g.catalogue.dms a b (link_of_links g.catalogue.tms g.catalogue.dms a b k)).from

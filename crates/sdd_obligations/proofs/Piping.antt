@@ -1,0 +1,97 @@
+-- A READ, WRITE or NULL that is next to be handed over comes from the site that runs its class, in turn.
+use Rattle.std.specs.Prelude.{fold, max, slice_index_or}
+use Rattle.std.proofs.Common.{ℕ, ◌++◌, ◌-◌, ◌<◌, ◌==◌, ◌^◌, ◌∙◌, ◌∷◌, ◌≡◌, ◌≤◌, List, Some, [], ap, append_assoc, arith, false, length, map, refl, subst, suc, sym, true, zero}
+use Rattle.sdd_base.specs.Numbers.{tm_no}
+use Rattle.sdd_base.specs.Sites.{number_of}
+use Rattle.sdd_base.specs.declared.number.DmNo.{DmNo}
+use Rattle.sdd_base.specs.declared.site.Site.{Site}
+use Rattle.sdd_base.specs.declared.site.Site.TheVariants.{D, T, U}
+use Rattle.sdd_catalog.specs.declared.resolved.Class.{Class}
+use Rattle.sdd_wire.specs.Piped.{class_is, goes_through, piped, time_in, time_of}
+use Rattle.sdd_wire.specs.declared.msg.Msg.{Msg}
+use Rattle.sdd_module.specs.SiteLog.{Handed, Setting}
+use Rattle.sdd_dm.specs.Fits.{FitsClass, FitsPipe, last_time}
+use Rattle.sdd_dm.specs.Pipes.{pipe}
+use Rattle.sdd_dm.specs.Views.{home_of, source_of}
+use Rattle.sdd_log.specs.Entries.{Given, Hand, Log}
+use Rattle.sdd_log.specs.Locals.{local_of, setting_of}
+use Rattle.sdd_log.specs.Permitted.{IsPermitted}
+use Rattle.sdd_log.specs.Traffic.{handed}
+use Rattle.sdd_invariants.proofs.ClassOrder.{class_rises}
+use Rattle.sdd_invariants.proofs.InPipe.{in_pipe, put_at_home}
+use Rattle.sdd_invariants.specs.Seen.{all_of, class_puts, pipe_at}
+use Rattle.sdd_invariants.proofs.Bools.{not_zero, same_number}
+use Rattle.sdd_invariants.proofs.Sites.{site_self}
+use Rattle.sdd_invariants.specs.Orders.{AllGe, AllLe, IsRising}
+use Rattle.sdd_invariants.specs.Steps.{home}
+use Rattle.sdd_obligations.proofs.Counting.{class_here}
+use Rattle.sdd_obligations.proofs.Handing.{IsHanded}
+
+-- the site that runs a class, as a data module has it
+
+source_at : (ks : List Class) (i : ℕ) → i < length ks
+    → slice_index_or (map (λ k. T k.tm) ks) i U ≡ T (tm_no (slice_index_or ks i (record { name = []; tm = tm_no 0; reads = []; writes = [] })).tm.0)
+source_at [] i l = absurd (omega (arith, l))
+source_at (k ∷ ks) zero l = refl
+source_at (k ∷ ks) (suc i) l = source_at ks i (omega (arith, l))
+
+pub source_is_home : (s : Setting) (c : ℕ) → c ≤ length s.catalogue.classes → source_of (home_of s) c ≡ home s.catalogue c
+source_is_home s zero l = refl
+source_is_home s (suc c) l =
+    let z : (suc c == 0) ≡ false = not_zero (suc c) (omega arith) in
+    let e : suc c - 1 ≡ c = omega arith in
+    rw (z, e) (source_at s.catalogue.classes c (omega (arith, l)))
+
+class_fits : (g : Given) (d : DmNo) (from : Site) (c : ℕ) → home g.catalogue c ≡ from → c ≤ length g.catalogue.classes
+    → FitsClass (setting_of g (D d)) from c
+class_fits g d from c e l = record { is_class = l; home = sym e ∙ sym (source_is_home (setting_of g (D d)) c l) }
+
+-- no time before it is later
+
+max_of : (a b k : ℕ) → a ≤ k → b ≤ k → max a b ≤ k
+max_of a b k l m = omega (arith, l, m)
+
+fold_le : (k a : ℕ) (ns : List ℕ) → a ≤ k → AllLe k ns → fold max a ns ≤ k
+fold_le k a [] l h = l
+fold_le k a (n ∷ ns) l h = fold_le k (max a n) ns (max_of a n k l h.0) h.1
+
+ge_member : (f : Msg → ℕ) (k : ℕ) (xs : List Msg) (m : Msg) (more : List Msg) → AllGe k (map f ((xs ++ m ∷ []) ++ more)) → k ≤ f m
+ge_member f k [] m more h = h.0
+ge_member f k (x ∷ xs) m more h = ge_member f k xs m more h.1
+
+le_before : (f : Msg → ℕ) (xs : List Msg) (m : Msg) (more : List Msg) → IsRising (map f ((xs ++ m ∷ []) ++ more)) → AllLe (f m) (map f xs)
+le_before f [] m more h = tt
+le_before f (x ∷ xs) m more h = (ge_member f (f x) xs m more h.0, le_before f xs m more h.1)
+
+last_before : (xs : List Msg) (m : Msg) (more : List Msg) → IsRising (map time_of ((xs ++ m ∷ []) ++ more)) → fold max 0 (map time_of xs) ≤ time_of m
+last_before xs m more h = fold_le (time_of m) 0 (map time_of xs) (omega arith) (le_before time_of xs m more h)
+
+-- its pipe with it
+pub pipe_with : (g : Given) (c : ℕ) (d : DmNo) (a : Site) (n : ℕ) (m : Msg) (log : Log) → goes_through c m ≡ true
+    → all_of (pipe_at g c d (Hand a (D d) n m ∷ log)) ≡ all_of (pipe_at g c d log) ++ m ∷ []
+pipe_with g c d a n m log e =
+    let own : local_of g (D d) (Hand a (D d) n m ∷ log) ≡ Handed a m ∷ local_of g (D d) log = rw (site_self (D d)) refl in
+    ap (λ l. all_of (pipe c l)) own ∙ (rw e (sym (append_assoc (pipe_at g c d log).processed (pipe_at g c d log).unprocessed (m ∷ []))))
+
+in_turn : (g : Given) (c : ℕ) (d : DmNo) (a : Site) (n : ℕ) (m : Msg) (log : Log) → IsPermitted g (Hand a (D d) n m ∷ log)
+    → number_of (home g.catalogue c) ≤ 63 → goes_through c m ≡ true → last_time (pipe c (local_of g (D d) log)) ≤ time_of m
+in_turn g c d a n m log h small e =
+    let i = in_pipe g c d (Hand a (D d) n m ∷ log) h in
+    let rises = class_rises g c d (Hand a (D d) n m ∷ log) h small in
+    let is : class_puts g c d (Hand a (D d) n m ∷ log) ≡ (all_of (pipe_at g c d log) ++ m ∷ []) ++ i.0 =
+    i.1 ∙ ap (λ l. l ++ i.0) (pipe_with g c d a n m log e) in
+    last_before (all_of (pipe_at g c d log)) m i.0 (subst (λ l. IsRising (map time_of l)) is rises)
+
+pub pipe_fits : (g : Given) (d : DmNo) (log : Log) (a : Site) (n : ℕ) (m : Msg) (c t : ℕ) → IsHanded g log a (D d) n m
+    → number_of a ≤ 63 → piped m ≡ Some (c, t) → t < 2 ^ 62 → FitsPipe (setting_of g (D d)) (local_of g (D d) log) a c t
+pipe_fits g d log a n m c t h small e early =
+    let at : home g.catalogue c ≡ a = put_at_home g a (D d) log (handed a (D d) log) m h.permitted.1 h.place c t e in
+    let l = class_here g.catalogue c a h.from_number at in
+    let through : goes_through c m ≡ true = subst (λ o. class_is c o ≡ true) (sym e) (same_number c) in
+    let time : time_of m ≡ t = subst (λ o. time_in o ≡ t) (sym e) refl in
+    record {
+      source = class_fits g d a c at l;
+      in_turn = subst (λ x. last_time (pipe c (local_of g (D d) log)) ≤ x) time
+          (in_turn g c d a n m log h.permitted (subst (λ x. number_of x ≤ 63) (sym at) small) through);
+      early = early;
+    }

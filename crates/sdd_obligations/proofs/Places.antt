@@ -1,0 +1,148 @@
+-- The place of an Answer to a READ with a timestamp in the log of a data module: there is at most one.
+use Rattle.std.proofs.Common.{ℕ, ◌<◌, ◌≤◌, ◌≡◌, inl, inr, Bool, true, false, List, [], ◌∷◌, ◌++◌, length, append_assoc, arith, refl, ap, sym, ◌∙◌, subst, suc}
+use Rattle.std.specs.Prelude.{Option, Some}
+use Rattle.std.proofs.lemmas.Bool.{eqb-true}
+use Rattle.sdd_base.specs.declared.condition.Cond.{Cond}
+use Rattle.sdd_base.specs.declared.number.ClassNo.{ClassNo}
+use Rattle.sdd_base.specs.declared.number.DmNo.{DmNo}
+use Rattle.sdd_base.specs.declared.number.Ts.{Ts}
+use Rattle.sdd_base.specs.declared.number.TxnNo.{TxnNo}
+use Rattle.sdd_base.specs.declared.site.Site.{Site}
+use Rattle.sdd_base.specs.declared.site.Site.TheVariants.{D}
+use Rattle.sdd_base.specs.declared.usage.Use.{Use}
+use Rattle.sdd_catalog.specs.Rules.{IsSound}
+use Rattle.sdd_history.specs.declared.record.Rec.TheVariants.{Answer}
+use Rattle.sdd_wire.specs.declared.msg.Msg.{Msg}
+use Rattle.sdd_wire.specs.declared.msg.Msg.TheVariants.{Read}
+use Rattle.sdd_module.specs.SiteLog.{Act, Did, Each, Records, Sends, Setting}
+use Rattle.sdd_module.specs.SiteLog as site
+use Rattle.sdd_pipe.specs.Pipe.{head}
+use Rattle.sdd_dm.specs.Pipes.{is_processing, pipe}
+use Rattle.sdd_log.specs.Entries.{Does, Given, Log}
+use Rattle.sdd_log.specs.Locals.{local_of, setting_of}
+use Rattle.sdd_log.specs.Permitted.{IsPermitted}
+use Rattle.sdd_log.specs.Snapshots.{is_at}
+use Rattle.sdd_invariants.proofs.Places.{compare}
+use Rattle.sdd_invariants.proofs.Answered.{read_of}
+use Rattle.sdd_invariants.proofs.Once.{answered_there}
+use Rattle.sdd_invariants.specs.Causes.{IsReadOf}
+use Rattle.sdd_invariants.specs.Seen.{pipe_at}
+use Rattle.sdd_invariants.proofs.Active.{each_at}
+use Rattle.sdd_invariants.proofs.AreReadSteps.{d_step}
+use Rattle.sdd_invariants.specs.ReadSteps.{IsClassHere, IsDueEach, IsReadStep, by_record, by_wait, in_passing, is_moving}
+use Rattle.sdd_invariants.proofs.Fair.{d_fair}
+use Rattle.sdd_invariants.proofs.Made.{permitted_before, place_of_act}
+use Rattle.sdd_obligations.proofs.Starts.{one_start, read_later, small_home, start_here}
+
+-- a READ with this timestamp
+pub record IsReadAt (ts : ℕ) (o : Option Msg) : Type 0 where
+  pub t : Ts
+  pub of : ClassNo
+  pub txn : TxnNo
+  pub attempt : ℕ
+  pub conds : List Cond
+  pub uses : List Use
+  pub is : o ≡ Some (Read t of txn attempt conds uses)
+  pub ts_is : t.0 ≡ ts
+
+pub read_at_head : (ts : ℕ) (o : Option Msg) → is_at ts o ≡ true → IsReadAt ts o
+read_at_head ts (Some (Read t of txn attempt conds uses)) e =
+    record { t = t; of = of; txn = txn; attempt = attempt; conds = conds; uses = uses; is = refl; ts_is = eqb-true t.0 ts e }
+read_at_head ts o e = cc
+
+-- an Answer to it in a data module's log
+pub record IsAnswerAt (ts : ℕ) (log : site.Log) : Type 0 where
+  pub later : site.Log
+  pub class : ℕ
+  pub txn : TxnNo
+  pub attempt : ℕ
+  pub dm : DmNo
+  pub sends : List (Site × Msg)
+  pub before : site.Log
+  pub is : log ≡ later ++ Did (Records class (Answer txn attempt dm) sends) ∷ before
+  pub at : is_at ts (head (pipe class before)) ≡ true
+
+-- the class of an Answer is one of the catalogue's
+
+abbrev class_of : Act → ℕ
+class_of (Records k r sends) = k
+class_of (Sends to m hand) = 0
+
+abbrev class_in : site.Entry → ℕ
+class_in (Did act) = class_of act
+class_in _ = 0
+
+abbrev processes : Act → Bool
+processes (Records k r sends) = is_processing r
+processes (Sends to m hand) = false
+
+answer_class : (s : Setting) (log : site.Log) (k : ℕ) (txn : TxnNo) (attempt : ℕ) (dm : DmNo)
+    (sends : List (Site × Msg)) (act : Act) → act ≡ Records k (Answer txn attempt dm) sends
+    → IsReadStep s log act → IsClassHere s k
+answer_class s log k txn attempt dm sends act e (in_passing h) = let p : true ≡ false = sym (ap is_moving e) ∙ h in absurd cc
+answer_class s log k txn attempt dm sends act e (by_wait c conds r others here idle waits read none is) =
+    let p : true ≡ is_processing r = sym (ap processes e) ∙ ap processes is in absurd cc
+answer_class s log k txn attempt dm sends act e (by_record c m r others here active first may is) =
+    subst (IsClassHere s) (sym (ap class_of is) ∙ ap class_of e) here
+
+pub class_here : (g : Given) (d : DmNo) (log : Log) (later before : site.Log) (k : ℕ) (txn : TxnNo)
+    (attempt : ℕ) (dm : DmNo) (sends : List (Site × Msg)) → IsPermitted g log
+    → local_of g (D d) log ≡ later ++ Did (Records k (Answer txn attempt dm) sends) ∷ before → k ≤ length g.catalogue.classes
+class_here g d log later before k txn attempt dm sends h e =
+    let s : Setting = setting_of g (D d) in
+    let act : Act = Records k (Answer txn attempt dm) sends in
+    let due = each_at (IsDueEach s) later (Did act) before (subst (Each (IsDueEach s)) e (d_fair g d log h)) in
+    let here : k < suc (length g.catalogue.classes) = answer_class s before k txn attempt dm sends act refl (d_step s before act due.0) in
+    omega arith
+
+-- an Answer isn't repeated: no Answer stands behind one to the same READ
+twice : (g : Given) → IsSound g.catalogue → (d : DmNo) (log : Log) (ts : ℕ) → IsPermitted g log
+    → (y : IsAnswerAt ts (local_of g (D d) log)) (z b : site.Log) (k : ℕ) (txn : TxnNo) (attempt : ℕ)
+    (dm : DmNo) (sends : List (Site × Msg))
+    → y.before ≡ z ++ Did (Records k (Answer txn attempt dm) sends) ∷ b → is_at ts (head (pipe k b)) ≡ true → ⊥
+twice g sound d log ts h y z b k txn attempt dm sends e at =
+    let second : Act = Records y.class (Answer y.txn y.attempt y.dm) y.sends in
+    let first : Act = Records k (Answer txn attempt dm) sends in
+    let py = place_of_act g (D d) log y.later second y.before y.is in
+    let hy : IsPermitted g py.rest = (permitted_before g py.later (Does (D d) second ∷ py.rest) (subst (IsPermitted g) py.is h)).1 in
+    let px = place_of_act g (D d) py.rest z first b (py.local_is ∙ e) in
+    let front : Log = px.later ++ Does (D d) first ∷ [] in
+    let whole : Log = px.later ++ Does (D d) first ∷ px.rest in
+    let hw : IsPermitted g whole = subst (IsPermitted g) px.is hy in
+    let hx : IsPermitted g px.rest = (permitted_before g px.later (Does (D d) first ∷ px.rest) hw).1 in
+    let x = read_at_head ts (head (pipe k b)) at in
+    let r = read_at_head ts (head (pipe y.class y.before)) y.at in
+    let hd1 : head (pipe_at g k d px.rest) ≡ Some (Read x.t x.of x.txn x.attempt x.conds x.uses) = ap (λ l. head (pipe k l)) px.local_is ∙ x.is in
+    let hd2 : head (pipe_at g y.class d whole) ≡ Some (Read r.t r.of r.txn r.attempt r.conds r.uses) =
+    ap (λ l. head (pipe_at g y.class d l)) (sym px.is) ∙ ap (λ l. head (pipe y.class l)) py.local_is
+    ∙ r.is in
+    let o1 = (read_of g k d px.rest x.t x.of x.txn x.attempt x.conds x.uses hx hd1).1 in
+    let o2 = (read_of g y.class d whole r.t r.of r.txn r.attempt r.conds r.uses hw hd2).1 in
+    let n1 : k ≤ length g.catalogue.classes = class_here g d py.rest z b k txn attempt dm sends hy (py.local_is ∙ e) in
+    let n2 : y.class ≤ length g.catalogue.classes = class_here g d log y.later y.before y.class y.txn y.attempt y.dm y.sends h y.is in
+    let whole_is : front ++ px.rest ≡ whole = append_assoc px.later (Does (D d) first ∷ []) px.rest in
+    let s1 : IsReadOf g whole k x.txn.0 x.attempt ts =
+    subst (λ t. IsReadOf g whole k x.txn.0 x.attempt t) x.ts_is
+    (subst (λ l. IsReadOf g l k x.txn.0 x.attempt x.t.0) whole_is
+    (read_later g k front px.rest x.txn.0 x.attempt x.t.0 o1)) in
+    let s2 : IsReadOf g whole y.class r.txn.0 r.attempt ts = subst (λ t. IsReadOf g whole y.class r.txn.0 r.attempt t) r.ts_is o2 in
+    let same : k ≡ y.class = (one_start g sound k y.class whole ts s1.queued s2.queued n1 n2
+    (start_here g k whole x.txn.0 x.attempt ts s1) (start_here g y.class whole r.txn.0 r.attempt ts s2)).0
+    in
+    let hd3 : head (pipe_at g k d whole) ≡ Some (Read r.t r.of r.txn r.attempt r.conds r.uses) = ap (λ j. head (pipe_at g j d whole)) same ∙ hd2 in
+    answered_there g k d px.later px.rest dm sends x.t r.t x.of r.of txn x.txn r.txn attempt x.attempt
+    r.attempt x.conds r.conds x.uses r.uses hw (small_home g.catalogue sound k n1) hd1 hd3 (x.ts_is
+    ∙ sym r.ts_is)
+
+pub one_answer : (g : Given) → IsSound g.catalogue → (d : DmNo) (log : Log) (ts : ℕ) → IsPermitted g log
+    → (x y : IsAnswerAt ts (local_of g (D d) log)) → (x.before ≡ y.before) × (x.class ≡ y.class)
+one_answer g sound d log ts h x y =
+    let first : Act = Records x.class (Answer x.txn x.attempt x.dm) x.sends in
+    let second : Act = Records y.class (Answer y.txn y.attempt y.dm) y.sends in
+    elim (compare x.later y.later (Did first) (Did second) x.before y.before (sym x.is ∙ y.is)) [
+      | inl r ↦ (r.0, ap class_in r.1)
+      | inr r ↦ elim r [
+        | inl u ↦ absurd (twice g sound d log ts h y u.between x.before x.class x.txn x.attempt x.dm x.sends u.is x.at)
+        | inr u ↦ absurd (twice g sound d log ts h x u.between y.before y.class y.txn y.attempt y.dm y.sends u.is y.at)
+      ]
+    ]

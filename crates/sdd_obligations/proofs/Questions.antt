@@ -1,0 +1,160 @@
+-- The questions that an exchange puts are those of its phase.
+use Rattle.std.proofs.Common.{ℕ, ◌&&◌, ◌+◌, ◌++◌, ◌==◌, ◌∙◌, ◌∷◌, ◌≡◌, Bool, List, None, Some, [], ap, false, if◌then◌else◌, length, map, refl, subst, sym, true}
+use Rattle.std.specs.List.{AllByRecursion}
+use Rattle.sdd_base.specs.Order.{with_values}
+use Rattle.sdd_base.specs.Words.{contains}
+use Rattle.sdd_base.specs.declared.value.Value.{Value}
+use Rattle.sdd_wire.specs.declared.msg.Msg.{Msg}
+use Rattle.sdd_wire.specs.declared.msg.Msg.TheVariants.{Fetch, Read, Ready, Reduce, Reduced, Reject, Rows, Ship, Values}
+use Rattle.sdd_semijoin.specs.Steps.{Move, next_move}
+use Rattle.sdd_semijoin.specs.declared.step.Step.{Step}
+use Rattle.sdd_attempt.specs.Exchange.{Asking, Exchange, Fetching, Over, Phase, Reading, Reducing, Shipping, after_hand, answered, counted, counts_for, fetches, fetches_from, goes_on, lacking, move_at, phase_ends, reduces, to_all, with_use, without}
+use Rattle.sdd_obligations.proofs.AtTurn.{StandsAt, awaits}
+use Rattle.sdd_obligations.proofs.Hearing.{answers_asked, is_awaited}
+use Rattle.sdd_obligations.proofs.Modules.{without_other}
+use Rattle.sdd_obligations.specs.Turns.{Asks, MayAnswer, Refused, Replies, Silent, Told, Turn, is_a_refusal, is_answer, told}
+use Rattle.sdd_obligations.specs.Contents.{AsksPhase, question, question_of}
+use Rattle.sdd_obligations.proofs.InStep.{never}
+
+-- what goes to all modules is one question
+
+all_same : (m q : Msg) (ds : List ℕ) → m ≡ q → AllByRecursion (λ (p : ℕ × Msg). p.1 ≡ q) (to_all m ds)
+all_same m q [] e = tt
+all_same m q (d ∷ ds) e = (e, all_same m q ds e)
+
+abbrev SendsPhase : ℕ → ℕ → Exchange → Type 0
+SendsPhase ts c x = AllByRecursion (λ (p : ℕ × Msg). p.1 ≡ question_of ts c x) x.to_send
+
+sends_reduces : (ts c : ℕ) (m : Move) (x : Exchange) → SendsPhase ts c (reduces ts c m x)
+sends_reduces ts c m x = all_same _ _ (with_use x m.target.part) refl
+
+sends_fetches : (ts c : ℕ) (m : Move) (x : Exchange) (ds : List ℕ) → SendsPhase ts c (fetches_from ts c m x ds)
+sends_fetches ts c m x [] = sends_reduces ts c m (record x { union = [] })
+sends_fetches ts c m x (d ∷ ds) = all_same _ _ (d ∷ ds) refl
+
+sends_next : (ts c : ℕ) (x : Exchange) (qs : List Asking) (done : List Step) → SendsPhase ts c (goes_on ts c x qs done)
+sends_next ts c x [] done = all_same _ _ (map (λ (m : ℕ × List ℕ). m.0) x.modules) refl
+sends_next ts c x (q ∷ rest) done =
+    elim (next_move q.conds (counts_for x.counts q) done) as (λ o. SendsPhase ts c
+    (elim o as (λ _. Exchange) [
+      | None ↦ goes_on ts c x rest []
+      | Some m ↦ fetches ts c
+          (move_at q.before m) (record x { left = q ∷ rest; done = done ++ m.step ∷ [] })
+    ])) [
+      | None ↦ sends_next ts c x rest []
+      | Some m ↦ sends_fetches ts c (move_at q.before m) (record x {
+        left = q ∷ rest;
+        done =
+            done ++ m.step ∷ [];
+      }) (with_use x (move_at q.before m).source.part)
+    ]
+
+sends_end : (ts c : ℕ) (x : Exchange) (p : Phase) → x.phase ≡ p → SendsPhase ts c x → SendsPhase ts c (phase_ends ts c x p)
+sends_end ts c x Reading e h = sends_next ts c x x.left x.done
+sends_end ts c x (Fetching m) e h = sends_reduces ts c m x
+sends_end ts c x (Reducing m) e h = sends_next ts c x x.left x.done
+sends_end ts c x Shipping e h = subst (λ p. AllByRecursion (λ (s : ℕ × Msg). s.1 ≡ question ts c p x.union) x.to_send) e h
+sends_end ts c x Over e h = h
+
+-- an answer of module n
+
+-- the turns then
+abbrev pub after_answer : ℕ → Msg → (ℕ → Turn) → ℕ → Turn
+after_answer n m v d = if d == n then told m (v d) else v d
+
+told_no_asks : {A : Type 0} (m q : Msg) (ns : List ℕ) (v : Turn) → told m v ≡ Asks ns q → A
+told_no_asks m q ns Silent e = cc
+told_no_asks m q ns (Asks ms r) e = either (is_a_refusal m) e
+  where
+    either : {A : Type 0} (b : Bool) → (if b then Refused else Told ms r) ≡ Asks ns q → A
+    either true e = cc
+    either false e = cc
+told_no_asks m q ns (Told ms r) e = cc
+told_no_asks m q ns Refused e = cc
+
+-- what is asked still was asked before, of another module
+still_asked : (n d : ℕ) (m q : Msg) (ns : List ℕ) (v : ℕ → Turn) → after_answer n m v d ≡ Asks ns q → (v d ≡ Asks ns q) × ((d == n) ≡ false)
+still_asked n d m q ns v e = elim (d == n) as (λ b. (d == n) ≡ b → (if b then told m (v d) else v d) ≡ Asks ns q → (v d ≡ Asks ns q) × ((d == n) ≡ false)) [
+  | true ↦ λ p f. told_no_asks m q ns (v d) f
+  | false ↦ λ p f. (f, p)
+] refl e
+
+module _ (ts c n : ℕ) (m : Msg) (v : ℕ → Turn) where
+  abbrev w : ℕ → Turn
+  w d = after_answer n m v d
+
+  -- y is the exchange x with what the answer told
+  module _ (x y : Exchange) (stands : (d : ℕ) → StandsAt d x (v d)) (lacks_are : y.lacks ≡ x.lacks)
+      (same : question_of ts c x ≡ question_of ts c y) (sends : SendsPhase ts c y)
+      (h : AsksPhase ts c x v) where
+    lack_asks : (ds : List ℕ) → without y.lacks n ≡ ds → AsksPhase ts c (lacking ts c y ds) w
+    lack_asks [] e = record {
+      sends = sends_end ts c (record y { lacks = [] }) y.phase refl sends;
+      asked = λ d ns q a r.
+          (let k = still_asked n d m q ns v a in
+          let l : contains x.lacks d ≡ true = (is_awaited d x (v d) ns q (stands d) k.0).lacks in
+          let none : contains x.lacks d ≡ false = sym (without_other x.lacks n d k.1)
+          ∙ ap (λ ls. contains ls d) (ap (λ ls. without ls n) (sym lacks_are) ∙ e) in
+          never (contains x.lacks d) l none);
+    }
+    lack_asks (l ∷ ds) e = record { sends = sends; asked = λ d ns q a r. (let k = still_asked n d m q ns v a in h.asked d ns q k.0 r ∙ same) }
+
+    pub answer_asks : AsksPhase ts c (answered ts c n y) w
+    answer_asks = lack_asks (without y.lacks n) refl
+
+  -- values come while they are fetched
+  fetched : (x : Exchange) (ns : List ℕ) (q : Msg) (u : ℕ) (vs : List Value) (t : _) (k : _)
+      → awaits x.phase q ≡ true → Replies ns q (Values t k u vs) → (z : List Value)
+      → question ts c x.phase x.union ≡ question ts c x.phase z
+  fetched x ns q u vs t k a r z = by x.phase q a r
+    where
+      by : (p : Phase) (q : Msg) → awaits p q ≡ true → Replies ns q (Values t k u vs) → question ts c p x.union ≡ question ts c p z
+      by (Reducing mv) (Fetch t k u col) a r = cc
+      by (Reducing mv) (Read t k txn attempt conds uses) a r = absurd r
+      by (Reducing mv) (Reduce t k u col values) a r = absurd r
+      by (Reducing mv) (Ship t k) a r = absurd r
+      by (Reducing mv) _ a r = cc
+      by Reading q a r = refl
+      by (Fetching mv) q a r = refl
+      by Shipping q a r = refl
+      by Over q a r = refl
+
+  answered_if : (b : Bool) (x y : Exchange) → b ≡ true → AsksPhase ts c (answered ts c n y) w → AsksPhase ts c (if b then answered ts c n y else x) w
+  answered_if true x y e h = h
+  answered_if false x y e h = cc
+
+  -- an answer to the attempt, other than a rejection
+  pub hand_asks : (x : Exchange) → is_answer ts c m ≡ true → is_a_refusal m ≡ false
+      → ((d : ℕ) → StandsAt d x (v d)) → MayAnswer (v n) m → AsksPhase ts c x v
+      → AsksPhase ts c (after_hand ts c n m x) w
+  hand_asks x own kind stands may h = by m refl own
+    where
+      by : (z : Msg) → m ≡ z → is_answer ts c z ≡ true → AsksPhase ts c (after_hand ts c n z x) w
+      by (Ready t k counts) e i = answered_if ((t.0 == ts) && (k.0 == c)) x (record x {
+        counts =
+            counted n counts x.counts;
+      }) i (answer_asks x (record x { counts = counted n counts x.counts })
+          stands refl refl h.sends h)
+      by (Values t k u vs) e i =
+          let a = answers_asked (v n) m may in
+          let q = is_awaited n x (v n) a.uses a.question (stands n) a.is in
+          let same : question ts c x.phase x.union ≡ question ts c x.phase (with_values x.union vs) =
+          fetched x a.uses a.question u vs t k q.phase (subst (Replies a.uses a.question) e a.replies)
+          (with_values x.union vs) in
+          answered_if ((t.0 == ts) && (k.0 == c)) x (record x { union = with_values x.union vs; values = x.values + length vs }) i
+          (answer_asks x (record x { union = with_values x.union vs; values = x.values + length vs }) stands
+          refl same (subst (λ z. AllByRecursion (λ (p : ℕ × Msg). p.1 ≡ z) x.to_send) same h.sends) h)
+      by (Reduced t k u y) e i = answered_if ((t.0 == ts) && (k.0 == c)) x (record x {
+        counts =
+            counted n ((u, y) ∷ []) x.counts;
+      }) i
+          (answer_asks x (record x { counts = counted n ((u, y) ∷ []) x.counts }) stands refl refl h.sends h)
+      by (Rows t k rows) e i = answered_if ((t.0 == ts) && (k.0 == c)) x (record x {
+        found =
+            x.found ++ rows;
+        rows = x.rows + length rows;
+      }) i
+          (answer_asks x (record x { found = x.found ++ rows; rows = x.rows + length rows }) stands refl refl
+          h.sends h)
+      by (Reject t k b write) e i = let r : true ≡ false = sym (ap is_a_refusal e) ∙ kind in absurd cc
+      by z e i = cc

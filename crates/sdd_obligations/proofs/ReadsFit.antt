@@ -1,0 +1,329 @@
+-- What a READ says: its conditions are on classes of the catalogue and ascend by class, its uses ascend by number, and its
+-- module has copies of their fragments.
+use Rattle.std.specs.List.{AllByRecursion, cons_option, range_with_len}
+use Rattle.std.specs.Option.{option_eq}
+use Rattle.std.specs.Prelude.{filter_map}
+use Rattle.std.proofs.Common.{ℕ, ◌&&◌, ◌+◌, ◌++◌, ◌<◌, ◌==◌, ◌∙◌, ◌∷◌, ◌≡◌, ◌≤◌, Bool, List, None, Option, Some, [], ap, arith, cond, false, filter, inl, inr, length, map, refl, slice_get, subst, suc, sym, true, zero}
+use Rattle.std.proofs.lemmas.Bool.{eqb-true}
+use Rattle.std.proofs.lemmas.List.Elements.{All-from_recursion}
+use Rattle.sdd_base.specs.Numbers.{dm_no, frag_no}
+use Rattle.sdd_base.specs.Words.{ascending}
+use Rattle.sdd_base.specs.declared.condition.Cond.{Cond}
+use Rattle.sdd_base.specs.declared.number.DmNo.{DmNo}
+use Rattle.sdd_base.specs.declared.number.FragNo.{FragNo}
+use Rattle.sdd_base.specs.declared.number.RelNo.{RelNo}
+use Rattle.sdd_base.specs.declared.site.Site.{Site}
+use Rattle.sdd_base.specs.declared.site.Site.TheVariants.{D}
+use Rattle.sdd_base.specs.declared.usage.Use.{Use}
+use Rattle.sdd_catalog.specs.Catalogue.{Catalogue, has_copy, reads_at}
+use Rattle.sdd_catalog.specs.Rules as catalogues
+use Rattle.sdd_catalog.proofs.Sound.{served_read}
+use Rattle.sdd_graph.specs.Graph.{fragments_of}
+use Rattle.sdd_lang.specs.Classes.{fragments_in}
+use Rattle.sdd_lang.specs.Uses.{part_uses, statement_uses, uses_from, uses_of}
+use Rattle.sdd_lang.specs.declared.condition.Condition.{Condition}
+use Rattle.sdd_lang.specs.declared.statement.Stmt.{Stmt}
+use Rattle.sdd_lang.specs.declared.statement.Stmt.TheVariants.{Delete, Put, Query, Update}
+use Rattle.sdd_protocol.specs.Conditions.{cond_of, condition_on, conditions, is_asked, is_read_at, undeclared_conditions}
+use Rattle.sdd_protocol.specs.declared.entry.Entry as line
+use Rattle.sdd_wire.specs.declared.msg.Msg.{Msg}
+use Rattle.sdd_wire.specs.declared.msg.Msg.TheVariants.{Read}
+use Rattle.sdd_module.specs.SiteLog.{Act, Did, Each, Log, Setting, in_force, sends_of_act}
+use Rattle.sdd_attempt.specs.Acts.{conditions_at, use_there, with_frags}
+use Rattle.sdd_attempt.specs.Queues.{Queued}
+use Rattle.sdd_dm.specs.Fits.{IsHere}
+use Rattle.sdd_log.specs.Entries.{Given, Hand}
+use Rattle.sdd_log.specs.Entries as all
+use Rattle.sdd_log.specs.Locals.{local_of, setting_of}
+use Rattle.sdd_log.specs.Permitted.{IsPermitted}
+use Rattle.sdd_log.specs.Traffic.{handed}
+use Rattle.sdd_obligations.proofs.Ascending.{condition_class, conditions_strict, strict_ascends}
+use Rattle.sdd_obligations.proofs.Asking.{asks_no_read, strict_asked}
+use Rattle.sdd_obligations.proofs.FirstSends.{IsFirstEach, IsFirstSend}
+use Rattle.sdd_obligations.proofs.Modules.{sent_to_each}
+use Rattle.sdd_obligations.proofs.Sources.{home_first, question_home}
+use Rattle.sdd_obligations.specs.Awaited.{IsReadable}
+use Rattle.sdd_obligations.specs.Turns.{is_a_read}
+use Rattle.sdd_invariants.proofs.Origins.{was_put}
+use Rattle.sdd_invariants.proofs.WritesPut.{commit_puts}
+use Rattle.sdd_invariants.proofs.Active.{each_at, step_way}
+use Rattle.sdd_invariants.proofs.Bools.{both, if_way, not_both, same_number}
+use Rattle.sdd_invariants.proofs.Lists.{gt_down, in_if, in_none, in_one}
+use Rattle.sdd_invariants.proofs.Sites.{the_one}
+use Rattle.sdd_invariants.specs.Orders.{AllGt, AllLe, IsStrict}
+use Rattle.sdd_invariants.specs.Steps.{IsFair, IsSend, IsStep, a_held, a_hold, a_null, a_release, bound, home, modules_asked, next_stamp, of_exchange, start_read}
+use Rattle.sdd_invariants.specs.Traffic.{puts_to, to_site}
+use Rattle.sdd_invariants.proofs.Fair.{home_fair}
+use Rattle.sdd_invariants.proofs.InOrder.{hand_was_put}
+
+never : {A : Type 0} (b : Bool) → b ≡ true → b ≡ false → A
+never b e f = absurd (not_both b e f)
+
+-- conditions are on classes of the catalogue
+
+abbrev IsOn : ℕ → Cond → Type 0
+IsOn n q = q.class.0 ≤ n
+
+conds_in_range : (f : ℕ → Option Cond) (a n bound : ℕ) → ((j : ℕ) (q : Cond) → f j ≡ Some q → q.class.0 ≡ j) → a + n ≤ suc bound
+    → AllByRecursion (IsOn bound) (filter_map f (range_with_len a n))
+conds_in_range f a zero bound g l = tt
+conds_in_range f a (suc n) bound g l =
+    let i = conds_in_range f (a + 1) n bound g (omega (arith, l)) in
+    elim (f a) as (λ o. f a ≡ o → AllByRecursion (IsOn bound) (cons_option o (filter_map f (range_with_len (a + 1) n)))) [
+      | None ↦ λ e. i
+      | Some q ↦ λ e. (let k = g a q e in omega (arith, l, k), i)
+    ] refl
+
+undeclared_in_range : (own : ℕ) (fs : List FragNo) (a n bound : ℕ) → a + n ≤ suc bound
+    → AllByRecursion (IsOn bound) (map (λ c. cond_of c own fs) (range_with_len a n))
+undeclared_in_range own fs a zero bound l = tt
+undeclared_in_range own fs a (suc n) bound l = (omega (arith, l), undeclared_in_range own fs (a + 1) n bound (omega (arith, l)))
+
+conditions_here : (cat : Catalogue) (table : List line.Entry) (c : ℕ) (frags : List ℕ) (own p2 d : ℕ)
+    → AllByRecursion (IsOn (length cat.classes)) (conditions_at cat table c frags own p2 d)
+conditions_here cat table c frags own p2 d =
+    if_way (AllByRecursion (IsOn (length cat.classes))) (c == 0) (undeclared_conditions cat own) (conditions cat table c d (map frag_no frags) own p2)
+    (undeclared_in_range own (map frag_no (fragments_of cat)) 1 (length cat.classes) (length cat.classes) (omega arith))
+    (conds_in_range (condition_on (is_asked cat c d (map frag_no frags)) table c own p2) 1
+    (length cat.classes) (length cat.classes)
+    (condition_class (is_asked cat c d (map frag_no frags)) table c own p2) (omega arith))
+
+-- uses are numbered upwards
+
+abbrev numbers : List Use → List ℕ
+numbers us = map (λ (u : Use). u.number) us
+
+part_above : (cat : Catalogue) (before k : ℕ) (conds : List Condition) (part : ℕ) (rels : List RelNo) → k < before + part
+    → AllGt k (numbers (part_uses cat before conds part rels))
+part_above cat before k conds part [] l = tt
+part_above cat before k conds part (r ∷ rels) l = (l, part_above cat before k conds (part + 1) rels (omega (arith, l)))
+
+part_strict : (cat : Catalogue) (before : ℕ) (conds : List Condition) (part : ℕ) (rels : List RelNo)
+    → IsStrict (numbers (part_uses cat before conds part rels))
+part_strict cat before conds part [] = tt
+part_strict cat before conds part (r ∷ rels) =
+    (part_above cat before (before + part) conds (part + 1) rels (omega arith), part_strict cat before conds (part + 1) rels)
+
+part_within : (cat : Catalogue) (before : ℕ) (conds : List Condition) (part : ℕ) (rels : List RelNo) (n : ℕ)
+    → before + part + length (part_uses cat before conds part rels) ≤ suc n → AllLe n (numbers (part_uses cat before conds part rels))
+part_within cat before conds part [] n l = tt
+part_within cat before conds part (r ∷ rels) n l = (omega (arith, l), part_within cat before conds (part + 1) rels n (omega (arith, l)))
+
+record AreNumbered (before : ℕ) (us : List Use) : Type 0 where
+  above : AllGt before (numbers us)
+  strict : IsStrict (numbers us)
+  within : AllLe (before + length us) (numbers us)
+
+parts_numbered : (cat : Catalogue) (before : ℕ) (conds : List Condition) (rels : List RelNo) → AreNumbered before (part_uses cat before conds 1 rels)
+parts_numbered cat before conds rels = record {
+  above = part_above cat before before conds 1 rels (omega arith);
+  strict = part_strict cat before conds 1 rels;
+  within = part_within cat before conds 1 rels (before + length (part_uses cat before conds 1 rels)) (omega arith);
+}
+
+statement_numbered : (cat : Catalogue) (before : ℕ) (s : Stmt) → AreNumbered before (statement_uses cat before s)
+statement_numbered cat before (Put rel row) = record { above = tt; strict = tt; within = tt }
+statement_numbered cat before (Query out rels conds) = parts_numbered cat before conds rels
+statement_numbered cat before (Update rel sets conds) = parts_numbered cat before conds (rel ∷ [])
+statement_numbered cat before (Delete rel conds) = parts_numbered cat before conds (rel ∷ [])
+
+gt_join : (k : ℕ) (xs ys : List ℕ) → AllGt k xs → AllGt k ys → AllGt k (xs ++ ys)
+gt_join k [] ys h i = i
+gt_join k (x ∷ xs) ys h i = (h.0, gt_join k xs ys h.1 i)
+
+strict_join : (k : ℕ) (xs ys : List ℕ) → IsStrict xs → AllLe k xs → IsStrict ys → AllGt k ys → IsStrict (xs ++ ys)
+strict_join k [] ys h l i g = i
+strict_join k (x ∷ xs) ys h l i g = (gt_join x xs ys h.0 (gt_down x k ys l.0 g), strict_join k xs ys h.1 l.1 i g)
+
+numbers_append : (us vs : List Use) → numbers (us ++ vs) ≡ numbers us ++ numbers vs
+numbers_append [] vs = refl
+numbers_append (u ∷ us) vs = ap (λ l. u.number ∷ l) (numbers_append us vs)
+
+all_numbered : (cat : Catalogue) (before : ℕ) (ss : List Stmt)
+    → AllGt before (numbers (uses_from cat before ss)) × IsStrict (numbers (uses_from cat before ss))
+all_numbered cat before [] = (tt, tt)
+all_numbered cat before (s ∷ rest) =
+    let found : List Use = statement_uses cat before s in
+    let h = statement_numbered cat before s in
+    let i = all_numbered cat (before + length found) rest in
+    let more : List Use = uses_from cat (before + length found) rest in (
+      subst (AllGt before) (sym (numbers_append found more)) (gt_join before (numbers found)
+          (numbers more) h.above (gt_down before (before + length found) (numbers more) (omega arith) i.0)),
+      subst IsStrict (sym (numbers_append found more)) (strict_join (before + length found) (numbers found) (numbers more) h.strict h.within i.1 i.0),
+    )
+
+-- and stay so at a module
+
+there_above : (cat : Catalogue) (c d k : ℕ) (us : List Use) → AllGt k (numbers us) → AllGt k (numbers (filter_map (use_there cat c d) us))
+there_above cat c d k [] h = tt
+there_above cat c d k (u ∷ us) h =
+    elim (filter (λ (f : FragNo). is_read_at cat c d f.0) u.frags) as (λ l. AllGt k
+    (numbers (cons_option (with_frags u l) (filter_map (use_there cat c d) us)))) [
+      | [] ↦ there_above cat c d k us h.1
+      | f ∷ fs ↦ (h.0, there_above cat c d k us h.1)
+    ]
+
+there_strict : (cat : Catalogue) (c d : ℕ) (us : List Use) → IsStrict (numbers us) → IsStrict (numbers (filter_map (use_there cat c d) us))
+there_strict cat c d [] h = tt
+there_strict cat c d (u ∷ us) h =
+    elim (filter (λ (f : FragNo). is_read_at cat c d f.0) u.frags) as (λ l. IsStrict
+    (numbers (cons_option (with_frags u l) (filter_map (use_there cat c d) us)))) [
+      | [] ↦ there_strict cat c d us h.1
+      | f ∷ fs ↦ (there_above cat c d u.number us h.0, there_strict cat c d us h.1)
+    ]
+
+-- fragments of uses are of the catalogue, and the module has copies of those that are read there
+
+abbrev IsFragment : Catalogue → FragNo → Type 0
+IsFragment cat f = (1 ≤ f.0) × (f.0 ≤ length cat.fragments)
+
+abbrev AreFragments : Catalogue → Use → Type 0
+AreFragments cat u = AllByRecursion (IsFragment cat) u.frags
+
+frags_in_range : (cat : Catalogue) (p : ℕ → Bool) (a n : ℕ) → 1 ≤ a → a + n ≤ suc (length cat.fragments)
+    → AllByRecursion (IsFragment cat) (map frag_no (filter p (range_with_len a n)))
+frags_in_range cat p a zero h l = tt
+frags_in_range cat p a (suc n) h l =
+    let i = frags_in_range cat p (a + 1) n (omega arith) (omega (arith, l)) in
+    elim (p a) as (λ b. AllByRecursion (IsFragment cat)
+    (map frag_no (cond b (a ∷ filter p (range_with_len (a + 1) n))
+    (filter p (range_with_len (a + 1) n))))) [
+      | true ↦ ((h, omega (arith, l)), i)
+      | false ↦ i
+    ]
+
+parts_placed : (cat : Catalogue) (before : ℕ) (conds : List Condition) (part : ℕ) (rels : List RelNo)
+    → AllByRecursion (AreFragments cat) (part_uses cat before conds part rels)
+parts_placed cat before conds part [] = tt
+parts_placed cat before conds part (r ∷ rels) =
+    (frags_in_range cat _ 1 (length cat.fragments) (omega arith) (omega arith), parts_placed cat before conds (part + 1) rels)
+
+statement_placed : (cat : Catalogue) (before : ℕ) (s : Stmt) → AllByRecursion (AreFragments cat) (statement_uses cat before s)
+statement_placed cat before (Put rel row) = tt
+statement_placed cat before (Query out rels conds) = parts_placed cat before conds 1 rels
+statement_placed cat before (Update rel sets conds) = parts_placed cat before conds 1 (rel ∷ [])
+statement_placed cat before (Delete rel conds) = parts_placed cat before conds 1 (rel ∷ [])
+
+join_placed : (cat : Catalogue) (us vs : List Use) → AllByRecursion (AreFragments cat) us → AllByRecursion (AreFragments cat) vs
+    → AllByRecursion (AreFragments cat) (us ++ vs)
+join_placed cat [] vs h i = i
+join_placed cat (u ∷ us) vs h i = (h.0, join_placed cat us vs h.1 i)
+
+all_placed : (cat : Catalogue) (before : ℕ) (ss : List Stmt) → AllByRecursion (AreFragments cat) (uses_from cat before ss)
+all_placed cat before [] = tt
+all_placed cat before (s ∷ rest) =
+    join_placed cat (statement_uses cat before s)
+    (uses_from cat (before + length (statement_uses cat before s)) rest) (statement_placed cat before s)
+    (all_placed cat (before + length (statement_uses cat before s)) rest)
+
+same_option : (o : Option ℕ) (d : ℕ) → option_eq ◌==◌ o (Some d) ≡ true → o ≡ Some d
+same_option None d e = cc
+same_option (Some x) d e = ap (λ y. Some y) (eqb-true x d e)
+
+copies_there : (cat : Catalogue) (c d : ℕ) (fs : List FragNo) → catalogues.IsSound cat → c ≤ length cat.classes → AllByRecursion (IsFragment cat) fs
+    → AllByRecursion (λ (f : FragNo). has_copy cat d f.0 ≡ true) (filter (λ (f : FragNo). is_read_at cat c d f.0) fs)
+copies_there cat c d [] sound l h = tt
+copies_there cat c d (f ∷ fs) sound l h =
+    let i = copies_there cat c d fs sound l h.1 in
+    elim (is_read_at cat c d f.0) as (λ b. is_read_at cat c d f.0 ≡ b
+    → AllByRecursion (λ (f : FragNo). has_copy cat d f.0 ≡ true)
+    (cond b (f ∷ filter (λ (f : FragNo). is_read_at cat c d f.0) fs)
+    (filter (λ (f : FragNo). is_read_at cat c d f.0) fs))) [
+      | true ↦ λ e. ((served_read cat c f.0 d sound l h.0.0 h.0.1 (same_option (reads_at cat c f.0) d e)).copy, i)
+      | false ↦ λ e. i
+    ] refl
+
+uses_here : (s : Setting) (cat : Catalogue) (c d : ℕ) (us : List Use)
+    → ((u : Use) → AllByRecursion (λ (f : FragNo). has_copy cat d f.0 ≡ true) u.frags → IsHere s u)
+    → catalogues.IsSound cat → c ≤ length cat.classes → AllByRecursion (AreFragments cat) us
+    → AllByRecursion (IsHere s) (filter_map (use_there cat c d) us)
+uses_here s cat c d [] g sound l h = tt
+uses_here s cat c d (u ∷ us) g sound l h =
+    let i = uses_here s cat c d us g sound l h.1 in
+    let k = copies_there cat c d u.frags sound l h.0 in
+    elim (filter (λ (f : FragNo). is_read_at cat c d f.0) u.frags) as (λ fs. AllByRecursion
+    (λ (f : FragNo). has_copy cat d f.0 ≡ true) fs → AllByRecursion (IsHere s)
+    (cons_option (with_frags u fs) (filter_map (use_there cat c d) us))) [
+      | [] ↦ λ j. i
+      | f ∷ fs ↦ λ j. (g (record u { frags = f ∷ fs }) j, i)
+    ] k
+
+-- the READ of a Start
+
+record IsReadOf (s : Setting) (log : Log) (d : ℕ) (m : Msg) : Type 0 where
+  class : ℕ
+  queued : Queued
+  here : class ≤ length s.catalogue.classes
+  is : start_read s class log queued d ≡ m
+
+send_no_read : (s : Setting) (log : Log) (m : Msg) → IsSend s log m → is_a_read m ≡ false
+send_no_read s log m (of_exchange k a at i e w) = asks_no_read a.ts k m e
+send_no_read s log m (a_null k at e) = ap is_a_read e
+send_no_read s log m (a_held e) = ap is_a_read e
+send_no_read s log m (a_hold e) = ap is_a_read e
+send_no_read s log m (a_release t e) = ap is_a_read e
+
+act_read : (s : Setting) (log : Log) (act : Act) (d place : ℕ) (m : Msg) → IsStep s log act → IsFirstSend s log act
+    → slice_get (to_site (D (dm_no d)) (sends_of_act act)) place ≡ Some m → is_a_read m ≡ true → IsReadOf s log d m
+act_read s log act d place m i first =
+    step_way s log act (λ x. IsFirstSend s log x
+    → slice_get (to_site (D (dm_no d)) (sends_of_act x)) place ≡ Some m → is_a_read m ≡ true
+    → IsReadOf s log d m)
+    (λ k q at f e. λ first there r. record {
+      class = k;
+      queued = q;
+      here = first;
+      is = (in_if _ (start_read s k log q d) place m (subst (λ l. slice_get l place ≡ Some m)
+          (sent_to_each (start_read s k log q) (modules_asked s k q.text) d (strict_asked s k q)) there)).1;
+    })
+    (λ k bases a at f. λ first there r. elim (commit_puts s k bases (D (dm_no d)) a) [
+      | inl p ↦ in_none _ place m p there
+      | inr p ↦ never (is_a_read m) r (sym (ap is_a_read (in_one _ _ place m p.1 there)))
+    ])
+    (λ to x hand f. λ first there r. never (is_a_read m) r (sym (ap is_a_read (the_one (D (dm_no d)) to x place m there).1) ∙ send_no_read s log x f)) i first
+
+-- of setting and catalogue of what is given
+start_fits : (g : Given) (at : Site) (d : DmNo) (log : Log) (class : ℕ) (q : Queued) → catalogues.IsSound g.catalogue
+    → class ≤ length g.catalogue.classes → IsReadable (setting_of g (D d)) (start_read (setting_of g at) class log q d.0)
+start_fits g at d log class q sound l = record {
+  is_class = l;
+  conditions = All-from_recursion (IsOn (length g.catalogue.classes)) _
+      (conditions_here g.catalogue (in_force (setting_of g at) log).table class
+      (ascending (fragments_in (uses_of g.catalogue q.text))) (next_stamp (setting_of g at) log)
+      (bound (setting_of g at) log) d.0);
+  classes_ascend = strict_ascends _ (conditions_strict g.catalogue (in_force (setting_of g at) log).table class
+      (ascending (fragments_in (uses_of g.catalogue q.text))) (next_stamp (setting_of g at) log)
+      (bound (setting_of g at) log) d.0);
+  uses_ascend = strict_ascends (numbers (filter_map (use_there g.catalogue class d.0)
+      (uses_of g.catalogue q.text))) (there_strict g.catalogue class d.0 (uses_of g.catalogue q.text)
+      (all_numbered g.catalogue 0 q.text.statements).1);
+  here = All-from_recursion (IsHere (setting_of g (D d))) _
+      (uses_here (setting_of g (D d)) g.catalogue class d.0 (uses_of g.catalogue q.text)
+      (λ u h. All-from_recursion (λ (f : FragNo). has_copy g.catalogue d.0 f.0 ≡ true) u.frags h) sound l
+      (all_placed g.catalogue 0 q.text.statements));
+}
+
+read_at : (g : Given) (at : Site) (d : DmNo) (log : Log) (m : Msg) → catalogues.IsSound g.catalogue → IsReadOf (setting_of g at) log d.0 m
+    → IsReadable (setting_of g (D d)) m
+read_at g at d log m sound r =
+    subst (IsReadable (setting_of g (D d))) r.is (start_fits g at d log r.class r.queued sound r.here)
+
+-- a READ that is next to be handed over
+pub reads_are_readable : (g : Given) (log : all.Log) (a : Site) (d : DmNo) (n : ℕ) (m : Msg) → IsPermitted g (Hand a (D d) n m ∷ log)
+    → catalogues.IsSound g.catalogue → IsReadable (setting_of g (D d)) m
+reads_are_readable g log a d n (Read t k txn attempt conds uses) h sound =
+    let m : Msg = Read t k txn attempt conds uses in
+    let own : ((t.0 == t.0) && (k.0 == k.0)) ≡ true = both (t.0 == t.0) (k.0 == k.0) (same_number t.0) (same_number k.0) in
+    let put = (hand_was_put g log a (D d) n m h.0).1 in
+    let from : home g.catalogue k.0 ≡ a = question_home g a (D d) log (handed a (D d) log) m t.0 k.0 h.1 put own in
+    let at : Site = home g.catalogue k.0 in
+    let s : Setting = setting_of g at in
+    let l : Log = local_of g at log in
+    let there : slice_get (puts_to (D d) l) (handed a (D d) log) ≡ Some m =
+    subst (λ x. slice_get (puts_to (D d) (local_of g x log)) (handed a (D d) log) ≡ Some m)
+    (sym from) put in
+    let p = was_put (D d) l (handed a (D d) log) m there in
+    let q = each_at (IsFair s) p.later (Did p.act) p.before (subst (Each (IsFair s)) p.is (home_fair g k.0 log h.1)) in
+    let r = each_at (IsFirstEach s) p.later (Did p.act) p.before (subst (Each (IsFirstEach s)) p.is (home_first g k.0 log h.1)) in
+    read_at g at d p.before m sound (act_read s p.before p.act d.0 p.place m q.0 r.0 p.there refl)
+reads_are_readable g log a d n m h sound = tt

@@ -1,0 +1,190 @@
+-- What a site that runs transactions sends lies below its clock's height.
+use Rattle.std.proofs.Common.{ℕ, ◌+◌, ◌==◌, ◌∷◌, ◌≡◌, ◌≤◌, Bool, List, None, Option, Some, [], arith, inl, inr, map, refl, subst, suc, sym, true}
+use Rattle.std.specs.Option.{option_or}
+use Rattle.sdd_base.specs.Numbers.{dm_no, frag_no, tm_no}
+use Rattle.sdd_base.specs.Sites.{number_of, same_site}
+use Rattle.sdd_base.specs.Words.{ascending}
+use Rattle.sdd_base.specs.declared.condition.Cond.{Cond}
+use Rattle.sdd_base.specs.declared.number.FragNo.{FragNo}
+use Rattle.sdd_base.specs.declared.number.TmNo.{TmNo}
+use Rattle.sdd_base.specs.declared.number.Ts.{Ts}
+use Rattle.sdd_base.specs.declared.site.Site.{Site}
+use Rattle.sdd_base.specs.declared.site.Site.TheVariants.{D, T}
+use Rattle.sdd_catalog.specs.Catalogue.{Catalogue}
+use Rattle.sdd_graph.specs.Graph.{classes_of, fragments_of}
+use Rattle.sdd_protocol.specs.Conditions.{asked_by, cond_for, cond_of, condition_on, is_asked}
+use Rattle.sdd_protocol.specs.declared.entry.Entry as line
+use Rattle.sdd_protocol.specs.declared.protocol.Protocol.TheVariants.{P2, P3}
+use Rattle.sdd_lang.specs.Classes.{fragments_in}
+use Rattle.sdd_lang.specs.Uses.{uses_of}
+use Rattle.sdd_history.specs.declared.record.Rec.TheVariants.{Commit}
+use Rattle.sdd_wire.specs.declared.msg.Msg.{Msg}
+use Rattle.sdd_wire.specs.declared.msg.Msg.TheVariants.{Done, Fetch, Hold, Reduce, Release, Ship}
+use Rattle.sdd_module.specs.SiteLog.{Act, Bases, Did, Each, Handed, Log, Records, Redeclared, Sends, Setting, Submits, Ticked, in_force, sends_of_act}
+use Rattle.sdd_attempt.specs.Acts.{commit_act, conditions_at}
+use Rattle.sdd_attempt.specs.Attempts.{Attempt, active, asks_rows}
+use Rattle.sdd_attempt.specs.Clocks.{clock}
+use Rattle.sdd_attempt.specs.Queues.{Queued}
+use Rattle.sdd_tm.specs.Due as tm
+use Rattle.sdd_tm.specs.Views as tm_views
+use Rattle.sdd_umod.specs.Views.{Served, last_served, served_acted, served_handed, ts_of}
+use Rattle.sdd_invariants.proofs.Holding.{hold_rule}
+use Rattle.sdd_invariants.proofs.Serving.{u_way}
+use Rattle.sdd_invariants.specs.AtT.{HoldRule}
+use Rattle.sdd_invariants.specs.AtU.{IsStepU}
+use Rattle.sdd_invariants.proofs.Clocks.{clock_number, drawn, drawn_at, limit_le, stamp_rises}
+use Rattle.sdd_invariants.proofs.ReadsPut.{start_puts}
+use Rattle.sdd_invariants.proofs.WritesPut.{commit_puts}
+use Rattle.sdd_invariants.specs.Stamps.{stamp_or}
+use Rattle.sdd_invariants.proofs.Active.{step_way}
+use Rattle.sdd_invariants.proofs.AreSteps.{t_step}
+use Rattle.sdd_invariants.proofs.Bools.{if_way}
+use Rattle.sdd_invariants.specs.Orders.{AllLe}
+use Rattle.sdd_invariants.specs.Steps.{IsFair, IsSend, a_held, a_hold, a_null, a_release, bound, last_stamp, next_stamp, of_exchange, start_at, start_read}
+use Rattle.sdd_invariants.specs.Traffic.{to_site}
+use Rattle.sdd_obligations.specs.Heights.{AllLow, IsLow, starts_by, top}
+use Rattle.sdd_obligations.proofs.LowLists.{IsEarlyCond, all_low_up, conds_all_le, conds_le, low_one}
+
+-- the conditions of a READ tell its own time or that of P2
+
+for_le : (k j t : ℕ) (fs : List FragNo) → t ≤ k → IsEarlyCond k (cond_for j t fs)
+for_le k j t [] l = tt
+for_le k j t (f ∷ fs) l = l
+
+either_le : (k : ℕ) (a b : Option Cond) → IsEarlyCond k a → IsEarlyCond k b → IsEarlyCond k (option_or a b)
+either_le k None b h i = i
+either_le k (Some d) b h i = h
+
+condition_le : (k : ℕ) (asked : ℕ → Bool) (entries : List line.Entry) (i own p2 j : ℕ) → own ≤ k → p2 ≤ k
+    → IsEarlyCond k (condition_on asked entries i own p2 j)
+condition_le k asked entries i own p2 j l m =
+    either_le k (cond_for j own (asked_by P3 asked entries i j))
+    (cond_for j p2 (asked_by P2 asked entries i j)) (for_le k j own (asked_by P3 asked entries i j) l)
+    (for_le k j p2 (asked_by P2 asked entries i j) m)
+
+abbrev AreEarly : ℕ → List Cond → Type 0
+AreEarly k ds = AllLe k (map (λ (d : Cond). d.time.0) ds)
+
+conditions_le : (k : ℕ) (cat : Catalogue) (table : List line.Entry) (c : ℕ) (frags : List ℕ) (own p2 d : ℕ) → own ≤ k → p2 ≤ k
+    → AreEarly k (conditions_at cat table c frags own p2 d)
+conditions_le k cat table c frags own p2 d l m =
+    if_way (AreEarly k) (c == 0) _ _ (conds_all_le k (λ j. cond_of j own (map frag_no (fragments_of cat))) (classes_of cat) (λ j. l))
+    (conds_le k (condition_on (is_asked cat c d (map frag_no frags)) table c own p2) (classes_of cat)
+    (λ j. condition_le k (is_asked cat c d (map frag_no frags)) table c own p2 j l m))
+
+read_low : (h : ℕ) (s : Setting) (c : ℕ) (log : Log) (q : Queued) (d : ℕ) → number_of s.site ≤ 63 → (clock s.site log).ticks ≤ h
+    → IsLow (suc h) (start_read s c log q d)
+read_low h s c log q d w l =
+    let n = clock_number s.site log in
+    let own : next_stamp s log ≤ top (suc h) = omega arith in
+    let p2 : bound s log ≤ top (suc h) = omega arith in (
+      own,
+      conditions_le (top (suc h)) s.catalogue (in_force s log).table c
+          (ascending (fragments_in (uses_of s.catalogue q.text))) (next_stamp s log) (bound s log) d own p2,
+    )
+
+-- all that an act puts lies below the height, which a Start raises
+abbrev pub PutsLow : ℕ → Act → Type 0
+PutsLow h act = (b : Site) → AllLow (starts_by act + h) (to_site b (sends_of_act act))
+
+low_more : (n h : ℕ) (ms : List Msg) → AllLow h ms → AllLow (n + h) ms
+low_more n h ms i = all_low_up h (n + h) ms (omega arith) i
+
+low_one_more : (n h : ℕ) (ms : List Msg) → n ≡ 1 → AllLow (suc h) ms → AllLow (n + h) ms
+low_one_more n h ms e i = all_low_up (suc h) (n + h) ms (omega (arith, e)) i
+
+one_low : (h : ℕ) (ms : List Msg) (m : Msg) → IsLow h m → ms ≡ m ∷ [] → AllLow h ms
+one_low h ms m i e = rw e (i, tt)
+
+none_low : (h : ℕ) (ms : List Msg) → ms ≡ [] → AllLow h ms
+none_low h ms e = rw e tt
+
+start_low : (h : ℕ) (s : Setting) (c : ℕ) (log : Log) (q : Queued) → number_of s.site ≤ 63 → (clock s.site log).ticks ≤ h
+    → PutsLow h (start_at s c log q)
+start_low h s c log q w l b = elim (start_puts s c b log q) [
+  | inl e ↦ none_low (starts_by (start_at s c log q) + h) _ e
+  | inr p ↦ low_one_more (starts_by (start_at s c log q)) h _ refl (one_low (suc h) _ (start_read s c log q p.0) (read_low h s c log q p.0 w l) p.1)
+]
+
+stamp_low : (h : ℕ) (s : Setting) (log : Log) → number_of s.site ≤ 63 → (clock s.site log).ticks ≤ h → last_stamp s log ≤ top h
+stamp_low h s log w l = let n = clock_number s.site log in omega arith
+
+bound_low : (h : ℕ) (s : Setting) (log : Log) → (clock s.site log).ticks ≤ h → bound s log ≤ top h
+bound_low h s log l = omega arith
+
+commit_low : (h : ℕ) (s : Setting) (c : ℕ) (bases : Bases) (a : Attempt) → a.ts ≤ top h → PutsLow h (commit_act s.catalogue bases c a)
+commit_low h s c bases a l b = low_more (starts_by (commit_act s.catalogue bases c a)) h _ (elim (commit_puts s c bases b a) [
+  | inl e ↦ none_low h _ e
+  | inr p ↦ one_low h _ _ (l, tt) p.1
+])
+
+send_low : (h : ℕ) (to : Site) (m : Msg) (hand : Option ℕ) → IsLow h m → PutsLow h (Sends to m hand)
+send_low h to m hand i b = low_more (starts_by (Sends to m hand)) h _ (low_one h (same_site b to) m i)
+
+asks_low : (h ts c : ℕ) (m : Msg) → asks_rows ts c m ≡ true → IsLow h m
+asks_low h ts c (Fetch a b t u) e = tt
+asks_low h ts c (Reduce a b t u v) e = tt
+asks_low h ts c (Ship a b) e = tt
+asks_low h ts c _ e = cc
+
+-- at a T
+
+released_not : (h : ℕ) (s : Setting) (log : Log) (to : Site) (m : Msg) (hand : Option ℕ) (ts : Ts) → m ≡ Release ts → HoldRule s log (Sends to m hand)
+    → PutsLow h (Sends to m hand)
+released_not h s log to m hand ts e r = absurd (subst (λ x. HoldRule s log (Sends to x hand)) e r)
+
+t_send : (h : ℕ) (s : Setting) (log : Log) (to : Site) (m : Msg) (hand : Option ℕ) → number_of s.site ≤ 63
+    → (clock s.site log).ticks ≤ h → Each (IsFair s) log → IsSend s log m → HoldRule s log (Sends to m hand)
+    → PutsLow h (Sends to m hand)
+t_send h s log to m hand w l f (of_exchange c a at i e p) r = send_low h to m hand (asks_low h a.ts c m e)
+t_send h s log to m hand w l f (a_null c at e) r =
+    let k = limit_le s log c w f in let n = bound_low h s log l in
+    send_low h to m hand (subst (IsLow h) (sym e) (omega (arith, k, n), tt))
+t_send h s log to m hand w l f (a_held e) r = send_low h to m hand (subst (IsLow h) (sym e) (bound_low h s log l, tt))
+t_send h s log to m hand w l f (a_hold e) r = send_low h to m hand (subst (IsLow h) (sym e) tt)
+t_send h s log to m hand w l f (a_release ts e) r = released_not h s log to m hand ts e r
+
+pub t_low : (h : ℕ) (s : Setting) (t : TmNo) (bases : Bases) (log : Log) (act : Act) → s.site ≡ T t → number_of s.site ≤ 63
+    → (clock s.site log).ticks ≤ h → Each (IsFair s) log → tm.IsDue s.catalogue bases (tm_views.view_of s log) act
+    → PutsLow h act
+t_low h s t bases log act at w l f d = step_way s log act (λ x. HoldRule s log x → PutsLow h x)
+    (λ c q p i e r. start_low h s c log q w l)
+    (λ c b a p i r. let k = drawn_at s c log a f i in let n = stamp_low h s log w l in commit_low h s c b a (omega (arith, k, n)))
+    (λ to m hand i r. t_send h s log to m hand w l f i r) (t_step s t bases log act at d) (hold_rule s bases log act d)
+
+-- at U: the time of a RELEASE is that of the attempt that was served last
+
+pub hand_ts : (m : Msg) (v : Served) → (served_handed m v).ts ≡ v.ts
+hand_ts (Done t) v = if_way (λ (x : Served). x.ts ≡ v.ts) (t.0 == v.ts) (record v { dones = suc v.dones }) v refl refl
+hand_ts m v = refl
+
+ts_is : (o : Option Attempt) (k : ℕ) → stamp_or o ≤ k → ts_of o ≤ k
+ts_is None k h = omega arith
+ts_is (Some a) k h = h
+
+act_ts : (act : Act) (o : Option Attempt) (v : Served) (k : ℕ) → stamp_or o ≤ k → v.ts ≤ k → (served_acted act o v).ts ≤ k
+act_ts (Records c (Commit txn attempt reply changes values rows) sends) o v k h i = ts_is o k h
+act_ts act o v k h i = i
+
+pub served_low : (s : Setting) (log : Log) → Each (IsFair s) log → (last_served s log).ts ≤ last_stamp s log
+served_low s [] f = omega arith
+served_low s (Handed from m ∷ log) f =
+    let i = served_low s log f.1 in let r = stamp_rises s (Handed from m) log in
+    rw (hand_ts m (last_served s log)) (omega (arith, i, r))
+served_low s (Ticked n ∷ log) f = let i = served_low s log f.1 in let r = stamp_rises s (Ticked n) log in omega (arith, i, r)
+served_low s (Submits n txn ∷ log) f = served_low s log f.1
+served_low s (Redeclared force t ∷ log) f =
+    let i = served_low s log f.1 in let r = stamp_rises s (Redeclared force t) log in omega (arith, i, r)
+served_low s (Did act ∷ log) f =
+    let i = served_low s log f.1 in let d = drawn s log f.1 0 in let r = stamp_rises s (Did act) log in
+    act_ts act (active s 0 log) (last_served s log) (last_stamp s (Did act ∷ log)) (omega (arith, d, r)) (omega (arith, i, r))
+
+pub u_low : (h : ℕ) (s : Setting) (log : Log) (act : Act) → number_of s.site ≤ 63 → (clock s.site log).ticks ≤ h
+    → Each (IsFair s) log → IsStepU s log act → PutsLow h act
+u_low h s log act w l f = u_way s log act (PutsLow h)
+    (λ q i z r. start_low h s 0 log q w l)
+    (λ b a i. let k = drawn_at s 0 log a f i in let n = stamp_low h s log w l in commit_low h s 0 b a (omega (arith, k, n)))
+    (λ d m a e. send_low h (D (dm_no d)) m None (asks_low h a.ts 0 m e))
+    (λ t ts i p. let k = served_low s log f in let n = stamp_low h s log w l in let e : ts.0 ≡ (last_served s log).ts = p.0 in
+    send_low h (T (tm_no t)) (Release ts) None (omega (arith, k, n, e), tt))
+    (λ t e. send_low h (T (tm_no t)) Hold None tt)

@@ -1,0 +1,156 @@
+-- An Answer to the READ of an active attempt: of its class, at a module that it asked, for the uses that are read there.
+use Rattle.std.proofs.Common.{ℕ, ◌≤◌, ◌==◌, ◌≡◌, true, false, List, [], ◌∷◌, ◌++◌, append_assoc, length, refl, ap, sym, ◌∙◌, slice_get, subst, suc, zero, map}
+use Rattle.std.specs.Prelude.{Option, Some, None}
+use Rattle.std.specs.Bool.{if◌then◌else◌}
+use Rattle.std.proofs.lemmas.Bool.{eqb-true}
+use Rattle.sdd_base.specs.Numbers.{dm_no}
+use Rattle.sdd_base.specs.Words.{contains}
+use Rattle.sdd_base.specs.declared.number.DmNo.{DmNo}
+use Rattle.sdd_base.specs.declared.site.Site.{Site}
+use Rattle.sdd_base.specs.declared.site.Site.TheVariants.{D}
+use Rattle.sdd_base.specs.declared.usage.Use.{Use}
+use Rattle.sdd_catalog.specs.Rules.{IsSound}
+use Rattle.sdd_history.specs.declared.record.Rec.TheVariants.{Answer}
+use Rattle.sdd_wire.specs.declared.msg.Msg.{Msg}
+use Rattle.sdd_wire.specs.declared.msg.Msg.TheVariants.{Read}
+use Rattle.sdd_module.specs.SiteLog.{Act, Records, Setting, sends_of_act}
+use Rattle.sdd_attempt.specs.Attempts.{Attempt, active}
+use Rattle.sdd_attempt.specs.Queues.{Queued}
+use Rattle.sdd_pipe.specs.Pipe.{head}
+use Rattle.sdd_dm.specs.Pipes.{pipe}
+use Rattle.sdd_log.specs.Entries.{Does, Given, Log}
+use Rattle.sdd_log.specs.Locals.{local_of, setting_of}
+use Rattle.sdd_log.specs.Permitted.{IsPermitted}
+use Rattle.sdd_invariants.proofs.Recorded.{start_of_active}
+use Rattle.sdd_invariants.specs.Puts.{IsRead}
+use Rattle.sdd_invariants.proofs.Installed.{head_put}
+use Rattle.sdd_invariants.proofs.Answered.{read_of}
+use Rattle.sdd_invariants.specs.Causes.{IsReadOf}
+use Rattle.sdd_invariants.specs.Seen.{pipe_at}
+use Rattle.sdd_serving.specs.Freezing.{uses_at}
+use Rattle.sdd_invariants.proofs.Bools.{or_left, or_right, same_number}
+use Rattle.sdd_invariants.specs.Steps.{home, modules_asked, next_stamp, start_read}
+use Rattle.sdd_invariants.specs.Traffic.{to_site}
+use Rattle.sdd_invariants.proofs.Fair.{home_fair}
+use Rattle.sdd_invariants.proofs.Made.{permitted_before, place_of_act}
+use Rattle.sdd_obligations.proofs.Places.{IsAnswerAt, class_here, read_at_head}
+use Rattle.sdd_obligations.proofs.Starts.{StartAt, drawn_already, one_start, read_later, start_here}
+
+-- of messages that go one to each module, one that goes to a module is its
+
+one_each : (f : ℕ → Msg) (x d : ℕ) (ds : List ℕ) (ms : List Msg) (k : ℕ) (m : Msg) → x ≡ d
+    → ((j : ℕ) → slice_get ms j ≡ Some m → (contains ds x ≡ true) × (m ≡ f x))
+    → slice_get (f d ∷ ms) k ≡ Some m → (contains (d ∷ ds) x ≡ true) × (m ≡ f x)
+one_each f x d ds ms zero m q g e = let p : f d ≡ m = cc in (or_left (d == x) (contains ds x) (ap (λ y. y == x) (sym q) ∙ same_number x), sym p ∙ ap f (sym q))
+one_each f x d ds ms (suc k) m q g e = let r = g k e in (or_right (d == x) (contains ds x) r.0, r.1)
+
+pub in_each : (f : ℕ → Msg) (x : ℕ) (ds : List ℕ) (k : ℕ) (m : Msg)
+    → slice_get (to_site (D (dm_no x)) (map (λ d. (D (dm_no d), f d)) ds)) k ≡ Some m
+    → (contains ds x ≡ true) × (m ≡ f x)
+in_each f x [] k m e = cc
+in_each f x (d ∷ ds) k m e =
+    elim (x == d) as (λ b. (x == d) ≡ b
+    → slice_get (if b then f d ∷ to_site (D (dm_no x)) (map (λ d. (D (dm_no d), f d)) ds) else to_site
+    (D (dm_no x)) (map (λ d. (D (dm_no d), f d)) ds)) k ≡ Some m → (contains (d ∷ ds) x ≡ true)
+    × (m ≡ f x)) [
+      | true ↦ λ p q. one_each f x d ds (to_site (D (dm_no x)) (map (λ d. (D (dm_no d), f d)) ds)) k m (eqb-true x d p) (λ j r. in_each f x ds j m r) q
+      | false ↦ λ p q. let r = in_each f x ds k m q in (or_right (d == x) (contains ds x) r.0, r.1)
+    ] refl e
+
+abbrev pub uses_in_read : Msg → List Use
+uses_in_read (Read ts class txn attempt conds uses) = uses
+uses_in_read _ = []
+
+abbrev pub uses_at_head : Option Msg → List Use
+uses_at_head None = []
+uses_at_head (Some m) = uses_in_read m
+
+-- what such an Answer is
+pub record IsAnswerTo (g : Given) (c : ℕ) (log : Log) (a : Attempt) (d : DmNo) (x : IsAnswerAt a.ts (local_of g (D d) log)) : Type 0 where
+  pub class_is : x.class ≡ c
+  pub asked : contains (modules_asked (setting_of g (home g.catalogue c)) c a.text) d.0 ≡ true
+  pub uses_are : uses_at_head (head (pipe x.class x.before)) ≡ uses_at g.catalogue c a.text d.0
+
+-- the Start of the active attempt
+active_start : (g : Given) (c : ℕ) (log : Log) (a : Attempt) → IsPermitted g log
+    → active (setting_of g (home g.catalogue c)) c (local_of g (home g.catalogue c) log) ≡ Some a
+    → (q : Queued) × StartAt g c log (home g.catalogue c) a.ts q × (q.text ≡ a.text)
+active_start g c log a h e =
+    let s : Setting = setting_of g (home g.catalogue c) in
+    let st = start_of_active s c (local_of g (home g.catalogue c) log) a (home_fair g c log h) e in
+    (st.queued, record { later = st.later; before = st.before; is = st.is; head_is = st.head; ts_is = st.ts_is }, sym st.text_is)
+
+-- the Start of the attempt to whose READ an Answer is
+pub record IsStartedRead (g : Given) (log : Log) (ts : ℕ) (d : DmNo) (x : IsAnswerAt ts (local_of g (D d) log)) : Type 0 where
+  pub queued : Queued
+  pub start : StartAt g x.class log (home g.catalogue x.class) ts queued
+  pub within : x.class ≤ length g.catalogue.classes
+  pub asked : contains (modules_asked (setting_of g (home g.catalogue x.class)) x.class queued.text) d.0 ≡ true
+  pub uses_are : uses_at_head (head (pipe x.class x.before)) ≡ uses_at g.catalogue x.class queued.text d.0
+
+pub read_started : (g : Given) (log : Log) (ts : ℕ) (d : DmNo) → IsPermitted g log → (x : IsAnswerAt ts (local_of g (D d) log)) → IsStartedRead g log ts d x
+read_started g log ts d h x =
+    let act : Act = Records x.class (Answer x.txn x.attempt x.dm) x.sends in
+    let p = place_of_act g (D d) log x.later act x.before x.is in
+    let front : Log = p.later ++ Does (D d) act ∷ [] in
+    let log_is : front ++ p.rest ≡ log = append_assoc p.later (Does (D d) act ∷ []) p.rest ∙ sym p.is in
+    let hr : IsPermitted g p.rest = (permitted_before g p.later (Does (D d) act ∷ p.rest) (subst (IsPermitted g) p.is h)).1 in
+    let r = read_at_head ts (head (pipe x.class x.before)) x.at in
+    let m : Msg = Read r.t r.of r.txn r.attempt r.conds r.uses in
+    let hd : head (pipe_at g x.class d p.rest) ≡ Some m = ap (λ l. head (pipe x.class l)) p.local_is ∙ r.is in
+    let at : Site = home g.catalogue x.class in
+    let z = read_of g x.class d p.rest r.t r.of r.txn r.attempt r.conds r.uses hr hd in
+    let put = head_put g x.class d p.rest m hr hd in
+    let by : IsRead (setting_of g at) (local_of g at put.before) put.act x.class r.t.0 r.txn.0 r.attempt =
+    subst (λ j. IsRead (setting_of g at) (local_of g at put.before) put.act j r.t.0 r.txn.0 r.attempt) z.0
+    put.by in
+    let start : IsReadOf g p.rest x.class r.txn.0 r.attempt r.t.0 = record {
+      later = put.later;
+      before =
+          put.before;
+      queued = by.queued;
+      is =
+          put.is ∙ ap (λ y. put.later ++ Does at y ∷ put.before) by.act_is;
+      idle = by.idle;
+      head_is =
+          by.head;
+      number_is = by.number_is;
+      try_is = by.try_is;
+      ts_is = by.time_is;
+    } in
+    let whole : IsReadOf g (front ++ p.rest) x.class r.txn.0 r.attempt r.t.0 = read_later g x.class front p.rest r.txn.0 r.attempt r.t.0 start in
+    let there = in_each (start_read (setting_of g at) x.class (local_of g at put.before) by.queued) d.0
+    (modules_asked (setting_of g at) x.class by.queued.text) put.place m
+    (subst (λ y. slice_get (to_site (D d) (sends_of_act y)) put.place ≡ Some m) by.act_is put.there) in
+    record {
+      queued = by.queued;
+      start = subst (λ t. StartAt g x.class log at t by.queued) r.ts_is
+          (subst (λ l. StartAt g x.class l at r.t.0 by.queued) log_is
+          (start_here g x.class (front ++ p.rest) r.txn.0 r.attempt r.t.0 whole));
+      within = class_here g d log x.later x.before x.class x.txn x.attempt x.dm x.sends h x.is;
+      asked = there.0;
+      uses_are = ap uses_at_head r.is ∙ ap uses_in_read there.1;
+    }
+
+pub answer_to : (g : Given) → IsSound g.catalogue → (c : ℕ) → c ≤ length g.catalogue.classes → (log : Log) (a : Attempt) (d : DmNo) → IsPermitted g log
+    → active (setting_of g (home g.catalogue c)) c (local_of g (home g.catalogue c) log) ≡ Some a
+    → (x : IsAnswerAt a.ts (local_of g (D d) log)) → IsAnswerTo g c log a d x
+answer_to g sound c lc log a d h e x =
+    let r = read_started g log a.ts d h x in
+    let own = active_start g c log a h e in
+    let one = one_start g sound x.class c log a.ts r.queued own.0 r.within lc r.start own.1 in
+    let text : r.queued.text ≡ a.text = ap (λ (q : Queued). q.text) one.1 ∙ own.2 in
+    record {
+      class_is = one.0;
+      asked = subst (λ t. contains (modules_asked (setting_of g (home g.catalogue c)) c t) d.0 ≡ true) text
+          (subst (λ j. contains (modules_asked (setting_of g (home g.catalogue j)) j r.queued.text)
+          d.0 ≡ true) one.0 r.asked);
+      uses_are = r.uses_are ∙ ap (λ j. uses_at g.catalogue j r.queued.text d.0) one.0 ∙ ap (λ t. uses_at g.catalogue c t d.0) text;
+    }
+
+-- a timestamp that is still to be drawn has no Answer
+pub not_before : (g : Given) → IsSound g.catalogue → (c : ℕ) → c ≤ length g.catalogue.classes → (log : Log) (d : DmNo) → IsPermitted g log
+    → IsAnswerAt (next_stamp (setting_of g (home g.catalogue c)) (local_of g (home g.catalogue c) log)) (local_of g (D d) log) → ⊥
+not_before g sound c lc log d h x =
+    let r = read_started g log (next_stamp (setting_of g (home g.catalogue c)) (local_of g (home g.catalogue c) log)) d h x in
+    drawn_already g sound c x.class log r.queued lc r.within r.start

@@ -1,0 +1,294 @@
+-- Questions of a class are put by the site that runs it, which is the one to which a data module answers; and what is sent
+-- first on permitted logs.
+use Rattle.std.proofs.Common.{ℕ, ◌&&◌, ◌++◌, ◌-◌, ◌<◌, ◌==◌, ◌∙◌, ◌∷◌, ◌≡◌, ◌≤◌, Bool, List, Some, [], ap, append_assoc, arith, false, if◌then◌else◌, inl, inr, length, map, refl, slice_get, slice_index_or, subst, suc, sym, true, zero}
+use Rattle.std.proofs.lemmas.Bool.{eqb-true}
+use Rattle.sdd_base.specs.Numbers.{dm_no, tm_no}
+use Rattle.sdd_base.specs.Sites.{same_site}
+use Rattle.sdd_base.specs.declared.condition.Cond.{Cond}
+use Rattle.sdd_base.specs.declared.number.ClassNo.{ClassNo}
+use Rattle.sdd_base.specs.declared.number.DmNo.{DmNo}
+use Rattle.sdd_base.specs.declared.number.Ts.{Ts}
+use Rattle.sdd_base.specs.declared.number.TxnNo.{TxnNo}
+use Rattle.sdd_base.specs.declared.usage.Use.{Use}
+use Rattle.sdd_base.specs.declared.number.TmNo.{TmNo}
+use Rattle.sdd_base.specs.declared.site.Site.{Site}
+use Rattle.sdd_base.specs.declared.site.Site.TheVariants.{D, T, U}
+use Rattle.sdd_catalog.specs.Catalogue.{Catalogue, class_at}
+use Rattle.sdd_catalog.specs.declared.resolved.Class.{Class}
+use Rattle.sdd_wire.specs.declared.msg.Msg.{Msg}
+use Rattle.sdd_wire.specs.declared.msg.Msg.TheVariants.{Fetch, Read, Ready, Reduce, Reduced, Reject, Rows, Ship, Values}
+use Rattle.sdd_module.specs.SiteLog.{Act, Did, Each, Handed, Setting, sends_of_act}
+use Rattle.sdd_attempt.specs.Attempts.{asks_rows}
+use Rattle.sdd_dm.specs.Views.{home_of, source_of}
+use Rattle.sdd_pipe.specs.Pipe.{head}
+use Rattle.sdd_dm.specs.Pipes.{pipe}
+use Rattle.sdd_log.specs.Entries.{Given, Hand, Log}
+use Rattle.sdd_log.specs.Traffic.{handed}
+use Rattle.sdd_log.specs.Locals.{local_of, setting_of}
+use Rattle.sdd_log.specs.Permitted.{IsPermitted}
+use Rattle.sdd_log.specs.Snapshots.{base_of}
+use Rattle.sdd_log.proofs.EachLocal.{each_local}
+use Rattle.sdd_obligations.proofs.FirstSends.{IsFirstEach, IsFirstSend, asks_whose, t_first, u_first}
+use Rattle.sdd_obligations.proofs.Asking.{send_is_question}
+use Rattle.sdd_obligations.proofs.Telling.{head_through}
+use Rattle.sdd_obligations.specs.Turns.{is_answer, is_question}
+use Rattle.sdd_invariants.proofs.Origins.{was_put}
+use Rattle.sdd_invariants.proofs.ReadsPut.{start_puts}
+use Rattle.sdd_invariants.proofs.WritesPut.{commit_puts}
+use Rattle.sdd_invariants.proofs.PutBy.{put_by_d}
+use Rattle.sdd_invariants.specs.PutsBy.{IsFetch, IsPutByD, IsReduce, IsShip, WasAsked}
+use Rattle.sdd_invariants.proofs.Active.{each_at, step_way}
+use Rattle.sdd_invariants.proofs.Bools.{and_right, if_way, not_both, not_zero}
+use Rattle.sdd_invariants.proofs.Lists.{in_none, in_one}
+use Rattle.sdd_invariants.proofs.Sites.{the_one}
+use Rattle.sdd_invariants.specs.ReadSteps.{IsClassHere, IsDueEach}
+use Rattle.sdd_invariants.specs.Steps.{IsFair, IsSend, IsStep, a_held, a_hold, a_null, a_release, home, next_stamp, of_exchange, start_read}
+use Rattle.sdd_invariants.specs.Traffic.{puts_to, to_site}
+use Rattle.sdd_invariants.proofs.Fair.{d_fair, home_fair, t_fair, u_fair}
+use Rattle.sdd_invariants.proofs.InOrder.{hand_was_put}
+use Rattle.sdd_invariants.proofs.Made.{permitted_before, place_of_hand}
+use Rattle.sdd_module.specs.SiteLog as site
+
+never : {A : Type 0} (b : Bool) → b ≡ true → b ≡ false → A
+never b e f = absurd (not_both b e f)
+
+-- the site that runs a class, as a data module has it
+
+abbrev no_class : Class
+no_class = record { name = []; tm = tm_no 0; reads = []; writes = [] }
+
+suc_no_zero : (n : ℕ) → (suc n == 0) ≡ false
+suc_no_zero n = not_zero (suc n) (omega arith)
+
+class_there : (ks : List Class) (n : ℕ) (k : Class) → n < length ks
+    → slice_index_or (map (λ (k : Class). T k.tm) ks) n U ≡ T (tm_no (slice_index_or ks n k).tm.0)
+class_there [] n k l = absurd (omega (arith, l))
+class_there (x ∷ ks) zero k l = refl
+class_there (x ∷ ks) (suc n) k l = class_there ks n k (omega (arith, l))
+
+pub source_is_home : (s : Setting) (c : ℕ) → IsClassHere s c → source_of (home_of s) c ≡ home s.catalogue c
+source_is_home s zero l = refl
+source_is_home s (suc n) l =
+    let z : suc n - 1 ≡ n = omega arith in
+    let e : T (tm_no (class_at s.catalogue (suc n)).tm.0) ≡ T
+    (tm_no (slice_index_or s.catalogue.classes n no_class).tm.0) =
+    ap (λ k. T (tm_no (slice_index_or s.catalogue.classes k no_class).tm.0)) z in
+    class_there s.catalogue.classes n no_class (omega (arith, l))
+    ∙ sym (ap (λ (b : Bool). if b then U else T (tm_no (class_at s.catalogue (suc n)).tm.0))
+    (suc_no_zero n) ∙ e)
+
+-- data modules are other sites
+pub apart_from_home : (cat : Catalogue) (c d : ℕ) → same_site (D (dm_no d)) (home cat c) ≡ false
+apart_from_home cat c d = if_way (λ x. same_site (D (dm_no d)) x ≡ false) (c == 0) U (T (tm_no (class_at cat c).tm.0)) refl refl
+
+pub home_apart : (cat : Catalogue) (c d : ℕ) → same_site (home cat c) (D (dm_no d)) ≡ false
+home_apart cat c d = if_way (λ x. same_site x (D (dm_no d)) ≡ false) (c == 0) U (T (tm_no (class_at cat c).tm.0)) refl refl
+
+-- a site sends first what is first
+
+abbrev FirstAt : Given → Site → Type 0
+FirstAt g at = (log : Log) → IsPermitted g log → Each (IsFirstEach (setting_of g at)) (local_of g at log)
+
+u_firsts : (g : Given) → FirstAt g U
+u_firsts g = each_local g U (IsFirstEach (setting_of g U)) (record {
+  handed = λ log p from n m a i. tt;
+  ticked = λ log p n i. tt;
+  submits = λ log p n t a e i. tt;
+  redeclared = λ l k t i. tt;
+  did = λ log act p due i. u_first (setting_of g U) (base_of g log) (local_of g U log) act due;
+})
+
+t_firsts : (g : Given) (t : TmNo) → FirstAt g (T t)
+t_firsts g t = each_local g (T t) (IsFirstEach (setting_of g (T t))) (record {
+  handed = λ log p from n m a i. tt;
+  ticked = λ log p n i. tt;
+  submits = λ log p n k a e i. tt;
+  redeclared = λ l k u i. tt;
+  did = λ log act p due i. t_first (setting_of g (T t)) (base_of g log) (local_of g (T t) log) act due;
+})
+
+pub home_first : (g : Given) (c : ℕ) (log : Log) → IsPermitted g log
+    → Each (IsFirstEach (setting_of g (home g.catalogue c))) (local_of g (home g.catalogue c) log)
+home_first g c = if_way (FirstAt g) (c == 0) U (T (tm_no (class_at g.catalogue c).tm.0)) (u_firsts g) (t_firsts g _)
+
+-- who puts a question
+
+asks_class : (s : Setting) (ts k t c : ℕ) (m : Msg) → home s.catalogue k ≡ s.site → asks_rows ts k m ≡ true → asks_rows t c m ≡ true
+    → home s.catalogue c ≡ s.site
+asks_class s ts k t c m at e f = subst (λ j. home s.catalogue j ≡ s.site) (asks_whose ts k t c m e f).1 at
+
+none_asks : {A : Type 0} (ts c : ℕ) (m x : Msg) → m ≡ x → asks_rows ts c x ≡ false → asks_rows ts c m ≡ true → A
+none_asks ts c m x e f g = never (asks_rows ts c m) g (ap (asks_rows ts c) e ∙ f)
+
+send_class : (s : Setting) (log : site.Log) (ts c : ℕ) (m : Msg) → IsSend s log m → asks_rows ts c m ≡ true
+    → home s.catalogue c ≡ s.site
+send_class s log ts c m (of_exchange k a at i e w) f = asks_class s a.ts k ts c m at e f
+send_class s log ts c m (a_null k at e) f = none_asks ts c m _ e refl f
+send_class s log ts c m (a_held e) f = none_asks ts c m _ e refl f
+send_class s log ts c m (a_hold e) f = none_asks ts c m _ e refl f
+send_class s log ts c m (a_release t e) f = none_asks ts c m _ e refl f
+
+step_question : (s : Setting) (b : Site) (log : site.Log) (act : Act) (place : ℕ) (m : Msg) (ts c : ℕ) → IsStep s log act
+    → slice_get (to_site b (sends_of_act act)) place ≡ Some m → is_question ts c m ≡ true → home s.catalogue c ≡ s.site
+step_question s b log act place m ts c i =
+    step_way s log act (λ x. slice_get (to_site b (sends_of_act x)) place ≡ Some m
+    → is_question ts c m ≡ true → home s.catalogue c ≡ s.site)
+    (λ k q at f e. λ there own. elim (start_puts s k b log q) [
+      | inl p ↦ in_none _ place m p there
+      | inr p ↦ (let is : start_read s k log q p.0 ≡ m = in_one _ (start_read s k log q p.0) place m p.1 there in
+          let of : ((next_stamp s log == ts) && (k == c)) ≡ true = ap (is_question ts c) is ∙ own in
+          subst (λ j. home s.catalogue j ≡ s.site) (eqb-true k c (and_right (next_stamp s log == ts) (k == c) of)) at)
+    ])
+    (λ k bases a at f. λ there own. elim (commit_puts s k bases b a) [
+      | inl p ↦ in_none _ place m p there
+      | inr p ↦ never (is_question ts c m) own (sym (ap (is_question ts c) (in_one _ _ place m p.1 there)))
+    ])
+    (λ to x hand f. λ there own. (let is : x ≡ m = (the_one b to x place m there).1 in
+    send_class s log ts c x f (sym (send_is_question s log ts c x f) ∙ ap (is_question ts c) is ∙ own))) i
+
+data_question : {A : Type 0} (s : Setting) (log : site.Log) (b : Site) (act : Act) (m : Msg) (ts c : ℕ) → IsPutByD s log b act m
+    → is_question ts c m ≡ true → A
+data_question s log b act (Read t k txn attempt conds uses) ts c h e = absurd h
+data_question s log b act (Fetch t k u col) ts c h e = absurd h
+data_question s log b act (Reduce t k u col vs) ts c h e = absurd h
+data_question s log b act (Ship t k) ts c h e = absurd h
+data_question s log b act m ts c h e = cc
+
+asked_at_home : (s : Setting) (b : Site) (log : site.Log) (place : ℕ) (m : Msg) (ts c : ℕ) → Each (IsFair s) log
+    → slice_get (puts_to b log) place ≡ Some m → is_question ts c m ≡ true → home s.catalogue c ≡ s.site
+asked_at_home s b log place m ts c h e f =
+    let p = was_put b log place m e in
+    let q = each_at (IsFair s) p.later (Did p.act) p.before (subst (Each (IsFair s)) p.is h) in
+    step_question s b p.before p.act p.place m ts c q.0 p.there f
+
+data_asks_none : {A : Type 0} (s : Setting) (b : Site) (log : site.Log) (place : ℕ) (m : Msg) (ts c : ℕ) → Each (IsDueEach s) log
+    → slice_get (puts_to b log) place ≡ Some m → is_question ts c m ≡ true → A
+data_asks_none s b log place m ts c h e f =
+    let p = was_put b log place m e in
+    let q = each_at (IsDueEach s) p.later (Did p.act) p.before (subst (Each (IsDueEach s)) p.is h) in
+    data_question s p.before b p.act m ts c (put_by_d s p.before p.act q.0 b p.place m p.there) f
+
+pub question_home : (g : Given) (from b : Site) (log : Log) (place : ℕ) (m : Msg) (ts c : ℕ) → IsPermitted g log
+    → slice_get (puts_to b (local_of g from log)) place ≡ Some m → is_question ts c m ≡ true → home g.catalogue c ≡ from
+question_home g U b log place m ts c h e f = asked_at_home (setting_of g U) b (local_of g U log) place m ts c (u_fair g log h) e f
+question_home g (T t) b log place m ts c h e f =
+    asked_at_home (setting_of g (T t)) b (local_of g (T t) log) place m ts c (t_fair g t log h) e f
+question_home g (D d) b log place m ts c h e f =
+    data_asks_none (setting_of g (D d)) b (local_of g (D d) log) place m ts c (d_fair g d log h) e f
+
+-- a FETCH, REDUCE or SHIP is of a class of the catalogue
+
+abbrev AsksHere : Setting → site.Log → Act → Type 0
+AsksHere s log act =
+    IsFirstSend s log act → (b : Site) (place ts c : ℕ) (m : Msg)
+    → slice_get (to_site b (sends_of_act act)) place ≡ Some m → asks_rows ts c m ≡ true
+    → c ≤ length s.catalogue.classes
+
+act_here : (s : Setting) (log : site.Log) (act : Act) → IsStep s log act → AsksHere s log act
+act_here s log act i = step_way s log act (AsksHere s log)
+    (λ k q at f e. λ first b place ts c m there own. elim (start_puts s k b log q) [
+      | inl p ↦ in_none _ place m p there
+      | inr p ↦ never (asks_rows ts c m) own (sym (ap (asks_rows ts c) (in_one _ (start_read s k log q p.0) place m p.1 there)))
+    ])
+    (λ k bases a at f. λ first b place ts c m there own. elim (commit_puts s k bases b a) [
+      | inl p ↦ in_none _ place m p there
+      | inr p ↦ never (asks_rows ts c m) own (sym (ap (asks_rows ts c) (in_one _ _ place m p.1 there)))
+    ])
+    (λ to x hand f. λ first b place ts c m there own. (first ts c (ap (asks_rows ts c) (the_one b to x place m there).1 ∙ own)).here) i
+
+pub asked_here : (g : Given) (c : ℕ) (b : Site) (log : Log) (place : ℕ) (m : Msg) (ts : ℕ) → IsPermitted g log
+    → slice_get (puts_to b (local_of g (home g.catalogue c) log)) place ≡ Some m → asks_rows ts c m ≡ true
+    → c ≤ length g.catalogue.classes
+asked_here g c b log place m ts h e f =
+    let s : Setting = setting_of g (home g.catalogue c) in
+    let l : site.Log = local_of g (home g.catalogue c) log in
+    let p = was_put b l place m e in
+    let q = each_at (IsFair s) p.later (Did p.act) p.before (subst (Each (IsFair s)) p.is (home_fair g c log h)) in
+    let r = each_at (IsFirstEach s) p.later (Did p.act) p.before (subst (Each (IsFirstEach s)) p.is (home_first g c log h)) in
+    act_here s p.before p.act q.0 r.0 b p.place ts c m p.there f
+
+-- who puts an answer, and to whom
+
+asks_no_answer_of : (ts k t c : ℕ) (m : Msg) → asks_rows ts k m ≡ true → is_answer t c m ≡ false
+asks_no_answer_of ts k t c (Fetch a b u col) e = refl
+asks_no_answer_of ts k t c (Reduce a b u col vs) e = refl
+asks_no_answer_of ts k t c (Ship a b) e = refl
+asks_no_answer_of ts k t c m e = cc
+
+send_no_answer : (s : Setting) (log : site.Log) (ts c : ℕ) (m : Msg) → IsSend s log m → is_answer ts c m ≡ false
+send_no_answer s log ts c m (of_exchange k a at i e w) = asks_no_answer_of a.ts k ts c m e
+send_no_answer s log ts c m (a_null k at e) = ap (is_answer ts c) e
+send_no_answer s log ts c m (a_held e) = ap (is_answer ts c) e
+send_no_answer s log ts c m (a_hold e) = ap (is_answer ts c) e
+send_no_answer s log ts c m (a_release t e) = ap (is_answer ts c) e
+
+step_no_answer : (s : Setting) (b : Site) (log : site.Log) (act : Act) (place : ℕ) (m : Msg) (ts c : ℕ) → IsStep s log act
+    → slice_get (to_site b (sends_of_act act)) place ≡ Some m → is_answer ts c m ≡ false
+step_no_answer s b log act place m ts c i = step_way s log act (λ x. slice_get (to_site b (sends_of_act x)) place ≡ Some m → is_answer ts c m ≡ false)
+    (λ k q at f e. λ there. elim (start_puts s k b log q) [
+      | inl p ↦ in_none _ place m p there
+      | inr p ↦ sym (ap (is_answer ts c) (in_one _ (start_read s k log q p.0) place m p.1 there))
+    ])
+    (λ k bases a at f. λ there. elim (commit_puts s k bases b a) [
+      | inl p ↦ in_none _ place m p there
+      | inr p ↦ sym (ap (is_answer ts c) (in_one _ _ place m p.1 there))
+    ])
+    (λ to x hand f. λ there. sym (ap (is_answer ts c) (the_one b to x place m there).1) ∙ send_no_answer s log ts c x f) i
+
+told_no_answer : (s : Setting) (b : Site) (log : site.Log) (place : ℕ) (m : Msg) (ts c : ℕ) → Each (IsFair s) log
+    → slice_get (puts_to b log) place ≡ Some m → is_answer ts c m ≡ false
+told_no_answer s b log place m ts c h e =
+    let p = was_put b log place m e in
+    let q = each_at (IsFair s) p.later (Did p.act) p.before (subst (Each (IsFair s)) p.is h) in
+    step_no_answer s b p.before p.act p.place m ts c q.0 p.there
+
+-- a message that was asked came from the site that runs its class
+asked_from : (g : Given) (d : DmNo) (log : Log) (b : Site) (later : site.Log) (act : Act) (before : site.Log) (ts c : ℕ) (P : Msg → Type 0)
+    → IsPermitted g log → local_of g (D d) log ≡ later ++ Did act ∷ before → WasAsked before b P → ((m : Msg) → P m → is_question ts c m ≡ true)
+    → home g.catalogue c ≡ b
+asked_from g d log b later act before ts c P h e w f =
+    let all : local_of g (D d) log ≡ (later ++ Did act ∷ w.later) ++ Handed b w.asked ∷ w.before =
+    e ∙ ap (λ l. later ++ Did act ∷ l) w.is
+    ∙ sym (append_assoc later (Did act ∷ w.later) (Handed b w.asked ∷ w.before)) in
+    let i = place_of_hand g (D d) log (later ++ Did act ∷ w.later) b w.asked w.before all in
+    let p : IsPermitted g (Hand b (D d) i.number w.asked ∷ i.rest) =
+    permitted_before g i.later (Hand b (D d) i.number w.asked ∷ i.rest) (subst (IsPermitted g) i.is h) in
+    question_home g b (D d) i.rest (handed b (D d) i.rest) w.asked ts c p.1 (hand_was_put g i.rest b (D d) i.number w.asked p.0).1 (f w.asked w.fits)
+
+-- the READ at a head is of its class
+head_class : (c : ℕ) (log : site.Log) (ts : Ts) (k : ClassNo) (txn : TxnNo) (attempt : ℕ) (conds : List Cond) (uses : List Use)
+    → head (pipe c log) ≡ Some (Read ts k txn attempt conds uses) → k.0 ≡ c
+head_class c log ts k txn attempt conds uses e = eqb-true k.0 c (head_through c log (Read ts k txn attempt conds uses) e)
+
+answered_home : (s : Setting) (n c : ℕ) (k : ClassNo) (ts : ℕ) (t : Ts) (b : Site) → IsClassHere s n → k.0 ≡ n → b ≡ source_of (home_of s) n
+    → ((t.0 == ts) && (k.0 == c)) ≡ true → home s.catalogue c ≡ b
+answered_home s n c k ts t b l e f g =
+    let same : n ≡ c = sym e ∙ eqb-true k.0 c (and_right (t.0 == ts) (k.0 == c) g) in
+    subst (λ j. home s.catalogue j ≡ b) same (sym (source_is_home s n l) ∙ sym f)
+
+data_answer : (g : Given) (d : DmNo) (log : Log) (b : Site) (later : site.Log) (act : Act) (before : site.Log) (m : Msg) (ts c : ℕ)
+    → IsPermitted g log → local_of g (D d) log ≡ later ++ Did act ∷ before → IsPutByD (setting_of g (D d)) before b act m
+    → is_answer ts c m ≡ true → home g.catalogue c ≡ b
+data_answer g d log b later act before (Ready t k counts) ts c h e p f =
+    answered_home (setting_of g (D d)) p.class c k ts t b p.here (head_class p.class before t k p.txn p.attempt p.conds p.uses p.head_is) p.to_is f
+data_answer g d log b later act before (Reject t k by w) ts c h e p f =
+    answered_home (setting_of g (D d)) p.class c k ts t b p.here (head_class p.class before t k p.txn p.attempt p.conds p.uses p.head_is) p.to_is f
+data_answer g d log b later act before (Values t k u vs) ts c h e p f =
+    asked_from g d log b later act before ts c (IsFetch t k u) h e p (λ m q. ap (is_question ts c) q.1 ∙ f)
+data_answer g d log b later act before (Reduced t k u n) ts c h e p f =
+    asked_from g d log b later act before ts c (IsReduce t k u) h e p (λ m q. ap (is_question ts c) q.2 ∙ f)
+data_answer g d log b later act before (Rows t k rows) ts c h e p f =
+    asked_from g d log b later act before ts c (IsShip t k) h e p (λ m q. ap (is_question ts c) q ∙ f)
+data_answer g d log b later act before m ts c h e p f = cc
+
+-- an answer comes from a data module, and goes to the site that runs its class
+pub answer_source : (g : Given) (a b : Site) (log : Log) (place : ℕ) (m : Msg) (ts c : ℕ) → IsPermitted g log
+    → slice_get (puts_to b (local_of g a log)) place ≡ Some m → is_answer ts c m ≡ true → (d : DmNo) × (a ≡ D d) × (home g.catalogue c ≡ b)
+answer_source g U b log place m ts c h e f =
+    never (is_answer ts c m) f (told_no_answer (setting_of g U) b (local_of g U log) place m ts c (u_fair g log h) e)
+answer_source g (T t) b log place m ts c h e f =
+    never (is_answer ts c m) f (told_no_answer (setting_of g (T t)) b (local_of g (T t) log) place m ts c (t_fair g t log h) e)
+answer_source g (D d) b log place m ts c h e f =
+    let p = was_put b (local_of g (D d) log) place m e in
+    let q = each_at (IsDueEach (setting_of g (D d))) p.later (Did p.act) p.before (subst (Each (IsDueEach (setting_of g (D d)))) p.is (d_fair g d log h)) in
+    (d, refl, data_answer g d log b p.later p.act p.before m ts c h p.is (put_by_d (setting_of g (D d)) p.before p.act q.0 b p.place m p.there) f)

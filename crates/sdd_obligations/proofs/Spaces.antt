@@ -1,0 +1,143 @@
+-- What the modules keep for an attempt, as the log of everything goes on.
+use Rattle.std.proofs.Common.{ℕ, ◌==◌, ◌≡◌, false, ◌∷◌, refl, ap, sym, ◌∙◌, subst, suc}
+use Rattle.std.specs.Prelude.{Option, Some, None}
+use Rattle.sdd_base.specs.Numbers.{dm_no, tm_no}
+use Rattle.sdd_base.specs.Sites.{same_site}
+use Rattle.sdd_base.specs.declared.event.Event.TheVariants.{Deliver, Down, Lose, Redeclare, Repeat, Resend, Settle, Submit, Tick, Up}
+use Rattle.sdd_base.specs.declared.number.DmNo.{DmNo}
+use Rattle.sdd_base.specs.declared.site.Site.{Site}
+use Rattle.sdd_base.specs.declared.site.Site.TheVariants.{D, T, U}
+use Rattle.sdd_catalog.specs.Catalogue.{Catalogue, class_at}
+use Rattle.sdd_lang.specs.declared.transaction.Txn.{Txn}
+use Rattle.sdd_module.specs.SiteLog.{Did, Force, Handed, Redeclared, Setting, Submits, Ticked}
+use Rattle.sdd_module.specs.SiteLog as site
+use Rattle.sdd_attempt.specs.Attempts.{active}
+use Rattle.sdd_copy.specs.Contents.{contents}
+use Rattle.sdd_dm.specs.Copies.{dated}
+use Rattle.sdd_copy.specs.Frozen.{CopyRows, Frozen}
+use Rattle.sdd_log.specs.Entries.{Does, Entry, Given, Hand, Log, Mark, Notes, Redeclares, Round, Submitted}
+use Rattle.sdd_log.specs.Locals.{force_at, local_of, redeclares, setting_of, txn_at}
+use Rattle.sdd_serving.specs.Reducing.{Space}
+use Rattle.sdd_invariants.proofs.Bools.{if_way}
+use Rattle.sdd_invariants.specs.Steps.{home}
+use Rattle.sdd_invariants.proofs.Made.{local_step}
+use Rattle.sdd_invariants.specs.Made.{forced, given_to, made, with_made}
+use Rattle.sdd_obligations.proofs.Places.{IsAnswerAt}
+use Rattle.sdd_obligations.proofs.Snapped.{answer_more}
+use Rattle.sdd_obligations.specs.Contents.{kept}
+use Rattle.sdd_obligations.proofs.Kept.{kept_same}
+
+-- entries of a site's log that leave its attempts and its rows
+
+abbrev pub IsStill : Option site.Entry → Type 0
+IsStill None = Unit {0}
+IsStill (Some (Ticked n)) = Unit {0}
+IsStill (Some (Submits n txn)) = Unit {0}
+IsStill (Some (Redeclared force t)) = Unit {0}
+IsStill (Some (Handed from m)) = ⊥
+IsStill (Some (Did act)) = ⊥
+
+pub still_kept : (s : Setting) (c ts : ℕ) (o : Option site.Entry) (l : site.Log) → IsStill o → kept s c ts (with_made o l) ≡ kept s c ts l
+still_kept s c ts None l h = refl
+still_kept s c ts (Some (Ticked n)) l h = kept_same s c ts (Ticked n) l refl
+still_kept s c ts (Some (Submits n txn)) l h = kept_same s c ts (Submits n txn) l refl
+still_kept s c ts (Some (Redeclared force t)) l h = kept_same s c ts (Redeclared force t) l refl
+still_kept s c ts (Some (Handed from m)) l h = absurd h
+still_kept s c ts (Some (Did act)) l h = absurd h
+
+pub still_active : (s : Setting) (c : ℕ) (o : Option site.Entry) (l : site.Log) → IsStill o → active s c (with_made o l) ≡ active s c l
+still_active s c None l h = refl
+still_active s c (Some (Ticked n)) l h = refl
+still_active s c (Some (Submits n txn)) l h = refl
+still_active s c (Some (Redeclared force t)) l h = refl
+still_active s c (Some (Handed from m)) l h = absurd h
+still_active s c (Some (Did act)) l h = absurd h
+
+given_still : (n : ℕ) (o : Option Txn) → IsStill (given_to n o)
+given_still n None = tt
+given_still n (Some txn) = tt
+
+forced_still : (at : Site) (force : Force) (t : ℕ) → IsStill (forced at force t)
+forced_still U force t = tt
+forced_still (T n) force t = tt
+forced_still (D d) force t = tt
+
+-- of the log of everything only hands and acts do more
+abbrev pub IsStillEntry : Entry → Type 0
+IsStillEntry (Hand from to n m) = ⊥
+IsStillEntry (Does by act) = ⊥
+IsStillEntry _ = Unit {0}
+
+pub made_still : (g : Given) (at : Site) (log : Log) (e : Entry) → IsStillEntry e → IsStill (made g at log e)
+made_still g at log (Mark (Tick t n)) h = if_way IsStill (same_site at (T t)) (Some (Ticked n)) None tt tt
+made_still g at log (Mark (Submit n)) h = tt
+made_still g at log (Mark (Deliver a b k)) h = tt
+made_still g at log (Mark (Lose a b k)) h = tt
+made_still g at log (Mark (Repeat a b k)) h = tt
+made_still g at log (Mark (Resend a b)) h = tt
+made_still g at log (Mark Settle) h = tt
+made_still g at log (Mark Redeclare) h = tt
+made_still g at log (Mark (Down d)) h = tt
+made_still g at log (Mark (Up d)) h = tt
+made_still g at log (Round es) h = tt
+made_still g at log (Redeclares t) h = forced_still at (force_at g (suc (redeclares log))) t
+made_still g at log (Hand from to n m) h = absurd h
+made_still g at log (Submitted to n) h = if_way IsStill (same_site at to) (given_to n (txn_at g n)) None (given_still n (txn_at g n)) tt
+made_still g at log Notes h = tt
+made_still g at log (Does by act) h = absurd h
+
+-- the spaces of modules
+
+abbrev pub own : Given → ℕ → Log → site.Log
+own g d log = local_of g (D (dm_no d)) log
+
+abbrev pub set : Given → ℕ → Setting
+set g d = setting_of g (D (dm_no d))
+
+abbrev pub kept_at : Given → ℕ → ℕ → ℕ → Log → Option Frozen
+kept_at g c ts d log = kept (set g d) c ts (own g d log)
+
+abbrev pub or_first : Option Frozen → Frozen → Frozen
+or_first None f = f
+or_first (Some r) f = r
+
+-- what module d keeps, or what it is to freeze first
+abbrev pub space_at : Given → ℕ → ℕ → Space → Log → Space
+space_at g c ts first log d = or_first (kept_at g c ts d log) (first d)
+
+-- the copies are those at the Answers that there are
+abbrev pub Agrees : Given → ℕ → (ℕ → CopyRows) → Log → Type 0
+Agrees g ts copies log = (d : ℕ) (x : IsAnswerAt ts (own g d log)) → copies d ≡ (λ f. contents f (dated (set g d) x.before))
+
+abbrev AnswerWith : ℕ → site.Log → site.Log → Type 0
+AnswerWith ts before l = (y : IsAnswerAt ts l) × (y.before ≡ before)
+
+answer_made : (ts : ℕ) (o : Option site.Entry) (l : site.Log) (x : IsAnswerAt ts l) → AnswerWith ts x.before (with_made o l)
+answer_made ts None l x = (x, refl)
+answer_made ts (Some e) l x = (answer_more ts e l x, refl)
+
+pub agrees_before : (g : Given) (ts : ℕ) (copies : ℕ → CopyRows) (e : Entry) (log : Log) → Agrees g ts copies (e ∷ log) → Agrees g ts copies log
+agrees_before g ts copies e log h d x =
+    let y = subst (AnswerWith ts x.before) (sym (local_step g (D (dm_no d)) e log)) (answer_made ts (made g (D (dm_no d)) log e) (own g d log) x) in
+    h d y.0 ∙ ap (λ l. λ f. contents f (dated (set g d) l)) y.1
+
+pub space_same : (g : Given) (c ts : ℕ) (first : Space) (e : Entry) (log : Log)
+    → ((d : ℕ) → kept_at g c ts d (e ∷ log) ≡ kept_at g c ts d log)
+    → space_at g c ts first (e ∷ log) ≡ space_at g c ts first log
+space_same g c ts first e log k = λ i d. or_first (k d i) (first d)
+
+-- an entry that makes nothing of a module's log leaves what it keeps
+pub kept_apart : (g : Given) (c ts d : ℕ) (e : Entry) (log : Log) → made g (D (dm_no d)) log e ≡ None → kept_at g c ts d (e ∷ log) ≡ kept_at g c ts d log
+kept_apart g c ts d e log m = ap (kept (set g d) c ts) (local_step g (D (dm_no d)) e log ∙ ap (λ o. with_made o (own g d log)) m)
+
+pub kept_still : (g : Given) (c ts d : ℕ) (e : Entry) (log : Log) → IsStillEntry e → kept_at g c ts d (e ∷ log) ≡ kept_at g c ts d log
+kept_still g c ts d e log h = ap (kept (set g d) c ts) (local_step g (D (dm_no d)) e log)
+    ∙ still_kept (set g d) c ts (made g (D (dm_no d)) log e) (own g d log)
+    (made_still g (D (dm_no d)) log e h)
+
+-- the site of a class is no data module
+pub home_apart : (cat : Catalogue) (c d : ℕ) → same_site (D (dm_no d)) (home cat c) ≡ false
+home_apart cat c d = if_way (λ x. same_site (D (dm_no d)) x ≡ false) (c == 0) U (T (tm_no (class_at cat c).tm.0)) refl refl
+
+pub apart_home : (cat : Catalogue) (c : ℕ) (d : DmNo) → same_site (home cat c) (D d) ≡ false
+apart_home cat c d = if_way (λ x. same_site x (D d) ≡ false) (c == 0) U (T (tm_no (class_at cat c).tm.0)) refl refl

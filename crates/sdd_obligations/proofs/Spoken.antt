@@ -1,0 +1,317 @@
+-- On a permitted log the exchanges of a class with the data modules go by turns.
+use Rattle.std.proofs.Common.{ℕ, ◌&&◌, ◌++◌, ◌∙◌, ◌∷◌, ◌≡◌, ◌≤◌, ◌⊎◌, Bool, List, None, Option, Some, [], ap, cond, drop, false, filter, if◌then◌else◌, inl, inr, refl, subst, sym, true}
+use Rattle.sdd_base.specs.Numbers.{dm_no}
+use Rattle.sdd_base.specs.Sites.{number_of, same_site}
+use Rattle.sdd_base.specs.declared.site.Site.{Site}
+use Rattle.sdd_base.specs.declared.site.Site.TheVariants.{D, T, U}
+use Rattle.sdd_wire.specs.Piped.{goes_through, time_of}
+use Rattle.sdd_wire.specs.declared.msg.Msg.{Msg}
+use Rattle.sdd_module.specs.SiteLog.{Act, Did, Each, Handed, Redeclared, Setting, Submits, Ticked, sends_of_act}
+use Rattle.sdd_dm.specs.Copies.{frozen}
+use Rattle.sdd_log.specs.Entries.{Does, Entry, Given, Hand, Log}
+use Rattle.sdd_log.specs.Locals.{local_of, setting_of}
+use Rattle.sdd_log.specs.Permitted.{IsAllowed, IsPermitted}
+use Rattle.sdd_log.specs.Traffic.{handed}
+use Rattle.sdd_obligations.proofs.Asking.{asks_in_turn}
+use Rattle.sdd_obligations.proofs.Hearing.{IsTimely}
+use Rattle.sdd_obligations.proofs.DataSteps.{data_step}
+use Rattle.sdd_obligations.proofs.FirstSends.{IsFirstEach, IsFirstSend}
+use Rattle.sdd_obligations.proofs.Flights.{first_in_flight, handed_did, handed_hand, is_plain, nothing_put, put_did, put_hand, questions_step, answers_step, quiet_made, silent_first, turn_at_step, turn_with_step}
+use Rattle.sdd_obligations.proofs.Held.{AreHeldFor, IsHeldAt, held_act, held_hand, tells_in_turn}
+use Rattle.sdd_obligations.proofs.Sources.{apart_from_home, home_apart, home_first, question_home}
+use Rattle.sdd_obligations.proofs.Stages.{IsMove, answer_comes, answer_got, answer_put, move_as, moved, question_comes, question_got, question_put, still}
+use Rattle.sdd_obligations.proofs.Replying.{IsAskedInTurn}
+use Rattle.sdd_obligations.specs.Stages.{IsStage, agreed, flight}
+use Rattle.sdd_obligations.specs.Turns.{MayAnswer, MayAsk, Turn, answers, asked_by, is_answer, is_exchanging, is_question, questions, told_by, turn_at, turn_with, uses_held}
+use Rattle.sdd_invariants.proofs.Sites.{site_is, site_self}
+use Rattle.sdd_invariants.specs.Orders.{AllLe}
+use Rattle.sdd_invariants.specs.ReadSteps.{IsDueEach}
+use Rattle.sdd_invariants.specs.Steps.{IsFair, IsStep, home}
+use Rattle.sdd_invariants.specs.Traffic.{puts_to, times_in, to_site}
+use Rattle.sdd_invariants.proofs.Fair.{d_fair, home_fair}
+use Rattle.sdd_invariants.proofs.InOrder.{hand_was_put}
+use Rattle.sdd_invariants.proofs.Made.{local_step, maker, own_act}
+use Rattle.sdd_invariants.proofs.Sent.{puts_grow}
+use Rattle.sdd_invariants.specs.Made.{handed_by, made, put_by, with_made}
+use Rattle.sdd_module.specs.SiteLog as site
+use Rattle.sdd_obligations.proofs.Halves.{IsLast, IsSpoken, StageAt, active_last, alone, data_log, data_turns, exchanging_active, home_log, home_source, home_turns}
+
+-- what an entry adds
+
+abbrev IsFirstAt : Given → ℕ → Log → Act → Type 0
+IsFirstAt g c log act = IsFirstSend (setting_of g (home g.catalogue c)) (home_log g c log) act
+
+home_act : (g : Given) (c : ℕ) (log : Log) (act : Act) → IsPermitted g (Does (home g.catalogue c) act ∷ log)
+    → IsStep (setting_of g (home g.catalogue c)) (home_log g c log) act × IsFirstAt g c log act
+home_act g c log act h = (
+  (subst (λ l. Each (IsFair (setting_of g (home g.catalogue c))) l) (own_act g (home g.catalogue c) act log)
+      (home_fair g c (Does (home g.catalogue c) act ∷ log) h)).0,
+  (subst (λ l. Each (IsFirstEach (setting_of g (home g.catalogue c))) l)
+      (own_act g (home g.catalogue c) act log) (home_first g c (Does (home g.catalogue c) act ∷ log) h)).0,
+)
+
+data_act : (g : Given) (d : ℕ) (log : Log) (act : Act) → IsPermitted g (Does (D (dm_no d)) act ∷ log)
+    → IsDueEach (setting_of g (D (dm_no d))) (data_log g d log) (Did act)
+data_act g d log act h =
+    (subst (λ l. Each (IsDueEach (setting_of g (D (dm_no d)))) l) (own_act g (D (dm_no d)) act log) (d_fair g (dm_no d) (Does (D (dm_no d)) act ∷ log) h)).0
+
+abbrev MoveAt : Given → ℕ → ℕ → ℕ → Entry → Log → Type 0
+MoveAt g ts c d e log =
+    IsMove (turn_at ts c d (home_log g c log)) (turn_with ts c (home g.catalogue c) (data_log g d log))
+    (questions ts c (put_by (D (dm_no d)) (made g (home g.catalogue c) log e))) (questions ts c (handed_by (home g.catalogue c) (made g (D (dm_no d)) log e)))
+    (answers ts c (put_by (home g.catalogue c) (made g (D (dm_no d)) log e))) (answers ts c (handed_by (D (dm_no d)) (made g (home g.catalogue c) log e)))
+
+held_exchanging : (g : Given) (ts c d : ℕ) (log : Log) → IsPermitted g log → number_of (home g.catalogue c) ≤ 63 → IsSpoken g c log
+    → (ns : List ℕ) → is_exchanging (turn_with ts c (home g.catalogue c) (data_log g d log)) ≡ true
+    → uses_held (turn_with ts c (home g.catalogue c) (data_log g d log)) ≡ Some ns
+    → AreHeldFor ts ns (frozen (setting_of g (D (dm_no d))) c (data_log g d log))
+held_exchanging g ts c d log h small i ns e f =
+    let a = exchanging_active g ts c d log h i e in
+    i.held ts d (subst (λ t. IsLast g t c d log) a.2 (active_last g c d log a.0 h small a.1)) ns f
+
+move_home : (g : Given) (ts c d : ℕ) (log : Log) (act : Act) → IsPermitted g (Does (home g.catalogue c) act ∷ log) → IsSpoken g c log
+    → MoveAt g ts c d (Does (home g.catalogue c) act) log
+move_home g ts c d log act h i =
+    let at : Site = home g.catalogue c in
+    let v : Turn = turn_at ts c d (home_log g c log) in
+    let w : Turn = turn_with ts c at (data_log g d log) in
+    let s = home_act g c log act h in
+    let pq : put_by (D (dm_no d)) (made g at log (Does at act)) ≡ to_site (D (dm_no d)) (sends_of_act act) =
+    put_did (same_site at at) (D (dm_no d)) act
+    ∙ ap (λ (b : Bool). if b then to_site (D (dm_no d)) (sends_of_act act) else []) (site_self at) in
+    let hq : handed_by at (made g (D (dm_no d)) log (Does at act)) ≡ [] = handed_did (same_site (D (dm_no d)) at) at act in
+    let pa : put_by at (made g (D (dm_no d)) log (Does at act)) ≡ [] =
+    put_did (same_site (D (dm_no d)) at) at act
+    ∙ ap (λ (b : Bool). if b then to_site at (sends_of_act act) else []) (apart_from_home g.catalogue c d)
+    in
+    let ha : handed_by (D (dm_no d)) (made g at log (Does at act)) ≡ [] = handed_did (same_site at at) (D (dm_no d)) act in
+    elim (asks_in_turn (setting_of g at) c (home_log g c log) act ts d s.0 s.1 (home_turns g c log h.1 i)) [
+      | inl e ↦ move_as v w _ _ _ _ [] [] [] [] (ap (questions ts c) pq ∙ e) (ap (questions ts c) hq) (ap (answers ts c) pa) (ap (answers ts c) ha) still
+      | inr p ↦ move_as v w _ _ _ _ (p.0 ∷ []) [] [] [] (ap (questions ts c) pq ∙ p.1)
+          (ap (questions ts c) hq) (ap (answers ts c) pa) (ap (answers ts c) ha) (question_put p.0 p.2)
+    ]
+
+move_data : (g : Given) (ts c d : ℕ) (log : Log) (act : Act) → IsPermitted g (Does (D (dm_no d)) act ∷ log) → number_of (home g.catalogue c) ≤ 63
+    → IsSpoken g c log → MoveAt g ts c d (Does (D (dm_no d)) act) log
+move_data g ts c d log act h small i =
+    let at : Site = home g.catalogue c in
+    let from : Site = D (dm_no d) in
+    let v : Turn = turn_at ts c d (home_log g c log) in
+    let w : Turn = turn_with ts c at (data_log g d log) in
+    let pq : put_by from (made g at log (Does from act)) ≡ [] = put_did (same_site at from) from act
+    ∙ ap (λ (b : Bool). if b then to_site from (sends_of_act act) else []) (home_apart g.catalogue c d) in
+    let hq : handed_by at (made g from log (Does from act)) ≡ [] = handed_did (same_site from from) at act in
+    let pa : put_by at (made g from log (Does from act)) ≡ to_site at (sends_of_act act) =
+    put_did (same_site from from) at act
+    ∙ ap (λ (b : Bool). if b then to_site at (sends_of_act act) else []) (site_self from) in
+    let ha : handed_by from (made g at log (Does from act)) ≡ [] = handed_did (same_site at from) from act in
+    elim (tells_in_turn (setting_of g from) ts c at (data_log g d log) act (home_source g c d)
+    (data_step (setting_of g from) (data_log g d log) act (data_act g d log act h))
+    (data_turns g ts c d log h.1 i) (held_exchanging g ts c d log h.1 small i)) [
+      | inl e ↦ move_as v w _ _ _ _ [] [] [] [] (ap (questions ts c) pq) (ap (questions ts c) hq) (ap (answers ts c) pa ∙ e) (ap (answers ts c) ha) still
+      | inr p ↦ move_as v w _ _ _ _ [] [] (p.0 ∷ []) [] (ap (questions ts c) pq) (ap (questions ts c) hq)
+          (ap (answers ts c) pa ∙ p.1) (ap (answers ts c) ha) (answer_put p.0 p.2)
+    ]
+
+move_act : (g : Given) (ts c d : ℕ) (log : Log) (by : Site) (act : Act) → IsPermitted g (Does by act ∷ log) → number_of (home g.catalogue c) ≤ 63
+    → IsSpoken g c log → MoveAt g ts c d (Does by act) log
+move_act g ts c d log by act h small i =
+    elim (same_site (home g.catalogue c) by) as (λ b. same_site (home g.catalogue c) by ≡ b → MoveAt g ts c d (Does by act) log) [
+      | true ↦ λ e. (let p : home g.catalogue c ≡ by = site_is (home g.catalogue c) by e in
+          subst (λ x. MoveAt g ts c d (Does x act) log) p (move_home g ts c d log act (subst (λ x. IsPermitted g (Does x act ∷ log)) (sym p) h) i))
+      | false ↦ λ e. elim (same_site (D (dm_no d)) by) as (λ b. same_site (D (dm_no d)) by ≡ b → MoveAt g ts c d (Does by act) log) [
+        | true ↦ λ f. (let p : D (dm_no d) ≡ by = site_is (D (dm_no d)) by f in
+            subst (λ x. MoveAt g ts c d (Does x act) log) p (move_data g ts c d log act (subst (λ x. IsPermitted g (Does x act ∷ log)) (sym p) h) small i))
+        | false ↦ λ f. move_as (turn_at ts c d (home_log g c log)) (turn_with ts c (home g.catalogue c) (data_log g d log)) _ _ _ _ [] [] [] []
+            (ap (questions ts c) (put_did (same_site (home g.catalogue c) by) (D (dm_no d)) act
+            ∙ ap (λ (b : Bool). if b then to_site (D (dm_no d)) (sends_of_act act) else []) e))
+            (ap (questions ts c) (handed_did (same_site (D (dm_no d)) by) (home g.catalogue c) act))
+            (ap (answers ts c) (put_did (same_site (D (dm_no d)) by) (home g.catalogue c) act
+            ∙ ap (λ (b : Bool). if b then to_site (home g.catalogue c) (sends_of_act act) else []) f))
+            (ap (answers ts c) (handed_did (same_site (home g.catalogue c) by) (D (dm_no d)) act)) still
+      ] refl
+    ] refl
+
+-- a hand
+
+questions_if : (ts c : ℕ) (b : Bool) (m : Msg) → (questions ts c (if b then m ∷ [] else []) ≡ []) ⊎ (questions ts c (if b then m ∷ [] else []) ≡ m ∷ [])
+questions_if ts c false m = inl refl
+questions_if ts c true m =
+    elim (is_question ts c m) as (λ x. (cond x (m ∷ []) [] ≡ []) ⊎ (cond x (m ∷ []) [] ≡ m ∷ [])) [ true ↦ inr refl | false ↦ inl refl ]
+
+answers_if : (ts c : ℕ) (b : Bool) (m : Msg) → (answers ts c (if b then m ∷ [] else []) ≡ []) ⊎ (answers ts c (if b then m ∷ [] else []) ≡ m ∷ [])
+answers_if ts c false m = inl refl
+answers_if ts c true m =
+    elim (is_answer ts c m) as (λ x. (cond x (m ∷ []) [] ≡ []) ⊎ (cond x (m ∷ []) [] ≡ m ∷ [])) [ true ↦ inr refl | false ↦ inl refl ]
+
+move_hand : (g : Given) (ts c d : ℕ) (log : Log) (from to : Site) (n : ℕ) (m : Msg) → MoveAt g ts c d (Hand from to n m) log
+move_hand g ts c d log from to n m =
+    let at : Site = home g.catalogue c in
+    let v : Turn = turn_at ts c d (home_log g c log) in
+    let w : Turn = turn_with ts c at (data_log g d log) in
+    let pq = ap (questions ts c) (put_hand (same_site at to) (D (dm_no d)) from m) in
+    let pa = ap (answers ts c) (put_hand (same_site (D (dm_no d)) to) at from m) in
+    let hq = ap (questions ts c) (handed_hand (same_site (D (dm_no d)) to) at from m) in
+    let ha = ap (answers ts c) (handed_hand (same_site at to) (D (dm_no d)) from m) in
+    elim (same_site at to) as (λ b. same_site at to ≡ b → MoveAt g ts c d (Hand from to n m) log) [
+      | true ↦ λ e.
+          (let other : same_site (D (dm_no d)) to ≡ false =
+          subst (λ x. same_site (D (dm_no d)) x ≡ false) (site_is at to e)
+          (apart_from_home g.catalogue c d) in
+          let none = hq ∙ ap (λ (b : Bool). questions ts c (if b && same_site at from then m ∷ [] else [])) other in
+          elim (answers_if ts c (same_site at to && same_site (D (dm_no d)) from) m) [
+            | inl f ↦ move_as v w _ _ _ _ [] [] [] [] pq none pa (ha ∙ f) still
+            | inr f ↦ move_as v w _ _ _ _ [] [] [] (m ∷ []) pq none pa (ha ∙ f) (answer_got m)
+          ])
+      | false ↦ λ e.
+          (let none = ha ∙ ap (λ (b : Bool). answers ts c (if b && same_site (D (dm_no d)) from then m ∷ [] else [])) e in
+          elim (questions_if ts c (same_site (D (dm_no d)) to && same_site at from) m) [
+            | inl f ↦ move_as v w _ _ _ _ [] [] [] [] pq (hq ∙ f) pa none still
+            | inr f ↦ move_as v w _ _ _ _ [] (m ∷ []) [] [] pq (hq ∙ f) pa none (question_got m)
+          ])
+    ] refl
+
+move_plain : (g : Given) (ts c d : ℕ) (log : Log) (e : Entry) → is_plain e ≡ true → MoveAt g ts c d e log
+move_plain g ts c d log e p =
+    let at : Site = home g.catalogue c in
+    let q = quiet_made g at log e p (D (dm_no d)) in
+    let r = quiet_made g (D (dm_no d)) log e p at in
+    move_as (turn_at ts c d (home_log g c log)) (turn_with ts c at (data_log g d log)) _ _ _ _ [] [] [] []
+    (ap (questions ts c) q.0) (ap (questions ts c) r.1) (ap (answers ts c) r.0)
+    (ap (answers ts c) q.1) still
+
+move_at : (g : Given) (ts c d : ℕ) (log : Log) (e : Entry) → IsPermitted g (e ∷ log) → number_of (home g.catalogue c) ≤ 63
+    → IsSpoken g c log → MoveAt g ts c d e log
+move_at g ts c d log (Does by act) h small i = move_act g ts c d log by act h small i
+move_at g ts c d log (Hand from to n m) h small i = move_hand g ts c d log from to n m
+move_at g ts c d log e h small i = move_plain g ts c d log e refl
+
+stage_step : (g : Given) (ts c d : ℕ) (log : Log) (e : Entry) → IsPermitted g (e ∷ log) → number_of (home g.catalogue c) ≤ 63
+    → IsSpoken g c log → StageAt g ts c d (e ∷ log)
+stage_step g ts c d log e h small i =
+    let at : Site = home g.catalogue c in
+    let m : Site = D (dm_no d) in
+    let now = moved (turn_at ts c d (home_log g c log)) (turn_with ts c at (data_log g d log)) _ _ _ _ _ _
+    (questions ts c (flight g at m (e ∷ log))) (answers ts c (flight g m at (e ∷ log)))
+    (move_at g ts c d log e h small i) (questions_step g ts c at m e log h)
+    (answers_step g ts c m at e log h) (i.stages ts d) in
+    subst (λ v. IsStage v (turn_with ts c at (data_log g d (e ∷ log)))
+    (questions ts c (flight g at m (e ∷ log))) (answers ts c (flight g m at (e ∷ log))))
+    (sym (turn_at_step g ts c d at e log))
+    (subst (λ w. IsStage (told_by (answers ts c (handed_by m (made g at log e)))
+    (asked_by (questions ts c (put_by m (made g at log e))) (turn_at ts c d (home_log g c log)))) w
+    (questions ts c (flight g at m (e ∷ log))) (answers ts c (flight g m at (e ∷ log))))
+    (sym (turn_with_step g ts c at m e log)) now)
+
+-- what is handed over comes in turn
+
+pub first_of_kind : (f : Msg → Bool) (ms : List Msg) (m : Msg) (rest : List Msg) → ms ≡ m ∷ rest → f m ≡ true → filter f ms ≡ m ∷ filter f rest
+first_of_kind f ms m rest e p = ap (filter f) e ∙ ap (λ (b : Bool). cond b (m ∷ filter f rest) (filter f rest)) p
+
+pub answer_in_turn : (g : Given) (c : ℕ) (log : Log) (d n : ℕ) (m : Msg) (ts : ℕ) → IsSpoken g c log
+    → IsAllowed g log (Hand (D (dm_no d)) (home g.catalogue c) n m) → is_answer ts c m ≡ true → MayAnswer (turn_at ts c d (home_log g c log)) m
+answer_in_turn g c log d n m ts i h e =
+    let f = first_in_flight g log (D (dm_no d)) (home g.catalogue c) n m h in
+    answer_comes _ _ _ _ m (answers ts c f.0) (first_of_kind (is_answer ts c) (flight g (D (dm_no d)) (home g.catalogue c) log) m f.0 f.1 e) (i.stages ts d)
+
+pub question_in_turn : (g : Given) (c : ℕ) (log : Log) (d n : ℕ) (m : Msg) (ts : ℕ) → IsSpoken g c log
+    → IsAllowed g log (Hand (home g.catalogue c) (D (dm_no d)) n m) → is_question ts c m ≡ true
+    → MayAsk (turn_with ts c (home g.catalogue c) (data_log g d log)) m
+question_in_turn g c log d n m ts i h e =
+    let f = first_in_flight g log (home g.catalogue c) (D (dm_no d)) n m h in
+    question_comes _ _ _ _ m (questions ts c f.0) (first_of_kind (is_question ts c)
+    (flight g (home g.catalogue c) (D (dm_no d)) log) m f.0 f.1 e) (i.stages ts d)
+
+timely_made : (g : Given) (c : ℕ) (log : Log) (e : Entry) (x : site.Entry) → IsPermitted g (e ∷ log) → IsSpoken g c log
+    → made g (home g.catalogue c) log e ≡ Some x → IsTimely c (home_log g c log) x
+timely_made g c log e (Handed from m) h i p = λ ts d f q.
+    (let k = maker g (home g.catalogue c) log e (Handed from m) p in
+    answer_in_turn g c log d k.0 m ts i (subst (λ s. IsAllowed g log (Hand s (home g.catalogue c) k.0 m)) f (subst (IsAllowed g log) k.1 h.0)) q)
+timely_made g c log e (Ticked n) h i p = tt
+timely_made g c log e (Submits n t) h i p = tt
+timely_made g c log e (Redeclared force t) h i p = tt
+timely_made g c log e (Did act) h i p = tt
+
+asked_made : (g : Given) (c d : ℕ) (log : Log) (e : Entry) (x : site.Entry) → IsPermitted g (e ∷ log) → IsSpoken g c log
+    → made g (D (dm_no d)) log e ≡ Some x → IsAskedInTurn c (home g.catalogue c) (data_log g d log) x
+asked_made g c d log e (Handed from m) h i p = λ ts q.
+    (let k = maker g (D (dm_no d)) log e (Handed from m) p in
+    let a : IsAllowed g log (Hand from (D (dm_no d)) k.0 m) = subst (IsAllowed g log) k.1 h.0 in
+    let f : home g.catalogue c ≡ from =
+    question_home g from (D (dm_no d)) log (handed from (D (dm_no d)) log) m ts c h.1
+    (hand_was_put g log from (D (dm_no d)) k.0 m a).1 q in
+    (sym f, question_in_turn g c log d k.0 m ts i (subst (λ s. IsAllowed g log (Hand s (D (dm_no d)) k.0 m)) (sym f) a) q))
+asked_made g c d log e (Ticked n) h i p = tt
+asked_made g c d log e (Submits n t) h i p = tt
+asked_made g c d log e (Redeclared force t) h i p = tt
+asked_made g c d log e (Did act) h i p = tt
+
+each_made : (P : site.Log → site.Entry → Type 0) (o : Option site.Entry) (l : site.Log) → ((x : site.Entry) → o ≡ Some x → P l x)
+    → Each P l → Each P (with_made o l)
+each_made P None l f h = h
+each_made P (Some x) l f h = (f x refl, h)
+
+-- rows stay held
+
+last_if : (c ts : ℕ) (b : Bool) (m : Msg) (xs ys : List ℕ) → (AllLe ts xs → AllLe ts ys) → AllLe ts (if b then time_of m ∷ xs else xs)
+    → AllLe ts (if b then time_of m ∷ ys else ys)
+last_if c ts true m xs ys f h = (h.0, f h.1)
+last_if c ts false m xs ys f h = f h
+
+last_left : (c ts : ℕ) (ms more : List Msg) → AllLe ts (times_in c (ms ++ more)) → AllLe ts (times_in c ms)
+last_left c ts [] more h = tt
+last_left c ts (m ∷ ms) more h =
+    last_if c ts (goes_through c m) m (times_in c (ms ++ more)) (times_in c ms) (λ k. last_left c ts ms more k) h
+
+last_before : (g : Given) (ts c d : ℕ) (e : Entry) (log : Log) → IsLast g ts c d (e ∷ log) → IsLast g ts c d log
+last_before g ts c d e log h =
+    last_left c ts (puts_to (D (dm_no d)) (home_log g c log)) (put_by (D (dm_no d)) (made g (home g.catalogue c) log e))
+    (subst (λ l. AllLe ts (times_in c l)) (puts_grow g (home g.catalogue c) (D (dm_no d)) e log) h)
+
+held_made : (g : Given) (ts c d : ℕ) (log : Log) (e : Entry) (o : Option site.Entry) → IsPermitted g (e ∷ log) → number_of (home g.catalogue c) ≤ 63
+    → IsSpoken g c log → IsLast g ts c d log → made g (D (dm_no d)) log e ≡ o
+    → IsHeldAt (setting_of g (D (dm_no d))) ts c (home g.catalogue c) (with_made o (data_log g d log))
+held_made g ts c d log e None h small i last p = i.held ts d last
+held_made g ts c d log e (Some (Handed from m)) h small i last p =
+    held_hand (setting_of g (D (dm_no d))) ts c (home g.catalogue c) (data_log g d log) from m
+    (λ q. (asked_made g c d log e (Handed from m) h i p ts q).1) (i.held ts d last)
+held_made g ts c d log e (Some (Ticked n)) h small i last p = i.held ts d last
+held_made g ts c d log e (Some (Submits n t)) h small i last p = i.held ts d last
+held_made g ts c d log e (Some (Redeclared force t)) h small i last p = i.held ts d last
+held_made g ts c d log e (Some (Did act)) h small i last p =
+    let k : e ≡ Does (D (dm_no d)) act = maker g (D (dm_no d)) log e (Did act) p in
+    let due = data_act g d log act (subst (λ x. IsPermitted g (x ∷ log)) k h) in
+    held_act (setting_of g (D (dm_no d))) ts c (home g.catalogue c) (data_log g d log) act
+    (home_source g c d) (data_step (setting_of g (D (dm_no d))) (data_log g d log) act due)
+    (alone g ts c d log h.1 small i last) (i.held ts d last)
+
+first_timely : (g : Given) (c : ℕ) (at : Site) → Each (IsTimely c) (local_of g at [])
+first_timely g c U = tt
+first_timely g c (T t) = (tt, tt)
+first_timely g c (D d) = tt
+
+-- on every permitted log
+pub spoken : (g : Given) (c : ℕ) (log : Log) → IsPermitted g log → number_of (home g.catalogue c) ≤ 63 → IsSpoken g c log
+spoken g c [] h small = record {
+  stages = λ ts d. agreed (silent_first g ts c d (home g.catalogue c)) (ap (λ l. questions ts c (drop 0 l))
+      (nothing_put g (home g.catalogue c) (D (dm_no d)))) refl;
+  timely_at = first_timely g c (home g.catalogue c);
+  timely_with = λ d. tt;
+  held = λ ts d l ns e. cc;
+}
+spoken g c (e ∷ log) h small =
+    let i = spoken g c log h.1 small in
+    record {
+      stages = λ ts d. stage_step g ts c d log e h small i;
+      timely_at = subst (Each (IsTimely c)) (sym (local_step g (home g.catalogue c) e log))
+          (each_made (IsTimely c) (made g (home g.catalogue c) log e) (home_log g c log)
+          (λ x p. timely_made g c log e x h i p) i.timely_at);
+      timely_with = λ d. subst (Each (IsAskedInTurn c (home g.catalogue c)))
+          (sym (local_step g (D (dm_no d)) e log)) (each_made (IsAskedInTurn c (home g.catalogue c))
+          (made g (D (dm_no d)) log e) (data_log g d log) (λ x p. asked_made g c d log e x h i p)
+          (i.timely_with d));
+      held = λ ts d l. subst (λ k. IsHeldAt (setting_of g (D (dm_no d))) ts c (home g.catalogue c) k)
+          (sym (local_step g (D (dm_no d)) e log))
+          (held_made g ts c d log e (made g (D (dm_no d)) log e) h small i (last_before g ts c d e log l)
+          refl);
+    }

@@ -1,0 +1,335 @@
+-- The exchange of an active attempt and its modules go in step.
+use Rattle.std.proofs.Common.{ℕ, ◌++◌, ◌≤◌, ◌==◌, ◌∙◌, ◌∷◌, ◌≡◌, Bool, List, None, Option, Some, [], ap, drop, false, if◌then◌else◌, inl, inr, refl, subst, sym, take, true}
+use Rattle.std.proofs.lemmas.List.{take-append-drop}
+use Rattle.std.proofs.lemmas.List.Elements.{filter-append}
+use Rattle.sdd_base.specs.Numbers.{dm_no, tm_no}
+use Rattle.sdd_base.specs.Sites.{number_of, same_site}
+use Rattle.sdd_base.specs.Words.{head_of}
+use Rattle.sdd_base.specs.declared.number.DmNo.{DmNo}
+use Rattle.sdd_base.specs.declared.site.Site.{Site}
+use Rattle.sdd_base.specs.declared.site.Site.TheVariants.{D, T, U}
+use Rattle.sdd_catalog.specs.Catalogue.{class_at}
+use Rattle.sdd_wire.specs.declared.msg.Msg.{Msg}
+use Rattle.sdd_wire.specs.declared.msg.Msg.TheVariants.{Fetch, Read, Reduce, Reject, Ship}
+use Rattle.sdd_module.specs.SiteLog.{Act, Bases, Did, Each, Handed, Redeclared, Sends, Setting, Submits, Ticked, sends_of_act}
+use Rattle.sdd_module.specs.SiteLog as site
+use Rattle.sdd_attempt.specs.Acts.{commit_act}
+use Rattle.sdd_attempt.specs.Attempts.{Attempt, active, active_handed, active_sent, started}
+use Rattle.sdd_attempt.specs.Queues.{Queued, queue}
+use Rattle.sdd_log.specs.Entries.{Does, Entry, Given, Hand, Log, Mark, Notes, Redeclares, Round, Submitted}
+use Rattle.sdd_log.specs.Locals.{beginning, local_of, setting_of}
+use Rattle.sdd_log.specs.Permitted.{IsAllowed, IsPermitted}
+use Rattle.sdd_log.specs.Traffic.{handed}
+use Rattle.sdd_log.proofs.EachLocal.{allowed_act}
+use Rattle.sdd_invariants.proofs.Clocks.{stamp_below_next}
+use Rattle.sdd_obligations.proofs.Comes.{answer_stands, question_stands}
+use Rattle.sdd_obligations.proofs.DataSteps.{data_step}
+use Rattle.sdd_obligations.proofs.Halves.{active_last, data_turns, home_source, home_turns}
+use Rattle.sdd_obligations.proofs.Hearing.{AtTurn, told_is}
+use Rattle.sdd_obligations.proofs.Replying.{IsAskedInTurn}
+use Rattle.sdd_obligations.proofs.Sources.{home_first}
+use Rattle.sdd_obligations.proofs.Spoken.{spoken}
+use Rattle.sdd_obligations.specs.Stages.{IsStage, agreed, answer_goes, flight, question_goes}
+use Rattle.sdd_obligations.specs.Turns.{Asks, MayAnswer, Replies, Silent, Told, Turn, answers, is_a_read, is_a_refusal, is_answer, is_question, told, turn_at, turn_with, uses_by, uses_in}
+use Rattle.sdd_invariants.proofs.Active.{handed_way, sent_way, step_way}
+use Rattle.sdd_invariants.proofs.Bools.{if_way, same_number, same_or_not}
+use Rattle.sdd_invariants.proofs.Sites.{site_is, site_self}
+use Rattle.sdd_invariants.specs.Steps.{IsFair, home, next_stamp, start_at}
+use Rattle.sdd_invariants.specs.Traffic.{puts_to}
+use Rattle.sdd_invariants.proofs.Fair.{home_fair}
+use Rattle.sdd_invariants.proofs.Made.{local_step, own_act}
+use Rattle.sdd_invariants.specs.Made.{made, with_made}
+use Rattle.sdd_obligations.specs.Contents.{Tells, kept}
+use Rattle.sdd_obligations.proofs.Asked.{AllAskPhase, asks_phase}
+use Rattle.sdd_obligations.proofs.Kept.{kept_same}
+use Rattle.sdd_obligations.proofs.InStep.{InStep, IsAnswered}
+use Rattle.sdd_obligations.proofs.Spaces.{IsStill, IsStillEntry, home_apart, made_still, own, set, still_active}
+use Rattle.sdd_obligations.proofs.Told.{KnowsTold, told_act, told_hand, told_still}
+
+-- a module that nothing was said to said nothing
+
+silent_with : (v w : Turn) (qs xs : List Msg) → IsStage v w qs xs → v ≡ Silent → w ≡ Silent
+silent_with v w qs xs (agreed e q x) z = sym e ∙ z
+silent_with v w qs xs (question_goes m q x e may) z = let p : Silent ≡ Asks (uses_by m (uses_in w)) m = sym z ∙ e in cc
+silent_with v w qs xs (answer_goes x q y e may) z = absurd (subst (λ u. MayAnswer u x) z may)
+
+-- two lists with one message more are the same, so is that
+
+no_end : {A B : Type 0} (xs : List A) (x : A) → [] ≡ xs ++ x ∷ [] → B
+no_end [] x e = cc
+no_end (y ∷ xs) x e = cc
+
+last_same : {A : Type 0} (xs ys : List A) (x y : A) → xs ++ x ∷ [] ≡ ys ++ y ∷ [] → x ≡ y
+last_same [] [] x y e = cc
+last_same [] (z ∷ ys) x y e = let p : [] ≡ ys ++ y ∷ [] = cc in no_end ys y p
+last_same (z ∷ xs) [] x y e = let p : [] ≡ xs ++ x ∷ [] = cc in no_end xs x p
+last_same (u ∷ xs) (z ∷ ys) x y e = let p : xs ++ x ∷ [] ≡ ys ++ y ∷ [] = cc in last_same xs ys x y p
+
+-- only a READ is refused
+no_refusal : (ns : List ℕ) (q m : Msg) → is_a_read q ≡ false → Replies ns q m → is_a_refusal m ≡ false
+no_refusal ns (Read t k txn attempt conds uses) m e h = cc
+no_refusal ns (Fetch t k u col) (Reject a b by write) e h = absurd h
+no_refusal ns (Reduce t k u col vs) (Reject a b by write) e h = absurd h
+no_refusal ns (Ship t k) (Reject a b by write) e h = absurd h
+no_refusal ns q (Reject a b by write) e h = absurd h
+no_refusal ns q m e h = refl
+
+told_quiet : (s : Setting) (c ts : ℕ) (at : Site) (o : Option site.Entry) (l : site.Log) → IsStill o
+    → KnowsTold s c ts at l → KnowsTold s c ts at (with_made o l)
+told_quiet s c ts at None l h k = k
+told_quiet s c ts at (Some (Ticked n)) l h k = told_still s c ts at l (Ticked n ∷ l) refl (kept_same s c ts (Ticked n) l refl) refl k
+told_quiet s c ts at (Some (Submits n txn)) l h k = told_still s c ts at l (Submits n txn ∷ l) refl (kept_same s c ts (Submits n txn) l refl) refl k
+told_quiet s c ts at (Some (Redeclared force t)) l h k =
+    told_still s c ts at l (Redeclared force t ∷ l) refl (kept_same s c ts (Redeclared force t) l refl) refl
+    k
+told_quiet s c ts at (Some (Handed from m)) l h k = absurd h
+told_quiet s c ts at (Some (Did act)) l h k = absurd h
+
+module _ (g : Given) (c : ℕ) (small : number_of (home g.catalogue c) ≤ 63) where
+  abbrev at : Site
+  at = home g.catalogue c
+
+  abbrev s : Setting
+  s = setting_of g (home g.catalogue c)
+
+  abbrev mine : Log → site.Log
+  mine log = local_of g (home g.catalogue c) log
+
+  abbrev Knows : ℕ → ℕ → Log → Type 0
+  Knows ts d log = KnowsTold (set g d) c ts at (own g d log)
+
+  abbrev AllTold : Log → Option Attempt → Type 0
+  AllTold log None = Unit {0}
+  AllTold log (Some a) = (d : ℕ) → Knows a.ts d log
+
+  told_on : (e : Entry) (log : Log) (o : Option Attempt) → ((a : Attempt) → o ≡ Some a → (d : ℕ)
+      → Knows a.ts d log → Knows a.ts d (e ∷ log)) → AllTold log o → AllTold (e ∷ log) o
+  told_on e log None f h = tt
+  told_on e log (Some a) f h = λ d. f a refl d (h d)
+
+  apart : (e : Entry) (log : Log) (ts d : ℕ) → made g (D (dm_no d)) log e ≡ None → Knows ts d log → Knows ts d (e ∷ log)
+  apart e log ts d m h = subst (KnowsTold (set g d) c ts at) (sym (local_step g (D (dm_no d)) e log ∙ ap (λ o. with_made o (own g d log)) m)) h
+
+  -- an entry of the site
+  home_hand : (log : Log) (from : Site) (n : ℕ) (m : Msg) (ts d : ℕ) → Knows ts d log → Knows ts d (Hand from at n m ∷ log)
+  home_hand log from n m ts d h = apart (Hand from at n m) log ts d (ap (λ b. if b then Some (Handed from m) else None) (home_apart g.catalogue c d)) h
+
+  home_act : (log : Log) (act : Act) (ts d : ℕ) → Knows ts d log → Knows ts d (Does at act ∷ log)
+  home_act log act ts d h = apart (Does at act) log ts d (ap (λ b. if b then Some (Did act) else None) (home_apart g.catalogue c d)) h
+
+  -- a hand to a module
+
+  question_from : (log : Log) (from : Site) (d : DmNo) (n : ℕ) (m : Msg) (ts : ℕ)
+      → IsPermitted g (Hand from (D d) n m ∷ log) → is_question ts c m ≡ true → from ≡ at
+  question_from log from d n m ts h q =
+      let entry : Entry = Hand from (D d) n m in
+      let here : own g d.0 (entry ∷ log) ≡ Handed from m ∷ own g d.0 log = local_step g (D d) entry log
+      ∙ ap (λ b. with_made (if b then Some (Handed from m) else None) (own g d.0 log))
+      (same_number d.0) in
+      let t = subst (Each (IsAskedInTurn c at)) here ((spoken g c (entry ∷ log) h small).timely_with d.0) in
+      (t.0 ts q).0
+
+  module_hand : (log : Log) (from : Site) (d : DmNo) (n : ℕ) (m : Msg) (ts : ℕ)
+      → IsPermitted g (Hand from (D d) n m ∷ log) → (k : ℕ) → Knows ts k log
+      → Knows ts k (Hand from (D d) n m ∷ log)
+  module_hand log from d n m ts h k knows = elim (same_or_not k d.0) [
+    | inl p ↦ (let here : own g d.0 (Hand from (D d) n m ∷ log) ≡ Handed from m ∷ own g d.0 log =
+        local_step g (D d) (Hand from (D d) n m) log
+        ∙ ap (λ b. with_made (if b then Some (Handed from m) else None) (own g d.0 log)) (same_number d.0) in
+        subst (λ j. Knows ts j log → Knows ts j (Hand from (D d) n m ∷ log)) (sym p)
+        (λ i. subst (KnowsTold (set g d.0) c ts at) (sym here)
+        (told_hand (set g d.0) c ts at (own g d.0 log) from m (λ q. question_from log from d n m ts h q)
+        i)) knows)
+    | inr p ↦ apart (Hand from (D d) n m) log ts k (ap (λ b. if b then Some (Handed from m) else None) p) knows
+  ]
+
+  -- an act of a module
+  module_act : (log : Log) (d : DmNo) (act : Act) (a : Attempt) → IsPermitted g (Does (D d) act ∷ log)
+      → active s c (mine log) ≡ Some a → (k : ℕ) → Knows a.ts k log → Knows a.ts k (Does (D d) act ∷ log)
+  module_act log d act a h e k knows = elim (same_or_not k d.0) [
+    | inl p ↦ (let here : own g d.0 (Does (D d) act ∷ log) ≡ Did act ∷ own g d.0 log =
+        local_step g (D d) (Does (D d) act) log ∙ ap (λ b. with_made (if b then Some (Did act) else None)
+        (own g d.0 log)) (same_number d.0) in
+        let sp = spoken g c log h.1 small in
+        subst (λ j. Knows a.ts j log → Knows a.ts j (Does (D d) act ∷ log)) (sym p)
+        (λ i. subst (KnowsTold (set g d.0) c a.ts at) (sym here)
+        (told_act (set g d.0) c a.ts at (own g d.0 log) act (home_source g c d.0)
+        (data_step (set g d.0) (own g d.0 log) act (allowed_act g log (Does (D d) act) h.0))
+        (data_turns g a.ts c d.0 log h.1 sp) (sp.held a.ts d.0 (active_last g c d.0 log a h.1 small e))
+        i)) knows)
+    | inr p ↦ apart (Does (D d) act) log a.ts k (ap (λ b. if b then Some (Did act) else None) p) knows
+  ]
+
+  -- an act of the site
+
+  fresh : (log : Log) → IsPermitted g log → (d : ℕ) → Knows (next_stamp s (mine log)) d log
+  fresh log h d ns q t r =
+      let sp = spoken g c log h small in
+      let silent = silent_with _ _ _ _ (sp.stages (next_stamp s (mine log)) d)
+      ((home_turns g c log h sp).fresh (next_stamp s (mine log)) d (stamp_below_next s (mine log))) in
+      let x : Silent ≡ Told ns q = sym silent ∙ t in cc
+
+  begun : (log : Log) (q : Queued) → IsPermitted g log → head_of (queue s c (mine log)) ≡ Some q
+      → AllTold (Does at (start_at s c (mine log) q) ∷ log)
+      (active s c (Did (start_at s c (mine log) q) ∷ mine log))
+  begun log q h e =
+      let act : Act = start_at s c (mine log) q in
+      let is : active s c (Did act ∷ mine log) ≡ started (next_stamp s (mine log)) (sends_of_act act)
+      (Some q) = rw (same_number c) (ap (started (next_stamp s (mine log)) (sends_of_act act)) e) in
+      subst (AllTold (Does at act ∷ log)) (sym is) (λ d. home_act log act (next_stamp s (mine log)) d (fresh log h d))
+
+  started_by : (log : Log) (k : ℕ) (q : Queued) → IsPermitted g log
+      → head_of (queue s k (mine log)) ≡ Some q → AllTold log (active s c (mine log))
+      → AllTold (Does at (start_at s k (mine log) q) ∷ log)
+      (active s c (Did (start_at s k (mine log) q) ∷ mine log))
+  started_by log k q h e told = elim (same_or_not k c) [
+    | inl p ↦ subst (λ j. head_of (queue s j (mine log)) ≡ Some q
+        → AllTold (Does at (start_at s j (mine log) q) ∷ log)
+        (active s c (Did (start_at s j (mine log) q) ∷ mine log))) (sym p) (λ f. begun log q h f) e
+    | inr p ↦
+        subst (AllTold (Does at (start_at s k (mine log) q) ∷ log))
+        (ap (λ b. if b then started (next_stamp s (mine log)) (sends_of_act (start_at s k (mine log) q))
+        (head_of (queue s c (mine log))) else active s c (mine log)) (sym p))
+        (told_on (Does at (start_at s k (mine log) q)) log (active s c (mine log)) (λ a i d. home_act log (start_at s k (mine log) q) a.ts d) told)
+  ]
+
+  committed_by : (log : Log) (k : ℕ) (bases : Bases) (a : Attempt) → AllTold log (active s c (mine log))
+      → AllTold (Does at (commit_act s.catalogue bases k a) ∷ log)
+      (active s c (Did (commit_act s.catalogue bases k a) ∷ mine log))
+  committed_by log k bases a told =
+      elim (k == c) as (λ b. AllTold (Does at (commit_act s.catalogue bases k a) ∷ log)
+      (if b then None else active s c (mine log))) [
+        | true ↦ tt
+        | false ↦ told_on (Does at (commit_act s.catalogue bases k a)) log (active s c (mine log))
+            (λ b i d. home_act log (commit_act s.catalogue bases k a) b.ts d) told
+      ]
+
+  acted_home : (log : Log) (act : Act) → IsPermitted g (Does at act ∷ log)
+      → AllTold log (active s c (mine log)) → AllTold (Does at act ∷ log) (active s c (Did act ∷ mine log))
+  acted_home log act h told =
+      let step = (subst (λ l. Each (IsFair s) l) (own_act g at act log) (home_fair g c (Does at act ∷ log) h)).0 in
+      step_way s (mine log) act (λ x. AllTold (Does at x ∷ log) (active s c (Did x ∷ mine log)))
+      (λ k q here idle e. started_by log k q h.1 e told)
+      (λ k bases a here e. committed_by log k bases a told)
+      (λ to m hand i. told_on (Does at (Sends to m hand)) log (active_sent c m (active s c (mine log))) (λ a e d. home_act log (Sends to m hand) a.ts d)
+      (sent_way (AllTold log) c m (active s c (mine log)) (λ a x e. subst (AllTold log) e told) told)) step
+
+  -- all entries
+
+  home_same : (e : Entry) (log : Log) → made g at log e ≡ None → active s c (mine (e ∷ log)) ≡ active s c (mine log)
+  home_same e log m = ap (active s c) (local_step g at e log ∙ ap (λ o. with_made o (mine log)) m)
+
+  by_hand : (log : Log) (from to : Site) (n : ℕ) (m : Msg) → AllTold log (active s c (mine log))
+      → IsPermitted g (Hand from to n m ∷ log) → (b : Bool) → same_site at to ≡ b
+      → AllTold (Hand from to n m ∷ log) (active s c (mine (Hand from to n m ∷ log)))
+  by_hand log from to n m told hand true e =
+      let here : mine (Hand from at n m ∷ log) ≡ Handed from m ∷ mine log =
+      local_step g at (Hand from at n m) log
+      ∙ ap (λ b. with_made (if b then Some (Handed from m) else None) (mine log)) (site_self at) in
+      subst (λ x. AllTold (Hand from x n m ∷ log) (active s c (mine (Hand from x n m ∷ log)))) (site_is at to e)
+      (subst (λ l. AllTold (Hand from at n m ∷ log) (active s c l)) (sym here)
+      (told_on (Hand from at n m) log (active_handed c from m (active s c (mine log))) (λ a i d. home_hand log from n m a.ts d)
+      (handed_way (AllTold log) c from m (active s c (mine log)) tt (λ a x i. subst (AllTold log) i told) told)))
+  by_hand log from (D d) n m told hand false e =
+      subst (AllTold (Hand from (D d) n m ∷ log))
+      (sym (home_same (Hand from (D d) n m) log (ap (λ b. if b then Some (Handed from m) else None) e)))
+      (told_on (Hand from (D d) n m) log (active s c (mine log))
+      (λ a i k. module_hand log from d n m a.ts hand k) told)
+  by_hand log from U n m told hand false e =
+      subst (AllTold (Hand from U n m ∷ log))
+      (sym (home_same (Hand from U n m) log (ap (λ b. if b then Some (Handed from m) else None) e)))
+      (told_on (Hand from U n m) log (active s c (mine log))
+      (λ a i k. apart (Hand from U n m) log a.ts k refl) told)
+  by_hand log from (T t) n m told hand false e =
+      subst (AllTold (Hand from (T t) n m ∷ log))
+      (sym (home_same (Hand from (T t) n m) log (ap (λ b. if b then Some (Handed from m) else None) e)))
+      (told_on (Hand from (T t) n m) log (active s c (mine log))
+      (λ a i k. apart (Hand from (T t) n m) log a.ts k refl) told)
+
+  by_act : (log : Log) (by : Site) (act : Act) → AllTold log (active s c (mine log))
+      → IsPermitted g (Does by act ∷ log) → (b : Bool) → same_site at by ≡ b → AllTold (Does by act ∷ log)
+      (active s c (mine (Does by act ∷ log)))
+  by_act log by act told hand true e =
+      let P : Site → Type 0 = λ x. IsPermitted g (Does x act ∷ log) → AllTold (Does x act ∷ log) (active s c (mine (Does x act ∷ log))) in
+      subst P (site_is at by e) (λ h. subst (λ l. AllTold (Does at act ∷ log) (active s c l)) (sym (own_act g at act log)) (acted_home log act h told)) hand
+  by_act log (D d) act told hand false e =
+      subst (AllTold (Does (D d) act ∷ log))
+      (sym (home_same (Does (D d) act) log (ap (λ b. if b then Some (Did act) else None) e)))
+      (told_on (Does (D d) act) log (active s c (mine log)) (λ a i k. module_act log d act a hand i k)
+      told)
+  by_act log U act told hand false e =
+      subst (AllTold (Does U act ∷ log))
+      (sym (home_same (Does U act) log (ap (λ b. if b then Some (Did act) else None) e)))
+      (told_on (Does U act) log (active s c (mine log)) (λ a i k. apart (Does U act) log a.ts k refl)
+      told)
+  by_act log (T t) act told hand false e =
+      subst (AllTold (Does (T t) act ∷ log))
+      (sym (home_same (Does (T t) act) log (ap (λ b. if b then Some (Did act) else None) e)))
+      (told_on (Does (T t) act) log (active s c (mine log))
+      (λ a i k. apart (Does (T t) act) log a.ts k refl) told)
+
+  by_still : (log : Log) (e : Entry) → IsStillEntry e → AllTold log (active s c (mine log)) → AllTold (e ∷ log) (active s c (mine (e ∷ log)))
+  by_still log e still told =
+      let same : active s c (mine (e ∷ log)) ≡ active s c (mine log) =
+      ap (active s c) (local_step g at e log) ∙ still_active s c (made g at log e) (mine log)
+      (made_still g at log e still) in
+      subst (AllTold (e ∷ log)) (sym same)
+      (told_on e log (active s c (mine log)) (λ a i d k. subst (KnowsTold (set g d) c a.ts at)
+      (sym (local_step g (D (dm_no d)) e log)) (told_quiet (set g d) c a.ts at
+      (made g (D (dm_no d)) log e) (own g d log) (made_still g (D (dm_no d)) log e still) k)) told)
+
+  none_first : active s c (mine []) ≡ None
+  none_first = if_way (λ x. active (setting_of g x) c (beginning g x) ≡ None) (c == 0) U (T (tm_no (class_at g.catalogue c).tm.0)) refl refl
+
+  told_all : (log : Log) → IsPermitted g log → AllTold log (active s c (mine log))
+  told_all [] h = subst (AllTold []) (sym none_first) tt
+  told_all (Hand from to n m ∷ log) h = by_hand log from to n m (told_all log h.1) h (same_site at to) refl
+  told_all (Does by act ∷ log) h = by_act log by act (told_all log h.1) h (same_site at by) refl
+  told_all (Mark e ∷ log) h = by_still log (Mark e) tt (told_all log h.1)
+  told_all (Round es ∷ log) h = by_still log (Round es) tt (told_all log h.1)
+  told_all (Redeclares t ∷ log) h = by_still log (Redeclares t) tt (told_all log h.1)
+  told_all (Submitted to n ∷ log) h = by_still log (Submitted to n) tt (told_all log h.1)
+  told_all (Notes ∷ log) h = by_still log Notes tt (told_all log h.1)
+
+  -- the answers of a module that were put, and the one that is under way
+  answers_put : (ts : ℕ) (d : DmNo) (log : Log) (m : Msg) → answers ts c (flight g (D d) at log) ≡ m ∷ []
+      → answers ts c (puts_to at (own g d.0 log)) ≡ answers ts c
+      (take (handed (D d) at log) (puts_to at (own g d.0 log))) ++ m ∷ []
+  answers_put ts d log m e =
+      let ms : List Msg = puts_to at (own g d.0 log) in
+      ap (answers ts c) (sym (take-append-drop (handed (D d) at log) ms)) ∙ filter-append (is_answer ts c)
+      (take (handed (D d) at log) ms) (drop (handed (D d) at log) ms)
+      ∙ ap (λ l. answers ts c (take (handed (D d) at log) ms) ++ l) e
+
+  answered : (log : Log) (a : Attempt) → IsPermitted g log → active s c (mine log) ≡ Some a
+      → (d : DmNo) (n : ℕ) (m : Msg) → IsPermitted g (Hand (D d) at n m ∷ log) → is_answer a.ts c m ≡ true
+      → IsAnswered (turn_at a.ts c d.0 (mine log)) (kept (set g d.0) c a.ts (own g d.0 log)) m
+  answered log a h e d n m hand own_answer =
+      let st = answer_stands g c log d n m a.ts h small hand.0 own_answer in
+      record {
+        uses = st.uses;
+        question = st.question;
+        is = st.asks;
+        replies = st.replies;
+        tells = λ r.
+            let turn : turn_with a.ts c at (own g d.0 log) ≡ Told st.uses st.question =
+            st.tells ∙ told_is (Asks st.uses st.question) st.uses st.question m refl
+            (no_refusal st.uses st.question m r st.replies) in
+            let k = subst (AllTold log) e (told_all log h) d.0 st.uses st.question turn r in
+            let same : k.answer ≡ m = last_same k.front
+            (answers a.ts c (take (handed (D d) at log) (puts_to at (own g d.0 log)))) k.answer m
+            (sym k.last ∙ answers_put a.ts d log m st.alone) in
+            (k.rows, k.kept_is, subst (λ x. Tells st.question x k.rows) same k.tells);
+      }
+
+  pub in_step : (log : Log) → IsPermitted g log → (a : Attempt) → active s c (mine log) ≡ Some a → InStep g c log a
+  in_step log h a e =
+      let sp = spoken g c log h small in
+      record {
+        stands = λ d. (subst (λ o. AtTurn a.ts d o (turn_at a.ts c d (mine log))) e ((home_turns g c log h sp).turns a.ts d)).0 refl;
+        asks = subst (AllAskPhase c (mine log)) e (asks_phase s c (mine log) (home_fair g c log h) (home_first g c log h) sp.timely_at);
+        question = λ from d n m hand q. question_stands g c log d n m a.ts h small
+            (subst (λ x. IsAllowed g log (Hand x (D d) n m)) (question_from log from d n m a.ts hand q)
+            hand.0) q;
+        answer = λ d n m hand own_answer. answered log a h e d n m hand own_answer;
+      }

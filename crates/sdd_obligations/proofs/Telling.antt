@@ -1,0 +1,244 @@
+-- A data module answers in turn, where each question that is handed to it comes in turn.
+use Rattle.std.proofs.Common.{ℕ, ◌&&◌, ◌++◌, ◌==◌, ◌∙◌, ◌∷◌, ◌≡◌, Bool, List, Some, [], ap, cond, false, filter, if◌then◌else◌, inl, inr, length, map, refl, slice_get, subst, sym, true}
+use Rattle.std.proofs.lemmas.Bool.{eqb-true}
+use Rattle.sdd_base.specs.Sites.{same_site}
+use Rattle.sdd_base.specs.Words.{head_of, tail_of}
+use Rattle.sdd_base.specs.declared.change.Change.{Change}
+use Rattle.sdd_base.specs.declared.condition.Cond.{Cond}
+use Rattle.sdd_base.specs.declared.number.ClassNo.{ClassNo}
+use Rattle.sdd_base.specs.declared.number.Ts.{Ts}
+use Rattle.sdd_base.specs.declared.number.TxnNo.{TxnNo}
+use Rattle.sdd_base.specs.declared.site.Site.{Site}
+use Rattle.sdd_base.specs.declared.site.Site.TheVariants.{U}
+use Rattle.sdd_history.specs.declared.record.Rec.{Rec}
+use Rattle.sdd_history.specs.declared.record.Rec.TheVariants.{Answer, Apply, Pass, Reject as Rejected, Wait}
+use Rattle.sdd_wire.specs.Piped.{goes_through}
+use Rattle.sdd_wire.specs.declared.msg.Msg.{Msg}
+use Rattle.sdd_wire.specs.declared.msg.Msg.TheVariants.{Done, Null, Read, Ready, Reject, Write}
+use Rattle.sdd_module.specs.SiteLog.{Act, Did, Each, Handed, Log, Records, Redeclared, Sends, Setting, Submits, Ticked}
+use Rattle.sdd_attempt.specs.Fits.{is_read}
+use Rattle.sdd_pipe.specs.Pipe.{Pipe, head, head_processed, put}
+use Rattle.sdd_dm.specs.Copies.{frozen}
+use Rattle.sdd_dm.specs.Due.{ask_for, done_for}
+use Rattle.sdd_dm.specs.Opens.{Open, opens}
+use Rattle.sdd_dm.specs.Pipes.{is_processing, pipe, pipe_acted}
+use Rattle.sdd_dm.specs.Views.{home_of, source_of}
+use Rattle.sdd_obligations.proofs.Hearing.{told_one}
+use Rattle.sdd_obligations.proofs.DataSteps.{IsDataStep, counts_told, data_step, data_step_way}
+use Rattle.sdd_obligations.specs.Turns.{Asks, Refused, Silent, Told, Turn, answers, is_a_refusal, is_answer, reads_asked, rows_asked, told, told_by, turn_with}
+use Rattle.sdd_invariants.proofs.Processed.{not_own, own_record, processed_more}
+use Rattle.sdd_invariants.proofs.Bools.{if_way, same_or_not}
+use Rattle.sdd_invariants.proofs.Lists.{at_seam}
+use Rattle.sdd_invariants.proofs.Sites.{site_self}
+use Rattle.sdd_invariants.specs.ReadSteps.{IsClassHere, IsDueEach}
+use Rattle.sdd_invariants.specs.Traffic.{to_site}
+use Rattle.sdd_obligations.proofs.Replying.{HasTurn, HasTurnAt, IsAskedInTurn, IsProcessed, and_no, and_right_of, asker, asks_open, from_site, read_asks_none, read_is_a_read, turn_arrives, turn_hand, turn_replies, turn_still}
+
+-- a head that is processed
+
+head_rest_of : (l : List Msg) (m : Msg) → head_of l ≡ Some m → l ≡ m ∷ tail_of l
+head_rest_of [] m e = cc
+head_rest_of (x ∷ l) m e = let p : x ≡ m = cc in ap (λ y. y ∷ l) p
+
+not_first : (f : Msg → Bool) (m : Msg) (l : List Msg) → f m ≡ false → filter f (m ∷ l) ≡ filter f l
+not_first f m l e = ap (λ (b : Bool). cond b (m ∷ filter f l) (filter f l)) e
+
+is_first : (f : Msg → Bool) (m : Msg) (l : List Msg) → f m ≡ true → filter f (m ∷ l) ≡ m ∷ filter f l
+is_first f m l e = ap (λ (b : Bool). cond b (m ∷ filter f l) (filter f l)) e
+
+own_taken : (c : ℕ) (r : Rec) (sends : List (Site × Msg)) (log : Log) → is_processing r ≡ true
+    → (pipe c (Did (Records c r sends) ∷ log)).unprocessed ≡ tail_of (pipe c log).unprocessed
+own_taken c r sends log e = ap (λ (p : Pipe). p.unprocessed) (own_record c r sends log e).0
+
+reads_left : (ts c k : ℕ) (r : Rec) (sends : List (Site × Msg)) (log : Log) (m : Msg) → is_processing r ≡ true
+    → head (pipe k log) ≡ Some m → is_read ts c m ≡ false
+    → filter (is_read ts c) (pipe c (Did (Records k r sends) ∷ log)).unprocessed ≡ filter (is_read ts c) (pipe c log).unprocessed
+reads_left ts c k r sends log m p h e = elim (same_or_not k c) [
+  | inl q ↦ subst (λ j. filter (is_read ts c) (pipe j (Did (Records k r sends) ∷ log)).unprocessed ≡ filter (is_read ts c) (pipe j log).unprocessed) q
+      (ap (filter (is_read ts c)) (own_taken k r sends log p)
+      ∙ sym (ap (filter (is_read ts c)) (head_rest_of (pipe k log).unprocessed m h)
+      ∙ not_first (is_read ts c) m (tail_of (pipe k log).unprocessed) e))
+  | inr q ↦ ap (λ (x : Pipe). filter (is_read ts c) x.unprocessed) (not_own c k r sends log (inl q)).pipe_same
+]
+
+pub read_class : (ts c k : ℕ) (m : Msg) → is_read ts c m ≡ true → goes_through k m ≡ true → k ≡ c
+read_class ts c k (Read t j txn attempt conds uses) e f =
+    sym (eqb-true j.0 k f) ∙ eqb-true j.0 c (and_right_of (t.0 == ts) (j.0 == c) e)
+read_class ts c k m e f = cc
+
+reads_one : (ts c : ℕ) (v : Turn) (m : Msg) (rest : List Msg) → m ∷ rest ≡ reads_asked ts c v
+    → (ns : List ℕ) × (v ≡ Asks ns m) × (rest ≡ [])
+reads_one ts c Silent m rest e = cc
+reads_one ts c (Told ns q) m rest e = cc
+reads_one ts c Refused m rest e = cc
+reads_one ts c (Asks ns q) m rest e = elim (is_read ts c q) as (λ b. m ∷ rest ≡ (if b then q ∷ [] else [])
+    → (ms : List ℕ) × (Asks ns q ≡ Asks ms m) × (rest ≡ [])) [
+      | true ↦ λ f. (let p : m ≡ q = cc in let r : rest ≡ [] = cc in (ns, ap (λ x. Asks ns x) (sym p), r))
+      | false ↦ λ f. cc
+    ] e
+
+-- the READ of the attempt at a head
+pub record IsReadNext (ts c : ℕ) (log : Log) (k : ℕ) (v : Turn) (m : Msg) : Type 0 where
+  pub class_is : k ≡ c
+  pub uses : List ℕ
+  pub is : v ≡ Asks uses m
+  pub last : filter (is_read ts c) (tail_of (pipe c log).unprocessed) ≡ []
+
+pub read_next : (ts c : ℕ) (at : Site) (log : Log) (k : ℕ) (v : Turn) (m : Msg) → HasTurn ts c at (opens log) (pipe c log) v
+    → head (pipe k log) ≡ Some m → goes_through k m ≡ true → is_read ts c m ≡ true → IsReadNext ts c log k v m
+read_next ts c at log k v m h e through f =
+    let q : k ≡ c = read_class ts c k m f through in
+    let here : head (pipe c log) ≡ Some m = subst (λ j. head (pipe j log) ≡ Some m) q e in
+    let all : filter (is_read ts c) (pipe c log).unprocessed ≡ m ∷ filter (is_read ts c) (tail_of (pipe c log).unprocessed) =
+    ap (filter (is_read ts c)) (head_rest_of (pipe c log).unprocessed m here) ∙ is_first (is_read ts c) m (tail_of (pipe c log).unprocessed) f in
+    let one = reads_one ts c v m (filter (is_read ts c) (tail_of (pipe c log).unprocessed)) (sym all ∙ h.reads_are) in
+    record { class_is = q; uses = one.0; is = one.1; last = one.2 }
+
+ended_turn : (ts c : ℕ) (at : Site) (os : List Open) (p : Pipe) (b : Bool) (ns : List ℕ) (m : Msg) → map asker (filter (asks_open ts c) os) ≡ []
+    → filter (is_read ts c) p.unprocessed ≡ [] → IsProcessed ts c p → HasTurn ts c at os p (if b then Refused else Told ns m)
+ended_turn ts c at os p true ns m e f h = record { own = tt; rows_are = e; reads_are = f; was_read = λ ms z. h }
+ended_turn ts c at os p false ns m e f h = record { own = tt; rows_are = e; reads_are = f; was_read = λ ms z. h }
+
+-- the READY or REJECT that answers the READ at a head
+turn_read : (ts c : ℕ) (at : Site) (log : Log) (k : ℕ) (r : Rec) (m x : Msg) (src : Site) → is_processing r ≡ true
+    → opens (Did (Records k r ((src, x) ∷ [])) ∷ log) ≡ opens log → head (pipe k log) ≡ Some m → goes_through k m ≡ true
+    → is_answer ts c x ≡ is_read ts c m → (k ≡ c → src ≡ at) → HasTurnAt ts c at log
+    → HasTurnAt ts c at (Did (Records k r ((src, x) ∷ [])) ∷ log)
+turn_read ts c at log k r m x src p same e through f home h =
+    let v : Turn = turn_with ts c at log in
+    let act : Act = Records k r ((src, x) ∷ []) in
+    let turn_is : turn_with ts c at (Did act ∷ log) ≡ (if same_site at src && is_read ts c m then told x v else v) =
+    told_one ts c (same_site at src) x v ∙ ap (λ (b : Bool). if same_site at src && b then told x v else v) f in
+    elim (is_read ts c m) as (λ b. is_read ts c m ≡ b → HasTurnAt ts c at (Did act ∷ log)) [
+      | true ↦ λ q.
+          (let w = read_next ts c at log k v m h e through q in
+          let here : same_site at src ≡ true = subst (λ s. same_site at s ≡ true) (sym (home w.class_is)) (site_self at) in
+          let now : turn_with ts c at (Did act ∷ log) ≡ (if is_a_refusal x then Refused else Told w.uses m) =
+          turn_is ∙ ap (λ (b : Bool). if same_site at src && b then told x v else v) q
+          ∙ ap (λ (b : Bool). if b && true then told x v else v) here ∙ ap (told x) w.is in
+          let taken : pipe c (Did act ∷ log) ≡ head_processed (pipe c log) =
+          subst (λ j. pipe j (Did act ∷ log) ≡ head_processed (pipe j log)) w.class_is
+          (own_record k r ((src, x) ∷ []) log p).0 in
+          let at_head : head (pipe c log) ≡ Some m = subst (λ j. head (pipe j log) ≡ Some m) w.class_is e in
+          let done : (pipe c (Did act ∷ log)).processed ≡ (pipe c log).processed ++ m ∷ [] =
+          ap (λ (y : Pipe). y.processed) taken ∙ processed_more (pipe c log) m at_head in
+          subst (λ y. HasTurn ts c at (opens (Did act ∷ log)) (pipe c (Did act ∷ log)) y) (sym now)
+          (ended_turn ts c at (opens (Did act ∷ log)) (pipe c (Did act ∷ log)) (is_a_refusal x) w.uses m
+          (ap (λ l. map asker (filter (asks_open ts c) l)) same ∙ h.rows_are
+          ∙ ap (λ y. map (from_site at) (rows_asked ts c y)) w.is
+          ∙ ap (λ (b : Bool). map (from_site at) (if b then m ∷ [] else []))
+          (read_asks_none ts c m (read_is_a_read ts c m q)))
+          (ap (λ (y : Pipe). filter (is_read ts c) y.unprocessed) taken ∙ w.last)
+          (record {
+            place = length (pipe c log).processed;
+            read = m;
+            there =
+                subst (λ l. slice_get l (length (pipe c log).processed) ≡ Some m) (sym done)
+                (at_seam (pipe c log).processed [] m);
+            is = q;
+          })))
+      | false ↦ λ q. turn_still ts c at log act
+          (turn_is ∙ ap (λ (b : Bool). if same_site at src && b then told x v else v) q
+          ∙ ap (λ (b : Bool). if b then told x v else v) (and_no (same_site at src)))
+          (ap (filter (asks_open ts c)) same) (reads_left ts c k r ((src, x) ∷ []) log m p e q) h
+    ] refl
+
+-- other acts
+
+pub asks_no_answer : (ts c : ℕ) (at : Site) (f : Cond → Site × Msg) (ds : List Cond) → ((d : Cond) → is_answer ts c (f d).1 ≡ false)
+    → answers ts c (to_site at (map f ds)) ≡ []
+asks_no_answer ts c at f [] h = refl
+asks_no_answer ts c at f (d ∷ ds) h =
+    if_way (λ l. answers ts c l ≡ []) (same_site at (f d).0) ((f d).1 ∷ to_site at (map f ds)) (to_site at (map f ds))
+    (ap (λ (b : Bool). cond b ((f d).1 ∷ answers ts c (to_site at (map f ds)))
+    (answers ts c (to_site at (map f ds)))) (h d) ∙ asks_no_answer ts c at f ds h)
+    (asks_no_answer ts c at f ds h)
+
+pub done_no_answer : (ts c : ℕ) (at : Site) (k : ℕ) (t : Ts) → answers ts c (to_site at (done_for k (Done t))) ≡ []
+done_no_answer ts c at k t =
+    if_way (λ l. answers ts c (to_site at l) ≡ []) (k == 0) ((U, Done t) ∷ []) []
+    (if_way (λ l. answers ts c l ≡ []) (same_site at U) (Done t ∷ []) [] refl refl) refl
+
+write_no_read : (ts c : ℕ) (t : Ts) (k : ClassNo) (txn : TxnNo) (changes : List Change) → is_read ts c (Write t k txn changes) ≡ false
+write_no_read ts c t k txn changes = refl
+
+-- heads go through their pipes
+
+abbrev AllThrough : ℕ → List Msg → Type 0
+AllThrough c [] = Unit {0}
+AllThrough c (m ∷ ms) = (goes_through c m ≡ true) × AllThrough c ms
+
+through_push : (c : ℕ) (ms : List Msg) (m : Msg) → AllThrough c ms → goes_through c m ≡ true → AllThrough c (ms ++ m ∷ [])
+through_push c [] m h e = (e, tt)
+through_push c (x ∷ ms) m h e = (h.0, through_push c ms m h.1 e)
+
+through_tail : (c : ℕ) (ms : List Msg) → AllThrough c ms → AllThrough c (tail_of ms)
+through_tail c [] h = tt
+through_tail c (x ∷ ms) h = h.1
+
+through_put : (c : ℕ) (b : Bool) (m : Msg) (p : Pipe) → goes_through c m ≡ b → AllThrough c p.unprocessed
+    → AllThrough c (if b then put m p else p).unprocessed
+through_put c true m p e h = through_push c p.unprocessed m h e
+through_put c false m p e h = h
+
+through_acted : (c : ℕ) (act : Act) (p : Pipe) → AllThrough c p.unprocessed → AllThrough c (pipe_acted c act p).unprocessed
+through_acted c (Records k r sends) p h =
+    if_way (λ (q : Pipe). AllThrough c q.unprocessed) ((k == c) && is_processing r) (head_processed p) p (through_tail c p.unprocessed h) h
+through_acted c (Sends to m hand) p h = h
+
+through : (c : ℕ) (log : Log) → AllThrough c (pipe c log).unprocessed
+through c [] = tt
+through c (Handed from m ∷ log) = through_put c (goes_through c m) m (pipe c log) refl (through c log)
+through c (Ticked n ∷ log) = through c log
+through c (Submits n txn ∷ log) = through c log
+through c (Redeclared force t ∷ log) = through c log
+through c (Did act ∷ log) = through_acted c act (pipe c log) (through c log)
+
+through_first : (c : ℕ) (ms : List Msg) (m : Msg) → AllThrough c ms → head_of ms ≡ Some m → goes_through c m ≡ true
+through_first c [] m h e = cc
+through_first c (x ∷ ms) m h e = let p : x ≡ m = cc in subst (λ y. goes_through c y ≡ true) p h.0
+
+pub head_through : (c : ℕ) (log : Log) (m : Msg) → head (pipe c log) ≡ Some m → goes_through c m ≡ true
+head_through c log m e = through_first c (pipe c log).unprocessed m (through c log) e
+
+-- the site that runs the class is the one to which it is answered
+abbrev pub IsHomeOf : Setting → ℕ → Site → Type 0
+IsHomeOf s c at = IsClassHere s c → source_of (home_of s) c ≡ at
+
+turn_act : (s : Setting) (ts c : ℕ) (at : Site) (log : Log) (act : Act) → IsHomeOf s c at → IsDataStep s log act → HasTurnAt ts c at log
+    → HasTurnAt ts c at (Did act ∷ log)
+turn_act s ts c at log act home i h = data_step_way s log act (λ x. HasTurnAt ts c at (Did x ∷ log))
+    (λ k txn attempt. turn_arrives ts c at log k txn attempt (home_of s).dm h)
+    (λ k o m e r. turn_replies ts c at log (frozen s k log) k o m e r h)
+    (λ k t j txn attempt conds uses l e. turn_read ts c at log k (Answer txn attempt (home_of s).dm)
+    (Read t j txn attempt conds uses) (Ready t j (counts_told s log t.0 uses))
+    (source_of (home_of s) k) refl refl e (head_through k log _ e) refl
+    (λ q. subst (λ n. source_of (home_of s) n ≡ at) (sym q) (home (subst (IsClassHere s) q l))) h)
+    (λ k t j txn attempt conds uses by write l e. turn_read ts c at log k
+    (Rejected txn attempt (home_of s).dm by write) (Read t j txn attempt conds uses) (Reject t j by write)
+    (source_of (home_of s) k) refl refl e (head_through k log _ e) refl
+    (λ q. subst (λ n. source_of (home_of s) n ≡ at) (sym q) (home (subst (IsClassHere s) q l))) h)
+    (λ k txn attempt ds. turn_still ts c at log (Records k (Wait txn attempt (home_of s).dm ds) (map (ask_for (home_of s)) ds))
+    (ap (λ l. told_by l (turn_with ts c at log)) (asks_no_answer ts c at (ask_for (home_of s)) ds (λ d. refl))) refl
+    (ap (λ (p : Pipe). filter (is_read ts c) p.unprocessed)
+    (not_own c k (Wait txn attempt (home_of s).dm ds) (map (ask_for (home_of s)) ds) log
+    (inr refl)).pipe_same) h)
+    (λ k t j txn changes e. turn_still ts c at log (Records k (Apply txn j (home_of s).dm t) (done_for k (Done t)))
+    (ap (λ l. told_by l (turn_with ts c at log)) (done_no_answer ts c at k t)) refl
+    (reads_left ts c k (Apply txn j (home_of s).dm t) (done_for k (Done t)) log (Write t j txn changes) refl e refl) h)
+    (λ k j time e. turn_still ts c at log (Records k (Pass j (home_of s).dm time) []) refl refl
+    (reads_left ts c k (Pass j (home_of s).dm time) [] log (Null j time) refl e refl) h) i
+
+pub has_turn : (s : Setting) (ts c : ℕ) (at : Site) (log : Log) → IsHomeOf s c at → Each (IsDueEach s) log → Each (IsAskedInTurn c at) log
+    → HasTurnAt ts c at log
+has_turn s ts c at [] home due timely = record { own = tt; rows_are = refl; reads_are = refl; was_read = λ ns e. cc }
+has_turn s ts c at (Handed from m ∷ log) home due timely =
+    turn_hand ts c at log from m timely.0 (has_turn s ts c at log home due.1 timely.1)
+has_turn s ts c at (Ticked n ∷ log) home due timely =
+    let i = has_turn s ts c at log home due.1 timely.1 in record { own = i.own; rows_are = i.rows_are; reads_are = i.reads_are; was_read = i.was_read }
+has_turn s ts c at (Submits n txn ∷ log) home due timely =
+    let i = has_turn s ts c at log home due.1 timely.1 in record { own = i.own; rows_are = i.rows_are; reads_are = i.reads_are; was_read = i.was_read }
+has_turn s ts c at (Redeclared force t ∷ log) home due timely =
+    let i = has_turn s ts c at log home due.1 timely.1 in record { own = i.own; rows_are = i.rows_are; reads_are = i.reads_are; was_read = i.was_read }
+has_turn s ts c at (Did act ∷ log) home due timely =
+    turn_act s ts c at log act home (data_step s log act due.0) (has_turn s ts c at log home due.1 timely.1)

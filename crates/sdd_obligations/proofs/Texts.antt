@@ -1,0 +1,84 @@
+-- The transaction of an attempt is one that was given to its class, and has what all these have.
+use Rattle.std.proofs.Common.{ℕ, ◌≡◌, Bool, true, false, List, [], ◌∷◌, ◌++◌, Option, Some, None, refl, sym, subst}
+use Rattle.std.specs.Bool.{if◌then◌else◌}
+use Rattle.std.specs.List.{AllByRecursion, cons_option, filter_map}
+use Rattle.sdd_base.specs.declared.site.Site.{Site}
+use Rattle.sdd_lang.specs.declared.transaction.Txn.{Txn}
+use Rattle.sdd_module.specs.SiteLog.{Did, Each, Entry, Handed, Log, Redeclared, Setting, Submits, Ticked, in_force}
+use Rattle.sdd_attempt.specs.Attempts.{Attempt, active}
+use Rattle.sdd_attempt.specs.Queues.{Queued, is_for, queue}
+use Rattle.sdd_log.specs.Entries.{Given}
+use Rattle.sdd_log.specs.Entries as whole
+use Rattle.sdd_log.specs.Locals.{local_of, setting_of}
+use Rattle.sdd_log.specs.Permitted.{IsPermitted}
+use Rattle.sdd_log.proofs.EachLocal.{each_local}
+use Rattle.sdd_invariants.proofs.Queues.{queue_is}
+use Rattle.sdd_invariants.specs.Steps.{IsFair, IsNew, IsServed, is_committed, queued, starts_of, submits_of}
+use Rattle.sdd_obligations.specs.Fitting.{FitsGiven, FitsText}
+
+-- so has each transaction that is given to class c at a site
+abbrev pub SubmitHas : (Txn → Type 0) → Setting → ℕ → Log → Entry → Type 0
+SubmitHas P s c log (Handed from m) = Unit {0}
+SubmitHas P s c log (Ticked n) = Unit {0}
+SubmitHas P s c log (Submits n txn) = is_for c (in_force s log).catalogue txn ≡ true → P txn
+SubmitHas P s c log (Redeclared force t) = Unit {0}
+SubmitHas P s c log (Did act) = Unit {0}
+
+module _ (P : Txn → Type 0) where
+  abbrev AreSo : List (ℕ × Txn) → Type 0
+  AreSo xs = AllByRecursion (λ (x : ℕ × Txn). P x.1) xs
+
+  one_behind : (xs : List (ℕ × Txn)) (n : ℕ) (txn : Txn) → P txn → AreSo xs → AreSo (xs ++ (n, txn) ∷ [])
+  one_behind [] n txn h all = (h, tt)
+  one_behind (x ∷ xs) n txn h all = (all.0, one_behind xs n txn h all.1)
+
+  one_more : (b : Bool) (xs : List (ℕ × Txn)) (n : ℕ) (txn : Txn) → (b ≡ true → P txn) → AreSo xs → AreSo (if b then xs ++ (n, txn) ∷ [] else xs)
+  one_more true xs n txn h all = one_behind xs n txn (h refl) all
+  one_more false xs n txn h all = all
+
+  submits_so : (s : Setting) (c : ℕ) (log : Log) → Each (SubmitHas P s c) log → AreSo (submits_of s c log)
+  submits_so s c [] h = tt
+  submits_so s c (Handed from m ∷ log) h = submits_so s c log h.1
+  submits_so s c (Ticked n ∷ log) h = submits_so s c log h.1
+  submits_so s c (Submits n txn ∷ log) h = one_more (is_for c (in_force s log).catalogue txn) (submits_of s c log) n txn h.0 (submits_so s c log h.1)
+  submits_so s c (Redeclared force t ∷ log) h = submits_so s c log h.1
+  submits_so s c (Did act ∷ log) h = submits_so s c log h.1
+
+  abbrev TextsAre : List Queued → Type 0
+  TextsAre qs = AllByRecursion (λ (q : Queued). P q.text) qs
+
+  queued_so : (c : ℕ) (log : Log) (xs : List (ℕ × Txn)) → AreSo xs → TextsAre (filter_map (queued c log) xs)
+  queued_so c log [] all = tt
+  queued_so c log (x ∷ xs) all =
+      elim (is_committed c x.0 log) as (λ b. TextsAre
+      (cons_option (if b then None else Some (record {
+        number = x.0;
+        text = x.1;
+        tries =
+            starts_of c x.0 log;
+      })) (filter_map (queued c log) xs))) [
+        | true ↦ queued_so c log xs all.1
+        | false ↦ (all.0, queued_so c log xs all.1)
+      ]
+
+  served_so : (o : Option Attempt) (qs : List Queued) (a : Attempt) → o ≡ Some a → IsServed o qs → TextsAre qs → P a.text
+  served_so None qs a e h all = cc
+  served_so (Some b) [] a e h all = absurd h
+  served_so (Some b) (q ∷ qs) a e h all = let same : b ≡ a = cc in subst (λ (x : Attempt). P x.text) same (subst P h.1 all.0)
+
+  pub active_so : (s : Setting) (c : ℕ) (log : Log) (a : Attempt) → Each (IsFair s) log → Each IsNew log
+      → Each (SubmitHas P s c) log → active s c log ≡ Some a → P a.text
+  active_so s c log a fair new so e =
+      let k = queue_is s c log fair new in
+      served_so (active s c log) (queue s c log) a e k.served (subst TextsAre (sym k.is) (queued_so c log (submits_of s c log) (submits_so s c log so)))
+
+-- all transactions that are given fit
+pub submitted_fit : (g : Given) → FitsGiven g → (at : Site) (c : ℕ) (log : whole.Log) → IsPermitted g log
+    → Each (SubmitHas (FitsText g.catalogue) (setting_of g at) c) (local_of g at log)
+submitted_fit g good at c = each_local g at (SubmitHas (FitsText g.catalogue) (setting_of g at) c) (record {
+  handed = λ log p from n m a i. tt;
+  ticked = λ log p n i. tt;
+  submits = λ log p n txn a e i own. good.txns n txn e;
+  redeclared = λ l k t i. tt;
+  did = λ log act p due i. tt;
+})

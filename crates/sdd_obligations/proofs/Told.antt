@@ -1,0 +1,235 @@
+-- What a data module told last of an attempt's rows is what it keeps.
+use Rattle.std.proofs.Common.{ℕ, ◌&&◌, ◌++◌, ◌==◌, ◌∙◌, ◌∷◌, ◌≡◌, List, None, Option, Some, [], ap, append-nil, cond, false, filter, if◌then◌else◌, inl, inr, map, refl, subst, sym, true}
+use Rattle.std.proofs.lemmas.Bool.{eqb-true}
+use Rattle.std.proofs.lemmas.List.Elements.{filter-append}
+use Rattle.sdd_base.specs.Sites.{same_site}
+use Rattle.sdd_base.specs.Words.{head_of}
+use Rattle.sdd_base.specs.declared.condition.Cond.{Cond}
+use Rattle.sdd_base.specs.declared.number.ClassNo.{ClassNo}
+use Rattle.sdd_base.specs.declared.number.Ts.{Ts}
+use Rattle.sdd_base.specs.declared.number.TxnNo.{TxnNo}
+use Rattle.sdd_base.specs.declared.site.Site.{Site}
+use Rattle.sdd_base.specs.declared.usage.Use.{Use}
+use Rattle.sdd_history.specs.declared.record.Rec.TheVariants.{Answer, Apply, Arrive, Pass, Reject as Rejected, Wait}
+use Rattle.sdd_wire.specs.declared.msg.Msg.{Msg}
+use Rattle.sdd_wire.specs.declared.msg.Msg.TheVariants.{Done, Fetch, Read, Ready, Reduce, Reject, Rows, Ship, Values}
+use Rattle.sdd_module.specs.SiteLog.{Act, Did, Handed, Log, Records, Sends, Setting, sends_of_act}
+use Rattle.sdd_attempt.specs.Attempts.{asks_rows}
+use Rattle.sdd_attempt.specs.Fits.{is_read}
+use Rattle.sdd_copy.specs.Frozen.{Frozen, all_rows, rows_of, values_in}
+use Rattle.sdd_pipe.specs.Pipe.{head}
+use Rattle.sdd_dm.specs.Copies.{frozen}
+use Rattle.sdd_dm.specs.Due.{ask_for, done_for}
+use Rattle.sdd_dm.specs.Opens.{Open, class_asked, is_asked_of, is_number, opens}
+use Rattle.sdd_dm.specs.Pipes.{pipe}
+use Rattle.sdd_dm.specs.Views.{home_of, source_of}
+use Rattle.sdd_obligations.proofs.DataSteps.{IsDataStep, counts_told, data_step_way, reply}
+use Rattle.sdd_obligations.proofs.Hearing.{and_no, told_is, told_one}
+use Rattle.sdd_obligations.proofs.Held.{AreHeldFor, IsHeldAt}
+use Rattle.sdd_obligations.proofs.Replying.{HasTurnAt, asked_rows, asked_turn, asks_no_a_read, reply_answers, reply_no_refusal, told_turn}
+use Rattle.sdd_obligations.proofs.Telling.{IsHomeOf, asks_no_answer, done_no_answer, head_through, read_next}
+use Rattle.sdd_obligations.specs.Turns.{Asks, Refused, Told, Turn, answers, asked, is_a_read, is_answer, is_question, told, told_by, turn_with, uses_by, uses_held, uses_in}
+use Rattle.sdd_invariants.proofs.Bools.{and_right, both, same_number}
+use Rattle.sdd_invariants.proofs.Sites.{site_self}
+use Rattle.sdd_invariants.specs.ReadSteps.{IsClassHere}
+use Rattle.sdd_invariants.specs.Traffic.{puts_to, to_site}
+use Rattle.sdd_obligations.specs.Contents.{Tells, kept}
+use Rattle.sdd_obligations.proofs.InStep.{never}
+use Rattle.sdd_obligations.proofs.Kept.{hand_keeps, kept_now, other_answer_keeps, record_keeps, send_keeps}
+
+-- the last answer that was put
+pub record IsTold (s : Setting) (c ts : ℕ) (at : Site) (log : Log) (q : Msg) : Type 0 where
+  pub rows : Frozen
+  pub kept_is : kept s c ts log ≡ Some rows
+  pub answer : Msg
+  pub front : List Msg
+  pub last : answers ts c (puts_to at log) ≡ front ++ answer ∷ []
+  pub tells : Tells q answer rows
+
+abbrev pub KnowsTold : Setting → ℕ → ℕ → Site → Log → Type 0
+KnowsTold s c ts at log = (ns : List ℕ) (q : Msg) → turn_with ts c at log ≡ Told ns q → is_a_read q ≡ false → IsTold s c ts at log q
+
+-- what leaves the turn, the rows and the answers leaves that
+pub told_still : (s : Setting) (c ts : ℕ) (at : Site) (log more : Log)
+    → turn_with ts c at more ≡ turn_with ts c at log → kept s c ts more ≡ kept s c ts log
+    → answers ts c (puts_to at more) ≡ answers ts c (puts_to at log)
+    → KnowsTold s c ts at log → KnowsTold s c ts at more
+told_still s c ts at log more t k p h ns q e r =
+    let i = h ns q (sym t ∙ e) r in
+    record { rows = i.rows; kept_is = k ∙ i.kept_is; answer = i.answer; front = i.front; last = p ∙ i.last; tells = i.tells }
+
+module _ (s : Setting) (c ts : ℕ) (at : Site) (log : Log) where
+  abbrev v : Turn
+  v = turn_with ts c at log
+
+  -- a hand
+
+  asks_told : {A : Type 0} (m q : Msg) (w : Turn) (ns : List ℕ) → asked m w ≡ Told ns q → A
+  asks_told m q w ns e = let p : Asks (uses_by m (uses_in w)) m ≡ Told ns q = e in cc
+
+  pub told_hand : (from : Site) (m : Msg) → (is_question ts c m ≡ true → from ≡ at) → KnowsTold s c ts at log → KnowsTold s c ts at (Handed from m ∷ log)
+  told_hand from m home h = elim (is_question ts c m) as (λ b. is_question ts c m ≡ b → KnowsTold s c ts at (Handed from m ∷ log)) [
+    | true ↦ λ own ns q e r.
+        let here : same_site at from ≡ true = ap (same_site at) (home own) ∙ site_self at in
+        let now : turn_with ts c at (Handed from m ∷ log) ≡ asked m v = asked_turn ts c at from m log
+        ∙ ap (λ b. if b then asked m v else v) (both (same_site at from) (is_question ts c m) here own) in
+        asks_told m q v ns (sym now ∙ e)
+    | false ↦ λ own.
+        let now : turn_with ts c at (Handed from m ∷ log) ≡ v = asked_turn ts c at from m log
+        ∙ ap (λ b. if same_site at from && b then asked m v else v) own
+        ∙ ap (λ b. if b then asked m v else v) (and_no (same_site at from)) in
+        let keeps : kept s c ts (Handed from m ∷ log) ≡ kept s c ts log = elim (hand_keeps s c ts from m log) [
+          | inl same ↦ same
+          | inr r ↦ never (is_question ts c m) (ap (is_question ts c) r.is ∙ both (r.t.0 == ts) (r.of.0 ==
+              c) (ap (λ x. x == ts) r.ts_is ∙ same_number ts) (ap (λ x. x == c) r.class_is ∙ same_number c))
+              own
+        ] in
+        told_still s c ts at log (Handed from m ∷ log) now keeps refl h
+  ] refl
+
+  -- an act
+
+  more_answers : (act : Act) → answers ts c (puts_to at (Did act ∷ log)) ≡ answers ts c (puts_to at log) ++ answers ts c (to_site at (sends_of_act act))
+  more_answers act = filter-append (is_answer ts c) (puts_to at log) (to_site at (sends_of_act act))
+
+  quiet_act : (act : Act) → answers ts c (to_site at (sends_of_act act)) ≡ []
+      → kept s c ts (Did act ∷ log) ≡ kept s c ts log → KnowsTold s c ts at log
+      → KnowsTold s c ts at (Did act ∷ log)
+  quiet_act act none keeps h =
+      told_still s c ts at log (Did act ∷ log) (ap (λ l. told_by l v) none) keeps (more_answers act
+      ∙ ap (λ l. answers ts c (puts_to at log) ++ l) none ∙ append-nil _) h
+
+  one_sent : (to : Site) (m : Msg) → is_answer ts c m ≡ false → answers ts c (to_site at ((to, m) ∷ [])) ≡ []
+  one_sent to m e = elim (same_site at to) as (λ b. answers ts c (if b then m ∷ [] else []) ≡ []) [ true ↦ ap (λ b. cond b (m ∷ []) []) e | false ↦ refl ]
+
+  asked_class : (k : ℕ) (o : Option ℕ) (m : Msg) → is_number k o ≡ true → class_asked m ≡ o → asks_rows ts c m ≡ true → k ≡ c
+  asked_class k None m n e a = cc
+  asked_class k (Some j) (Fetch t f u col) n e a = let p : f.0 ≡ j = cc in sym (eqb-true j k n) ∙ sym p ∙ eqb-true f.0 c (and_right (t.0 == ts) (f.0 == c) a)
+  asked_class k (Some j) (Reduce t f u col vs) n e a = let p : f.0 ≡ j = cc in sym (eqb-true j k n) ∙ sym p
+      ∙ eqb-true f.0 c (and_right (t.0 == ts) (f.0 == c) a)
+  asked_class k (Some j) (Ship t f) n e a = let p : f.0 ≡ j = cc in sym (eqb-true j k n) ∙ sym p ∙ eqb-true f.0 c (and_right (t.0 == ts) (f.0 == c) a)
+  asked_class k (Some j) m n e a = cc
+
+  reply_tells : (f : Frozen) (q m : Msg) → reply (Some f) q ≡ Some m → Tells q m f
+  reply_tells f (Fetch t k u col) m e = let p : Values t k u (values_in (rows_of u f) col) ≡ m = cc in sym p
+  reply_tells f (Ship t k) m e = let p : Rows t k (all_rows f) ≡ m = cc in sym p
+  reply_tells f q m e = tt
+
+  held_rows : (ns : List ℕ) (o : Option Frozen) → AreHeldFor ts ns o → (f : Frozen) × (o ≡ Some f) × (f.ts ≡ ts)
+  held_rows ns None h = absurd h
+  held_rows ns (Some f) h = (f, refl, h.0)
+
+  first_asked : (k : ℕ) (os : List Open) (o : Open) → head_of (filter (is_asked_of k) os) ≡ Some o → is_asked_of k o ≡ true
+  first_asked k [] o e = cc
+  first_asked k (x ∷ os) o e = elim (is_asked_of k x) as (λ b. is_asked_of k x ≡ b
+      → head_of (cond b (x ∷ filter (is_asked_of k) os) (filter (is_asked_of k) os)) ≡ Some o
+      → is_asked_of k o ≡ true) [
+        | true ↦ λ p q. (let same : x ≡ o = cc in subst (λ y. is_asked_of k y ≡ true) same p)
+        | false ↦ λ p q. first_asked k os o q
+      ] refl e
+
+  told_same : (ns ms : List ℕ) (q m : Msg) → Told ns q ≡ Told ms m → q ≡ m
+  told_same ns ms q m e = cc
+
+  replied : (k : ℕ) (o : Open) (m : Msg) → HasTurnAt ts c at log → IsHeldAt s ts c at log
+      → head_of (filter (is_asked_of k) (opens log)) ≡ Some o → reply (frozen s k log) o.msg ≡ Some m
+      → KnowsTold s c ts at log → KnowsTold s c ts at (Did (Sends o.from m (Some o.hand)) ∷ log)
+  replied k o m has held e r h = elim (is_answer ts c m) as (λ b. is_answer ts c m ≡ b → KnowsTold s c ts at (Did (Sends o.from m (Some o.hand)) ∷ log)) [
+    | false ↦ λ other. quiet_act (Sends o.from m (Some o.hand)) (one_sent o.from m other) (send_keeps s c ts o.from m (Some o.hand) log) h
+    | true ↦ λ own ns q t read.
+        let asks : asks_rows ts c o.msg ≡ true = sym (reply_answers ts c (frozen s k log) o.msg m r) ∙ own in
+        let a = asked_rows ts c at log v k o has e asks in
+        let class : k ≡ c = asked_class k (class_asked o.msg) o.msg (first_asked k (opens log) o e) refl asks in
+        let here : same_site at o.from ≡ true = ap (same_site at) a.from_is ∙ site_self at in
+        let now : turn_with ts c at (Did (Sends o.from m (Some o.hand)) ∷ log) ≡ Told a.uses o.msg =
+        told_turn ts c at o.from m (Some o.hand) log ∙ ap (λ b. if b then told m v else v)
+        (both (same_site at o.from) (is_answer ts c m) here own) ∙ told_is v a.uses o.msg m a.is
+        (reply_no_refusal (frozen s k log) o.msg m r) in
+        let same : o.msg ≡ q = told_same a.uses ns o.msg q (sym now ∙ t) in
+        let uses : uses_held v ≡ Some a.uses = ap uses_held a.is ∙ ap (λ b. if b then None else Some a.uses) (asks_no_a_read ts c o.msg asks) in
+        let f = held_rows a.uses (frozen s c log) (held a.uses uses) in
+        let is : reply (Some f.0) o.msg ≡ Some m = ap (λ z. reply z o.msg) (sym f.1) ∙ ap (λ j. reply (frozen s j log) o.msg) (sym class) ∙ r in
+        record {
+          rows = f.0;
+          kept_is = send_keeps s c ts o.from m (Some o.hand) log ∙ kept_now s c ts log f.0 f.1 f.2;
+          answer = m;
+          front = answers ts c (puts_to at log);
+          last = more_answers (Sends o.from m (Some o.hand)) ∙ ap (λ l. answers ts c (puts_to at log) ++ l)
+              (ap (λ b. answers ts c (if b then m ∷ [] else [])) here ∙ ap (λ b. cond b (m ∷ []) []) own);
+          tells = subst (λ z. Tells z m f.0) same (reply_tells f.0 o.msg m is);
+        }
+  ] refl
+
+  -- the turn after one message
+  one_turn : (to : Site) (m : Msg) → told_by (answers ts c (to_site at ((to, m) ∷ []))) v ≡ (if same_site at to && is_answer ts c m then told m v else v)
+  one_turn to m = told_one ts c (same_site at to) m v
+
+  read_answered : (k : ℕ) (t : Ts) (of : ClassNo) (txn : TxnNo) (attempt : ℕ) (conds : List Cond)
+      (uses : List Use) → IsHomeOf s c at → HasTurnAt ts c at log → IsClassHere s k → head (pipe k log) ≡ Some
+      (Read t of txn attempt conds uses)
+      → KnowsTold s c ts at log → KnowsTold s c ts at
+      (Did (Records k (Answer txn attempt (home_of s).dm)
+      ((source_of (home_of s) k, Ready t of (counts_told s log t.0 uses)) ∷ [])) ∷ log)
+  read_answered k t of txn attempt conds uses home has here e h =
+      let read : Msg = Read t of txn attempt conds uses in
+      let m : Msg = Ready t of (counts_told s log t.0 uses) in
+      let act : Act = Records k (Answer txn attempt (home_of s).dm) ((source_of (home_of s) k, m) ∷ []) in
+      elim (is_read ts c read) as (λ b. is_read ts c read ≡ b → KnowsTold s c ts at (Did act ∷ log)) [
+        | true ↦ λ own ns q z r.
+            let n = read_next ts c at log k v read has e (head_through k log read e) own in
+            let to : source_of (home_of s) k ≡ at = ap (source_of (home_of s)) n.class_is ∙ home (subst (IsClassHere s) n.class_is here) in
+            let now : turn_with ts c at (Did act ∷ log) ≡ Told n.uses read =
+            one_turn (source_of (home_of s) k) m ∙ ap (λ b. if b then told m v else v)
+            (both (same_site at (source_of (home_of s) k)) (is_answer ts c m) (ap (same_site at) to
+            ∙ site_self at) own) ∙ told_is v n.uses read m n.is refl in
+            never (is_a_read q) (ap is_a_read (sym (told_same n.uses ns read q (sym now ∙ z)))) r
+        | false ↦ λ other.
+            quiet_act act (one_sent (source_of (home_of s) k) m other)
+            (other_answer_keeps s c ts k txn attempt (home_of s).dm ((source_of (home_of s) k, m) ∷ []) log
+            t of txn attempt conds uses e (λ own. elim (t.0 == ts) as (λ b. (t.0 == ts) ≡ b → b ≡ false) [
+              | true ↦ λ mine. never (is_read ts c read) (both (t.0 == ts) (of.0 ==
+                  c) mine (subst (λ j. (of.0 == j) ≡ true) own (head_through k log read e))) other
+              | false ↦ λ mine. refl
+            ] refl)) h
+      ] refl
+
+  read_refused : (k : ℕ) (t : Ts) (of : ClassNo) (txn : TxnNo) (attempt : ℕ) (conds : List Cond)
+      (uses : List Use) (by : ClassNo) (write : Ts) → IsHomeOf s c at → HasTurnAt ts c at log
+      → IsClassHere s k → head (pipe k log) ≡ Some (Read t of txn attempt conds uses)
+      → KnowsTold s c ts at log → KnowsTold s c ts at
+      (Did (Records k (Rejected txn attempt (home_of s).dm by write)
+      ((source_of (home_of s) k, Reject t of by write) ∷ [])) ∷ log)
+  read_refused k t of txn attempt conds uses by write home has here e h =
+      let read : Msg = Read t of txn attempt conds uses in
+      let m : Msg = Reject t of by write in
+      let act : Act = Records k (Rejected txn attempt (home_of s).dm by write) ((source_of (home_of s) k, m) ∷ []) in
+      elim (is_read ts c read) as (λ b. is_read ts c read ≡ b → KnowsTold s c ts at (Did act ∷ log)) [
+        | true ↦ λ own ns q z r.
+            let n = read_next ts c at log k v read has e (head_through k log read e) own in
+            let to : source_of (home_of s) k ≡ at = ap (source_of (home_of s)) n.class_is ∙ home (subst (IsClassHere s) n.class_is here) in
+            let now : turn_with ts c at (Did act ∷ log) ≡ Refused =
+            one_turn (source_of (home_of s) k) m ∙ ap (λ b. if b then told m v else v)
+            (both (same_site at (source_of (home_of s) k)) (is_answer ts c m) (ap (same_site at) to
+            ∙ site_self at) own) ∙ ap (told m) n.is in
+            (let x : Refused ≡ Told ns q = sym now ∙ z in cc)
+        | false ↦ λ other. quiet_act act (one_sent (source_of (home_of s) k) m other)
+            (record_keeps s c ts k (Rejected txn attempt (home_of s).dm by write)
+            ((source_of (home_of s) k, m) ∷ []) log refl) h
+      ] refl
+
+  pub told_act : (act : Act) → IsHomeOf s c at → IsDataStep s log act → HasTurnAt ts c at log
+      → IsHeldAt s ts c at log → KnowsTold s c ts at log → KnowsTold s c ts at (Did act ∷ log)
+  told_act act home step has held h = data_step_way s log act (λ x. KnowsTold s c ts at (Did x ∷ log))
+      (λ k txn attempt. quiet_act (Records k (Arrive txn attempt (home_of s).dm) []) refl
+      (record_keeps s c ts k (Arrive txn attempt (home_of s).dm) [] log refl) h)
+      (λ k o m e r. replied k o m has held e r h)
+      (λ k t of txn attempt conds uses here e. read_answered k t of txn attempt conds uses home has here e h)
+      (λ k t of txn attempt conds uses by write here e. read_refused k t of txn attempt conds uses by write home has here e h)
+      (λ k txn attempt ds. quiet_act (Records k (Wait txn attempt (home_of s).dm ds)
+      (map (ask_for (home_of s)) ds)) (asks_no_answer ts c at (ask_for (home_of s)) ds (λ d. refl))
+      (record_keeps s c ts k (Wait txn attempt (home_of s).dm ds) (map (ask_for (home_of s)) ds) log refl)
+      h)
+      (λ k t of txn changes e. quiet_act (Records k (Apply txn of (home_of s).dm t) (done_for k (Done t)))
+      (done_no_answer ts c at k t) (record_keeps s c ts k (Apply txn of (home_of s).dm t)
+      (done_for k (Done t)) log refl) h)
+      (λ k of time e. quiet_act (Records k (Pass of (home_of s).dm time) []) refl (record_keeps s c ts k (Pass of (home_of s).dm time) [] log refl) h) step

@@ -1,0 +1,199 @@
+-- The height of a lawful log is one: no clock and no message's time is above it.
+use Rattle.std.specs.Prelude.{fold, max}
+use Rattle.std.proofs.Common.{ℕ, ◌*◌, ◌+◌, ◌-◌, ◌/◌, ◌∷◌, ◌≡◌, ◌≤◌, List, None, Option, Some, [], arith, if◌then◌else◌, map, refl, slice_get, subst, suc, sym}
+use Rattle.sdd_base.specs.Clock.{Ticking}
+use Rattle.sdd_base.specs.Numbers.{tm_no}
+use Rattle.sdd_base.specs.Sites.{same_site}
+use Rattle.sdd_base.specs.declared.event.Event.{Event}
+use Rattle.sdd_base.specs.declared.event.Event.TheVariants.{Tick}
+use Rattle.sdd_base.specs.declared.site.Site.{Site}
+use Rattle.sdd_base.specs.declared.site.Site.TheVariants.{D, T, U}
+use Rattle.sdd_catalog.specs.Catalogue.{numbers_to}
+use Rattle.sdd_lang.specs.declared.transaction.Txn.{Txn}
+use Rattle.sdd_history.specs.declared.record.Rec.TheVariants.{Start}
+use Rattle.sdd_wire.specs.declared.msg.Msg.{Msg}
+use Rattle.sdd_wire.specs.declared.msg.Msg.TheVariants.{Ask, Held, Reject, Release}
+use Rattle.sdd_module.specs.SiteLog.{Act, Did, Force, Handed, Records, Redeclared, Submits, Ticked, sends_of_act}
+use Rattle.sdd_attempt.specs.Clocks.{clock, pushed_by, ticked_by}
+use Rattle.sdd_log.specs.Entries.{Does, Entry, Given, Hand, Log, Mark, Notes, Redeclares, Round, Submitted}
+use Rattle.sdd_log.specs.Lawful.{IsLawful}
+use Rattle.sdd_log.specs.Locals.{beginning, force_at, local_of, redeclares, setting_of, txn_at}
+use Rattle.sdd_log.specs.Marks.{bound_at, greatest_bound}
+use Rattle.sdd_log.specs.Permitted.{IsDueAt, IsPermitted}
+use Rattle.sdd_log.specs.Snapshots.{base_of}
+use Rattle.sdd_log.specs.Traffic.{sent}
+use Rattle.sdd_log.proofs.EachLocal.{allowed_act}
+use Rattle.sdd_invariants.proofs.Serving.{u_due}
+use Rattle.sdd_invariants.proofs.Bools.{if_way}
+use Rattle.sdd_invariants.specs.Traffic.{puts_to, to_site}
+use Rattle.sdd_invariants.proofs.Fair.{t_fair, u_fair}
+use Rattle.sdd_invariants.proofs.InOrder.{allowed_hand}
+use Rattle.sdd_invariants.proofs.Made.{local_step}
+use Rattle.sdd_invariants.proofs.Sent.{puts_grow, sent_is}
+use Rattle.sdd_invariants.specs.Made.{forced, given_to, made, made_by_mark, put_by, with_made}
+use Rattle.sdd_obligations.specs.Bounds.{AllFewTicks}
+use Rattle.sdd_obligations.specs.Heights.{AllLow, HandsLow, IsLow, IsUnder, height, starts_by, ticks_of, top}
+use Rattle.sdd_obligations.proofs.AnswersLow.{d_low}
+use Rattle.sdd_obligations.proofs.LowLists.{all_low_join, all_low_up, low_at, low_up}
+use Rattle.sdd_obligations.proofs.OfNext.{OfNext, of_next, t_of_sites}
+use Rattle.sdd_obligations.proofs.SendsLow.{PutsLow, t_low, u_low}
+use Rattle.sdd_module.specs.SiteLog as site
+
+-- what an entry of a site's log, if there is one, may be, where the height grows so
+abbrev MayGrow : ℕ → ℕ → Option site.Entry → Type 0
+MayGrow h k None = Unit {0}
+MayGrow h k (Some (Handed from m)) = IsLow h m
+MayGrow h k (Some (Ticked n)) = n + h ≤ k
+MayGrow h k (Some (Submits n txn)) = Unit {0}
+MayGrow h k (Some (Redeclared force t)) = t ≤ top h
+MayGrow h k (Some (Did act)) = (starts_by act + h ≤ k) × ((b : Site) → AllLow k (to_site b (sends_of_act act)))
+
+-- clocks
+
+pub div_le : (t h : ℕ) → t ≤ h * 64 + 63 → t / 64 ≤ h
+div_le t h l = omega arith
+
+max_le : (a b h : ℕ) → a ≤ h → b ≤ h → max a b ≤ h
+max_le a b h l m = omega arith
+
+push_le : (a t h : ℕ) → a ≤ h → t ≤ h * 64 + 63 → max a (t / 64) ≤ h
+push_le a t h l m = max_le a (t / 64) h l (div_le t h m)
+
+pushed_le : (h : ℕ) (m : Msg) (c : Ticking) → c.ticks ≤ h → IsLow h m → (pushed_by m c).ticks ≤ h
+pushed_le h (Ask class time) c l i = push_le c.ticks time.0 h l i.0
+pushed_le h (Reject ts class by write) c l i = push_le c.ticks write.0 h l i.0
+pushed_le h (Release ts) c l i = push_le c.ticks ts.0 h l i.0
+pushed_le h (Held time) c l i = push_le c.ticks time.0 h l i.0
+pushed_le h _ c l i = l
+
+started_le : (h k : ℕ) (act : Act) (c : Ticking) → c.ticks ≤ h → starts_by act + h ≤ k → (ticked_by act c).ticks ≤ k
+started_le h k (Records j (Start txn attempt class ts p2 uses) sends) c l m = omega (arith, l, m)
+started_le h k act c l m = omega (arith, l, m)
+
+clock_le : (at : Site) (h k : ℕ) (o : Option site.Entry) (l : site.Log) → h ≤ k → (clock at l).ticks ≤ h → MayGrow h k o
+    → (clock at (with_made o l)).ticks ≤ k
+clock_le at h k None l u c m = omega (arith, u, c)
+clock_le at h k (Some (Handed from x)) l u c m = let p = pushed_le h x (clock at l) c m in omega (arith, u, p)
+clock_le at h k (Some (Ticked n)) l u c m = omega (arith, c, m)
+clock_le at h k (Some (Submits n txn)) l u c m = omega (arith, u, c)
+clock_le at h k (Some (Redeclared force t)) l u c m = let p = push_le (clock at l).ticks t h c m in omega (arith, u, p)
+clock_le at h k (Some (Did act)) l u c m = started_le h k act (clock at l) c m.0
+
+-- what is handed, and what is put
+
+hands_up : (h k : ℕ) (l : site.Log) → h ≤ k → HandsLow h l → HandsLow k l
+hands_up h k [] u i = tt
+hands_up h k (Handed from m ∷ l) u i = (low_up h k m u i.0, hands_up h k l u i.1)
+hands_up h k (Ticked n ∷ l) u i = hands_up h k l u i
+hands_up h k (Submits n txn ∷ l) u i = hands_up h k l u i
+hands_up h k (Redeclared force t ∷ l) u i = hands_up h k l u i
+hands_up h k (Did act ∷ l) u i = hands_up h k l u i
+
+hands_low : (h k : ℕ) (o : Option site.Entry) (l : site.Log) → h ≤ k → HandsLow h l → MayGrow h k o → HandsLow k (with_made o l)
+hands_low h k None l u i m = hands_up h k l u i
+hands_low h k (Some (Handed from x)) l u i m = (low_up h k x u m, hands_up h k l u i)
+hands_low h k (Some (Ticked n)) l u i m = hands_up h k l u i
+hands_low h k (Some (Submits n txn)) l u i m = hands_up h k l u i
+hands_low h k (Some (Redeclared force t)) l u i m = hands_up h k l u i
+hands_low h k (Some (Did act)) l u i m = hands_up h k l u i
+
+put_low : (h k : ℕ) (b : Site) (o : Option site.Entry) → MayGrow h k o → AllLow k (put_by b o)
+put_low h k b None m = tt
+put_low h k b (Some (Handed from x)) m = tt
+put_low h k b (Some (Ticked n)) m = tt
+put_low h k b (Some (Submits n txn)) m = tt
+put_low h k b (Some (Redeclared force t)) m = tt
+put_low h k b (Some (Did act)) m = m.1 b
+
+under_more : (g : Given) (h k : ℕ) (e : Entry) (log : Log) → h ≤ k → IsUnder g h log → ((at : Site) → MayGrow h k (made g at log e))
+    → IsUnder g k (e ∷ log)
+under_more g h k e log u i m = record {
+  clocks = λ at. subst (λ l. (clock at l).ticks ≤ k) (sym (local_step g at e log))
+      (clock_le at h k (made g at log e) (local_of g at log) u (i.clocks at) (m at));
+  puts = λ a b. subst (AllLow k) (sym (puts_grow g a b e log))
+      (all_low_join k (puts_to b (local_of g a log)) (put_by b (made g a log e))
+      (all_low_up h k (puts_to b (local_of g a log)) u (i.puts a b)) (put_low h k b (made g a log e) (m a)));
+  hands = λ at. subst (HandsLow k) (sym (local_step g at e log)) (hands_low h k (made g at log e) (local_of g at log) u (i.hands at) (m at));
+}
+
+-- each entry
+
+by_mark : (h : ℕ) (at : Site) (e : Event) → MayGrow h (ticks_of e + h) (made_by_mark at e)
+by_mark h at (Tick t n) = if_way (MayGrow h (n + h)) (same_site at (T t)) (Some (Ticked n)) None (omega arith) tt
+by_mark h at _ = tt
+
+by_force : (h : ℕ) (at : Site) (force : Force) (t : ℕ) → t ≤ top h → MayGrow h h (forced at force t)
+by_force h U force t l = tt
+by_force h (T n) force t l = l
+by_force h (D d) force t l = tt
+
+by_submit : (h n : ℕ) (o : Option Txn) → MayGrow h h (given_to n o)
+by_submit h n None = tt
+by_submit h n (Some txn) = tt
+
+by_hand : (g : Given) (h : ℕ) (log : Log) (from to at : Site) (n : ℕ) (m : Msg) → IsUnder g h log
+    → slice_get (sent from to log) (n - 1) ≡ Some m → MayGrow h h (if same_site at to then Some (Handed from m) else None)
+by_hand g h log from to at n m i e =
+    let low : IsLow h m = low_at h (sent from to log) (n - 1) m (subst (AllLow h) (sym (sent_is g from to log)) (i.puts from to)) e in
+    if_way (MayGrow h h) (same_site at to) (Some (Handed from m)) None low tt
+
+fold_max_le : (k : ℕ) (f : ℕ → ℕ) (ns : List ℕ) (a : ℕ) → a ≤ k → ((n : ℕ) → f n ≤ k) → fold max a (map f ns) ≤ k
+fold_max_le k f [] a l h = l
+fold_max_le k f (n ∷ ns) a l h = fold_max_le k f ns (max a (f n)) (max_le a (f n) k l (h n)) h
+
+pub greatest_le : (g : Given) (h : ℕ) (log : Log) → IsUnder g h log → greatest_bound g log ≤ top h
+greatest_le g h log i =
+    fold_max_le (top h) (bound_at g log) (numbers_to g.catalogue.tms) 0 (omega arith) (λ n. let c = i.clocks (T (tm_no n)) in omega (arith, c))
+
+act_low : (g : Given) (h : ℕ) (log : Log) (at : Site) (act : Act) → g.catalogue.tms ≤ 63 → IsPermitted g log → IsUnder g h log
+    → OfNext g log (Does at act) → IsDueAt g log at act → PutsLow h act
+act_low g h log U act w p i o d =
+    u_low h (setting_of g U) (local_of g U log) act (omega arith) (i.clocks U) (u_fair g log p)
+    (u_due (setting_of g U) (base_of g log) (local_of g U log) act d)
+act_low g h log (T t) act w p i o d =
+    let r = t_of_sites g.catalogue.tms g.catalogue.dms t o.0 in
+    t_low h (setting_of g (T t)) t (base_of g log) (local_of g (T t) log) act refl (omega (arith, w, r.1)) (i.clocks (T t)) (t_fair g t log p) d
+act_low g h log (D d) act w p i o due = d_low h (setting_of g (D d)) (local_of g (D d) log) act (i.hands (D d)) due
+
+by_act : (g : Given) (h : ℕ) (log : Log) (at by : Site) (act : Act) → PutsLow h act
+    → MayGrow h (starts_by act + h) (if same_site at by then Some (Did act) else None)
+by_act g h log at by act low = if_way (MayGrow h (starts_by act + h)) (same_site at by) (Some (Did act)) None (omega arith, low) tt
+
+abbrev IsEmptyOf : site.Log → Type 0
+IsEmptyOf l = ((at : Site) → (clock at l).ticks ≤ 0) × ((b : Site) → puts_to b l ≡ []) × HandsLow 0 l
+
+beginning_low : (g : Given) (at : Site) → IsEmptyOf (beginning g at)
+beginning_low g U = ((λ b. omega arith), (λ b. refl), tt)
+beginning_low g (T t) = ((λ b. omega arith), (λ b. refl), tt)
+beginning_low g (D d) = ((λ b. omega arith), (λ b. refl), tt)
+
+pub under : (g : Given) (log : Log) → g.catalogue.tms ≤ 63 → AllFewTicks g.events → IsLawful g log → IsPermitted g log
+    → IsUnder g (height log) log
+under g [] w f h p = record {
+  clocks = λ at. (beginning_low g at).0 at;
+  puts = λ a b. subst (AllLow 0) (sym ((beginning_low g a).1 b)) tt;
+  hands = λ at. (beginning_low g at).2;
+}
+under g (Mark e ∷ log) w f h p =
+    under_more g (height log) (ticks_of e + height log) (Mark e) log (omega arith) (under g log w f h.1 p.1) (λ at. by_mark (height log) at e)
+under g (Round es ∷ log) w f h p =
+    under_more g (height log) (height log) (Round es) log (omega arith) (under g log w f h.1 p.1) (λ at. tt)
+under g (Redeclares t ∷ log) w f h p =
+    let i = under g log w f h.1 p.1 in
+    let e : t ≡ greatest_bound g log = of_next g log (Redeclares t) f h.1 h.0 in
+    let l = greatest_le g (height log) log i in
+    under_more g (height log) (height log) (Redeclares t) log (omega arith) i
+    (λ at. by_force (height log) at (force_at g (suc (redeclares log))) t (omega (arith, e, l)))
+under g (Hand from to n m ∷ log) w f h p =
+    let i = under g log w f h.1 p.1 in
+    under_more g (height log) (height log) (Hand from to n m) log (omega arith) i
+    (λ at. by_hand g (height log) log from to at n m i (allowed_hand g log (Hand from to n m) p.0).there)
+under g (Submitted to n ∷ log) w f h p =
+    under_more g (height log) (height log) (Submitted to n) log (omega arith) (under g log w f h.1 p.1)
+    (λ at. if_way (MayGrow (height log) (height log)) (same_site at to) (given_to n (txn_at g n)) None (by_submit (height log) n (txn_at g n)) tt)
+under g (Notes ∷ log) w f h p =
+    under_more g (height log) (height log) Notes log (omega arith) (under g log w f h.1 p.1) (λ at. tt)
+under g (Does by act ∷ log) w f h p =
+    let i = under g log w f h.1 p.1 in
+    let low = act_low g (height log) log by act w p.1 i (of_next g log (Does by act) f h.1 h.0) (allowed_act g log (Does by act) p.0) in
+    under_more g (height log) (starts_by act + height log) (Does by act) log (omega arith) i (λ at. by_act g (height log) log at by act low)

@@ -1,0 +1,61 @@
+-- What is next on a lawful log is what modules ask.
+use Rattle.std.proofs.Common.{ℕ, ◌∷◌, ◌≡◌, ◌≢◌, Some, false}
+use Rattle.sdd_base.specs.Words.{contains}
+use Rattle.sdd_base.specs.declared.number.DmNo.{DmNo}
+use Rattle.sdd_base.specs.declared.number.TmNo.{TmNo}
+use Rattle.sdd_base.specs.declared.site.Site.{Site}
+use Rattle.sdd_base.specs.declared.site.Site.TheVariants.{D, T, U}
+use Rattle.sdd_lang.specs.Classes.{class_for}
+use Rattle.sdd_lang.specs.declared.transaction.Txn.{Txn}
+use Rattle.sdd_wire.specs.declared.msg.Msg.{Msg}
+use Rattle.sdd_module.specs.SiteLog.{Act, Bases, in_force, sends_of_act, submits}
+use Rattle.sdd_dm.specs.Fits as dm
+use Rattle.sdd_tm.specs.Fits as tm
+use Rattle.sdd_umod.specs.Fits as um
+use Rattle.sdd_log.specs.Due.{next}
+use Rattle.sdd_log.specs.Entries.{Does, Given, Hand, Log, Submitted}
+use Rattle.sdd_log.specs.Lawful.{IsLawful, IsWithin}
+use Rattle.sdd_log.specs.Locals.{local_of, setting_of, txn_at}
+use Rattle.sdd_log.proofs.EachLocal.{allowed_act}
+use Rattle.sdd_log.proofs.NewMarks.{lawful_permitted}
+use Rattle.sdd_log.specs.Resting.{AllLinked, IsSiteOf}
+use Rattle.sdd_obligations.proofs.OfNext.{of_next}
+use Rattle.sdd_obligations.specs.Given.{IsFit}
+use Rattle.sdd_obligations.specs.Upheld.{IsUpheldD, IsUpheldR}
+use Rattle.sdd_obligations.proofs.FitsAtD.{d_fits}
+use Rattle.sdd_obligations.proofs.FitsAtT.{t_fits, u_fits}
+use Rattle.sdd_obligations.proofs.Handing.{is_handed}
+use Rattle.sdd_obligations.proofs.Linking.{act_linked}
+use Rattle.sdd_obligations.proofs.Submitting.{declared_here, home_exists, is_new}
+
+pub hand_d : (g : Given) (log : Log) (a : Site) (d : DmNo) (n : ℕ) (m : Msg) (bases : Bases) → IsFit g → IsLawful g log → IsWithin log
+    → next g log ≡ Some (Hand a (D d) n m) → IsUpheldD (setting_of g (D d)) (local_of g (D d) log) a m
+    → dm.fits (setting_of g (D d)) bases (local_of g (D d) log) a m
+hand_d g log a d n m bases f l w e u = d_fits g log a d n m bases f.small l e (is_handed g log a (D d) n m f.small l w e) u
+
+pub hand_t : (g : Given) (log : Log) (a : Site) (t : TmNo) (n : ℕ) (m : Msg) (bases : Bases) → IsFit g → IsLawful g log → IsWithin log
+    → next g log ≡ Some (Hand a (T t) n m) → IsUpheldR (setting_of g (T t)) bases (local_of g (T t) log) a m
+    → tm.fits_kind (setting_of g (T t)) bases (local_of g (T t) log) a m
+hand_t g log a t n m bases f l w e u = t_fits g log a t n m bases f.small (is_handed g log a (T t) n m f.small l w e) u
+
+pub hand_u : (g : Given) (log : Log) (a : Site) (n : ℕ) (m : Msg) (bases : Bases) → IsFit g → IsLawful g log → IsWithin log
+    → next g log ≡ Some (Hand a U n m) → IsUpheldR (setting_of g U) bases (local_of g U log) a m
+    → um.fits_kind (setting_of g U) bases (local_of g U log) a m
+hand_u g log a n m bases f l w e u = u_fits g log a n m bases f.whole (is_handed g log a U n m f.small l w e) u
+
+pub submit_new : (g : Given) (log : Log) (at : Site) (n : ℕ) (txn : Txn) → IsFit g → IsLawful g log → next g log ≡ Some (Submitted at n)
+    → txn_at g n ≡ Some txn → contains (submits (local_of g at log)) n ≡ false
+submit_new g log at n txn f l e p = is_new g log at n txn f.small l e p
+
+pub submit_declared : (g : Given) (log : Log) (t : TmNo) (n : ℕ) (txn : Txn) → IsFit g → IsLawful g log → next g log ≡ Some (Submitted (T t) n)
+    → txn_at g n ≡ Some txn → (T t ≡ T txn.tm) × (class_for (in_force (setting_of g (T t)) (local_of g (T t) log)).catalogue txn ≢ 0)
+submit_declared g log t n txn f l e p = declared_here g log t n txn f.small l e p
+
+pub submit_home : (g : Given) (log : Log) (at : Site) (n : ℕ) → IsFit g → IsLawful g log → next g log ≡ Some (Submitted at n) → IsSiteOf g at
+submit_home g log at n f l e = home_exists g log at n f.small l e f.txns_fit
+
+pub sends_linked : (g : Given) (log : Log) (at : Site) (act : Act) → IsFit g → IsLawful g log → next g log ≡ Some (Does at act)
+    → AllLinked g at (sends_of_act act)
+sends_linked g log at act f l e =
+    let p = lawful_permitted g (Does at act ∷ log) f.small.once (e, l) in
+    act_linked g log at act f.whole f.small.few_ticks l p.1 (of_next g log (Does at act) f.small.few_ticks l e) (allowed_act g log (Does at act) p.0)

@@ -1,0 +1,45 @@
+-- What a data module asks of a WRITE's changes.
+use Rattle.std.proofs.Common.{ℕ, ◌≡◌, List, Option, Some, None, ap, sym, ◌∙◌}
+use Rattle.std.specs.Prelude.{IfSome, get_or}
+use Rattle.std.specs.List.{All}
+use Rattle.sdd_base.specs.declared.change.Change.{Change}
+use Rattle.sdd_base.specs.declared.number.ClassNo.{ClassNo}
+use Rattle.sdd_base.specs.declared.number.DmNo.{DmNo}
+use Rattle.sdd_base.specs.declared.number.Ts.{Ts}
+use Rattle.sdd_base.specs.declared.number.TxnNo.{TxnNo}
+use Rattle.sdd_base.specs.declared.site.Site.{Site}
+use Rattle.sdd_base.specs.declared.site.Site.TheVariants.{D}
+use Rattle.sdd_catalog.specs.Catalogue.{Catalogue, fragment_at}
+use Rattle.sdd_catalog.specs.Rules.{IsSound}
+use Rattle.sdd_lang.specs.Changes.{HasRow, IsChange}
+use Rattle.sdd_lang.specs.Database.{Row, key_in}
+use Rattle.sdd_lang.proofs.EffectChanges.{entry_placed}
+use Rattle.sdd_wire.specs.declared.msg.Msg.TheVariants.{Write}
+use Rattle.sdd_dm.specs.Fits.{FitsChange}
+use Rattle.sdd_log.specs.Entries.{Given, Log}
+use Rattle.sdd_log.specs.Locals.{setting_of}
+use Rattle.sdd_log.specs.Permitted.{IsPermitted}
+use Rattle.sdd_log.specs.Traffic.{message_at}
+use Rattle.sdd_obligations.specs.Fitting.{AreWritten, FitsGiven, IsItemChange}
+use Rattle.sdd_obligations.proofs.Put.{acts_fit, message_fits}
+
+row_keyed : (cat : Catalogue) (rel of : ℕ) (c : Change) (o : Option Row) → of ≡ rel → HasRow cat rel c.key o → IfSome o (λ row. key_in cat of row ≡ c.key)
+row_keyed cat rel of c None e h = tt
+row_keyed cat rel of c (Some row) e h = ap (λ r. key_in cat r row) e ∙ sym h.1
+
+-- the row of a change of an item has the item's key
+pub keyed : (cat : Catalogue) → IsSound cat → (c : Change) → IsItemChange cat c → IfSome c.row (λ row. key_in cat (fragment_at cat c.frag.0).rel.0 row ≡ c.key)
+keyed cat sound c h =
+    let is : IsChange cat ((c.frag.0, c.key), c.row) = h in
+    row_keyed cat is.rel (fragment_at cat c.frag.0).rel.0 c c.row
+    (ap (λ n. (fragment_at cat n).rel.0) is.frag ∙ entry_placed cat sound is.rel c.key is.there is.held)
+    is.row
+
+pub write_put : (g : Given) (log : Log) (from : Site) (d : DmNo) (n : ℕ) (ts : Ts) (class : ClassNo)
+    (txn : TxnNo) (changes : List Change) → FitsGiven g → IsPermitted g log
+    → message_at from (D d) n log ≡ Some (Write ts class txn changes) → AreWritten g.catalogue d.0 changes
+write_put g log from d n ts class txn changes good h e = message_fits g log (acts_fit g good log h) from d n (Write ts class txn changes) e
+
+pub changes_fit : (g : Given) (d : DmNo) (changes : List Change) → FitsGiven g
+    → AreWritten g.catalogue d.0 changes → All (FitsChange (setting_of g (D d))) changes
+changes_fit g d changes good w i x within = record { here = w.here i x within; keyed = keyed g.catalogue good.sound (get_or changes i x) (w.each i x within) }

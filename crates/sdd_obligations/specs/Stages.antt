@@ -1,0 +1,20 @@
+-- An exchange in lockstep: both sides have the same turn, but for one question or one answer that is under way.
+use Rattle.std.specs.Prelude.{◌∷◌, ◌≡◌, List, [], drop}
+use Rattle.sdd_base.specs.declared.site.Site.{Site}
+use Rattle.sdd_wire.specs.declared.msg.Msg.{Msg}
+use Rattle.sdd_log.specs.Entries.{Given, Log}
+use Rattle.sdd_log.specs.Locals.{local_of}
+use Rattle.sdd_log.specs.Traffic.{handed}
+use Rattle.sdd_obligations.specs.Turns.{MayAnswer, MayAsk, Turn, asked, told}
+use Rattle.sdd_invariants.specs.Traffic.{puts_to}
+
+-- the messages of the link from a to b that are put and not handed over
+abbrev pub flight : Given → Site → Site → Log → List Msg
+flight g a b log = drop (handed a b log) (puts_to b (local_of g a log))
+
+-- v is the turn at the site that asks and w the one at the data module; of the attempt these questions and these answers
+-- are put and not handed over yet
+pub data IsStage (v w : Turn) (qs xs : List Msg) : Type 0 where
+  agreed : v ≡ w → qs ≡ [] → xs ≡ [] → IsStage v w qs xs
+  question_goes : (m : Msg) → qs ≡ m ∷ [] → xs ≡ [] → v ≡ asked m w → MayAsk w m → IsStage v w qs xs
+  answer_goes : (x : Msg) → qs ≡ [] → xs ≡ x ∷ [] → w ≡ told x v → MayAnswer v x → IsStage v w qs xs

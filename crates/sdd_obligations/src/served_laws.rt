@@ -1,0 +1,32 @@
+ghost use Rattle.std.specs.Prelude.{◌≡◌, ◌∷◌, ℕ, List, Some};
+ghost use Rattle.sdd_base.specs.declared.number.ClassNo.{ClassNo};
+ghost use Rattle.sdd_base.specs.declared.number.DmNo.{DmNo};
+ghost use Rattle.sdd_base.specs.declared.number.Ts.{Ts};
+ghost use Rattle.sdd_base.specs.declared.site.Site.TheVariants.{D};
+ghost use Rattle.sdd_lang.specs.Database.{Row};
+ghost use Rattle.sdd_wire.specs.declared.msg.Msg.TheVariants.{Rows};
+ghost use Rattle.sdd_attempt.specs.Attempts.{Attempt, active};
+ghost use Rattle.sdd_attempt.specs.Exchange.{without};
+ghost use Rattle.sdd_attempt.specs.Fits.{ServesIfLast};
+ghost use Rattle.sdd_log.specs.Entries.{Given, Log, Hand};
+ghost use Rattle.sdd_log.specs.Locals.{local_of, setting_of};
+ghost use Rattle.sdd_log.specs.Permitted.{IsPermitted};
+ghost use Rattle.sdd_log.specs.Snapshots.{base_of};
+ghost use Rattle.sdd_invariants.specs.Steps.{home};
+ghost use Rattle.sdd_obligations.specs.Fitting.{FitsGiven};
+ghost use Rattle.sdd_obligations.specs.Reading.{HasEras};
+
+/// When the last ROWS of an active attempt may be handed over next, the rows that came before and
+/// these serve the database of its snapshots.
+pub fn law_rows_serve()
+    ensures { (given : Given) (class : ℕ) (log : Log) (attempt : Attempt) (d : DmNo) (n : ℕ)
+        (ts : Ts) (of : ClassNo) (rows : List (ℕ × Row))
+        → FitsGiven given → HasEras given
+        → IsPermitted given (Hand (D d) (home given.catalogue class) n (Rows ts of rows) ∷ log)
+        → active (setting_of given (home given.catalogue class)) class
+        (local_of given (home given.catalogue class) log) ≡ Some attempt
+        → ts.0 ≡ attempt.ts → of.0 ≡ class
+        → ServesIfLast (setting_of given (home given.catalogue class))
+        (base_of given (Hand (D d) (home given.catalogue class) n (Rows ts of rows) ∷ log))
+        attempt rows (without attempt.exchange.lacks d.0) }
+{}

@@ -1,0 +1,24 @@
+ghost use Rattle.std.specs.Prelude.{◌≡◌, ℕ, true, Some};
+ghost use Rattle.sdd_attempt.specs.Attempts.{Attempt, active};
+ghost use Rattle.sdd_attempt.specs.Exchange.{is_over};
+ghost use Rattle.sdd_log.specs.Entries.{Given, Log};
+ghost use Rattle.sdd_log.specs.Locals.{local_of, setting_of};
+ghost use Rattle.sdd_log.specs.Permitted.{IsPermitted};
+ghost use Rattle.sdd_log.specs.Snapshots.{base_of};
+ghost use Rattle.sdd_serving.specs.Freezing.{HasCopies};
+ghost use Rattle.sdd_invariants.specs.Steps.{home, modules_asked};
+ghost use Rattle.sdd_obligations.specs.Fitting.{FitsGiven};
+ghost use Rattle.sdd_obligations.specs.Reading.{HasEras, copies_read};
+
+/// Once the exchange of an active attempt is over, the database of its snapshots has the copies
+/// that the modules which it asked had just before their Answers.
+pub fn law_copies_read()
+    ensures { (given : Given) (class : ℕ) (log : Log) (attempt : Attempt)
+        → FitsGiven given → HasEras given → IsPermitted given log
+        → active (setting_of given (home given.catalogue class)) class
+        (local_of given (home given.catalogue class) log) ≡ Some attempt
+        → is_over attempt.exchange.phase ≡ true
+        → HasCopies given.catalogue class attempt.text
+        (modules_asked (setting_of given (home given.catalogue class)) class attempt.text)
+        (copies_read given log attempt.ts) (base_of given log attempt.ts) }
+{}

@@ -1,0 +1,53 @@
+-- Where nothing goes on and a pipe has nothing unprocessed, every WRITE of its class that touches the module is applied.
+use Rattle.std.proofs.Common.{ℕ, ◌++◌, ◌<◌, ◌==◌, ◌∙◌, ◌∷◌, ◌≡◌, ◌⊎◌, Some, [], ap, append-nil, length, slice_get, subst, sym, true}
+use Rattle.std.proofs.lemmas.List.{take_all}
+use Rattle.sdd_base.specs.Numbers.{class_no, dm_no, time_at, txn_no}
+use Rattle.sdd_base.specs.declared.site.Site.TheVariants.{D}
+use Rattle.sdd_catalog.specs.Rules.{IsSound}
+use Rattle.sdd_wire.specs.declared.msg.Msg.{Msg}
+use Rattle.sdd_wire.specs.declared.msg.Msg.TheVariants.{Write}
+use Rattle.sdd_module.specs.SiteLog.{Bases}
+use Rattle.sdd_order.specs.Numbers.{IsClass, IsModule}
+use Rattle.sdd_attempt.specs.Acts.{commit_act}
+use Rattle.sdd_attempt.specs.Attempts.{Attempt}
+use Rattle.sdd_dm.specs.Pipes.{pipe}
+use Rattle.sdd_log.specs.Entries.{Does, Given, Log}
+use Rattle.sdd_log.specs.Locals.{setting_of}
+use Rattle.sdd_log.specs.Traffic.{handed}
+use Rattle.sdd_invariants.proofs.Fair.{d_fair}
+use Rattle.sdd_invariants.proofs.InPipe.{pipe_is}
+use Rattle.sdd_invariants.proofs.Installed.{commit_put}
+use Rattle.sdd_invariants.proofs.Processed.{matched, zip_at}
+use Rattle.sdd_invariants.specs.ReadSteps.{IsOf, results}
+use Rattle.sdd_invariants.specs.Seen.{IsApplied, all_of, changes_to, class_puts}
+use Rattle.sdd_invariants.specs.Steps.{home}
+use Rattle.sdd_invariants.specs.Traffic.{class_in, puts_to}
+use Rattle.sdd_progress.proofs.Handed.{none_left}
+use Rattle.sdd_progress.proofs.Still.{home_linked}
+use Rattle.sdd_progress.specs.Quiet.{IsQuiet, at_home, at_module}
+
+-- all that was put for a pipe came to it
+pub pipe_has_all : (g : Given) (log : Log) (c d : ℕ) → IsQuiet g log → IsSound g.catalogue → IsClass g.catalogue c → IsModule g.catalogue d
+    → all_of (pipe c (at_module g d log)) ≡ class_puts g c (dm_no d) log
+pipe_has_all g log c d h sound l m =
+    pipe_is g c (dm_no d) log h.permitted
+    ∙ ap (class_in c) (take_all (handed (home g.catalogue c) (D (dm_no d)) log)
+    (puts_to (D (dm_no d)) (at_home g c log)) (none_left g log (home g.catalogue c) (D (dm_no d)) h
+    (home_linked g.catalogue c d sound l m).0))
+
+pub all_applied : (g : Given) (log : Log) (c d : ℕ) (later before : Log) (bases : Bases) (a : Attempt)
+    → IsQuiet g log → IsSound g.catalogue → IsClass g.catalogue c → IsModule g.catalogue d
+    → (pipe c (at_module g d log)).unprocessed ≡ [] → log ≡ later ++ Does (home g.catalogue c) (commit_act g.catalogue bases c a) ∷ before
+    → ((c == 0) ≡ true) ⊎ (0 < length (changes_to g bases a (dm_no d))) → IsApplied g log (dm_no d) c a
+all_applied g log c d later before bases a h sound l m none is touches =
+    let w : Msg = Write (time_at a.ts) (class_no c) (txn_no a.txn) (changes_to g bases a (dm_no d)) in
+    let put = commit_put g c (dm_no d) later before bases a m.0 m.1 touches in
+    let there : slice_get (class_puts g c (dm_no d) log) put.0 ≡ Some w = subst (λ x. slice_get (class_puts g c (dm_no d) x) put.0 ≡ Some w) (sym is) put.1 in
+    let p = pipe c (at_module g d log) in
+    let all : class_puts g c (dm_no d) log ≡ p.processed = sym (pipe_has_all g log c d h sound l m)
+    ∙ ap (λ ms. p.processed ++ ms) none ∙ append-nil p.processed in
+    let processed : slice_get p.processed put.0 ≡ Some w = subst (λ ms. slice_get ms put.0 ≡ Some w) all there in
+    let z = zip_at IsOf (results c (at_module g d log)) p.processed put.0 w
+    (matched (setting_of g (D (dm_no d))) c (at_module g d log)
+    (d_fair g (dm_no d) log h.permitted)).matched processed in
+    record { place = put.0; rec = z.0; there = z.1; is = z.2 }

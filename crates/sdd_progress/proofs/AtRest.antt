@@ -1,0 +1,141 @@
+-- Where a list of classes was put in force: all that was submitted before is committed and applied there.
+use Rattle.std.proofs.Common.{ℕ, ◌++◌, ◌<◌, ◌∙◌, ◌∷◌, ◌≡◌, Some, [], ap, append_assoc, arith, length, refl, subst, sym}
+use Rattle.sdd_base.specs.Numbers.{class_no, dm_no, time_at, txn_no}
+use Rattle.sdd_history.specs.Records.{History}
+use Rattle.sdd_history.specs.declared.record.Rec.TheVariants.{Apply, Commit}
+use Rattle.sdd_order.specs.Attempts.{Committed, HasCommit, IsAttempt, IsCommitted}
+use Rattle.sdd_order.specs.Places.{Stands}
+use Rattle.sdd_laws.specs.Deeds.{AppliedBefore, GoesTo, IsSubmitted}
+use Rattle.sdd_log.specs.Due.{next}
+use Rattle.sdd_log.specs.Entries.{Given, Log, Redeclares, history}
+use Rattle.sdd_log.specs.Lawful.{IsLawful}
+use Rattle.sdd_log.specs.Locals.{redeclares}
+use Rattle.sdd_lawful.specs.Given.{AreNumbered}
+use Rattle.sdd_lawful.proofs.Applied.{applied_before}
+use Rattle.sdd_lawful.proofs.Committed.{committed_in}
+use Rattle.sdd_lawful.proofs.Places.{history_grows}
+use Rattle.sdd_lawful.proofs.Started.{start_in}
+use Rattle.sdd_lawful.proofs.Starts.{start_within}
+use Rattle.sdd_lawful.proofs.Touched.{goes_module, goes_some}
+use Rattle.sdd_progress.proofs.Applied.{all_applied}
+use Rattle.sdd_progress.proofs.Committed.{all_committed}
+use Rattle.sdd_progress.proofs.ErasOf.{are_eras_of}
+use Rattle.sdd_progress.proofs.Finished.{finished}
+use Rattle.sdd_progress.proofs.SinceRedeclare.{redeclares_back}
+use Rattle.sdd_progress.specs.Committed.{AllCommitted}
+use Rattle.sdd_progress.specs.Eras.{eras_of}
+use Rattle.sdd_progress.specs.Finished.{IsIdle}
+use Rattle.sdd_progress.specs.Premises.{HasSoundLists}
+use Rattle.sdd_progress.specs.Quiet.{IsQuiet}
+use Rattle.sdd_progress.proofs.Fronts.{stands_front, stands_more, stands_within}
+use Rattle.sdd_progress.proofs.Known.{Known, started_before}
+
+pub next_at_redeclare : (g : Given) (log later mid : Log) (t : ℕ) → IsLawful g log → log ≡ later ++ Redeclares t ∷ mid → next g mid ≡ Some (Redeclares t)
+next_at_redeclare g log later mid t h is = lawful_at later (subst (IsLawful g) is h)
+  where
+    lawful_at : (l : Log) → IsLawful g (l ++ Redeclares t ∷ mid) → next g mid ≡ Some (Redeclares t)
+    lawful_at [] k = k.0
+    lawful_at (x ∷ l) k = lawful_at l k.1
+
+numbered_before : (g : Given) (log other mid : Log) → log ≡ other ++ mid → AreNumbered g log → AreNumbered g mid
+numbered_before g log other mid is numbered later before n e =
+    numbered (other ++ later) before n (is ∙ ap (λ z. other ++ z) e ∙ sym (append_assoc other later _))
+
+lists_before : (g : Given) (log other mid : Log) → log ≡ other ++ mid → HasSoundLists g log → HasSoundLists g mid
+lists_before g log other mid is lists k l =
+    let b = redeclares_back other mid in let e : redeclares log ≡ redeclares (other ++ mid) = ap redeclares is in
+    lists k (omega (arith, l, b, e))
+
+-- what is known there
+pub record IsRest (g : Given) (log mid : Log) : Type 0 where
+  pub other : Log
+  pub time : ℕ
+  pub is : log ≡ other ++ Redeclares time ∷ mid
+  pub quiet : IsQuiet g mid
+  pub idle : IsIdle g mid
+  pub lists : HasSoundLists g mid
+  pub all : AllCommitted (history mid)
+  pub more : History
+  pub history_is : history log ≡ history mid ++ more
+
+module _ (g : Given) (log : Log) (w : Known g log) where
+  pub rest : (other mid : Log) (time : ℕ) → log ≡ other ++ Redeclares time ∷ mid → IsRest g log mid
+  rest other mid time is =
+      let x = w.idle other mid time is in
+      let parts : log ≡ (other ++ Redeclares time ∷ []) ++ mid = is ∙ sym (append_assoc other (Redeclares time ∷ []) mid) in
+      let t = lists_before g log (other ++ Redeclares time ∷ []) mid parts w.lists in
+      let grows = history_grows (other ++ Redeclares time ∷ []) mid in
+      record {
+        other = other;
+        time = time;
+        is = is;
+        quiet = x.0;
+        idle = x.1;
+        lists = t;
+        all = all_committed g mid x.0.permitted t (numbered_before g log (other ++ Redeclares time ∷ []) mid parts w.numbered) (finished g mid x.0 w.sound x.1);
+        more = grows.0;
+        history_is = ap history parts ∙ grows.1;
+      }
+
+  -- the Commit of what was submitted before
+  pub commit_there : (mid : Log) (r : IsRest g log mid) (n k : ℕ) → IsSubmitted (history mid) n k
+      → (number : ℕ) × (place : ℕ) × (place < length (history mid)) × HasCommit (history log) n number place
+  commit_there mid r n k s =
+      let c = r.all n k s in (
+        c.number,
+        c.place,
+        stands_within (history mid) c.place _ c.commit.stands,
+        record {
+          reply = c.commit.reply;
+          changes = c.commit.changes;
+          values = c.commit.values;
+          rows = c.commit.rows;
+          stands = subst (λ z. Stands z c.place (Commit (txn_no n) c.number c.commit.reply c.commit.changes c.commit.values c.commit.rows)) (sym r.history_is)
+              (stands_more (history mid) r.more c.place _ c.commit.stands);
+        },
+      )
+
+  -- so a transaction that was submitted before it is committed before it
+  pub committed_by : (mid : Log) (r : IsRest g log mid) (n k : ℕ) → IsSubmitted (history mid) n k → (x : Committed) → IsCommitted (history log) x → x.start.txn ≡ n
+      → x.place < length (history mid)
+  committed_by mid r n k s x c e =
+      let there = commit_there mid r n k s in
+      let within = there.2 in
+      let own : HasCommit (history log) n x.start.number x.place = record {
+        reply = x.reply;
+        changes = x.changes;
+        values = x.values;
+        rows = x.rows;
+        stands = subst (λ m. Stands (history log) x.place (Commit (txn_no m) x.start.number x.reply x.changes x.values x.rows)) e c.committed;
+      } in
+      let one = w.starts.one_commit n there.0 x.start.number there.1 x.place there.3 own in
+      omega (arith, within, one)
+
+  -- and applied wherever it is to be
+  pub applied_by : (mid : Log) (r : IsRest g log mid) (x : Committed) (d : ℕ) → IsCommitted (history log) x → x.place < length (history mid)
+      → GoesTo g.catalogue x d → AppliedBefore (history log) x.start.txn d (length (history mid))
+  applied_by mid r x d c l goes =
+      let before = started_before g log w x c in
+      let ct : IsCommitted (history mid) x = record {
+        started = stands_front (history mid) r.more x.start.place _ (omega (arith, l, before)) (subst (λ z. IsAttempt z x.start) r.history_is c.started);
+        committed = stands_front (history mid) r.more x.place _ l
+            (subst (λ z. Stands z x.place (Commit (txn_no x.start.txn) x.start.number x.reply x.changes x.values x.rows)) r.history_is c.committed);
+      } in
+      let t = committed_in g mid x w.sound r.quiet.permitted ct in
+      let are = are_eras_of g mid r.lists in
+      let within = start_within g mid (eras_of g mid) x.start are (start_in g mid x.start w.sound r.quiet.permitted ct.started) in
+      let m = goes_module g.catalogue w.sound x d goes in
+      let applied = all_applied g mid x.start.class d t.later t.before t.bases t.running r.quiet w.sound within m
+      (r.idle.processed x.start.class d within m) t.is (goes_some g mid x t d goes) in
+      let a = subst (λ n. AppliedBefore (history mid) n d (length (history mid))) t.txn_is
+      (applied_before g mid [] mid (dm_no d) x.start.class t.running refl r.quiet.permitted applied) in
+      record {
+        place = a.place;
+        applied = record {
+          class = a.applied.class;
+          ts = a.applied.ts;
+          stands = subst (λ z. Stands z a.place (Apply (txn_no x.start.txn) (class_no a.applied.class) (dm_no d) (time_at a.applied.ts))) (sym r.history_is)
+              (stands_more (history mid) r.more a.place (Apply (txn_no x.start.txn) (class_no a.applied.class) (dm_no d) (time_at a.applied.ts)) a.applied.stands);
+        };
+        before = a.before;
+      }

@@ -1,0 +1,271 @@
+-- Where all is finished, every transaction that was submitted is committed, and nothing is pending.
+use Rattle.std.specs.List.{cons_option, list_any}
+use Rattle.std.specs.Prelude.{◌⊎◌, filter, filter_map, option_map, unwrap_or}
+use Rattle.std.proofs.Common.{ℕ, suc, zero, ◌++◌, ◌-◌, ◌==◌, ◌∙◌, ◌∷◌, ◌≡◌, ◌≤◌, Bool, List, None, Option, Some, [], ap, arith, false, if◌then◌else◌, inl, inr, length, refl, slice_get, subst, sym, true}
+use Rattle.std.proofs.Math.Decide.{dec_le}
+use Rattle.std.proofs.lemmas.Bool.{eqb-true}
+use Rattle.sdd_base.specs.Numbers.{tm_no, txn_no}
+use Rattle.sdd_base.specs.Words.{head_of}
+use Rattle.sdd_base.specs.declared.change.Change.{Change}
+use Rattle.sdd_base.specs.declared.event.Event.TheVariants.{Submit as Submitting}
+use Rattle.sdd_base.specs.declared.number.TmNo.{TmNo}
+use Rattle.sdd_base.specs.declared.reply.Reply.{Reply}
+use Rattle.sdd_base.specs.declared.site.Site.{Site}
+use Rattle.sdd_base.specs.declared.site.Site.TheVariants.{T}
+use Rattle.sdd_catalog.specs.Catalogue.{Catalogue, class_at, numbers_to}
+use Rattle.sdd_history.specs.Records.{History}
+use Rattle.sdd_history.specs.declared.record.Rec.{Rec}
+use Rattle.sdd_history.specs.declared.record.Rec.TheVariants.{Commit, Submit}
+use Rattle.sdd_lang.specs.Classes.{class_for, covers}
+use Rattle.sdd_lang.specs.declared.transaction.Txn.{Txn}
+use Rattle.sdd_module.specs.SiteLog.{Act, Did, Force, Records, Submits, in_force}
+use Rattle.sdd_order.specs.Numbers.{IsClass}
+use Rattle.sdd_order.specs.Places.{Stands}
+use Rattle.sdd_attempt.specs.Queues.{Queued, is_for, queue}
+use Rattle.sdd_eras.proofs.EraSets.{covered}
+use Rattle.sdd_eras.proofs.Lists.{first_passes}
+use Rattle.sdd_laws.specs.Deeds.{IsSubmitted}
+use Rattle.sdd_eras.specs.EraOf.{IsEraOf}
+use Rattle.sdd_log.specs.Due.{home_of}
+use Rattle.sdd_log.specs.Entries.{Does, Given, Log, Mark, Submitted, history}
+use Rattle.sdd_log.specs.Locals.{force_at, local_of, redeclares, setting_of, txn_at}
+use Rattle.sdd_log.specs.Permitted.{IsPermitted}
+use Rattle.sdd_invariants.proofs.Bools.{and_left, or_left, or_right, same_number, same_or_not}
+use Rattle.sdd_invariants.proofs.Fair.{all_new, home_fair}
+use Rattle.sdd_invariants.proofs.Lists.{member_there}
+use Rattle.sdd_invariants.proofs.Made.{permitted_before, place_of_act}
+use Rattle.sdd_invariants.proofs.Queues.{queue_is}
+use Rattle.sdd_invariants.specs.Steps.{home, is_committed, queued, starts_of, submits_of}
+use Rattle.sdd_lawful.specs.Given.{AreNumbered}
+use Rattle.sdd_lawful.proofs.Classes.{IsForClass, at_home, force_there, further_back, home_by, home_setting, submit_local}
+use Rattle.sdd_lawful.proofs.Commits.{Told, commit_rec}
+use Rattle.sdd_lawful.proofs.Homes.{positive}
+use Rattle.sdd_lawful.proofs.Locals.{commit_act_in, submitted_in}
+use Rattle.sdd_lawful.proofs.Places.{stands_there}
+use Rattle.sdd_lawful.proofs.Submissions.{IsSubmitIn, given_at, submit_in}
+use Rattle.sdd_progress.proofs.SinceRedeclare.{redeclares_back}
+use Rattle.sdd_progress.specs.Committed.{AllCommitted, IsNotLeft, WasCommitted}
+use Rattle.sdd_progress.specs.Finished.{IsFinished}
+use Rattle.sdd_progress.specs.Premises.{HasSoundLists}
+
+-- the class of a transaction by the list in force is one of the whole catalogue, and run at the transaction's module
+
+class_within : (cat era : Catalogue) → IsEraOf cat era → (txn : Txn) → IsClass cat (class_for era txn)
+class_within cat era h txn = elim (dec_le 1 (class_for era txn)) [
+  | yes p ↦ (let to = (covered era txn (class_for era txn) refl p).class.to in let few = h.classes in omega (arith, to, few))
+  | no p ↦ omega (arith, p)
+]
+
+covers_home : (cat : Catalogue) (txn : Txn) (c : ℕ) → c ≡ class_for cat txn → 1 ≤ c → (class_at cat c).tm.0 ≡ txn.tm.0
+covers_home cat txn c e l =
+    elim (head_of (filter (covers cat txn) (numbers_to (length cat.classes)))) as (λ o. head_of
+    (filter (covers cat txn) (numbers_to (length cat.classes))) ≡ o → c ≡ unwrap_or o 0
+    → (class_at cat c).tm.0 ≡ txn.tm.0) [
+      | None ↦ λ h z. absurd (omega arith)
+      | Some x ↦ λ h z.
+          let p = first_passes (covers cat txn) (numbers_to (length cat.classes)) x h in
+          let q : ((class_at cat x).tm.0 == txn.tm.0) ≡ true = and_left _ _ p in
+          ap (λ k. (class_at cat k).tm.0) z ∙ eqb-true (class_at cat x).tm.0 txn.tm.0 q
+    ] refl e
+
+home_is : (cat era : Catalogue) → IsEraOf cat era → (txn : Txn) (c : ℕ) → c ≡ class_for era txn → home_by c txn ≡ home cat c
+home_is cat era h txn c e = elim (same_or_not c 0) [
+  | inl p ↦ ap (λ k. home_by k txn) p ∙ ap (home cat) (sym p)
+  | inr p ↦ (let from = positive c p in
+      let class = (covered era txn c e from).class in
+      let same : (class_at era c).tm.0 ≡ txn.tm.0 = covers_home era txn c e from in
+      let whole : (class_at cat c).tm.0 ≡ txn.tm.0 = ap (λ (t : TmNo). t.0) (sym (h.home c class.from class.to)) ∙ same in
+      let here : home_by c txn ≡ T txn.tm = rw p refl in
+      let there : home cat c ≡ T (tm_no (class_at cat c).tm.0) = rw p refl in
+      here ∙ ap (λ n. T (tm_no n)) (sym whole) ∙ sym there)
+]
+
+for_class : (g : Given) (c : ℕ) (rest : Log) (txn : Txn) → class_for (force_at g (redeclares rest)).catalogue txn ≡ c → IsForClass g c rest txn
+for_class g c rest txn e = elim (same_or_not c 0) [
+  | inl p ↦ subst (λ k. IsForClass g k rest txn) (sym p) refl
+  | inr p ↦ (let t = tm_no (class_at g.catalogue c).tm.0 in
+      let here : home g.catalogue c ≡ T t = rw p refl in
+      let k : class_for (in_force (setting_of g (T t)) (local_of g (T t) rest)).catalogue txn ≡ c =
+      ap (λ (w : Force). class_for w.catalogue txn) (force_there g t rest) ∙ e in
+      let q : is_for c (in_force (setting_of g (T t)) (local_of g (T t) rest)).catalogue txn ≡ true =
+      or_right (c == 0) _ (ap (λ y. y == c) k ∙ same_number c) in
+      subst (λ a. is_for c (in_force (setting_of g a) (local_of g a rest)).catalogue txn ≡ true) (sym here) q)
+]
+
+-- what is not in the queue is committed
+
+cons_none : {A : Type 0} (o : Option A) (xs : List A) → cons_option o xs ≡ [] → (o ≡ None) × (xs ≡ [])
+cons_none None xs e = (refl, e)
+cons_none (Some x) xs e = cc
+
+none_kept : {A B : Type 0} (f : A → Option B) (xs : List A) (i : ℕ) (x : A) → filter_map f xs ≡ [] → slice_get xs i ≡ Some x → f x ≡ None
+none_kept f [] i x e h = cc
+none_kept f (y ∷ xs) zero x e h = let p : y ≡ x = cc in subst (λ z. f z ≡ None) p (cons_none (f y) (filter_map f xs) e).0
+none_kept f (y ∷ xs) (suc i) x e h = none_kept f xs i x (cons_none (f y) (filter_map f xs) e).1 h
+
+if_left : {A : Type 0} (b : Bool) (x : A) → (if b then None else Some x) ≡ None → b ≡ true
+if_left true x e = refl
+if_left false x e = cc
+
+-- a Commit of the log of a site is one of the history
+committed_there : (g : Given) (log : Log) (c n : ℕ) → is_committed c n (at_home g c log) ≡ true → WasCommitted (history log) n
+committed_there g log c n e =
+    let at : Site = home g.catalogue c in
+    let m = commit_act_in c n (at_home g c log) e in
+    let t : Told = record { reply = m.reply; changes = m.changes; values = m.values; rows = m.rows } in
+    let act : Act = Records c (commit_rec n m.attempt t) m.sends in
+    let is : at_home g c log ≡ m.later ++ Did act ∷ m.before =
+    m.is ∙ ap (λ j. m.later ++ Did (Records c (commit_rec j m.attempt t) m.sends) ∷ m.before) m.number_is
+    in
+    let p = place_of_act g at log m.later act m.before is in
+    let stands : Stands (history log) (length (history p.rest)) (commit_rec n m.attempt t) =
+    subst (λ l. Stands (history l) (length (history p.rest)) (commit_rec n m.attempt t)) (sym p.is)
+    (stands_there p.later (Does at act) p.rest (commit_rec n m.attempt t) refl) in
+    record {
+      place = length (history p.rest);
+      number = m.attempt;
+      commit = record { reply = m.reply; changes = m.changes; values = m.values; rows = m.rows; stands = stands };
+    }
+
+-- the text of what is given
+record HasText (g : Given) (n : ℕ) : Type 0 where
+  text : Txn
+  is : txn_at g n ≡ Some text
+
+text_of : (g : Given) (log : Log) (n k : ℕ) → IsPermitted g log → AreNumbered g log → (s : IsSubmitIn g log n k) → HasText g n
+text_of g log n k h numbered s =
+    let now : IsPermitted g (Submitted s.at n ∷ s.rest) = permitted_before g s.later (Submitted s.at n ∷ s.rest) (subst (IsPermitted g) s.is h) in
+    let x = given_at g s.rest s.at n now in
+    let b = further_back log s.later s.rest (Submitted s.at n) (Mark (Submitting x.number)) [] x.earlier s.is x.is in
+    let r = numbered b.0 x.earlier x.number b.1 in
+    let from = r.0 in
+    let to = r.1 in
+    let same = x.number_is in
+    let m = member_there (n - 1) g.txns (omega (arith, from, to, same)) in
+    record { text = m.0; is = m.1 }
+
+-- a submitted transaction came to the module of its class, by the list in force then
+pub record IsAtHome (g : Given) (log : Log) (n : ℕ) : Type 0 where
+  pub text : Txn
+  pub class : ℕ
+  pub class_is : IsClass g.catalogue class
+  pub later : Log
+  pub rest : Log
+  pub given : log ≡ later ++ Submitted (home g.catalogue class) n ∷ rest
+  pub place : ℕ
+  pub there : slice_get (submits_of (home_setting g class) class (at_home g class log)) place ≡ Some (n, text)
+
+pub submitted_at_home : (g : Given) (log : Log) → IsPermitted g log → HasSoundLists g log → AreNumbered g log
+    → (n k : ℕ) → IsSubmitted (history log) n k → IsAtHome g log n
+submitted_at_home g log h lists numbered n k submitted =
+    let s = submit_in g log n k h submitted in
+    let now : IsPermitted g (Submitted s.at n ∷ s.rest) = permitted_before g s.later (Submitted s.at n ∷ s.rest) (subst (IsPermitted g) s.is h) in
+    let x = given_at g s.rest s.at n now in
+    let t = text_of g log n k h numbered s in
+    let era : Catalogue = (force_at g (redeclares s.rest)).catalogue in
+    let back = redeclares_back s.later (Submitted s.at n ∷ s.rest) in
+    let all : redeclares log ≡ redeclares (s.later ++ Submitted s.at n ∷ s.rest) = ap redeclares s.is in
+    let of : IsEraOf g.catalogue era = (lists (redeclares s.rest) (omega (arith, back, all))).era in
+    let c : ℕ = class_for era t.text in
+    let at : s.at ≡ home g.catalogue c =
+    x.at_is ∙ ap (home_of (force_at g (redeclares x.earlier)).catalogue) t.is
+    ∙ ap (λ i. home_of (force_at g i).catalogue (Some t.text)) (sym (ap redeclares x.is))
+    ∙ home_is g.catalogue era of t.text c refl in
+    let is : log ≡ s.later ++ Submitted (home g.catalogue c) n ∷ s.rest = s.is ∙ ap (λ a. s.later ++ Submitted a n ∷ s.rest) at in
+    let m = submit_local g c n t.text s.later s.rest t.is in
+    let local : at_home g c log ≡ m.0 ++ Submits n t.text ∷ at_home g c s.rest = ap (at_home g c) is ∙ m.1 in
+    let i = submitted_in (home_setting g c) c n t.text m.0 (at_home g c s.rest) (for_class g c s.rest t.text refl) in
+    record {
+      text = t.text;
+      class = c;
+      class_is = class_within g.catalogue era of t.text;
+      later = s.later;
+      rest = s.rest;
+      given = is;
+      place = i.0;
+      there = subst (λ l. slice_get (submits_of (home_setting g c) c l) i.0 ≡ Some (n, t.text)) (sym local) i.1;
+    }
+
+pub all_committed : (g : Given) (log : Log) → IsPermitted g log → HasSoundLists g log → AreNumbered g log → IsFinished g log → AllCommitted (history log)
+all_committed g log h lists numbered done n k submitted =
+    let x = submitted_at_home g log h lists numbered n k submitted in
+    let c = x.class in
+    let q = queue_is (home_setting g c) c (at_home g c log) (home_fair g c log h) (all_new g (home g.catalogue c) log h) in
+    let out : queued c (at_home g c log) (n, x.text) ≡ None =
+    none_kept (queued c (at_home g c log)) (submits_of (home_setting g c) c (at_home g c log)) x.place
+    (n, x.text) (sym q.is ∙ done.no_queue c x.class_is) x.there in
+    committed_there g log c n (if_left (is_committed c n (at_home g c log)) _ out)
+
+-- a transaction that was submitted is committed, or stands in the queue of its class
+
+some_kept : {A B : Type 0} (f : A → Option B) (xs : List A) (i : ℕ) (x : A) (y : B) → slice_get xs i ≡ Some x → f x ≡ Some y
+    → (j : ℕ) × (slice_get (filter_map f xs) j ≡ Some y)
+some_kept f [] i x y h e = cc
+some_kept f (z ∷ xs) zero x y h e =
+    let q : z ≡ x = cc in let r : f z ≡ Some y = subst (λ w. f w ≡ Some y) (sym q) e in (0, rw r refl)
+some_kept f (z ∷ xs) (suc i) x y h e =
+    let r = some_kept f xs i x y h e in
+    elim (f z) as (λ o. (j : ℕ) × (slice_get (cons_option o (filter_map f xs)) j ≡ Some y)) [ None ↦ r | Some w ↦ (suc r.0, r.1) ]
+
+pub record IsQueued (g : Given) (log : Log) (n : ℕ) : Type 0 where
+  pub class : ℕ
+  pub class_is : IsClass g.catalogue class
+  pub later : Log
+  pub rest : Log
+  pub given : log ≡ later ++ Submitted (home g.catalogue class) n ∷ rest
+  pub place : ℕ
+  pub waiting : Queued
+  pub there : slice_get (queue (home_setting g class) class (at_home g class log)) place ≡ Some waiting
+  pub number_is : waiting.number ≡ n
+
+pub committed_or_queued : (g : Given) (log : Log) → IsPermitted g log → HasSoundLists g log → AreNumbered g log
+    → (n k : ℕ) → IsSubmitted (history log) n k → WasCommitted (history log) n ⊎ IsQueued g log n
+committed_or_queued g log permitted lists numbered n k submitted =
+    let x = submitted_at_home g log permitted lists numbered n k submitted in
+    let c : ℕ = x.class in
+    let q = queue_is (home_setting g c) c (at_home g c log) (home_fair g c log permitted) (all_new g (home g.catalogue c) log permitted) in
+    let waiting : Queued = record { number = n; text = x.text; tries = starts_of c n (at_home g c log) } in
+    elim (is_committed c n (at_home g c log)) as (λ b. is_committed c n (at_home g c log) ≡ b → WasCommitted (history log) n ⊎ IsQueued g log n) [
+      | true ↦ λ e. inl (committed_there g log c n e)
+      | false ↦ λ e.
+          let out : queued c (at_home g c log) (n, x.text) ≡ Some waiting = rw e refl in
+          let r = some_kept (queued c (at_home g c log)) (submits_of (home_setting g c) c (at_home g c log)) x.place (n, x.text) waiting x.there out in
+          inr (record {
+            class = c;
+            class_is = x.class_is;
+            later = x.later;
+            rest = x.rest;
+            given = x.given;
+            place = r.0;
+            waiting = waiting;
+            there = ap (λ qs. slice_get qs r.0) q.is ∙ r.1;
+            number_is = refl;
+          })
+    ] refl
+
+-- what is found of what is left is nothing
+
+any_at : (p : ℕ × Rec → Bool) (h : History) (k : ℕ) (r : Rec) → ((event : ℕ) → p (event, r) ≡ true) → Stands h k r → list_any p h ≡ true
+any_at p [] k r f e = cc
+any_at p ((event, x) ∷ h) zero r f e =
+    let q : x ≡ r = cc in or_left (p (event, x)) (list_any p h) (subst (λ y. p (event, y) ≡ true) (sym q) (f event))
+any_at p (x ∷ h) (suc k) r f e = or_right (p x) (list_any p h) (any_at p h k r f e)
+
+-- a test that each Commit of a committed transaction passes
+pub any_commit : (h : History) (p : ℕ × Rec → Bool) (n : ℕ)
+    → ((event attempt : ℕ) (reply : Reply) (changes : List Change) (values rows : ℕ) → p (event, Commit (txn_no n) attempt reply changes values rows) ≡ true)
+    → WasCommitted h n → list_any p h ≡ true
+any_commit h p n f d = let c =
+    d.commit in any_at p h d.place (Commit (txn_no n) d.number c.reply c.changes c.values c.rows)
+    (λ event. f event d.number c.reply c.changes c.values c.rows) c.stands
+
+none_found : {A B : Type 0} (f : A → Option B) (xs : List A) → ((k : ℕ) (x : A) → slice_get xs k ≡ Some x → f x ≡ None) → filter_map f xs ≡ []
+none_found f [] h = refl
+none_found f (x ∷ xs) h = ap (λ o. cons_option o (filter_map f xs)) (h 0 x refl) ∙ none_found f xs (λ k y e. h (suc k) y e)
+
+pub not_left : (h : History) → AllCommitted h → (k : ℕ) (x : ℕ × Rec) → slice_get h k ≡ Some x → IsNotLeft h x
+not_left h all k (event, Submit n) e = all n.0 k (ap (option_map (λ (y : ℕ × Rec). y.1)) e)
+not_left h all k (event, _) e = tt
+
+pub none_left : {A : Type 0} (h : History) (f : ℕ × Rec → Option A) → AllCommitted h → ((x : ℕ × Rec) → IsNotLeft h x → f x ≡ None) → filter_map f h ≡ []
+none_left h f all g = none_found f h (λ k x e. g x (not_left h all k x e))

@@ -1,0 +1,56 @@
+-- Where nothing goes on and all is idle, each copy has what a serial run leaves.
+use Rattle.std.proofs.Common.{ℕ, ◌∙◌, ◌≡◌, List, [], ap, inr, length, refl, subst, sym, true}
+use Rattle.sdd_base.specs.Numbers.{dm_no}
+use Rattle.sdd_base.specs.declared.number.RelNo.{RelNo}
+use Rattle.sdd_base.specs.declared.number.TxnNo.{TxnNo}
+use Rattle.sdd_base.specs.declared.site.Site.TheVariants.{D}
+use Rattle.sdd_catalog.specs.Catalogue.{has_copy}
+use Rattle.sdd_catalog.specs.Rules.{IsSound}
+use Rattle.sdd_copy.specs.Contents.{contents}
+use Rattle.sdd_dm.specs.Copies.{dated}
+use Rattle.sdd_lang.specs.Agree.{rows_in_fragment}
+use Rattle.sdd_lang.specs.Database.{Row}
+use Rattle.sdd_order.specs.Orders.{IsSerial}
+use Rattle.sdd_laws.specs.Deeds.{AppliedBefore}
+use Rattle.sdd_laws.specs.Replay.{AreAllApplied, run}
+use Rattle.sdd_laws.specs.Snapshots.{items_of}
+use Rattle.sdd_log.specs.Entries.{Given, Log, history}
+use Rattle.sdd_log.specs.Locals.{local_of, setting_of}
+use Rattle.sdd_lawful.specs.Given.{HasSoundData}
+use Rattle.sdd_lawful.proofs.Applied.{applied_before}
+use Rattle.sdd_lawful.proofs.Committed.{committed_in}
+use Rattle.sdd_lawful.proofs.Started.{start_in}
+use Rattle.sdd_lawful.proofs.Starts.{start_within}
+use Rattle.sdd_lawful.proofs.Together.{copies}
+use Rattle.sdd_lawful.proofs.Touched.{copy_module, touches_some}
+use Rattle.sdd_progress.proofs.Applied.{all_applied}
+use Rattle.sdd_progress.proofs.ErasOf.{are_eras_of}
+use Rattle.sdd_progress.proofs.OwnCopies.{own_copy}
+use Rattle.sdd_progress.specs.Eras.{eras_of}
+use Rattle.sdd_progress.specs.Finished.{IsIdle}
+use Rattle.sdd_progress.specs.Premises.{HasSoundLists}
+use Rattle.sdd_progress.specs.Quiet.{IsQuiet}
+
+-- what changes a fragment is applied at each copy
+pub applied_at_copies : (g : Given) (log : Log) (f d : ℕ) → IsSound g.catalogue → IsQuiet g log → HasSoundLists g log → IsIdle g log
+    → has_copy g.catalogue d f ≡ true → AreAllApplied (history log) f d (length (history log))
+applied_at_copies g log f d sound h lists idle copied t c e =
+    let m = copy_module g.catalogue sound d f copied in
+    let x = committed_in g log t sound h.permitted c in
+    let within = start_within g log (eras_of g log) t.start (are_eras_of g log lists) (start_in g log t.start sound h.permitted c.started) in
+    let some = touches_some g log t x d (record { fragment = f; changed = e; copied = copied }) in
+    let applied = all_applied g log t.start.class d x.later x.before x.bases x.running h sound within m
+    (idle.processed t.start.class d within m) x.is (inr some) in
+    subst (λ n. AppliedBefore (history log) n d (length (history log))) x.txn_is
+    (applied_before g log [] log (dm_no d) t.start.class x.running refl h.permitted applied)
+
+-- and each module has there what a serial run leaves
+pub serial_copies : (g : Given) (rows : List (RelNo × Row)) (log : Log) (order : List TxnNo) (f d : ℕ)
+    → IsSound g.catalogue → IsQuiet g log → HasSoundLists g log → IsIdle g log
+    → HasSoundData g rows → IsSerial g.catalogue (history log) order → has_copy g.catalogue d f ≡ true
+    → rows_in_fragment g.catalogue (run g.catalogue rows g.txns order).1 f ≡ items_of g.catalogue f
+    (contents f (dated (setting_of g (D (dm_no d))) (local_of g (D (dm_no d)) log)))
+serial_copies g rows log order f d sound h lists idle fine serial copied =
+    copies g rows (eras_of g log) log order sound fine h.permitted (are_eras_of g log lists) serial f d (length (history log))
+    (applied_at_copies g log f d sound h lists idle copied)
+    ∙ ap (items_of g.catalogue f) (sym (own_copy g rows log f d sound h lists fine copied))

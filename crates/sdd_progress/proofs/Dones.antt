@@ -1,0 +1,171 @@
+-- Where nothing goes on and all WRITEs are applied, the module for undeclared transactions has counted the DONE of each data
+-- module for its last Commit.
+use Rattle.std.proofs.Common.{ℕ, ◌+◌, ◌++◌, ◌<◌, ◌==◌, ◌∙◌, ◌∷◌, ◌≡◌, ◌≤◌, Bool, List, Some, [], ap, arith, false, if◌then◌else◌, inl, inr, refl, slice_get, suc, subst, sym, true, zero}
+use Rattle.sdd_base.specs.Numbers.{dm_no, time_at}
+use Rattle.sdd_base.specs.Sites.{number_of, same_site}
+use Rattle.sdd_base.specs.declared.number.ClassNo.{ClassNo}
+use Rattle.sdd_base.specs.declared.number.DmNo.{DmNo}
+use Rattle.sdd_base.specs.declared.number.Ts.{Ts}
+use Rattle.sdd_base.specs.declared.number.TxnNo.{TxnNo}
+use Rattle.sdd_base.specs.declared.site.Site.{Site}
+use Rattle.sdd_base.specs.declared.site.Site.TheVariants.{D, T, U}
+use Rattle.sdd_catalog.specs.Catalogue.{numbers_to}
+use Rattle.sdd_catalog.specs.Rules.{IsSound}
+use Rattle.sdd_history.specs.declared.record.Rec.{Rec}
+use Rattle.sdd_history.specs.declared.record.Rec.TheVariants.{Apply}
+use Rattle.sdd_wire.specs.declared.msg.Msg.{Msg}
+use Rattle.sdd_wire.specs.declared.msg.Msg.TheVariants.{Done}
+use Rattle.sdd_module.specs.SiteLog.{Act, Bases, Did, Each, Handed, Records, Redeclared, Setting, Submits, Ticked, sends_of_act}
+use Rattle.sdd_module.specs.SiteLog as site
+use Rattle.sdd_order.specs.Numbers.{IsModule}
+use Rattle.sdd_attempt.specs.Acts.{commit_act}
+use Rattle.sdd_attempt.specs.Attempts.{Attempt}
+use Rattle.sdd_dm.specs.Due.{done_for}
+use Rattle.sdd_umod.specs.Views.{last_served}
+use Rattle.sdd_log.specs.Entries.{Does, Given, Log}
+use Rattle.sdd_log.specs.Locals.{local_of, setting_of}
+use Rattle.sdd_invariants.proofs.Active.{each_at}
+use Rattle.sdd_invariants.proofs.Bools.{same_number, same_or_not}
+use Rattle.sdd_invariants.proofs.Dones.{dones_few}
+use Rattle.sdd_invariants.proofs.Fair.{d_fair, u_fair}
+use Rattle.sdd_invariants.proofs.HoldChain.{u_table}
+use Rattle.sdd_invariants.proofs.Origins.{is_put}
+use Rattle.sdd_invariants.proofs.Turns.{tally_append}
+use Rattle.sdd_invariants.specs.ReadSteps.{IsDueEach, IsOfWrite}
+use Rattle.sdd_invariants.specs.Releases.{dones_of, is_done_of}
+use Rattle.sdd_invariants.specs.Traffic.{hands_from, puts_to, to_site}
+use Rattle.sdd_invariants.specs.Turns.{one_if, tally}
+use Rattle.sdd_obligations.proofs.DataSteps.{IsDataStep, answers_read, applies, arrives, data_step, passes, refuses_read, replies, waits_for}
+use Rattle.sdd_lawful.proofs.Applied.{HasResult, result_in}
+use Rattle.sdd_progress.proofs.Applied.{all_applied}
+use Rattle.sdd_progress.proofs.CountedDones.{all_current, counted_off}
+use Rattle.sdd_progress.proofs.Handed.{all_handed}
+use Rattle.sdd_progress.proofs.Still.{home_linked}
+use Rattle.sdd_progress.specs.Finished.{IsIdle}
+use Rattle.sdd_progress.specs.Quiet.{IsQuiet, at_module}
+
+-- one module's DONEs, and those of n modules from module a on
+
+abbrev from_module : ℕ → site.Log → ℕ → ℕ
+from_module x l d = tally (is_done_of x) (hands_from (D (dm_no d)) l)
+
+abbrev sum_from : (ℕ → ℕ) → ℕ → ℕ → ℕ
+sum_from f zero a = 0
+sum_from f (suc n) a = f a + sum_from f n (a + 1)
+
+above_not : (d e : ℕ) → e < d → (d == e) ≡ false
+above_not d e l = elim (same_or_not d e) [ inl p ↦ absurd (omega (arith, l, p)) | inr p ↦ p ]
+
+sum_same : (f h : ℕ → ℕ) (n a : ℕ) → ((d : ℕ) → a ≤ d → h d ≡ f d) → sum_from h n a ≡ sum_from f n a
+sum_same f h zero a e = refl
+sum_same f h (suc n) a e =
+    let i = sum_same f h n (a + 1) (λ d l. e d (omega (arith, l))) in let j = e a (omega arith) in omega (arith, i, j)
+
+sum_one_more : (f h : ℕ → ℕ) (e more n a : ℕ) → ((d : ℕ) → (d == e) ≡ false → h d ≡ f d) → h e ≤ f e + more → sum_from h n a ≤ sum_from f n a + more
+sum_one_more f h e more zero a same up = omega arith
+sum_one_more f h e more (suc n) a same up = elim (same_or_not a e) [
+  | inl p ↦ (let here : h a ≤ f a + more = subst (λ x. h x ≤ f x + more) (sym p) up in
+      let rest = sum_same f h n (a + 1) (λ d l. same d (above_not d e (omega (arith, l, p)))) in omega (arith, here, rest))
+  | inr p ↦ (let here = same a p in let i = sum_one_more f h e more n (a + 1) same up in omega (arith, here, i))
+]
+
+hand_adds : (f : Msg → Bool) (b : Bool) (ms : List Msg) (m : Msg) → tally f (if b then ms ++ m ∷ [] else ms) ≤ tally f ms + one_if (f m)
+hand_adds f true ms m = let a = tally_append f ms (m ∷ []) in omega (arith, a)
+hand_adds f false ms m = omega arith
+
+other_site : (from : Site) (d : ℕ) → (d == number_of from) ≡ false → same_site (D (dm_no d)) from ≡ false
+other_site U d e = refl
+other_site (T t) d e = refl
+other_site (D c) d e = e
+
+none_added : (f : Msg → Bool) (b : Bool) (ms : List Msg) (m : Msg) → b ≡ false → tally f (if b then ms ++ m ∷ [] else ms) ≡ tally f ms
+none_added f true ms m e = cc
+none_added f false ms m e = refl
+
+nothing : (n a : ℕ) → sum_from (λ d. 0) n a ≤ 0
+nothing zero a = omega arith
+nothing (suc n) a = let i = nothing n (a + 1) in omega (arith, i)
+
+dones_of_modules : (x n a : ℕ) (l : site.Log) → sum_from (from_module x l) n a ≤ dones_of x l
+dones_of_modules x n a [] = nothing n a
+dones_of_modules x n a (Handed from m ∷ l) =
+    let i = dones_of_modules x n a l in
+    let j = sum_one_more (from_module x l) (from_module x (Handed from m ∷ l)) (number_of from) (one_if (is_done_of x m)) n a
+    (λ d e. none_added (is_done_of x) (same_site (D (dm_no d)) from) (hands_from (D (dm_no d)) l) m (other_site from d e))
+    (hand_adds (is_done_of x) (same_site (D (dm_no (number_of from))) from) (hands_from (D (dm_no (number_of from))) l) m) in
+    omega (arith, i, j)
+dones_of_modules x n a (Ticked k ∷ l) = dones_of_modules x n a l
+dones_of_modules x n a (Submits k txn ∷ l) = dones_of_modules x n a l
+dones_of_modules x n a (Redeclared force t ∷ l) = dones_of_modules x n a l
+dones_of_modules x n a (Did act ∷ l) = dones_of_modules x n a l
+
+one_each : (f : ℕ → ℕ) (n a : ℕ) → ((d : ℕ) → a ≤ d → d < a + n → 1 ≤ f d) → n ≤ sum_from f n a
+one_each f zero a h = omega arith
+one_each f (suc n) a h =
+    let i = one_each f n (a + 1) (λ d l m. h d (omega (arith, l)) (omega (arith, m))) in let j = h a (omega arith) (omega arith) in omega (arith, i, j)
+
+-- the DONE of one module
+
+one_there : (f : Msg → Bool) (ms : List Msg) (k : ℕ) (m : Msg) → slice_get ms k ≡ Some m → f m ≡ true → 1 ≤ tally f ms
+one_there f [] k m e p = cc
+one_there f (x ∷ ms) zero m e p = let q : x ≡ m = cc in let o : one_if (f x) ≡ 1 = ap one_if (subst (λ y. f y ≡ true) (sym q) p) in omega (arith, o)
+one_there f (x ∷ ms) (suc k) m e p = let i = one_there f ms k m e p in omega (arith, i)
+
+-- an Apply of class 0 sends a DONE
+sends_done : (s : Setting) (l : site.Log) (t : Ts) (j : ClassNo) (txn : TxnNo) (dm : DmNo)
+    (sends : List (Site × Msg)) → IsDataStep s l (Records 0 (Apply txn j dm t) sends)
+    → sends ≡ (U, Done t) ∷ []
+sends_done s l t j txn dm sends (applies c ts k x changes e is) =
+    let class : 0 ≡ c = cc in
+    let time : t ≡ ts = cc in
+    let what : sends ≡ done_for c (Done ts) = cc in
+    what ∙ ap (λ y. done_for y (Done ts)) (sym class) ∙ ap (λ y. (U, Done y) ∷ []) (sym time)
+sends_done s l t j txn dm sends (arrives k n a e) = cc
+sends_done s l t j txn dm sends (replies k o m a b e) = cc
+sends_done s l t j txn dm sends (answers_read c ts k n a conds uses here hd e) = cc
+sends_done s l t j txn dm sends (refuses_read c ts k n a conds uses by write here hd e) = cc
+sends_done s l t j txn dm sends (waits_for c n a conds e) = cc
+sends_done s l t j txn dm sends (passes c k time hd e) = cc
+
+done_put : (g : Given) (log : Log) (d n : ℕ) (ts : ℕ) (r : Rec) → IsQuiet g log → IsOfWrite (time_at ts) 0 n r → HasResult 0 (at_module g d log) r
+    → (k : ℕ) × (slice_get (puts_to U (at_module g d log)) k ≡ Some (Done (time_at ts)))
+done_put g log d n ts (Apply txn j dm t) h of x =
+    let s : Setting = setting_of g (D (dm_no d)) in
+    let act : Act = Records 0 (Apply txn j dm t) x.sends in
+    let due = (each_at (IsDueEach s) x.later (Did act) x.before (subst (Each (IsDueEach s)) x.is (d_fair g (dm_no d) log h.permitted))).0 in
+    let sends : x.sends ≡ (U, Done (time_at ts)) ∷ [] =
+    sends_done s x.before t j txn dm x.sends (data_step s x.before act due)
+    ∙ ap (λ y. (U, Done y) ∷ []) of.1 in
+    let one : slice_get (to_site U (sends_of_act act)) 0 ≡ Some (Done (time_at ts)) = ap (λ y. slice_get (to_site U y) 0) sends in
+    let p = is_put U x.later act x.before 0 (Done (time_at ts)) one in
+    (p.0, subst (λ l. slice_get (puts_to U l) p.0 ≡ Some (Done (time_at ts))) (sym x.is) p.1)
+done_put g log d n ts r h of x = absurd of
+
+pub all_done : (g : Given) (log : Log) (later before : Log) (bases : Bases) (a : Attempt) → IsQuiet g log → IsSound g.catalogue → IsIdle g log
+    → log ≡ later ++ Does U (commit_act g.catalogue bases 0 a) ∷ before → g.catalogue.dms ≤ dones_of a.ts (local_of g U log)
+all_done g log later before bases a h sound idle is =
+    let each : (d : ℕ) → 1 ≤ d → d < 1 + g.catalogue.dms → 1 ≤ from_module a.ts (local_of g U log) d =
+    λ d l m.
+    (let in_range : IsModule g.catalogue d = (l, omega (arith, m)) in
+    let x = all_applied g log 0 d later before bases a h sound (omega arith) in_range (idle.processed 0 d (omega arith) in_range) is (inl refl) in
+    let p = done_put g log d a.txn a.ts x.rec h x.is (result_in 0 (at_module g d log) x.place x.rec x.there) in
+    let same = all_handed g log (D (dm_no d)) U h (home_linked g.catalogue 0 d sound (omega arith) in_range).1 in
+    one_there (is_done_of a.ts) (hands_from (D (dm_no d)) (local_of g U log)) p.0 (Done (time_at a.ts))
+    (subst (λ ms. slice_get ms p.0 ≡ Some (Done (time_at a.ts))) (sym same) p.1) (same_number a.ts)) in
+    let n = one_each (from_module a.ts (local_of g U log)) g.catalogue.dms 1 each in
+    let m = dones_of_modules a.ts g.catalogue.dms 1 (local_of g U log) in
+    omega (arith, n, m)
+
+-- so it has counted them all
+pub dones_counted : (g : Given) (log : Log) (k t : ℕ) (later before : Log) (bases : Bases) (a : Attempt) → IsQuiet g log → IsSound g.catalogue → IsIdle g log
+    → slice_get (numbers_to g.catalogue.tms) k ≡ Some t → log ≡ later ++ Does U (commit_act g.catalogue bases 0 a) ∷ before
+    → (last_served (setting_of g U) (local_of g U log)).ts ≡ a.ts → (last_served (setting_of g U) (local_of g U log)).dones ≡ g.catalogue.dms
+dones_counted g log k t later before bases a h sound idle i is ts =
+    let s : Setting = setting_of g U in
+    let c = counted_off s (local_of g U log) (omega arith) (u_fair g log h.permitted) (u_table g log h.permitted) (all_current g k t i log h.permitted) in
+    let most = dones_few g log a.ts h.permitted in
+    let least = all_done g log later before bases a h sound idle is in
+    let same : dones_of (last_served s (local_of g U log)).ts (local_of g U log) ≡ dones_of a.ts
+    (local_of g U log) = ap (λ x. dones_of x (local_of g U log)) ts in
+    let counted = c.counted in
+    omega (arith, most, least, same, counted)

@@ -1,0 +1,224 @@
+-- The eras of a log that puts several lists of classes in force.
+use Rattle.std.specs.Prelude.{filter, slice_index_or}
+use Rattle.std.proofs.Common.{ℕ, suc, zero, ◌++◌, ◌+◌, ◌-◌, ◌<◌, ◌∙◌, ◌∷◌, ◌≡◌, ◌≤◌, ◌⊎◌, List, Option, Some, [], ap, append_assoc, arith, cond, false, inl, inr, length, nat_le, refl, slice_get, subst, sym, true}
+use Rattle.std.proofs.lemmas.Bool.{le-leb}
+use Rattle.std.proofs.lemmas.List.{length-append}
+use Rattle.sdd_catalog.specs.Catalogue.{Catalogue}
+use Rattle.sdd_log.specs.Entries.{Does, Entry, Given, Hand, Log, Mark, Notes, Redeclares, Round, Submitted, marks}
+use Rattle.sdd_log.specs.Locals.{force_at, redeclares}
+use Rattle.sdd_eras.specs.EraOf.{IsEraOf}
+use Rattle.sdd_laws.specs.Eras.{AreEras, Eras, begun, in_force}
+use Rattle.sdd_invariants.proofs.Bools.{true_or_false}
+use Rattle.sdd_invariants.proofs.Lists.{at_seam, in_left, place_within}
+use Rattle.sdd_invariants.proofs.Split.{le_is}
+use Rattle.sdd_lawful.specs.Given.{AreErasOf}
+use Rattle.sdd_progress.proofs.SinceRedeclare.{redeclares_back}
+use Rattle.sdd_progress.specs.Eras.{eras_of}
+use Rattle.sdd_progress.specs.Premises.{HasSoundLists}
+
+-- a member of a list with one more at its end
+at_snoc : {A : Type 0} (xs : List A) (y : A) (k : ℕ) (m : A) → slice_get (xs ++ y ∷ []) k ≡ Some m
+    → (slice_get xs k ≡ Some m) ⊎ ((k ≡ length xs) × (y ≡ m))
+at_snoc [] y zero m e = let p : y ≡ m = cc in inr (refl, p)
+at_snoc [] y (suc k) m e = cc
+at_snoc (x ∷ xs) y zero m e = inl e
+at_snoc (x ∷ xs) y (suc k) m e = elim (at_snoc xs y k m e) [
+  | inl p ↦ inl p
+  | inr p ↦ inr (ap (λ n. suc n) p.0, p.1)
+]
+
+-- an era of the log: its list, and that it has begun
+abbrev IsNumbered : Given → Log → Type 0
+IsNumbered g log = (k : ℕ) (a : ℕ × Catalogue) → slice_get (eras_of g log) k ≡ Some a → (a.1 ≡ (force_at g k).catalogue) × (a.0 ≤ marks log)
+
+len : (g : Given) (log : Log) → length (eras_of g log) ≡ suc (redeclares log)
+len g [] = refl
+len g (Redeclares t ∷ log) =
+    let i = len g log in
+    let j = length-append (eras_of g log) ((suc (marks log), (force_at g (suc (redeclares log))).catalogue) ∷ []) in omega (arith, i, j)
+len g (Mark e ∷ log) = len g log
+len g (Round es ∷ log) = len g log
+len g (Hand a b n m ∷ log) = len g log
+len g (Submitted at n ∷ log) = len g log
+len g (Notes ∷ log) = len g log
+len g (Does at act ∷ log) = len g log
+
+later_mark : (g : Given) (log : Log) → IsNumbered g log → (k : ℕ) (a : ℕ × Catalogue) → slice_get (eras_of g log) k ≡ Some a
+    → (a.1 ≡ (force_at g k).catalogue) × (a.0 ≤ suc (marks log))
+later_mark g log h k a e = let r = h k a e in let l = r.1 in (r.0, omega (arith, l))
+
+numbered : (g : Given) (log : Log) → IsNumbered g log
+numbered g [] zero a e = let p : (0, (force_at g 0).catalogue) ≡ a = cc in
+    (ap (λ (x : ℕ × Catalogue). x.1) (sym p), let q : 0 ≡ a.0 = ap (λ (x : ℕ × Catalogue). x.0) p in omega (arith, q))
+numbered g [] (suc k) a e = cc
+numbered g (Redeclares t ∷ log) k a e =
+    let y : ℕ × Catalogue = (suc (marks log), (force_at g (suc (redeclares log))).catalogue) in
+    elim (at_snoc (eras_of g log) y k a e) [
+      | inl p ↦ later_mark g log (numbered g log) k a p
+      | inr p ↦ (let n : k ≡ suc (redeclares log) = p.0 ∙ len g log in
+          let q : suc (marks log) ≡ a.0 = ap (λ (x : ℕ × Catalogue). x.0) p.1 in
+          (ap (λ (x : ℕ × Catalogue). x.1) (sym p.1) ∙ ap (λ i. (force_at g i).catalogue) (sym n), omega (arith, q)))
+    ]
+numbered g (Mark x ∷ log) k a e = later_mark g log (numbered g log) k a e
+numbered g (Round es ∷ log) k a e = numbered g log k a e
+numbered g (Hand b c n m ∷ log) k a e = numbered g log k a e
+numbered g (Submitted at n ∷ log) k a e = numbered g log k a e
+numbered g (Notes ∷ log) k a e = numbered g log k a e
+numbered g (Does at act ∷ log) k a e = numbered g log k a e
+
+rises : (g : Given) (log : Log) (k : ℕ) (a b : ℕ × Catalogue) → slice_get (eras_of g log) k ≡ Some a → slice_get (eras_of g log) (suc k) ≡ Some b → a.0 < b.0
+rises g [] k a b e f = cc
+rises g (Redeclares t ∷ log) k a b e f =
+    let y : ℕ × Catalogue = (suc (marks log), (force_at g (suc (redeclares log))).catalogue) in
+    elim (at_snoc (eras_of g log) y (suc k) b f) [
+      | inl p ↦ elim (at_snoc (eras_of g log) y k a e) [
+        | inl q ↦ rises g log k a b q p
+        | inr q ↦ (let l = place_within (eras_of g log) (suc k) b p in let n = q.0 in absurd (omega (arith, l, n)))
+      ]
+      | inr p ↦ elim (at_snoc (eras_of g log) y k a e) [
+        | inl q ↦ (let l = (numbered g log k a q).1 in
+            let n : suc (marks log) ≡ b.0 = ap (λ (x : ℕ × Catalogue). x.0) p.1 in omega (arith, l, n))
+        | inr q ↦ (let n = q.0 in let m = p.0 in absurd (omega (arith, n, m)))
+      ]
+    ]
+rises g (Mark x ∷ log) k a b e f = rises g log k a b e f
+rises g (Round es ∷ log) k a b e f = rises g log k a b e f
+rises g (Hand c d n m ∷ log) k a b e f = rises g log k a b e f
+rises g (Submitted at n ∷ log) k a b e f = rises g log k a b e f
+rises g (Notes ∷ log) k a b e f = rises g log k a b e f
+rises g (Does at act ∷ log) k a b e f = rises g log k a b e f
+
+first : (g : Given) (log : Log) → slice_get (eras_of g log) 0 ≡ Some (0, (force_at g 0).catalogue)
+first g [] = refl
+first g (Redeclares t ∷ log) = in_left (eras_of g log) _ 0 (0, (force_at g 0).catalogue) (first g log)
+first g (Mark x ∷ log) = first g log
+first g (Round es ∷ log) = first g log
+first g (Hand c d n m ∷ log) = first g log
+first g (Submitted at n ∷ log) = first g log
+first g (Notes ∷ log) = first g log
+first g (Does at act ∷ log) = first g log
+
+-- those of a log go on in a longer one
+stays : (g : Given) (later log : Log) (k : ℕ) (a : ℕ × Catalogue) → slice_get (eras_of g log) k ≡ Some a → slice_get (eras_of g (later ++ log)) k ≡ Some a
+stays g [] log k a e = e
+stays g (Redeclares t ∷ later) log k a e = in_left (eras_of g (later ++ log)) _ k a (stays g later log k a e)
+stays g (Mark x ∷ later) log k a e = stays g later log k a e
+stays g (Round es ∷ later) log k a e = stays g later log k a e
+stays g (Hand c d n m ∷ later) log k a e = stays g later log k a e
+stays g (Submitted at n ∷ later) log k a e = stays g later log k a e
+stays g (Notes ∷ later) log k a e = stays g later log k a e
+stays g (Does at act ∷ later) log k a e = stays g later log k a e
+
+-- the last one
+last : (g : Given) (log : Log) → (a : ℕ × Catalogue) × (slice_get (eras_of g log) (redeclares log) ≡ Some a) × (a.1 ≡ (force_at g (redeclares log)).catalogue)
+last g [] = ((0, (force_at g 0).catalogue), refl, refl)
+last g (Redeclares t ∷ log) =
+    let y : ℕ × Catalogue = (suc (marks log), (force_at g (suc (redeclares log))).catalogue) in
+    (y, ap (slice_get (eras_of g log ++ y ∷ [])) (sym (len g log)) ∙ at_seam (eras_of g log) [] y, refl)
+last g (Mark x ∷ log) = last g log
+last g (Round es ∷ log) = last g log
+last g (Hand c d n m ∷ log) = last g log
+last g (Submitted at n ∷ log) = last g log
+last g (Notes ∷ log) = last g log
+last g (Does at act ∷ log) = last g log
+
+-- how many have begun
+
+one_up : (a b c : ℕ) → a ≡ b + c → suc a ≡ suc b + c
+one_up a b c e = omega (arith, e)
+
+none_begun : (n m : ℕ) (y : ℕ × Catalogue) → m < n → length (cond (nat_le n m) (y ∷ []) []) ≡ 0
+none_begun n m y l = elim (true_or_false (nat_le n m)) [
+  | inl p ↦ (let q = le_is n m p in absurd (omega (arith, l, q)))
+  | inr p ↦ rw p refl
+]
+
+one_begun : (n m : ℕ) (y : ℕ × Catalogue) → n ≤ m → length (cond (nat_le n m) (y ∷ []) []) ≡ 1
+one_begun n m y l = rw (le-leb n m l) refl
+
+sum_one : (a b c d : ℕ) → a ≡ b + c → b ≡ d → c ≡ 1 → a ≡ suc d
+sum_one a b c d e f g = omega (arith, e, f, g)
+
+sum_none : (a b c d : ℕ) → a ≡ b + c → b ≡ d → c ≡ 0 → a ≡ d
+sum_none a b c d e f g = omega (arith, e, f, g)
+
+begun_more : (eras : Eras) (y : ℕ × Catalogue) (event : ℕ) → begun (eras ++ y ∷ []) event ≡ begun eras event + length (cond (nat_le y.0 event) (y ∷ []) [])
+begun_more [] y event = elim (nat_le y.0 event) as (λ b. length (cond b (y ∷ []) []) ≡ 0 + length (cond b (y ∷ []) [])) [ true ↦ refl | false ↦ refl ]
+begun_more (x ∷ eras) y event =
+    let i = begun_more eras y event in
+    elim (nat_le x.0 event) as (λ b. length (cond b (x ∷ filter (λ e. nat_le e.0 event) (eras ++ y ∷ [])) (filter (λ e. nat_le e.0 event) (eras ++ y ∷ [])))
+    ≡ length (cond b (x ∷ filter (λ e. nat_le e.0 event) eras) (filter (λ e. nat_le e.0 event) eras)) + length (cond (nat_le y.0 event) (y ∷ []) [])) [
+      | true ↦ one_up _ _ _ i
+      | false ↦ i
+    ]
+
+begun_all : (g : Given) (log : Log) (n : ℕ) → marks log ≤ n → begun (eras_of g log) n ≡ suc (redeclares log)
+begun_all g [] n l = one_begun 0 n (0, (force_at g 0).catalogue) (omega arith)
+begun_all g (Redeclares t ∷ log) n l =
+    let y : ℕ × Catalogue = (suc (marks log), (force_at g (suc (redeclares log))).catalogue) in
+    let low : suc (marks log) ≤ n = l in
+    sum_one _ _ _ _ (begun_more (eras_of g log) y n) (begun_all g log n (omega (arith, low))) (one_begun (suc (marks log)) n y low)
+begun_all g (Mark x ∷ log) n l = let low : suc (marks log) ≤ n = l in begun_all g log n (omega (arith, low))
+begun_all g (Round es ∷ log) n l = begun_all g log n l
+begun_all g (Hand c d k m ∷ log) n l = begun_all g log n l
+begun_all g (Submitted at k ∷ log) n l = begun_all g log n l
+begun_all g (Notes ∷ log) n l = begun_all g log n l
+begun_all g (Does at act ∷ log) n l = begun_all g log n l
+
+marks_up : (later log : Log) → marks log ≤ marks (later ++ log)
+marks_up [] log = omega arith
+marks_up (Mark x ∷ later) log = let i = marks_up later log in omega (arith, i)
+marks_up (Redeclares t ∷ later) log = let i = marks_up later log in omega (arith, i)
+marks_up (Round es ∷ later) log = marks_up later log
+marks_up (Hand c d k m ∷ later) log = marks_up later log
+marks_up (Submitted at k ∷ later) log = marks_up later log
+marks_up (Notes ∷ later) log = marks_up later log
+marks_up (Does at act ∷ later) log = marks_up later log
+
+-- those that a longer log has more begin later
+begun_later : (g : Given) (later log : Log) → begun (eras_of g (later ++ log)) (marks log) ≡ begun (eras_of g log) (marks log)
+begun_later g [] log = refl
+begun_later g (Redeclares t ∷ later) log =
+    let y : ℕ × Catalogue = (suc (marks (later ++ log)), (force_at g (suc (redeclares (later ++ log)))).catalogue) in
+    let up = marks_up later log in
+    sum_none _ _ _ _ (begun_more (eras_of g (later ++ log)) y (marks log)) (begun_later g later log)
+    (none_begun (suc (marks (later ++ log))) (marks log) y (omega (arith, up)))
+begun_later g (Mark x ∷ later) log = begun_later g later log
+begun_later g (Round es ∷ later) log = begun_later g later log
+begun_later g (Hand c d k m ∷ later) log = begun_later g later log
+begun_later g (Submitted at k ∷ later) log = begun_later g later log
+begun_later g (Notes ∷ later) log = begun_later g later log
+begun_later g (Does at act ∷ later) log = begun_later g later log
+
+pub begun_is : (g : Given) (log later before : Log) → log ≡ later ++ before → begun (eras_of g log) (marks before) ≡ suc (redeclares before)
+begun_is g log later before is = ap (λ l. begun (eras_of g l) (marks before)) is ∙ begun_later g later before ∙ begun_all g before (marks before) (omega arith)
+
+index_or : {A : Type 0} (xs : List A) (k : ℕ) (d m : A) → slice_get xs k ≡ Some m → slice_index_or xs k d ≡ m
+index_or [] k d m e = cc
+index_or (x ∷ xs) zero d m e = let p : x ≡ m = cc in p
+index_or (x ∷ xs) (suc k) d m e = index_or xs k d m e
+
+in_force_is : (g : Given) (log later before : Log) → log ≡ later ++ before → in_force g.catalogue (eras_of g log) (marks before) ≡ (force_at g (redeclares before)).catalogue
+in_force_is g log later before is =
+    let a = last g before in
+    let there : slice_get (eras_of g log) (redeclares before) ≡ Some a.0 =
+    subst (λ l. slice_get (eras_of g l) (redeclares before) ≡ Some a.0) (sym is) (stays g later before (redeclares before) a.0 a.1) in
+    let one : suc (redeclares before) - 1 ≡ redeclares before = omega arith in
+    ap (λ n. (slice_index_or (eras_of g log) (n - 1) (0, g.catalogue)).1) (begun_is g log later before is)
+    ∙ ap (λ n. (slice_index_or (eras_of g log) n (0, g.catalogue)).1) one
+    ∙ ap (λ (x : ℕ × Catalogue). x.1) (index_or (eras_of g log) (redeclares before) (0, g.catalogue) a.0 there) ∙ a.2
+
+pub are_eras_of : (g : Given) (log : Log) → HasSoundLists g log → AreErasOf g log (eras_of g log)
+are_eras_of g log lists = record {
+  are_eras = record {
+    first = ((force_at g 0).catalogue, first g log);
+    rise = rises g log;
+    each = λ k a e. (let n = numbered g log k a e in
+        let l = place_within (eras_of g log) k a e in let c = len g log in
+        subst (IsEraOf g.catalogue) (sym n.0) (lists k (omega (arith, l, c))).era);
+  };
+  force_is = in_force_is g log;
+  tabled = λ later before is. (let l = redeclares_back later before in
+      let e : redeclares log ≡ redeclares (later ++ before) = ap redeclares is in
+      (lists (redeclares before) (omega (arith, l, e))).table);
+}

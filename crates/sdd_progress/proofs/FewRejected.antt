@@ -1,0 +1,133 @@
+-- A transaction's rejected attempts are at most the Commits of other transactions: those before the last have a writer
+-- each, since another attempt started after them; and so has the last, by its Reject.
+use Rattle.std.proofs.Common.{ℕ, zero, suc, ◌≤◌, ◌==◌, ◌≡◌, true, ◌&&◌, List, refl, ap, ◌∙◌, subst, inl, inr, arith}
+use Rattle.std.specs.Prelude.{option_map}
+use Rattle.std.proofs.lemmas.Bool.{and_parts, cases_Bool, eqb-true}
+use Rattle.sdd_base.specs.Numbers.{class_no, dm_no, time_at, txn_no}
+use Rattle.sdd_catalog.specs.Catalogue.{Catalogue}
+use Rattle.sdd_history.specs.declared.record.Rec.{Rec}
+use Rattle.sdd_history.specs.declared.record.Rec.TheVariants.{Submit, Start, Arrive, Wait, Answer, Reject, Commit, Apply, Pass, Nothing}
+use Rattle.sdd_history.specs.Records.{History}
+use Rattle.sdd_lang.specs.declared.transaction.Txn.{Txn}
+use Rattle.sdd_order.specs.Attempts.{Attempt, IsAttempt}
+use Rattle.sdd_order.specs.Places.{Stands}
+use Rattle.sdd_laws.specs.Eras.{Eras}
+use Rattle.sdd_laws.specs.Few.{commits_of_others, starts_of}
+use Rattle.sdd_laws.specs.Rejections.{KeepsRejections}
+use Rattle.sdd_laws.specs.Starts.{KeepsStarts, is_start_of, starts_before}
+use Rattle.sdd_invariants.proofs.Lists.{any_at}
+use Rattle.sdd_progress.specs.Few.{AreFewRejected, is_reject_of, is_rejected, is_rejected_start, rejected_of}
+use Rattle.sdd_progress.specs.Rejects.{KeepsRejects}
+use Rattle.sdd_progress.proofs.Last.{fewer, last_passing, less}
+use Rattle.sdd_progress.proofs.Writers.{WritersBelow, low_of_condition, low_time, one_more, writers, writers_count}
+
+-- a Start at a place is that of an attempt
+pub record IsStartAt (h : History) (n k : ℕ) (r : Rec) : Type 0 where
+  pub attempt : Attempt
+  pub started : IsAttempt h attempt
+  pub txn_is : attempt.txn ≡ n
+  pub place_is : attempt.place ≡ k
+  pub rejected_is : is_rejected_start h n r ≡ is_rejected h n attempt.number
+
+start_at : (h : History) (n k : ℕ) (r : Rec) → Stands h k r → is_start_of n r ≡ true → IsStartAt h n k r
+start_at h n k (Start txn attempt class ts p2 uses) s t =
+    record {
+      attempt = record { txn = txn.0; number = attempt; class = class.0; ts = ts.0; p2 = p2; uses = uses; place = k };
+      started = s;
+      txn_is = eqb-true txn.0 n t;
+      place_is = refl;
+      rejected_is = ap (λ b. b && is_rejected h n attempt) t;
+    }
+start_at h n k (Submit txn) s t = absurd (cc)
+start_at h n k (Arrive txn attempt dm) s t = absurd (cc)
+start_at h n k (Wait txn attempt dm conds) s t = absurd (cc)
+start_at h n k (Answer txn attempt dm) s t = absurd (cc)
+start_at h n k (Reject txn attempt dm class ts) s t = absurd (cc)
+start_at h n k (Commit txn attempt reply changes values rows) s t = absurd (cc)
+start_at h n k (Apply txn class dm ts) s t = absurd (cc)
+start_at h n k (Pass class dm time) s t = absurd (cc)
+start_at h n k Nothing s t = absurd (cc)
+
+within : (h : History) (n : ℕ) (r : Rec) → is_rejected_start h n r ≡ true → is_start_of n r ≡ true
+within h n (Start txn attempt class ts p2 uses) t = (and_parts (txn.0 == n) (is_rejected h n attempt) t).0
+within h n (Submit txn) t = absurd (cc)
+within h n (Arrive txn attempt dm) t = absurd (cc)
+within h n (Wait txn attempt dm conds) t = absurd (cc)
+within h n (Answer txn attempt dm) t = absurd (cc)
+within h n (Reject txn attempt dm class ts) t = absurd (cc)
+within h n (Commit txn attempt reply changes values rows) t = absurd (cc)
+within h n (Apply txn class dm ts) t = absurd (cc)
+within h n (Pass class dm time) t = absurd (cc)
+within h n Nothing t = absurd (cc)
+
+-- a Reject of an attempt
+pub record IsRejectAt (h : History) (n number : ℕ) : Type 0 where
+  pub place : ℕ
+  pub dm : ℕ
+  pub class : ℕ
+  pub write : ℕ
+  pub stands : Stands h place (Reject (txn_no n) number (dm_no dm) (class_no class) (time_at write))
+
+reject_is : (h : History) (n number k : ℕ) (r : Rec) → Stands h k r → is_reject_of n number r ≡ true → IsRejectAt h n number
+reject_is h n number k (Reject txn attempt dm class ts) s t =
+    let both = and_parts (txn.0 == n) (attempt == number) t in
+    let named : Reject txn attempt dm class ts ≡ Reject (txn_no n) number dm class ts =
+    ap (λ z. Reject (txn_no z) attempt dm class ts) (eqb-true txn.0 n both.0)
+    ∙ ap (λ z. Reject (txn_no n) z dm class ts) (eqb-true attempt number both.1) in
+    record { place = k; dm = dm.0; class = class.0; write = ts.0; stands = subst (Stands h k) named s }
+reject_is h n number k (Submit txn) s t = absurd (cc)
+reject_is h n number k (Start txn attempt class ts p2 uses) s t = absurd (cc)
+reject_is h n number k (Arrive txn attempt dm) s t = absurd (cc)
+reject_is h n number k (Wait txn attempt dm conds) s t = absurd (cc)
+reject_is h n number k (Answer txn attempt dm) s t = absurd (cc)
+reject_is h n number k (Commit txn attempt reply changes values rows) s t = absurd (cc)
+reject_is h n number k (Apply txn class dm ts) s t = absurd (cc)
+reject_is h n number k (Pass class dm time) s t = absurd (cc)
+reject_is h n number k Nothing s t = absurd (cc)
+
+reject_at : (h : History) (n number : ℕ) → is_rejected h n number ≡ true → IsRejectAt h n number
+reject_at h n number e =
+    let i = any_at (λ (x : ℕ × Rec). is_reject_of n number x.1) h e in
+    reject_is h n number i.0 i.1.1 (ap (option_map (λ (x : ℕ × Rec). x.1)) i.2) i.3
+
+module _
+    (cat : Catalogue) (eras : Eras) (txns : List Txn) (h : History)
+    (starting : KeepsStarts cat eras txns h) (rejecting : KeepsRejections cat eras h) (rejects : KeepsRejects cat eras h)
+  where
+    -- as many writers as attempts up to one that is rejected
+    up_to_rejected : (n number count : ℕ) → number ≡ suc count → IsRejectAt h n number → suc count ≤ commits_of_others h n
+    up_to_rejected n number count e at =
+        let r = rejects n number at.dm at.class at.write at.place at.stands in
+        let least = low_of_condition cat eras txns h starting r.attempt at.dm r.cond r.started r.condition in
+        let late = r.late in
+        let time = r.writer_time in
+        let before : WritersBelow h n (low_time r.attempt) count =
+        subst (λ z. WritersBelow h z (low_time r.attempt) count) r.txn_is
+        (writers cat eras txns h starting rejecting count r.attempt r.started (r.number_is ∙ e)) in
+        let all = one_more cat eras txns h starting n (low_time r.attempt) count r.writer r.committed r.other (omega arith) before in
+        writers_count h n (suc r.writer.start.ts) (suc count) all
+
+    few_of : (n m : ℕ) → starts_of h n ≡ suc m → rejected_of h n ≤ commits_of_others h n
+    few_of n m e =
+        let l = last_passing (is_start_of n) h m e in
+        let s = start_at h n l.place l.rec l.stands l.passes in
+        let a = s.attempt in
+        let number : a.number ≡ suc m =
+        starting.numbered a s.started ∙ ap suc (ap (λ z. starts_before h z a.place) s.txn_is ∙ ap (λ z. starts_before h n z) s.place_is ∙ l.before) in
+        let few = fewer (is_rejected_start h n) (is_start_of n) (within h n) h in
+        elim (cases_Bool (is_rejected h n a.number)) [
+          | inl rejected ↦ let all = up_to_rejected n a.number m number (reject_at h n a.number rejected) in omega arith
+          | inr not_rejected ↦
+              let fewer_by_one = less (is_rejected_start h n) (is_start_of n) (within h n) h l.place l.rec l.stands l.passes (s.rejected_is ∙ not_rejected) in
+              let all = writers_count h a.txn (low_time a) m (writers cat eras txns h starting rejecting m a s.started number) in
+              let same : commits_of_others h a.txn ≡ commits_of_others h n = ap (commits_of_others h) s.txn_is in
+              omega arith
+        ]
+
+    pub are_few_rejected : AreFewRejected h
+    are_few_rejected n =
+        let few = fewer (is_rejected_start h n) (is_start_of n) (within h n) h in
+        elim (starts_of h n) as (λ m. starts_of h n ≡ m → rejected_of h n ≤ commits_of_others h n) [
+          | zero ↦ λ e. omega arith
+          | suc m ↦ λ e. few_of n m e
+        ] refl

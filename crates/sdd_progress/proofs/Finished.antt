@@ -1,0 +1,235 @@
+-- Where nothing goes on and all is idle, no transaction module is on hold and no transaction is in a queue.
+use Rattle.std.specs.List.{list_all}
+use Rattle.std.specs.Prelude.{nat_lt}
+use Rattle.std.proofs.Common.{ℕ, ◌&&◌, ◌-◌, ◌<◌, ◌==◌, ◌∙◌, ◌∷◌, ◌≡◌, ◌≤◌, Bool, List, None, Option, Some, [], ap, arith, false, if◌then◌else◌, inl, inr, is_none, length, not, refl, slice_get, subst, suc, sym, true}
+use Rattle.std.proofs.Math.Decide.{dec_le}
+use Rattle.std.proofs.lemmas.Bool.{eq-eqb, eqb-true, le-ltb, lt-ltb}
+use Rattle.sdd_base.specs.Numbers.{tm_no}
+use Rattle.sdd_base.specs.Words.{head_of}
+use Rattle.sdd_base.specs.declared.site.Site.TheVariants.{T, U}
+use Rattle.sdd_catalog.specs.Catalogue.{Catalogue, class_at, numbers_to}
+use Rattle.sdd_catalog.specs.Rules.{IsSound}
+use Rattle.sdd_catalog.proofs.Sound.{sound_whole}
+use Rattle.sdd_module.specs.SiteLog as site
+use Rattle.sdd_order.specs.Numbers.{IsClass}
+use Rattle.sdd_attempt.specs.Acts.{commit_act}
+use Rattle.sdd_attempt.specs.Attempts.{active}
+use Rattle.sdd_attempt.specs.Queues.{Queued, queue}
+use Rattle.sdd_net.specs.Nets.{is_link}
+use Rattle.sdd_tm.specs.Due as tm
+use Rattle.sdd_tm.specs.Views as tm_views
+use Rattle.sdd_tm.specs.Views.{holds}
+use Rattle.sdd_umod.specs.Due as um
+use Rattle.sdd_umod.specs.Views as um_views
+use Rattle.sdd_umod.specs.Views.{counts, last_served}
+use Rattle.sdd_log.specs.Entries.{Given, Log}
+use Rattle.sdd_log.specs.Locals.{local_of, setting_of}
+use Rattle.sdd_invariants.proofs.Bools.{both, none_not_some, not_both, not_zero, same_or_not}
+use Rattle.sdd_invariants.proofs.HoldChain.{from_u, handed_helds, handed_holds, t_table, u_table}
+use Rattle.sdd_invariants.proofs.Holding.{t_helds}
+use Rattle.sdd_invariants.proofs.Lists.{in_filtered, in_mapped, in_range}
+use Rattle.sdd_invariants.proofs.Made.{place_of_act}
+use Rattle.sdd_invariants.proofs.Serving.{chain}
+use Rattle.sdd_invariants.specs.AtU.{AllZero}
+use Rattle.sdd_invariants.specs.Steps.{home}
+use Rattle.sdd_invariants.specs.Traffic.{hands_from, puts_to}
+use Rattle.sdd_invariants.specs.Turns.{is_a_held, is_a_hold, is_a_release, tally}
+use Rattle.sdd_obligations.proofs.HoldsFit.{at_place, chain_at}
+use Rattle.sdd_lawful.proofs.Homes.{positive}
+use Rattle.sdd_progress.proofs.Dones.{dones_counted}
+use Rattle.sdd_progress.proofs.Handed.{all_handed}
+use Rattle.sdd_progress.proofs.Holds.{holds_needed, last_commit}
+use Rattle.sdd_progress.proofs.Lists.{all_true, if_none, no_head}
+use Rattle.sdd_progress.proofs.NoRejects.{all_served}
+use Rattle.sdd_progress.proofs.Still.{run_at, runs_place, t_site, t_still, u_still}
+use Rattle.sdd_progress.specs.Finished.{IsFinished, IsIdle}
+use Rattle.sdd_progress.specs.Quiet.{IsQuiet, at_home}
+
+-- between U and a T everything was handed over
+
+pub record IsLevel (g : Given) (log : Log) (t : ℕ) : Type 0 where
+  pub helds : (counts t (local_of g U log)).helds ≡ (holds (local_of g (T (tm_no t)) log)).helds
+  pub holds_same : (holds (local_of g (T (tm_no t)) log)).holds ≡ (counts t (local_of g U log)).holds
+  pub releases : (holds (local_of g (T (tm_no t)) log)).releases ≡ (counts t (local_of g U log)).releases
+
+u_to_t : (cat : Catalogue) (t : ℕ) → 1 ≤ t → t ≤ cat.tms → (is_link cat.tms cat.dms U (T (tm_no t)) ≡ true) × (is_link cat.tms cat.dms (T (tm_no t)) U ≡ true)
+u_to_t cat t l m = let s = t_site cat t l m in (rw s refl, rw s refl)
+
+level : (g : Given) (log : Log) (t : ℕ) → IsQuiet g log → 1 ≤ t → t ≤ g.catalogue.tms → IsLevel g log t
+level g log t h l m =
+    let at = T (tm_no t) in
+    let lu : site.Log = local_of g U log in
+    let lt : site.Log = local_of g at log in
+    let link = u_to_t g.catalogue t l m in
+    let down : hands_from U lt ≡ puts_to at lu = all_handed g log U at h link.0 in
+    let up : hands_from at lu ≡ puts_to U lt = all_handed g log at U h link.1 in
+    let c = chain (setting_of g U) (t - 1) t lu (at_place g.catalogue.tms t l m) (u_table g log h.permitted) in
+    let got = handed_holds lt (from_u g at log h.permitted) in
+    record {
+      helds = handed_helds t lu ∙ ap (tally is_a_held) up ∙ sym (t_helds (setting_of g at) lt (t_table g (tm_no t) log h.permitted));
+      holds_same = got.0 ∙ ap (tally is_a_hold) down ∙ sym c.holds_are;
+      releases = got.1 ∙ ap (tally is_a_release) down ∙ sym c.releases_are;
+    }
+
+-- all that U served is released
+
+all_released : (g : Given) (log : Log) (t : ℕ) → IsQuiet g log → IsSound g.catalogue → IsIdle g log → 1 ≤ t → t ≤ g.catalogue.tms
+    → (counts t (local_of g U log)).releases ≡ (last_served (setting_of g U) (local_of g U log)).commits
+all_released g log t h sound idle l m =
+    let s = setting_of g U in
+    let lu : site.Log = local_of g U log in
+    let place = at_place g.catalogue.tms t l m in
+    let c = chain_at g (tm_no t) log l m h.permitted in
+    elim (dec_le (last_served s lu).commits (counts t lu).releases) [
+      | yes p ↦ (let q = c.committed in omega (arith, p, q))
+      | no p ↦ (let less : (counts t lu).releases < (last_served s lu).commits = omega (arith, p) in
+          let last = last_commit s lu (u_table g log h.permitted) (omega (arith, less)) in
+          let at = place_of_act g U log last.later (commit_act g.catalogue last.bases 0 last.attempt) last.before last.is in
+          let dones = dones_counted g log (t - 1) t at.later at.rest last.bases last.attempt h sound idle place at.is last.ts_is in
+          let due : um.release_due g.catalogue (um_views.view_of s lu) (counts t lu) ≡ None = (u_still g log h).releases (t - 1) t place in
+          let off = if_none _ _ due in
+          let on : (nat_lt (counts t lu).releases (last_served s lu).commits && ((last_served s lu).dones ==
+          g.catalogue.dms)) ≡ true = both _ _ (lt-ltb _ _ less) (eq-eqb _ _ dones) in
+          absurd (not_both _ on off))
+    ]
+
+-- a T on hold has told so
+
+run_by : (g : Given) (c t k : ℕ) → slice_get (tm_views.runs (setting_of g (T (tm_no t)))) k ≡ Some c
+    → (1 ≤ c) × (home g.catalogue c ≡ T (tm_no t)) × IsClass g.catalogue c
+run_by g c t k e =
+    let i = in_filtered (λ j. (class_at g.catalogue j).tm.0 == t) (numbers_to (length g.catalogue.classes)) k c e in
+    let r = in_range 1 (length g.catalogue.classes) i.1 c i.2 in
+    let at : (class_at g.catalogue c).tm.0 ≡ t = eqb-true (class_at g.catalogue c).tm.0 t i.0 in
+    let here : home g.catalogue c ≡ T (tm_no (class_at g.catalogue c).tm.0) = rw (not_zero c r.0) refl in
+    (r.0, here ∙ ap (λ n. T (tm_no n)) at, omega (arith, r.1))
+
+all_idle : (g : Given) (log : Log) (t : ℕ) → IsIdle g log → 1 ≤ t
+    → list_all tm_views.is_idle (tm_views.view_of (setting_of g (T (tm_no t))) (local_of g (T (tm_no t)) log)).classes ≡ true
+all_idle g log t idle l =
+    all_true tm_views.is_idle _ (λ k x e.
+    (let r = in_mapped (tm_views.class_view (setting_of g (T (tm_no t))) (local_of g (T (tm_no t)) log)) (tm_views.runs (setting_of g (T (tm_no t)))) k x e in
+    let run = run_by g r.0 t k r.1 in
+    let none = idle.no_attempt r.0 run.2 in
+    let here : active (setting_of g (T (tm_no t))) r.0 (local_of g (T (tm_no t)) log) ≡ None =
+    subst (λ y. active (setting_of g y) r.0 (local_of g y log) ≡ None) run.1 none in
+    ap tm_views.is_idle (sym r.2) ∙ ap is_none here))
+
+held_told : (g : Given) (log : Log) (t : ℕ) → IsQuiet g log → IsIdle g log → 1 ≤ t → t ≤ g.catalogue.tms
+    → (holds (local_of g (T (tm_no t)) log)).releases < (holds (local_of g (T (tm_no t)) log)).holds
+    → (holds (local_of g (T (tm_no t)) log)).holds ≤ (holds (local_of g (T (tm_no t)) log)).helds
+held_told g log t h idle l m on =
+    let lt : site.Log = local_of g (T (tm_no t)) log in
+    elim (dec_le (holds lt).holds (holds lt).helds) [
+      | yes p ↦ p
+      | no p ↦ (let less : (holds lt).helds < (holds lt).holds = omega (arith, p) in
+          let off = if_none _ _ (t_still g log t h l m).held in
+          let due = both _ _ (lt-ltb _ _ on) (both _ _ (all_idle g log t idle l) (lt-ltb _ _ less)) in
+          absurd (not_both _ due off))
+    ]
+
+-- U has nothing in its queue
+
+abbrev AreHolding : Given → Log → Type 0
+AreHolding g log =
+    (t : ℕ) → 1 ≤ t → t ≤ g.catalogue.tms
+    → ((counts t (local_of g U log)).holds ≡ suc
+    (last_served (setting_of g U) (local_of g U log)).commits)
+    × ((counts t (local_of g U log)).helds ≡ suc
+    (last_served (setting_of g U) (local_of g U log)).commits)
+
+u_holding : (g : Given) (log : Log) (q : Queued) → IsQuiet g log → IsSound g.catalogue → IsIdle g log
+    → head_of (queue (setting_of g U) 0 (local_of g U log)) ≡ Some q → AreHolding g log
+u_holding g log q h sound idle e t l m =
+    let s = setting_of g U in
+    let lu : site.Log = local_of g U log in
+    let c = chain_at g (tm_no t) log l m h.permitted in
+    let v = level g log t h l m in
+    let released = all_released g log t h sound idle l m in
+    let due : um.hold_to (counts t lu) (Some q) ≡ None =
+    subst (λ o. um.hold_to (counts t lu) o ≡ None) e ((u_still g log h).holds (t - 1) t
+    (at_place g.catalogue.tms t l m)) in
+    let apart : ((counts t lu).releases == (counts t lu).holds) ≡ false = if_none _ _ due in
+    let ahead : (counts t lu).releases < (counts t lu).holds = elim (dec_le (counts t lu).holds (counts t lu).releases) [
+      | yes p ↦ (let same : (counts t lu).releases ≡ (counts t lu).holds =
+          omega (arith, p, c.committed, c.started, c.got_held, c.put_held, c.got_hold, c.put_hold) in absurd
+          (not_both _ (eq-eqb _ _ same) apart))
+      | no p ↦ omega (arith, p)
+    ] in
+    let on : (holds (local_of g (T (tm_no t)) log)).releases < (holds (local_of g (T (tm_no t)) log)).holds = omega (arith, ahead, v.holds_same, v.releases) in
+    let told = held_told g log t h idle l m on in
+    let holding : (counts t lu).holds ≡ suc (last_served s lu).commits = omega (arith, ahead, c.one_ahead, released) in
+    (holding, omega (arith, holding, told, c.got_hold, v.helds, v.holds_same))
+
+zero_head : (qs : List Queued) (q : Queued) → AllZero qs → head_of qs ≡ Some q → q.tries ≡ 0
+zero_head [] q h e = cc
+zero_head (x ∷ qs) q h e = let p : x ≡ q = cc in ap (λ (y : Queued). y.tries) (sym p) ∙ h.0
+
+u_no_queue : (g : Given) (log : Log) → IsQuiet g log → IsSound g.catalogue → IsIdle g log → (o : Option Queued)
+    → head_of (queue (setting_of g U) 0 (local_of g U log)) ≡ o → o ≡ None
+u_no_queue g log h sound idle None e = refl
+u_no_queue g log h sound idle (Some q) e =
+    let s = setting_of g U in
+    let lu : site.Log = local_of g U log in
+    let v = um_views.view_of s lu in
+    let served = all_served g log (sound_whole g.catalogue sound) h.permitted (idle.no_attempt 0 (omega arith)) in
+    let fresh : q.tries ≡ 0 = zero_head (queue s 0 lu) q served.1 e in
+    let ready = u_holding g log q h sound idle e in
+    let all : list_all (um.is_holding v) v.counts ≡ true = all_true (um.is_holding v) v.counts (λ k x i.
+    (let r = in_mapped (λ t. counts t lu) (numbers_to g.catalogue.tms) k x i in
+    let t = in_range 1 g.catalogue.tms k r.0 r.1 in
+    let n = ready r.0 t.0 (omega (arith, t.1)) in
+    ap (um.is_holding v) (sym r.2) ∙ both _ _ (eq-eqb _ _ n.0) (eq-eqb _ _ n.1))) in
+    let due : um.start_of g.catalogue v (Some q) ≡ None = subst (λ o. um.start_of g.catalogue v o ≡ None) e (u_still g log h).start in
+    let off = if_none _ _ due in
+    let on = both _ _ (eq-eqb _ _ fresh) all in
+    absurd (not_both _ on off)
+
+-- so no T is on hold, and has nothing in its queues
+
+off_hold : (g : Given) (log : Log) (t : ℕ) → IsQuiet g log → IsSound g.catalogue → IsIdle g log → 1 ≤ t → t ≤ g.catalogue.tms
+    → (holds (local_of g (T (tm_no t)) log)).holds ≡ (holds (local_of g (T (tm_no t)) log)).releases
+off_hold g log t h sound idle l m =
+    let s = setting_of g U in
+    let lu : site.Log = local_of g U log in
+    let none : head_of (queue s 0 lu) ≡ None = u_no_queue g log h sound idle (head_of (queue s 0 lu)) refl in
+    let c = chain_at g (tm_no t) log l m h.permitted in
+    let v = level g log t h l m in
+    let released = all_released g log t h sound idle l m in
+    elim (holds_needed s (t - 1) t lu (at_place g.catalogue.tms t l m) (u_table g log h.permitted)) [
+      | inl p ↦ omega (arith, p, v.holds_same, v.releases, released, c.in_turn)
+      | inr q ↦ absurd (none_not_some (head_of (queue s 0 lu)) q.0 none q.1)
+    ]
+
+no_start : (cat : Catalogue) (v : tm_views.View) (c : ℕ) (o : Option Queued) → tm.start_of cat v c o ≡ None → o ≡ None
+no_start cat v c None e = refl
+no_start cat v c (Some q) e = cc
+
+if_started : {A : Type 0} (b : Bool) (o : Option A) → b ≡ true → (if b then o else None) ≡ None → o ≡ None
+if_started true o e f = f
+if_started false o e f = cc
+
+t_no_queue : (g : Given) (log : Log) (c t : ℕ) → IsQuiet g log → IsSound g.catalogue → IsIdle g log → 1 ≤ t → t ≤ g.catalogue.tms → (j : ℕ)
+    → slice_get (tm_views.runs (setting_of g (T (tm_no t)))) j ≡ Some c → active (setting_of g (T (tm_no t))) c (local_of g (T (tm_no t)) log) ≡ None
+    → queue (setting_of g (T (tm_no t))) c (local_of g (T (tm_no t)) log) ≡ []
+t_no_queue g log c t h sound idle l m j i none =
+    let s = setting_of g (T (tm_no t)) in
+    let lt : site.Log = local_of g (T (tm_no t)) log in
+    let off : nat_lt (holds lt).releases (holds lt).holds ≡ false = le-ltb _ _ (let e = off_hold g log t h sound idle l m in omega (arith, e)) in
+    let ready = both _ _ (ap not off) (ap is_none none) in
+    no_head (queue s c lt) (no_start g.catalogue (tm_views.view_of s lt) c (head_of (queue s c lt))
+    (if_started _ _ ready ((t_still g log t h l m).starts j c i)))
+
+pub finished : (g : Given) (log : Log) → IsQuiet g log → IsSound g.catalogue → IsIdle g log → IsFinished g log
+finished g log h sound idle = record {
+  idle = idle;
+  no_queue = λ c l. elim (same_or_not c 0) [
+    | inl p ↦ subst (λ k. queue (setting_of g (home g.catalogue k)) k (at_home g k log) ≡ []) (sym p)
+        (no_head (queue (setting_of g U) 0 (local_of g U log)) (u_no_queue g log h sound idle (head_of (queue (setting_of g U) 0 (local_of g U log))) refl))
+    | inr p ↦ (let r = run_at g.catalogue c sound p l in
+        let j = runs_place g c r.t (positive c p) l r.number_is in
+        let none = subst (λ y. active (setting_of g y) c (local_of g y log) ≡ None) r.home_is (idle.no_attempt c l) in
+        subst (λ y. queue (setting_of g y) c (local_of g y log) ≡ []) (sym r.home_is) (t_no_queue g log c r.t h sound idle r.from r.to j.0 j.1 none))
+  ];
+  off_hold = λ t l m. off_hold g log t h sound idle l m;
+}

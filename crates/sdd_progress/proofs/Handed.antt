@@ -1,0 +1,104 @@
+-- Where nothing goes on, all that was put on a link was handed over at its end.
+use Rattle.std.specs.Prelude.{filter_map, flat_map}
+use Rattle.std.specs.List.{cons_option}
+use Rattle.std.proofs.Common.{ℕ, ◌-◌, ◌≤◌, ◌∙◌, ◌∷◌, ◌≡◌, List, None, Option, Some, [], ap, arith, cond, drop, false, length, refl, slice_get, suc, subst, sym, true, zero}
+use Rattle.std.proofs.Math.Decide.{dec_le}
+use Rattle.std.proofs.lemmas.List.{take_all}
+use Rattle.sdd_base.specs.Sites.{are_linked, links, sites}
+use Rattle.sdd_base.specs.Words.{is_empty}
+use Rattle.sdd_base.specs.declared.site.Site.{Site}
+use Rattle.sdd_base.specs.declared.site.Site.TheVariants.{D, T, U}
+use Rattle.sdd_net.specs.Links.{delivered, is_quiet_link, link}
+use Rattle.sdd_net.specs.Nets.{is_link, is_site}
+use Rattle.sdd_net.proofs.Directions.{link_parts}
+use Rattle.sdd_net.proofs.Sound.{sound}
+use Rattle.sdd_log.specs.Due.{hand_on}
+use Rattle.sdd_log.specs.Entries.{Given, Log}
+use Rattle.sdd_log.specs.Locals.{local_of}
+use Rattle.sdd_log.specs.Traffic.{all_links, calls_of, handed, is_down, link_of, sent, takes_part}
+use Rattle.sdd_invariants.proofs.Bools.{and_left, and_right, none_not_some}
+use Rattle.sdd_invariants.proofs.InOrder.{in_order}
+use Rattle.sdd_invariants.proofs.Lists.{all_at, in_left, in_right, member_there}
+use Rattle.sdd_invariants.proofs.Sent.{sent_is}
+use Rattle.sdd_invariants.proofs.Split.{le_is}
+use Rattle.sdd_invariants.specs.Traffic.{hands_from, puts_to}
+use Rattle.sdd_obligations.proofs.OfNext.{IsThere, site_there}
+use Rattle.sdd_obligations.specs.Stages.{flight}
+use Rattle.sdd_log.proofs.FirstHand.{one_on}
+use Rattle.sdd_progress.proofs.Lists.{none_at}
+use Rattle.sdd_progress.specs.Quiet.{IsQuiet}
+
+-- places
+
+in_filter_map : {A B : Type 0} (f : A → Option B) (xs : List A) (k : ℕ) (x : A) (y : B) → slice_get xs k ≡ Some x → f x ≡ Some y → IsThere (filter_map f xs) y
+in_filter_map f [] k x y e h = cc
+in_filter_map f (z ∷ xs) zero x y e h =
+    let p : z ≡ x = cc in let q : f z ≡ Some y = subst (λ w. f w ≡ Some y) (sym p) h in (0, rw q refl)
+in_filter_map {B = B} f (z ∷ xs) (suc k) x y e h =
+    let i = in_filter_map f xs k x y e h in
+    elim (f z) as (λ o. IsThere (cons_option o (filter_map f xs)) y) [ None ↦ i | Some w ↦ (suc i.0, i.1) ]
+
+in_flat : {A B : Type 0} (f : A → List B) (xs : List A) (k : ℕ) (x : A) (y : B) → slice_get xs k ≡ Some x → IsThere (f x) y → IsThere (flat_map f xs) y
+in_flat f [] k x y e h = cc
+in_flat f (z ∷ xs) zero x y e h =
+    let p : z ≡ x = cc in
+    let q : slice_get (f z) h.0 ≡ Some y = subst (λ w. slice_get (f w) h.0 ≡ Some y) (sym p) h.1 in
+    (h.0, in_left (f z) (flat_map f xs) h.0 y q)
+in_flat f (z ∷ xs) (suc k) x y e h = let i = in_flat f xs k x y e h in in_right (f z) (flat_map f xs) i.0 y i.1
+
+-- links
+
+abbrev link_if : Site → Site → Option (Site × Site)
+link_if a b = cond (are_linked a b) (Some (a, b)) None
+
+abbrev links_from : ℕ → ℕ → Site → List (Site × Site)
+links_from tms dms a = filter_map (link_if a) (sites tms dms)
+
+pub link_there : (tms dms : ℕ) (a b : Site) → is_link tms dms a b ≡ true → IsThere (links tms dms) (a, b)
+link_there tms dms a b e =
+    let p = link_parts tms dms a b e in
+    let i = site_there tms dms a p.from in
+    let j = site_there tms dms b p.to in
+    let linked : link_if a b ≡ Some (a, b) = rw p.linked refl in
+    in_flat (links_from tms dms) (sites tms dms) i.0 a (a, b) i.1 (in_filter_map (link_if a) (sites tms dms) j.0 b (a, b) j.1 linked)
+
+takes_part_in : (g : Given) (log : Log) (tms : ℕ) (b : Site) → IsQuiet g log → is_site tms g.catalogue.dms b ≡ true → takes_part b log ≡ true
+takes_part_in g log tms U h e = refl
+takes_part_in g log tms (T t) h e = refl
+takes_part_in g log tms (D d) h e =
+    let up : is_down d.0 log ≡ false = h.up d.0 (le_is 1 d.0 (and_left _ _ e), le_is d.0 g.catalogue.dms (and_right _ _ e)) in rw up refl
+
+-- nothing is left on the way
+pub none_left : (g : Given) (log : Log) (a b : Site) → IsQuiet g log → is_link g.catalogue.tms g.catalogue.dms a b ≡ true
+    → length (puts_to b (local_of g a log)) ≤ handed a b log
+none_left g log a b h e =
+    let k = link_there g.catalogue.tms g.catalogue.dms a b e in
+    let q : is_quiet_link (link a b (calls_of log)) ≡ true =
+    all_at (λ (l : Site × Site). is_quiet_link (link l.0 l.1 (calls_of log))) (all_links g) k.0
+    (a, b) h.links k.1 in
+    let acked : length (sent a b log) ≤ (link_of a b log).there.acked = le_is _ _ (and_right (is_empty (link_of a b log).there.flight) _ q) in
+    let arrived : (link_of a b log).there.acked ≤ delivered (link_of a b log).there = (sound a b (calls_of log)).there.acked in
+    let none : hand_on log (a, b) ≡ None = none_at (hand_on log) (all_links g) k.0 (a, b) h.no_hand k.1 in
+    let part : takes_part b log ≡ true = takes_part_in g log g.catalogue.tms b h (link_parts g.catalogue.tms g.catalogue.dms a b e).to in
+    let same : length (sent a b log) ≡ length (puts_to b (local_of g a log)) = ap length (sent_is g a b log) in
+    elim (dec_le (length (sent a b log)) (handed a b log)) [
+      | yes l ↦ omega (arith, l, same)
+      | no l ↦ (let m = member_there (handed a b log) (sent a b log) (omega (arith, l)) in
+          let z : suc (handed a b log) - 1 ≡ handed a b log = omega arith in
+          let at : slice_get (sent a b log) (suc (handed a b log) - 1) ≡ Some m.0 = subst (λ j. slice_get (sent a b log) j ≡ Some m.0) (sym z) m.1 in
+          absurd (none_not_some (hand_on log (a, b)) _ none (one_on log a b m.0 part (omega (arith, l, acked, arrived)) at)))
+    ]
+
+pub all_handed : (g : Given) (log : Log) (a b : Site) → IsQuiet g log → is_link g.catalogue.tms g.catalogue.dms a b ≡ true
+    → hands_from a (local_of g b log) ≡ puts_to b (local_of g a log)
+all_handed g log a b h e =
+    in_order g log a b h.permitted ∙ take_all (handed a b log) (puts_to b (local_of g a log)) (none_left g log a b h e)
+
+drop_past : {A : Type 0} (n : ℕ) (xs : List A) → length xs ≤ n → drop n xs ≡ []
+drop_past zero [] l = refl
+drop_past (suc n) [] l = refl
+drop_past zero (x ∷ xs) l = absurd (omega (arith, l))
+drop_past (suc n) (x ∷ xs) l = drop_past n xs (omega (arith, l))
+
+pub none_in_flight : (g : Given) (log : Log) (a b : Site) → IsQuiet g log → is_link g.catalogue.tms g.catalogue.dms a b ≡ true → flight g a b log ≡ []
+none_in_flight g log a b h e = drop_past (handed a b log) (puts_to b (local_of g a log)) (none_left g log a b h e)

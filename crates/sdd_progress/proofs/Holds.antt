@@ -1,0 +1,196 @@
+-- A transaction module is told to hold only while a transaction waits at the module for undeclared transactions; and the
+-- Commit of the transaction that this served last.
+use Rattle.std.proofs.Common.{ℕ, ◌++◌, ◌<◌, ◌==◌, ◌∙◌, ◌∷◌, ◌≡◌, ◌≤◌, ◌⊎◌, Bool, List, None, Option, Some, [], ap, arith, false, if◌then◌else◌, inl, inr, map, refl, slice_get, subst, suc, true}
+use Rattle.sdd_base.specs.Numbers.{dm_no, tm_no}
+use Rattle.sdd_base.specs.Words.{head_of, or_else}
+use Rattle.sdd_base.specs.declared.number.Ts.{Ts}
+use Rattle.sdd_base.specs.declared.site.Site.{Site}
+use Rattle.sdd_base.specs.declared.site.Site.TheVariants.{D, T}
+use Rattle.sdd_catalog.specs.Catalogue.{Catalogue, numbers_to}
+use Rattle.sdd_wire.specs.declared.msg.Msg.{Msg}
+use Rattle.sdd_wire.specs.declared.msg.Msg.TheVariants.{Fetch, Hold, Reduce, Release, Ship}
+use Rattle.sdd_module.specs.SiteLog.{Act, Bases, Did, Each, Entry, Handed, Log, Redeclared, Sends, Setting, Submits, Ticked, in_force}
+use Rattle.sdd_attempt.specs.Acts.{attempt_due, commit_act}
+use Rattle.sdd_attempt.specs.Attempts.{Attempt, active, asks_rows}
+use Rattle.sdd_attempt.specs.Exchange.{first_send, is_over}
+use Rattle.sdd_attempt.specs.Queues.{Queued, is_for, queue, tried}
+use Rattle.sdd_umod.specs.Due.{IsDue, by_exchange, by_hold, by_release, by_start, hold_to, start_of}
+use Rattle.sdd_umod.specs.Views.{TmCounts, counts, counts_acted, last_served, ts_of, view_of}
+use Rattle.sdd_invariants.proofs.Bools.{if_way}
+use Rattle.sdd_invariants.proofs.Exchanges.{asks_next}
+use Rattle.sdd_invariants.proofs.Serving.{chain, hand_commits, hand_counts, u_due, u_way}
+use Rattle.sdd_invariants.specs.AtU.{IsChain, IsFairU, IsStepU}
+use Rattle.sdd_invariants.proofs.Turns.{balance}
+use Rattle.sdd_invariants.specs.Steps.{start_at}
+use Rattle.sdd_invariants.specs.Traffic.{puts_to}
+use Rattle.sdd_invariants.specs.Turns.{one_if}
+use Rattle.sdd_obligations.proofs.SendsLow.{hand_ts}
+
+-- no HOLD without a transaction in the queue
+
+abbrev is_hold : Act → Bool
+is_hold (Sends to Hold hand) = true
+is_hold _ = false
+
+no_hold_here : (x a : Act) → is_hold x ≡ false → Some x ≡ Some a → is_hold a ≡ false
+no_hold_here x a h e = let p : x ≡ a = cc in subst (λ y. is_hold y ≡ false) p h
+
+asks_no_hold : (ts c : ℕ) (to : Site) (m : Msg) (hand : Option ℕ) → asks_rows ts c m ≡ true → is_hold (Sends to m hand) ≡ false
+asks_no_hold ts c to (Fetch t k u col) hand e = refl
+asks_no_hold ts c to (Reduce t k u col values) hand e = refl
+asks_no_hold ts c to (Ship t k) hand e = refl
+asks_no_hold ts c to _ hand e = cc
+
+no_hold_to_commit : (cat : Catalogue) (bases : Bases) (a : Attempt) (b : Bool) (act : Act)
+    → (if b then Some (commit_act cat bases 0 a) else None) ≡ Some act → is_hold act ≡ false
+no_hold_to_commit cat bases a true act e = no_hold_here (commit_act cat bases 0 a) act refl e
+no_hold_to_commit cat bases a false act e = cc
+
+no_hold_to_send : (s : Setting) (log : Log) (bases : Bases) (a : Attempt) (ms : List (ℕ × Msg)) (act : Act) → active s 0 log ≡ Some a → a.exchange.to_send ≡ ms
+    → or_else (first_send ms) (if is_over a.exchange.phase then Some (commit_act s.catalogue bases 0 a) else None) ≡ Some act → is_hold act ≡ false
+no_hold_to_send s log bases a [] act i p e = no_hold_to_commit s.catalogue bases a (is_over a.exchange.phase) act e
+no_hold_to_send s log bases a (m ∷ rest) act i p e =
+    no_hold_here (Sends (D (dm_no m.0)) m.1 None) act (asks_no_hold a.ts 0 (D (dm_no m.0)) m.1 None (asks_next s 0 log a m i (ap head_of p))) e
+
+no_hold_by_attempt : (s : Setting) (log : Log) (bases : Bases) (o : Option Attempt) (act : Act)
+    → active s 0 log ≡ o → attempt_due s.catalogue bases 0 o ≡ Some act → is_hold act ≡ false
+no_hold_by_attempt s log bases None act i e = cc
+no_hold_by_attempt s log bases (Some a) act i e = no_hold_to_send s log bases a a.exchange.to_send act i refl e
+
+no_hold_if : (b : Bool) (x a : Act) → is_hold x ≡ false → (if b then Some x else None) ≡ Some a → is_hold a ≡ false
+no_hold_if true x a h e = no_hold_here x a h e
+no_hold_if false x a h e = cc
+
+no_hold : (s : Setting) (log : Log) (bases : Bases) (act : Act) → head_of (queue s 0 log) ≡ None
+    → IsDue s.catalogue bases (view_of s log) act → is_hold act ≡ false
+no_hold s log bases act e (by_exchange p) = no_hold_by_attempt s log bases (active s 0 log) act refl p
+no_hold s log bases act e (by_release n k p q) = no_hold_if _ _ act refl q
+no_hold s log bases act e (by_start p) = let q : start_of s.catalogue (view_of s log) None ≡ Some act =
+    subst (λ o. start_of s.catalogue (view_of s log) o ≡ Some act) e p in cc
+no_hold s log bases act e (by_hold n k p q) = let r : hold_to k None ≡ Some act = subst (λ o. hold_to k o ≡ Some act) e q in cc
+
+-- where none waits, no more HOLDs are sent than there are Commits
+
+abbrev pub HoldsNeeded : Setting → ℕ → Log → Type 0
+HoldsNeeded s t log = ((counts t log).holds ≤ (last_served s log).commits) ⊎ ((q : Queued) × (head_of (queue s 0 log) ≡ Some q))
+
+head_there : (qs : List Queued) (q r : Queued) → (x : Queued) × (head_of (qs ++ q ∷ []) ≡ Some x)
+head_there [] q r = (q, refl)
+head_there (x ∷ qs) q r = (x, refl)
+
+head_mapped : (f : Queued → Queued) (qs : List Queued) (q : Queued) → head_of qs ≡ Some q → (x : Queued) × (head_of (map f qs) ≡ Some x)
+head_mapped f [] q e = cc
+head_mapped f (x ∷ qs) q e = (f x, refl)
+
+needed_on : (s : Setting) (t : ℕ) (e : Entry) (log : Log)
+    → (counts t (e ∷ log)).holds ≡ (counts t log).holds
+    → (last_served s (e ∷ log)).commits ≡ (last_served s log).commits
+    → ((q : Queued) → head_of (queue s 0 log) ≡ Some q → (x : Queued)
+    × (head_of (queue s 0 (e ∷ log)) ≡ Some x)) → HoldsNeeded s t log → HoldsNeeded s t (e ∷ log)
+needed_on s t e log a b c (inl h) = inl (omega (arith, h, a, b))
+needed_on s t e log a b c (inr h) = inr (c h.0 h.1)
+
+needed_commit : (s : Setting) (t : ℕ) (bases : Bases) (a : Attempt) (log : Log) → IsChain s t log
+    → (counts t log).holds ≤ suc (counts t log).releases → HoldsNeeded s t (Did (commit_act s.catalogue bases 0 a) ∷ log)
+needed_commit s t bases a log c l = let r = c.released in inl (omega (arith, l, r))
+
+release_holds : (t n : ℕ) (ts : Ts) (log : Log) → (counts_acted (Sends (T (tm_no n)) (Release ts) None) (counts t log)).holds ≡ (counts t log).holds
+release_holds t n ts log =
+    if_way (λ (k : TmCounts). k.holds ≡ (counts t log).holds) (n == (counts t log).tm)
+    (record (counts t log) { releases = suc (counts t log).releases }) (counts t log) refl refl
+
+exchange_holds : (d : ℕ) (m : Msg) (ts : ℕ) (k : TmCounts) → asks_rows ts 0 m ≡ true → counts_acted (Sends (D (dm_no d)) m None) k ≡ k
+exchange_holds d (Fetch t c u col) ts k e = refl
+exchange_holds d (Reduce t c u col values) ts k e = refl
+exchange_holds d (Ship t c) ts k e = refl
+exchange_holds d _ ts k e = cc
+
+needed_act : (s : Setting) (t : ℕ) (log : Log) (act : Act) → IsChain s t log → (counts t log).holds ≤ suc (counts t log).releases
+    → IsStepU s log act → is_hold act ≡ false ⊎ ((q : Queued) × (head_of (queue s 0 log) ≡ Some q)) → HoldsNeeded s t log → HoldsNeeded s t (Did act ∷ log)
+needed_act s t log act c l step or h =
+    u_way s log act (λ x. is_hold x ≡ false ⊎ ((q : Queued) × (head_of (queue s 0 log) ≡ Some q)) → HoldsNeeded s t (Did x ∷ log))
+    (λ q e z r. λ o. needed_on s t (Did (start_at s 0 log q)) log refl refl (λ p i. head_mapped (tried q.number) (queue s 0 log) p i) h)
+    (λ bases a e. λ o. needed_commit s t bases a log c l)
+    (λ d m a e. λ o. needed_on s t (Did (Sends (D (dm_no d)) m None)) log (ap (λ (k : TmCounts). k.holds)
+    (exchange_holds d m a.ts (counts t log) e)) refl (λ p i. (p, i)) h)
+    (λ n ts i w. λ o. needed_on s t (Did (Sends (T (tm_no n)) (Release ts) None)) log (release_holds t n ts log) refl (λ p i. (p, i)) h)
+    (λ n i. λ o. elim o [ inl p ↦ cc | inr p ↦ inr p ])
+    step or
+
+one_if_le : (b : Bool) → one_if b ≤ 1
+one_if_le true = omega arith
+one_if_le false = omega arith
+
+one_ahead : (s : Setting) (t : ℕ) (log : Log) → IsChain s t log → (counts t log).holds ≤ suc (counts t log).releases
+one_ahead s t log c =
+    let whole = balance false c.state (puts_to (T (tm_no t)) log) c.turns_are in
+    let p = one_if_le c.state in
+    omega (arith, whole, p, c.holds_are, c.releases_are)
+
+hold_or_head : (s : Setting) (log : Log) (bases : Bases) (act : Act) (o : Option Queued)
+    → head_of (queue s 0 log) ≡ o → IsDue s.catalogue bases (view_of s log) act
+    → is_hold act ≡ false ⊎ ((q : Queued) × (head_of (queue s 0 log) ≡ Some q))
+hold_or_head s log bases act None e h = inl (no_hold s log bases act e h)
+hold_or_head s log bases act (Some q) e h = inr (q, e)
+
+submitted_head : (b : Bool) (qs : List Queued) (r q : Queued) → head_of qs ≡ Some q → (x : Queued) × (head_of (if b then qs ++ r ∷ [] else qs) ≡ Some x)
+submitted_head true qs r q e = head_there qs r r
+submitted_head false qs r q e = (q, e)
+
+pub holds_needed : (s : Setting) (k t : ℕ) (log : Log) → slice_get (numbers_to s.catalogue.tms) k ≡ Some t → Each (IsFairU s) log → HoldsNeeded s t log
+holds_needed s k t [] i h = inl (omega arith)
+holds_needed s k t (Handed from m ∷ log) i h =
+    needed_on s t (Handed from m) log (hand_counts from m (counts t log)).1 (hand_commits m (last_served s log)) (λ q e. (q, e)) (holds_needed s k t log i h.1)
+holds_needed s k t (Ticked n ∷ log) i h = needed_on s t (Ticked n) log refl refl (λ q e. (q, e)) (holds_needed s k t log i h.1)
+holds_needed s k t (Redeclared force n ∷ log) i h = needed_on s t (Redeclared force n) log refl refl (λ q e. (q, e)) (holds_needed s k t log i h.1)
+holds_needed s k t (Submits n txn ∷ log) i h =
+    needed_on s t (Submits n txn) log refl refl
+    (λ q e. submitted_head (is_for 0 (in_force s log).catalogue txn) (queue s 0 log) (record {
+      number =
+          n;
+      text = txn;
+      tries = 0;
+    }) q e) (holds_needed s k t log i h.1)
+holds_needed s k t (Did act ∷ log) i h =
+    let c = chain s k t log i h.1 in
+    needed_act s t log act c (one_ahead s t log c) (u_due s h.0.0.0 log act h.0.0.1)
+    (hold_or_head s log h.0.0.0 act (head_of (queue s 0 log)) refl h.0.0.1) (holds_needed s k t log i h.1)
+
+-- the last Commit
+
+pub record IsLastCommit (s : Setting) (log : Log) : Type 0 where
+  pub later : Log
+  pub bases : Bases
+  pub attempt : Attempt
+  pub before : Log
+  pub is : log ≡ later ++ Did (commit_act s.catalogue bases 0 attempt) ∷ before
+  pub ts_is : (last_served s log).ts ≡ attempt.ts
+
+later_entry : (s : Setting) (e : Entry) (log : Log) → (last_served s (e ∷ log)).ts ≡ (last_served s log).ts → IsLastCommit s log → IsLastCommit s (e ∷ log)
+later_entry s e log p c =
+    record { later = e ∷ c.later; bases = c.bases; attempt = c.attempt; before = c.before; is = ap (λ l. e ∷ l) c.is; ts_is = p ∙ c.ts_is }
+
+abbrev CommitIfAny : Setting → Log → Type 0
+CommitIfAny s log = 0 < (last_served s log).commits → IsLastCommit s log
+
+any_later : (s : Setting) (e : Entry) (log : Log) → (last_served s (e ∷ log)).ts ≡ (last_served s log).ts
+    → (last_served s (e ∷ log)).commits ≡ (last_served s log).commits
+    → CommitIfAny s log → CommitIfAny s (e ∷ log)
+any_later s e log p q h = λ l. later_entry s e log p (h (subst (λ n. 0 < n) q l))
+
+pub last_commit : (s : Setting) (log : Log) → Each (IsFairU s) log → CommitIfAny s log
+last_commit s [] h = λ l. absurd (omega (arith, l))
+last_commit s (Handed from m ∷ log) h =
+    any_later s (Handed from m) log (hand_ts m (last_served s log)) (hand_commits m (last_served s log)) (last_commit s log h.1)
+last_commit s (Ticked n ∷ log) h = any_later s (Ticked n) log refl refl (last_commit s log h.1)
+last_commit s (Redeclared force n ∷ log) h = any_later s (Redeclared force n) log refl refl (last_commit s log h.1)
+last_commit s (Submits n txn ∷ log) h = any_later s (Submits n txn) log refl refl (last_commit s log h.1)
+last_commit s (Did act ∷ log) h =
+    let i = last_commit s log h.1 in
+    u_way s log act (λ x. CommitIfAny s (Did x ∷ log))
+    (λ q e z r. any_later s (Did (start_at s 0 log q)) log refl refl i)
+    (λ bases a e. λ l. record { later = []; bases = bases; attempt = a; before = log; is = refl; ts_is = ap ts_of e })
+    (λ d m a e. any_later s (Did (Sends (D (dm_no d)) m None)) log refl refl i)
+    (λ t ts l w. any_later s (Did (Sends (T (tm_no t)) (Release ts) None)) log refl refl i)
+    (λ t e. any_later s (Did (Sends (T (tm_no t)) Hold None)) log refl refl i)
+    (u_due s h.0.0.0 log act h.0.0.1)

@@ -1,0 +1,262 @@
+-- Where nothing goes on, an active attempt has a READ that is not processed.
+use Rattle.std.specs.List.{AllByRecursion}
+use Rattle.std.proofs.Common.{ℕ, ◌+◌, ◌==◌, ◌∙◌, ◌∷◌, ◌≡◌, ◌≤◌, Bool, List, None, Option, Some, [], ap, arith, cond, false, filter, if◌then◌else◌, inl, inr, length, map, refl, slice_get, suc, subst, sym, true}
+use Rattle.std.proofs.lemmas.Bool.{eqb-true}
+use Rattle.std.proofs.lemmas.List.Elements.{recursion_from_All}
+use Rattle.sdd_base.specs.Numbers.{dm_no}
+use Rattle.sdd_base.specs.Words.{contains, first_some, head_of, is_empty}
+use Rattle.sdd_base.specs.declared.number.RelNo.{RelNo}
+use Rattle.sdd_base.specs.declared.site.Site.{Site}
+use Rattle.sdd_base.specs.declared.site.Site.TheVariants.{D}
+use Rattle.sdd_catalog.specs.Catalogue.{Catalogue}
+use Rattle.sdd_catalog.specs.Rules.{IsSound}
+use Rattle.sdd_catalog.proofs.Sound.{sound_whole}
+use Rattle.sdd_lang.specs.Fits.{FitsCondition, FitsQuery, FitsStatement}
+use Rattle.sdd_lang.specs.Source.{uses_in}
+use Rattle.sdd_lang.specs.declared.condition.Condition.{Condition}
+use Rattle.sdd_lang.specs.declared.condition.Condition.TheVariants.{Const, Same}
+use Rattle.sdd_lang.specs.declared.statement.Stmt.{Stmt}
+use Rattle.sdd_lang.specs.declared.statement.Stmt.TheVariants.{Delete, Put, Query, Update}
+use Rattle.sdd_wire.specs.declared.msg.Msg.{Msg}
+use Rattle.sdd_wire.specs.declared.msg.Msg.TheVariants.{Fetch, Read, Reduce, Ship}
+use Rattle.sdd_module.specs.SiteLog as site
+use Rattle.sdd_order.specs.Numbers.{IsClass, IsModule}
+use Rattle.sdd_attempt.specs.Acts.{attempt_due}
+use Rattle.sdd_attempt.specs.Attempts.{Attempt, active, asks_rows}
+use Rattle.sdd_attempt.specs.Exchange.{Exchange, askings, first_send, is_over, send_due}
+use Rattle.sdd_attempt.specs.Fits.{is_read}
+use Rattle.sdd_dm.specs.Due.{answer_of, answer_to, open_due}
+use Rattle.sdd_dm.specs.Opens.{Open, class_asked, is_asked_of, is_number, opens}
+use Rattle.sdd_dm.specs.Copies.{classes_of}
+use Rattle.sdd_dm.specs.Pipes.{pipe}
+use Rattle.sdd_dm.specs.Views.{ClassView, Home, View, class_view, home_of, view_of}
+use Rattle.sdd_log.specs.Entries.{Given, Log}
+use Rattle.sdd_log.specs.Locals.{setting_of}
+use Rattle.sdd_log.specs.Permitted.{IsPermitted}
+use Rattle.sdd_log.specs.Snapshots.{base_of}
+use Rattle.sdd_invariants.proofs.Bools.{and_right, not_both, or_left, same_number}
+use Rattle.sdd_invariants.proofs.Fair.{all_new, home_fair}
+use Rattle.sdd_invariants.proofs.Holding.{at_map}
+use Rattle.sdd_invariants.proofs.Lists.{in_filtered}
+use Rattle.sdd_invariants.specs.Steps.{home}
+use Rattle.sdd_obligations.proofs.AtTurn.{StandsAt, answered_last, apart, awaited, unsent}
+use Rattle.sdd_obligations.proofs.Halves.{data_turns, home_turns}
+use Rattle.sdd_obligations.proofs.Hearing.{AtTurn}
+use Rattle.sdd_obligations.proofs.Modules.{firsts, to_module}
+use Rattle.sdd_obligations.proofs.Near.{HasNear, IsNear, IsNearBy, active_near}
+use Rattle.sdd_obligations.proofs.Replying.{HasTurn, asker, asks_open, from_site}
+use Rattle.sdd_obligations.proofs.Sources.{home_first}
+use Rattle.sdd_obligations.proofs.Spoken.{spoken}
+use Rattle.sdd_obligations.proofs.Starts.{small_home}
+use Rattle.sdd_obligations.proofs.Sums.{range_at}
+use Rattle.sdd_obligations.proofs.Texts.{active_so, submitted_fit}
+use Rattle.sdd_obligations.specs.Fitting.{FitsGiven, FitsText}
+use Rattle.sdd_obligations.specs.Stages.{IsStage, agreed, answer_goes, question_goes}
+use Rattle.sdd_obligations.specs.Turns.{Asks, Turn, answers, is_question, questions, reads_asked, rows_asked, turn_at, turn_with}
+use Rattle.sdd_progress.proofs.Going.{is_going}
+use Rattle.sdd_progress.proofs.Handed.{none_in_flight}
+use Rattle.sdd_progress.proofs.Lists.{either, head_at, no_head, none_at}
+use Rattle.sdd_progress.proofs.Still.{d_still, exchange_none, home_linked}
+use Rattle.sdd_log.proofs.Ticking.{or_none}
+use Rattle.sdd_progress.specs.Asked.{IsUnanswered}
+use Rattle.sdd_progress.specs.Going.{AllAskParts, AllHaveParts, HasParts, IsGoing}
+use Rattle.sdd_progress.specs.Quiet.{IsQuiet, at_home, at_module}
+
+-- what fits a catalogue counts its parts from 1
+
+cond_parts : (cat : Catalogue) (rels : List RelNo) (q : Condition) → FitsCondition cat rels q → HasParts q
+cond_parts cat rels (Const left op value) h = tt
+cond_parts cat rels (Same left right) h = (h.0.0.0, h.1.0.0)
+
+conds_parts : (cat : Catalogue) (rels : List RelNo) (conds : List Condition) → AllByRecursion (FitsCondition cat rels) conds → AllHaveParts conds
+conds_parts cat rels [] h = tt
+conds_parts cat rels (q ∷ conds) h = (cond_parts cat rels q h.0, conds_parts cat rels conds h.1)
+
+askings_parts : (cat : Catalogue) (before : ℕ) (statements : List Stmt)
+    → AllByRecursion (FitsStatement cat) statements → AllAskParts (askings before statements)
+askings_parts cat before [] h = tt
+askings_parts cat before (Put rel row ∷ rest) h = askings_parts cat (before + uses_in (Put rel row)) rest h.1
+askings_parts cat before (Update rel sets conds ∷ rest) h = askings_parts cat (before + uses_in (Update rel sets conds)) rest h.1
+askings_parts cat before (Delete rel conds ∷ rest) h = askings_parts cat (before + uses_in (Delete rel conds)) rest h.1
+askings_parts cat before (Query out rels conds ∷ rest) h =
+    let f : FitsQuery cat out rels conds = h.0 in
+    (conds_parts cat rels conds (recursion_from_All (FitsCondition cat rels) conds f.4.1), askings_parts cat (before + uses_in (Query out rels conds)) rest h.1)
+
+-- an attempt that has nothing to send and may not commit
+
+no_sends : (ms : List (ℕ × Msg)) → first_send ms ≡ None → ms ≡ []
+no_sends [] e = refl
+no_sends (m ∷ ms) e = cc
+
+no_commit : (b : Bool) (act : site.Act) → (if b then Some act else None) ≡ None → b ≡ false
+no_commit true act e = cc
+no_commit false act e = refl
+
+pub record IsWaitingFor (a : Attempt) : Type 0 where
+  pub nothing_to_send : a.exchange.to_send ≡ []
+  pub not_over : is_over a.exchange.phase ≡ false
+
+waits_for : (cat : Catalogue) (bases : site.Bases) (c : ℕ) (a : Attempt) → attempt_due cat bases c (Some a) ≡ None → IsWaitingFor a
+waits_for cat bases c a e =
+    let p = or_none (send_due a.exchange) _ e in
+    record { nothing_to_send = no_sends a.exchange.to_send p.0; not_over = no_commit (is_over a.exchange.phase) _ p.1 }
+
+-- a module whose answer lacks
+
+lacking_one : (ds : List ℕ) → is_empty ds ≡ false → (d : ℕ) × (contains ds d ≡ true)
+lacking_one [] e = cc
+lacking_one (d ∷ ds) e = (d, or_left (d == d) (contains ds d) (same_number d))
+
+record IsAskedAt (d : ℕ) (x : Exchange) (v : Turn) : Type 0 where
+  uses : List ℕ
+  question : Msg
+  is : v ≡ Asks uses question
+  within : contains (firsts x.modules) d ≡ true
+
+asked_at : (d : ℕ) (x : Exchange) (v : Turn) → x.to_send ≡ [] → contains x.lacks d ≡ true → StandsAt d x v → IsAskedAt d x v
+asked_at d x v e l (unsent m q ns a b s t u w f h) =
+    let z : [] ≡ m ∷ [] = sym (ap (to_module d) e) ∙ a in cc
+asked_at d x v e l (awaited m ns a b s w f h) = record { uses = ns; question = m; is = s; within = h }
+asked_at d x v e l (answered_last q ns a b s t f h) = absurd (not_both (contains x.lacks d) l b)
+asked_at d x v e l (apart a b s h) = absurd (not_both (contains x.lacks d) l b)
+
+near_one : (n d : ℕ) (ms : List (ℕ × List ℕ)) (x : Exchange) → IsNearBy n (record x { modules = ms }) → contains (firsts ms) d ≡ true → IsNear n d
+near_one n d [] x h e = cc
+near_one n d (m ∷ ms) x h e = elim (either (m.0 == d) (contains (firsts ms) d) e) [
+  | inl p ↦ subst (IsNear n) (eqb-true m.0 d p) h.modules.0
+  | inr p ↦ near_one n d ms x (record { modules = h.modules.1; sends = h.sends }) p
+]
+
+-- at rest both sides have the same turn
+
+one_turn : (v w : Turn) (qs xs : List Msg) → IsStage v w qs xs → qs ≡ [] → xs ≡ [] → v ≡ w
+one_turn v w qs xs (agreed s q x) e f = s
+one_turn v w qs xs (question_goes m q x s a) e f = let z : [] ≡ m ∷ [] = sym e ∙ q in cc
+one_turn v w qs xs (answer_goes m q x s a) e f = let z : [] ≡ m ∷ [] = sym f ∙ x in cc
+
+pub same_turn : (g : Given) (log : Log) (c d ts : ℕ) → IsQuiet g log → IsSound g.catalogue → IsClass g.catalogue c → IsModule g.catalogue d
+    → turn_at ts c d (at_home g c log) ≡ turn_with ts c (home g.catalogue c) (at_module g d log)
+same_turn g log c d ts h sound l m =
+    let linked = home_linked g.catalogue c d sound l m in
+    one_turn _ _ _ _ ((spoken g c log h.permitted (small_home g.catalogue sound c l)).stages ts d)
+    (ap (questions ts c) (none_in_flight g log (home g.catalogue c) (D (dm_no d)) h linked.0))
+    (ap (answers ts c) (none_in_flight g log (D (dm_no d)) (home g.catalogue c) h linked.1))
+
+-- no question of rows stands open
+
+asks_class : (ts c : ℕ) (m : Msg) → asks_rows ts c m ≡ true → is_number c (class_asked m) ≡ true
+asks_class ts c (Fetch t k u col) e = and_right (t.0 == ts) (k.0 == c) e
+asks_class ts c (Reduce t k u col values) e = and_right (t.0 == ts) (k.0 == c) e
+asks_class ts c (Ship t k) e = and_right (t.0 == ts) (k.0 == c) e
+asks_class ts c _ e = cc
+
+answer_there : {A : Type 0} (h : Home) (k : ClassView) (o : Open) (m : Msg) (c : ℕ) → is_number c (class_asked m) ≡ true → answer_to h k o m ≡ None → A
+answer_there h k o (Read ts class txn attempt conds uses) c e f = cc
+answer_there h k o (Fetch ts class u col) c e f = cc
+answer_there h k o (Reduce ts class u col values) c e f = cc
+answer_there h k o (Ship ts class) c e f = cc
+answer_there h k o _ c e f = cc
+
+none_asked : (h : Home) (k : ClassView) (os : List Open) (o : Option Open) → head_of (filter (is_asked_of k.class) os) ≡ o → answer_of h k o ≡ None
+    → filter (is_asked_of k.class) os ≡ []
+none_asked h k os None e f = no_head (filter (is_asked_of k.class) os) e
+none_asked h k os (Some o) e f =
+    let i = in_filtered (is_asked_of k.class) os 0 o (head_at _ o e) in answer_there h k o o.msg k.class i.0 f
+
+class_there : (s : site.Setting) (log : site.Log) (c : ℕ) → c ≤ length s.catalogue.classes → slice_get (view_of s log).classes c ≡ Some (class_view s log c)
+class_there s log c l =
+    let z : 0 + c ≡ c = omega arith in
+    at_map (class_view s log) (classes_of s) c c (subst (λ x. slice_get (classes_of s) c ≡ Some x) z
+    (range_at 0 (suc (length s.catalogue.classes)) c (omega (arith, l))))
+
+pub none_open : (g : Given) (log : Log) (c d : ℕ) → IsQuiet g log → IsClass g.catalogue c
+    → IsModule g.catalogue d → filter (is_asked_of c) (opens (at_module g d log)) ≡ []
+none_open g log c d h l m =
+    let s = setting_of g (D (dm_no d)) in
+    let v : View = view_of s (at_module g d log) in
+    let p = or_none (first_some (open_due (home_of s) v) v.classes) _ (d_still g log d h m) in
+    let none : open_due (home_of s) v (class_view s (at_module g d log) c) ≡ None =
+    none_at (open_due (home_of s) v) v.classes c (class_view s (at_module g d log) c) p.0
+    (class_there s (at_module g d log) c l) in
+    none_asked (home_of s) (class_view s (at_module g d log) c) (opens (at_module g d log)) _ refl none
+
+tail_none : {A : Type 0} (b : Bool) (x : A) (xs : List A) → cond b (x ∷ xs) xs ≡ [] → xs ≡ []
+tail_none true x xs e = cc
+tail_none false x xs e = e
+
+less_left : {A : Type 0} (f g : A → Bool) (xs : List A) → ((x : A) → f x ≡ true → g x ≡ true) → filter g xs ≡ [] → filter f xs ≡ []
+less_left f g [] i e = refl
+less_left f g (x ∷ xs) i e =
+    elim (f x) as (λ b. f x ≡ b → cond b (x ∷ filter f xs) (filter f xs) ≡ []) [
+      | true ↦ λ p. (let q : g x ≡ true = i x p in let z : x ∷ filter g xs ≡ [] = subst (λ b. cond b (x ∷ filter g xs) (filter g xs) ≡ []) q e in cc)
+      | false ↦ λ p. less_left f g xs i (tail_none (g x) x (filter g xs) e)
+    ] refl
+
+-- the question that stands is a READ
+
+not_rows : (ts c : ℕ) (at : Site) (os : List Open) (ns : List ℕ) (m : Msg) → filter (asks_open ts c) os ≡ []
+    → map asker (filter (asks_open ts c) os) ≡ map (from_site at) (rows_asked ts c (Asks ns m))
+    → asks_rows ts c m ≡ false
+not_rows ts c at os ns m e f =
+    elim (asks_rows ts c m) as (λ b. [] ≡ map (from_site at) (if b then m ∷ [] else []) → b ≡ false) [
+      | true ↦ λ z. cc
+      | false ↦ λ z. refl
+    ] (sym (ap (map asker) e) ∙ f)
+
+read_it_is : (ts c : ℕ) (m : Msg) → is_question ts c m ≡ true → asks_rows ts c m ≡ false → is_read ts c m ≡ true
+read_it_is ts c (Read t k txn attempt conds uses) e f = e
+read_it_is ts c (Fetch t k u col) e f = absurd (not_both _ e f)
+read_it_is ts c (Reduce t k u col values) e f = absurd (not_both _ e f)
+read_it_is ts c (Ship t k) e f = absurd (not_both _ e f)
+read_it_is ts c _ e f = cc
+
+read_there : (ts c : ℕ) (ns : List ℕ) (m : Msg) (unprocessed : List Msg) → is_read ts c m ≡ true
+    → filter (is_read ts c) unprocessed ≡ reads_asked ts c (Asks ns m)
+    → slice_get (filter (is_read ts c) unprocessed) 0 ≡ Some m
+read_there ts c ns m unprocessed e f = rw (f, e) refl
+
+pub goes_on : (g : Given) (log : Log) (c : ℕ) (a : Attempt) → IsPermitted g log → FitsGiven g → IsClass g.catalogue c
+    → active (setting_of g (home g.catalogue c)) c (at_home g c log) ≡ Some a → IsGoing a.exchange
+goes_on g log c a h good l e =
+    let s = setting_of g (home g.catalogue c) in
+    let at = home g.catalogue c in
+    let sp = spoken g c log h (small_home g.catalogue good.sound c l) in
+    let text : FitsText g.catalogue a.text = active_so (FitsText g.catalogue) s c (at_home g c log) a
+    (home_fair g c log h) (all_new g at log h) (submitted_fit g good at c log h) e in
+    let parts : AllAskParts (askings 0 a.text.statements) =
+    askings_parts g.catalogue 0 a.text.statements
+    (recursion_from_All (FitsStatement g.catalogue) a.text.statements text.fits.statements) in
+    is_going s c (at_home g c log) a (home_fair g c log h) (home_first g c log h) sp.timely_at e parts
+
+pub has_unanswered : (g : Given) (log : Log) (c : ℕ) (a : Attempt) → IsQuiet g log → FitsGiven g → IsClass g.catalogue c
+    → active (setting_of g (home g.catalogue c)) c (at_home g c log) ≡ Some a → IsUnanswered g log c a.ts
+has_unanswered g log c a h good l e =
+    let s = setting_of g (home g.catalogue c) in
+    let at = home g.catalogue c in
+    let sp = spoken g c log h.permitted (small_home g.catalogue good.sound c l) in
+    let turns = home_turns g c log h.permitted sp in
+    let going = goes_on g log c a h.permitted good l e in
+    let waits = waits_for g.catalogue (base_of g log) c a
+    (subst (λ o. attempt_due g.catalogue (base_of g log) c o ≡ None) e
+    (exchange_none g log c h good.sound l)) in
+    let lack = lacking_one a.exchange.lacks (going.lacks waits.not_over) in
+    let d : ℕ = lack.0 in
+    let stands : AtTurn a.ts d (Some a) (turn_at a.ts c d (at_home g c log)) =
+    subst (λ o. AtTurn a.ts d o (turn_at a.ts c d (at_home g c log))) e (turns.turns a.ts d) in
+    let q = asked_at d a.exchange (turn_at a.ts c d (at_home g c log)) waits.nothing_to_send lack.1 (stands.0 refl) in
+    let near : IsNearBy g.catalogue.dms a.exchange =
+    subst (HasNear g.catalogue.dms) e (active_near s c (at_home g c log)
+    (sound_whole g.catalogue good.sound) (home_fair g c log h.permitted)) in
+    let m : IsModule g.catalogue d = near_one g.catalogue.dms d a.exchange.modules a.exchange near q.within in
+    let there : turn_with a.ts c at (at_module g d log) ≡ Asks q.uses q.question = sym (same_turn g log c d a.ts h good.sound l m) ∙ q.is in
+    let has : HasTurn a.ts c at (opens (at_module g d log)) (pipe c (at_module g d log))
+    (Asks q.uses q.question) = subst (HasTurn a.ts c at (opens (at_module g d log))
+    (pipe c (at_module g d log))) there (data_turns g a.ts c d log h.permitted sp) in
+    let none : filter (asks_open a.ts c) (opens (at_module g d log)) ≡ [] =
+    less_left (asks_open a.ts c) (is_asked_of c) (opens (at_module g d log))
+    (λ o f. asks_class a.ts c o.msg f) (none_open g log c d h l m) in
+    let no_rows = not_rows a.ts c at (opens (at_module g d log)) q.uses q.question none has.rows_are in
+    let read = read_it_is a.ts c q.question has.own.0 no_rows in
+    let i = in_filtered (is_read a.ts c) (pipe c (at_module g d log)).unprocessed 0 q.question
+    (read_there a.ts c q.uses q.question (pipe c (at_module g d log)).unprocessed read has.reads_are) in
+    record { d = d; module_is = m; place = i.1; message = q.question; there = i.2; is_its = read }

@@ -1,0 +1,359 @@
+-- Where nothing goes on, no READ waits, so every message is processed and no attempt is under way; if all was idle wherever
+-- a further list of classes was put in force. Then each READ that waits has conditions of the list in force.
+use Rattle.std.specs.List.{list_all}
+use Rattle.std.proofs.Common.{ℕ, ◌+◌, ◌++◌, ◌==◌, ◌∙◌, ◌∷◌, ◌≡◌, ◌≤◌, Bool, List, None, Some, [], ap, arith, false, if◌then◌else◌, inl, inr, length, refl, slice_get, subst, suc, sym, true}
+use Rattle.sdd_base.specs.Numbers.{dm_no, time_at}
+use Rattle.sdd_base.specs.Sites.{number_of}
+use Rattle.sdd_base.specs.Words.{head_of}
+use Rattle.sdd_base.specs.declared.change.Change.{Change}
+use Rattle.sdd_base.specs.declared.condition.Cond.{Cond}
+use Rattle.sdd_base.specs.declared.number.ClassNo.{ClassNo}
+use Rattle.sdd_base.specs.declared.number.FragNo.{FragNo}
+use Rattle.sdd_base.specs.declared.number.Ts.{Ts}
+use Rattle.sdd_base.specs.declared.number.TxnNo.{TxnNo}
+use Rattle.sdd_base.specs.declared.site.Site.TheVariants.{D}
+use Rattle.sdd_base.specs.declared.usage.Use.{Use}
+use Rattle.sdd_catalog.specs.Catalogue.{Catalogue}
+use Rattle.sdd_catalog.specs.Rules.{IsSound}
+use Rattle.sdd_protocol.specs.declared.entry.Entry as line
+use Rattle.sdd_protocol.specs.declared.protocol.Protocol.{Protocol}
+use Rattle.sdd_protocol.specs.declared.protocol.Protocol.TheVariants.{P2, P3}
+use Rattle.sdd_wire.specs.Piped.{time_of}
+use Rattle.sdd_wire.specs.declared.msg.Msg.{Msg}
+use Rattle.sdd_wire.specs.declared.msg.Msg.TheVariants.{Read, Write}
+use Rattle.sdd_module.specs.SiteLog.{Setting}
+use Rattle.sdd_module.specs.SiteLog as site
+use Rattle.sdd_order.specs.Numbers.{IsClass, IsModule}
+use Rattle.sdd_attempt.specs.Attempts.{active}
+use Rattle.sdd_attempt.specs.Clocks.{clock}
+use Rattle.sdd_pipe.specs.Pipe.{Pipe, head}
+use Rattle.sdd_dm.specs.Due.{is_met}
+use Rattle.sdd_dm.specs.Pipes.{pipe}
+use Rattle.sdd_dm.specs.Views.{view_of}
+use Rattle.sdd_log.specs.Entries.{Entry, Given, Log, Redeclares}
+use Rattle.sdd_log.specs.Locals.{force_at, local_of, redeclares, setting_of}
+use Rattle.sdd_log.specs.Permitted.{IsPermitted}
+use Rattle.sdd_invariants.proofs.Again.{stamp_ticks}
+use Rattle.sdd_invariants.proofs.Bools.{differ, not_zero, same_or_not}
+use Rattle.sdd_invariants.proofs.Fair.{home_fair}
+use Rattle.sdd_invariants.proofs.Installed.{class_number, head_put, write_origin}
+use Rattle.sdd_invariants.proofs.Lists.{at_seam, in_range}
+use Rattle.sdd_invariants.proofs.Recorded.{start_of_active}
+use Rattle.sdd_invariants.proofs.Undeclared.{part_of, permitted_part, read_classes}
+use Rattle.sdd_invariants.specs.Seen.{all_of}
+use Rattle.sdd_invariants.specs.Steps.{bound, home}
+use Rattle.sdd_waiting.proofs.Descent.{none_waits}
+use Rattle.sdd_waiting.proofs.Listed.{diagonals_listed}
+use Rattle.sdd_waiting.proofs.TableFits.{table_fits}
+use Rattle.sdd_waiting.specs.WaitGraph.{Fits, WaitGraph}
+use Rattle.sdd_waiting.specs.WaitGraphs.{HasDiagonal, wait_graph, wait_protocol}
+use Rattle.sdd_waiting.specs.WaitingReads.{IsStamped, IsTimestamp, WaitingRead, WaitsOn, holder, reader, wait_time}
+use Rattle.sdd_lawful.proofs.Homes.{home_small}
+use Rattle.sdd_waiting.proofs.FromTable.{conditions_at_put}
+use Rattle.sdd_waiting.proofs.StuckHeads.{head_stuck}
+use Rattle.sdd_waiting.specs.Conditions.{AllDiagonalsIn, AreConditionsOf, IsDiagonalIn, IsFromTable}
+use Rattle.sdd_waiting.specs.Heads.{IsStuck}
+use Rattle.sdd_progress.proofs.Alone.{below_read, zero_time}
+use Rattle.sdd_progress.proofs.Lacking.{has_unanswered}
+use Rattle.sdd_progress.proofs.Lists.{not_all, no_head}
+use Rattle.sdd_progress.proofs.Still.{d_still}
+use Rattle.sdd_progress.proofs.WaitedFor.{next_head, next_reader}
+use Rattle.sdd_progress.specs.Finished.{IsIdle}
+use Rattle.sdd_progress.specs.Quiet.{IsQuiet, at_home, at_module}
+use Rattle.sdd_progress.specs.Premises.{IsIdleAtRedeclares, IsSoundList}
+use Rattle.sdd_progress.proofs.SinceRedeclare.{since_redeclare}
+use Rattle.sdd_progress.specs.Waiting.{IsBelow, IsHolder, IsReader}
+
+-- a READ that waits has a condition that isn't met
+
+record IsUnmet (g : Given) (log : Log) (d : ℕ) (conds : List Cond) : Type 0 where
+  place : ℕ
+  cond : Cond
+  there : slice_get conds place ≡ Some cond
+  unmet : is_met (view_of (setting_of g (D (dm_no d))) (at_module g d log)) cond ≡ false
+
+stuck_read : (s : Setting) (c : ℕ) (l : site.Log) (ts : Ts) (of : ClassNo) (txn : TxnNo) (attempt : ℕ)
+    (conds : List Cond) (uses : List Use) → IsStuck s l c (Some (Read ts of txn attempt conds uses))
+    → list_all (is_met (view_of s l)) conds ≡ false
+stuck_read s c l ts of txn attempt conds uses h = h.1
+
+unmet : (g : Given) (log : Log) (c ts : ℕ) (conds : List Cond) (r : IsReader g log c ts conds) → IsQuiet g log → IsUnmet g log r.d conds
+unmet g log c ts conds r h =
+    let s = setting_of g (D (dm_no r.d)) in
+    let class = r.class_is in
+    let stuck = head_stuck s (at_module g r.d log) c (omega (arith, class)) (d_still g log r.d h r.module_is) in
+    let f = stuck_read s c (at_module g r.d log) (time_at ts) r.of r.txn r.attempt conds r.uses (subst (IsStuck s (at_module g r.d log) c) r.head_is stuck) in
+    let n = not_all (is_met (view_of s (at_module g r.d log))) conds f in
+    record { place = n.0; cond = n.1; there = n.2; unmet = n.3 }
+
+first_of : (ps us : List Msg) (m : Msg) → head_of us ≡ Some m → slice_get (ps ++ us) (length ps) ≡ Some m
+first_of ps [] m e = cc
+first_of ps (x ∷ us) m e = at_seam ps us x ∙ e
+
+head_there : (p : Pipe) (m : Msg) → head p ≡ Some m → slice_get (all_of p) (length p.processed) ≡ Some m
+head_there p m e = first_of p.processed p.unprocessed m e
+
+-- READs of declared classes, as numbers
+
+abbrev read_number : (g : Given) (log : Log) (c ts : ℕ) (conds : List Cond) → AreConditionsOf g log c ts conds → WaitingRead
+read_number g log c ts conds from = record {
+  class = c;
+  ts = ts;
+  p2 = bound (setting_of g (home g.catalogue c)) (local_of g (home g.catalogue c) from.before);
+  ticks = suc (clock (home g.catalogue c) (local_of g (home g.catalogue c) from.before)).ticks;
+}
+
+record IsWaiting (g : Given) (log : Log) (r : WaitingRead) : Type 0 where
+  conds : List Cond
+  declared : (r.class == 0) ≡ false
+  reader : IsReader g log r.class r.ts conds
+  from : AreConditionsOf g log r.class r.ts conds
+  ticks_are : r.ticks ≡ suc (clock (home g.catalogue r.class) (local_of g (home g.catalogue r.class) from.before)).ticks
+  p2_is : r.p2 ≡ bound (setting_of g (home g.catalogue r.class)) (local_of g (home g.catalogue r.class) from.before)
+  since : redeclares from.before ≡ redeclares log
+
+waiting_number : (g : Given) (log : Log) (c ts : ℕ) (conds : List Cond) → (c == 0) ≡ false
+    → IsReader g log c ts conds → (from : AreConditionsOf g log c ts conds) → redeclares from.before ≡ redeclares log
+    → IsWaiting g log (read_number g log c ts conds from)
+waiting_number g log c ts conds z r from since = record { conds = conds; declared = z; reader = r; from = from; ticks_are = refl; p2_is = refl; since = since }
+
+conditions : (g : Given) (log : Log) (c ts : ℕ) (conds : List Cond) → IsQuiet g log → IsSound g.catalogue → IsIdleAtRedeclares g log → (c == 0) ≡ false
+    → IsReader g log c ts conds → (from : AreConditionsOf g log c ts conds) × (redeclares from.before ≡ redeclares log)
+conditions g log c ts conds h sound marks z r =
+    let p = head_put g c (dm_no r.d) log (Read (time_at ts) r.of r.txn r.attempt conds r.uses) h.permitted r.head_is in
+    let f = conditions_at_put g log c (dm_no r.d) (time_at ts) r.of r.txn r.attempt conds r.uses (λ e. differ c 0 z e) p in
+    (f.0, ap redeclares f.1 ∙ since_redeclare g log c r.d (time_at ts) r.of r.txn r.attempt conds r.uses h.permitted sound r.class_is r.module_is marks r.head_is p)
+
+stamped : (g : Given) (log : Log) → IsSoundList g (redeclares log) → (r : WaitingRead) → IsWaiting g log r → IsStamped r
+stamped g log one r w =
+    let s = setting_of g (home g.catalogue r.class) in
+    let lb = local_of g (home g.catalogue r.class) w.from.before in
+    let small = home_small g.catalogue one.fits.sound r.class in
+    let ts = w.from.ts_is in
+    let n = stamp_ticks s lb in
+    let t = w.ticks_are in
+    let p = w.p2_is in
+    record { least = omega (arith, ts, n, t); most = omega (arith, ts, n, t, small); before = omega (arith, t, p) }
+
+-- the diagonal of a condition
+
+abbrev graph_of : Given → Log → WaitGraph
+graph_of g log = wait_graph (force_at g (redeclares log)).catalogue (force_at g (redeclares log)).table
+
+record IsAlong (G : WaitGraph) (i j time own p2 : ℕ) : Type 0 where
+  by_own : Bool
+  diagonal : HasDiagonal G i j by_own
+  time_is : time ≡ (if by_own then own else p2)
+
+diagonal_in : (cat : Catalogue) (table : List line.Entry) (p : Protocol) (own : Bool) (i j : ℕ) (f : FragNo)
+    → p ≡ wait_protocol own → IsDiagonalIn table p i j f → HasDiagonal (wait_graph cat table) i j own
+diagonal_in cat table p own i j f e d =
+    let x = diagonals_listed cat table d.place d.entry d.reader d.writer f own d.there d.edge_is (d.protocol_is ∙ e) in
+    record {
+      place = x.place;
+      diagonal = x.diagonal;
+      at = x.at;
+      reader_is =
+          x.reader_is ∙ d.reader_is;
+      writer_is = x.writer_is ∙ d.writer_is;
+      own_is = x.own_is;
+    }
+
+first_diagonal : (table : List line.Entry) (p : Protocol) (i j : ℕ) (frags more : List FragNo) (f : FragNo)
+    → frags ≡ f ∷ more → AllDiagonalsIn table p i j frags → IsDiagonalIn table p i j f
+first_diagonal table p i j frags more f e all = all 0 f (ap (λ l. slice_get l 0) e)
+
+along : (cat : Catalogue) (table : List line.Entry) (i own p2 : ℕ) (q : Cond) → IsFromTable table i own p2 q
+    → IsAlong (wait_graph cat table) i q.class.0 q.time.0 own p2
+along cat table i own p2 q t = elim t.by [
+  | inl a ↦ record {
+    by_own = true;
+    diagonal = diagonal_in cat table P3 true i q.class.0 t.first refl
+        (first_diagonal table P3 i q.class.0 q.frags t.more t.first t.names a.1);
+    time_is = a.0;
+  }
+  | inr a ↦ record {
+    by_own = false;
+    diagonal = diagonal_in cat table P2 false i q.class.0 t.first refl
+        (first_diagonal table P2 i q.class.0 q.frags t.more t.first t.names a.1);
+    time_is = a.0;
+  }
+]
+
+wait_by : (b : Bool) (r : WaitingRead) → (if b then r.ts else r.p2) ≡ wait_time b r
+wait_by true r = refl
+wait_by false r = refl
+
+time_along : (G : WaitGraph) (i j time : ℕ) (r : WaitingRead) (a : IsAlong G i j time r.ts r.p2) → time ≡ wait_time a.diagonal.diagonal.own r
+time_along G i j time r a = a.time_is ∙ wait_by a.by_own r ∙ ap (λ b. wait_time b r) (sym a.diagonal.own_is)
+
+cond_along : (g : Given) (log : Log) (c ts : ℕ) (conds : List Cond)
+    (from : AreConditionsOf g log c ts conds) (k : ℕ) (q : Cond) → redeclares from.before ≡ redeclares log
+    → slice_get conds k ≡ Some q
+    → IsAlong (graph_of g log) c q.class.0 q.time.0 ts (bound (setting_of g (home g.catalogue c)) (local_of g (home g.catalogue c) from.before))
+cond_along g log c ts conds from k q since e =
+    let p2 : ℕ = bound (setting_of g (home g.catalogue c)) (local_of g (home g.catalogue c) from.before) in
+    along (force_at g (redeclares log)).catalogue (force_at g (redeclares log)).table c ts p2 q (subst (λ n. IsFromTable (force_at g n).table c ts p2 q) since (from.from_table k q e))
+
+-- a WRITE's time is that of a Start
+
+write_stamp : (g : Given) (log : Log) (j d w : ℕ) (of : ClassNo) (txn : TxnNo) (changes : List Change) → IsSound g.catalogue → IsPermitted g log
+    → head (pipe j (at_module g d log)) ≡ Some (Write (time_at w) of txn changes) → IsTimestamp w
+write_stamp g log j d w of txn changes sound h e =
+    let s = setting_of g (home g.catalogue j) in
+    let put = head_put g j (dm_no d) log (Write (time_at w) of txn changes) h e in
+    let o = write_origin g log j (dm_no d) (time_at w) of txn changes (class_number of.0 j w put.of_class) put in
+    let hb = permitted_part g log o.before h (part_of log o.later _ o.before o.is) in
+    let st = start_of_active s j (local_of g (home g.catalogue j) o.before) o.attempt (home_fair g j o.before hb) o.active_is in
+    let n = stamp_ticks s st.before in
+    let small = home_small g.catalogue sound j in
+    record {
+      ticks = (clock (home g.catalogue j) st.before).ticks + 1;
+      number =
+          number_of (home g.catalogue j);
+      is = omega (arith, o.ts_is, st.ts_is, n);
+      small =
+          omega (arith, small);
+    }
+
+module _ (g : Given) (log : Log) (h : IsQuiet g log) (one : IsSoundList g (redeclares log)) (marks : IsIdleAtRedeclares g log) where
+  -- a READ of class 0 holds nothing back
+  holder_declared : (j t : ℕ) → (j == 0) ≡ false → IsClass g.catalogue j → (k : IsHolder g log j t) → (k.class == 0) ≡ false
+  holder_declared j t z l k = elim (same_or_not k.class 0) [
+    | inr p ↦ p
+    | inl p ↦ (let r = k.reader in
+        let at_zero : head (pipe 0 (at_module g r.d log)) ≡ Some
+        (Read (time_at k.ts) r.of r.txn r.attempt k.conds r.uses) =
+        subst (λ c. head (pipe c (at_module g r.d log)) ≡ Some
+        (Read (time_at k.ts) r.of r.txn r.attempt k.conds r.uses)) p r.head_is in
+        let below = below_read g log j (dm_no r.d) (time_at k.ts) r.of r.txn r.attempt k.conds r.uses
+        (time_at k.write) k.of k.txn k.changes one.fits.sound h.permitted z l r.module_is at_zero
+        k.write_is in
+        let own = zero_time g log (dm_no r.d) (time_at k.ts) r.of r.txn r.attempt k.conds r.uses k.place k.cond h.permitted at_zero k.there in
+        let held = k.held in
+        absurd (omega (arith, below, own, held)))
+  ]
+
+  fits : Fits (graph_of g log)
+  fits = table_fits (force_at g (redeclares log)).catalogue (force_at g (redeclares log)).table one.table.table
+
+  class_of_writer : (i j : ℕ) (own : Bool) → HasDiagonal (graph_of g log) i j own → ((j == 0) ≡ false) × IsClass g.catalogue j
+  class_of_writer i j own d =
+      let w = (fits.diagonal d.place d.diagonal d.at).writer in
+      let from = w.from in
+      let to = w.to in
+      let size = one.era.classes in
+      let same = d.writer_is in
+      (not_zero j (omega (arith, from, same)), omega (arith, to, same, size))
+
+  waits_on : (r : WaitingRead) → IsWaiting g log r → WaitsOn (graph_of g log) (IsWaiting g log) r
+  waits_on r w =
+      let u = unmet g log r.class r.ts w.conds w.reader h in
+      let x : Cond = u.cond in
+      let a0 = cond_along g log r.class r.ts w.conds w.from u.place x w.since u.there in
+      let a : IsAlong (graph_of g log) r.class x.class.0 x.time.0 r.ts r.p2 =
+      subst (λ p. IsAlong (graph_of g log) r.class x.class.0 x.time.0 r.ts p) (sym w.p2_is) a0 in
+      let d = a.diagonal in
+      let c = class_of_writer r.class x.class.0 a.by_own d in
+      let time = time_along (graph_of g log) r.class x.class.0 x.time.0 r a in
+      let below = next_head g log r.class r.ts w.conds w.reader u.place x h one.fits u.there c.0 c.1 u.unmet in
+      elim (next_reader g log x.class.0 x.time.0 h c.1 below) [
+        | inl e ↦ (let from = conditions g log x.class.0 e.ts e.conds h one.fits.sound marks c.0 e.reader in
+            let l = e.below in
+            reader d.place d.diagonal d.at d.reader_is (read_number g log x.class.0 e.ts e.conds from.0)
+            (waiting_number g log x.class.0 e.ts e.conds c.0 e.reader from.0 from.1) (sym d.writer_is)
+            (omega (arith, l, time)))
+        | inr k ↦ (let z = holder_declared x.class.0 x.time.0 c.0 c.1 k in
+            let from = conditions g log k.class k.ts k.conds h one.fits.sound marks z k.reader in
+            let q : WaitingRead = read_number g log k.class k.ts k.conds from.0 in
+            let b : IsAlong (graph_of g log) q.class k.cond.class.0 k.cond.time.0 q.ts q.p2 =
+            cond_along g log k.class k.ts k.conds from.0 k.place k.cond from.1 k.there in
+            let held_time = time_along (graph_of g log) q.class k.cond.class.0 k.cond.time.0 q b in
+            let o = b.diagonal in
+            let low = k.held in
+            let high = k.below in
+            holder d.place d.diagonal d.at d.reader_is q
+            (waiting_number g log k.class k.ts k.conds z k.reader from.0 from.1) o.place o.diagonal o.at
+            o.reader_is (o.writer_is ∙ k.names ∙ sym d.writer_is)
+            k.write (write_stamp g log x.class.0 k.reader.d k.write k.of k.txn k.changes one.fits.sound
+            h.permitted k.write_is) (omega (arith, low, held_time)) (omega (arith, high, time)))
+      ]
+
+  none_declared : (c ts : ℕ) (conds : List Cond) → (c == 0) ≡ false → ¬ IsReader g log c ts conds
+  none_declared c ts conds z r =
+      let from = conditions g log c ts conds h one.fits.sound marks z r in
+      none_waits (graph_of g log) fits (IsWaiting g log) (stamped g log one) waits_on (read_number g log c ts conds from.0) (waiting_number g log c ts conds z r from.0 from.1)
+
+  none_undeclared : (ts : ℕ) (conds : List Cond) → ¬ IsReader g log 0 ts conds
+  none_undeclared ts conds r =
+      let u = unmet g log 0 ts conds r h in
+      let x : Cond = u.cond in
+      let class = read_classes g (dm_no r.d) log (time_at ts) r.of r.txn r.attempt conds r.uses u.place x h.permitted r.head_is u.there in
+      let i = in_range 1 (length g.catalogue.classes) u.place x.class.0 class in
+      let z = not_zero x.class.0 i.0 in
+      let l : IsClass g.catalogue x.class.0 = omega (arith, i.1) in
+      let below = next_head g log 0 ts conds r u.place x h one.fits u.there z l u.unmet in
+      elim (next_reader g log x.class.0 x.time.0 h l below) [
+        | inl e ↦ none_declared x.class.0 e.ts e.conds z e.reader
+        | inr k ↦ none_declared k.class k.ts k.conds (holder_declared x.class.0 x.time.0 z l k) k.reader
+      ]
+
+  pub none_waits_now : (c ts : ℕ) (conds : List Cond) → ¬ IsReader g log c ts conds
+  none_waits_now c ts conds r = elim (same_or_not c 0) [
+    | inl p ↦ none_undeclared ts conds (subst (λ k. IsReader g log k ts conds) p r)
+    | inr p ↦ none_declared c ts conds p r
+  ]
+
+  -- so no pipe has a message that isn't processed
+
+  zero_head : (d : ℕ) (m : Msg) → IsModule g.catalogue d → head (pipe 0 (at_module g d log)) ≡ Some m
+      → IsStuck (setting_of g (D (dm_no d))) (at_module g d log) 0 (Some m) → ⊥
+  zero_head d (Read ts of txn attempt conds uses) m e stuck =
+      none_undeclared ts.0 conds (record {
+        d = d;
+        module_is = m;
+        class_is = omega arith;
+        waits_there =
+            stuck.0;
+        of = of;
+        txn = txn;
+        attempt = attempt;
+        uses = uses;
+        head_is = e;
+      })
+  zero_head d (Write w of txn changes) m e stuck = cc
+  zero_head d x m e stuck = stuck
+
+  none_next : (c d : ℕ) (m : Msg) → IsClass g.catalogue c → IsModule g.catalogue d → head (pipe c (at_module g d log)) ≡ Some m → ⊥
+  none_next c d m l w e = elim (same_or_not c 0) [
+    | inl p ↦ (let here : head (pipe 0 (at_module g d log)) ≡ Some m = subst (λ k. head (pipe k (at_module g d log)) ≡ Some m) p e in
+        let stuck = head_stuck (setting_of g (D (dm_no d))) (at_module g d log) 0 (omega arith) (d_still g log d h w) in
+        zero_head d m w here (subst (IsStuck (setting_of g (D (dm_no d))) (at_module g d log) 0) here stuck))
+    | inr p ↦ (let below : IsBelow g log c (suc (time_of m)) = record { d = d; module_is = w; message = m; head_is = e; below = omega arith } in
+        elim (next_reader g log c (suc (time_of m)) h l below) [
+          | inl x ↦ none_waits_now c x.ts x.conds x.reader
+          | inr k ↦ none_waits_now k.class k.ts k.conds k.reader
+        ])
+  ]
+
+  all_processed : (c d : ℕ) → IsClass g.catalogue c → IsModule g.catalogue d → (pipe c (at_module g d log)).unprocessed ≡ []
+  all_processed c d l w =
+      elim (head (pipe c (at_module g d log))) as (λ o. head (pipe c (at_module g d log)) ≡ o → (pipe c (at_module g d log)).unprocessed ≡ []) [
+        | None ↦ λ e. no_head (pipe c (at_module g d log)).unprocessed e
+        | Some m ↦ λ e. absurd (none_next c d m l w e)
+      ] refl
+
+  -- and no attempt is under way
+  none_active : (c : ℕ) → IsClass g.catalogue c → active (setting_of g (home g.catalogue c)) c (at_home g c log) ≡ None
+  none_active c l =
+      elim (active (setting_of g (home g.catalogue c)) c (at_home g c log)) as (λ o. active
+      (setting_of g (home g.catalogue c)) c (at_home g c log) ≡ o → o ≡ None) [
+        | None ↦ λ e. refl
+        | Some a ↦ λ e. (let u = has_unanswered g log c a h one.fits l e in
+            let empty : slice_get [] u.place ≡ Some u.message =
+            subst (λ ms. slice_get ms u.place ≡ Some u.message) (all_processed c u.d l u.module_is)
+            u.there in cc)
+      ] refl
+
+  pub is_idle : IsIdle g log
+  is_idle = record { processed = all_processed; no_attempt = none_active }

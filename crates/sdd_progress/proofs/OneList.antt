@@ -1,0 +1,26 @@
+-- A log that puts no further list of classes in force: the one list is sound, and there is no place where one was put in force.
+use Rattle.std.proofs.Common.{ℕ, ◌++◌, ◌∷◌, ◌≡◌, ◌≤◌, ap, arith, refl, subst, sym}
+use Rattle.sdd_log.specs.Entries.{Given, Log, Redeclares}
+use Rattle.sdd_log.specs.Locals.{force_at, redeclares}
+use Rattle.sdd_eras.specs.EraOf.{IsEraOf}
+use Rattle.sdd_lawful.proofs.OneEra.{of_one_era}
+use Rattle.sdd_progress.proofs.SinceRedeclare.{redeclares_back}
+use Rattle.sdd_progress.specs.Premises.{HasOneTable, HasSoundLists, IsIdleAtRedeclares, IsSoundList, IsUpAtRedeclares}
+
+pub one_list : (g : Given) (log : Log) → HasOneTable g → redeclares log ≡ 0 → HasSoundLists g log
+one_list g log one none k l =
+    let first : 0 ≡ k = omega (arith, l, none) in
+    let own : IsEraOf g.catalogue g.catalogue = (of_one_era g log one.table one.same none).are_eras.each 0 (0, g.catalogue) refl in
+    subst (IsSoundList g) first (record { fits = one.fits; era = subst (IsEraOf g.catalogue) (sym one.same) own; table = one.table })
+
+no_redeclare : (log later before : Log) (t : ℕ) → redeclares log ≡ 0 → log ≡ later ++ Redeclares t ∷ before → ⊥
+no_redeclare log later before t none is =
+    let back = redeclares_back later (Redeclares t ∷ before) in
+    let all : redeclares log ≡ redeclares (later ++ Redeclares t ∷ before) = ap redeclares is in
+    absurd (omega (arith, back, all, none))
+
+pub idle_in_one : (g : Given) (log : Log) → redeclares log ≡ 0 → IsIdleAtRedeclares g log
+idle_in_one g log none later before t is = absurd (no_redeclare log later before t none is)
+
+pub up_in_one : (g : Given) (log : Log) → redeclares log ≡ 0 → IsUpAtRedeclares g log
+up_in_one g log none later before t is d there = absurd (no_redeclare log later before t none is)

@@ -1,0 +1,83 @@
+-- The copy that a data module has at the end of a log is that which the history gives. What is known of copies at records is
+-- said of the record of an event that finds nothing to do behind the log.
+use Rattle.std.specs.List.{cons_option, flat_map, list_any}
+use Rattle.std.specs.Prelude.{filter, filter_map, not}
+use Rattle.std.proofs.Common.{ℕ, suc, ◌++◌, ◌∙◌, ◌∷◌, ◌≡◌, List, None, Option, Some, [], ap, false, length, refl, take, true}
+use Rattle.sdd_base.specs.Numbers.{dm_no}
+use Rattle.sdd_base.specs.declared.event.Event.TheVariants.{Up}
+use Rattle.sdd_base.specs.declared.number.RelNo.{RelNo}
+use Rattle.sdd_base.specs.declared.site.Site.TheVariants.{D}
+use Rattle.sdd_catalog.specs.Catalogue.{Catalogue, has_copy}
+use Rattle.sdd_catalog.specs.Rules.{IsSound}
+use Rattle.sdd_copy.specs.Contents.{contents}
+use Rattle.sdd_dm.specs.Copies.{dated}
+use Rattle.sdd_history.specs.Records.{History}
+use Rattle.sdd_history.specs.declared.record.Rec.{Rec}
+use Rattle.sdd_history.specs.declared.record.Rec.TheVariants.{Nothing}
+use Rattle.sdd_lang.specs.Database.{Row}
+use Rattle.sdd_order.specs.Attempts.{attempt_of, attempts, committed, committed_of}
+use Rattle.sdd_order.specs.Places.{placed}
+use Rattle.sdd_order.specs.Precedence.{is_apply}
+use Rattle.sdd_laws.specs.Snapshots as laws
+use Rattle.sdd_log.specs.Due.{mark_due, note_if}
+use Rattle.sdd_log.specs.Entries.{Given, Log, Mark, Notes, history, marks}
+use Rattle.sdd_log.specs.Locals.{local_of, setting_of}
+use Rattle.sdd_log.specs.Permitted.{IsPermitted, by_event, by_mark}
+use Rattle.sdd_log.specs.Traffic.{is_down}
+use Rattle.sdd_lawful.specs.Given.{HasSoundData}
+use Rattle.sdd_lawful.specs.Made.{IsMadeAt}
+use Rattle.sdd_lawful.proofs.SameCopies.{same_copy}
+use Rattle.sdd_lawful.proofs.Touched.{copy_module}
+use Rattle.sdd_progress.proofs.ErasOf.{are_eras_of}
+use Rattle.sdd_progress.specs.Eras.{eras_of}
+use Rattle.sdd_progress.specs.Premises.{HasSoundLists}
+use Rattle.sdd_progress.specs.Quiet.{IsQuiet}
+
+-- a record of nothing behind a history tells nothing of transactions
+
+none_more : {B : Type 0} (f : ℕ × Rec → Option B) → ((k : ℕ) → f (k, Nothing) ≡ None) → (k : ℕ) (h : History) (event : ℕ)
+    → filter_map f (placed k (h ++ (event, Nothing) ∷ [])) ≡ filter_map f (placed k h)
+none_more f n k [] event = ap (λ o. cons_option o []) (n k)
+none_more f n k (x ∷ h) event = ap (cons_option (f (k, x.1))) (none_more f n (suc k) h event)
+
+committed_same : (h : History) (event : ℕ) → committed (h ++ (event, Nothing) ∷ []) ≡ committed h
+committed_same h event =
+    ap (λ starts. filter_map (committed_of starts) (placed 0 (h ++ (event, Nothing) ∷ []))) (none_more attempt_of (λ k. refl) 0 h event)
+    ∙ none_more (committed_of (attempts h)) (λ k. refl) 0 h event
+
+take_same : {A : Type 0} (xs ys : List A) → take (length xs) (xs ++ ys) ≡ take (length xs) xs
+take_same [] ys = refl
+take_same (x ∷ xs) ys = ap (λ zs. x ∷ zs) (take_same xs ys)
+
+copy_same : (cat : Catalogue) (rows : List (RelNo × Row)) (h : History) (event d f : ℕ)
+    → laws.copy_at cat rows (h ++ (event, Nothing) ∷ []) d (length h) f ≡ laws.copy_at cat rows h d (length h) f
+copy_same cat rows h event d f =
+    ap (λ cs. contents f (laws.first_rows cat rows ++ flat_map laws.dated
+    (filter (λ t. list_any (λ e. is_apply t.start.txn d e.1)
+    (take (length h) (h ++ (event, Nothing) ∷ []))) cs))) (committed_same h event)
+    ∙ ap (λ es. contents f (laws.first_rows cat rows ++ flat_map laws.dated
+    (filter (λ t. list_any (λ e. is_apply t.start.txn d e.1) es) (committed h))))
+    (take_same h ((event, Nothing) ∷ []))
+
+-- the event
+
+abbrev noted : ℕ → Log → Log
+noted d log = Notes ∷ Mark (Up (dm_no d)) ∷ log
+
+noted_permitted : (g : Given) (log : Log) (d : ℕ) → is_down d log ≡ false → IsPermitted g log → IsPermitted g (noted d log)
+noted_permitted g log d up h =
+    let due : mark_due g (Mark (Up (dm_no d)) ∷ log) ≡ Some Notes = ap (λ b. note_if (not b)) up in
+    (by_event due, (by_mark (Up (dm_no d)) refl, h))
+
+abbrev noted_made : (log : Log) (d : ℕ) → IsMadeAt (noted d log) (length (history log)) Nothing
+noted_made log d = record { later = []; entry = Notes; before = Mark (Up (dm_no d)) ∷ log; is = refl; makes = refl; place_is = refl }
+
+pub own_copy : (g : Given) (rows : List (RelNo × Row)) (log : Log) (f d : ℕ) → IsSound g.catalogue → IsQuiet g log → HasSoundLists g log
+    → HasSoundData g rows → has_copy g.catalogue d f ≡ true
+    → contents f (dated (setting_of g (D (dm_no d))) (local_of g (D (dm_no d)) log)) ≡ laws.copy_at g.catalogue rows (history log) d (length (history log)) f
+own_copy g rows log f d sound h lists fine copied =
+    let up : is_down d log ≡ false = h.up d (copy_module g.catalogue sound d f copied) in
+    same_copy g rows (eras_of g log) (noted d log) sound fine (noted_permitted g log d up h.permitted)
+    (are_eras_of g (noted d log) lists) d (length (history log)) Nothing
+    (noted_made log d) f copied
+    ∙ copy_same g.catalogue rows (history log) (suc (marks log)) d f

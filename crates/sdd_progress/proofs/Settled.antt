@@ -1,0 +1,57 @@
+-- A complete log at whose end the links are quiet is one at which nothing goes on; and it is, where a settle is the last.
+use Rattle.std.proofs.Common.{ℕ, false, true, ◌++◌, ◌∷◌, ◌≡◌, List, [], ap, arith, subst}
+use Rattle.sdd_base.specs.declared.event.Event.{Event}
+use Rattle.sdd_base.specs.declared.event.Event.TheVariants.{Settle}
+use Rattle.sdd_net.specs.Links.{quiet}
+use Rattle.sdd_order.specs.Numbers.{IsModule}
+use Rattle.sdd_log.specs.Entries.{Given, Log, history, with_event}
+use Rattle.sdd_log.specs.Locals.{redeclares}
+use Rattle.sdd_log.specs.Permitted.{AreSubmittedOnce}
+use Rattle.sdd_log.specs.Traffic.{all_links, calls_of, is_down}
+use Rattle.sdd_log.proofs.NewMarks.{lawful_permitted}
+use Rattle.sdd_termination.proofs.Settled.{quiet_at_last}
+use Rattle.sdd_log.proofs.Completing.{complete_parts}
+use Rattle.sdd_log.proofs.FirstHand.{none_to_hand}
+use Rattle.sdd_log.specs.Resting.{Rests}
+use Rattle.sdd_lawful.proofs.Numbered.{lawful_numbered}
+use Rattle.sdd_lawful.specs.Given.{SubmitGiven}
+use Rattle.sdd_progress.proofs.Committed.{all_committed}
+use Rattle.sdd_progress.proofs.Finished.{finished}
+use Rattle.sdd_progress.proofs.IdleAtRedeclares.{idle_at_redeclares}
+use Rattle.sdd_progress.proofs.NoneWaits.{is_idle}
+use Rattle.sdd_progress.specs.Committed.{AllCommitted}
+use Rattle.sdd_progress.specs.Finished.{IsFinished}
+use Rattle.sdd_progress.specs.Premises.{HasSoundLists}
+use Rattle.sdd_progress.specs.Quiet.{IsQuiet}
+use Rattle.sdd_progress.specs.Settled.{IsAtEnd, IsSettled}
+
+-- between events
+pub resting_is_quiet : (g : Given) (log : Log) → AreSubmittedOnce g.events → Rests g log → quiet (all_links g) (calls_of log) ≡ true
+    → ((d : ℕ) → IsModule g.catalogue d → is_down d log ≡ false) → IsQuiet g log
+resting_is_quiet g log once r links up =
+    record { permitted = lawful_permitted g log once r.lawful; links = links; up = up; no_act = r.no_site; no_hand = none_to_hand g log r.handed_all }
+
+-- and at the end
+pub settled_is_quiet : (g : Given) (log : Log) → AreSubmittedOnce g.events → IsSettled g log → IsQuiet g log
+settled_is_quiet g log once s =
+    let o = complete_parts g log s.at_end.complete in
+    record { permitted = lawful_permitted g log once s.at_end.lawful; links = s.links; up = s.at_end.up; no_act = o.no_site; no_hand = o.no_hand }
+
+pub settled_is_finished : (g : Given) (log : Log) → HasSoundLists g log → AreSubmittedOnce g.events → IsSettled g log → IsFinished g log
+settled_is_finished g log lists once s =
+    let h = settled_is_quiet g log once s in
+    let last = lists (redeclares log) (omega arith) in
+    finished g log h last.fits.sound (is_idle g log h last (idle_at_redeclares g log once s.at_end.lawful lists s.at_end.up_before))
+
+pub settled_is_committed : (g : Given) (log : Log) → HasSoundLists g log → SubmitGiven g → IsSettled g log → AllCommitted (history log)
+settled_is_committed g log lists given s =
+    all_committed g log (settled_is_quiet g log given.once s).permitted lists
+    (lawful_numbered g log given s.at_end.lawful) (settled_is_finished g log lists given.once s)
+
+-- where a settle is the last of the events
+pub settle_ends : (g : Given) (log : Log) (events : List Event) → g.events ≡ events ++ Settle ∷ [] → IsAtEnd g log → IsSettled g log
+settle_ends g log events e s =
+    let before : Given = record g { events = events } in
+    let same : g ≡ with_event before Settle = ap (λ es. record g { events = es }) e in
+    let there : IsAtEnd (with_event before Settle) log = subst (λ x. IsAtEnd x log) same s in
+    record { at_end = s; links = quiet_at_last before log there.lawful there.complete }

@@ -1,0 +1,131 @@
+-- A READ that waits is of an attempt that started since the last list of classes was put in force, where all was idle then.
+use Rattle.std.proofs.Common.{ℕ, ◌++◌, ◌==◌, ◌∙◌, ◌∷◌, ◌≡◌, ◌≤◌, ◌⊎◌, List, Some, [], ap, append-nil, append_assoc, arith, inl, inr, length, refl, slice_get, subst, sym, true}
+use Rattle.sdd_base.specs.Numbers.{dm_no}
+use Rattle.sdd_base.specs.declared.condition.Cond.{Cond}
+use Rattle.sdd_base.specs.declared.number.ClassNo.{ClassNo}
+use Rattle.sdd_base.specs.declared.number.Ts.{Ts}
+use Rattle.sdd_base.specs.declared.number.TxnNo.{TxnNo}
+use Rattle.sdd_base.specs.declared.site.Site.{Site}
+use Rattle.sdd_base.specs.declared.site.Site.TheVariants.{D}
+use Rattle.sdd_base.specs.declared.usage.Use.{Use}
+use Rattle.sdd_catalog.specs.Rules.{IsSound}
+use Rattle.sdd_wire.specs.declared.msg.Msg.{Msg}
+use Rattle.sdd_wire.specs.declared.msg.Msg.TheVariants.{Read}
+use Rattle.sdd_module.specs.SiteLog.{Did}
+use Rattle.sdd_order.specs.Numbers.{IsClass, IsModule}
+use Rattle.sdd_pipe.specs.Pipe.{head}
+use Rattle.sdd_dm.specs.Pipes.{pipe}
+use Rattle.sdd_log.specs.Entries.{Does, Entry, Given, Hand, Log, Mark, Notes, Redeclares, Round, Submitted}
+use Rattle.sdd_log.specs.Locals.{local_of, redeclares}
+use Rattle.sdd_log.specs.Permitted.{IsPermitted}
+use Rattle.sdd_invariants.proofs.Applied.{in_class, one_of_key, own_made, reads_strict}
+use Rattle.sdd_invariants.proofs.Bools.{same_number}
+use Rattle.sdd_invariants.proofs.ClassOrder.{head_place}
+use Rattle.sdd_invariants.proofs.InPipe.{in_pipe_later}
+use Rattle.sdd_invariants.proofs.Installed.{class_number}
+use Rattle.sdd_invariants.proofs.Lists.{place_within}
+use Rattle.sdd_invariants.proofs.Made.{local_at, local_grows}
+use Rattle.sdd_invariants.proofs.Once.{processed_grows}
+use Rattle.sdd_invariants.proofs.Origins.{is_put}
+use Rattle.sdd_invariants.proofs.Split.{processed_stays}
+use Rattle.sdd_invariants.specs.Causes.{IsPutAt}
+use Rattle.sdd_invariants.specs.OnLinks.{read_at}
+use Rattle.sdd_invariants.specs.Seen.{class_puts}
+use Rattle.sdd_invariants.specs.Steps.{home}
+use Rattle.sdd_invariants.specs.Traffic.{puts_to}
+use Rattle.sdd_lawful.proofs.Homes.{home_small}
+use Rattle.sdd_progress.proofs.Applied.{pipe_has_all}
+use Rattle.sdd_progress.specs.Finished.{IsIdle}
+use Rattle.sdd_progress.specs.Quiet.{IsQuiet, at_module}
+use Rattle.sdd_progress.specs.Premises.{IsIdleAtRedeclares}
+
+-- a longer log puts no fewer lists in force
+
+pub redeclares_up : (e : Entry) (log : Log) → redeclares log ≤ redeclares (e ∷ log)
+redeclares_up (Redeclares t) log = omega arith
+redeclares_up _ log = omega arith
+
+pub redeclares_back : (later before : Log) → redeclares before ≤ redeclares (later ++ before)
+redeclares_back [] before = omega arith
+redeclares_back (e ∷ later) before = let i = redeclares_back later before in let j = redeclares_up e (later ++ before) in omega (arith, i, j)
+
+-- among later entries a list was put in force, or none was
+
+pub record HasRedeclare (later : Log) : Type 0 where
+  pub after : Log
+  pub time : ℕ
+  pub rest : Log
+  pub is : later ≡ after ++ Redeclares time ∷ rest
+
+further : (e : Entry) (later before : Log) → redeclares (e ∷ (later ++ before)) ≡ redeclares (later ++ before)
+    → (redeclares (later ++ before) ≡ redeclares before) ⊎ HasRedeclare later
+    → (redeclares (e ∷ (later ++ before)) ≡ redeclares before) ⊎ HasRedeclare (e ∷ later)
+further e later before same (inl p) = inl (same ∙ p)
+further e later before same (inr m) = inr (record { after = e ∷ m.after; time = m.time; rest = m.rest; is = ap (λ l. e ∷ l) m.is })
+
+pub redeclare_in : (later before : Log) → (redeclares (later ++ before) ≡ redeclares before) ⊎ HasRedeclare later
+redeclare_in [] before = inl refl
+redeclare_in (Mark e ∷ later) before = further (Mark e) later before refl (redeclare_in later before)
+redeclare_in (Round es ∷ later) before = further (Round es) later before refl (redeclare_in later before)
+redeclare_in (Redeclares t ∷ later) before = inr (record { after = []; time = t; rest = later; is = refl })
+redeclare_in (Hand a b n m ∷ later) before = further (Hand a b n m) later before refl (redeclare_in later before)
+redeclare_in (Submitted at n ∷ later) before = further (Submitted at n) later before refl (redeclare_in later before)
+redeclare_in (Notes ∷ later) before = further Notes later before refl (redeclare_in later before)
+redeclare_in (Does at act ∷ later) before = further (Does at act) later before refl (redeclare_in later before)
+
+read_key : (c : ℕ) (ts : Ts) (of : ClassNo) (txn : TxnNo) (attempt : ℕ) (conds : List Cond) (uses : List Use) → of.0 ≡ c
+    → read_at c (Read ts of txn attempt conds uses) ≡ Some ts.0
+read_key c ts of txn attempt conds uses e = let q : (of.0 == c) ≡ true = ap (λ y. y == c) e ∙ same_number c in rw q refl
+
+-- the READ at the head of a pipe wasn't put before nothing went on and all was idle
+not_put_by : (g : Given) (log later mid between : Log) (c d : ℕ) (ts : Ts) (of : ClassNo) (txn : TxnNo) (attempt : ℕ) (conds : List Cond) (uses : List Use)
+    → IsPermitted g log → IsSound g.catalogue → IsClass g.catalogue c → IsModule g.catalogue d
+    → head (pipe c (at_module g d log)) ≡ Some (Read ts of txn attempt conds uses)
+    → (p : IsPutAt g log c (dm_no d) (Read ts of txn attempt conds uses))
+    → log ≡ later ++ mid → IsQuiet g mid → IsIdle g mid
+    → mid ≡ between ++ Does (home g.catalogue c) p.act ∷ p.before → ⊥
+not_put_by g log later mid between c d ts of txn attempt conds uses h sound l m e p is quiet idle at =
+    let here : Site = home g.catalogue c in
+    let x : Msg = Read ts of txn attempt conds uses in
+    let s = local_at g here between p.before (Does here p.act) (Did p.act) (own_made here p.act) in
+    let q = is_put (D (dm_no d)) s.0 p.act (local_of g here p.before) p.place x p.there in
+    let there : slice_get (puts_to (D (dm_no d)) (local_of g here mid)) q.0 ≡ Some x =
+    subst (λ z. slice_get (puts_to (D (dm_no d)) z) q.0 ≡ Some x) (sym (ap (local_of g here) at ∙ s.1)) q.1 in
+    let i = in_class c (puts_to (D (dm_no d)) (local_of g here mid)) q.0 x there p.of_class in
+    let pm = pipe c (at_module g d mid) in
+    let all : class_puts g c (dm_no d) mid ≡ pm.processed =
+    sym (pipe_has_all g mid c d quiet sound l m) ∙ ap (λ ms. pm.processed ++ ms) (idle.processed c d l m) ∙ append-nil pm.processed in
+    let done : slice_get pm.processed i.0 ≡ Some x = subst (λ ms. slice_get ms i.0 ≡ Some x) all i.1 in
+    let within = place_within pm.processed i.0 x done in
+    let grown = in_pipe_later g c (dm_no d) later mid quiet.permitted in
+    let at1 : slice_get (class_puts g c (dm_no d) log) i.0 ≡ Some x =
+    subst (λ ms. slice_get ms i.0 ≡ Some x) (sym (ap (class_puts g c (dm_no d)) is ∙ grown.1)) (processed_stays pm grown.0 i.0 x done) in
+    let pl = pipe c (at_module g d log) in
+    let at2 : slice_get (class_puts g c (dm_no d) log) (length pl.processed) ≡ Some x = head_place g c (dm_no d) [] log x h e in
+    let key : read_at c x ≡ Some ts.0 = read_key c ts of txn attempt conds uses (class_number of.0 c ts.0 p.of_class) in
+    let low = home_small g.catalogue sound c in
+    let one : i.0 ≡ length pl.processed =
+    one_of_key (read_at c) (class_puts g c (dm_no d) log) i.0 (length pl.processed) x x ts.0
+    (reads_strict g c (dm_no d) log h (omega (arith, low))) at1 at2 key key in
+    let lg = local_grows g (D (dm_no d)) later mid in
+    let more = processed_grows c lg.0 (at_module g d mid) in
+    let same : length pl.processed ≡ length (pipe c (lg.0 ++ at_module g d mid)).processed =
+    ap (λ z. length (pipe c z).processed) (ap (at_module g d) is ∙ lg.1) in
+    absurd (omega (arith, within, one, more, same))
+
+-- so it was put since the last list was put in force
+pub since_redeclare : (g : Given) (log : Log) (c d : ℕ) (ts : Ts) (of : ClassNo) (txn : TxnNo) (attempt : ℕ) (conds : List Cond) (uses : List Use)
+    → IsPermitted g log → IsSound g.catalogue → IsClass g.catalogue c → IsModule g.catalogue d → IsIdleAtRedeclares g log
+    → head (pipe c (at_module g d log)) ≡ Some (Read ts of txn attempt conds uses)
+    → (p : IsPutAt g log c (dm_no d) (Read ts of txn attempt conds uses)) → redeclares p.before ≡ redeclares log
+since_redeclare g log c d ts of txn attempt conds uses h sound l m marks e p =
+    let act : Entry = Does (home g.catalogue c) p.act in
+    elim (redeclare_in p.later (act ∷ p.before)) [
+      | inl same ↦ sym (ap redeclares p.is ∙ same)
+      | inr k ↦ (let mid : Log = k.rest ++ act ∷ p.before in
+          let is : log ≡ k.after ++ Redeclares k.time ∷ mid =
+          p.is ∙ ap (λ z. z ++ act ∷ p.before) k.is ∙ append_assoc k.after (Redeclares k.time ∷ k.rest) (act ∷ p.before) in
+          let x = marks k.after mid k.time is in
+          let parts : log ≡ (k.after ++ Redeclares k.time ∷ []) ++ mid = is ∙ sym (append_assoc k.after (Redeclares k.time ∷ []) mid) in
+          absurd (not_put_by g log (k.after ++ Redeclares k.time ∷ []) mid k.rest c d ts of txn attempt conds uses h sound l m e p parts x.0 x.1 refl))
+    ]

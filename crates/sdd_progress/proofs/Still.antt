@@ -1,0 +1,180 @@
+-- Where nothing goes on, nothing is due at any site.
+use Rattle.std.proofs.Common.{ℕ, ◌&&◌, ◌-◌, ◌==◌, ◌≡◌, ◌≤◌, ◌⊎◌, None, Option, Some, ap, false, inl, inr, length, refl, slice_get, subst, sym, true}
+use Rattle.std.specs.Prelude.{nat_le}
+use Rattle.std.proofs.lemmas.Bool.{le-leb}
+use Rattle.sdd_base.specs.Numbers.{dm_no, tm_no}
+use Rattle.sdd_base.specs.Sites.{sites}
+use Rattle.sdd_base.specs.Words.{first_some}
+use Rattle.sdd_base.specs.declared.site.Site.{Site}
+use Rattle.sdd_base.specs.declared.site.Site.TheVariants.{D, T, U}
+use Rattle.sdd_catalog.specs.Catalogue.{Catalogue, class_at, numbers_to}
+use Rattle.sdd_catalog.specs.Rules.{IsSound}
+use Rattle.sdd_module.specs.SiteLog.{Act}
+use Rattle.sdd_net.specs.Nets.{is_link, is_site}
+use Rattle.sdd_order.specs.Numbers.{IsClass, IsModule}
+use Rattle.sdd_attempt.specs.Acts.{attempt_due}
+use Rattle.sdd_attempt.specs.Attempts.{active}
+use Rattle.sdd_dm.specs.Due as dm
+use Rattle.sdd_dm.specs.Views as dm_views
+use Rattle.sdd_tm.specs.Due as tm
+use Rattle.sdd_tm.specs.Views as tm_views
+use Rattle.sdd_umod.specs.Due as um
+use Rattle.sdd_umod.specs.Views as um_views
+use Rattle.sdd_log.specs.Due.{does_at, next_at}
+use Rattle.sdd_log.specs.Entries.{Given, Log}
+use Rattle.sdd_log.specs.Locals.{local_of, setting_of}
+use Rattle.sdd_log.specs.Snapshots.{base_of}
+use Rattle.sdd_invariants.proofs.Bools.{same_number, same_or_not}
+use Rattle.sdd_invariants.proofs.Holding.{at_map}
+use Rattle.sdd_invariants.specs.Steps.{home}
+use Rattle.sdd_obligations.proofs.HoldsFit.{at_place}
+use Rattle.sdd_obligations.proofs.OfNext.{site_there}
+use Rattle.sdd_lawful.proofs.Homes.{positive, served}
+use Rattle.sdd_log.proofs.Ticking.{or_none}
+use Rattle.sdd_progress.proofs.Lists.{kept_there, none_at}
+use Rattle.sdd_progress.specs.Quiet.{IsQuiet, at_home, at_module}
+
+does_none : (at : Site) (o : Option Act) → does_at at o ≡ None → o ≡ None
+does_none at None e = refl
+does_none at (Some act) e = cc
+
+pub none_due : (g : Given) (log : Log) (at : Site) → IsQuiet g log → is_site g.catalogue.tms g.catalogue.dms at ≡ true → next_at g log at ≡ None
+none_due g log at h e =
+    let i = site_there g.catalogue.tms g.catalogue.dms at e in
+    does_none at (next_at g log at) (none_at (λ x. does_at x (next_at g log x)) (sites g.catalogue.tms g.catalogue.dms) i.0 at h.no_act i.1)
+
+-- the sites of modules and classes, and the links between them
+
+from_1_to : (most n : ℕ) → 1 ≤ n → n ≤ most → (nat_le 1 n && nat_le n most) ≡ true
+from_1_to most n l m = rw (le-leb 1 n l, le-leb n most m) refl
+
+pub d_site : (cat : Catalogue) (d : ℕ) → IsModule cat d → is_site cat.tms cat.dms (D (dm_no d)) ≡ true
+d_site cat d m = from_1_to cat.dms d m.0 m.1
+
+pub t_site : (cat : Catalogue) (t : ℕ) → 1 ≤ t → t ≤ cat.tms → is_site cat.tms cat.dms (T (tm_no t)) ≡ true
+t_site cat t l m = from_1_to cat.tms t l m
+
+-- a declared class is run by a transaction module
+pub record IsRunAt (cat : Catalogue) (c : ℕ) : Type 0 where
+  pub t : ℕ
+  pub home_is : home cat c ≡ T (tm_no t)
+  pub from : 1 ≤ t
+  pub to : t ≤ cat.tms
+  pub number_is : t ≡ (class_at cat c).tm.0
+
+pub run_at : (cat : Catalogue) (c : ℕ) → IsSound cat → (c == 0) ≡ false → IsClass cat c → IsRunAt cat c
+run_at cat c sound p l =
+    let s = served cat sound c (positive c p) l in
+    record { t = (class_at cat c).tm.0; home_is = rw p refl; from = s.module_from; to = s.module_to; number_is = refl }
+
+pub u_is : (cat : Catalogue) (c : ℕ) → c ≡ 0 → home cat c ≡ U
+u_is cat c p = ap (home cat) p
+
+linked_if : (tms dms : ℕ) (a : Site) (d : ℕ) → is_site tms dms a ≡ true → is_site tms dms (D (dm_no d)) ≡ true → (a ≡ U) ⊎ ((t : ℕ) × (a ≡ T (tm_no t)))
+    → (is_link tms dms a (D (dm_no d)) ≡ true) × (is_link tms dms (D (dm_no d)) a ≡ true)
+linked_if tms dms a d e f (inl p) =
+    subst (λ x. is_site tms dms x ≡ true → (is_link tms dms x (D (dm_no d)) ≡ true)
+    × (is_link tms dms (D (dm_no d)) x ≡ true)) (sym p) (λ q. (rw f refl, rw f refl)) e
+linked_if tms dms a d e f (inr p) =
+    subst (λ x. is_site tms dms x ≡ true → (is_link tms dms x (D (dm_no d)) ≡ true)
+    × (is_link tms dms (D (dm_no d)) x ≡ true)) (sym p.1) (λ q. (rw (q, f) refl, rw (f, q) refl)) e
+
+pub home_site : (cat : Catalogue) (c : ℕ) → IsSound cat → IsClass cat c → is_site cat.tms cat.dms (home cat c) ≡ true
+home_site cat c sound l = elim (same_or_not c 0) [
+  | inl p ↦ subst (λ x. is_site cat.tms cat.dms x ≡ true) (sym (u_is cat c p)) refl
+  | inr p ↦ (let r = run_at cat c sound p l in subst (λ x. is_site cat.tms cat.dms x ≡ true) (sym r.home_is) (t_site cat r.t r.from r.to))
+]
+
+pub home_linked : (cat : Catalogue) (c d : ℕ) → IsSound cat → IsClass cat c → IsModule cat d
+    → (is_link cat.tms cat.dms (home cat c) (D (dm_no d)) ≡ true) × (is_link cat.tms cat.dms (D (dm_no d)) (home cat c) ≡ true)
+home_linked cat c d sound l m =
+    linked_if cat.tms cat.dms (home cat c) d (home_site cat c sound l) (d_site cat d m) (elim (same_or_not c 0) [
+      | inl p ↦ inl (u_is cat c p)
+      | inr p ↦ (let r = run_at cat c sound p l in inr (r.t, r.home_is))
+    ])
+
+-- a class among those of its module
+pub runs_place : (g : Given) (c t : ℕ) → 1 ≤ c → IsClass g.catalogue c → t ≡ (class_at g.catalogue c).tm.0
+    → (j : ℕ) × (slice_get (tm_views.runs (setting_of g (T (tm_no t)))) j ≡ Some c)
+runs_place g c t l m e =
+    kept_there (λ k. (class_at g.catalogue k).tm.0 == t) (numbers_to (length g.catalogue.classes)) (c - 1) c
+    (at_place (length g.catalogue.classes) c l m) (subst (λ x. ((class_at g.catalogue c).tm.0 ==
+    x) ≡ true) (sym e) (same_number (class_at g.catalogue c).tm.0))
+
+-- what isn't due at a transaction module
+
+pub record IsStillT (g : Given) (log : Log) (t : ℕ) : Type 0 where
+  pub nulls : first_some (tm.null_due (tm_views.view_of (setting_of g (T (tm_no t)))
+      (local_of g (T (tm_no t)) log))) (tm_views.view_of (setting_of g (T (tm_no t)))
+      (local_of g (T (tm_no t)) log)).classes ≡ None
+  pub exchanges : (j c : ℕ) → slice_get (tm_views.runs (setting_of g (T (tm_no t)))) j ≡ Some c
+      → attempt_due g.catalogue (base_of g log) c (active (setting_of g (T (tm_no t))) c (local_of g (T (tm_no t)) log)) ≡ None
+  pub held : tm.held_due (tm_views.view_of (setting_of g (T (tm_no t))) (local_of g (T (tm_no t)) log)) ≡ None
+  pub starts : (j c : ℕ) → slice_get (tm_views.runs (setting_of g (T (tm_no t)))) j ≡ Some c
+      → tm.start_due g.catalogue (tm_views.view_of (setting_of g (T (tm_no t)))
+      (local_of g (T (tm_no t)) log)) (tm_views.class_view (setting_of g (T (tm_no t)))
+      (local_of g (T (tm_no t)) log) c) ≡ None
+
+pub t_still : (g : Given) (log : Log) (t : ℕ) → IsQuiet g log → 1 ≤ t → t ≤ g.catalogue.tms → IsStillT g log t
+t_still g log t h l m =
+    let s = setting_of g (T (tm_no t)) in
+    let lt = local_of g (T (tm_no t)) log in
+    let v = tm_views.view_of s lt in
+    let e : tm.due g.catalogue (base_of g log) v ≡ None = none_due g log (T (tm_no t)) h (t_site g.catalogue t l m) in
+    let p = or_none (first_some (tm.exchange_due g.catalogue (base_of g log)) v.classes) _ e in
+    let q = or_none (first_some (tm.null_due v) v.classes) _ p.1 in
+    let r = or_none (tm.held_due v) (first_some (tm.start_due g.catalogue v) v.classes) q.1 in
+    record {
+      nulls = q.0;
+      exchanges = λ j c i. none_at (tm.exchange_due g.catalogue (base_of g log)) v.classes j
+          (tm_views.class_view s lt c) p.0 (at_map (tm_views.class_view s lt) (tm_views.runs s) j c i);
+      held = r.0;
+      starts = λ j c i. none_at (tm.start_due g.catalogue v) v.classes j (tm_views.class_view s lt c) r.1
+          (at_map (tm_views.class_view s lt) (tm_views.runs s) j c i);
+    }
+
+-- what isn't due at the module for undeclared transactions
+
+pub record IsStillU (g : Given) (log : Log) : Type 0 where
+  pub exchange : attempt_due g.catalogue (base_of g log) 0 (active (setting_of g U) 0 (local_of g U log)) ≡ None
+  pub releases : (j t : ℕ) → slice_get (numbers_to g.catalogue.tms) j ≡ Some t
+      → um.release_due g.catalogue (um_views.view_of (setting_of g U) (local_of g U log)) (um_views.counts t (local_of g U log)) ≡ None
+  pub start : um.start_due g.catalogue (um_views.view_of (setting_of g U) (local_of g U log)) ≡ None
+  pub holds : (j t : ℕ) → slice_get (numbers_to g.catalogue.tms) j ≡ Some t
+      → um.hold_due (um_views.view_of (setting_of g U) (local_of g U log)) (um_views.counts t (local_of g U log)) ≡ None
+
+pub u_still : (g : Given) (log : Log) → IsQuiet g log → IsStillU g log
+u_still g log h =
+    let s = setting_of g U in
+    let lu = local_of g U log in
+    let v = um_views.view_of s lu in
+    let e : um.due g.catalogue (base_of g log) v ≡ None = none_due g log U h refl in
+    let p = or_none (attempt_due g.catalogue (base_of g log) 0 v.active) _ e in
+    let q = or_none (first_some (um.release_due g.catalogue v) v.counts) _ p.1 in
+    let r = or_none (um.start_due g.catalogue v) (first_some (um.hold_due v) v.counts) q.1 in
+    record {
+      exchange = p.0;
+      releases = λ j t i. none_at (um.release_due g.catalogue v) v.counts j (um_views.counts t lu) q.0
+          (at_map (λ t. um_views.counts t lu) (numbers_to g.catalogue.tms) j t i);
+      start = r.0;
+      holds = λ j t i. none_at (um.hold_due v) v.counts j (um_views.counts t lu) r.1 (at_map (λ t. um_views.counts t lu) (numbers_to g.catalogue.tms) j t i);
+    }
+
+-- of each class the active attempt, where there is one, has nothing to send and may not commit
+pub exchange_none : (g : Given) (log : Log) (c : ℕ) → IsQuiet g log → IsSound g.catalogue → IsClass g.catalogue c
+    → attempt_due g.catalogue (base_of g log) c (active (setting_of g (home g.catalogue c)) c (at_home g c log)) ≡ None
+exchange_none g log c h sound l = elim (same_or_not c 0) [
+  | inl p ↦ subst (λ k. attempt_due g.catalogue (base_of g log) k
+      (active (setting_of g (home g.catalogue k)) k (at_home g k log)) ≡ None) (sym p)
+      (u_still g log h).exchange
+  | inr p ↦ (let r = run_at g.catalogue c sound p l in
+      let j = runs_place g c r.t (positive c p) l r.number_is in
+      subst (λ x. attempt_due g.catalogue (base_of g log) c
+      (active (setting_of g x) c (local_of g x log)) ≡ None) (sym r.home_is)
+      ((t_still g log r.t h r.from r.to).exchanges j.0 c j.1))
+]
+
+-- what isn't due at a data module
+pub d_still : (g : Given) (log : Log) (d : ℕ) → IsQuiet g log → IsModule g.catalogue d
+    → dm.due (dm_views.home_of (setting_of g (D (dm_no d)))) (dm_views.view_of (setting_of g (D (dm_no d))) (at_module g d log)) ≡ None
+d_still g log d h m = none_due g log (D (dm_no d)) h (d_site g.catalogue d m)

@@ -1,0 +1,70 @@
+-- Where each `redeclare` is given when it may be, a lawful log has no data module down where it puts a list of classes in
+-- force, and puts none in force beyond those that are given.
+use Rattle.std.proofs.Common.{ℕ, ◌++◌, ◌+◌, ◌<◌, ◌≤◌, ◌∙◌, ◌∷◌, ◌≡◌, List, Some, [], ap, append-nil, append_assoc, arith, false, length, refl, subst, sym}
+use Rattle.sdd_base.specs.declared.event.Event.{Event}
+use Rattle.sdd_base.specs.declared.event.Event.TheVariants.{Deliver, Down, Lose, Redeclare, Repeat, Resend, Settle, Submit, Tick, Up}
+use Rattle.sdd_net.specs.Links.{quiet, round}
+use Rattle.sdd_order.specs.Numbers.{IsModule}
+use Rattle.sdd_log.specs.Entries.{Given, Log, Redeclares}
+use Rattle.sdd_log.specs.Lawful.{IsLawful}
+use Rattle.sdd_log.specs.Locals.{redeclares}
+use Rattle.sdd_log.specs.Marks.{left, mark_of}
+use Rattle.sdd_log.specs.Traffic.{all_links, calls_of, is_down}
+use Rattle.sdd_termination.proofs.Marked.{next_is_of_events}
+use Rattle.sdd_obligations.specs.Bounds.{AllFewTicks}
+use Rattle.sdd_progress.specs.Premises.{IsUpAtRedeclares}
+use Rattle.sdd_obligations.proofs.Done.{AreDone, count_join, done, down_join, listed_first, settles_turn}
+use Rattle.sdd_obligations.specs.AfterEvents.{is_down_after, redeclares_in}
+use Rattle.sdd_progress.specs.Timely.{AreTimely}
+
+-- no data module is down
+
+up_there : (g : Given) (log : Log) (t : ℕ) (s : List Event × List Event) → mark_of g log s ≡ Some (Redeclares t) → AreDone g (λ d. is_down d log) (redeclares log) s
+    → AreTimely g → (d : ℕ) → IsModule g.catalogue d → is_down d log ≡ false
+up_there g log t (ws, []) m i timely d here =
+    let f = listed_first g log (quiet (all_links g) (calls_of log)) (round (all_links g) (calls_of log)) ws t m in
+    let whole : g.events ≡ (i.1.front ++ f.skip) ++ Redeclare ∷ f.rest =
+    i.1.is ∙ ap (λ z. i.1.front ++ z) f.is ∙ sym (append_assoc i.1.front f.skip (Redeclare ∷ f.rest)) in
+    i.1.downs d ∙ sym (settles_turn d (is_down_after d i.1.front) f.skip f.settles) ∙ sym (down_join d false i.1.front f.skip) ∙ (timely (i.1.front ++ f.skip) f.rest whole).up d here
+up_there g log t (ws, x ∷ r) m i timely d here = absurd (cc)
+
+lawful_end : (g : Given) (later log : Log) → IsLawful g (later ++ log) → IsLawful g log
+lawful_end g [] log h = h
+lawful_end g (e ∷ later) log h = lawful_end g later log h.1
+
+pub up_at_redeclares : (g : Given) (log : Log) → AllFewTicks g.events → IsLawful g log → AreTimely g → IsUpAtRedeclares g log
+up_at_redeclares g log few h timely later before t is d here =
+    let k = lawful_end g later (Redeclares t ∷ before) (subst (IsLawful g) is h) in
+    up_there g before t (left g.events before) (next_is_of_events g before (Redeclares t) refl k.0) (done g before few k.1) timely d here
+
+-- and a list is left
+
+one_event : (g : Given) → AreTimely g → (e : Event) (before rest : List Event) → g.events ≡ before ++ e ∷ rest → redeclares_in before < length g.forces
+    → redeclares_in before + redeclares_in (e ∷ []) < length g.forces
+one_event g timely Redeclare before rest is l = let m = (timely before rest is).left in omega (arith, m)
+one_event g timely (Submit n) before rest is l = omega (arith, l)
+one_event g timely (Deliver a b k) before rest is l = omega (arith, l)
+one_event g timely (Lose a b k) before rest is l = omega (arith, l)
+one_event g timely (Repeat a b k) before rest is l = omega (arith, l)
+one_event g timely (Resend a b) before rest is l = omega (arith, l)
+one_event g timely (Tick t n) before rest is l = omega (arith, l)
+one_event g timely Settle before rest is l = omega (arith, l)
+one_event g timely (Down d) before rest is l = omega (arith, l)
+one_event g timely (Up d) before rest is l = omega (arith, l)
+
+each_event : (g : Given) → AreTimely g → (before events rest : List Event) → g.events ≡ (before ++ events) ++ rest → redeclares_in before < length g.forces
+    → redeclares_in (before ++ events) < length g.forces
+each_event g timely before [] rest is l = subst (λ es. redeclares_in es < length g.forces) (sym (append-nil before)) l
+each_event g timely before (e ∷ events) rest is l =
+    let whole : g.events ≡ before ++ e ∷ (events ++ rest) = is ∙ append_assoc before (e ∷ events) rest in
+    let few = one_event g timely e before (events ++ rest) whole l in
+    let sum = count_join before (e ∷ []) in
+    let parts : (before ++ e ∷ []) ++ events ≡ before ++ e ∷ events = append_assoc before (e ∷ []) events in
+    subst (λ es. redeclares_in es < length g.forces) parts
+    (each_event g timely (before ++ e ∷ []) events rest (is ∙ ap (λ es. es ++ rest) (sym parts)) (omega (arith, few, sum)))
+
+pub few_redeclares : (g : Given) (log : Log) → AllFewTicks g.events → IsLawful g log → AreTimely g → 1 ≤ length g.forces → redeclares log < length g.forces
+few_redeclares g log few h timely some =
+    let d = (done g log few h).1 in
+    let l = each_event g timely [] d.front (left g.events log).0 d.is (omega (arith, some)) in
+    let same = d.lists_are in omega (arith, l, same)

@@ -1,0 +1,174 @@
+-- The writers by which the attempts of a transaction are rejected: each has a later timestamp than the ones before.
+use Rattle.std.proofs.Common.{ℕ, zero, suc, ◌<◌, ◌≤◌, ◌≡◌, ◌≢◌, eqb, false, not, List, [], ◌∷◌, length, Option, Some, None, refl, sym, ap, ◌∙◌, subst, ◌⊎◌, inl, inr, arith}
+use Rattle.std.specs.Prelude.{option_map, unwrap_or}
+use Rattle.std.specs.List.{IsDistinct, AllByRecursion}
+use Rattle.std.proofs.lemmas.Bool.{cases_lt, ne_eqb}
+use Rattle.std.proofs.lemmas.Map.Keys.{IsDistinct-cons}
+use Rattle.std.proofs.lemmas.Option.{same_Some}
+use Rattle.sdd_base.specs.Numbers.{txn_no}
+use Rattle.sdd_base.specs.declared.condition.Cond.{Cond}
+use Rattle.sdd_base.specs.declared.number.Ts.{Ts}
+use Rattle.sdd_catalog.specs.Catalogue.{Catalogue}
+use Rattle.sdd_history.specs.declared.record.Rec.TheVariants.{Commit, Submit}
+use Rattle.sdd_history.specs.Records.{History}
+use Rattle.sdd_lang.specs.declared.transaction.Txn.{Txn}
+use Rattle.sdd_lang.specs.Classes.{class_for}
+use Rattle.sdd_order.specs.Attempts.{Attempt, Committed, IsAttempt, IsCommitted}
+use Rattle.sdd_order.specs.Places.{Stands, event_at}
+use Rattle.sdd_order.proofs.Places.{same_commit, same_start}
+use Rattle.sdd_laws.specs.Conditions.{IsConditionOf}
+use Rattle.sdd_laws.specs.Deeds.{txn_at}
+use Rattle.sdd_laws.specs.Eras.{Eras, in_force}
+use Rattle.sdd_laws.specs.Few.{is_commit_of_other, commits_of_others}
+use Rattle.sdd_laws.specs.Rejections.{IsAgain, KeepsRejections}
+use Rattle.sdd_laws.specs.Starts.{KeepsStarts, starts_before}
+use Rattle.sdd_laws.proofs.NumberedStarts.{one_start, start_counts}
+use Rattle.sdd_laws.proofs.Times.{condition_time}
+use Rattle.sdd_progress.proofs.Places.{Passes, few_places}
+
+-- the lower one of an attempt's two times
+abbrev pub low_time : Attempt → ℕ
+low_time a = unwrap_or (option_map (λ t. t.0) a.p2) a.ts
+
+below_low : (o : Option Ts) (ts write : ℕ) → write < ts → ((p2 : Ts) → o ≡ Some p2 → write < p2.0)
+    → write < unwrap_or (option_map (λ (t : Ts). t.0) o) ts
+below_low None ts write l f = l
+below_low (Some p2) ts write l f = f p2 refl
+
+low_is_least : (o : Option Ts) (ts time : ℕ) → ((p2 : Ts) → o ≡ Some p2 → p2.0 < ts)
+    → (time ≡ ts) ⊎ ((p2 : Ts) × (o ≡ Some p2) × (time ≡ p2.0)) → unwrap_or (option_map (λ (t : Ts). t.0) o) ts ≤ time
+low_is_least None ts time f (inl e) = omega arith
+low_is_least None ts time f (inr e) = absurd (let no : ◌≡◌ {A = Option Ts} None (Some e.0) = e.1 in cc)
+low_is_least (Some p2) ts time f (inl e) = let l = f p2 refl in omega arith
+low_is_least (Some p2) ts time f (inr e) = let same : p2.0 ≡ e.0.0 = ap (λ (z : Ts). z.0) (same_Some p2 e.0 e.1) in let t = e.2 in omega arith
+
+-- the place of the Commit of a transaction other than n, with a timestamp below the bound
+pub record IsWriterBelow (h : History) (n bound place : ℕ) : Type 0 where
+  pub txn : Committed
+  pub committed : IsCommitted h txn
+  pub at : txn.place ≡ place
+  pub other : txn.start.txn ≢ n
+  pub below : txn.start.ts < bound
+
+-- so many of them
+pub record WritersBelow (h : History) (n bound count : ℕ) : Type 0 where
+  pub places : List ℕ
+  pub many : length places ≡ count
+  pub differ : IsDistinct eqb places
+  pub each : AllByRecursion (IsWriterBelow h n bound) places
+
+none_below : (h : History) (n bound : ℕ) → WritersBelow h n bound 0
+unfolding IsDistinct
+none_below h n bound = record { places = []; many = refl; differ = tt; each = tt }
+
+each_weaker : {P Q : ℕ → Type 0} → ((k : ℕ) → P k → Q k) → (ks : List ℕ) → AllByRecursion P ks → AllByRecursion Q ks
+each_weaker f [] all = tt
+each_weaker f (k ∷ ks) all = (f k all.0, each_weaker f ks all.1)
+
+writer_up : (h : History) (n bound most place : ℕ) → bound ≤ most → IsWriterBelow h n bound place → IsWriterBelow h n most place
+writer_up h n bound most place l w =
+    record { txn = w.txn; committed = w.committed; at = w.at; other = w.other; below = let b = w.below in omega arith }
+
+writers_up : (h : History) (n bound most count : ℕ) → bound ≤ most → WritersBelow h n bound count → WritersBelow h n most count
+writers_up h n bound most count l w =
+    record { places = w.places; many = w.many; differ = w.differ; each = each_weaker (λ k x. writer_up h n bound most k l x) w.places w.each }
+
+passing : (h : History) (n bound place : ℕ) → IsWriterBelow h n bound place → Passes (is_commit_of_other n) h place
+passing h n bound place w =
+    let t = w.txn in
+    record {
+      rec = Commit (txn_no t.start.txn) t.start.number t.reply t.changes t.values t.rows;
+      stands = subst (λ k. Stands h k (Commit (txn_no t.start.txn) t.start.number t.reply t.changes t.values t.rows)) w.at w.committed.committed;
+      passes = ap not (ne_eqb t.start.txn n w.other);
+    }
+
+-- they are among the Commits of other transactions
+pub writers_count : (h : History) (n bound count : ℕ) → WritersBelow h n bound count → count ≤ commits_of_others h n
+writers_count h n bound count w =
+    let few = few_places (is_commit_of_other n) h w.places w.differ (each_weaker (λ k x. passing h n bound k x) w.places w.each) in
+    omega (arith, few, w.many)
+
+module _ (cat : Catalogue) (eras : Eras) (txns : List Txn) (h : History) (starting : KeepsStarts cat eras txns h) where
+  -- the attempts of a transaction have one class
+  pub one_class : (a b : Attempt) → IsAttempt h a → IsAttempt h b → a.txn ≡ b.txn → a.class ≡ b.class
+  one_class a b p q e =
+      let s = starting.submitted a p in
+      let t = starting.submitted b q in
+      let at : s.place ≡ t.place =
+      starting.one_submit b.txn s.place t.place (subst (λ n. Stands h s.place (Submit (txn_no n))) e s.submitted) t.submitted in
+      let text : s.txn ≡ t.txn = same_Some s.txn t.txn (sym s.txn_is ∙ ap (txn_at txns) e ∙ t.txn_is) in
+      s.class_is
+      ∙ ap (λ k. class_for (in_force cat eras (event_at h k)) s.txn) at
+      ∙ ap (class_for (in_force cat eras (event_at h t.place))) text
+      ∙ sym t.class_is
+
+  -- a later attempt has a greater timestamp
+  later_time : (a b : Attempt) → IsAttempt h a → IsAttempt h b → a.txn ≡ b.txn → a.number ≤ b.number → a.ts ≤ b.ts
+  later_time a b p q e l =
+      elim (cases_lt b.place a.place) [
+        | inl m ↦
+            let c = start_counts h b a.place q m in
+            let one = starting.numbered a p in
+            let two = starting.numbered b q in
+            let same : starts_before h b.txn a.place ≡ starts_before h a.txn a.place = ap (λ n. starts_before h n a.place) (sym e) in
+            absurd (omega arith)
+        | inr m ↦ elim (cases_lt a.place b.place) [
+          | inl k ↦ let r = starting.rise a b p q (one_class a b p q e) k in omega arith
+          | inr k ↦ let t = (same_start h a b p q (omega arith)).ts in omega arith
+        ]
+      ]
+
+  -- two Commits at one place have one timestamp
+  one_time_at : (t u : Committed) → IsCommitted h t → IsCommitted h u → t.place ≡ u.place → t.start.ts ≡ u.start.ts
+  one_time_at t u p q e =
+      let same = same_commit h t u p q e in
+      let at = one_start h starting.numbered t.start u.start p.started q.started same.txn same.number in
+      (same_start h t.start u.start p.started q.started at).ts
+
+  -- one more, whose timestamp is at or above the bound
+  pub one_more : (n bound count : ℕ) (t : Committed) → IsCommitted h t → t.start.txn ≢ n → bound ≤ t.start.ts
+      → WritersBelow h n bound count → WritersBelow h n (suc t.start.ts) (suc count)
+  one_more n bound count t is other least w =
+      let apart : (k : ℕ) → IsWriterBelow h n bound k → eqb t.place k ≡ false =
+      λ k x. ne_eqb t.place k (λ e. let same = one_time_at x.txn t x.committed is (x.at ∙ sym e) in let b = x.below in absurd (omega arith)) in
+      let new : IsWriterBelow h n (suc t.start.ts) t.place = record { txn = t; committed = is; at = refl; other = other; below = omega arith } in
+      record {
+        places = t.place ∷ w.places;
+        many = let m = w.many in omega arith;
+        differ = IsDistinct-cons eqb t.place w.places (each_weaker apart w.places w.each) w.differ;
+        each = (new, each_weaker (λ k x. writer_up h n bound (suc t.start.ts) k (omega arith) x) w.places w.each);
+      }
+
+  -- a condition's time isn't below an attempt's lower one
+  pub low_of_condition : (a : Attempt) (d : ℕ) (c : Cond) → IsAttempt h a → IsConditionOf cat eras h a d c → low_time a ≤ c.time.0
+  low_of_condition a d c p condition =
+      low_is_least a.p2 a.ts c.time.0 (λ p2 e. (starting.bound a p2 p e).below)
+      (condition_time cat condition.table a d c condition.there (starting.bound_there a p))
+
+  module _ (rejecting : KeepsRejections cat eras h) where
+    other_writer : (a : Attempt) → IsAttempt h a → (g : IsAgain cat eras h a) → g.writer.start.txn ≢ a.txn
+    other_writer a p g e =
+        let last = starting.by_last g.writer a g.committed p (sym e) in
+        let time = later_time a g.writer.start p g.committed.started (sym e) last in
+        let below = g.below in
+        let same = g.writer_time in
+        absurd (omega arith)
+
+    again_more : (count : ℕ) (a : Attempt) → IsAttempt h a → (g : IsAgain cat eras h a)
+        → WritersBelow h g.earlier.txn (low_time g.earlier) count → WritersBelow h a.txn (low_time a) (suc count)
+    again_more count a p g w =
+        let least = low_of_condition g.earlier g.dm g.cond g.started g.condition in
+        let late = g.late in
+        let time = g.writer_time in
+        let below = below_low a.p2 a.ts g.write g.below g.below_bound in
+        let from : WritersBelow h a.txn (low_time g.earlier) count = subst (λ n. WritersBelow h n (low_time g.earlier) count) g.txn_is w in
+        writers_up h a.txn (suc g.writer.start.ts) (low_time a) (suc count) (omega arith)
+        (one_more a.txn (low_time g.earlier) count g.writer g.committed (other_writer a p g) (omega arith) from)
+
+    -- as many as there were attempts before
+    pub writers : (count : ℕ) (a : Attempt) → IsAttempt h a → a.number ≡ suc count → WritersBelow h a.txn (low_time a) count
+    writers zero a p e = none_below h a.txn (low_time a)
+    writers (suc count) a p e =
+        let g = rejecting.again a p (omega arith) in
+        let number = g.number_is in
+        again_more count a p g (writers count g.earlier g.started (omega arith))

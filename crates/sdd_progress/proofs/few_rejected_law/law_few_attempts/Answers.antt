@@ -1,0 +1,19 @@
+use Rattle.sdd_log.proofs.NewMarks.{lawful_permitted}
+use Rattle.sdd_lawful.proofs.Numbered.{lawful_numbered}
+use Rattle.sdd_lawful.proofs.OneEra.{of_one_era}
+use Rattle.sdd_lawful.specs.Given.{one_era}
+use Rattle.sdd_progress.proofs.OfLogs.{few_attempts, few_in_limit}
+use Rattle.sdd_progress.proofs.few_rejected_law.law_few_attempts.Goals as goal
+
+pub returns-clause-square : goal.returns-clause-square
+returns-clause-square c = λ given rows log eras sound fine permitted are numbered.
+    few_attempts given rows log eras sound.catalogue fine permitted are numbered
+
+pub returns-clause-limit : goal.returns-clause-limit
+returns-clause-limit c = λ given rows log eras sound fine permitted are numbered few.
+    few_in_limit given rows log eras sound.catalogue fine permitted are numbered few
+
+pub returns-clause-lawful : goal.returns-clause-lawful
+returns-clause-lawful c = λ given rows log sound fine submits lawful force first none few.
+    few_in_limit given rows log (one_era given.catalogue) sound.catalogue fine (lawful_permitted given log submits.once lawful)
+    (of_one_era given log force first none) (lawful_numbered given log submits lawful) few

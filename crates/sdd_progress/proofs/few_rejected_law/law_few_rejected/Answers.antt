@@ -1,0 +1,12 @@
+use Rattle.sdd_log.proofs.NewMarks.{lawful_permitted}
+use Rattle.sdd_lawful.proofs.OneEra.{of_one_era}
+use Rattle.sdd_lawful.specs.Given.{one_era}
+use Rattle.sdd_progress.proofs.OfLogs.{few_rejected}
+use Rattle.sdd_progress.proofs.few_rejected_law.law_few_rejected.Goals as goal
+
+pub returns-clause-permitted : goal.returns-clause-permitted
+returns-clause-permitted c = λ given log eras sound permitted are. few_rejected given log eras sound.catalogue permitted are
+
+pub returns-clause-lawful : goal.returns-clause-lawful
+returns-clause-lawful c = λ given log sound once lawful force first none.
+    few_rejected given log (one_era given.catalogue) sound.catalogue (lawful_permitted given log once lawful) (of_one_era given log force first none)

@@ -1,0 +1,36 @@
+-- What is needed of what is given, and of a log, so that a log at which nothing goes on is finished.
+use Rattle.std.specs.Prelude.{ℕ, ◌≡◌, ◌≤◌, ◌++◌, ◌∷◌, false}
+use Rattle.sdd_log.specs.Entries.{Given, Log, Redeclares}
+use Rattle.sdd_log.specs.Locals.{IsForce, force_at, redeclares}
+use Rattle.sdd_log.specs.Traffic.{is_down}
+use Rattle.sdd_eras.specs.EraOf.{IsEraOf}
+use Rattle.sdd_order.specs.Numbers.{IsModule}
+use Rattle.sdd_obligations.specs.Fitting.{FitsGiven}
+use Rattle.sdd_progress.specs.Finished.{IsIdle}
+use Rattle.sdd_progress.specs.Quiet.{IsQuiet}
+
+-- what is given fits its catalogue; list k of classes is an era of the catalogue, and has its protocol table
+pub record IsSoundList (g : Given) (k : ℕ) : Type 0 where
+  pub fits : FitsGiven g
+  pub era : IsEraOf g.catalogue (force_at g k).catalogue
+  pub table : IsForce (force_at g k)
+
+-- each list that the log put in force
+abbrev pub HasSoundLists : Given → Log → Type 0
+HasSoundLists g log = (k : ℕ) → k ≤ redeclares log → IsSoundList g k
+
+-- wherever the log put a further list in force, nothing went on and all was idle
+abbrev pub IsIdleAtRedeclares : Given → Log → Type 0
+IsIdleAtRedeclares g log = (later before : Log) (t : ℕ) → log ≡ later ++ Redeclares t ∷ before → IsQuiet g before × IsIdle g before
+
+-- and no data module was down
+abbrev pub IsUpAtRedeclares : Given → Log → Type 0
+IsUpAtRedeclares g log =
+    (later before : Log) (t : ℕ) → log ≡ later ++ Redeclares t ∷ before → (d : ℕ) → IsModule g.catalogue d → is_down d before ≡ false
+
+-- what is given fits its catalogue, and the list in force at the beginning, which is that of the catalogue, has its
+-- protocol table
+pub record HasOneTable (g : Given) : Type 0 where
+  pub fits : FitsGiven g
+  pub table : IsForce (force_at g 0)
+  pub same : (force_at g 0).catalogue ≡ g.catalogue

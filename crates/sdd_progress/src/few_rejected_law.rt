@@ -1,0 +1,51 @@
+ghost use Rattle.std.specs.Prelude.{◌≡◌, ◌≤◌, ◌*◌, ◌^◌, List, length};
+ghost use Rattle.sdd_base.specs.declared.limits.TheConstants.{MAX_TXNS};
+ghost use Rattle.sdd_base.specs.declared.number.RelNo.{RelNo};
+ghost use Rattle.sdd_lang.specs.Database.{Row};
+ghost use Rattle.sdd_laws.specs.Eras.{Eras};
+ghost use Rattle.sdd_log.specs.Entries.{Given, Log, history};
+ghost use Rattle.sdd_log.specs.Lawful.{IsLawful};
+ghost use Rattle.sdd_log.specs.Locals.{IsForce, force_at, redeclares};
+ghost use Rattle.sdd_log.specs.Permitted.{AreSubmittedOnce, IsPermitted};
+ghost use Rattle.sdd_order.specs.Attempts.{attempts};
+ghost use Rattle.sdd_lawful.specs.Given.{AreErasOf, AreNumbered, HasSoundData, IsSoundGiven, SubmitGiven};
+ghost use Rattle.sdd_progress.specs.Few.{AreFewRejected};
+ghost use Rattle.sdd_progress.specs.Rejects.{KeepsRejects};
+
+/// A law: each Reject is of an attempt that started, by a write of another transaction at or after
+/// the time of one of the attempt's conditions.
+pub fn law_rejects()
+    ensures { (given : Given) (log : Log) (eras : Eras) → IsSoundGiven given
+        → IsPermitted given log → AreErasOf given log eras
+        → KeepsRejects given.catalogue eras (history log) }
+{}
+
+/// A law: a transaction's rejected attempts are at most the Commits of other transactions, where an
+/// attempt that several modules reject counts once. For a lawful log with one list of classes nothing
+/// is taken of eras.
+pub fn law_few_rejected()
+    ensures permitted { (given : Given) (log : Log) (eras : Eras) → IsSoundGiven given
+        → IsPermitted given log → AreErasOf given log eras → AreFewRejected (history log) }
+    ensures lawful { (given : Given) (log : Log) → IsSoundGiven given
+        → AreSubmittedOnce given.events → IsLawful given log
+        → IsForce (force_at given 0) → (force_at given 0).catalogue ≡ given.catalogue
+        → redeclares log ≡ 0 → AreFewRejected (history log) }
+{}
+
+/// A law: a run has at most the square of the number of its transactions of attempts, so at most
+/// 2^22 where there are no more transactions than a workload may have.
+pub fn law_few_attempts()
+    ensures square { (given : Given) (rows : List (RelNo × Row)) (log : Log) (eras : Eras)
+        → IsSoundGiven given → HasSoundData given rows → IsPermitted given log
+        → AreErasOf given log eras → AreNumbered given log
+        → length (attempts (history log)) ≤ length given.txns * length given.txns }
+    ensures limit { (given : Given) (rows : List (RelNo × Row)) (log : Log) (eras : Eras)
+        → IsSoundGiven given → HasSoundData given rows → IsPermitted given log
+        → AreErasOf given log eras → AreNumbered given log
+        → length given.txns ≤ MAX_TXNS → length (attempts (history log)) ≤ 2 ^ 22 }
+    ensures lawful { (given : Given) (rows : List (RelNo × Row)) (log : Log)
+        → IsSoundGiven given → HasSoundData given rows → SubmitGiven given → IsLawful given log
+        → IsForce (force_at given 0) → (force_at given 0).catalogue ≡ given.catalogue
+        → redeclares log ≡ 0
+        → length given.txns ≤ MAX_TXNS → length (attempts (history log)) ≤ 2 ^ 22 }
+{}

@@ -1,0 +1,78 @@
+ghost use Rattle.std.specs.Prelude.{◌≡◌, ◌<◌, ◌≤◌, ℕ, true, List, Some, slice_get};
+ghost use Rattle.sdd_base.specs.declared.change.Change.{Change};
+ghost use Rattle.sdd_base.specs.declared.condition.Cond.{Cond};
+ghost use Rattle.sdd_base.specs.declared.number.ClassNo.{ClassNo};
+ghost use Rattle.sdd_base.specs.declared.number.DmNo.{DmNo};
+ghost use Rattle.sdd_base.specs.declared.number.Ts.{Ts};
+ghost use Rattle.sdd_base.specs.declared.number.TxnNo.{TxnNo};
+ghost use Rattle.sdd_base.specs.declared.site.Site.{Site};
+ghost use Rattle.sdd_base.specs.declared.usage.Use.{Use};
+ghost use Rattle.sdd_catalog.specs.Rules.{IsSound};
+ghost use Rattle.sdd_wire.specs.declared.msg.Msg.TheVariants.{Read, Write};
+ghost use Rattle.sdd_net.specs.Nets.{is_link};
+ghost use Rattle.sdd_order.specs.Numbers.{IsClass, IsModule};
+ghost use Rattle.sdd_pipe.specs.Pipe.{head};
+ghost use Rattle.sdd_attempt.specs.Attempts.{Attempt, active};
+ghost use Rattle.sdd_log.specs.Entries.{Given, Log};
+ghost use Rattle.sdd_log.specs.Locals.{local_of, redeclares, setting_of};
+ghost use Rattle.sdd_log.specs.Permitted.{IsPermitted};
+ghost use Rattle.sdd_invariants.specs.Seen.{pipe_at};
+ghost use Rattle.sdd_invariants.specs.Steps.{home};
+ghost use Rattle.sdd_invariants.specs.Traffic.{hands_from, puts_to};
+ghost use Rattle.sdd_obligations.specs.Fitting.{FitsGiven};
+ghost use Rattle.sdd_progress.specs.Asked.{IsUnanswered};
+ghost use Rattle.sdd_progress.specs.Going.{IsGoing};
+ghost use Rattle.sdd_progress.specs.Premises.{IsIdleAtRedeclares, IsSoundList};
+ghost use Rattle.sdd_progress.specs.Quiet.{IsQuiet, at_home};
+ghost use Rattle.sdd_progress.specs.Waiting.{IsReader};
+
+/// A law: where nothing goes on, each message that was put on a link is handed over, in the order of
+/// the puts.
+pub fn law_handed()
+    ensures { (given : Given) (log : Log) (from to : Site) → IsQuiet given log
+        → is_link given.catalogue.tms given.catalogue.dms from to ≡ true
+        → hands_from from (local_of given to log) ≡ puts_to to (local_of given from log) }
+{}
+
+/// A law: an attempt under way goes on as long as answers come: where its exchange isn't over, it
+/// lacks the answer of a module, or has something to send.
+pub fn law_exchanges()
+    ensures { (given : Given) (log : Log) (class : ℕ) (attempt : Attempt) → IsPermitted given log
+        → FitsGiven given → IsClass given.catalogue class
+        → active (setting_of given (home given.catalogue class)) class (at_home given class log)
+        ≡ Some attempt → IsGoing attempt.exchange }
+{}
+
+/// A law: where nothing goes on, a module has the READ of each attempt under way, and hasn't
+/// processed it.
+pub fn law_unanswered()
+    ensures { (given : Given) (log : Log) (class : ℕ) (attempt : Attempt) → IsQuiet given log
+        → FitsGiven given → IsClass given.catalogue class
+        → active (setting_of given (home given.catalogue class)) class (at_home given class log)
+        ≡ Some attempt → IsUnanswered given log class attempt.ts }
+{}
+
+/// A law: a READ of class 0 that is next at a module comes after the WRITEs of other classes that are
+/// next there, and its conditions have its own time. So it holds none of them back.
+pub fn law_class_zero()
+    ensures after_writes { (given : Given) (log : Log) (class : ℕ) (d : DmNo) (ts : Ts)
+        (of : ClassNo) (txn : TxnNo) (attempt : ℕ) (conds : List Cond) (uses : List Use)
+        (write : Ts) (by : ClassNo) (writer : TxnNo) (changes : List Change)
+        → IsSound given.catalogue → IsPermitted given log → 1 ≤ class
+        → IsClass given.catalogue class → IsModule given.catalogue d.0
+        → head (pipe_at given 0 d log) ≡ Some (Read ts of txn attempt conds uses)
+        → head (pipe_at given class d log) ≡ Some (Write write by writer changes)
+        → write.0 < ts.0 }
+    ensures own_time { (given : Given) (log : Log) (d : DmNo) (ts : Ts) (of : ClassNo)
+        (txn : TxnNo) (attempt : ℕ) (conds : List Cond) (uses : List Use) (place : ℕ)
+        (cond : Cond) → IsPermitted given log
+        → head (pipe_at given 0 d log) ≡ Some (Read ts of txn attempt conds uses)
+        → slice_get conds place ≡ Some cond → cond.time.0 ≡ ts.0 }
+{}
+
+/// A law: where nothing goes on, no READ waits: each has conditions of the list of classes in force.
+pub fn law_none_waits()
+    ensures { (given : Given) (log : Log) → IsQuiet given log
+        → IsSoundList given (redeclares log) → IsIdleAtRedeclares given log → (class ts : ℕ) (conds : List Cond)
+        → IsReader given log class ts conds → ⊥ }
+{}

@@ -1,0 +1,63 @@
+ghost use Rattle.std.specs.Prelude.{◌≤◌, ◌<◌, ◌^◌, List, length};
+ghost use Rattle.sdd_base.specs.declared.limits.TheConstants.{MAX_TXNS};
+ghost use Rattle.sdd_base.specs.declared.number.RelNo.{RelNo};
+ghost use Rattle.sdd_lang.specs.Database.{Row};
+ghost use Rattle.sdd_order.specs.Attempts.{attempts};
+ghost use Rattle.sdd_order.specs.Orders.{IsOrderable};
+ghost use Rattle.sdd_order.specs.Precedence.{HasNoCycle};
+ghost use Rattle.sdd_laws.specs.Kept.{KeepsLaws};
+ghost use Rattle.sdd_laws.specs.Redeclares.{KeepsEras};
+ghost use Rattle.sdd_log.specs.Entries.{Given, Log, history};
+ghost use Rattle.sdd_log.specs.Lawful.{IsLawful};
+ghost use Rattle.sdd_log.specs.Locals.{redeclares};
+ghost use Rattle.sdd_log.specs.Permitted.{AreSubmittedOnce};
+ghost use Rattle.sdd_lawful.specs.Given.{HasSoundData, IsSoundGiven, SubmitGiven};
+ghost use Rattle.sdd_progress.specs.Few.{AreFewRejected};
+ghost use Rattle.sdd_obligations.specs.Bounds.{AllFewTicks};
+ghost use Rattle.sdd_progress.specs.Eras.{eras_of};
+ghost use Rattle.sdd_progress.specs.Premises.{HasSoundLists, IsUpAtRedeclares};
+ghost use Rattle.sdd_progress.specs.Timely.{AreTimely};
+
+/// A law: the history of a lawful log keeps the law of eras, that is what one list of classes submits
+/// is done before what a later one submits begins. So it keeps all laws, has no cycle, and has a serial
+/// order.
+pub fn law_lawful()
+    ensures eras { (given : Given) (rows : List (RelNo × Row)) (log : Log) → IsSoundGiven given
+        → HasSoundData given rows → SubmitGiven given → IsLawful given log
+        → HasSoundLists given log → IsUpAtRedeclares given log
+        → KeepsEras given.catalogue (eras_of given log) (history log) }
+    ensures laws { (given : Given) (rows : List (RelNo × Row)) (log : Log) → IsSoundGiven given
+        → HasSoundData given rows → SubmitGiven given → IsLawful given log
+        → HasSoundLists given log → IsUpAtRedeclares given log
+        → KeepsLaws given.catalogue (eras_of given log) rows given.txns (history log) }
+    ensures acyclic { (given : Given) (rows : List (RelNo × Row)) (log : Log) → IsSoundGiven given
+        → HasSoundData given rows → SubmitGiven given → IsLawful given log
+        → HasSoundLists given log → IsUpAtRedeclares given log
+        → HasNoCycle given.catalogue (history log) }
+    ensures orderable { (given : Given) (rows : List (RelNo × Row)) (log : Log) → IsSoundGiven given
+        → HasSoundData given rows → SubmitGiven given → IsLawful given log
+        → HasSoundLists given log → IsUpAtRedeclares given log
+        → IsOrderable given.catalogue (history log) }
+{}
+
+/// A law: where each `redeclare` of the events is given when it may be, no data module is down where
+/// the log puts a list of classes in force, and the log puts none in force beyond those that are given.
+pub fn law_timely()
+    ensures up { (given : Given) (log : Log) → AllFewTicks given.events → IsLawful given log
+        → AreTimely given → IsUpAtRedeclares given log }
+    ensures listed { (given : Given) (log : Log) → AllFewTicks given.events → IsLawful given log
+        → AreTimely given → 1 ≤ length given.forces → redeclares log < length given.forces }
+{}
+
+/// A law: of a lawful log a transaction's rejected attempts are at most the Commits of other
+/// transactions; and where there are no more transactions than a workload may have, there are at most
+/// 2^22 attempts.
+pub fn law_few_attempts_across_lists()
+    ensures rejected { (given : Given) (log : Log) → IsSoundGiven given
+        → AreSubmittedOnce given.events → IsLawful given log → HasSoundLists given log
+        → AreFewRejected (history log) }
+    ensures limit { (given : Given) (rows : List (RelNo × Row)) (log : Log) → IsSoundGiven given
+        → HasSoundData given rows → SubmitGiven given → IsLawful given log
+        → HasSoundLists given log
+        → length given.txns ≤ MAX_TXNS → length (attempts (history log)) ≤ 2 ^ 22 }
+{}

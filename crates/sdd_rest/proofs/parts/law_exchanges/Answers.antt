@@ -1,5 +1,0 @@
-use Rattle.sdd_rest.proofs.Lacking.{goes_on}
-use Rattle.sdd_rest.proofs.parts.law_exchanges.Goals as goal
-
-pub returns : goal.returns
-returns g = goes_on

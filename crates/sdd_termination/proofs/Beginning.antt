@@ -1,0 +1,59 @@
+-- A round begins only where the links aren't quiet, and then it has an event.
+use Rattle.std.proofs.Common.{ℕ, ◌<◌, Bool, true, false, List, [], ◌∷◌, length, ◌≡◌, refl, sym, ◌∙◌, subst, Some, arith}
+use Rattle.std.proofs.lemmas.Bool.{false≢true}
+use Rattle.sdd_base.specs.Sites.{links}
+use Rattle.sdd_base.specs.declared.event.Event.{Event}
+use Rattle.sdd_base.specs.declared.event.Event.TheVariants.{Submit, Deliver, Lose, Repeat, Resend, Tick, Settle, Redeclare, Down, Up}
+use Rattle.sdd_net.specs.Links.{Call, quiet, round}
+use Rattle.sdd_log.specs.Due.{next}
+use Rattle.sdd_log.specs.Entries.{Given, Log, Round}
+use Rattle.sdd_log.specs.Marks.{left, mark_from, mark_of}
+use Rattle.sdd_log.specs.Traffic.{all_links, calls_of}
+use Rattle.sdd_log.specs.Resting.{AtEach}
+use Rattle.sdd_log.proofs.Rounding.{each_of_round, no_events_quiet}
+use Rattle.sdd_termination.specs.Rounds.{IsOfRound}
+use Rattle.sdd_termination.proofs.Marked.{next_is_of_events}
+
+none_or_some : (events : List Event) → (events ≡ [] → ⊥) → 0 < length events
+none_or_some [] f = absurd (f refl)
+none_or_some (e ∷ events) f = omega arith
+
+pub has_event : {M : Type 0} (tms dms : ℕ) (calls : List (Call M)) → quiet (links tms dms) calls ≡ false
+    → 0 < length (round (links tms dms) calls)
+has_event tms dms calls e =
+    none_or_some (round (links tms dms) calls) (λ none. false≢true (sym e ∙ no_events_quiet tms dms calls none))
+
+pub events_of_round : {M : Type 0} (tms dms : ℕ) (calls : List (Call M)) → AtEach (IsOfRound tms dms) (round (links tms dms) calls)
+events_of_round tms dms calls = each_of_round (IsOfRound tms dms) tms dms calls (λ a b l. (l, (l, refl)))
+
+-- of the next mark between rounds
+
+round_from : (g : Given) (log : Log) (q : Bool) (events ws es : List Event) → mark_from g log q events ws ≡ Some (Round es)
+    → (q ≡ false) × (events ≡ es)
+round_from g log q events [] es h = absurd (cc)
+round_from g log true events (Settle ∷ ws) es h = round_from g log true events ws es h
+round_from g log false events (Settle ∷ ws) es h = (refl, cc)
+round_from g log true events (Redeclare ∷ ws) es h = absurd (cc)
+round_from g log false events (Redeclare ∷ ws) es h = (refl, cc)
+round_from g log q events (Submit n ∷ ws) es h = absurd (cc)
+round_from g log q events (Deliver a b k ∷ ws) es h = absurd (cc)
+round_from g log q events (Lose a b k ∷ ws) es h = absurd (cc)
+round_from g log q events (Repeat a b k ∷ ws) es h = absurd (cc)
+round_from g log q events (Resend a b ∷ ws) es h = absurd (cc)
+round_from g log q events (Tick t n ∷ ws) es h = absurd (cc)
+round_from g log q events (Down d ∷ ws) es h = absurd (cc)
+round_from g log q events (Up d ∷ ws) es h = absurd (cc)
+
+abbrev pub Begins : Given → Log → List Event → List Event × List Event → Type 0
+Begins g log es rest = (rest.1 ≡ []) × (quiet (all_links g) (calls_of log) ≡ false) × (0 < length es)
+
+round_of : (g : Given) (log : Log) (es : List Event) (rest : List Event × List Event) → mark_of g log rest ≡ Some (Round es)
+    → Begins g log es rest
+round_of g log es (ws, []) h =
+    let r = round_from g log (quiet (all_links g) (calls_of log)) (round (all_links g) (calls_of log)) ws es h in
+    let some = has_event g.catalogue.tms g.catalogue.dms (calls_of log) r.0 in
+    (refl, r.0, subst (λ xs. 0 < length xs) r.1 some)
+round_of g log es (ws, e ∷ rest) h = absurd (cc)
+
+pub round_begins : (g : Given) (log : Log) (es : List Event) → next g log ≡ Some (Round es) → Begins g log es (left g.events log)
+round_begins g log es h = round_of g log es (left g.events log) (next_is_of_events g log (Round es) refl h)

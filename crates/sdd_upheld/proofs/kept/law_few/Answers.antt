@@ -1,5 +1,0 @@
-use Rattle.sdd_upheld.proofs.Together.{few}
-use Rattle.sdd_upheld.proofs.kept.law_few.Goals as goal
-
-pub returns : goal.returns
-returns g = λ given eras log sound permitted are. few given eras log sound.catalogue permitted are

@@ -1,5 +1,0 @@
-use Rattle.sdd_upheld.proofs.Applies.{keeps_applies}
-use Rattle.sdd_upheld.proofs.law.law_applies.Goals as goal
-
-pub returns : goal.returns
-returns g = λ given log sound permitted. keeps_applies given log sound.catalogue permitted

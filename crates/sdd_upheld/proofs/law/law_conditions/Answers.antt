@@ -1,5 +1,0 @@
-use Rattle.sdd_upheld.proofs.Conditions.{keeps_conditions}
-use Rattle.sdd_upheld.proofs.law.law_conditions.Goals as goal
-
-pub returns : goal.returns
-returns g = λ given log eras sound permitted are. keeps_conditions given log eras sound.catalogue permitted are

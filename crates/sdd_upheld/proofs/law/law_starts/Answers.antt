@@ -1,5 +1,0 @@
-use Rattle.sdd_upheld.proofs.Starts.{keeps_starts}
-use Rattle.sdd_upheld.proofs.law.law_starts.Goals as goal
-
-pub returns : goal.returns
-returns g = λ given log eras sound permitted are. keeps_starts given log eras sound.catalogue permitted are

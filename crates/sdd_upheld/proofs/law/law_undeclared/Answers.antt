@@ -1,5 +1,0 @@
-use Rattle.sdd_upheld.proofs.Together.{undeclared}
-use Rattle.sdd_upheld.proofs.law.law_undeclared.Goals as goal
-
-pub returns : goal.returns
-returns g = λ given rows eras log sound fine permitted are. undeclared given rows eras log sound.catalogue fine permitted are
